@@ -1,0 +1,14 @@
+//! Logical clocks, the stamps and numbers of transactions, and the numbered refusals.
+//!
+//! Nothing here knows of rows, messages or actors.
+#![tactic(auto)]
+
+mod clock;
+mod fault;
+mod ids;
+mod time;
+
+pub use clock::Clock;
+pub use fault::Fault;
+pub use ids::{Node, Stamp, TxnId, Writer};
+pub use time::Time;
