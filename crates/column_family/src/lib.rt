@@ -1,13 +1,13 @@
-// A library with one function.
+//! Rows of columns, mutations and batches, and what a history of batches makes of them.
+//!
+//! The definitions that a customer reads stand in `specs/`: location, touches, newer, history, table and
+//! what a read rests on. Nothing here knows of shards or versions.
 #![tactic(auto)]
 
-ghost use Rattle.std.specs.Prelude.{◌≡◌};
-ghost use Rattle.column_family.specs.Echo.{echo_of};
+mod batch;
+mod bytes;
+mod schema;
 
-// The `ensures` clause is the contract: what `echo` returns is `echo_of` of its argument, a definition
-// in `specs/Echo.antt`, which a caller's clause can cite too.
-pub fn echo(x: usize) -> usize
-    ensures { result ≡ echo_of x }
-{
-    x
-}
+pub use batch::{Batch, Change, Committed, Mutation, Row};
+pub use bytes::{Family, Key, Name, Value};
+pub use schema::Schema;

@@ -1,13 +1,12 @@
-// A library with one function.
+//! Predicates, reads and answers, and the slice of a row's live columns (Cassandra's slice reads).
+//!
+//! Nothing here knows of shards or of how a table is kept.
 #![tactic(auto)]
 
-ghost use Rattle.std.specs.Prelude.{◌≡◌};
-ghost use Rattle.slice.specs.Echo.{echo_of};
+mod column;
+mod predicate;
+mod read;
 
-// The `ensures` clause is the contract: what `echo` returns is `echo_of` of its argument, a definition
-// in `specs/Echo.antt`, which a caller's clause can cite too.
-pub fn echo(x: usize) -> usize
-    ensures { result ≡ echo_of x }
-{
-    x
-}
+pub use column::{Column, Columns};
+pub use predicate::{Names, Predicate};
+pub use read::{Answer, AnsweredRow, Keys, Read};

@@ -1,0 +1,119 @@
+//! Mutations of rows, batches of them, and batches that are committed.
+ghost use Rattle.std.specs.Prelude.{◌≡◌, ◌++◌, [], ◌∷◌, length, OnOk, OnErr, IfErr};
+
+use crate::bytes::{Family, Key, Name, Value};
+use logical_time::{Stamp, Time};
+use std::alloc::{AllocFailed, Global};
+use std::marker::Model;
+
+/// A row: a key in a column family.
+#[derive(Drop, Debug, Clone, PartialEq, Eq, PartialOrd, Ord)]
+pub struct Row {
+    /// The column family.
+    pub family: Family,
+    /// The key.
+    pub key: Key,
+}
+
+/// What is done to a row (Cassandra's mutation: an insertion of a column, or a deletion).
+#[derive(Drop, Debug, Clone, PartialEq, Eq)]
+pub enum Mutation {
+    /// Gives a column a value.
+    Insert {
+        /// The column.
+        name: Name,
+        /// Its value.
+        value: Value,
+    },
+    /// Deletes a column.
+    DeleteColumn {
+        /// The column.
+        name: Name,
+    },
+    /// Deletes all columns of the row.
+    DeleteRow,
+    /// Deletes the columns between two ends, both included; an empty end is open. Refused for now.
+    DeleteRange {
+        /// The first name.
+        start: Name,
+        /// The last name.
+        finish: Name,
+    },
+}
+
+/// A mutation of a row.
+#[derive(Drop, Debug, Clone, PartialEq, Eq)]
+pub struct Change {
+    /// The row.
+    pub row: Row,
+    /// What is done to it.
+    pub mutation: Mutation,
+}
+
+/// A batch: changes in order, the later ones newer. Each batch is one write transaction
+/// (Cassandra's `batch_mutate`, Eiger's write-only transaction).
+#[derive(Drop, Debug, Clone)]
+pub struct Batch {
+    changes: Vec<Change>,
+}
+
+impl Model for Batch {
+    ghost use Rattle.std.specs.Prelude.{List};
+    ghost use Rattle.column_family.specs.declared.batch.Change.{Change};
+
+    ghost Value = { List Change };
+
+    ghost view = { λ batch. batch.changes.items };
+}
+
+impl Batch {
+    /// A batch without a change.
+    pub fn new(alloc: Global) -> Batch
+        ensures { result ≡ [] }
+    {
+        Batch {
+            changes: Vec::new(alloc),
+        }
+    }
+
+    /// A batch of these changes.
+    pub fn from_changes(changes: Vec<Change>) -> Batch
+        ensures { result ≡ changes.items }
+    {
+        Batch { changes }
+    }
+
+    /// Adds a change, the newest.
+    pub fn push(&mut self, change: Change) -> Result<(), AllocFailed<Change>>
+        ensures ok { OnOk result (self.new ≡ self.old ++ change ∷ []) }
+        ensures err { OnErr result (self.new ≡ self.old) }
+        ensures back { IfErr result (λ e. e.value ≡ change) }
+    {
+        self.changes.push(change)
+    }
+
+    /// The changes, oldest first.
+    pub fn as_slice(&self) -> &[Change]
+        ensures { result.now ≡ self.now }
+    {
+        self.changes.as_slice()
+    }
+
+    /// How many changes there are.
+    pub fn len(&self) -> usize
+        ensures { result ≡ length self.now }
+    {
+        self.changes.len()
+    }
+}
+
+/// A batch that is committed: an entry of a history.
+#[derive(Drop, Debug, Clone)]
+pub struct Committed {
+    /// The batch, as it was submitted.
+    pub batch: Batch,
+    /// The stamp of its transaction, the same in all data centres.
+    pub stamp: Stamp,
+    /// The commit time in the data centre whose history this is.
+    pub commit: Time,
+}

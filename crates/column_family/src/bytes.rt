@@ -1,0 +1,167 @@
+//! Families, keys, names and values: bytes, compared as bytes.
+//!
+//! Each is a type of its own over a counted buffer, so that a clone copies no byte and two of one kind
+//! can't be taken for each other. Contracts see lists of bytes.
+ghost use Rattle.std.specs.Prelude.{◌≡◌, IfOk};
+ghost use Rattle.column_family.specs.Limits.{is_key, is_name, is_end, is_value};
+
+use bytes::Bytes;
+use std::alloc::{AllocError, Global};
+use std::marker::Model;
+
+/// How long a key may be, in bytes.
+const LONGEST_KEY: usize = 1024;
+/// How long the name of a column or an end of a range may be, in bytes.
+const LONGEST_NAME: usize = 1024;
+/// How long a value may be, in bytes.
+const LONGEST_VALUE: usize = 65_536;
+
+/// The name of a column family.
+#[derive(Drop, Debug, Clone, PartialEq, Eq, PartialOrd, Ord)]
+pub struct Family(Bytes);
+
+impl Model for Family {
+    ghost use Rattle.std.specs.Prelude.{List, ℕ};
+
+    ghost Value = { List ℕ };
+
+    ghost view = { λ family. family.0 };
+
+    ghost inverse = { λ bytes. record { 0 = bytes } };
+}
+
+impl Family {
+    /// A copy of these bytes.
+    pub fn from_slice(alloc: Global, bytes: &[u8]) -> Result<Family, AllocError>
+        ensures { IfOk result (λ copy. copy ≡ bytes.now) }
+    {
+        Ok(Family(Bytes::copy_from_slice(alloc, bytes)?))
+    }
+
+    /// The bytes.
+    pub fn as_slice(&self) -> &[u8]
+        ensures { result.now ≡ self.now }
+    {
+        self.0.as_slice()
+    }
+}
+
+/// The key of a row.
+#[derive(Drop, Debug, Clone, PartialEq, Eq, PartialOrd, Ord)]
+pub struct Key(Bytes);
+
+impl Model for Key {
+    ghost use Rattle.std.specs.Prelude.{List, ℕ};
+
+    ghost Value = { List ℕ };
+
+    ghost view = { λ key. key.0 };
+
+    ghost inverse = { λ bytes. record { 0 = bytes } };
+}
+
+impl Key {
+    /// A copy of these bytes.
+    pub fn from_slice(alloc: Global, bytes: &[u8]) -> Result<Key, AllocError>
+        ensures { IfOk result (λ copy. copy ≡ bytes.now) }
+    {
+        Ok(Key(Bytes::copy_from_slice(alloc, bytes)?))
+    }
+
+    /// The bytes.
+    pub fn as_slice(&self) -> &[u8]
+        ensures { result.now ≡ self.now }
+    {
+        self.0.as_slice()
+    }
+
+    /// Whether a row may have this key: it has 1 to 1,024 bytes.
+    pub fn is_allowed(&self) -> bool
+        ensures { result ≡ is_key self.now }
+    {
+        let length = self.as_slice().len();
+        1 <= length && length <= LONGEST_KEY
+    }
+}
+
+/// The name of a column, or an end of a range of names.
+#[derive(Drop, Debug, Clone, PartialEq, Eq, PartialOrd, Ord)]
+pub struct Name(Bytes);
+
+impl Model for Name {
+    ghost use Rattle.std.specs.Prelude.{List, ℕ};
+
+    ghost Value = { List ℕ };
+
+    ghost view = { λ name. name.0 };
+
+    ghost inverse = { λ bytes. record { 0 = bytes } };
+}
+
+impl Name {
+    /// A copy of these bytes.
+    pub fn from_slice(alloc: Global, bytes: &[u8]) -> Result<Name, AllocError>
+        ensures { IfOk result (λ copy. copy ≡ bytes.now) }
+    {
+        Ok(Name(Bytes::copy_from_slice(alloc, bytes)?))
+    }
+
+    /// The bytes.
+    pub fn as_slice(&self) -> &[u8]
+        ensures { result.now ≡ self.now }
+    {
+        self.0.as_slice()
+    }
+
+    /// Whether a column may have this name: it has 1 to 1,024 bytes.
+    pub fn is_allowed(&self) -> bool
+        ensures { result ≡ is_name self.now }
+    {
+        let length = self.as_slice().len();
+        1 <= length && length <= LONGEST_NAME
+    }
+
+    /// Whether this may be an end of a range: it has at most 1,024 bytes.
+    pub fn is_allowed_end(&self) -> bool
+        ensures { result ≡ is_end self.now }
+    {
+        self.as_slice().len() <= LONGEST_NAME
+    }
+}
+
+/// The value of a column.
+#[derive(Drop, Debug, Clone, PartialEq, Eq)]
+pub struct Value(Bytes);
+
+impl Model for Value {
+    ghost use Rattle.std.specs.Prelude.{List, ℕ};
+
+    ghost Value = { List ℕ };
+
+    ghost view = { λ value. value.0 };
+
+    ghost inverse = { λ bytes. record { 0 = bytes } };
+}
+
+impl Value {
+    /// A copy of these bytes.
+    pub fn from_slice(alloc: Global, bytes: &[u8]) -> Result<Value, AllocError>
+        ensures { IfOk result (λ copy. copy ≡ bytes.now) }
+    {
+        Ok(Value(Bytes::copy_from_slice(alloc, bytes)?))
+    }
+
+    /// The bytes.
+    pub fn as_slice(&self) -> &[u8]
+        ensures { result.now ≡ self.now }
+    {
+        self.0.as_slice()
+    }
+
+    /// Whether a column may have this value: it has at most 65,536 bytes.
+    pub fn is_allowed(&self) -> bool
+        ensures { result ≡ is_value self.now }
+    {
+        self.as_slice().len() <= LONGEST_VALUE
+    }
+}

@@ -1,0 +1,30 @@
+-- What the read of a row rests on.
+use Rattle.std.specs.Prelude.{◌≡◌, ℕ, Bool, true, false, ◌&&◌, ◌||◌, nat_lt, if◌then◌else◌, List, [], ◌∷◌, length, Option, Some, None, ◌⊎◌}
+use Rattle.logical_time.specs.Stamps.{StampValue}
+use Rattle.column_family.specs.declared.batch.Row.{Row}
+use Rattle.column_family.specs.Location.{Location, is_row_deletion}
+use Rattle.column_family.specs.History.{History, newest_of, stamp_of, RestsOn}
+use Rattle.slice.specs.declared.column.Column.{Column}
+use Rattle.slice.specs.declared.predicate.Predicate.{Predicate}
+use Rattle.slice.specs.declared.predicate.Predicate.TheVariants.{Names, Range}
+use Rattle.slice.specs.Slice.{name_le, is_asked}
+
+-- whether a walk that returned these columns had come to the name by the last of them
+abbrev pub is_reached : Bool → List Column → List ℕ → Bool
+is_reached reversed [] name = false
+is_reached reversed (c ∷ []) name = if reversed then name_le c.name name else name_le name c.name
+is_reached reversed (c ∷ d ∷ ds) name = is_reached reversed (d ∷ ds) name
+
+-- Whether a read that returned these columns of a row rests on the column of this name: it is asked, and where
+-- a range returned as many columns as its count, it doesn't lie after the last returned one.
+abbrev pub is_looked_at : Predicate → List Column → List ℕ → Bool
+is_looked_at (Names names) columns name = is_asked (Names names) name
+is_looked_at (Range start finish reversed count) columns name =
+    is_asked (Range start finish reversed count) name && (nat_lt (length columns) count || is_reached reversed columns name)
+
+-- A read that returned these columns of a row rests on the transaction of this stamp: at some column that it
+-- looked at, or as that of the row's newest deletion.
+abbrev pub RowRestsOn : History → Row → Predicate → List Column → StampValue → Type 0
+RowRestsOn h r p columns s =
+    ((name : List ℕ) × (is_looked_at p columns name ≡ true) × RestsOn h (record { row = r; name = name }) s)
+    ⊎ (stamp_of (newest_of (is_row_deletion r) h) ≡ Some s)

@@ -1,0 +1,61 @@
+-- The slice of a row's live columns, and which predicates may be asked.
+use Rattle.std.specs.Prelude.{ℕ, Bool, true, false, ◌&&◌, ◌||◌, nat_lt, if◌then◌else◌, List, [], ◌∷◌, length, filter, take, reverse, Option, Some, None}
+use Rattle.std.specs.List.{list_all, list_any}
+use Rattle.std.specs.Str.{bytes_eq}
+use Rattle.std.specs.Ordering.{nat_cmp, is_le}
+use Rattle.std.specs.Cmp.Lexicographic.{slice_cmp}
+use Rattle.logical_time.specs.declared.fault.Fault.{Fault}
+use Rattle.logical_time.specs.declared.fault.Fault.TheVariants.{NameLength, TooMany, RangeOrder}
+use Rattle.column_family.specs.Limits.{is_name, is_end}
+use Rattle.slice.specs.declared.column.Column.{Column}
+use Rattle.slice.specs.declared.predicate.Predicate.{Predicate}
+use Rattle.slice.specs.declared.predicate.Predicate.TheVariants.{Names, Range}
+
+-- whether the first name isn't above the second, as bytes
+abbrev pub name_le : List ℕ → List ℕ → Bool
+name_le a b = is_le (slice_cmp nat_cmp a b)
+
+abbrev pub is_open : List ℕ → Bool
+is_open [] = true
+is_open (b ∷ bs) = false
+
+-- whether a name lies between two ends: both are included, and an empty end is open
+abbrev pub is_between : List ℕ → List ℕ → List ℕ → Bool
+is_between low high name = (is_open low || name_le low name) && (is_open high || name_le name high)
+
+-- a walk goes upwards from start to finish or, reversed, downwards from start to finish
+abbrev pub is_in_walk : List ℕ → List ℕ → Bool → List ℕ → Bool
+is_in_walk start finish reversed name = if reversed then is_between finish start name else is_between start finish name
+
+abbrev pub walked : Bool → List Column → List Column
+walked reversed columns = if reversed then reverse columns else columns
+
+-- whether the predicate speaks of the column of this name, whatever its count is
+abbrev pub is_asked : Predicate → List ℕ → Bool
+is_asked (Names names) name = list_any (λ n. bytes_eq n name) names
+is_asked (Range start finish reversed count) name = is_in_walk start finish reversed name
+
+-- The slice of a row's live columns, which are given in name order: those with a listed name, or, of those
+-- in a walk, the first `count` (Cassandra's slice predicate).
+abbrev pub slice_of : Predicate → List Column → List Column
+slice_of (Names names) live = filter (λ c. is_asked (Names names) c.name) live
+slice_of (Range start finish reversed count) live =
+    take count (walked reversed (filter (λ c. is_asked (Range start finish reversed count) c.name) live))
+
+-- why a list of names is refused, if it is
+abbrev pub names_fault : List (List ℕ) → Option Fault
+names_fault names =
+    if nat_lt 4096 (length names) then Some TooMany
+    else (if list_all is_name names then None else Some NameLength)
+
+-- why a walk is refused, if it is: neither end being open, its start lies after its finish
+abbrev pub range_fault : List ℕ → List ℕ → Bool → Option Fault
+range_fault start finish reversed =
+    if is_end start && is_end finish
+    then (if is_open start || is_open finish || (if reversed then name_le finish start else name_le start finish) then None else Some RangeOrder)
+    else Some NameLength
+
+-- why a predicate is refused, if it is
+abbrev pub predicate_fault : Predicate → Option Fault
+predicate_fault (Names names) = names_fault names
+predicate_fault (Range start finish reversed count) = range_fault start finish reversed

@@ -1,0 +1,122 @@
+//! Which columns of a row are asked for.
+ghost use Rattle.std.specs.Prelude.{◌≡◌};
+ghost use Rattle.std.specs.List.{list_all};
+ghost use Rattle.column_family.specs.Limits.{is_name};
+ghost use Rattle.logical_time.specs.Fault.{IsRefusedFor};
+ghost use Rattle.slice.specs.Slice.{names_fault, range_fault};
+
+use column_family::Name;
+use logical_time::Fault;
+use std::marker::Model;
+
+/// Names as a request lists them, repeats included.
+#[derive(Drop, Debug, Clone)]
+pub struct Names {
+    names: Vec<Name>,
+}
+
+impl Model for Names {
+    ghost use Rattle.std.specs.Prelude.{List, ℕ};
+
+    ghost Value = { List (List ℕ) };
+
+    ghost view = { λ list. list.names.items };
+}
+
+impl Names {
+    /// These names.
+    pub fn from_vec(names: Vec<Name>) -> Names
+        ensures { result ≡ names.items }
+    {
+        Names { names }
+    }
+
+    /// The names, as they were listed.
+    pub fn as_slice(&self) -> &[Name]
+        ensures { result.now ≡ self.now }
+    {
+        self.names.as_slice()
+    }
+}
+
+/// Which columns of a row are asked for (Cassandra's slice predicate).
+#[derive(Drop, Debug, Clone)]
+pub enum Predicate {
+    /// The columns with these names.
+    Names(Names),
+    /// The columns between two ends, both included, walked from start to finish; an empty end is open.
+    Range {
+        /// Where the walk begins.
+        start: Name,
+        /// Where it ends.
+        finish: Name,
+        /// Whether it goes downwards.
+        reversed: bool,
+        /// How many columns it returns at most.
+        count: u32,
+    },
+}
+
+/// How many names a predicate may list.
+const MOST_NAMES: usize = 4096;
+
+impl Predicate {
+    ghost use Rattle.slice.specs.Slice.{predicate_fault};
+
+    /// Whether the predicate may be asked: refused with `TooMany` for more than 4,096 names, then with
+    /// `NameLength` for a name that is empty or longer than 1,024 bytes or an end longer than that, then with
+    /// `RangeOrder` for a start after the finish in the direction of the walk, neither being open.
+    pub fn check(&self) -> Result<(), Fault>
+        ensures { IsRefusedFor (predicate_fault self.now) result }
+    {
+        match self {
+            Predicate::Names(names) => check_names(names.as_slice()),
+            Predicate::Range {
+                start,
+                finish,
+                reversed,
+                ..
+            } => check_range(start, finish, *reversed),
+        }
+    }
+}
+
+// Whether each may be the name of a column.
+fn are_names(names: &[Name]) -> bool
+    ensures { result ≡ list_all is_name names.now }
+{
+    names.iter().all(|name| name.is_allowed())
+}
+
+// Whether a predicate may list these names.
+fn check_names(names: &[Name]) -> Result<(), Fault>
+    ensures { IsRefusedFor (names_fault names.now) result }
+{
+    if names.len() > MOST_NAMES {
+        return Err(Fault::TooMany);
+    }
+    if are_names(names) {
+        Ok(())
+    } else {
+        Err(Fault::NameLength)
+    }
+}
+
+// Whether a walk may go between these ends.
+fn check_range(start: &Name, finish: &Name, reversed: bool) -> Result<(), Fault>
+    ensures { IsRefusedFor (range_fault start.now finish.now reversed) result }
+{
+    if !start.is_allowed_end() || !finish.is_allowed_end() {
+        return Err(Fault::NameLength);
+    }
+    let (low, high) = if reversed {
+        (finish, start)
+    } else {
+        (start, finish)
+    };
+    if low.as_slice().is_empty() || high.as_slice().is_empty() || low <= high {
+        Ok(())
+    } else {
+        Err(Fault::RangeOrder)
+    }
+}

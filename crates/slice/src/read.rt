@@ -1,0 +1,100 @@
+//! Reads and their answers.
+ghost use Rattle.std.specs.Prelude.{◌≡◌, ◌++◌, [], ◌∷◌, OnOk, OnErr, IfErr};
+
+use crate::column::Columns;
+use crate::predicate::Predicate;
+use column_family::{Family, Key};
+use std::alloc::{AllocFailed, Global};
+use std::marker::Model;
+
+/// Keys as a request lists them, repeats included.
+#[derive(Drop, Debug, Clone)]
+pub struct Keys {
+    keys: Vec<Key>,
+}
+
+impl Model for Keys {
+    ghost use Rattle.std.specs.Prelude.{List, ℕ};
+
+    ghost Value = { List (List ℕ) };
+
+    ghost view = { λ list. list.keys.items };
+}
+
+impl Keys {
+    /// These keys.
+    pub fn from_vec(keys: Vec<Key>) -> Keys
+        ensures { result ≡ keys.items }
+    {
+        Keys { keys }
+    }
+
+    /// The keys, as they were listed.
+    pub fn as_slice(&self) -> &[Key]
+        ensures { result.now ≡ self.now }
+    {
+        self.keys.as_slice()
+    }
+}
+
+/// What a read transaction asks: of each of these rows of a family the columns that the predicate names.
+#[derive(Drop, Debug, Clone)]
+pub struct Read {
+    /// The column family.
+    pub family: Family,
+    /// The keys of the rows.
+    pub keys: Keys,
+    /// Which columns.
+    pub predicate: Predicate,
+}
+
+/// An asked row of an answer.
+#[derive(Drop, Debug, Clone)]
+pub struct AnsweredRow {
+    /// The key of the row.
+    pub key: Key,
+    /// Its slice.
+    pub columns: Columns,
+}
+
+/// The answer of a read: each asked key once, in the order of first asking, with its columns.
+#[derive(Drop, Debug, Clone)]
+pub struct Answer {
+    rows: Vec<AnsweredRow>,
+}
+
+impl Model for Answer {
+    ghost use Rattle.std.specs.Prelude.{List};
+    ghost use Rattle.slice.specs.declared.read.AnsweredRow.{AnsweredRow};
+
+    ghost Value = { List AnsweredRow };
+
+    ghost view = { λ answer. answer.rows.items };
+}
+
+impl Answer {
+    /// An answer without a row.
+    pub fn new(alloc: Global) -> Answer
+        ensures { result ≡ [] }
+    {
+        Answer {
+            rows: Vec::new(alloc),
+        }
+    }
+
+    /// Adds a row at the end.
+    pub fn push(&mut self, row: AnsweredRow) -> Result<(), AllocFailed<AnsweredRow>>
+        ensures ok { OnOk result (self.new ≡ self.old ++ row ∷ []) }
+        ensures err { OnErr result (self.new ≡ self.old) }
+        ensures back { IfErr result (λ e. e.value ≡ row) }
+    {
+        self.rows.push(row)
+    }
+
+    /// The rows.
+    pub fn as_slice(&self) -> &[AnsweredRow]
+        ensures { result.now ≡ self.now }
+    {
+        self.rows.as_slice()
+    }
+}
