@@ -19,3 +19,7 @@ are_distinct (f ∷ fs) = not (list_any (λ g. bytes_eq g f) fs) && are_distinct
 -- 1 to 16 families, no two the same
 abbrev pub is_schema : List (List ℕ) → Bool
 is_schema fs = nat_le 1 (length fs) && nat_le (length fs) 16 && list_all is_family_name fs && are_distinct fs
+
+-- whether the schema has the family
+abbrev pub has_family : List (List ℕ) → List ℕ → Bool
+has_family schema family = list_any (λ f. bytes_eq f family) schema

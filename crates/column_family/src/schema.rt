@@ -1,5 +1,5 @@
 //! The column families that there are.
-ghost use Rattle.std.specs.Prelude.{◌≡◌, IsTrue, ◌↔◌, Contains, SomeIff, true};
+ghost use Rattle.std.specs.Prelude.{◌≡◌, SomeIff, true};
 ghost use Rattle.std.specs.List.{list_all};
 ghost use Rattle.column_family.specs.Schema as schema;
 
@@ -90,7 +90,7 @@ impl Schema {
 
     /// Whether there is such a family.
     pub fn contains(&self, family: &Family) -> bool
-        ensures { IsTrue result ↔ Contains self.now family.now }
+        ensures { result ≡ schema.has_family self.now family.now }
     {
         self.families.contains(family)
     }

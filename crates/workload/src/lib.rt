@@ -1,13 +1,10 @@
-// A library with one function.
+//! Scripts and transcripts: a script is read, run and written down.
 #![tactic(auto)]
 
-ghost use Rattle.std.specs.Prelude.{◌≡◌};
-ghost use Rattle.workload.specs.Echo.{echo_of};
+mod checks;
+mod script;
+mod transcript;
 
-// The `ensures` clause is the contract: what `echo` returns is `echo_of` of its argument, a definition
-// in `specs/Echo.antt`, which a caller's clause can cite too.
-pub fn echo(x: usize) -> usize
-    ensures { result ≡ echo_of x }
-{
-    x
-}
+pub use checks::check_op;
+pub use script::{Event, Events, Op, Script};
+pub use transcript::{Entry, Transcript};

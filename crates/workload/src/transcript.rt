@@ -1,0 +1,90 @@
+//! Transcripts: what became of each submission.
+ghost use Rattle.std.specs.Prelude.{◌≡◌, ◌++◌, [], ◌∷◌, OnOk, OnErr, IfErr};
+
+use logical_time::{Fault, Node, Stamp, Time};
+use slice::Answer;
+use std::alloc::{AllocFailed, Global};
+use std::marker::Model;
+
+/// An entry of a transcript: the outcome of an operation, or the refusal of a submission.
+#[derive(Drop, Debug)]
+pub enum Entry {
+    /// A write transaction is committed.
+    Wrote {
+        /// The session.
+        node: Node,
+        /// The number of the operation, from 1.
+        number: u64,
+        /// The commit time in the session's data centre.
+        commit: Time,
+        /// The stamp of the transaction.
+        stamp: Stamp,
+    },
+    /// A read transaction is answered.
+    Read {
+        /// The session.
+        node: Node,
+        /// The number of the operation, from 1.
+        number: u64,
+        /// The effective time.
+        effective: Time,
+        /// The answer.
+        answer: Answer,
+    },
+    /// A read transaction came too late for a collection.
+    Collected {
+        /// The session.
+        node: Node,
+        /// The number of the operation, from 1.
+        number: u64,
+    },
+    /// A submission was refused.
+    Refused {
+        /// The session.
+        node: Node,
+        /// Why.
+        fault: Fault,
+    },
+}
+
+/// The transcript of a script: its entries in the order of completion or refusal.
+#[derive(Drop, Debug)]
+pub struct Transcript {
+    entries: Vec<Entry>,
+}
+
+impl Model for Transcript {
+    ghost use Rattle.std.specs.Prelude.{List};
+    ghost use Rattle.workload.specs.declared.transcript.Entry.{Entry};
+
+    ghost Value = { List Entry };
+
+    ghost view = { λ transcript. transcript.entries.items };
+}
+
+impl Transcript {
+    /// A transcript without an entry.
+    pub fn new(alloc: Global) -> Transcript
+        ensures { result ≡ [] }
+    {
+        Transcript {
+            entries: Vec::new(alloc),
+        }
+    }
+
+    /// Adds an entry at the end.
+    pub fn push(&mut self, entry: Entry) -> Result<(), AllocFailed<Entry>>
+        ensures ok { OnOk result (self.new ≡ self.old ++ entry ∷ []) }
+        ensures err { OnErr result (self.new ≡ self.old) }
+        ensures back { IfErr result (λ e. e.value ≡ entry) }
+    {
+        self.entries.push(entry)
+    }
+
+    /// The entries.
+    pub fn as_slice(&self) -> &[Entry]
+        ensures { result.now ≡ self.now }
+    {
+        self.entries.as_slice()
+    }
+}
