@@ -1,2 +1,10 @@
 //! A shard's store: the parts of batches that were applied, and slices of the newest versions.
+//!
+//! Nothing here knows of votes, messages or sessions.
 #![tactic(auto)]
+
+mod part;
+mod store;
+
+pub use part::{Part, WritePart, Writers};
+pub use store::{Applied, Store};

@@ -1,0 +1,53 @@
+-- What a store answers, by what was applied to it.
+use Rattle.std.specs.Prelude.{◌≡◌, ℕ, max, if◌then◌else◌, List, [], ◌∷◌, map, Option, Some, None, Contains, AllPairs, ◌↔◌}
+use Rattle.std.specs.declared.cmp.Ordering.{Ordering}
+use Rattle.std.specs.declared.cmp.Ordering.TheVariants.{Less}
+use Rattle.logical_time.specs.Stamps.{StampValue, WriterValue, writer_cmp}
+use Rattle.column_family.specs.declared.batch.Row.{Row}
+use Rattle.column_family.specs.declared.batch.Committed.{Committed}
+use Rattle.column_family.specs.Location.{Location, is_column_change, is_row_deletion}
+use Rattle.column_family.specs.History.{History, Stamped, newest_of}
+use Rattle.slice.specs.declared.column.Column.{Column}
+use Rattle.slice.specs.declared.predicate.Predicate.{Predicate}
+use Rattle.slice.specs.Slice.{slice_of, is_asked}
+use Rattle.slice.specs.Live.{live_columns, columns_changed}
+use Rattle.slice.specs.Rests.{RowRestsOn}
+use Rattle.store.specs.declared.store.Applied.{Applied}
+use Rattle.store.specs.declared.part.Part.{Part}
+
+abbrev pub committed_of : Applied → Committed
+committed_of a = record { batch = a.part.batch; stamp = a.stamp; commit = a.commit }
+
+-- what was applied, as a history
+abbrev pub history_of : List Applied → History
+history_of held = map committed_of held
+
+abbrev pub commit_of : Option Stamped → ℕ
+commit_of None = 0
+commit_of (Some s) = s.commit
+
+-- the earliest valid time of the newest version of a column, if the column is asked
+abbrev pub column_evt : History → Row → Predicate → List ℕ → ℕ
+column_evt h r p n = if is_asked p n then commit_of (newest_of (is_column_change (record { row = r; name = n })) h) else 0
+
+abbrev pub greatest_of : List ℕ → ℕ
+greatest_of [] = 0
+greatest_of (n ∷ ns) = max n (greatest_of ns)
+
+-- The earliest valid time of a row's slice: the greatest of the newest version of each asked column that there
+-- is, whatever the count of a range is, and of the row's newest deletion; 0 if there are none (this profile's EVT).
+abbrev pub evt_of : History → Row → Predicate → ℕ
+evt_of h r p =
+    max (commit_of (newest_of (is_row_deletion r) h)) (greatest_of (map (column_evt h r p) (columns_changed h r)))
+
+-- whether the read that returned these columns rests on something that this writer's transaction applied
+abbrev pub IsRestedOn : List Applied → Row → Predicate → List Column → WriterValue → Type 0
+IsRestedOn held r p columns w =
+    (a : Applied) × Contains held a × (a.part.writer ≡ w) × RowRestsOn (history_of held) r p columns a.stamp
+
+-- a row's part by the newest versions: the slice of the live columns, what it rests on, and since when it is valid
+pub record IsNewestPart (held : List Applied) (r : Row) (p : Predicate) (part : Part) : Type 0 where
+  pub columns : part.columns ≡ slice_of p (live_columns (history_of held) r)
+  pub writers : (w : WriterValue) → Contains part.writers w ↔ IsRestedOn held r p part.columns w
+  pub in_order : AllPairs (λ v w. writer_cmp v w ≡ Less) part.writers
+  pub evt : part.evt ≡ evt_of (history_of held) r p
