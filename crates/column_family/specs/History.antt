@@ -10,7 +10,7 @@ use Rattle.column_family.specs.declared.batch.Mutation.TheVariants.{Insert, Dele
 use Rattle.column_family.specs.Location.{Location, touches, is_column_change, is_row_deletion}
 
 -- a history: batches as they were submitted, each with the stamp of its transaction and its commit
--- time, in any order. Distinct transactions have distinct stamps
+-- time, in any order
 abbrev pub History : Type 0
 History = List Committed
 
@@ -24,7 +24,8 @@ pub record Stamped : Type 0 where
   pub commit : ℕ
   pub mutation : Mutation
 
--- of two mutations the newer is that of the greater stamp: the last writer wins (Eiger)
+-- of two mutations the newer is that of the greater stamp: the last writer wins (Eiger). Two transactions have two
+-- stamps; where a history breaks that, the first in the list counts as newer
 abbrev pub newer_of : Option Stamped → Option Stamped → Option Stamped
 newer_of None b = b
 newer_of (Some a) None = Some a
@@ -45,13 +46,17 @@ newest_of p [] = None
 newest_of p (c ∷ h) =
     newer_of (option_map (stamped c) (last_of p c.batch)) (newest_of p h)
 
--- the newest of the mutations that touch a location
+-- the newest of the mutations that touch a location, with its stamp and commit time
 abbrev pub newest : History → Location → Option Stamped
 newest h l = newest_of (touches l) h
 
--- the table of a history at a time: each location's newest mutation among what is committed by then
-abbrev pub table_at : History → ℕ → Location → Option Stamped
-table_at h t l = newest (up_to t h) l
+-- the same at a time: among what is committed by then
+abbrev pub newest_at : History → ℕ → Location → Option Stamped
+newest_at h t l = newest (up_to t h) l
+
+-- the table of a history at a time: what was last done to each location, of what is committed by then
+abbrev pub table_at : History → ℕ → Location → Option Mutation
+table_at h t l = option_map (λ s. s.mutation) (newest_at h t l)
 
 abbrev pub inserted : Mutation → Option (List ℕ)
 inserted (Insert n v) = Some v

@@ -11,7 +11,7 @@ use Rattle.column_family.specs.declared.batch.Committed.{Committed}
 use Rattle.column_family.specs.declared.batch.Mutation.{Mutation}
 use Rattle.column_family.specs.declared.batch.Mutation.TheVariants.{Insert, DeleteColumn, DeleteRow, DeleteRange}
 use Rattle.column_family.specs.Location.{Location, is_row}
-use Rattle.column_family.specs.History.{History, up_to, table_at, RestsOn}
+use Rattle.column_family.specs.History.{History, up_to, newest_at, RestsOn}
 
 -- how many changes stand before the row's first
 abbrev pub first_of : List Change → Row → ℕ
@@ -39,7 +39,7 @@ IsEffective (DeleteColumn n) = Unit {0}
 IsEffective DeleteRow = Unit {0}
 IsEffective (DeleteRange start finish) = ⊥
 
--- rows stand in the order in which they first occur in this batch, and each row's mutations in theirs
+-- rows stand in the order in which they first occur in this batch, and within a row the mutations as above
 abbrev pub IsInOrderOf : List Change → List Change → Type 0
 IsInOrderOf batch changes =
     AllPairs (λ c d. (first_of batch c.row < first_of batch d.row) ⊎ ((c.row ≡ d.row) × StandsBefore c.mutation d.mutation)) changes
@@ -52,10 +52,10 @@ IsNormal changes = All (λ c. IsEffective c.mutation) changes × IsInOrderOf cha
 abbrev pub committed : List Change → StampValue → ℕ → Committed
 committed batch s t = record { batch = batch; stamp = s; commit = t }
 
--- one batch stands for the other: in no history, at no time, does it change the table or what a read
--- rests on
+-- One batch stands for the other: in every history, at every time, each location keeps its newest mutation, and
+-- with it the table, and a read of it rests on the same.
 pub record StandsFor (kept given : List Change) : Type 0 where
-  pub table : (before after : History) (s : StampValue) (commit time : ℕ) (l : Location)
-      → table_at (before ++ committed kept s commit ∷ after) time l ≡ table_at (before ++ committed given s commit ∷ after) time l
+  pub newest : (before after : History) (s : StampValue) (commit time : ℕ) (l : Location)
+    → newest_at (before ++ committed kept s commit ∷ after) time l ≡ newest_at (before ++ committed given s commit ∷ after) time l
   pub rests : (before after : History) (s : StampValue) (commit time : ℕ) (l : Location) (w : StampValue)
-      → RestsOn (up_to time (before ++ committed kept s commit ∷ after)) l w ↔ RestsOn (up_to time (before ++ committed given s commit ∷ after)) l w
+    → RestsOn (up_to time (before ++ committed kept s commit ∷ after)) l w ↔ RestsOn (up_to time (before ++ committed given s commit ∷ after)) l w

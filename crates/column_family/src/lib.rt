@@ -6,8 +6,10 @@
 
 mod batch;
 mod bytes;
+mod normalizing;
 mod schema;
 
 pub use batch::{Batch, Change, Committed, Mutation, Row};
 pub use bytes::{Family, Key, Name, Value};
+pub use normalizing::normal;
 pub use schema::Schema;

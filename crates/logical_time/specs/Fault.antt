@@ -1,5 +1,5 @@
 -- The numbers of the refusals, and when a call is refused.
-use Rattle.std.specs.Prelude.{◌≡◌, ℕ, Option, Some, None, Result, Ok, Err, ◌⊎◌}
+use Rattle.std.specs.Prelude.{◌≡◌, ℕ, Option, Some, None, Result, Ok, Err}
 use Rattle.logical_time.specs.declared.fault.Fault.{Fault}
 use Rattle.logical_time.specs.declared.fault.Fault.TheVariants.{EmptyBatch, UnknownFamily, KeyLength, NameLength, ValueLength, TooMany, RangeOrder, EmptyRead, RangeDeletion, Busy, Collected, ClockSpent, Memory, JournalFull, StrangerEnd, AlreadyHome, UnknownHome, Oversize, UnknownTag, BadCount, TrailingBytes, Truncated, Script, ReadFailed, WriteFailed}
 
@@ -35,8 +35,3 @@ number_of WriteFailed = 37
 abbrev pub IsRefusedFor : {T : Type 0} → Option Fault → Result T Fault → Type 0
 IsRefusedFor f (Ok x) = f ≡ None
 IsRefusedFor f (Err e) = f ≡ Some e
-
--- the same of a call that takes memory: it may also be refused for want of that
-abbrev pub IsRefusedForOrMemory : {T : Type 0} → Option Fault → Result T Fault → Type 0
-IsRefusedForOrMemory f (Ok x) = f ≡ None
-IsRefusedForOrMemory f (Err e) = (e ≡ Memory) ⊎ (f ≡ Some e)

@@ -39,7 +39,7 @@ pub enum Fault {
     /// A submission while the session's operation before it is open.
     #[error("20 Busy")]
     Busy,
-    /// A time below what a collection has kept.
+    /// A time below the horizon of the collections.
     #[error("21 Collected")]
     Collected,
     /// The clock would leave its range.
@@ -63,7 +63,7 @@ pub enum Fault {
     /// A frame longer than a frame may be.
     #[error("30 Oversize")]
     Oversize,
-    /// A byte of a frame that stands for no kind.
+    /// A byte of a frame that stands for no kind, or a flag that is neither off nor on.
     #[error("31 UnknownTag")]
     UnknownTag,
     /// A count of a frame that its bytes can't hold.

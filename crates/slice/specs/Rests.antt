@@ -7,7 +7,8 @@ use Rattle.column_family.specs.History.{History, newest_of, stamp_of, RestsOn}
 use Rattle.slice.specs.declared.column.Column.{Column}
 use Rattle.slice.specs.declared.predicate.Predicate.{Predicate}
 use Rattle.slice.specs.declared.predicate.Predicate.TheVariants.{Names, Range}
-use Rattle.slice.specs.Slice.{name_le, is_asked}
+use Rattle.slice.specs.Slice.{name_le, is_asked, slice_of}
+use Rattle.slice.specs.Live.{live_columns}
 
 -- whether a walk that returned these columns had come to the name by the last of them
 abbrev pub is_reached : Bool → List Column → List ℕ → Bool
@@ -22,9 +23,10 @@ is_looked_at (Names names) columns name = is_asked (Names names) name
 is_looked_at (Range start finish reversed count) columns name =
     is_asked (Range start finish reversed count) name && (nat_lt (length columns) count || is_reached reversed columns name)
 
--- A read that returned these columns of a row rests on the transaction of this stamp: at some column that it
--- looked at, or as that of the row's newest deletion.
-abbrev pub RowRestsOn : History → Row → Predicate → List Column → StampValue → Type 0
-RowRestsOn h r p columns s =
-    ((name : List ℕ) × (is_looked_at p columns name ≡ true) × RestsOn h (record { row = r; name = name }) s)
+-- The read of a row, answered from the table of a whole history, rests on the transaction of this stamp: at some
+-- column that it looked at, or as that of the row's newest deletion, which counts always. For a read at a time
+-- the history is what is committed by then.
+abbrev pub RowRestsOn : History → Row → Predicate → StampValue → Type 0
+RowRestsOn h r p s =
+    ((name : List ℕ) × (is_looked_at p (slice_of p (live_columns h r)) name ≡ true) × RestsOn h (record { row = r; name = name }) s)
     ⊎ (stamp_of (newest_of (is_row_deletion r) h) ≡ Some s)

@@ -7,7 +7,6 @@ use Rattle.column_family.specs.declared.batch.Row.{Row}
 use Rattle.column_family.specs.declared.batch.Committed.{Committed}
 use Rattle.column_family.specs.Location.{Location, is_column_change, is_row_deletion}
 use Rattle.column_family.specs.History.{History, Stamped, newest_of}
-use Rattle.slice.specs.declared.column.Column.{Column}
 use Rattle.slice.specs.declared.predicate.Predicate.{Predicate}
 use Rattle.slice.specs.Slice.{slice_of, is_asked}
 use Rattle.slice.specs.Live.{live_columns, columns_changed}
@@ -40,14 +39,14 @@ abbrev pub evt_of : History → Row → Predicate → ℕ
 evt_of h r p =
     max (commit_of (newest_of (is_row_deletion r) h)) (greatest_of (map (column_evt h r p) (columns_changed h r)))
 
--- whether the read that returned these columns rests on something that this writer's transaction applied
-abbrev pub IsRestedOn : List Applied → Row → Predicate → List Column → WriterValue → Type 0
-IsRestedOn held r p columns w =
-    (a : Applied) × Contains held a × (a.part.writer ≡ w) × RowRestsOn (history_of held) r p columns a.stamp
+-- the read of the row rests on something that this writer's transaction applied
+abbrev pub IsRestedOn : List Applied → Row → Predicate → WriterValue → Type 0
+IsRestedOn held r p w =
+    (a : Applied) × Contains held a × (a.part.writer ≡ w) × RowRestsOn (history_of held) r p a.stamp
 
 -- a row's part by the newest versions: the slice of the live columns, what it rests on, and since when it is valid
 pub record IsNewestPart (held : List Applied) (r : Row) (p : Predicate) (part : Part) : Type 0 where
   pub columns : part.columns ≡ slice_of p (live_columns (history_of held) r)
-  pub writers : (w : WriterValue) → Contains part.writers w ↔ IsRestedOn held r p part.columns w
+  pub writers : (w : WriterValue) → Contains part.writers w ↔ IsRestedOn held r p w
   pub in_order : AllPairs (λ v w. writer_cmp v w ≡ Less) part.writers
   pub evt : part.evt ≡ evt_of (history_of held) r p

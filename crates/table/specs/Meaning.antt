@@ -16,8 +16,14 @@ each_once (k ∷ ks) = k ∷ filter (λ j. not (bytes_eq k j)) (each_once ks)
 abbrev pub row_of : Read → List ℕ → Row
 row_of read key = record { family = read.family; key = key }
 
--- The meaning of a read on a history at a time: each asked key, in the order of first asking, with its slice of
--- the table at that time.
+-- what a read shows of a row in the table of a whole history: its slice
+abbrev pub shown_row : Read → History → List ℕ → AnsweredRow
+shown_row read h key = record { key = key; columns = slice_of read.predicate (live_columns h (row_of read key)) }
+
+-- what a read shows of the table of a whole history: each asked key, in the order of first asking, with its slice
+abbrev pub shown : Read → History → List AnsweredRow
+shown read h = map (shown_row read h) (each_once read.keys)
+
+-- the meaning of a read on a history at a time: what it shows of what is committed by then
 abbrev pub meaning : Read → History → ℕ → List AnsweredRow
-meaning read h t =
-    map (λ key. record { key = key; columns = slice_of read.predicate (live_columns (up_to t h) (row_of read key)) }) (each_once read.keys)
+meaning read h t = shown read (up_to t h)

@@ -3,8 +3,10 @@
 
 mod checks;
 mod script;
+mod simulating;
 mod transcript;
 
 pub use checks::check_op;
 pub use script::{Event, Events, Op, Script};
+pub use simulating::simulate;
 pub use transcript::{Entry, Transcript};

@@ -3,6 +3,7 @@ ghost use Rattle.std.specs.Prelude.{◌≡◌};
 
 use column_family::{Batch, Schema};
 use slice::Read;
+use std::alloc::AllocError;
 use std::marker::Model;
 
 /// What a session submits.
@@ -12,6 +13,17 @@ pub enum Op {
     Batch(Batch),
     /// A read transaction.
     Read(Read),
+}
+
+impl Op {
+    ghost use Rattle.std.specs.Prelude.{◌≡◌, IfOk};
+
+    /// A copy, which shares the bytes of keys, names and values.
+    pub fn copied(&self) -> Result<Op, AllocError>
+        ensures { IfOk result (λ copy. copy ≡ self.now) }
+    {
+        self.clone()
+    }
 }
 
 /// An event of a script.

@@ -1,0 +1,237 @@
+//! A script is run by one session and one shard, each with its clock.
+ghost use Rattle.std.specs.Prelude.{◌≡◌, ◌≤◌, [], ◌++◌, ◌∷◌, IfOk, IfErr, OnOk, ◌⊎◌};
+ghost use Rattle.store.specs.Part.{history_of};
+ghost use Rattle.table.specs.Meaning.{each_once, shown, shown_row};
+ghost use Rattle.workload.specs.Simulation.{IsTranscriptOf, greatest};
+
+use crate::checks::check_op;
+use crate::script::{Event, Op, Script};
+use crate::transcript::{Entry, Transcript};
+use column_family::{Batch, Key, Row, Schema, normal};
+use logical_time::{Clock, Fault, Node, Stamp, Time, TxnId, Writer};
+use slice::{Answer, AnsweredRow, Keys, Read};
+use std::alloc::Global;
+use store::{Store, WritePart};
+
+/// The shard's number, and its node.
+const SHARD: u16 = 0;
+/// The session's node.
+const SESSION: u16 = 1;
+
+/// Stub.
+fn once(alloc: Global, keys: &Keys) -> Result<Vec<Key>, Fault>
+    ensures ok { IfOk result (λ v. v.items ≡ each_once keys.now) }
+    ensures memory { IfErr result (λ e. e ≡ Fault.Memory) }
+{
+    Err(Fault::Memory)
+}
+
+// What the store shows of a row, and since when it is valid.
+#[tactic(auto, using(crate::proofs::Times::evt_of_within))]
+fn read_row(store: &Store, read: &Read, key: &Key) -> Result<(Time, AnsweredRow), Fault>
+    ensures row { IfOk result (λ r. r.1 ≡ shown_row read.now (history_of store.now) key.now) }
+    ensures evt { IfOk result (λ r. r.0 ≤ greatest (history_of store.now)) }
+    ensures memory { IfErr result (λ e. e ≡ Fault.Memory) }
+{
+    let row = Row {
+        family: read.family.clone()?,
+        key: key.clone()?,
+    };
+    let part = store.read_now(&row, &read.predicate)?;
+    let row = AnsweredRow {
+        key: row.key,
+        columns: part.columns,
+    };
+    Ok((part.evt, row))
+}
+
+// What the store shows of the asked rows, and the effective time: the greatest of the floor and of the earliest
+// valid times.
+fn read_all(alloc: Global, store: &Store, floor: Time, read: &Read) -> Result<(Time, Answer), Fault>
+    ensures answer { IfOk result (λ r. r.1 ≡ shown read.now (history_of store.now)) }
+    ensures from { IfOk result (λ r. floor ≤ r.0) }
+    ensures to { IfOk result (λ r. (r.0 ≤ floor) ⊎ (r.0 ≤ greatest (history_of store.now))) }
+    ensures memory { IfErr result (λ e. e ≡ Fault.Memory) }
+{
+    let keys = once(alloc, &read.keys)?;
+    let mut effective = floor;
+    let mut answer = Answer::new(alloc);
+    for key in &keys {
+        let (evt, row) = read_row(store, read, key)?;
+        if effective < evt {
+            effective = evt;
+        }
+        answer.push(row)?;
+    }
+    Ok((effective, answer))
+}
+
+/// A session and the shard that it talks to.
+#[derive(Drop)]
+pub struct Runner {
+    /// The session's clock.
+    session: Clock,
+    /// The shard's clock.
+    shard: Clock,
+    /// The greatest commit or effective time of the session's completed operations.
+    floor: Time,
+    /// How many operations were accepted.
+    accepted: u64,
+    /// The operation that is open.
+    open_op: Option<Op>,
+    /// What the shard has applied.
+    store: Store,
+    ghost numbered: { accepted ≤ session },
+}
+
+impl Runner {
+    ghost use Rattle.std.specs.Prelude.{◌≡◌, IfOk, IfErr, OnOk, None, [], ◌⊎◌};
+    ghost use Rattle.logical_time.specs.Fault.{IsRefusedFor};
+    ghost use Rattle.workload.specs.Simulation.{submission_fault};
+    ghost use Rattle.workload.specs.Runner.{Submits, Writes, Reads, Drains, GoesOn};
+
+    /// Both start at 0, with nothing applied.
+    fn new(alloc: Global) -> Runner
+        ensures store { result.store ≡ [] }
+        ensures floor { result.floor ≡ 0 }
+        ensures shard { result.shard ≡ 0 }
+        ensures accepted { result.accepted ≡ 0 }
+        ensures none_open { result.open_op ≡ None }
+    {
+        Runner {
+            session: Clock::new(),
+            shard: Clock::new(),
+            floor: Time::zero(),
+            accepted: 0,
+            open_op: None,
+            store: Store::new(alloc),
+        }
+    }
+
+    /// Whether the session accepts the operation.
+    fn check(&self, schema: &Schema, op: &Op) -> Result<(), Fault>
+        ensures { IsRefusedFor (submission_fault schema.now self.now.open_op op.now) result }
+    {
+        if self.open_op.is_some() {
+            return Err(Fault::Busy);
+        }
+        check_op(schema, op)
+    }
+
+    /// The session submits an operation: it is refused, or open from now on.
+    fn submit(&mut self, schema: &Schema, op: &Op) -> Result<Option<Entry>, Fault>
+        ensures ok { IfOk result (λ told. Submits schema.now op.now self.old told self.new) }
+        ensures faults { IfErr result (λ e. (e ≡ Fault.Memory) ⊎ (e ≡ Fault.ClockSpent)) }
+    {
+        match self.check(schema, op) {
+            Ok(()) => {}
+            Err(fault) => {
+                let node = Node::new(SESSION);
+                return Ok(Some(Entry::Refused { node, fault }));
+            }
+        }
+        let op = op.copied()?;
+        let now = self.session.now();
+        let time = self.session.receive(now)?.get();
+        prove!(self.accepted < time);
+        self.accepted += 1;
+        self.open_op = Some(op);
+        Ok(None)
+    }
+
+    /// The shard commits the batch, and tells the session.
+    fn write(&mut self, alloc: Global, batch: &Batch) -> Result<Entry, Fault>
+        ensures ok { IfOk result (λ told. Writes batch.now self.old told self.new) }
+        ensures faults { IfErr result (λ e. (e ≡ Fault.Memory) ⊎ (e ≡ Fault.ClockSpent)) }
+    {
+        let normal = normal(alloc, batch)?;
+        let sent = self.session.now();
+        let commit = self.shard.receive(sent)?;
+        let stamp = Stamp {
+            time: commit,
+            node: Node::new(SHARD),
+        };
+        let txn = TxnId {
+            session: Node::new(SESSION),
+            number: self.accepted,
+        };
+        let part = WritePart {
+            writer: Writer { txn, shard: SHARD },
+            batch: normal,
+        };
+        if let Err((fault, _part)) = self.store.apply(part, commit, stamp) {
+            return Err(fault);
+        }
+        self.session.receive(commit)?;
+        self.floor = commit;
+        Ok(Entry::Wrote {
+            node: Node::new(SESSION),
+            number: self.accepted,
+            commit,
+            stamp,
+        })
+    }
+
+    /// The shard answers the read, and the session takes the answer.
+    fn read(&mut self, alloc: Global, read: &Read) -> Result<Entry, Fault>
+        ensures ok { IfOk result (λ told. Reads read.now self.old told self.new) }
+        ensures faults { IfErr result (λ e. (e ≡ Fault.Memory) ⊎ (e ≡ Fault.ClockSpent)) }
+    {
+        let (effective, answer) = read_all(alloc, &self.store, self.floor, read)?;
+        let sent = self.session.now();
+        let time = self.shard.receive(sent)?;
+        self.session.receive(time)?;
+        self.floor = effective;
+        Ok(Entry::Read {
+            node: Node::new(SESSION),
+            number: self.accepted,
+            effective,
+            answer,
+        })
+    }
+
+    /// The open operation, if there is one, is completed.
+    fn drain(&mut self, alloc: Global) -> Result<Option<Entry>, Fault>
+        ensures ok { IfOk result (λ told. Drains self.old.open_op self.old told self.new) }
+        ensures faults { IfErr result (λ e. (e ≡ Fault.Memory) ⊎ (e ≡ Fault.ClockSpent)) }
+    {
+        match self.open_op.take() {
+            None => Ok(None),
+            Some(Op::Batch(batch)) => {
+                let entry = self.write(alloc, &batch)?;
+                Ok(Some(entry))
+            }
+            Some(Op::Read(read)) => {
+                let entry = self.read(alloc, &read)?;
+                Ok(Some(entry))
+            }
+        }
+    }
+
+    /// One event of the script.
+    fn step(&mut self, alloc: Global, schema: &Schema, event: &Event) -> Result<Option<Entry>, Fault>
+        ensures ok { IfOk result (λ told. GoesOn schema.now event.now self.old told self.new) }
+        ensures faults { IfErr result (λ e. (e ≡ Fault.Memory) ⊎ (e ≡ Fault.ClockSpent)) }
+    {
+        match event {
+            Event::Submit(op) => self.submit(schema, op),
+            Event::Drain => self.drain(alloc),
+        }
+    }
+}
+
+/// The transcript of a script. Refused with `ClockSpent` where a clock would leave its range, and with `Memory`.
+/// Costs for each read what was written before it, and else what the script is long.
+pub fn simulate(alloc: Global, script: &Script) -> Result<Transcript, Fault>
+    ensures ok { IfOk result (IsTranscriptOf script.now) }
+    ensures faults { IfErr result (λ e. (e ≡ Fault.Memory) ⊎ (e ≡ Fault.ClockSpent)) }
+{
+    let mut runner = Runner::new(alloc);
+    let mut transcript = Transcript::new(alloc);
+    for event in script.events.as_slice() {
+        if let Some(entry) = runner.step(alloc, &script.schema, event)? {
+            transcript.push(entry)?;
+        }
+    }
+    Ok(transcript)
+}
