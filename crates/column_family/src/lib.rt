@@ -6,10 +6,14 @@
 
 mod batch;
 mod bytes;
+mod newest;
 mod normalizing;
 mod schema;
 
 pub use batch::{Batch, Change, Committed, Mutation, Row};
 pub use bytes::{Family, Key, Name, Value};
+pub use newest::{
+    NewestMutation, newest_column_change, newest_row_deletion, newest_touching, up_to,
+};
 pub use normalizing::normal;
 pub use schema::Schema;

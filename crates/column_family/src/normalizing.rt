@@ -1,17 +1,126 @@
-//! Batches in normal form.
-ghost use Rattle.std.specs.Prelude.{◌≡◌, IfOk, IfErr};
-ghost use Rattle.column_family.specs.Normal.{IsNormal, IsInOrderOf, StandsFor};
+//! The normal form of a batch: in the order of its rows, what has an effect, once.
+//!
+//! Changes are taken from the newest to the oldest, and kept by their place in the normal form. An older
+//! change is without effect where its place is taken, and where its row is deleted by a newer one.
+ghost use Rattle.std.specs.Prelude.{◌≡◌, [], length, unwrap_or, IfOk, OnOk, IfErr};
+ghost use Rattle.std.specs.BTreeMap.{get, values};
+ghost use Rattle.std.specs.Map.{values_of};
+ghost use Rattle.logical_time.specs.declared.fault.Fault.TheVariants as fault;
+ghost use Rattle.column_family.specs.declared.batch.Row.{Row};
+ghost use Rattle.column_family.specs.Normal.{IsNormal, IsInOrderOf, StandsFor, first_of};
+ghost use Rattle.column_family.specs.Places as spec;
 
-use crate::batch::Batch;
+use crate::batch::{Batch, Change, Mutation, Row};
+use crate::bytes::Name;
 use logical_time::Fault;
-use std::alloc::Global;
+use std::alloc::{AllocError, Global};
+use std::collections::BTreeMap;
 
-/// Stub.
+/// Where a change stands in the normal form.
+#[derive(Drop, Debug, Clone, PartialEq, Eq, PartialOrd, Ord)]
+struct Place {
+    /// Where the first change of its row stands in the batch.
+    row: usize,
+    /// The column, or none for a deletion of the row, which stands before the columns.
+    column: Option<Name>,
+}
+
+/// Where the first change of each row stands.
+fn first_places(alloc: Global, changes: &[Change]) -> Result<BTreeMap<Row, usize>, Fault>
+    ensures exact { IfOk result (λ first. (r : Row) → unwrap_or (get spec.row_cmp first r) (length changes.now) ≡ first_of changes.now r) }
+    ensures memory { IfErr result (λ e. e ≡ fault.Memory) }
+{
+    let mut first = BTreeMap::new(alloc);
+    let mut rest = changes;
+    while let Some((last, earlier)) = rest.split_last() {
+        first.insert(last.row.clone()?, earlier.len())?;
+        rest = earlier;
+    }
+    Ok(first)
+}
+
+/// The place of a mutation of a row: none where it touches nothing.
+fn place_of(row: usize, mutation: &Mutation) -> Result<Option<Place>, AllocError>
+    ensures { IfOk result (λ place. place ≡ spec.place_of row mutation.now) }
+{
+    let column = match mutation {
+        Mutation::Insert { name, .. } => Some(name.clone()?),
+        Mutation::DeleteColumn { name } => Some(name.clone()?),
+        Mutation::DeleteRow => None,
+        Mutation::DeleteRange { .. } => return Ok(None),
+    };
+    Ok(Some(Place { row, column }))
+}
+
+/// Whether an older change at the place is without effect.
+fn is_covered(kept: &BTreeMap<Place, Change>, place: &Place) -> bool
+    ensures { result ≡ spec.is_covered kept.now.entries place.now }
+{
+    let deletion = Place {
+        row: place.row,
+        column: None,
+    };
+    kept.contains_key(&deletion) || kept.contains_key(place)
+}
+
+/// A copy of the change, which shares its bytes.
+fn copy_of(change: &Change) -> Result<Change, AllocError>
+    ensures { IfOk result (λ copy. copy ≡ change.now) }
+{
+    change.clone()
+}
+
+/// Keeps an older change of the row, if it has an effect.
+fn keep(kept: &mut BTreeMap<Place, Change>, row: usize, change: &Change) -> Result<(), Fault>
+    ensures ok { OnOk result (kept.new.entries ≡ spec.keep row kept.old.entries change.now) }
+    ensures memory { IfErr result (λ e. e ≡ fault.Memory) }
+{
+    let Some(place) = place_of(row, &change.mutation)? else {
+        return Ok(())
+    };
+    if is_covered(kept, &place) {
+        return Ok(());
+    }
+    kept.insert(place, copy_of(change)?)?;
+    Ok(())
+}
+
+/// What is kept of the changes, by place.
+fn keep_all(alloc: Global, changes: &[Change]) -> Result<BTreeMap<Place, Change>, Fault>
+    ensures exact { IfOk result (λ kept. kept.entries ≡ spec.keep_all (first_of changes.now) [] changes.now) }
+    ensures memory { IfErr result (λ e. e ≡ fault.Memory) }
+{
+    let first = first_places(alloc, changes)?;
+    let mut kept = BTreeMap::new(alloc);
+    let mut rest = changes;
+    while let Some((last, earlier)) = rest.split_last() {
+        let row = first.get(&last.row).copied().unwrap_or(changes.len());
+        keep(&mut kept, row, last)?;
+        rest = earlier;
+    }
+    Ok(kept)
+}
+
+/// The kept changes, in the order of their places.
+fn kept_changes(alloc: Global, batch: &Batch) -> Result<Batch, Fault>
+    ensures exact { IfOk result (λ kept. kept ≡ values_of (spec.keep_all (first_of batch.now) [] batch.now)) }
+    ensures memory { IfErr result (λ e. e ≡ fault.Memory) }
+{
+    let kept = keep_all(alloc, batch.as_slice())?;
+    let changes: Vec<Change> = kept.into_values().collect(alloc)?;
+    Ok(Batch::from_changes(changes))
+}
+
+/// The normal form of a batch: rows in the order in which they first occur, and of each row at most one
+/// deletion, first, and then the newest mutation of each column, in name order. It stands for the batch:
+/// in no history does it change what is read. In the order of m log m for m changes. Its one error is
+/// `Memory`.
+#[tactic(auto, using(crate::proofs::Order::kept_stands))]
 pub fn normal(alloc: Global, batch: &Batch) -> Result<Batch, Fault>
     ensures form { IfOk result (λ kept. IsNormal kept) }
     ensures order { IfOk result (λ kept. IsInOrderOf batch.now kept) }
     ensures stands_for { IfOk result (λ kept. StandsFor kept batch.now) }
-    ensures memory { IfErr result (λ e. e ≡ Fault.Memory) }
+    ensures memory { IfErr result (λ e. e ≡ fault.Memory) }
 {
-    Err(Fault::Memory)
+    kept_changes(alloc, batch)
 }

@@ -1,1 +1,3 @@
 pub mod Times
+pub mod Histories
+pub mod Goes

@@ -214,8 +214,14 @@ impl Runner {
         ensures faults { IfErr result (λ e. (e ≡ Fault.Memory) ⊎ (e ≡ Fault.ClockSpent)) }
     {
         match event {
-            Event::Submit(op) => self.submit(schema, op),
-            Event::Drain => self.drain(alloc),
+            Event::Submit(op) => {
+                let told = self.submit(schema, op)?;
+                Ok(told)
+            }
+            Event::Drain => {
+                let told = self.drain(alloc)?;
+                Ok(told)
+            }
         }
     }
 }

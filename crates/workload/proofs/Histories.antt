@@ -1,0 +1,62 @@
+-- A history with one more entry at its end.
+use Rattle.std.proofs.Common.{◌≡◌, ◌∙◌, sym, ap, refl, ℕ, ◌+◌, ◌<◌, ◌≤◌, max, Bool, true, false, cond, List, [], ◌∷◌, ◌++◌, map, Option, Some, None, option_map, arith}
+use Rattle.std.specs.Prelude.{nat_le, filter}
+use Rattle.std.proofs.lemmas.Bool.Decides.{nat_tests}
+use Rattle.std.specs.Ordering.{nat_cmp, ordering_then, is_lt}
+use Rattle.logical_time.specs.Stamps.{StampValue, stamp_cmp, is_older}
+use Rattle.column_family.specs.declared.batch.Change.{Change}
+use Rattle.column_family.specs.declared.batch.Committed.{Committed}
+use Rattle.column_family.specs.History.{History, Stamped, newer_of, newest_of, last_of, stamped, up_to}
+use Rattle.store.specs.declared.store.Applied.{Applied}
+use Rattle.store.specs.Part.{history_of, committed_of}
+use Rattle.workload.specs.Simulation.{greatest}
+
+-- a stamp that isn't older than one that isn't older than a third isn't older than that
+not_older : (a b c : StampValue) → is_older a b ≡ false → is_older b c ≡ false → is_older a c ≡ false
+not_older a b c = grind (arith, nat_tests)
+
+older : (a b c : StampValue) → is_older a b ≡ true → is_older b c ≡ true → is_older a c ≡ true
+older a b c = grind (arith, nat_tests)
+
+newer_by : (a b c : Stamped) (x y : Bool) → is_older a.stamp b.stamp ≡ x → is_older b.stamp c.stamp ≡ y
+  → newer_of (newer_of (Some a) (Some b)) (Some c) ≡ newer_of (Some a) (newer_of (Some b) (Some c))
+newer_by a b c true true p q = rw (p, q, older a.stamp b.stamp c.stamp p q) refl
+newer_by a b c true false p q = rw (p, q) (rw p refl)
+newer_by a b c false true p q = rw (p, q) refl
+newer_by a b c false false p q = rw (p, q, not_older a.stamp b.stamp c.stamp p q) (rw p refl)
+
+pub newer_of_assoc : (a b c : Option Stamped) → newer_of (newer_of a b) c ≡ newer_of a (newer_of b c)
+newer_of_assoc None b c = refl
+newer_of_assoc (Some a) None c = refl
+newer_of_assoc (Some a) (Some b) None = also (newer_of (Some a) (Some b))
+  where
+    also : (o : Option Stamped) → newer_of o None ≡ o
+    also None = refl
+    also (Some x) = refl
+newer_of_assoc (Some a) (Some b) (Some c) = newer_by a b c (is_older a.stamp b.stamp) (is_older b.stamp c.stamp) refl refl
+
+-- the newest of a longer history
+pub newest_of_append : (p : Change → Bool) (h k : History) → newest_of p (h ++ k) ≡ newer_of (newest_of p h) (newest_of p k)
+newest_of_append p [] k = refl
+newest_of_append p (c ∷ h) k =
+    ap (newer_of (option_map (stamped c) (last_of p c.batch))) (newest_of_append p h k)
+    ∙ sym (newer_of_assoc (option_map (stamped c) (last_of p c.batch)) (newest_of p h) (newest_of p k))
+
+pub greatest_append : (h k : History) → greatest (h ++ k) ≡ max (greatest h) (greatest k)
+greatest_append [] k = omega arith
+greatest_append (c ∷ h) k = let ih = greatest_append h k in omega arith
+
+pub history_of_append : (held more : List Applied) → history_of (held ++ more) ≡ history_of held ++ history_of more
+history_of_append [] more = refl
+history_of_append (a ∷ held) more = ap (λ h. committed_of a ∷ h) (history_of_append held more)
+
+kept : (b : Bool) (c : Committed) (h k : History) → b ≡ true → h ≡ k → cond b (c ∷ h) h ≡ c ∷ k
+kept true c h k p q = ap (λ j. c ∷ j) q
+kept false c h k p q = cc
+
+-- all of a history is committed by its greatest commit time
+pub up_to_all : (h : History) (t : ℕ) → greatest h ≤ t → up_to t h ≡ h
+up_to_all [] t le = refl
+up_to_all (c ∷ h) t le =
+    let by : nat_le c.commit t ≡ true = grind (arith, nat_tests) in
+    kept (nat_le c.commit t) c (up_to t h) h by (up_to_all h t (omega arith))

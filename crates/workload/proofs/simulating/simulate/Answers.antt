@@ -1,0 +1,12 @@
+use Rattle.std.proofs.Common.{◌≡◌, [], drop, length, arith}
+use Rattle.std.proofs.lemmas.List.{drop_all}
+use Rattle.workload.proofs.Goes.{told_whole}
+use Rattle.workload.proofs.simulating.simulate.Goals as goal
+
+pub returns-clause-ok : goal.returns-clause-ok
+returns-clause-ok c =
+    let items = c.as_slice-event-items.result.now in
+    let none : drop c.loop-event.event-index items ≡ [] = drop_all c.loop-event.event-index items (omega arith) in
+    let all : items ≡ c.args.script.now.events = c.as_slice-event-items.ensures in
+    let whole = told_whole c.args.script.now.schema items c.loop-event.runner (drop c.loop-event.event-index items) c.loop-event.transcript none c.loop-event.invariant in
+    rw (← all) whole

@@ -1,0 +1,7 @@
+use Rattle.std.proofs.Common.{drop}
+use Rattle.workload.specs.Runner.{HasTold}
+use Rattle.workload.proofs.simulating.simulate.Given as goal
+
+-- what is told so far goes on with whatever may be told of the rest
+abbrev pub invariant-loop-event : goal.invariant-loop-event
+invariant-loop-event l = HasTold l.script.schema l.event-items l.runner (drop l.event-index l.event-items) l.transcript
