@@ -1,5 +1,6 @@
 -- What the read of a row rests on.
-use Rattle.std.specs.Prelude.{◌≡◌, ℕ, Bool, true, false, ◌&&◌, ◌||◌, nat_lt, if◌then◌else◌, List, [], ◌∷◌, length, Option, Some, None, ◌⊎◌}
+use Rattle.std.specs.Prelude.{◌≡◌, ℕ, Bool, true, false, ◌&&◌, ◌||◌, nat_lt, if◌then◌else◌, ◌-◌, List, length, slice_get, Some, ◌⊎◌}
+use Rattle.std.specs.Option.{option_map_or}
 use Rattle.logical_time.specs.Stamps.{StampValue}
 use Rattle.column_family.specs.declared.batch.Row.{Row}
 use Rattle.column_family.specs.Location.{Location, is_row_deletion}
@@ -12,16 +13,18 @@ use Rattle.slice.specs.Live.{live_columns}
 
 -- whether a walk that returned these columns had come to the name by the last of them
 abbrev pub is_reached : Bool → List Column → List ℕ → Bool
-is_reached reversed [] name = false
-is_reached reversed (c ∷ []) name = if reversed then name_le c.name name else name_le name c.name
-is_reached reversed (c ∷ d ∷ ds) name = is_reached reversed (d ∷ ds) name
+is_reached reversed columns name =
+    option_map_or (λ c. if reversed then name_le c.name name else name_le name c.name) (slice_get columns (length columns - 1)) false
 
--- Whether a read that returned these columns of a row rests on the column of this name: it is asked, and where
--- a range returned as many columns as its count, it doesn't lie after the last returned one.
+-- whether the walk of a predicate that returned these columns came to the name: a list of names has no walk
+abbrev pub is_within : Predicate → List Column → List ℕ → Bool
+is_within (Names names) columns name = true
+is_within (Range start finish reversed count) columns name = nat_lt (length columns) count || is_reached reversed columns name
+
+-- Whether a read that returned these columns of a row looked at the column of this name: it is asked, and where
+-- a range returned as many columns as its count, it doesn't lie after the last of them.
 abbrev pub is_looked_at : Predicate → List Column → List ℕ → Bool
-is_looked_at (Names names) columns name = is_asked (Names names) name
-is_looked_at (Range start finish reversed count) columns name =
-    is_asked (Range start finish reversed count) name && (nat_lt (length columns) count || is_reached reversed columns name)
+is_looked_at p columns name = is_asked p name && is_within p columns name
 
 -- The read of a row, answered from the table of a whole history, rests on the transaction of this stamp: at some
 -- column that it looked at, or as that of the row's newest deletion, which counts always. For a read at a time

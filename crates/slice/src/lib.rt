@@ -4,9 +4,14 @@
 #![tactic(auto)]
 
 mod column;
+mod live;
+mod ordering;
 mod predicate;
 mod read;
+mod selecting;
 
 pub use column::{Column, Columns};
+pub use live::{columns_changed, live_columns};
 pub use predicate::{Names, Predicate};
 pub use read::{Answer, AnsweredRow, Keys, Read};
+pub use selecting::select;

@@ -4,7 +4,10 @@ ghost use Rattle.std.specs.List.{list_all};
 ghost use Rattle.column_family.specs.Limits.{is_name};
 ghost use Rattle.logical_time.specs.Fault.{IsRefusedFor};
 ghost use Rattle.slice.specs.Slice.{names_fault, range_fault};
+ghost use Rattle.slice.specs.Rests as rests;
 
+use crate::column::Column;
+use crate::selecting::is_between;
 use column_family::Name;
 use logical_time::Fault;
 use std::marker::Model;
@@ -61,7 +64,8 @@ pub enum Predicate {
 const MOST_NAMES: usize = 4096;
 
 impl Predicate {
-    ghost use Rattle.slice.specs.Slice.{predicate_fault};
+    ghost use Rattle.slice.specs.Slice.{predicate_fault, is_asked};
+    ghost use Rattle.slice.specs.Rests.{is_looked_at};
 
     /// Whether the predicate may be asked: refused with `TooMany` for more than 4,096 names, then with
     /// `NameLength` for a name that is empty or longer than 1,024 bytes or an end longer than that, then with
@@ -78,6 +82,52 @@ impl Predicate {
                 ..
             } => check_range(start, finish, *reversed),
         }
+    }
+
+    /// Whether the predicate asks for the column of this name, whatever its count is.
+    pub fn is_asked(&self, name: &Name) -> bool
+        ensures { result ≡ is_asked self.now name.now }
+    {
+        match self {
+            Predicate::Names(names) => names.as_slice().contains(name),
+            Predicate::Range {
+                start,
+                finish,
+                reversed: false,
+                ..
+            } => is_between(start, finish, name),
+            Predicate::Range {
+                start,
+                finish,
+                reversed: true,
+                ..
+            } => is_between(finish, start, name),
+        }
+    }
+
+    /// Whether a read that returned these columns of a row looked at the column of this name: it is asked, and
+    /// where a range returned as many columns as its count, it doesn't lie after the last of them.
+    pub fn is_looked_at(&self, columns: &[Column], name: &Name) -> bool
+        ensures { result ≡ is_looked_at self.now columns.now name.now }
+    {
+        let is_within = match self {
+            Predicate::Names(_) => true,
+            Predicate::Range {
+                reversed, count, ..
+            } => columns.len() < *count as usize || is_reached(*reversed, columns, name),
+        };
+        self.is_asked(name) && is_within
+    }
+}
+
+// Whether a walk that returned these columns had come to the name by the last of them.
+fn is_reached(reversed: bool, columns: &[Column], name: &Name) -> bool
+    ensures { result ≡ rests.is_reached reversed columns.now name.now }
+{
+    match columns.last() {
+        None => false,
+        Some(last) if reversed => last.name <= *name,
+        Some(last) => *name <= last.name,
     }
 }
 

@@ -1,0 +1,3 @@
+pub mod NameOrder
+pub mod Selected
+pub mod FilterMap

@@ -1,0 +1,4 @@
+use Rattle.slice.proofs.selecting.chosen.Goals as goal
+
+pub returns-in-Names-clause-ok : goal.returns-in-Names-clause-ok
+returns-in-Names-clause-ok c = rw (c.in-Names.is, ← c.as_slice.ensures) c.named.ensures.ok
