@@ -4,6 +4,7 @@
 #![tactic(auto)]
 
 mod part;
+mod reading;
 mod store;
 
 pub use part::{Part, WritePart, Writers};
