@@ -1,3 +1,5 @@
 pub mod NameOrder
 pub mod Selected
 pub mod FilterMap
+pub mod Asked
+pub mod LiveTable

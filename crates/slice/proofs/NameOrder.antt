@@ -2,7 +2,10 @@
 use Rattle.std.proofs.Common.{◌≡◌, ℕ, Bool, List, [], ◌∷◌, ◌++◌, refl, ap, ◌∙◌, sym}
 use Rattle.std.specs.declared.cmp.Ordering.{Ordering}
 use Rattle.std.specs.declared.cmp.Ordering.TheVariants.{Less, Equal, Greater}
-use Rattle.std.specs.Ordering.{nat_cmp, match_ordering, is_eq}
+use Rattle.std.specs.Ordering.{nat_cmp, match_ordering, ordering_reverse}
+use Rattle.std.specs.List.{AllByRecursion}
+use Rattle.std.specs.List.Sorted.{IsStrictlySortedBy}
+use Rattle.std.proofs.lemmas.Cmp.{nat_list_cmp_total}
 use Rattle.std.specs.Cmp.Lexicographic.{slice_cmp}
 use Rattle.std.specs.BTreeSet.{insert_key}
 use Rattle.slice.specs.Live.{placed_name, with_name, in_name_order}
@@ -34,3 +37,39 @@ put_among_last (m ∷ ns) ms n = ap (with_name m) (put_among_last ns ms n)
 -- the step of a loop that puts the last of what is left into a set
 pub put_among_insert : (all ns ms : List (List ℕ)) (n : List ℕ) → all ≡ ns ++ n ∷ [] → put_among all ms ≡ put_among ns (insert_key (slice_cmp nat_cmp) ms n)
 put_among_insert all ns ms n e = ap (λ ks. put_among ks ms) e ∙ (put_among_last ns ms n ∙ ap (put_among ns) (sym (insert_key_is ms n)))
+
+every_weaker : {X : Type 0} (P Q : X → Type 0) → ((x : X) → P x → Q x) → (xs : List X) → AllByRecursion P xs → AllByRecursion Q xs
+every_weaker P Q f [] h = h
+every_weaker P Q f (x ∷ xs) h = (f x h.0, every_weaker P Q f xs h.1)
+
+every_placed : (P : List ℕ → Type 0) (o : Ordering) (n m : List ℕ) (ms others : List (List ℕ)) → P n → AllByRecursion P (m ∷ ms)
+    → AllByRecursion P others → AllByRecursion P (placed_name o n m ms others)
+every_placed P Less n m ms others p h k = (p, h)
+every_placed P Equal n m ms others p h k = h
+every_placed P Greater n m ms others p h k = (h.0, k)
+
+every_with_name : (P : List ℕ → Type 0) (n : List ℕ) (ms : List (List ℕ)) → P n → AllByRecursion P ms → AllByRecursion P (with_name n ms)
+every_with_name P n [] p h = (p, h)
+every_with_name P n (m ∷ ms) p h = every_placed P (slice_cmp nat_cmp n m) n m ms (with_name n ms) p h (every_with_name P n ms p h.1)
+
+sorted_placed : (o : Ordering) (n m : List ℕ) (ms others : List (List ℕ)) → slice_cmp nat_cmp n m ≡ o → IsStrictlySortedBy (slice_cmp nat_cmp) (m ∷ ms)
+    → (slice_cmp nat_cmp m n ≡ Less → AllByRecursion (λ y. slice_cmp nat_cmp m y ≡ Less) others) → IsStrictlySortedBy (slice_cmp nat_cmp) others
+    → IsStrictlySortedBy (slice_cmp nat_cmp) (placed_name o n m ms others)
+unfolding IsStrictlySortedBy
+sorted_placed Less n m ms others e h a s =
+    ((e, every_weaker (λ y. slice_cmp nat_cmp m y ≡ Less) (λ y. slice_cmp nat_cmp n y ≡ Less) (λ y l. nat_list_cmp_total.trans n m y e l) ms h.0), h)
+sorted_placed Equal n m ms others e h a s = h
+sorted_placed Greater n m ms others e h a s = (a (nat_list_cmp_total.antisymm m n ∙ ap ordering_reverse e), s)
+
+sorted_with_name : (n : List ℕ) (ms : List (List ℕ)) → IsStrictlySortedBy (slice_cmp nat_cmp) ms → IsStrictlySortedBy (slice_cmp nat_cmp) (with_name n ms)
+unfolding IsStrictlySortedBy
+sorted_with_name n [] h = (tt, tt)
+sorted_with_name n (m ∷ ms) h =
+    sorted_placed (slice_cmp nat_cmp n m) n m ms (with_name n ms) refl h
+    (λ l. every_with_name (λ y. slice_cmp nat_cmp m y ≡ Less) n ms l h.0) (sorted_with_name n ms h.1)
+
+-- names in order ascend strictly
+pub sorted_in_order : (ns : List (List ℕ)) → IsStrictlySortedBy (slice_cmp nat_cmp) (in_name_order ns)
+unfolding IsStrictlySortedBy
+sorted_in_order [] = tt
+sorted_in_order (n ∷ ns) = sorted_with_name n (in_name_order ns) (sorted_in_order ns)

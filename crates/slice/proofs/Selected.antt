@@ -43,7 +43,7 @@ any_in_order t (n ∷ ns) = any_with_name t n (in_name_order ns) ∙ ap (λ b. t
 bytes_eq_swap : (a b : List ℕ) → bytes_eq a b ≡ bytes_eq b a
 bytes_eq_swap a b = both_ways _ _ (λ h. search (rules, bytes_eq-Decides)) (λ h. search (rules, bytes_eq-Decides))
 
-is_eq_named : (q n : List ℕ) → is_eq (slice_cmp nat_cmp q n) ≡ bytes_eq n q
+pub is_eq_named : (q n : List ℕ) → is_eq (slice_cmp nat_cmp q n) ≡ bytes_eq n q
 is_eq_named q n = is_eq-slice_cmp q n ∙ bytes_eq_swap q n
 
 any_named : (q : List ℕ) (ns : List (List ℕ)) → list_any (λ n. is_eq (slice_cmp nat_cmp q n)) ns ≡ list_any (λ n. bytes_eq n q) ns

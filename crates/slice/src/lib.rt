@@ -4,6 +4,7 @@
 #![tactic(auto)]
 
 mod column;
+mod law;
 mod live;
 mod ordering;
 mod predicate;
@@ -11,6 +12,7 @@ mod read;
 mod selecting;
 
 pub use column::{Column, Columns};
+pub use law::live_columns_are_the_table;
 pub use live::{columns_changed, live_columns};
 pub use predicate::{Names, Predicate};
 pub use read::{Answer, AnsweredRow, Keys, Read};

@@ -1,6 +1,8 @@
 //! The plain table: slow, runnable, and the meaning of every read.
 #![tactic(auto)]
 
+mod answering;
 mod history;
 
+pub use answering::{answer, each_once};
 pub use history::History;

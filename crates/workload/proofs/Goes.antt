@@ -12,6 +12,7 @@ use Rattle.slice.specs.declared.read.Read.{Read}
 use Rattle.slice.specs.declared.read.AnsweredRow.{AnsweredRow}
 use Rattle.slice.specs.Slice.{slice_of}
 use Rattle.slice.specs.Live.{live_columns}
+use Rattle.slice.proofs.LiveTable.{live_columns_alike}
 use Rattle.store.specs.declared.store.Applied.{Applied}
 use Rattle.store.specs.Part.{history_of, committed_of}
 use Rattle.table.specs.Meaning.{shown, shown_row, meaning, each_once, row_of}
@@ -25,9 +26,6 @@ use Rattle.workload.specs.declared.simulating.Runner.{Runner}
 use Rattle.workload.specs.Simulation.{session, stamp_at, greatest, Tells}
 use Rattle.workload.specs.Runner.{HasCompleted, Writes, Reads, Drains, GoesOn, HasTold}
 use Rattle.workload.proofs.Histories.{newest_of_append, greatest_append, history_of_append, up_to_all}
-
-live_columns_alike : (h k : History) (r : Row) → ((n : List ℕ) → value_of (newest h (record { row = r; name = n })) ≡ value_of (newest k (record { row = r; name = n }))) → live_columns h r ≡ live_columns k r
-live_columns_alike h k r same = ?
 
 rows_alike : (read : Read) (h k : History) (keys : List (List ℕ)) → ((l : Location) → newest h l ≡ newest k l) → map (shown_row read h) keys ≡ map (shown_row read k) keys
 rows_alike read h k [] same = refl

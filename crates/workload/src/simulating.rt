@@ -1,7 +1,7 @@
 //! A script is run by one session and one shard, each with its clock.
 ghost use Rattle.std.specs.Prelude.{◌≡◌, ◌≤◌, [], ◌++◌, ◌∷◌, IfOk, IfErr, OnOk, ◌⊎◌};
 ghost use Rattle.store.specs.Part.{history_of};
-ghost use Rattle.table.specs.Meaning.{each_once, shown, shown_row};
+ghost use Rattle.table.specs.Meaning.{shown, shown_row};
 ghost use Rattle.workload.specs.Simulation.{IsTranscriptOf, greatest};
 
 use crate::checks::check_op;
@@ -9,22 +9,15 @@ use crate::script::{Event, Op, Script};
 use crate::transcript::{Entry, Transcript};
 use column_family::{Batch, Key, Row, Schema, normal};
 use logical_time::{Clock, Fault, Node, Stamp, Time, TxnId, Writer};
-use slice::{Answer, AnsweredRow, Keys, Read};
+use slice::{Answer, AnsweredRow, Read};
 use std::alloc::Global;
 use store::{Store, WritePart};
+use table::each_once;
 
 /// The shard's number, and its node.
 const SHARD: u16 = 0;
 /// The session's node.
 const SESSION: u16 = 1;
-
-/// Stub.
-fn once(alloc: Global, keys: &Keys) -> Result<Vec<Key>, Fault>
-    ensures ok { IfOk result (λ v. v.items ≡ each_once keys.now) }
-    ensures memory { IfErr result (λ e. e ≡ Fault.Memory) }
-{
-    Err(Fault::Memory)
-}
 
 // What the store shows of a row, and since when it is valid.
 #[tactic(auto, using(crate::proofs::Times::evt_of_within))]
@@ -53,7 +46,7 @@ fn read_all(alloc: Global, store: &Store, floor: Time, read: &Read) -> Result<(T
     ensures to { IfOk result (λ r. (r.0 ≤ floor) ⊎ (r.0 ≤ greatest (history_of store.now))) }
     ensures memory { IfErr result (λ e. e ≡ Fault.Memory) }
 {
-    let keys = once(alloc, &read.keys)?;
+    let keys = each_once(alloc, read.keys.as_slice())?;
     let mut effective = floor;
     let mut answer = Answer::new(alloc);
     for key in &keys {

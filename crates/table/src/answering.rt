@@ -1,0 +1,74 @@
+//! The meaning of a read, by running it.
+ghost use Rattle.std.specs.Prelude.{◌≡◌, IfOk, IfErr, map};
+ghost use Rattle.table.specs.Meaning as meaning;
+
+use crate::history::History;
+use column_family::{Committed, Key, Row, up_to};
+use logical_time::{Fault, Time};
+use slice::{Answer, AnsweredRow, Read, live_columns, select};
+use std::alloc::Global;
+
+/// What the read means on the history at the time: each asked key once, in the order of first asking, with its
+/// slice of what is committed by then. Of two entries with one stamp the first in the list wins. Slow: it copies
+/// the history and looks through it once for each column of each row. Refused with `Memory` alone.
+pub fn answer(alloc: Global, history: &History, time: Time, read: &Read) -> Result<Answer, Fault>
+    ensures ok { IfOk result (λ a. a ≡ meaning.meaning read.now history.now time) }
+    ensures memory { IfErr result (λ e. e ≡ Fault.Memory) }
+{
+    let entries = up_to(alloc, history.as_slice(), time)?;
+    let keys = each_once(alloc, read.keys.as_slice())?;
+    answer_keys(alloc, &entries, read, &keys)
+}
+
+/// Each key once, in the order of first asking. Refused with `Memory` alone.
+pub fn each_once(alloc: Global, keys: &[Key]) -> Result<Vec<Key>, Fault>
+    ensures ok { IfOk result (λ once. once.items ≡ meaning.each_once keys.now) }
+    ensures memory { IfErr result (λ e. e ≡ Fault.Memory) }
+{
+    let mut once: Vec<Key> = Vec::new(alloc);
+    for key in keys {
+        if !once.contains(key) {
+            once.push(key.clone()?)?;
+        }
+    }
+    Ok(once)
+}
+
+// The rows of these keys.
+fn answer_keys(
+    alloc: Global,
+    entries: &[Committed],
+    read: &Read,
+    keys: &[Key],
+) -> Result<Answer, Fault>
+    ensures ok { IfOk result (λ a. a ≡ map (meaning.shown_row read.now entries.now) keys.now) }
+    ensures memory { IfErr result (λ e. e ≡ Fault.Memory) }
+{
+    let mut answer = Answer::new(alloc);
+    for key in keys {
+        answer.push(answer_key(alloc, entries, read, key)?)?;
+    }
+    Ok(answer)
+}
+
+// The row of one key.
+fn answer_key(
+    alloc: Global,
+    entries: &[Committed],
+    read: &Read,
+    key: &Key,
+) -> Result<AnsweredRow, Fault>
+    ensures ok { IfOk result (λ row. row ≡ meaning.shown_row read.now entries.now key.now) }
+    ensures memory { IfErr result (λ e. e ≡ Fault.Memory) }
+{
+    let row = Row {
+        family: read.family.clone()?,
+        key: key.clone()?,
+    };
+    let live = live_columns(alloc, entries, &row)?;
+    let columns = select(alloc, live.as_slice(), &read.predicate)?;
+    Ok(AnsweredRow {
+        key: key.clone()?,
+        columns,
+    })
+}
