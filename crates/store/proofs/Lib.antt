@@ -1,0 +1,4 @@
+pub mod Changed
+pub mod OwnHistory
+pub mod Rested
+pub mod Newest
