@@ -1,4 +1,5 @@
 pub mod Changed
 pub mod OwnHistory
 pub mod Rested
+pub mod WriterOrder
 pub mod Newest

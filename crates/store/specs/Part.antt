@@ -1,7 +1,6 @@
 -- What a store answers, by what was applied to it.
-use Rattle.std.specs.Prelude.{◌≡◌, ℕ, max, if◌then◌else◌, List, [], ◌∷◌, map, Option, Some, None, Contains, AllPairs, ◌↔◌}
-use Rattle.std.specs.declared.cmp.Ordering.{Ordering}
-use Rattle.std.specs.declared.cmp.Ordering.TheVariants.{Less}
+use Rattle.std.specs.Prelude.{◌≡◌, ℕ, max, if◌then◌else◌, List, [], ◌∷◌, map, Option, Some, None, Contains, ◌↔◌}
+use Rattle.std.specs.List.Sorted.{IsStrictlySortedBy}
 use Rattle.logical_time.specs.Stamps.{StampValue, WriterValue, writer_cmp}
 use Rattle.column_family.specs.declared.batch.Row.{Row}
 use Rattle.column_family.specs.declared.batch.Committed.{Committed}
@@ -48,5 +47,5 @@ IsRestedOn held r p w =
 pub record IsNewestPart (held : List Applied) (r : Row) (p : Predicate) (part : Part) : Type 0 where
   pub columns : part.columns ≡ slice_of p (live_columns (history_of held) r)
   pub writers : (w : WriterValue) → Contains part.writers w ↔ IsRestedOn held r p w
-  pub in_order : AllPairs (λ v w. writer_cmp v w ≡ Less) part.writers
+  pub in_order : IsStrictlySortedBy writer_cmp part.writers
   pub evt : part.evt ≡ evt_of (history_of held) r p

@@ -3,15 +3,19 @@ ghost use Rattle.std.specs.Prelude.{◌≡◌, ◌++◌, [], max, IfOk, IfErr, O
 ghost use Rattle.std.specs.List.{list_any};
 ghost use Rattle.column_family.specs.Location.{is_row};
 ghost use Rattle.column_family.specs.Newest.{seen};
-ghost use Rattle.slice.specs.Live.{columns_changed};
+ghost use Rattle.slice.specs.Live as live;
+ghost use Rattle.std.specs.Prelude.{Contains};
+ghost use Rattle.std.specs.List.Sorted.{IsStrictlySortedBy};
+ghost use Rattle.logical_time.specs.Stamps.{WriterValue, writer_cmp};
+ghost use Rattle.store.specs.Part.{IsNewestPart};
 ghost use Rattle.store.specs.Part as part;
 ghost use Rattle.store.specs.Own as own;
 
-use crate::part::Writers;
+use crate::part::{Part, Writers};
 use crate::store::Applied;
 use column_family::{Batch, Change, Committed, Name, NewestMutation, Row, newest_column_change, newest_row_deletion, newest_touching};
 use logical_time::{Fault, Stamp, Time, Writer};
-use slice::{Column, Predicate};
+use slice::{Column, Predicate, columns_changed, live_columns, select};
 use std::alloc::{AllocError, Global};
 
 // Whether the change is one of the row.
@@ -108,7 +112,7 @@ fn column_evt(history: &[Committed], row: &Row, predicate: &Predicate, name: &Na
 
 /// The earliest valid time of a row's slice, where these are the columns that its history ever changed.
 pub(crate) fn evt_of(history: &[Committed], row: &Row, predicate: &Predicate, names: &[Name]) -> Time
-    requires { names.now ≡ columns_changed history.now row.now }
+    requires { names.now ≡ live.columns_changed history.now row.now }
     ensures { result ≡ part.evt_of history.now row.now predicate.now }
 {
     let mut evt = commit_of(newest_row_deletion(history, row));
@@ -172,4 +176,35 @@ fn stamped_writers(alloc: Global, applied: &[Applied], stamps: &[Stamp]) -> Resu
     ensures { IfOk result (λ writers. writers.items ≡ own.stamped_writers stamps.now applied.now) }
 {
     applied.iter().filter(|one| is_among(stamps, one.stamp)).map(|one| one.part.writer).collect(alloc)
+}
+
+// The writers in order, each once.
+fn in_order(mut writers: Vec<Writer>) -> Writers
+    ensures keeps { (w : WriterValue) → Contains writers.items w → Contains result w }
+    ensures adds_none { (w : WriterValue) → Contains result w → Contains writers.items w }
+    ensures in_order { IsStrictlySortedBy writer_cmp result }
+{
+    writers.sort_unstable();
+    writers.dedup();
+    Writers::from_vec(writers)
+}
+
+// What a store that applied these parts answers of the row.
+
+pub(crate) fn newest_part(alloc: Global, applied: &[Applied], row: &Row, predicate: &Predicate) -> Result<Part, Fault>
+    ensures ok { IfOk result (IsNewestPart applied.now row.now predicate.now) }
+    ensures memory { IfErr result (λ e. e ≡ Fault.Memory) }
+{
+    let history = own_history(alloc, row, applied)?;
+    let names = columns_changed(alloc, &history, row)?;
+    let live = live_columns(alloc, &history, row)?;
+    let columns = select(alloc, live.as_slice(), predicate)?;
+    let evt = evt_of(&history, row, predicate, names.as_slice());
+    let stamps = rested_stamps(alloc, &history, row, predicate, columns.as_slice(), names.as_slice())?;
+    let writers = in_order(stamped_writers(alloc, applied, &stamps)?);
+    Ok(Part {
+        columns,
+        writers,
+        evt,
+    })
 }

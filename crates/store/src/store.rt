@@ -2,6 +2,7 @@
 ghost use Rattle.std.specs.Prelude.{◌≡◌, ◌++◌, [], ◌∷◌, OnOk, OnErr, IfOk, IfErr};
 
 use crate::part::{Part, WritePart};
+use crate::reading::newest_part;
 use column_family::Row;
 use logical_time::{Fault, Stamp, Time};
 use slice::Predicate;
@@ -69,7 +70,7 @@ impl Store {
         ensures ok { IfOk result (IsNewestPart self.now row.now predicate.now) }
         ensures memory { IfErr result (λ e. e ≡ Fault.Memory) }
     {
-        Err(Fault::Memory)
+        newest_part(*self.applied.allocator(), self.applied.as_slice(), row, predicate)
     }
 
     /// Ends the store.
