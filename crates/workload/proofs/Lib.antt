@@ -1,3 +1,4 @@
 pub mod Times
 pub mod Histories
 pub mod Goes
+pub mod Lists

@@ -2,11 +2,14 @@
 #![tactic(auto)]
 
 mod checks;
+mod reading;
 mod script;
 mod simulating;
+mod shape;
 mod transcript;
 
 pub use checks::check_op;
+pub use reading::read_script;
 pub use script::{Event, Events, Op, Script};
 pub use simulating::simulate;
 pub use transcript::{Entry, Transcript};

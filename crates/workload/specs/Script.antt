@@ -1,0 +1,177 @@
+-- Which JSON value stands for which script.
+use Rattle.std.specs.Prelude.{ℕ, ◌+◌, Bool, true, false, List, [], ◌∷◌, Option, Some, None, option_and_then, codes, if◌then◌else◌}
+use Rattle.std.specs.Str.{bytes_eq}
+use Rattle.serde_json.specs.Data.{Data}
+use Rattle.serde_json.specs.Find.{as_str, as_bool, get, at}
+use Rattle.column_family.specs.declared.batch.Change.{Change}
+use Rattle.column_family.specs.declared.batch.Mutation.{Mutation}
+use Rattle.column_family.specs.declared.batch.Mutation.TheVariants.{Insert, DeleteColumn, DeleteRow, DeleteRange}
+use Rattle.column_family.specs.Schema.{is_schema}
+use Rattle.slice.specs.declared.predicate.Predicate.{Predicate}
+use Rattle.slice.specs.declared.predicate.Predicate.TheVariants.{Names, Range}
+use Rattle.slice.specs.declared.read.Read.{Read}
+use Rattle.workload.specs.declared.script.Op.{Op}
+use Rattle.workload.specs.declared.script.Op.TheVariants.{Batch, Read as Asks}
+use Rattle.workload.specs.declared.script.Event.{Event}
+use Rattle.workload.specs.declared.script.Event.TheVariants.{Submit, Drain}
+use Rattle.workload.specs.declared.script.Script.{Script}
+use Rattle.workload.specs.Gives.{◌>>=◌}
+use Rattle.workload.specs.Shape.{whole_within, has_members, has_items, members_named, text_at, list_by, list_within}
+
+-- ["insert", name, value]
+unfoldable pub insert_of : Data → Option Mutation
+insert_of d = if has_items 3 d then (do
+  name ← text_at 1 d
+  value ← text_at 2 d
+  Some (Insert name value)) else None
+
+-- ["delete", name]
+unfoldable pub delete_of : Data → Option Mutation
+delete_of d = if has_items 2 d then (do
+  name ← text_at 1 d
+  Some (DeleteColumn name)) else None
+
+-- ["delete_row"]
+unfoldable pub delete_row_of : Data → Option Mutation
+delete_row_of d = if has_items 1 d then Some DeleteRow else None
+
+-- ["delete_range", start, finish]
+unfoldable pub delete_range_of : Data → Option Mutation
+delete_range_of d = if has_items 3 d then (do
+  start ← text_at 1 d
+  finish ← text_at 2 d
+  Some (DeleteRange start finish)) else None
+
+unfoldable pub mutation_of : Data → Option Mutation
+mutation_of d = do
+  tag ← text_at 0 d
+  if bytes_eq tag (codes "insert") then insert_of d
+      else (if bytes_eq tag (codes "delete") then delete_of d
+      else (if bytes_eq tag (codes "delete_row") then delete_row_of d
+      else (if bytes_eq tag (codes "delete_range") then delete_range_of d else None)))
+
+-- [family, key, mutation]
+unfoldable pub change_of : Data → Option Change
+change_of d = if has_items 3 d then (do
+  family ← text_at 0 d
+  key ← text_at 1 d
+  third ← at 2 d
+  mutation ← mutation_of third
+  Some (record { row = record { family = family; key = key }; mutation = mutation })) else None
+
+-- an end of a range: open where it is left out
+abbrev pub end_of : Option Data → Option (List ℕ)
+end_of None = Some []
+end_of (Some d) = as_str d
+
+-- upwards where it is left out
+abbrev pub reversed_of : Option Data → Option Bool
+reversed_of None = Some false
+reversed_of (Some d) = as_bool d
+
+-- 100 where it is left out
+abbrev pub count_of : Option Data → Option ℕ
+count_of None = Some 100
+count_of (Some d) = whole_within 0 4294967295 d
+
+-- how many of the members of a range are there
+abbrev pub range_members : Data → ℕ
+range_members d =
+    members_named (codes "start") d + members_named (codes "finish") d
+    + members_named (codes "reversed") d + members_named (codes "count") d
+
+-- {"start": .., "finish": .., "reversed": .., "count": ..}, and each may be left out
+unfoldable pub range_of : Data → Option Predicate
+range_of d = if has_members (range_members d) d then (do
+  start ← end_of (get (codes "start") d)
+  finish ← end_of (get (codes "finish") d)
+  reversed ← reversed_of (get (codes "reversed") d)
+  count ← count_of (get (codes "count") d)
+  Some (Range start finish reversed count)) else None
+
+-- [name, ..]
+unfoldable pub names_of : Data → Option Predicate
+names_of d = do
+  names ← list_by as_str d
+  Some (Names names)
+
+abbrev pub predicate_in : Option Data → Option Data → Option Predicate
+predicate_in (Some names) range = names_of names
+predicate_in None (Some range) = range_of range
+predicate_in None None = None
+
+-- {"names": ..} or {"range": ..}
+unfoldable pub predicate_of : Data → Option Predicate
+predicate_of d = if has_members 1 d then predicate_in (get (codes "names") d) (get (codes "range") d) else None
+
+-- [family, [key, ..], predicate]
+unfoldable pub read_of : Data → Option Op
+read_of d = if has_items 3 d then (do
+  family ← text_at 0 d
+  second ← at 1 d
+  keys ← list_by as_str second
+  third ← at 2 d
+  predicate ← predicate_of third
+  Some (Asks (record { family = family; keys = keys; predicate = predicate }))) else None
+
+-- [change, ..]
+unfoldable pub batch_of : Data → Option Op
+batch_of d = do
+  changes ← list_by change_of d
+  Some (Batch changes)
+
+abbrev pub op_in : Option Data → Option Data → Option Op
+op_in (Some batch) read = batch_of batch
+op_in None (Some read) = read_of read
+op_in None None = None
+
+-- {"batch": ..} or {"read": ..}
+unfoldable pub op_of : Data → Option Op
+op_of d = if has_members 1 d then op_in (get (codes "batch") d) (get (codes "read") d) else None
+
+-- ["submit", session, operation], where 0 is the one session
+unfoldable pub submit_of : Data → Option Event
+submit_of d = if has_items 3 d then (do
+  second ← at 1 d
+  session ← whole_within 0 0 second
+  third ← at 2 d
+  op ← op_of third
+  Some (Submit op)) else None
+
+-- ["drain"]
+unfoldable pub drain_of : Data → Option Event
+drain_of d = if has_items 1 d then Some Drain else None
+
+unfoldable pub event_of : Data → Option Event
+event_of d = do
+  tag ← text_at 0 d
+  if bytes_eq tag (codes "submit") then submit_of d
+      else (if bytes_eq tag (codes "drain") then drain_of d else None)
+
+-- [0]: the home of the one session is data centre 0
+unfoldable pub homes_of : Data → Option ℕ
+homes_of d = if has_items 1 d then (do
+  first ← at 0 d
+  whole_within 0 0 first) else None
+
+abbrev pub schema_among : List (List ℕ) → Option (List (List ℕ))
+schema_among families = if is_schema families then Some families else None
+
+-- [name, ..], as a schema allows them
+unfoldable pub families_of : Data → Option (List (List ℕ))
+families_of d = option_and_then schema_among (list_by as_str d)
+
+-- {"dcs": 1, "shards": 1, "families": .., "homes": .., "events": ..}: one data centre, one shard, at most 100,000 events
+unfoldable pub script_of : Data → Option Script
+script_of d = if has_members 5 d then (do
+  dcs ← get (codes "dcs") d
+  data_centres ← whole_within 1 1 dcs
+  shards ← get (codes "shards") d
+  shards_in_each ← whole_within 1 1 shards
+  families ← get (codes "families") d
+  schema ← families_of families
+  homes ← get (codes "homes") d
+  home ← homes_of homes
+  events ← get (codes "events") d
+  all ← list_within event_of 100000 events
+  Some (record { schema = schema; events = all })) else None
