@@ -6,10 +6,12 @@ mod reading;
 mod script;
 mod simulating;
 mod shape;
+mod text;
 mod transcript;
 
 pub use checks::check_op;
 pub use reading::read_script;
 pub use script::{Event, Events, Op, Script};
 pub use simulating::simulate;
+pub use text::transcript_text;
 pub use transcript::{Entry, Transcript};

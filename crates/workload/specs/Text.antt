@@ -1,0 +1,38 @@
+-- The text of a transcript: numbers are decimal, bytes are two hexadecimal digits each, in lower case.
+use Rattle.std.specs.Prelude.{ℕ, List, [], ◌∷◌, ◌++◌, codes, decimal}
+use Rattle.std.specs.List.{flat_map}
+use Rattle.hex.specs.Hex.{encode_lower}
+use Rattle.logical_time.specs.Fault.{number_of}
+use Rattle.logical_time.specs.Stamps.{StampValue}
+use Rattle.slice.specs.declared.column.Column.{Column}
+use Rattle.slice.specs.declared.read.AnsweredRow.{AnsweredRow}
+use Rattle.workload.specs.declared.transcript.Entry.{Entry}
+use Rattle.workload.specs.declared.transcript.Entry.TheVariants.{Wrote, Read, Collected, Refused}
+
+-- ` NAME=VALUE`
+abbrev pub column_text : Column → List ℕ
+column_text c = codes " " ++ encode_lower c.name ++ codes "=" ++ encode_lower c.value
+
+-- `  KEY:`, then each column
+abbrev pub row_text : AnsweredRow → List ℕ
+row_text r = codes "  " ++ encode_lower r.key ++ codes ":" ++ flat_map column_text r.columns ++ codes "\n"
+
+-- `node N op M`
+unfoldable pub op_text : ℕ → ℕ → List ℕ
+op_text node number = codes "node " ++ decimal node ++ codes " op " ++ decimal number
+
+-- ` wrote commit C stamp T.K`, and the end of the line
+abbrev pub commit_text : ℕ → StampValue → List ℕ
+commit_text commit stamp =
+    codes " wrote commit " ++ decimal commit ++ codes " stamp " ++ decimal stamp.time ++ codes "." ++ decimal stamp.node ++ codes "\n"
+
+-- an entry: one line, and after that of a read one for each key
+abbrev pub entry_text : Entry → List ℕ
+entry_text (Wrote node number commit stamp) = op_text node number ++ commit_text commit stamp
+entry_text (Read node number effective answer) =
+    op_text node number ++ codes " read at " ++ decimal effective ++ codes "\n" ++ flat_map row_text answer
+entry_text (Collected node number) = op_text node number ++ codes " collected\n"
+entry_text (Refused node fault) = codes "node " ++ decimal node ++ codes " refused " ++ decimal (number_of fault) ++ codes "\n"
+
+abbrev pub text_of : List Entry → List ℕ
+text_of entries = flat_map entry_text entries
