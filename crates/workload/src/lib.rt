@@ -2,14 +2,17 @@
 #![tactic(auto)]
 
 mod checks;
+mod performing;
 mod reading;
 mod script;
 mod simulating;
 mod shape;
+mod simulating;
 mod text;
 mod transcript;
 
 pub use checks::check_op;
+pub use performing::{Task, perform};
 pub use reading::read_script;
 pub use script::{Event, Events, Op, Script};
 pub use simulating::simulate;
