@@ -1,5 +1,5 @@
-pub mod Times
-pub mod Histories
 pub mod Goes
+pub mod Histories
 pub mod Lists
+pub mod Times
 pub mod Written

@@ -5,9 +5,10 @@ mod checks;
 mod performing;
 mod reading;
 mod script;
-mod simulating;
 mod shape;
 mod simulating;
+#[cfg(test)]
+mod tests;
 mod text;
 mod transcript;
 
