@@ -4,6 +4,8 @@
 mod checks;
 mod performing;
 mod reading;
+#[cfg(test)]
+mod rows;
 mod script;
 mod shape;
 mod simulating;
