@@ -24,7 +24,9 @@ fn refused_command_lines(rt: HostRuntime) -> Result<(), Fail> {
         assert_eq!(rt; told, Some(status), "at {words:?}");
     }
     let matches = command(alloc)?.try_get_matches_from(&["eiger", "sim", "script.json"])?;
-    let named = matches.subcommand().and_then(|(_, found)| found.get_str("FILE"));
+    let named = matches
+        .subcommand()
+        .and_then(|(_, found)| found.get_str("FILE"));
     assert_eq!(rt; named, Some("script.json"));
     Ok(())
 }
