@@ -1,5 +1,5 @@
 -- Where the first change of each row stands, and what is kept, from the newest change to the oldest.
-use Rattle.std.proofs.Common.{◌≡◌, ◌∙◌, ℕ, suc, ◌+◌, ap, sym, subst, refl, Bool, true, false, ◌&&◌, List, [], ◌∷◌, ◌++◌, length, Option, Some, None, arith}
+use Rattle.std.proofs.Common.{◌≡◌, ◌∙◌, ℕ, suc, ◌+◌, ap, sym, refl, Bool, true, false, ◌&&◌, List, [], ◌∷◌, ◌++◌, length, Option, Some, None, arith}
 use Rattle.std.specs.BTreeMap.{insert_entry, BTreeMap, get, Updates}
 use Rattle.std.specs.Prelude.{if◌then◌else◌, unwrap_or}
 use Rattle.std.specs.declared.cmp.Ordering.{Ordering}
@@ -17,13 +17,13 @@ use Rattle.column_family.specs.Normal.{first_of}
 use Rattle.column_family.proofs.Options.{by_cases}
 use Rattle.column_family.specs.Places.{Placed, row_cmp, place_cmp, first_from, place_of, is_covered, keep_at, keep, keep_all}
 
-pub first_from_push : (i : ℕ) (xs : List Change) (c : Change) (r : Row) (n : ℕ) → first_from i (xs ++ c ∷ []) r n ≡ first_from i xs r (if is_row r c.row then i + length xs else n)
+first_from_push : (i : ℕ) (xs : List Change) (c : Change) (r : Row) (n : ℕ) → first_from i (xs ++ c ∷ []) r n ≡ first_from i xs r (if is_row r c.row then i + length xs else n)
 first_from_push i [] c r n = let e : i + 0 ≡ i = omega arith in rw e refl
 first_from_push i (x ∷ xs) c r n =
     let e : i + suc (length xs) ≡ (i + 1) + length xs = omega arith in
     rw e (ap (λ (m : ℕ). if is_row r x.row then i else m) (first_from_push (i + 1) xs c r n))
 
-pub first_from_all : (i : ℕ) (xs : List Change) (r : Row) → first_from i xs r (i + length xs) ≡ first_of xs r + i
+first_from_all : (i : ℕ) (xs : List Change) (r : Row) → first_from i xs r (i + length xs) ≡ first_of xs r + i
 first_from_all i [] r = omega arith
 first_from_all i (x ∷ xs) r =
     let ih = first_from_all (i + 1) xs r in
@@ -34,7 +34,7 @@ first_from_all i (x ∷ xs) r =
     go true = omega arith
     go false = omega arith
 
-pub keep_all_push : (number : Row → ℕ) (es : Placed) (xs : List Change) (c : Change) → keep_all number es (xs ++ c ∷ []) ≡ keep_all number (keep (number c.row) es c) xs
+keep_all_push : (number : Row → ℕ) (es : Placed) (xs : List Change) (c : Change) → keep_all number es (xs ++ c ∷ []) ≡ keep_all number (keep (number c.row) es c) xs
 keep_all_push number es [] c = refl
 keep_all_push number es (x ∷ xs) c = ap (λ (fs : Placed). keep (number x.row) fs x) (keep_all_push number es xs c)
 

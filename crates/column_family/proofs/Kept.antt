@@ -1,6 +1,6 @@
 -- What is kept of a batch, place by place, has the last mutation of each location and the last deletion of each row.
-use Rattle.std.proofs.Common.{◌≡◌, ◌∙◌, ℕ, ◌<◌, ap, sym, subst, refl, inl, inr, Bool, true, false, cond, List, [], ◌∷◌, Option, Some, None, length, arith}
-use Rattle.std.specs.Prelude.{if◌then◌else◌, ◌&&◌, ◌||◌, ◌⊎◌, is_some}
+use Rattle.std.proofs.Common.{◌≡◌, ◌∙◌, ℕ, ◌<◌, ap, sym, refl, inl, inr, Bool, true, false, cond, List, [], ◌∷◌, Option, Some, None, arith}
+use Rattle.std.specs.Prelude.{if◌then◌else◌, ◌&&◌, is_some}
 use Rattle.std.specs.List.{AllByRecursion}
 use Rattle.std.specs.Option.{option_or, option_cmp}
 use Rattle.std.specs.Str.{bytes_eq}
@@ -68,7 +68,7 @@ same_column None (Some n) h = absurd (cc)
 same_column (Some n) None h = absurd (cc)
 same_column (Some n) (Some m) h = ap (λ (x : List ℕ). Some x) (exact_bytes n m h)
 
-pub same_place : (p q : Place) → is_eq (place_cmp p q) ≡ true → (p.row ≡ q.row) × (p.column ≡ q.column)
+same_place : (p q : Place) → is_eq (place_cmp p q) ≡ true → (p.row ≡ q.row) × (p.column ≡ q.column)
 same_place p q h =
     let e = both_equal (nat_cmp p.row q.row) (option_cmp (slice_cmp nat_cmp) p.column q.column) (is_equal (place_cmp p q) h) in
     (same_number p.row q.row e.0, same_column p.column q.column e.1)
@@ -199,17 +199,21 @@ last_keep number n r v apart one c known es all = go (place_of (number c.row) c.
   where
     idle : concerns r v c ≡ false → last_of (concerns r v) (values_of es) ≡ option_or (last_of (concerns r v) (values_of es)) (if concerns r v c then Some c.mutation else None)
     idle h = or_none (last_of (concerns r v) (values_of es)) ∙ ap (λ (b : Bool). option_or (last_of (concerns r v) (values_of es)) (if b then Some c.mutation else None)) (sym h)
+
     unconcerned : (b : Bool) → (b && false) ≡ false
     unconcerned true = refl
     unconcerned false = refl
+
     covered : (k : Place) → place_of (number c.row) c.mutation ≡ Some k → is_covered es k ≡ true → concerns r v c ≡ true → is_some (last_of (concerns r v) (values_of es)) ≡ true
     covered k e cover t =
         let b = both_true (is_row r c.row) (at_part v (part_of c.mutation)) t in
         let row : k.row ≡ number r = sym (placed_row (number c.row) c.mutation k e) ∙ ap number (sym (one_row r c.row b.0)) in
         let deletion : Place = record { row = k.row; column = None } in
         elim (either_true (is_taken es deletion) (is_taken es k) cover) [
-            inl taken ↦ taken_passes number n r v apart es all deletion row one.0 taken
-        |   inr taken ↦ taken_passes number n r v apart es all k row (passes_part v c.mutation k.column (placed_part (number c.row) c.mutation k e) b.1) taken ]
+          | inl taken ↦ taken_passes number n r v apart es all deletion row one.0 taken
+          | inr taken ↦ taken_passes number n r v apart es all k row (passes_part v c.mutation k.column (placed_part (number c.row) c.mutation k e) b.1) taken
+        ]
+
     go : (o : Option Place) → place_of (number c.row) c.mutation ≡ o → last_of (concerns r v) (values_of (keep_at es o c)) ≡ option_or (last_of (concerns r v) (values_of es)) (if concerns r v c then Some c.mutation else None)
     go None e = idle (ap (λ (o : Option (Option (List ℕ))). is_row r c.row && at_part v o) (unplaced_part (number c.row) c.mutation e) ∙ unconcerned (is_row r c.row))
     go (Some k) e =

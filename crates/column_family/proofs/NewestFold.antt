@@ -5,7 +5,6 @@ use Rattle.std.specs.Option.{option_or}
 use Rattle.std.proofs.lemmas.Grind.{reverse_onto}
 use Rattle.column_family.specs.declared.batch.Change.{Change}
 use Rattle.column_family.specs.declared.batch.Committed.{Committed}
-use Rattle.column_family.specs.declared.batch.Mutation.{Mutation}
 use Rattle.column_family.specs.History.{History, Stamped, newer_of, last_of, stamped, newest_of}
 
 found_or : (b : Bool) (d : Change) (rest found last : Option Change) → rest ≡ option_or found last → cond b (Some d) rest ≡ option_or (cond b (Some d) found) last

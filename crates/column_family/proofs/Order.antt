@@ -1,6 +1,6 @@
 -- What is kept of a batch stands in the order of the normal form.
 use Rattle.std.proofs.Common.{◌≡◌, ◌∙◌, ℕ, suc, ◌+◌, ◌<◌, ap, sym, subst, refl, inl, inr, Bool, true, false, List, [], ◌∷◌, Option, Some, None, length, arith}
-use Rattle.std.specs.Prelude.{if◌then◌else◌, ◌||◌, ◌⊎◌, All, AllPairs}
+use Rattle.std.specs.Prelude.{if◌then◌else◌, ◌⊎◌, AllPairs}
 use Rattle.std.specs.List.{AllByRecursion}
 use Rattle.std.specs.List.Sorted.{IsStrictlySortedBy}
 use Rattle.std.specs.Option.{option_cmp}
@@ -13,7 +13,7 @@ use Rattle.std.specs.Cmp.Lexicographic.{slice_cmp, options_total}
 use Rattle.std.specs.Map.{keys_of, values_of}
 use Rattle.std.specs.BTreeMap.{insert_entry}
 use Rattle.std.proofs.lemmas.Cmp.{nat_cmp_total, nat_list_cmp_total, on_total, then_total}
-use Rattle.std.proofs.lemmas.List.Elements.{All-nil, All-from_recursion}
+use Rattle.std.proofs.lemmas.List.Elements.{All-from_recursion}
 use Rattle.std.proofs.lemmas.List.Kept.{AllPairs-cons}
 use Rattle.std.proofs.lemmas.Slice.Eq.{bytes_eq-Decides}
 use Rattle.column_family.specs.declared.batch.Row.{Row}
@@ -131,8 +131,10 @@ precedes number n apart e f p q less = go (nat_cmp e.0.row f.0.row) refl less
   where
     row_e : number e.1.row ≡ e.0.row
     row_e = placed_row (number e.1.row) e.1.mutation e.0 p.0
+
     row_f : number f.1.row ≡ f.0.row
     row_f = placed_row (number f.1.row) f.1.mutation f.0 q.0
+
     go : (o : Ordering) → nat_cmp e.0.row f.0.row ≡ o → ordering_then o (option_cmp (slice_cmp nat_cmp) e.0.column f.0.column) ≡ Less → Precedes number e.1 f.1
     go Less h g = let lt = below_number e.0.row f.0.row h in let a = row_e in let b = row_f in inl (omega arith)
     go Equal h g =
@@ -174,6 +176,7 @@ own_pair number x xs c d h a (inl lt) = go (is_row c.row x.row) (is_row d.row x.
     numbers e other (inr p) q = other (sym p.0)
     numbers e other (inl p) (inr q) = other (q.0 ∙ e)
     numbers e other (inl p) (inl q) = let same = ap number e in omega arith
+
     go : (p q : Bool) → is_row c.row x.row ≡ p → is_row d.row x.row ≡ q → Precedes (first_of (x ∷ xs)) c d
     go true true f g = let same = ap (first_of xs) (one_row c.row x.row f ∙ sym (one_row d.row x.row g)) in absurd (omega arith)
     go true false f g = inl (rw (f, g) (omega arith))
@@ -182,9 +185,10 @@ own_pair number x xs c d h a (inl lt) = go (is_row c.row x.row) (is_row d.row x.
 
 own_order : (number : Row → ℕ) (xs : List Change) → Pairs (Precedes number) xs → Pairs (Precedes (first_of xs)) xs
 own_order number [] h = tt
-own_order number (x ∷ xs) h =
-    (each_more (Precedes number x) (Precedes (first_of (x ∷ xs)) x) (λ d p. own_head number x xs d p) xs h.0
-    , pairs_more (Precedes number) (Precedes (first_of xs)) (Precedes (first_of (x ∷ xs))) (Precedes number x) (λ c d p a b. own_pair number x xs c d p a b) xs h.0 h.1 (own_order number xs h.1))
+own_order number (x ∷ xs) h = (
+  each_more (Precedes number x) (Precedes (first_of (x ∷ xs)) x) (λ d p. own_head number x xs d p) xs h.0,
+  pairs_more (Precedes number) (Precedes (first_of xs)) (Precedes (first_of (x ∷ xs))) (Precedes number x) (λ c d p a b. own_pair number x xs c d p a b) xs h.0 h.1 (own_order number xs h.1),
+)
 
 all_pairs : (R : Change → Change → Type 0) (xs : List Change) → Pairs R xs → AllPairs R xs
 all_pairs R [] h = λ i j d lt below. absurd (omega arith)
@@ -212,9 +216,10 @@ pub kept_normal : (batch kept : List Change) → kept ≡ values_of (keep_all (f
 kept_normal batch kept e =
     let es = keep_all (first_of batch) [] batch in
     let cs = values_of es in
-    subst (λ (ds : List Change). IsNormal ds) (sym e)
-    (All-from_recursion (λ (c : Change). IsEffective c.mutation) cs (all_effective (first_of batch) (length batch) es (placed_all (first_of batch) (length batch) batch (first_below batch)))
-    , all_pairs (Precedes (first_of cs)) cs (own_order (first_of batch) cs (kept_pairs batch)))
+    subst (λ (ds : List Change). IsNormal ds) (sym e) (
+      All-from_recursion (λ (c : Change). IsEffective c.mutation) cs (all_effective (first_of batch) (length batch) es (placed_all (first_of batch) (length batch) batch (first_below batch))),
+      all_pairs (Precedes (first_of cs)) cs (own_order (first_of batch) cs (kept_pairs batch)),
+    )
 
 pub kept_stands : (batch kept : List Change) → kept ≡ values_of (keep_all (first_of batch) [] batch) → StandsFor kept batch
 kept_stands batch kept e =

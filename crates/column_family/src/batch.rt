@@ -1,7 +1,7 @@
 //! Mutations of rows, batches of them, and batches that are committed.
 ghost use Rattle.std.specs.Prelude.{◌≡◌, ◌++◌, [], ◌∷◌, length, OnOk, OnErr, IfErr};
 
-use crate::bytes::{Family, Key, Name, Value};
+use crate::byte_strings::{Family, Key, Name, Value};
 use logical_time::{Stamp, Time};
 use std::alloc::{AllocFailed, Global};
 use std::marker::Model;

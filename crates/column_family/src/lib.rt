@@ -5,13 +5,13 @@
 #![tactic(auto)]
 
 mod batch;
-mod bytes;
+mod byte_strings;
 mod newest;
 mod normalizing;
 mod schema;
 
 pub use batch::{Batch, Change, Committed, Mutation, Row};
-pub use bytes::{Family, Key, Name, Value};
+pub use byte_strings::{Family, Key, Name, Value};
 pub use newest::{
     NewestMutation, newest_column_change, newest_row_deletion, newest_touching, up_to,
 };

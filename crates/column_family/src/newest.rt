@@ -6,7 +6,7 @@ ghost use Rattle.column_family.specs.History as defined;
 ghost use Rattle.column_family.specs.Newest.{seen, passes};
 
 use crate::batch::{Change, Committed, Mutation, Row};
-use crate::bytes::Name;
+use crate::byte_strings::Name;
 use logical_time::{Fault, Time};
 use std::alloc::{AllocError, Global};
 

@@ -11,7 +11,7 @@ ghost use Rattle.column_family.specs.Normal.{IsNormal, IsInOrderOf, StandsFor, f
 ghost use Rattle.column_family.specs.Places as spec;
 
 use crate::batch::{Batch, Change, Mutation, Row};
-use crate::bytes::Name;
+use crate::byte_strings::Name;
 use logical_time::Fault;
 use std::alloc::{AllocError, Global};
 use std::collections::BTreeMap;
@@ -93,10 +93,10 @@ fn keep_all(alloc: Global, changes: &[Change]) -> Result<BTreeMap<Place, Change>
     let first = first_places(alloc, changes)?;
     let mut kept = BTreeMap::new(alloc);
     let mut rest = changes;
-    while let Some((last, earlier)) = rest.split_last() {
-        let row = first.get(&last.row).copied().unwrap_or(changes.len());
-        keep(&mut kept, row, last)?;
-        rest = earlier;
+    while let Some((newest, older)) = rest.split_last() {
+        let row = first.get(&newest.row).copied().unwrap_or(changes.len());
+        keep(&mut kept, row, newest)?;
+        rest = older;
     }
     Ok(kept)
 }
@@ -123,4 +123,67 @@ pub fn normal(alloc: Global, batch: &Batch) -> Result<Batch, Fault>
     ensures memory { IfErr result (λ e. e ≡ fault.Memory) }
 {
     kept_changes(alloc, batch)
+}
+
+#[cfg(test)]
+mod tests {
+    use super::*;
+    use crate::byte_strings::{Family, Key, Value};
+    use std::test::Fail;
+
+    fn change(alloc: Global, key: &[u8], mutation: Mutation) -> Result<Change, AllocError> {
+        let row = Row {
+            family: Family::from_slice(alloc, b"family")?,
+            key: Key::from_slice(alloc, key)?,
+        };
+        Ok(Change { row, mutation })
+    }
+
+    fn insert(alloc: Global, key: &[u8], name: &[u8]) -> Result<Change, AllocError> {
+        let name = Name::from_slice(alloc, name)?;
+        let value = Value::from_slice(alloc, b"value")?;
+        change(alloc, key, Mutation::Insert { name, value })
+    }
+
+    fn delete_column(alloc: Global, key: &[u8], name: &[u8]) -> Result<Change, AllocError> {
+        let name = Name::from_slice(alloc, name)?;
+        change(alloc, key, Mutation::DeleteColumn { name })
+    }
+
+    fn delete_row(alloc: Global, key: &[u8]) -> Result<Change, AllocError> {
+        change(alloc, key, Mutation::DeleteRow)
+    }
+
+    #[test]
+    fn deletion_of_row_drops_older_columns(rt: HostRuntime) -> Result<(), Fail> {
+        let alloc = rt.alloc();
+        let given = Batch::from_changes(vec![in alloc;
+            insert(alloc, b"a", b"x")?,
+            delete_row(alloc, b"a")?,
+            insert(alloc, b"a", b"y")?,
+        ]?);
+        let wanted = vec![in alloc; delete_row(alloc, b"a")?, insert(alloc, b"a", b"y")?]?;
+        let kept = normal(alloc, &given)?;
+        assert_eq!(rt; kept.as_slice(), wanted.as_slice());
+        Ok(())
+    }
+
+    #[test]
+    fn rows_keep_their_order_and_columns_stand_by_name(rt: HostRuntime) -> Result<(), Fail> {
+        let alloc = rt.alloc();
+        let given = Batch::from_changes(vec![in alloc;
+            insert(alloc, b"b", b"y")?,
+            insert(alloc, b"a", b"x")?,
+            insert(alloc, b"b", b"x")?,
+            delete_column(alloc, b"b", b"y")?,
+        ]?);
+        let wanted = vec![in alloc;
+            insert(alloc, b"b", b"x")?,
+            delete_column(alloc, b"b", b"y")?,
+            insert(alloc, b"a", b"x")?,
+        ]?;
+        let kept = normal(alloc, &given)?;
+        assert_eq!(rt; kept.as_slice(), wanted.as_slice());
+        Ok(())
+    }
 }

@@ -3,7 +3,7 @@ ghost use Rattle.std.specs.Prelude.{◌≡◌, SomeIff, true};
 ghost use Rattle.std.specs.List.{list_all};
 ghost use Rattle.column_family.specs.Schema as schema;
 
-use crate::bytes::Family;
+use crate::byte_strings::Family;
 use std::marker::Model;
 
 /// The column families of a store: 1 to 16 names, no two the same, each of 1 to 64 ASCII letters, digits

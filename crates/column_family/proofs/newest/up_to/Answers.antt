@@ -1,4 +1,4 @@
-use Rattle.std.proofs.Common.{rules, ap, ◌∙◌, sym}
+use Rattle.std.proofs.Common.{ap, ◌∙◌, sym}
 use Rattle.column_family.proofs.UpTo.{up_to_kept, up_to_left}
 use Rattle.column_family.proofs.newest.up_to.Goals as goal
 use Rattle.column_family.proofs.newest.up_to.Goals.{then-is_committed+in_ok-copy_of+in_ok-push, else-is_committed}

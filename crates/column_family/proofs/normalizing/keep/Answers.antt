@@ -1,7 +1,7 @@
-use Rattle.std.proofs.Common.{◌≡◌, ◌∙◌, sym, ap, rules}
+use Rattle.std.proofs.Common.{◌∙◌, sym, ap}
 use Rattle.std.specs.BTreeMap.{insert_entry}
 use Rattle.column_family.specs.declared.batch.Change.{Change}
-use Rattle.column_family.specs.Places.{place_of, place_cmp, is_covered}
+use Rattle.column_family.specs.Places.{place_cmp}
 use Rattle.column_family.proofs.Firsts.{keep_new}
 use Rattle.column_family.proofs.normalizing.keep.Goals as goal
 
