@@ -1,10 +1,10 @@
 -- What a function gives of names that ascend strictly: in their order, and one for each name at which it gives.
-use Rattle.std.proofs.Common.{◌≡◌, ℕ, ◌<◌, Bool, true, false, ◌&&◌, ◌||◌, List, [], ◌∷◌, ◌++◌, length, get_or, Option, Some, None, filter, filter_map, refl, ap, ◌∙◌, sym, subst, arith, if◌then◌else◌}
+use Rattle.std.proofs.Common.{◌≡◌, ℕ, Bool, true, false, ◌&&◌, ◌||◌, List, [], ◌∷◌, Option, Some, None, filter, filter_map, refl, ap, ◌∙◌, sym, subst, arith, if◌then◌else◌}
 use Rattle.std.specs.declared.cmp.Ordering.{Ordering}
 use Rattle.std.specs.declared.cmp.Ordering.TheVariants.{Less, Equal, Greater}
 use Rattle.std.specs.Ordering.{nat_cmp, is_eq}
 use Rattle.std.specs.Cmp.Lexicographic.{slice_cmp}
-use Rattle.std.specs.List.{list_any, cons_option, All, AllPairs, AllByRecursion, Contains}
+use Rattle.std.specs.List.{list_any, cons_option, AllPairs, AllByRecursion, Contains}
 use Rattle.std.specs.List.Sorted.{IsStrictlySortedBy}
 use Rattle.std.specs.Option.{is_some}
 use Rattle.std.specs.BTreeSet.{BTreeSet}
@@ -41,7 +41,7 @@ pub given_at_name : (f : List ℕ → Option Column) → KeepsNames f → (ns : 
 given_at_name f k ns c i =
     All-contains (λ (d : Column). f d.name ≡ Some d) (filter_map f ns) c
     (All-from_recursion (λ (d : Column). f d.name ≡ Some d) (filter_map f ns)
-        (every_given f (λ n. Unit {0}) (λ d. f d.name ≡ Some d) (λ n d u e. ap f (k n d e) ∙ e) ns (any_at_all ns)))
+    (every_given f (λ n. Unit {0}) (λ d. f d.name ≡ Some d) (λ n d u e. ap f (k n d e) ∙ e) ns (any_at_all ns)))
     i
 
 contains_first : (o : Option Column) (rest : List Column) (c : Column) → o ≡ Some c → Contains (cons_option o rest) c
@@ -78,7 +78,7 @@ pairs_one None n rest k h p = p
 pairs_one (Some c) n rest k h p =
     AllPairs-cons (λ (c d : Column). slice_cmp nat_cmp c.name d.name ≡ Less) c rest
     (All-from_recursion (λ (d : Column). slice_cmp nat_cmp c.name d.name ≡ Less) rest
-        (subst (λ m. AllByRecursion (λ (d : Column). slice_cmp nat_cmp m d.name ≡ Less) rest) (sym (k c refl)) h)) p
+    (subst (λ m. AllByRecursion (λ (d : Column). slice_cmp nat_cmp m d.name ≡ Less) rest) (sym (k c refl)) h)) p
 
 -- the given columns ascend strictly by name
 pub given_in_order : (f : List ℕ → Option Column) → KeepsNames f → (ns : List (List ℕ)) → IsStrictlySortedBy (slice_cmp nat_cmp) ns
@@ -117,8 +117,8 @@ pub given_alike : (f : List ℕ → Option Column) (ns ms : List (List ℕ)) →
 given_alike f ns ms s t i j =
     given_of_kept f ns
     ∙ (ap (filter_map f)
-        (btree_set_from_contains nat_list_cmp_total (as_set (filter (λ n. is_some (f n)) ns)) (as_set (filter (λ n. is_some (f n)) ms))
-            (IsStrictlySortedBy-filter (slice_cmp nat_cmp) (λ n. is_some (f n)) ns s) (IsStrictlySortedBy-filter (slice_cmp nat_cmp) (λ n. is_some (f n)) ms t)
-            (λ q. among_kept (λ n. is_some (f n)) q ns ∙ (same_kept (is_some (f q)) (is_among q ns) (is_among q ms) (i q) (j q) ∙ sym (among_kept (λ n. is_some (f n)) q ms)))
-            exact_bytes)
+    (btree_set_from_contains nat_list_cmp_total (as_set (filter (λ n. is_some (f n)) ns)) (as_set (filter (λ n. is_some (f n)) ms))
+    (IsStrictlySortedBy-filter (slice_cmp nat_cmp) (λ n. is_some (f n)) ns s) (IsStrictlySortedBy-filter (slice_cmp nat_cmp) (λ n. is_some (f n)) ms t)
+    (λ q. among_kept (λ n. is_some (f n)) q ns ∙ (same_kept (is_some (f q)) (is_among q ns) (is_among q ms) (i q) (j q) ∙ sym (among_kept (λ n. is_some (f n)) q ms)))
+    exact_bytes)
     ∙ sym (given_of_kept f ms))

@@ -1,11 +1,10 @@
 -- The live columns of a row are the row's part of the table.
-use Rattle.std.proofs.Common.{◌≡◌, ℕ, Bool, true, false, cond, ◌&&◌, ◌||◌, List, [], ◌∷◌, ◌++◌, Option, Some, None, option_map, filter_map, flat_map, refl, ap, ◌∙◌, sym, subst, ◌⊎◌, inl, inr, if◌then◌else◌, ◌↔◌}
+use Rattle.std.proofs.Common.{◌≡◌, ℕ, Bool, true, false, ◌&&◌, ◌||◌, List, [], ◌∷◌, Option, Some, None, option_map, filter_map, flat_map, refl, ap, ◌∙◌, sym, ◌⊎◌, inl, inr, if◌then◌else◌, ◌↔◌}
 use Rattle.std.specs.Ordering.{nat_cmp, is_eq}
 use Rattle.std.specs.Cmp.Lexicographic.{slice_cmp}
-use Rattle.std.specs.List.{list_any, cons_option, AllPairs, Contains}
+use Rattle.std.specs.List.{cons_option, AllPairs, Contains}
 use Rattle.std.specs.List.Sorted.{IsStrictlySortedBy}
 use Rattle.std.specs.Option.{is_some, option_or}
-use Rattle.std.specs.Str.{bytes_eq}
 use Rattle.std.proofs.lemmas.List.Folds.{list_any-append}
 use Rattle.logical_time.specs.Stamps.{is_older}
 use Rattle.column_family.specs.declared.batch.Row.{Row}
@@ -15,9 +14,9 @@ use Rattle.column_family.specs.declared.batch.Mutation.{Mutation}
 use Rattle.column_family.specs.declared.batch.Mutation.TheVariants.{Insert, DeleteColumn, DeleteRow, DeleteRange}
 use Rattle.column_family.specs.Location.{Location, is_row, touches, touches_name}
 use Rattle.column_family.specs.Normal.{IsBelow}
-use Rattle.column_family.specs.History.{History, Stamped, stamped, newer_of, last_of, newest_of, newest, inserted, value_of}
+use Rattle.column_family.specs.History.{History, Stamped, stamped, newer_of, last_of, newest, inserted, value_of}
 use Rattle.slice.specs.declared.column.Column.{Column}
-use Rattle.slice.specs.Live.{column_named, column_changed, columns_changed, in_name_order, live_column, live_columns}
+use Rattle.slice.specs.Live.{column_named, column_changed, columns_changed, live_column, live_columns}
 use Rattle.slice.proofs.NameOrder.{sorted_in_order}
 use Rattle.slice.proofs.Selected.{any_in_order, is_eq_named}
 use Rattle.slice.proofs.Asked.{is_among, KeepsNames, given_at_name, given_if_among, given_in_order, given_alike}
@@ -80,7 +79,7 @@ among_history r q v s i [] e = absurd (cc)
 among_history r q v s i (c ∷ h) e =
     list_any-append (λ n. is_eq (slice_cmp nat_cmp q n)) (filter_map (column_changed r) c.batch) (flat_map (λ d. filter_map (column_changed r) d.batch) h)
     ∙ elim (newer_is_one (option_map (stamped c) (last_of (touches (at r q)) c.batch)) (newest h (at r q)) s e) [
-        inl f ↦ either_true _ _ (among_entry r q v c s i (last_of (touches (at r q)) c.batch) refl f)
+      | inl f ↦ either_true _ _ (among_entry r q v c s i (last_of (touches (at r q)) c.batch) refl f)
       | inr f ↦ other_true _ _ (among_history r q v s i h f)
     ]
 
@@ -130,7 +129,8 @@ live_in_order h r = given_in_order (live_column h r) (live_keeps_names h r) (col
 -- the live columns are those whose location is live with their value
 pub live_if_in_table : (h : History) (r : Row) (c : Column)
     → Contains (live_columns h r) c ↔ (value_of (newest h (record { row = r; name = c.name })) ≡ Some c.value)
-live_if_in_table h r c =
-    ( (λ i. (column_of c.name (value_of (newest h (at r c.name))) c (given_at_name (live_column h r) (live_keeps_names h r) (columns_changed h r) c i)).1)
-    , (λ e. given_if_among (live_column h r) c.name c (ap (option_map (λ v. record { name = c.name; value = v })) e) (columns_changed h r)
-        (value_changed h r c.name c.value (newest h (at r c.name)) refl e)))
+live_if_in_table h r c = (
+  (λ i. (column_of c.name (value_of (newest h (at r c.name))) c (given_at_name (live_column h r) (live_keeps_names h r) (columns_changed h r) c i)).1),
+  (λ e. given_if_among (live_column h r) c.name c (ap (option_map (λ v. record { name = c.name; value = v })) e) (columns_changed h r)
+      (value_changed h r c.name c.value (newest h (at r c.name)) refl e)),
+)

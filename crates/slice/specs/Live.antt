@@ -8,7 +8,7 @@ use Rattle.column_family.specs.declared.batch.Row.{Row}
 use Rattle.column_family.specs.declared.batch.Change.{Change}
 use Rattle.column_family.specs.declared.batch.Mutation.{Mutation}
 use Rattle.column_family.specs.declared.batch.Mutation.TheVariants.{Insert, DeleteColumn, DeleteRow, DeleteRange}
-use Rattle.column_family.specs.Location.{Location, is_row}
+use Rattle.column_family.specs.Location.{is_row}
 use Rattle.column_family.specs.History.{History, newest, value_of}
 use Rattle.slice.specs.declared.column.Column.{Column}
 

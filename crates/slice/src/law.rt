@@ -12,5 +12,4 @@ ghost use Rattle.slice.specs.Live.{live_columns};
 pub fn live_columns_are_the_table()
     ensures ordered { (h : History) (r : Row) → AllPairs (λ c d. IsBelow c.name d.name) (live_columns h r) }
     ensures exact { (h : History) (r : Row) (c : Column) → Contains (live_columns h r) c ↔ (value_of (newest h (record { row = r; name = c.name })) ≡ Some c.value) }
-{
-}
+{}

@@ -72,3 +72,128 @@ fn answer_key(
         columns,
     })
 }
+
+#[cfg(test)]
+mod tests {
+    use super::*;
+    use column_family::{Batch, Change, Family, Mutation, Name, Value};
+    use logical_time::{Node, Stamp};
+    use slice::{Keys, Predicate};
+    use std::test::Fail;
+
+    fn time(number: u64) -> Result<Time, Fault> {
+        Time::new(number).ok_or(Fault::ClockSpent)
+    }
+
+    fn name(alloc: Global, text: &str) -> Result<Name, Fault> {
+        Ok(Name::from_slice(alloc, text.as_bytes())?)
+    }
+
+    fn row(alloc: Global) -> Result<Row, Fault> {
+        Ok(Row {
+            family: Family::from_slice(alloc, b"f")?,
+            key: Key::from_slice(alloc, b"k")?,
+        })
+    }
+
+    fn insertion(alloc: Global, column: &str) -> Result<Change, Fault> {
+        let mutation = Mutation::Insert {
+            name: name(alloc, column)?,
+            value: Value::from_slice(alloc, b"v")?,
+        };
+        Ok(Change {
+            row: row(alloc)?,
+            mutation,
+        })
+    }
+
+    fn committed(batch: Batch, number: u64) -> Result<Committed, Fault> {
+        let commit = time(number)?;
+        let stamp = Stamp {
+            time: commit,
+            node: Node::new(1),
+        };
+        Ok(Committed {
+            batch,
+            stamp,
+            commit,
+        })
+    }
+
+    // Inserts b, c and d at 2, and deletes b at 5.
+    fn story(alloc: Global) -> Result<History, Fault> {
+        let mut inserted = Batch::new(alloc);
+        for column in ["b", "c", "d"] {
+            inserted.push(insertion(alloc, column)?)?;
+        }
+        let mut deleted = Batch::new(alloc);
+        deleted.push(Change {
+            row: row(alloc)?,
+            mutation: Mutation::DeleteColumn {
+                name: name(alloc, "b")?,
+            },
+        })?;
+        let mut history = History::new(alloc);
+        history.push(committed(inserted, 2)?)?;
+        history.push(committed(deleted, 5)?)?;
+        Ok(history)
+    }
+
+    // The read of a range of the one row.
+    fn range(
+        alloc: Global,
+        start: &str,
+        finish: &str,
+        reversed: bool,
+        count: u32,
+    ) -> Result<Read, Fault> {
+        let mut keys = Vec::new(alloc);
+        keys.push(Key::from_slice(alloc, b"k")?)?;
+        Ok(Read {
+            family: Family::from_slice(alloc, b"f")?,
+            keys: Keys::from_vec(keys),
+            predicate: Predicate::Range {
+                start: name(alloc, start)?,
+                finish: name(alloc, finish)?,
+                reversed,
+                count,
+            },
+        })
+    }
+
+    // The names of the columns that the read returns, one after the other.
+    fn names(alloc: Global, history: &History, at: u64, read: &Read) -> Result<Vec<u8>, Fault> {
+        let mut names = Vec::new(alloc);
+        for answered in answer(alloc, history, time(at)?, read)?.as_slice() {
+            for column in answered.columns.as_slice() {
+                names.extend_from_slice(column.name.as_slice())?;
+            }
+        }
+        Ok(names)
+    }
+
+    #[test]
+    fn deleted_columns_do_not_count(rt: HostRuntime) -> Result<(), Fail> {
+        let alloc = rt.alloc();
+        let history = story(alloc)?;
+        let upwards = range(alloc, "b", "d", false, 2)?;
+        let downwards = range(alloc, "d", "", true, 1)?;
+        assert_eq!(rt;
+            names(alloc, &history, 5, &upwards)?.as_slice(),
+            b"cd".as_slice()
+        );
+        assert_eq!(rt;
+            names(alloc, &history, 2, &upwards)?.as_slice(),
+            b"bc".as_slice()
+        );
+        assert_eq!(rt;
+            names(alloc, &history, 1, &upwards)?.as_slice(),
+            b"".as_slice()
+        );
+        assert_eq!(rt;
+            names(alloc, &history, 5, &downwards)?.as_slice(),
+            b"d".as_slice()
+        );
+        Ok(())
+    }
+}

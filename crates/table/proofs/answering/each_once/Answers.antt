@@ -1,4 +1,4 @@
-use Rattle.std.proofs.Common.{rules, ◌≡◌, Bool, true, false, ap, ◌∙◌, sym}
+use Rattle.std.proofs.Common.{rules, ◌≡◌, true, false, ap, ◌∙◌, sym}
 use Rattle.std.specs.List.{list_any}
 use Rattle.std.specs.Str.{bytes_eq}
 use Rattle.table.proofs.EachOnce.{each_once_old, each_once_new}
