@@ -18,7 +18,7 @@ use Rattle.column_family.specs.declared.batch.Change.{Change}
 use Rattle.column_family.specs.declared.batch.Mutation.{Mutation}
 use Rattle.column_family.specs.declared.batch.Mutation.TheVariants.{Insert, DeleteColumn, DeleteRow, DeleteRange}
 use Rattle.column_family.specs.declared.normalizing.Place.{Place}
-use Rattle.column_family.specs.Location.{Location, is_row, touches_name, deletes_row, is_row_deletion, touches}
+use Rattle.column_family.specs.Location.{Location, is_same_row, touches_name, deletes_row, is_row_deletion, touches}
 use Rattle.column_family.specs.History.{last_of}
 use Rattle.column_family.specs.Places.{Placed, place_cmp, place_of, is_taken, is_covered, keep_at, keep, keep_all}
 use Rattle.column_family.proofs.Options.{by_cases, both_true, either_true, neither, some_left, some_right, or_none, or_some, or_swap}
@@ -87,13 +87,13 @@ at_part v None = false
 at_part v (Some a) = v a
 
 abbrev concerns : Row → (Option (List ℕ) → Bool) → Change → Bool
-concerns r v c = is_row r c.row && at_part v (part_of c.mutation)
+concerns r v c = is_same_row r c.row && at_part v (part_of c.mutation)
 
 -- the test passes on all of the row, and on one column at most
 abbrev IsOfOne : (Option (List ℕ) → Bool) → Type 0
 IsOfOne v = (v None ≡ true) × ((n m : List ℕ) → v (Some n) ≡ true → v (Some m) ≡ true → n ≡ m)
 
-pub one_row : (r s : Row) → is_row r s ≡ true → r ≡ s
+pub one_row : (r s : Row) → is_same_row r s ≡ true → r ≡ s
 one_row r s h =
     let b = both_true (bytes_eq r.family s.family) (bytes_eq r.key s.key) h in
     let f = (bytes_eq-Decides r.family s.family).0 b.0 in
@@ -148,8 +148,8 @@ passes_part v m a e h = sym (ap (λ (o : Option (Option (List ℕ))). at_part v 
 -- what stands before a change that the test passes on doesn't pass it
 passes_once : (number : Row → ℕ) (n : ℕ) (r : Row) (v : Option (List ℕ) → Bool) → IsOfOne v → (k : Place) (c : Change) (e : Place × Change) → IsPlaced number n (k, c) → IsPlaced number n e → place_cmp k e.0 ≡ Greater → is_eq (place_cmp (record { row = k.row; column = None }) e.0) ≡ false → concerns r v c ≡ true → concerns r v e.1 ≡ true → ⊥
 passes_once number n r v one k c e placed placed' greater undeleted t t' =
-    let b = both_true (is_row r c.row) (at_part v (part_of c.mutation)) t in
-    let b' = both_true (is_row r e.1.row) (at_part v (part_of e.1.mutation)) t' in
+    let b = both_true (is_same_row r c.row) (at_part v (part_of c.mutation)) t in
+    let b' = both_true (is_same_row r e.1.row) (at_part v (part_of e.1.mutation)) t' in
     let rows : c.row ≡ e.1.row = sym (one_row r c.row b.0) ∙ one_row r e.1.row b'.0 in
     let same : k.row ≡ e.0.row = sym (placed_row (number c.row) c.mutation k placed.0) ∙ ap number rows ∙ placed_row (number e.1.row) e.1.mutation e.0 placed'.0 in
     let a = passes_part v c.mutation k.column (placed_part (number c.row) c.mutation k placed.0) b.1 in
@@ -206,7 +206,7 @@ last_keep number n r v apart one c known es all = go (place_of (number c.row) c.
 
     covered : (k : Place) → place_of (number c.row) c.mutation ≡ Some k → is_covered es k ≡ true → concerns r v c ≡ true → is_some (last_of (concerns r v) (values_of es)) ≡ true
     covered k e cover t =
-        let b = both_true (is_row r c.row) (at_part v (part_of c.mutation)) t in
+        let b = both_true (is_same_row r c.row) (at_part v (part_of c.mutation)) t in
         let row : k.row ≡ number r = sym (placed_row (number c.row) c.mutation k e) ∙ ap number (sym (one_row r c.row b.0)) in
         let deletion : Place = record { row = k.row; column = None } in
         elim (either_true (is_taken es deletion) (is_taken es k) cover) [
@@ -215,7 +215,7 @@ last_keep number n r v apart one c known es all = go (place_of (number c.row) c.
         ]
 
     go : (o : Option Place) → place_of (number c.row) c.mutation ≡ o → last_of (concerns r v) (values_of (keep_at es o c)) ≡ option_or (last_of (concerns r v) (values_of es)) (if concerns r v c then Some c.mutation else None)
-    go None e = idle (ap (λ (o : Option (Option (List ℕ))). is_row r c.row && at_part v o) (unplaced_part (number c.row) c.mutation e) ∙ unconcerned (is_row r c.row))
+    go None e = idle (ap (λ (o : Option (Option (List ℕ))). is_same_row r c.row && at_part v o) (unplaced_part (number c.row) c.mutation e) ∙ unconcerned (is_same_row r c.row))
     go (Some k) e =
         by_cases (is_covered es k)
         (λ yes. rw yes (by_cases (concerns r v c)
@@ -273,14 +273,14 @@ deletes_of_one = (refl, λ n m p q. absurd (cc))
 
 pub last_touch : (number : Row → ℕ) (n : ℕ) → IsNumbering number n → (cs : List Change) → AllByRecursion (λ (c : Change). number c.row < n) cs → (l : Location) → last_of (touches l) (values_of (keep_all number [] cs)) ≡ last_of (touches l) cs
 last_touch number n apart cs known l =
-    let same : (c : Change) → touches l c ≡ concerns l.row (touches_part l.name) c = λ c. ap (λ (b : Bool). is_row l.row c.row && b) (part_touched c.mutation l.name) in
+    let same : (c : Change) → touches l c ≡ concerns l.row (touches_part l.name) c = λ c. ap (λ (b : Bool). is_same_row l.row c.row && b) (part_touched c.mutation l.name) in
     last_alike (touches l) (concerns l.row (touches_part l.name)) same (values_of (keep_all number [] cs))
     ∙ last_all number n l.row (touches_part l.name) apart (touches_of_one l.name) cs known
     ∙ sym (last_alike (touches l) (concerns l.row (touches_part l.name)) same cs)
 
 pub last_deletion : (number : Row → ℕ) (n : ℕ) → IsNumbering number n → (cs : List Change) → AllByRecursion (λ (c : Change). number c.row < n) cs → (r : Row) → last_of (is_row_deletion r) (values_of (keep_all number [] cs)) ≡ last_of (is_row_deletion r) cs
 last_deletion number n apart cs known r =
-    let same : (c : Change) → is_row_deletion r c ≡ concerns r deletes_part c = λ c. ap (λ (b : Bool). is_row r c.row && b) (part_deleted c.mutation) in
+    let same : (c : Change) → is_row_deletion r c ≡ concerns r deletes_part c = λ c. ap (λ (b : Bool). is_same_row r c.row && b) (part_deleted c.mutation) in
     last_alike (is_row_deletion r) (concerns r deletes_part) same (values_of (keep_all number [] cs))
     ∙ last_all number n r deletes_part apart deletes_of_one cs known
     ∙ sym (last_alike (is_row_deletion r) (concerns r deletes_part) same cs)

@@ -21,8 +21,8 @@ use Rattle.column_family.specs.declared.batch.Change.{Change}
 use Rattle.column_family.specs.declared.batch.Mutation.{Mutation}
 use Rattle.column_family.specs.declared.batch.Mutation.TheVariants.{Insert, DeleteColumn, DeleteRow, DeleteRange}
 use Rattle.column_family.specs.declared.normalizing.Place.{Place}
-use Rattle.column_family.specs.Location.{is_row}
-use Rattle.column_family.specs.Normal.{first_of, StandsBefore, IsEffective, IsInOrderOf, IsNormal, StandsFor}
+use Rattle.column_family.specs.Location.{is_same_row}
+use Rattle.column_family.specs.Normal.{changes_before, StandsBefore, IsEffective, IsInOrderOf, IsNormal, StandsFor}
 use Rattle.column_family.specs.Places.{Placed, place_cmp, place_of, is_covered, keep_at, keep, keep_all}
 use Rattle.column_family.proofs.Options.{by_cases}
 use Rattle.column_family.proofs.Kept.{part_of, placed_row, placed_part, same_number, IsPlaced, IsNumbering, one_row, placed_all, last_touch, last_deletion}
@@ -33,27 +33,27 @@ each_more P Q f [] h = tt
 each_more P Q f (x ∷ xs) h = (f x h.0, each_more P Q f xs h.1)
 
 -- ---- the places of a batch's rows number them
-row_itself : (r s : Row) → r ≡ s → is_row r s ≡ true
+row_itself : (r s : Row) → r ≡ s → is_same_row r s ≡ true
 row_itself r s e =
     let f : bytes_eq r.family s.family ≡ true = (bytes_eq-Decides r.family s.family).1 (ap (λ (t : Row). t.family) e) in
     let k : bytes_eq r.key s.key ≡ true = (bytes_eq-Decides r.key s.key).1 (ap (λ (t : Row). t.key) e) in
     rw f k
 
-first_apart : (cs : List Change) → IsNumbering (first_of cs) (length cs)
+first_apart : (cs : List Change) → IsNumbering (changes_before cs) (length cs)
 first_apart [] r s h e = absurd (omega arith)
-first_apart (c ∷ cs) r s h e = go (λ a b. first_apart cs r s a b) (is_row r c.row) (is_row s c.row) refl refl h e
+first_apart (c ∷ cs) r s h e = go (λ a b. first_apart cs r s a b) (is_same_row r c.row) (is_same_row s c.row) refl refl h e
   where
-    go : (first_of cs r < length cs → first_of cs r ≡ first_of cs s → r ≡ s) → (p q : Bool) → is_row r c.row ≡ p → is_row s c.row ≡ q → (if p then 0 else first_of cs r + 1) < suc (length cs) → (if p then 0 else first_of cs r + 1) ≡ (if q then 0 else first_of cs s + 1) → r ≡ s
+    go : (changes_before cs r < length cs → changes_before cs r ≡ changes_before cs s → r ≡ s) → (p q : Bool) → is_same_row r c.row ≡ p → is_same_row s c.row ≡ q → (if p then 0 else changes_before cs r + 1) < suc (length cs) → (if p then 0 else changes_before cs r + 1) ≡ (if q then 0 else changes_before cs s + 1) → r ≡ s
     go ih true true f g h e = one_row r c.row f ∙ sym (one_row s c.row g)
     go ih true false f g h e = absurd (omega arith)
     go ih false true f g h e = absurd (omega arith)
     go ih false false f g h e = ih (omega arith) (omega arith)
 
-first_below : (cs : List Change) → AllByRecursion (λ (c : Change). first_of cs c.row < length cs) cs
+first_below : (cs : List Change) → AllByRecursion (λ (c : Change). changes_before cs c.row < length cs) cs
 first_below [] = tt
 first_below (x ∷ xs) =
     let itself = row_itself x.row x.row refl in
-    (rw itself (omega arith), each_more (λ (c : Change). first_of xs c.row < length xs) (λ (c : Change). first_of (x ∷ xs) c.row < suc (length xs)) (λ c h. more (is_row c.row x.row) (first_of xs c.row) (length xs) h) xs (first_below xs))
+    (rw itself (omega arith), each_more (λ (c : Change). changes_before xs c.row < length xs) (λ (c : Change). changes_before (x ∷ xs) c.row < suc (length xs)) (λ c h. more (is_same_row c.row x.row) (changes_before xs c.row) (length xs) h) xs (first_below xs))
   where
     more : (b : Bool) (i n : ℕ) → i < n → (if b then 0 else i + 1) < suc n
     more true i n h = omega arith
@@ -160,34 +160,34 @@ pairs_more A B C H f (x ∷ xs) h a b = (heads xs a.0 b.0, pairs_more A B C H f 
     heads [] a b = tt
     heads (y ∷ ys) a b = (f x y h.0 a.0 b.0, heads ys a.1 b.1)
 
-own_head : (number : Row → ℕ) (x : Change) (xs : List Change) (d : Change) → Precedes number x d → Precedes (first_of (x ∷ xs)) x d
+own_head : (number : Row → ℕ) (x : Change) (xs : List Change) (d : Change) → Precedes number x d → Precedes (changes_before (x ∷ xs)) x d
 own_head number x xs d (inr h) = inr h
 own_head number x xs d (inl h) =
     let itself = row_itself x.row x.row refl in
-    by_cases (is_row d.row x.row)
+    by_cases (is_same_row d.row x.row)
     (λ t. let same = ap number (one_row d.row x.row t) in absurd (omega arith))
     (λ t. inl (rw (itself, t) (omega arith)))
 
-own_pair : (number : Row → ℕ) (x : Change) (xs : List Change) (c d : Change) → Precedes number x c → Precedes number c d → Precedes (first_of xs) c d → Precedes (first_of (x ∷ xs)) c d
+own_pair : (number : Row → ℕ) (x : Change) (xs : List Change) (c d : Change) → Precedes number x c → Precedes number c d → Precedes (changes_before xs) c d → Precedes (changes_before (x ∷ xs)) c d
 own_pair number x xs c d h a (inr e) = inr e
-own_pair number x xs c d h a (inl lt) = go (is_row c.row x.row) (is_row d.row x.row) refl refl
+own_pair number x xs c d h a (inl lt) = go (is_same_row c.row x.row) (is_same_row d.row x.row) refl refl
   where
     numbers : (e : d.row ≡ x.row) → (c.row ≡ x.row → ⊥) → Precedes number x c → Precedes number c d → ⊥
     numbers e other (inr p) q = other (sym p.0)
     numbers e other (inl p) (inr q) = other (q.0 ∙ e)
     numbers e other (inl p) (inl q) = let same = ap number e in omega arith
 
-    go : (p q : Bool) → is_row c.row x.row ≡ p → is_row d.row x.row ≡ q → Precedes (first_of (x ∷ xs)) c d
-    go true true f g = let same = ap (first_of xs) (one_row c.row x.row f ∙ sym (one_row d.row x.row g)) in absurd (omega arith)
+    go : (p q : Bool) → is_same_row c.row x.row ≡ p → is_same_row d.row x.row ≡ q → Precedes (changes_before (x ∷ xs)) c d
+    go true true f g = let same = ap (changes_before xs) (one_row c.row x.row f ∙ sym (one_row d.row x.row g)) in absurd (omega arith)
     go true false f g = inl (rw (f, g) (omega arith))
     go false true f g = absurd (numbers (one_row d.row x.row g) (λ e. let t = row_itself c.row x.row e in cc) h a)
     go false false f g = inl (rw (f, g) (omega arith))
 
-own_order : (number : Row → ℕ) (xs : List Change) → Pairs (Precedes number) xs → Pairs (Precedes (first_of xs)) xs
+own_order : (number : Row → ℕ) (xs : List Change) → Pairs (Precedes number) xs → Pairs (Precedes (changes_before xs)) xs
 own_order number [] h = tt
 own_order number (x ∷ xs) h = (
-  each_more (Precedes number x) (Precedes (first_of (x ∷ xs)) x) (λ d p. own_head number x xs d p) xs h.0,
-  pairs_more (Precedes number) (Precedes (first_of xs)) (Precedes (first_of (x ∷ xs))) (Precedes number x) (λ c d p a b. own_pair number x xs c d p a b) xs h.0 h.1 (own_order number xs h.1),
+  each_more (Precedes number x) (Precedes (changes_before (x ∷ xs)) x) (λ d p. own_head number x xs d p) xs h.0,
+  pairs_more (Precedes number) (Precedes (changes_before xs)) (Precedes (changes_before (x ∷ xs))) (Precedes number x) (λ c d p a b. own_pair number x xs c d p a b) xs h.0 h.1 (own_order number xs h.1),
 )
 
 all_pairs : (R : Change → Change → Type 0) (xs : List Change) → Pairs R xs → AllPairs R xs
@@ -206,24 +206,24 @@ all_effective number n [] all = tt
 all_effective number n (e ∷ es) all = (effective (number e.1.row) e.1.mutation e.0 all.0.0, all_effective number n es all.1)
 
 -- ---- the theorems on what is kept of a batch
-kept_pairs : (batch : List Change) → Pairs (Precedes (first_of batch)) (values_of (keep_all (first_of batch) [] batch))
-kept_pairs batch = in_order (first_of batch) (length batch) (first_apart batch) (keep_all (first_of batch) [] batch) (placed_all (first_of batch) (length batch) batch (first_below batch)) (sorted_all (first_of batch) batch)
+kept_pairs : (batch : List Change) → Pairs (Precedes (changes_before batch)) (values_of (keep_all (changes_before batch) [] batch))
+kept_pairs batch = in_order (changes_before batch) (length batch) (first_apart batch) (keep_all (changes_before batch) [] batch) (placed_all (changes_before batch) (length batch) batch (first_below batch)) (sorted_all (changes_before batch) batch)
 
-pub kept_order : (batch kept : List Change) → kept ≡ values_of (keep_all (first_of batch) [] batch) → IsInOrderOf batch kept
-kept_order batch kept e = subst (λ (cs : List Change). IsInOrderOf batch cs) (sym e) (all_pairs (Precedes (first_of batch)) (values_of (keep_all (first_of batch) [] batch)) (kept_pairs batch))
+pub kept_order : (batch kept : List Change) → kept ≡ values_of (keep_all (changes_before batch) [] batch) → IsInOrderOf batch kept
+kept_order batch kept e = subst (λ (cs : List Change). IsInOrderOf batch cs) (sym e) (all_pairs (Precedes (changes_before batch)) (values_of (keep_all (changes_before batch) [] batch)) (kept_pairs batch))
 
-pub kept_normal : (batch kept : List Change) → kept ≡ values_of (keep_all (first_of batch) [] batch) → IsNormal kept
+pub kept_normal : (batch kept : List Change) → kept ≡ values_of (keep_all (changes_before batch) [] batch) → IsNormal kept
 kept_normal batch kept e =
-    let es = keep_all (first_of batch) [] batch in
+    let es = keep_all (changes_before batch) [] batch in
     let cs = values_of es in
     subst (λ (ds : List Change). IsNormal ds) (sym e) (
-      All-from_recursion (λ (c : Change). IsEffective c.mutation) cs (all_effective (first_of batch) (length batch) es (placed_all (first_of batch) (length batch) batch (first_below batch))),
-      all_pairs (Precedes (first_of cs)) cs (own_order (first_of batch) cs (kept_pairs batch)),
+      All-from_recursion (λ (c : Change). IsEffective c.mutation) cs (all_effective (changes_before batch) (length batch) es (placed_all (changes_before batch) (length batch) batch (first_below batch))),
+      all_pairs (Precedes (changes_before cs)) cs (own_order (changes_before batch) cs (kept_pairs batch)),
     )
 
-pub kept_stands : (batch kept : List Change) → kept ≡ values_of (keep_all (first_of batch) [] batch) → StandsFor kept batch
+pub kept_stands : (batch kept : List Change) → kept ≡ values_of (keep_all (changes_before batch) [] batch) → StandsFor kept batch
 kept_stands batch kept e =
     subst (λ (ds : List Change). StandsFor ds batch) (sym e)
-    (stands_for (values_of (keep_all (first_of batch) [] batch)) batch
-    (last_touch (first_of batch) (length batch) (first_apart batch) batch (first_below batch))
-    (last_deletion (first_of batch) (length batch) (first_apart batch) batch (first_below batch)))
+    (stands_for (values_of (keep_all (changes_before batch) [] batch)) batch
+    (last_touch (changes_before batch) (length batch) (first_apart batch) batch (first_below batch))
+    (last_deletion (changes_before batch) (length batch) (first_apart batch) batch (first_below batch)))

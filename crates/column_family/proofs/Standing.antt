@@ -10,7 +10,7 @@ use Rattle.column_family.specs.declared.batch.Change.{Change}
 use Rattle.column_family.specs.declared.batch.Committed.{Committed}
 use Rattle.column_family.specs.declared.batch.Mutation.{Mutation}
 use Rattle.column_family.specs.declared.batch.Mutation.TheVariants.{Insert, DeleteColumn, DeleteRow, DeleteRange}
-use Rattle.column_family.specs.Location.{Location, is_row, changes_name, touches_name, deletes_row, is_column_change, is_row_deletion, touches}
+use Rattle.column_family.specs.Location.{Location, is_same_row, changes_name, touches_name, deletes_row, is_column_change, is_row_deletion, touches}
 use Rattle.column_family.specs.History.{History, up_to, Stamped, newer_of, last_of, stamped, newest_of, newest, stamp_of, RestsOn}
 use Rattle.column_family.specs.Normal.{committed, StandsFor}
 use Rattle.column_family.proofs.Options.{by_cases, some_left, some_right}
@@ -60,7 +60,7 @@ column_in_batch l (c ∷ cs) m e h = go (λ f. column_in_batch l cs m f h) (last
     here : (b : Bool) → touches l c ≡ b → (if b then Some c.mutation else None) ≡ Some m → is_some (if is_column_change l c then Some c.mutation else None) ≡ true
     here true t f =
         let same : c.mutation ≡ m = cc in
-        let column : is_column_change l c ≡ true = ap (λ (b : Bool). is_row l.row c.row && b) (changes-touches c.mutation l.name (ap (λ (x : Mutation). deletes_row x) same ∙ h)) ∙ t in
+        let column : is_column_change l c ≡ true = ap (λ (b : Bool). is_same_row l.row c.row && b) (changes-touches c.mutation l.name (ap (λ (x : Mutation). deletes_row x) same ∙ h)) ∙ t in
         rw column refl
     here false t f = absurd (cc)
 
@@ -170,7 +170,7 @@ accords_more c name (Some q) (Some p) b m h = h
 
 accords_batch : (l : Location) (cs : List Change) (c : Committed) → Accords (option_map (stamped c) (last_of (is_row_deletion l.row) cs)) (option_map (stamped c) (last_of (touches l) cs))
 accords_batch l [] c = tt
-accords_batch l (x ∷ cs) c = accords_more c l.name (last_of (is_row_deletion l.row) cs) (last_of (touches l) cs) (is_row l.row x.row) x.mutation (accords_batch l cs c)
+accords_batch l (x ∷ cs) c = accords_more c l.name (last_of (is_row_deletion l.row) cs) (last_of (touches l) cs) (is_same_row l.row x.row) x.mutation (accords_batch l cs c)
 
 accords : (l : Location) (h : History) → Accords (newest_of (is_row_deletion l.row) h) (newest h l)
 accords l [] = tt

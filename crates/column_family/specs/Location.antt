@@ -12,8 +12,8 @@ pub record Location : Type 0 where
   pub name : List ℕ
 
 -- whether both are one row: the same key in the same family
-abbrev pub is_row : Row → Row → Bool
-is_row r s = bytes_eq r.family s.family && bytes_eq r.key s.key
+abbrev pub is_same_row : Row → Row → Bool
+is_same_row r s = bytes_eq r.family s.family && bytes_eq r.key s.key
 
 -- whether the mutation inserts or deletes the column of this name
 abbrev pub changes_name : Mutation → List ℕ → Bool
@@ -31,11 +31,11 @@ deletes_row (DeleteRange start finish) = false
 
 -- a column mutation of the location: its insertion or its deletion
 abbrev pub is_column_change : Location → Change → Bool
-is_column_change l c = is_row l.row c.row && changes_name c.mutation l.name
+is_column_change l c = is_same_row l.row c.row && changes_name c.mutation l.name
 
 -- a deletion of the row
 abbrev pub is_row_deletion : Row → Change → Bool
-is_row_deletion r c = is_row r c.row && deletes_row c.mutation
+is_row_deletion r c = is_same_row r c.row && deletes_row c.mutation
 
 -- whether the mutation touches the column of this name: an insertion and a column deletion touch one
 -- column, a row deletion every one, and a deletion of a range none, for now (Cassandra's batch_mutate)
@@ -47,4 +47,4 @@ touches_name (DeleteRange start finish) name = false
 
 -- whether the change touches the location
 abbrev pub touches : Location → Change → Bool
-touches l c = is_row l.row c.row && touches_name c.mutation l.name
+touches l c = is_same_row l.row c.row && touches_name c.mutation l.name

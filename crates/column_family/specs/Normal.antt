@@ -9,13 +9,13 @@ use Rattle.column_family.specs.declared.batch.Change.{Change}
 use Rattle.column_family.specs.declared.batch.Committed.{Committed}
 use Rattle.column_family.specs.declared.batch.Mutation.{Mutation}
 use Rattle.column_family.specs.declared.batch.Mutation.TheVariants.{Insert, DeleteColumn, DeleteRow, DeleteRange}
-use Rattle.column_family.specs.Location.{Location, is_row}
+use Rattle.column_family.specs.Location.{Location, is_same_row}
 use Rattle.column_family.specs.History.{History, up_to, newest_at, RestsOn}
 
 -- how many changes stand before the row's first
-abbrev pub first_of : List Change → Row → ℕ
-first_of [] r = 0
-first_of (c ∷ cs) r = if is_row r c.row then 0 else first_of cs r + 1
+abbrev pub changes_before : List Change → Row → ℕ
+changes_before [] r = 0
+changes_before (c ∷ cs) r = if is_same_row r c.row then 0 else changes_before cs r + 1
 
 -- the first name is below the second, as bytes
 abbrev pub IsBelow : List ℕ → List ℕ → Type 0
@@ -41,7 +41,7 @@ IsEffective (DeleteRange start finish) = ⊥
 -- rows stand in the order in which they first occur in this batch, and within a row the mutations as above
 abbrev pub IsInOrderOf : List Change → List Change → Type 0
 IsInOrderOf batch changes =
-    AllPairs (λ c d. (first_of batch c.row < first_of batch d.row) ⊎ ((c.row ≡ d.row) × StandsBefore c.mutation d.mutation)) changes
+    AllPairs (λ c d. (changes_before batch c.row < changes_before batch d.row) ⊎ ((c.row ≡ d.row) × StandsBefore c.mutation d.mutation)) changes
 
 -- the normal form: each row's changes stand together, at most one deletion of the row, first, and then
 -- each name at most once, in name order

@@ -11,7 +11,7 @@ use Rattle.column_family.specs.declared.batch.Change.{Change}
 use Rattle.column_family.specs.declared.batch.Mutation.{Mutation}
 use Rattle.column_family.specs.declared.batch.Mutation.TheVariants.{Insert, DeleteColumn, DeleteRow, DeleteRange}
 use Rattle.column_family.specs.declared.normalizing.Place.{Place}
-use Rattle.column_family.specs.Location.{is_row}
+use Rattle.column_family.specs.Location.{is_same_row}
 
 -- changes at their places
 abbrev pub Placed : Type 0
@@ -20,7 +20,7 @@ Placed = List (Place × Change)
 -- where the first of these changes to the row stands, if they stand from i on, or else the given number
 abbrev pub first_from : ℕ → List Change → Row → ℕ → ℕ
 first_from i [] r n = n
-first_from i (c ∷ cs) r n = if is_row r c.row then i else first_from (i + 1) cs r n
+first_from i (c ∷ cs) r n = if is_same_row r c.row then i else first_from (i + 1) cs r n
 
 -- rows are ordered by family, then by key
 abbrev pub row_cmp : Row → Row → Ordering

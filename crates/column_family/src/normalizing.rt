@@ -7,7 +7,7 @@ ghost use Rattle.std.specs.BTreeMap.{get, values};
 ghost use Rattle.std.specs.Map.{values_of};
 ghost use Rattle.logical_time.specs.declared.fault.Fault.TheVariants as fault;
 ghost use Rattle.column_family.specs.declared.batch.Row.{Row};
-ghost use Rattle.column_family.specs.Normal.{IsNormal, IsInOrderOf, StandsFor, first_of};
+ghost use Rattle.column_family.specs.Normal.{IsNormal, IsInOrderOf, StandsFor, changes_before};
 ghost use Rattle.column_family.specs.Places as spec;
 
 use crate::batch::{Batch, Change, Mutation, Row};
@@ -27,7 +27,7 @@ struct Place {
 
 /// Where the first change of each row stands.
 fn first_places(alloc: Global, changes: &[Change]) -> Result<BTreeMap<Row, usize>, Fault>
-    ensures exact { IfOk result (λ first. (r : Row) → unwrap_or (get spec.row_cmp first r) (length changes.now) ≡ first_of changes.now r) }
+    ensures exact { IfOk result (λ first. (r : Row) → unwrap_or (get spec.row_cmp first r) (length changes.now) ≡ changes_before changes.now r) }
     ensures memory { IfErr result (λ e. e ≡ fault.Memory) }
 {
     let mut first = BTreeMap::new(alloc);
@@ -87,7 +87,7 @@ fn keep(kept: &mut BTreeMap<Place, Change>, row: usize, change: &Change) -> Resu
 
 /// What is kept of the changes, by place.
 fn keep_all(alloc: Global, changes: &[Change]) -> Result<BTreeMap<Place, Change>, Fault>
-    ensures exact { IfOk result (λ kept. kept.entries ≡ spec.keep_all (first_of changes.now) [] changes.now) }
+    ensures exact { IfOk result (λ kept. kept.entries ≡ spec.keep_all (changes_before changes.now) [] changes.now) }
     ensures memory { IfErr result (λ e. e ≡ fault.Memory) }
 {
     let first = first_places(alloc, changes)?;
@@ -103,7 +103,7 @@ fn keep_all(alloc: Global, changes: &[Change]) -> Result<BTreeMap<Place, Change>
 
 /// The kept changes, in the order of their places.
 fn kept_changes(alloc: Global, batch: &Batch) -> Result<Batch, Fault>
-    ensures exact { IfOk result (λ kept. kept ≡ values_of (spec.keep_all (first_of batch.now) [] batch.now)) }
+    ensures exact { IfOk result (λ kept. kept ≡ values_of (spec.keep_all (changes_before batch.now) [] batch.now)) }
     ensures memory { IfErr result (λ e. e ≡ fault.Memory) }
 {
     let kept = keep_all(alloc, batch.as_slice())?;

@@ -12,7 +12,7 @@ use Rattle.column_family.specs.declared.batch.Change.{Change}
 use Rattle.column_family.specs.declared.batch.Committed.{Committed}
 use Rattle.column_family.specs.declared.batch.Mutation.{Mutation}
 use Rattle.column_family.specs.declared.batch.Mutation.TheVariants.{Insert, DeleteColumn, DeleteRow, DeleteRange}
-use Rattle.column_family.specs.Location.{Location, is_row, touches, touches_name}
+use Rattle.column_family.specs.Location.{Location, is_same_row, touches, touches_name}
 use Rattle.column_family.specs.Normal.{IsBelow}
 use Rattle.column_family.specs.History.{History, Stamped, stamped, newer_of, last_of, newest, inserted, value_of}
 use Rattle.slice.specs.declared.column.Column.{Column}
@@ -58,7 +58,7 @@ among_last : (r : Row) (q v : List ℕ) (m : Mutation) → inserted m ≡ Some v
     → is_among q (cons_option (column_changed r c) ns) ≡ true
 among_last r q v m i (Some n) b c ns t e h = among_more q (column_changed r c) ns (h e)
 among_last r q v m i None true c ns t e h =
-    let same : c.mutation ≡ m = cc in among_inserted q v ns (is_row r c.row) c.mutation t (ap inserted same ∙ i)
+    let same : c.mutation ≡ m = cc in among_inserted q v ns (is_same_row r c.row) c.mutation t (ap inserted same ∙ i)
 among_last r q v m i None false c ns t e h = absurd (cc)
 
 among_batch : (r : Row) (q v : List ℕ) (m : Mutation) → inserted m ≡ Some v → (cs : List Change) → last_of (touches (at r q)) cs ≡ Some m

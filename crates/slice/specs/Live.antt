@@ -8,7 +8,7 @@ use Rattle.column_family.specs.declared.batch.Row.{Row}
 use Rattle.column_family.specs.declared.batch.Change.{Change}
 use Rattle.column_family.specs.declared.batch.Mutation.{Mutation}
 use Rattle.column_family.specs.declared.batch.Mutation.TheVariants.{Insert, DeleteColumn, DeleteRow, DeleteRange}
-use Rattle.column_family.specs.Location.{is_row}
+use Rattle.column_family.specs.Location.{is_same_row}
 use Rattle.column_family.specs.History.{History, newest, value_of}
 use Rattle.slice.specs.declared.column.Column.{Column}
 
@@ -36,7 +36,7 @@ column_named (DeleteRange start finish) = None
 
 -- the column of this row that a change inserts or deletes
 abbrev pub column_changed : Row → Change → Option (List ℕ)
-column_changed r c = if is_row r c.row then column_named c.mutation else None
+column_changed r c = if is_same_row r c.row then column_named c.mutation else None
 
 -- the columns of the row that a history ever inserts or deletes, in name order, each once
 abbrev pub columns_changed : History → Row → List (List ℕ)

@@ -11,7 +11,7 @@ use Rattle.column_family.specs.declared.batch.Change.{Change}
 use Rattle.column_family.specs.declared.batch.Committed.{Committed}
 use Rattle.column_family.specs.declared.batch.Mutation.{Mutation}
 use Rattle.column_family.specs.declared.batch.Mutation.TheVariants.{Insert, DeleteColumn, DeleteRow, DeleteRange}
-use Rattle.column_family.specs.Location.{Location, is_row, is_column_change, changes_name}
+use Rattle.column_family.specs.Location.{Location, is_same_row, is_column_change, changes_name}
 use Rattle.column_family.specs.History.{History, Stamped, newer_of, newest_of, last_of, stamped}
 use Rattle.slice.specs.Live.{columns_changed, column_changed, column_named, in_name_order}
 use Rattle.slice.proofs.Selected.{any_in_order}
@@ -41,7 +41,7 @@ any_changed : (r : Row) (q : List ℕ) (cs : List Change) → is_named q (filter
 any_changed r q [] = refl
 any_changed r q (c ∷ cs) =
     any_cons_option (λ n. bytes_eq n q) (column_changed r c) (filter_map (column_changed r) cs)
-    ∙ ap (λ b. b || is_named q (filter_map (column_changed r) cs)) (changed_alike q (is_row r c.row) c.mutation)
+    ∙ ap (λ b. b || is_named q (filter_map (column_changed r) cs)) (changed_alike q (is_same_row r c.row) c.mutation)
     ∙ ap (λ b. is_column_change (column_at r q) c || b) (any_changed r q cs)
 
 or_last : (b c : Bool) → (b || c) ≡ (c || b)

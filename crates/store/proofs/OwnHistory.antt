@@ -9,7 +9,7 @@ use Rattle.column_family.specs.declared.batch.Row.{Row}
 use Rattle.column_family.specs.declared.batch.Change.{Change}
 use Rattle.column_family.specs.declared.batch.Committed.{Committed}
 use Rattle.column_family.specs.declared.batch.Mutation.{Mutation}
-use Rattle.column_family.specs.Location.{Location, is_row, touches, touches_name, is_column_change, changes_name, is_row_deletion, deletes_row}
+use Rattle.column_family.specs.Location.{Location, is_same_row, touches, touches_name, is_column_change, changes_name, is_row_deletion, deletes_row}
 use Rattle.column_family.specs.History.{History, Stamped, newer_of, newest_of, last_of, stamped, stamp_of, newest, value_of}
 use Rattle.slice.specs.declared.column.Column.{Column}
 use Rattle.slice.specs.declared.predicate.Predicate.{Predicate}
@@ -24,7 +24,7 @@ use Rattle.store.proofs.Changed.{column_at}
 
 -- the test passes changes of the row alone
 abbrev pub IsOfRow : Row → (Change → Bool) → Type 0
-IsOfRow r p = (c : Change) → is_row r c.row ≡ false → p c ≡ false
+IsOfRow r p = (c : Change) → is_same_row r c.row ≡ false → p c ≡ false
 
 last_by : (p : Change → Bool) (own : Bool) (c : Change) (cs ds : List Change) → (own ≡ false → p c ≡ false) → last_of p ds ≡ last_of p cs
     → last_of p (cond own (c ∷ ds) ds) ≡ last_of p (c ∷ cs)
@@ -37,7 +37,7 @@ last_by p false c cs ds not e = e ∙ rw (not refl) (also (last_of p cs))
 
 last_own : (r : Row) (p : Change → Bool) → IsOfRow r p → (cs : List Change) → last_of p (own_changes r cs) ≡ last_of p cs
 last_own r p of [] = refl
-last_own r p of (c ∷ cs) = last_by p (is_row r c.row) c cs (own_changes r cs) (of c) (last_own r p of cs)
+last_own r p of (c ∷ cs) = last_by p (is_same_row r c.row) c cs (own_changes r cs) (of c) (last_own r p of cs)
 
 -- the own changes as an entry, if there are any
 abbrev entry_if : Bool → Row → Applied → Option Committed
@@ -69,15 +69,15 @@ of_row r true t e = cc
 of_row r false t e = refl
 
 pub touches_of_row : (r : Row) (q : List ℕ) → IsOfRow r (touches (column_at r q))
-touches_of_row r q c e = of_row r (is_row r c.row) (touches_name c.mutation q) e
+touches_of_row r q c e = of_row r (is_same_row r c.row) (touches_name c.mutation q) e
 
 pub column_of_row : (r : Row) (q : List ℕ) → IsOfRow r (is_column_change (column_at r q))
-column_of_row r q c e = of_row r (is_row r c.row) (changes_name c.mutation q) e
+column_of_row r q c e = of_row r (is_same_row r c.row) (changes_name c.mutation q) e
 
 pub deletion_of_row : (r : Row) → IsOfRow r (is_row_deletion r)
-deletion_of_row r c e = of_row r (is_row r c.row) (deletes_row c.mutation) e
+deletion_of_row r c e = of_row r (is_same_row r c.row) (deletes_row c.mutation) e
 
-changed_by : (r : Row) (own : Bool) (c : Change) (cs ds : List Change) → is_row r c.row ≡ own
+changed_by : (r : Row) (own : Bool) (c : Change) (cs ds : List Change) → is_same_row r c.row ≡ own
     → filter_map (column_changed r) ds ≡ filter_map (column_changed r) cs
     → filter_map (column_changed r) (cond own (c ∷ ds) ds) ≡ cons_option (if own then column_named c.mutation else None) (filter_map (column_changed r) cs)
 changed_by r true c cs ds is e = rw is (ap (cons_option (column_named c.mutation)) e)
@@ -85,7 +85,7 @@ changed_by r false c cs ds is e = e
 
 changed_own : (r : Row) (cs : List Change) → filter_map (column_changed r) (own_changes r cs) ≡ filter_map (column_changed r) cs
 changed_own r [] = refl
-changed_own r (c ∷ cs) = changed_by r (is_row r c.row) c cs (own_changes r cs) refl (changed_own r cs)
+changed_own r (c ∷ cs) = changed_by r (is_same_row r c.row) c cs (own_changes r cs) refl (changed_own r cs)
 
 none_changed : (r : Row) (cs : List Change) → nat_lt 0 (length cs) ≡ false → filter_map (column_changed r) cs ≡ []
 none_changed r [] e = refl

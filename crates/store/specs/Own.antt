@@ -6,7 +6,7 @@ use Rattle.logical_time.specs.Stamps.{StampValue, WriterValue, stamp_cmp}
 use Rattle.column_family.specs.declared.batch.Row.{Row}
 use Rattle.column_family.specs.declared.batch.Change.{Change}
 use Rattle.column_family.specs.declared.batch.Committed.{Committed}
-use Rattle.column_family.specs.Location.{is_row, is_row_deletion}
+use Rattle.column_family.specs.Location.{is_same_row, is_row_deletion}
 use Rattle.column_family.specs.History.{History, newest_of, newest, stamp_of}
 use Rattle.slice.specs.declared.column.Column.{Column}
 use Rattle.slice.specs.declared.predicate.Predicate.{Predicate}
@@ -15,7 +15,7 @@ use Rattle.store.specs.declared.store.Applied.{Applied}
 
 -- the row's own changes
 abbrev pub own_changes : Row → List Change → List Change
-own_changes r changes = filter (λ c. is_row r c.row) changes
+own_changes r changes = filter (λ c. is_same_row r c.row) changes
 
 -- the row's own changes of a part, if there are any
 abbrev pub own_entry : Row → Applied → Option Committed

@@ -1,7 +1,7 @@
 //! What a store answers of a row, found in the plain list of what was applied.
 ghost use Rattle.std.specs.Prelude.{◌≡◌, ◌++◌, [], max, IfOk, IfErr, OnOk, filter, filter_map, option_map, map};
 ghost use Rattle.std.specs.List.{list_any};
-ghost use Rattle.column_family.specs.Location.{is_row};
+ghost use Rattle.column_family.specs.Location.{is_same_row};
 ghost use Rattle.column_family.specs.Newest.{seen};
 ghost use Rattle.slice.specs.Live as live;
 ghost use Rattle.std.specs.Prelude.{Contains};
@@ -20,7 +20,7 @@ use std::alloc::{AllocError, Global};
 
 // Whether the change is one of the row.
 fn is_own(row: &Row, change: &Change) -> bool
-    ensures { result ≡ is_row row.now change.now.row }
+    ensures { result ≡ is_same_row row.now change.now.row }
 {
     change.row == *row
 }

@@ -52,6 +52,10 @@ Drains None old told new = (told ≡ None) × (new ≡ old)
 Drains (Some (Batch batch)) old told new = (e : Entry) × (told ≡ Some e) × (new.open_op ≡ None) × Writes batch (record old { open_op = None }) e new
 Drains (Some (Asks read)) old told new = (e : Entry) × (told ≡ Some e) × (new.open_op ≡ None) × Reads read (record old { open_op = None }) e new
 
+-- no event moves the session's clock by more than 2, or the shard's past it
+abbrev pub KeepsPace : Runner → Runner → Type 0
+KeepsPace old new = (new.shard ≤ new.session) × (new.session ≤ old.session + 2)
+
 -- the runner goes on as a transcript may go on that tells this of the event
 abbrev pub GoesOn : List (List ℕ) → Event → Runner → Option Entry → Runner → Type 0
 GoesOn schema event old told new =

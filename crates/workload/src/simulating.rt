@@ -1,5 +1,5 @@
 //! A script is run by one session and one shard, each with its clock.
-ghost use Rattle.std.specs.Prelude.{◌≡◌, ◌≤◌, [], ◌++◌, ◌∷◌, IfOk, IfErr, OnOk, ◌⊎◌};
+ghost use Rattle.std.specs.Prelude.{◌≡◌, ◌*◌, ◌^◌, ◌≤◌, [], ◌++◌, ◌∷◌, length, IfOk, IfErr, OnOk, IsErrOf, ◌⊎◌};
 ghost use Rattle.store.specs.Part.{history_of};
 ghost use Rattle.table.specs.Meaning.{shown, shown_row};
 ghost use Rattle.workload.specs.Simulation.{IsTranscriptOf, greatest};
@@ -78,10 +78,10 @@ pub struct Runner {
 }
 
 impl Runner {
-    ghost use Rattle.std.specs.Prelude.{◌≡◌, IfOk, IfErr, OnOk, None, [], ◌⊎◌};
+    ghost use Rattle.std.specs.Prelude.{◌≡◌, ◌+◌, ◌^◌, ◌≤◌, IfOk, IfErr, OnOk, IsErrOf, None, [], ◌⊎◌};
     ghost use Rattle.logical_time.specs.Fault.{IsRefusedFor};
     ghost use Rattle.workload.specs.Simulation.{submission_fault};
-    ghost use Rattle.workload.specs.Runner.{Submits, Writes, Reads, Drains, GoesOn};
+    ghost use Rattle.workload.specs.Runner.{Submits, Writes, Reads, Drains, GoesOn, KeepsPace};
 
     /// Both start at 0, with nothing applied.
     fn new(alloc: Global) -> Runner
@@ -90,6 +90,7 @@ impl Runner {
         ensures shard { result.shard ≡ 0 }
         ensures accepted { result.accepted ≡ 0 }
         ensures none_open { result.open_op ≡ None }
+        ensures session { result.session ≡ 0 }
     {
         Runner {
             session: Clock::new(),
@@ -115,6 +116,8 @@ impl Runner {
     fn submit(&mut self, schema: &Schema, op: &Op) -> Result<Option<Entry>, Fault>
         ensures ok { IfOk result (λ told. Submits schema.now op.now self.old told self.new) }
         ensures faults { IfErr result (λ e. (e ≡ Fault.Memory) ⊎ (e ≡ Fault.ClockSpent)) }
+        ensures moved { self.old.shard ≤ self.old.session → OnOk result (KeepsPace self.old self.new) }
+        ensures spent { self.old.shard ≤ self.old.session → IsErrOf result Fault.ClockSpent → 2 ^ 48 ≤ self.old.session + 2 }
     {
         match self.check(schema, op) {
             Ok(()) => {}
@@ -136,6 +139,8 @@ impl Runner {
     fn write(&mut self, alloc: Global, batch: &Batch) -> Result<Entry, Fault>
         ensures ok { IfOk result (λ told. Writes batch.now self.old told self.new) }
         ensures faults { IfErr result (λ e. (e ≡ Fault.Memory) ⊎ (e ≡ Fault.ClockSpent)) }
+        ensures moved { self.old.shard ≤ self.old.session → OnOk result (KeepsPace self.old self.new) }
+        ensures spent { self.old.shard ≤ self.old.session → IsErrOf result Fault.ClockSpent → 2 ^ 48 ≤ self.old.session + 2 }
     {
         let normal = normal(alloc, batch)?;
         let sent = self.session.now();
@@ -169,6 +174,8 @@ impl Runner {
     fn read(&mut self, alloc: Global, read: &Read) -> Result<Entry, Fault>
         ensures ok { IfOk result (λ told. Reads read.now self.old told self.new) }
         ensures faults { IfErr result (λ e. (e ≡ Fault.Memory) ⊎ (e ≡ Fault.ClockSpent)) }
+        ensures moved { self.old.shard ≤ self.old.session → OnOk result (KeepsPace self.old self.new) }
+        ensures spent { self.old.shard ≤ self.old.session → IsErrOf result Fault.ClockSpent → 2 ^ 48 ≤ self.old.session + 2 }
     {
         let (effective, answer) = read_all(alloc, &self.store, self.floor, read)?;
         let sent = self.session.now();
@@ -187,6 +194,8 @@ impl Runner {
     fn drain(&mut self, alloc: Global) -> Result<Option<Entry>, Fault>
         ensures ok { IfOk result (λ told. Drains self.old.open_op self.old told self.new) }
         ensures faults { IfErr result (λ e. (e ≡ Fault.Memory) ⊎ (e ≡ Fault.ClockSpent)) }
+        ensures moved { self.old.shard ≤ self.old.session → OnOk result (KeepsPace self.old self.new) }
+        ensures spent { self.old.shard ≤ self.old.session → IsErrOf result Fault.ClockSpent → 2 ^ 48 ≤ self.old.session + 2 }
     {
         match self.open_op.take() {
             None => Ok(None),
@@ -205,6 +214,8 @@ impl Runner {
     fn step(&mut self, alloc: Global, schema: &Schema, event: &Event) -> Result<Option<Entry>, Fault>
         ensures ok { IfOk result (λ told. GoesOn schema.now event.now self.old told self.new) }
         ensures faults { IfErr result (λ e. (e ≡ Fault.Memory) ⊎ (e ≡ Fault.ClockSpent)) }
+        ensures moved { self.old.shard ≤ self.old.session → OnOk result (KeepsPace self.old self.new) }
+        ensures spent { self.old.shard ≤ self.old.session → IsErrOf result Fault.ClockSpent → 2 ^ 48 ≤ self.old.session + 2 }
     {
         match event {
             Event::Submit(op) => {
@@ -224,6 +235,7 @@ impl Runner {
 pub fn simulate(alloc: Global, script: &Script) -> Result<Transcript, Fault>
     ensures ok { IfOk result (IsTranscriptOf script.now) }
     ensures faults { IfErr result (λ e. (e ≡ Fault.Memory) ⊎ (e ≡ Fault.ClockSpent)) }
+    ensures spent { IsErrOf result Fault.ClockSpent → 2 ^ 48 ≤ 2 * length script.now.events }
 {
     let mut runner = Runner::new(alloc);
     let mut transcript = Transcript::new(alloc);

@@ -8,5 +8,5 @@ returns-clause-ok c =
     let items = c.as_slice-event-items.result.now in
     let none : drop c.loop-event.event-index items ≡ [] = drop_all c.loop-event.event-index items (omega arith) in
     let all : items ≡ c.args.script.now.events = c.as_slice-event-items.ensures in
-    let whole = told_whole c.args.script.now.schema items c.loop-event.runner (drop c.loop-event.event-index items) c.loop-event.transcript none c.loop-event.invariant in
+    let whole = told_whole c.args.script.now.schema items c.loop-event.runner (drop c.loop-event.event-index items) c.loop-event.transcript none c.loop-event.invariant.told in
     rw (← all) whole
