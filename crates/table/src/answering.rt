@@ -78,7 +78,7 @@ mod tests {
     use super::*;
     use column_family::{Batch, Change, Family, Mutation, Name, Value};
     use logical_time::{Node, Stamp};
-    use slice::{Keys, Predicate};
+    use slice::{Keys, Names, Predicate};
     use std::test::Fail;
 
     fn time(number: u64) -> Result<Time, Fault> {
@@ -139,7 +139,19 @@ mod tests {
         Ok(history)
     }
 
-    // The read of a range of the one row.
+    // A read of the one row, which asks for it twice.
+    fn read(alloc: Global, predicate: Predicate) -> Result<Read, Fault> {
+        let mut keys = Vec::new(alloc);
+        keys.push(Key::from_slice(alloc, b"k")?)?;
+        keys.push(Key::from_slice(alloc, b"k")?)?;
+        Ok(Read {
+            family: Family::from_slice(alloc, b"f")?,
+            keys: Keys::from_vec(keys),
+            predicate,
+        })
+    }
+
+    // The read of a range.
     fn range(
         alloc: Global,
         start: &str,
@@ -147,18 +159,22 @@ mod tests {
         reversed: bool,
         count: u32,
     ) -> Result<Read, Fault> {
-        let mut keys = Vec::new(alloc);
-        keys.push(Key::from_slice(alloc, b"k")?)?;
-        Ok(Read {
-            family: Family::from_slice(alloc, b"f")?,
-            keys: Keys::from_vec(keys),
-            predicate: Predicate::Range {
-                start: name(alloc, start)?,
-                finish: name(alloc, finish)?,
-                reversed,
-                count,
-            },
-        })
+        let predicate = Predicate::Range {
+            start: name(alloc, start)?,
+            finish: name(alloc, finish)?,
+            reversed,
+            count,
+        };
+        read(alloc, predicate)
+    }
+
+    // The read of these columns.
+    fn listed(alloc: Global, columns: &[&str]) -> Result<Read, Fault> {
+        let mut listed = Vec::new(alloc);
+        for column in columns {
+            listed.push(name(alloc, column)?)?;
+        }
+        read(alloc, Predicate::Names(Names::from_vec(listed)))
     }
 
     // The names of the columns that the read returns, one after the other.
@@ -193,6 +209,22 @@ mod tests {
         assert_eq!(rt;
             names(alloc, &history, 5, &downwards)?.as_slice(),
             b"d".as_slice()
+        );
+        Ok(())
+    }
+
+    #[test]
+    fn listed_columns_come_once_in_name_order(rt: HostRuntime) -> Result<(), Fail> {
+        let alloc = rt.alloc();
+        let history = story(alloc)?;
+        let asked = listed(alloc, &["d", "b", "x", "c", "d"])?;
+        assert_eq!(rt;
+            names(alloc, &history, 4, &asked)?.as_slice(),
+            b"bcd".as_slice()
+        );
+        assert_eq!(rt;
+            names(alloc, &history, 5, &asked)?.as_slice(),
+            b"cd".as_slice()
         );
         Ok(())
     }
