@@ -10,25 +10,25 @@ const TOPOLOGY: &str = r#"{"dcs":1,"shards":1,"families":["f"],"homes":[0],"even
 /// A name, the events of a script, and its transcript.
 const RUNS: [(&str, &str, &str); 6] = [
     (
-        "insert and read back",
+        "insert_and_read_back",
         r#"["submit",0,{"batch":[["f","b",["insert","x","1"]]]}],["drain"],
 ["submit",0,{"read":["f",["b"],{"names":["x"]}]}],["drain"]"#,
         "node 1 op 1 wrote commit 2 stamp 2.0\nnode 1 op 2 read at 2\n  62: 78=31\n",
     ),
     (
-        "read of nothing",
+        "read_of_nothing",
         r#"["submit",0,{"read":["f",["b"],{"names":["x"]}]}],["drain"]"#,
         "node 1 op 1 read at 0\n  62:\n",
     ),
     (
-        "count after deletion",
+        "count_after_deletion",
         r#"["submit",0,{"batch":[["f","b",["insert","b","1"]],["f","b",["insert","c","2"]],["f","b",["insert","d","3"]]]}],["drain"],
 ["submit",0,{"batch":[["f","b",["delete","b"]]]}],["drain"],
 ["submit",0,{"read":["f",["b"],{"range":{"start":"b","finish":"d","count":2}}]}],["drain"]"#,
         "node 1 op 1 wrote commit 2 stamp 2.0\nnode 1 op 2 wrote commit 5 stamp 5.0\nnode 1 op 3 read at 5\n  62: 63=32 64=33\n",
     ),
     (
-        "reversed ranges",
+        "reversed_ranges",
         r#"["submit",0,{"batch":[["f","b",["insert","b","1"]],["f","b",["insert","c","2"]],["f","b",["insert","d","3"]]]}],["drain"],
 ["submit",0,{"read":["f",["b"],{"range":{"start":"d","reversed":true,"count":1}}]}],["drain"],
 ["submit",0,{"read":["f",["b"],{"range":{"start":"a","finish":"c","reversed":true}}]}],["drain"],
@@ -36,13 +36,13 @@ const RUNS: [(&str, &str, &str); 6] = [
         "node 1 op 1 wrote commit 2 stamp 2.0\nnode 1 op 2 read at 2\n  62: 64=33\nnode 1 refused 7\nnode 1 op 3 wrote commit 8 stamp 8.0\n",
     ),
     (
-        "row deletion inside a batch",
+        "row_deletion_inside_batch",
         r#"["submit",0,{"batch":[["f","b",["insert","z","1"]]]}],["drain"],
 ["submit",0,{"batch":[["f","b",["insert","x","2"]],["f","b",["delete_row"]],["f","b",["insert","y",""]]]}],["drain"],
 ["submit",0,{"read":["f",["b","a","b"],{"range":{}}]}],["drain"]"#,
         "node 1 op 1 wrote commit 2 stamp 2.0\nnode 1 op 2 wrote commit 5 stamp 5.0\nnode 1 op 3 read at 5\n  62: 79=\n  61:\n",
     ),
-    ("no events", "", ""),
+    ("no_events", "", ""),
 ];
 
 /// What is written for these events, and what is told of faults.

@@ -225,3 +225,41 @@ fn failing_readers_and_writers(rt: HostRuntime) -> Result<(), Fail> {
     assert_eq!(rt; shown(&errors), "eiger: fault 35 Script\n");
     Ok(())
 }
+
+/// Each refusal, as it is told.
+const REFUSALS: [(Fault, &str); 25] = [
+    (Fault::EmptyBatch, "1 EmptyBatch"),
+    (Fault::UnknownFamily, "2 UnknownFamily"),
+    (Fault::KeyLength, "3 KeyLength"),
+    (Fault::NameLength, "4 NameLength"),
+    (Fault::ValueLength, "5 ValueLength"),
+    (Fault::TooMany, "6 TooMany"),
+    (Fault::RangeOrder, "7 RangeOrder"),
+    (Fault::EmptyRead, "8 EmptyRead"),
+    (Fault::RangeDeletion, "9 RangeDeletion"),
+    (Fault::Busy, "20 Busy"),
+    (Fault::Collected, "21 Collected"),
+    (Fault::ClockSpent, "22 ClockSpent"),
+    (Fault::Memory, "23 Memory"),
+    (Fault::JournalFull, "24 JournalFull"),
+    (Fault::StrangerEnd, "25 StrangerEnd"),
+    (Fault::AlreadyHome, "26 AlreadyHome"),
+    (Fault::UnknownHome, "27 UnknownHome"),
+    (Fault::Oversize, "30 Oversize"),
+    (Fault::UnknownTag, "31 UnknownTag"),
+    (Fault::BadCount, "32 BadCount"),
+    (Fault::TrailingBytes, "33 TrailingBytes"),
+    (Fault::Truncated, "34 Truncated"),
+    (Fault::Script, "35 Script"),
+    (Fault::ReadFailed, "36 ReadFailed"),
+    (Fault::WriteFailed, "37 WriteFailed"),
+];
+
+#[test]
+fn refusals_are_told(rt: HostRuntime) -> Result<(), Fail> {
+    for (fault, told) in REFUSALS {
+        let text = format!(in rt.alloc(); "{fault}")?;
+        assert_eq!(rt; text.as_str(), told);
+    }
+    Ok(())
+}
