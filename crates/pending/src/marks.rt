@@ -1,0 +1,125 @@
+//! The marks, by row and by transaction.
+ghost use Rattle.std.specs.Prelude.{◌≡◌, [], if◌then◌else◌, ◌&&◌, IfOk, OnOk, OnErr, IfErr, Some, None};
+ghost use Rattle.std.specs.Ordering.{is_eq};
+ghost use Rattle.logical_time.specs.declared.fault.Fault.TheVariants as fault;
+ghost use Rattle.logical_time.specs.Stamps.{TxnValue, txn_cmp};
+ghost use Rattle.column_family.specs.declared.batch.Row.{Row};
+ghost use Rattle.pending.specs.Marks.{time_at, is_same_mark, IsNoted, IsLeast, IsBelow};
+
+use crate::row_marks::RowMarks;
+use crate::rows::{below_in, clear_rows, least_in, mark_row};
+use crate::touched::{Touched, note};
+use column_family::Row;
+use logical_time::{Fault, Time, TxnId};
+use std::alloc::Global;
+use std::collections::BTreeMap;
+use std::marker::Model;
+
+/// Marks the row and notes it for the transaction.
+fn mark_noted(
+    alloc: Global,
+    rows: &mut BTreeMap<Row, RowMarks>,
+    touched: &mut BTreeMap<TxnId, Touched>,
+    row: &Row,
+    txn: TxnId,
+    time: Time,
+) -> Result<(), Fault>
+    requires { IsNoted rows.old.entries touched.old.entries }
+    ensures noted { IsNoted rows.new.entries touched.new.entries }
+    ensures ok { OnOk result ((r : Row) (t : TxnValue) → time_at rows.new.entries r t ≡ (if is_same_mark row.now txn r t then Some time else time_at rows.old.entries r t)) }
+    ensures err { OnErr result ((r : Row) (t : TxnValue) → time_at rows.new.entries r t ≡ time_at rows.old.entries r t) }
+    ensures memory { IfErr result (λ e. e ≡ fault.Memory) }
+{
+    note(alloc, touched, row.clone()?, txn)?;
+    mark_row(alloc, rows, row, txn, time)
+}
+
+/// Takes the marks of the transaction away, and its note.
+fn clear_noted(
+    rows: &mut BTreeMap<Row, RowMarks>,
+    touched: &mut BTreeMap<TxnId, Touched>,
+    txn: TxnId,
+)
+    requires { IsNoted rows.old.entries touched.old.entries }
+    ensures noted { IsNoted rows.new.entries touched.new.entries }
+    ensures cleared { (r : Row) (t : TxnValue) → time_at rows.new.entries r t ≡ (if is_eq (txn_cmp txn t) then None else time_at rows.old.entries r t) }
+{
+    if let Some(noted) = touched.remove(&txn) {
+        clear_rows(rows, noted.as_slice(), txn);
+    }
+}
+
+/// The marks of pending transactions on rows, each with its prepare time. A transaction has at most one
+/// mark on a row.
+#[derive(Drop)]
+pub struct Marks {
+    alloc: Global,
+    rows: BTreeMap<Row, RowMarks>,
+    touched: BTreeMap<TxnId, Touched>,
+}
+
+impl Model for Marks {
+    ghost use Rattle.pending.specs.Marks.{MarkList, IsNoted};
+
+    ghost Value = { MarkList };
+
+    ghost view = { λ marks. marks.rows.entries };
+
+    ghost invariant = { λ marks. IsNoted marks.rows.entries marks.touched.entries };
+}
+
+impl Marks {
+    /// No mark.
+    pub fn new(alloc: Global) -> Marks
+        ensures { (r : Row) (t : TxnValue) → time_at result r t ≡ None }
+    {
+        Marks {
+            alloc,
+            rows: BTreeMap::new(alloc),
+            touched: BTreeMap::new(alloc),
+        }
+    }
+
+    /// Marks the row for the transaction with its prepare time. If the transaction has a mark on the row
+    /// already, this time takes the place of the earlier one. Refused with `Memory`, and then every mark
+    /// stays. In the order of log n for n marks.
+    pub fn mark(&mut self, row: &Row, txn: TxnId, time: Time) -> Result<(), Fault>
+        ensures ok { OnOk result ((r : Row) (t : TxnValue) → time_at self.new r t ≡ (if is_same_mark row.now txn r t then Some time else time_at self.old r t)) }
+        ensures err { OnErr result ((r : Row) (t : TxnValue) → time_at self.new r t ≡ time_at self.old r t) }
+        ensures memory { IfErr result (λ e. e ≡ fault.Memory) }
+    {
+        mark_noted(
+            self.alloc,
+            &mut self.rows,
+            &mut self.touched,
+            row,
+            txn,
+            time,
+        )
+    }
+
+    /// Takes away every mark of the transaction, and no other. Takes no memory. In the order of m log n
+    /// for m marks of the transaction among n.
+    pub fn clear(&mut self, txn: TxnId)
+        ensures { (r : Row) (t : TxnValue) → time_at self.new r t ≡ (if is_eq (txn_cmp txn t) then None else time_at self.old r t) }
+    {
+        clear_noted(&mut self.rows, &mut self.touched, txn);
+    }
+
+    /// The least time of a mark on the row, or `None` where the row has no mark. In the order of m + log n
+    /// for m marks on the row among n.
+    pub fn least(&self, row: &Row) -> Option<Time>
+        ensures { IsLeast (time_at self.now row.now) result }
+    {
+        least_in(&self.rows, row)
+    }
+
+    /// The transactions with marks on the row strictly below the time, in the order of their numbers. Its
+    /// one error is `Memory`. In the order of m + log n for m marks on the row among n.
+    pub fn below(&self, row: &Row, time: Time) -> Result<Vec<TxnId>, Fault>
+        ensures ok { IfOk result (λ txns. IsBelow (time_at self.now row.now) time txns.items) }
+        ensures memory { IfErr result (λ e. e ≡ fault.Memory) }
+    {
+        below_in(self.alloc, &self.rows, row, time)
+    }
+}

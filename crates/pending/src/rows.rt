@@ -1,0 +1,116 @@
+//! The marks of each row.
+ghost use Rattle.std.specs.Prelude.{◌≡◌, if◌then◌else◌, [], ◌&&◌, IfOk, OnOk, OnErr, IfErr, Some, None, true};
+ghost use Rattle.std.specs.Ordering.{is_eq};
+ghost use Rattle.std.specs.Map.{lookup};
+ghost use Rattle.logical_time.specs.declared.fault.Fault.TheVariants as fault;
+ghost use Rattle.logical_time.specs.Stamps.{TxnValue, txn_cmp};
+ghost use Rattle.column_family.specs.declared.batch.Row.{Row};
+ghost use Rattle.column_family.specs.Places.{row_cmp};
+ghost use Rattle.pending.specs.Marks.{time_at, marks_of, is_same_mark, is_listed, IsLeast, IsBelow};
+
+use crate::row_marks::RowMarks;
+use column_family::Row;
+use logical_time::{Fault, Time, TxnId};
+use std::alloc::Global;
+use std::collections::BTreeMap;
+
+/// Gives a row without a mark its first.
+fn add_row(
+    alloc: Global,
+    rows: &mut BTreeMap<Row, RowMarks>,
+    row: &Row,
+    txn: TxnId,
+    time: Time,
+) -> Result<(), Fault>
+    requires { lookup (λ k. is_eq (row_cmp row.now k)) rows.old.entries ≡ None }
+    ensures ok { OnOk result ((r : Row) (t : TxnValue) → time_at rows.new.entries r t ≡ (if is_same_mark row.now txn r t then Some time else time_at rows.old.entries r t)) }
+    ensures err { OnErr result (rows.new.entries ≡ rows.old.entries) }
+    ensures memory { IfErr result (λ e. e ≡ fault.Memory) }
+{
+    let mut marks = RowMarks::new(alloc);
+    marks.mark(txn, time)?;
+    rows.insert(row.clone()?, marks)?;
+    Ok(())
+}
+
+/// Gives a row a mark of the transaction, in place of its mark there if it has one.
+pub(crate) fn mark_row(
+    alloc: Global,
+    rows: &mut BTreeMap<Row, RowMarks>,
+    row: &Row,
+    txn: TxnId,
+    time: Time,
+) -> Result<(), Fault>
+    ensures ok { OnOk result ((r : Row) (t : TxnValue) → time_at rows.new.entries r t ≡ (if is_same_mark row.now txn r t then Some time else time_at rows.old.entries r t)) }
+    ensures err { OnErr result ((r : Row) (t : TxnValue) → time_at rows.new.entries r t ≡ time_at rows.old.entries r t) }
+    ensures memory { IfErr result (λ e. e ≡ fault.Memory) }
+{
+    if !rows.contains_key(row) {
+        return add_row(alloc, rows, row, txn, time);
+    }
+    match rows.get_mut(row) {
+        Some(marks) => marks.mark(txn, time),
+        None => Ok(()),
+    }
+}
+
+/// Takes the mark of the transaction from a row, and answers whether the row has no mark left.
+fn clear_mark(rows: &mut BTreeMap<Row, RowMarks>, row: &Row, txn: TxnId) -> bool
+    ensures cleared { (r : Row) (t : TxnValue) → time_at rows.new.entries r t ≡ (if is_same_mark row.now txn r t then None else time_at rows.old.entries r t) }
+    ensures none { result ≡ true → marks_of rows.new.entries row.now ≡ [] }
+{
+    if !rows.contains_key(row) {
+        return false;
+    }
+    match rows.get_mut(row) {
+        Some(marks) => {
+            marks.clear(txn);
+            marks.is_empty()
+        }
+        None => false,
+    }
+}
+
+/// Takes the mark of the transaction from a row, and the row away if it has no mark left.
+pub(crate) fn clear_row(rows: &mut BTreeMap<Row, RowMarks>, row: &Row, txn: TxnId)
+    ensures { (r : Row) (t : TxnValue) → time_at rows.new.entries r t ≡ (if is_same_mark row.now txn r t then None else time_at rows.old.entries r t) }
+{
+    if clear_mark(rows, row, txn) {
+        rows.remove(row);
+    }
+}
+
+/// Takes the marks of the transaction from these rows.
+pub(crate) fn clear_rows(rows: &mut BTreeMap<Row, RowMarks>, touched: &[Row], txn: TxnId)
+    ensures { (r : Row) (t : TxnValue) → time_at rows.new.entries r t ≡ (if is_eq (txn_cmp txn t) && is_listed touched.now r then None else time_at rows.old.entries r t) }
+{
+    for row in touched {
+        clear_row(rows, row, txn);
+    }
+}
+
+/// The least time of a mark in the row.
+pub(crate) fn least_in(rows: &BTreeMap<Row, RowMarks>, row: &Row) -> Option<Time>
+    ensures { IsLeast (time_at rows.now.entries row.now) result }
+{
+    match rows.get(row) {
+        Some(marks) => marks.least(),
+        None => None,
+    }
+}
+
+/// The transactions with marks in the row strictly below the time, in order.
+pub(crate) fn below_in(
+    alloc: Global,
+    rows: &BTreeMap<Row, RowMarks>,
+    row: &Row,
+    time: Time,
+) -> Result<Vec<TxnId>, Fault>
+    ensures ok { IfOk result (λ txns. IsBelow (time_at rows.now.entries row.now) time txns.items) }
+    ensures memory { IfErr result (λ e. e ≡ fault.Memory) }
+{
+    match rows.get(row) {
+        Some(marks) => marks.below(alloc, time),
+        None => Ok(Vec::new(alloc)),
+    }
+}
