@@ -123,3 +123,68 @@ impl Marks {
         below_in(self.alloc, &self.rows, row, time)
     }
 }
+
+#[cfg(test)]
+mod tests {
+    use super::*;
+    use column_family::{Family, Key};
+    use logical_time::Node;
+    use std::alloc::AllocError;
+    use std::test::Fail;
+
+    fn row(alloc: Global, key: &[u8]) -> Result<Row, AllocError> {
+        Ok(Row {
+            family: Family::from_slice(alloc, b"f")?,
+            key: Key::from_slice(alloc, key)?,
+        })
+    }
+
+    fn first_of(session: u16) -> TxnId {
+        TxnId {
+            session: Node::new(session),
+            number: 1,
+        }
+    }
+
+    fn time(number: u64) -> Time {
+        Time::new(number).unwrap_or(Time::zero())
+    }
+
+    #[test]
+    fn marks_are_found_by_row_and_cleared_by_transaction(rt: HostRuntime) -> Result<(), Fail> {
+        let alloc = rt.alloc();
+        let marked = row(alloc, b"a")?;
+        let mut marks = Marks::new(alloc);
+        marks.mark(&marked, first_of(2), time(2))?;
+        marks.mark(&marked, first_of(3), time(5))?;
+        assert_eq!(rt; marks.least(&marked), Some(time(2)));
+        assert_eq!(rt; marks.below(&marked, time(2))?.len(), 0);
+        assert_eq!(rt; marks.below(&marked, time(5))?, vec![in alloc; first_of(2)]?);
+        assert_eq!(rt; marks.below(&marked, time(6))?, vec![in alloc; first_of(2), first_of(3)]?);
+        marks.clear(first_of(2));
+        assert_eq!(rt; marks.least(&marked), Some(time(5)));
+        marks.clear(first_of(3));
+        assert_eq!(rt; marks.least(&marked), None);
+        Ok(())
+    }
+
+    #[test]
+    fn each_row_has_its_own_marks(rt: HostRuntime) -> Result<(), Fail> {
+        let alloc = rt.alloc();
+        let first = row(alloc, b"a")?;
+        let second = row(alloc, b"b")?;
+        let mut marks = Marks::new(alloc);
+        marks.mark(&second, first_of(3), time(4))?;
+        assert_eq!(rt; marks.least(&first), None);
+        marks.mark(&first, first_of(3), time(7))?;
+        marks.mark(&first, first_of(3), time(6))?;
+        marks.mark(&first, first_of(2), time(8))?;
+        assert_eq!(rt; marks.least(&first), Some(time(6)));
+        assert_eq!(rt; marks.least(&second), Some(time(4)));
+        assert_eq!(rt; marks.below(&first, time(9))?, vec![in alloc; first_of(2), first_of(3)]?);
+        marks.clear(first_of(3));
+        assert_eq!(rt; marks.least(&first), Some(time(8)));
+        assert_eq!(rt; marks.least(&second), None);
+        Ok(())
+    }
+}
