@@ -1,5 +1,5 @@
 -- Marks on rows: which transactions have one, and their times.
-use Rattle.std.specs.Prelude.{◌≡◌, ◌↔◌, ℕ, ◌<◌, ◌≤◌, Bool, ◌&&◌, List, [], Option, Some, None, unwrap_or, IsSome}
+use Rattle.std.specs.Prelude.{◌≡◌, ◌↔◌, ℕ, ◌<◌, ◌≤◌, Bool, true, ◌&&◌, List, [], Option, Some, None, unwrap_or, IsSome}
 use Rattle.std.specs.Ordering.{is_eq}
 use Rattle.std.specs.declared.cmp.Ordering.{Ordering}
 use Rattle.std.specs.Map.{lookup}
@@ -47,7 +47,7 @@ is_listed rows r = list_any (λ s. is_eq (row_cmp r s)) rows
 
 -- each row with a mark of a transaction is noted for it
 abbrev pub IsNoted : MarkList → List (TxnValue × List Row) → Type 0
-IsNoted ms ts = (r : Row) (t : TxnValue) → IsSome (time_at ms r t) → Contains (rows_of ts t) r
+IsNoted ms ts = (r : Row) (t : TxnValue) → IsSome (time_at ms r t) → is_listed (rows_of ts t) r ≡ true
 
 -- the least of the times, if there is one
 abbrev pub IsLeast : (TxnValue → Option ℕ) → Option ℕ → Type 0

@@ -45,7 +45,7 @@ fn clear_noted(
     ensures cleared { (r : Row) (t : TxnValue) → time_at rows.new.entries r t ≡ (if is_eq (txn_cmp txn t) then None else time_at rows.old.entries r t) }
 {
     if let Some(noted) = touched.remove(&txn) {
-        clear_rows(rows, noted.as_slice(), txn);
+        clear_rows(rows, noted.rows(), txn);
     }
 }
 
@@ -159,8 +159,14 @@ mod tests {
         marks.mark(&marked, first_of(3), time(5))?;
         assert_eq!(rt; marks.least(&marked), Some(time(2)));
         assert_eq!(rt; marks.below(&marked, time(2))?.len(), 0);
-        assert_eq!(rt; marks.below(&marked, time(5))?, vec![in alloc; first_of(2)]?);
-        assert_eq!(rt; marks.below(&marked, time(6))?, vec![in alloc; first_of(2), first_of(3)]?);
+        assert_eq!(rt;
+            marks.below(&marked, time(5))?,
+            vec![in alloc; first_of(2)]?
+        );
+        assert_eq!(rt;
+            marks.below(&marked, time(6))?,
+            vec![in alloc; first_of(2), first_of(3)]?
+        );
         marks.clear(first_of(2));
         assert_eq!(rt; marks.least(&marked), Some(time(5)));
         marks.clear(first_of(3));
@@ -181,7 +187,10 @@ mod tests {
         marks.mark(&first, first_of(2), time(8))?;
         assert_eq!(rt; marks.least(&first), Some(time(6)));
         assert_eq!(rt; marks.least(&second), Some(time(4)));
-        assert_eq!(rt; marks.below(&first, time(9))?, vec![in alloc; first_of(2), first_of(3)]?);
+        assert_eq!(rt;
+            marks.below(&first, time(9))?,
+            vec![in alloc; first_of(2), first_of(3)]?
+        );
         marks.clear(first_of(3));
         assert_eq!(rt; marks.least(&first), Some(time(8)));
         assert_eq!(rt; marks.least(&second), None);

@@ -12,7 +12,7 @@ use crate::row_marks::RowMarks;
 use column_family::Row;
 use logical_time::{Fault, Time, TxnId};
 use std::alloc::Global;
-use std::collections::BTreeMap;
+use std::collections::{BTreeMap, BTreeSet};
 
 /// Gives a row without a mark its first.
 fn add_row(
@@ -81,10 +81,10 @@ pub(crate) fn clear_row(rows: &mut BTreeMap<Row, RowMarks>, row: &Row, txn: TxnI
 }
 
 /// Takes the marks of the transaction from these rows.
-pub(crate) fn clear_rows(rows: &mut BTreeMap<Row, RowMarks>, touched: &[Row], txn: TxnId)
-    ensures { (r : Row) (t : TxnValue) → time_at rows.new.entries r t ≡ (if is_eq (txn_cmp txn t) && is_listed touched.now r then None else time_at rows.old.entries r t) }
+pub(crate) fn clear_rows(rows: &mut BTreeMap<Row, RowMarks>, touched: &BTreeSet<Row>, txn: TxnId)
+    ensures { (r : Row) (t : TxnValue) → time_at rows.new.entries r t ≡ (if is_eq (txn_cmp txn t) && is_listed touched.now.keys r then None else time_at rows.old.entries r t) }
 {
-    for row in touched {
+    for row in touched.iter() {
         clear_row(rows, row, txn);
     }
 }

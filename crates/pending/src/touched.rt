@@ -1,23 +1,22 @@
 //! The rows of each transaction.
-ghost use Rattle.std.specs.Prelude.{◌≡◌, [], ◌∷◌, ◌++◌, OnOk, OnErr, IfErr, None};
+ghost use Rattle.std.specs.Prelude.{◌≡◌, [], true, OnOk, IfErr, None};
 ghost use Rattle.std.specs.Ordering.{is_eq};
-ghost use Rattle.std.specs.List.{Contains};
 ghost use Rattle.std.specs.Map.{lookup};
 ghost use Rattle.logical_time.specs.declared.fault.Fault.TheVariants as fault;
 ghost use Rattle.logical_time.specs.Stamps.{TxnValue, txn_cmp};
 ghost use Rattle.column_family.specs.declared.batch.Row.{Row};
-ghost use Rattle.pending.specs.Marks.{rows_of};
+ghost use Rattle.pending.specs.Marks.{rows_of, is_listed};
 
 use column_family::Row;
 use logical_time::{Fault, TxnId};
 use std::alloc::Global;
-use std::collections::BTreeMap;
+use std::collections::{BTreeMap, BTreeSet};
 use std::marker::Model;
 
 /// The rows in which a transaction may have marks.
 #[derive(Drop)]
 pub(crate) struct Touched {
-    rows: Vec<Row>,
+    rows: BTreeSet<Row>,
 }
 
 impl Model for Touched {
@@ -26,7 +25,17 @@ impl Model for Touched {
 
     ghost Value = { List Row };
 
-    ghost view = { λ touched. touched.rows.items };
+    ghost view = { λ touched. touched.rows.keys };
+}
+
+/// Adds a row to a set.
+fn add_row(rows: &mut BTreeSet<Row>, row: Row) -> Result<(), Fault>
+    ensures kept { (r : Row) → is_listed rows.old.keys r ≡ true → is_listed rows.new.keys r ≡ true }
+    ensures ok { OnOk result (is_listed rows.new.keys row ≡ true) }
+    ensures memory { IfErr result (λ e. e ≡ fault.Memory) }
+{
+    rows.insert(row)?;
+    Ok(())
 }
 
 impl Touched {
@@ -35,25 +44,24 @@ impl Touched {
         ensures { result ≡ [] }
     {
         Touched {
-            rows: Vec::new(alloc),
+            rows: BTreeSet::new(alloc),
         }
     }
 
-    /// Adds a row at the end.
-    fn push(&mut self, row: Row) -> Result<(), Fault>
-        ensures ok { OnOk result (self.new ≡ self.old ++ row ∷ []) }
-        ensures err { OnErr result (self.new ≡ self.old) }
+    /// Adds a row.
+    fn add(&mut self, row: Row) -> Result<(), Fault>
+        ensures kept { (r : Row) → is_listed self.old r ≡ true → is_listed self.new r ≡ true }
+        ensures ok { OnOk result (is_listed self.new row ≡ true) }
         ensures memory { IfErr result (λ e. e ≡ fault.Memory) }
     {
-        self.rows.push(row)?;
-        Ok(())
+        add_row(&mut self.rows, row)
     }
 
     /// The rows.
-    pub(crate) fn as_slice(&self) -> &[Row]
-        ensures { result.now ≡ self.now }
+    pub(crate) fn rows(&self) -> &BTreeSet<Row>
+        ensures { result.now.keys ≡ self.now }
     {
-        self.rows.as_slice()
+        &self.rows
     }
 }
 
@@ -65,12 +73,12 @@ fn note_first(
     txn: TxnId,
 ) -> Result<(), Fault>
     requires { lookup (λ t. is_eq (txn_cmp txn t)) touched.old.entries ≡ None }
-    ensures kept { (t : TxnValue) (r : Row) → Contains (rows_of touched.old.entries t) r → Contains (rows_of touched.new.entries t) r }
-    ensures ok { OnOk result (Contains (rows_of touched.new.entries txn) row) }
+    ensures kept { (t : TxnValue) (r : Row) → is_listed (rows_of touched.old.entries t) r ≡ true → is_listed (rows_of touched.new.entries t) r ≡ true }
+    ensures ok { OnOk result (is_listed (rows_of touched.new.entries txn) row ≡ true) }
     ensures memory { IfErr result (λ e. e ≡ fault.Memory) }
 {
     let mut rows = Touched::new(alloc);
-    rows.push(row)?;
+    rows.add(row)?;
     touched.insert(txn, rows)?;
     Ok(())
 }
@@ -82,15 +90,15 @@ pub(crate) fn note(
     row: Row,
     txn: TxnId,
 ) -> Result<(), Fault>
-    ensures kept { (t : TxnValue) (r : Row) → Contains (rows_of touched.old.entries t) r → Contains (rows_of touched.new.entries t) r }
-    ensures ok { OnOk result (Contains (rows_of touched.new.entries txn) row) }
+    ensures kept { (t : TxnValue) (r : Row) → is_listed (rows_of touched.old.entries t) r ≡ true → is_listed (rows_of touched.new.entries t) r ≡ true }
+    ensures ok { OnOk result (is_listed (rows_of touched.new.entries txn) row ≡ true) }
     ensures memory { IfErr result (λ e. e ≡ fault.Memory) }
 {
     if !touched.contains_key(&txn) {
         return note_first(alloc, touched, row, txn);
     }
     match touched.get_mut(&txn) {
-        Some(rows) => rows.push(row),
+        Some(rows) => rows.add(row),
         None => Ok(()),
     }
 }

@@ -1,10 +1,12 @@
-use Rattle.std.proofs.Common.{◌+◌, ◌∙◌, ap, sym, ◌++◌, [], ◌∷◌, take}
-use Rattle.std.proofs.lemmas.List.{take_more}
-use Rattle.column_family.specs.declared.batch.Row.{Row}
+use Rattle.std.proofs.Common.{None}
+use Rattle.std.specs.Prelude.{if◌then◌else◌, ◌&&◌}
+use Rattle.std.specs.Ordering.{is_eq}
+use Rattle.logical_time.specs.Stamps.{txn_cmp}
+use Rattle.pending.specs.Marks.{time_at, is_listed}
 use Rattle.pending.proofs.Noted.{cleared_more}
 use Rattle.pending.proofs.rows.clear_rows.Goals as goal
 
 pub loop-row-preserved : goal.loop-row-preserved
 loop-row-preserved c =
-    let e = take_more c.args.touched.now c.loop-row.row-index c.row-item.result c.loop-row-test.true in
-    cleared_more c.args.rows.now.entries c.loop-row.rows.entries c.clear_row.new.rows.entries c.args.txn (take c.loop-row.row-index c.args.touched.now) (take (c.loop-row.row-index + 1) c.args.touched.now) c.row-item.result (e ∙ ap (λ (r : Row). take c.loop-row.row-index c.args.touched.now ++ r ∷ []) (sym c.row-item.is)) c.loop-row.invariant c.clear_row.ensures
+    cleared_more c.loop-row.rows.entries c.clear_row.new.rows.entries (λ r t. if is_eq (txn_cmp c.args.txn t) && is_listed c.args.touched.now.keys r then None else time_at c.args.rows.now.entries r t)
+    c.args.txn c.loop-row.row-iterator c.next.new.self c.in-Some.row.now c.in-Some.ensures.steps c.loop-row.invariant c.clear_row.ensures
