@@ -15,7 +15,8 @@ use std::alloc::Global;
 use std::collections::BTreeMap;
 use std::marker::Model;
 
-/// Marks the row and notes it for the transaction.
+/// Marks the row and notes it for the transaction. A refused mark may leave the row noted, since a note
+/// says only that there may be a mark.
 fn mark_noted(
     alloc: Global,
     rows: &mut BTreeMap<Row, RowMarks>,
@@ -99,7 +100,7 @@ impl Marks {
     }
 
     /// Takes away every mark of the transaction, and no other. Takes no memory. In the order of m log n
-    /// for m marks of the transaction among n.
+    /// for m rows that were marked for the transaction among n marks.
     pub fn clear(&mut self, txn: TxnId)
         ensures { (r : Row) (t : TxnValue) → time_at self.new r t ≡ (if is_eq (txn_cmp txn t) then None else time_at self.old r t) }
     {
