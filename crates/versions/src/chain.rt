@@ -1,0 +1,119 @@
+//! Chains of versions.
+ghost use Rattle.std.specs.Prelude.{◌≡◌, ◌+◌, ◌-◌, ◌≤◌, ◌<◌, [], length, slice_get, IfOk, OnOk, OnErr, IfErr, IsOk, is_ok, is_some, if◌then◌else◌, remove};
+ghost use Rattle.std.specs.Option.{option_copied};
+
+use crate::searching::{interval_at, newest_at, place_of};
+use crate::version::Version;
+use logical_time::{Fault, Time};
+use std::alloc::Global;
+use std::marker::Model;
+
+/// The versions of a column, or of the deletions of a row, each stamp at most once. A version's place is
+/// counted from the greatest stamp, which stands at place 0.
+#[derive(Drop, Debug)]
+pub struct Chain {
+    versions: Vec<Version>,
+}
+
+impl Model for Chain {
+    ghost use Rattle.std.specs.Prelude.{◌-◌, vec_len, vec_capacity};
+    ghost use Rattle.versions.specs.Chain.{Held, IsFalling};
+
+    ghost Value = { Held };
+
+    ghost view = { λ c. record { versions = c.versions.items; room = vec_capacity c.versions - vec_len c.versions } };
+
+    ghost invariant = { λ c. IsFalling c.versions.items };
+}
+
+impl Chain {
+    ghost use Rattle.std.specs.Prelude.{◌^◌};
+    ghost use Rattle.versions.specs.Chain.{put_of, at_of, interval_of};
+
+    /// A chain without a version.
+    pub fn new(alloc: Global) -> Chain
+        ensures { result.versions ≡ [] }
+    {
+        Chain {
+            versions: Vec::new(alloc),
+        }
+    }
+
+    /// How many versions are held.
+    pub fn len(&self) -> usize
+        ensures { result ≡ length self.now.versions }
+    {
+        self.versions.len()
+    }
+
+    /// Makes room for so many more versions, so that the next `additional` puts succeed if no other changing
+    /// call stands between. What is held stays. Refused with `Memory` alone.
+    pub fn reserve(&mut self, additional: usize) -> Result<(), Fault>
+        ensures same { self.new.versions ≡ self.old.versions }
+        ensures ok { OnOk result (additional ≤ self.new.room) }
+        ensures room { self.old.room ≤ self.new.room }
+        ensures memory { IfErr result (λ e. e ≡ Fault.Memory) }
+    {
+        match self.versions.reserve(additional) {
+            Ok(()) => Ok(()),
+            Err(_) => Err(Fault::Memory),
+        }
+    }
+
+    /// Puts a version in its place, in any order of stamps; a stamp that is held already changes nothing. Takes
+    /// as many steps as versions are held. Refused with `Memory` alone, never where there is room, and then the
+    /// version comes back and the chain stays.
+    #[tactic(auto, using(crate::proofs::Falling::falling_put))]
+    pub fn put(&mut self, version: Version) -> Result<(), (Fault, Version)>
+        ensures ok { OnOk result (self.new.versions ≡ put_of self.old.versions version) }
+        ensures room { self.old.room ≤ self.new.room + (if is_ok result then 1 else 0) }
+        ensures succeeds { 0 < self.old.room → IsOk result }
+        ensures err { OnErr result (self.new.versions ≡ self.old.versions) }
+        ensures back { IfErr result (λ e. e ≡ (Fault.Memory, version)) }
+    {
+        match place_of(self.versions.as_slice(), &version) {
+            None => Ok(()),
+            Some(place) => match self.versions.insert(place, version) {
+                Ok(()) => Ok(()),
+                Err(refused) => Err((Fault::Memory, refused.value)),
+            },
+        }
+    }
+
+    /// The newest version: that of the greatest stamp.
+    pub fn newest(&self) -> Option<&Version>
+        ensures first { option_copied result ≡ slice_get self.now.versions 0 }
+    {
+        self.versions.first()
+    }
+
+    /// The newest version at the time: that of the greatest stamp among those that are seen by then. Takes at
+    /// most as many steps as versions are held.
+    pub fn at(&self, time: Time) -> Option<&Version>
+        ensures exact { option_copied result ≡ at_of self.now.versions time }
+    {
+        newest_at(self.versions.as_slice(), time)
+    }
+
+    /// The first and the last time at which the version at this place is the newest of those held; none where
+    /// it is at no time, or where there is no such version. The last time of the newest version is 2^48 - 1.
+    pub fn interval(&self, place: usize) -> Option<(Time, Time)>
+        ensures exact { result ≡ interval_of (2 ^ 48) self.now.versions place }
+    {
+        interval_at(self.versions.as_slice(), place)
+    }
+
+    /// Takes out the version at this place, if there is one; all others stay.
+    #[tactic(auto, using(crate::proofs::Falling::falling_remove))]
+    pub fn remove(&mut self, place: usize) -> Option<Version>
+        ensures removed { result ≡ slice_get self.old.versions place }
+        ensures left { self.new.versions ≡ remove self.old.versions place }
+        ensures room { self.new.room ≡ self.old.room + (if is_some result then 1 else 0) }
+    {
+        if place < self.versions.len() {
+            Some(self.versions.remove(place))
+        } else {
+            None
+        }
+    }
+}

@@ -1,0 +1,12 @@
+//! The versions of one column, or of one row's deletion, by falling stamp.
+//!
+//! A chain keeps each version under its stamp, whatever the order in which they come, and tells
+//! which of them is the newest, now and at each time. Nothing here knows of rows, shards or stores.
+#![tactic(auto)]
+
+mod chain;
+mod searching;
+mod version;
+
+pub use chain::Chain;
+pub use version::{Version, What};
