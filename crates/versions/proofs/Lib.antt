@@ -1,3 +1,5 @@
 pub mod Tests
+pub mod Members
 pub mod Falling
+pub mod Newest
 pub mod Steps

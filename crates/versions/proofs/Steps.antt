@@ -1,14 +1,7 @@
 -- The steps of the search for an interval.
 use Rattle.std.proofs.Common.{◌≡◌, ℕ, ◌+◌, ◌-◌, ◌<◌, sym, subst, suc, zero, refl, add-one, List, [], ◌∷◌, drop, length, get_or, arith}
-use Rattle.std.specs.Prelude.{nat_lt}
 use Rattle.versions.specs.declared.version.Version.{Version}
-use Rattle.versions.specs.Chain.{interval_of, interval_if, least}
-
-pub interval_here : (i b : ℕ) (xs : List Version) (x : Version) → i < length xs → x ≡ get_or xs i x → interval_of b (drop i xs) 0 ≡ interval_if (nat_lt x.evt b) x.evt b
-interval_here zero b [] x h q = absurd (omega arith)
-interval_here zero b (y ∷ ys) x h q = subst (λ (z : Version). interval_of b (y ∷ ys) 0 ≡ interval_if (nat_lt z.evt b) z.evt b) (sym q) refl
-interval_here (suc i) b [] x h q = absurd (omega arith)
-interval_here (suc i) b (y ∷ ys) x h q = interval_here i b ys x (omega arith) q
+use Rattle.versions.specs.Chain.{interval_of, least}
 
 next_suc : (i b n : ℕ) (xs : List Version) (x : Version) → i < length xs → x ≡ get_or xs i x → interval_of b (drop i xs) (suc n) ≡ interval_of (least b x.evt) (drop (suc i) xs) n
 next_suc zero b n [] x h q = absurd (omega arith)

@@ -13,3 +13,9 @@ older_than_newer s t u h k = grind (arith, nat_tests)
 
 pub newer_if_not : (a b : StampValue) → is_older a b ≡ false → is_eq (stamp_cmp a b) ≡ false → is_older b a ≡ true
 newer_if_not a b h k = grind (arith, nat_tests)
+
+pub not_older_than_itself : (s : StampValue) → is_older s s ≡ false
+not_older_than_itself s = grind (arith, nat_tests)
+
+pub not_newer_too : (s t : StampValue) → is_older s t ≡ true → is_older t s ≡ false
+not_newer_too s t h = grind (arith, nat_tests)

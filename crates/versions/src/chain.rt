@@ -1,5 +1,5 @@
 //! Chains of versions.
-ghost use Rattle.std.specs.Prelude.{◌≡◌, ◌+◌, ◌-◌, ◌≤◌, ◌<◌, [], length, slice_get, IfOk, OnOk, OnErr, IfErr, IsOk, is_ok, is_some, if◌then◌else◌, remove};
+ghost use Rattle.std.specs.Prelude.{◌≡◌, ◌+◌, ◌-◌, ◌≤◌, ◌<◌, [], length, slice_get, IfOk, OnOk, OnErr, IfErr, IsOk, is_ok, is_some, if◌then◌else◌, remove, MatchOption, Contains};
 ghost use Rattle.std.specs.Option.{option_copied};
 
 use crate::searching::{interval_at, newest_at, place_of};
@@ -29,6 +29,7 @@ impl Model for Chain {
 impl Chain {
     ghost use Rattle.std.specs.Prelude.{◌^◌};
     ghost use Rattle.versions.specs.Chain.{put_of, at_of, interval_of};
+    ghost use Rattle.versions.specs.Newest.{IsNewest, IsNewestAt};
 
     /// A chain without a version.
     pub fn new(alloc: Global) -> Chain
@@ -81,16 +82,20 @@ impl Chain {
     }
 
     /// The newest version: that of the greatest stamp.
+    #[tactic(auto, using(crate::proofs::Newest::newest_is_greatest))]
     pub fn newest(&self) -> Option<&Version>
         ensures first { option_copied result ≡ slice_get self.now.versions 0 }
+        ensures greatest { MatchOption (option_copied result) (self.now.versions ≡ []) (IsNewest self.now.versions) }
     {
         self.versions.first()
     }
 
     /// The newest version at the time: that of the greatest stamp among those that are seen by then. Takes at
     /// most as many steps as versions are held.
+    #[tactic(auto, using(crate::proofs::Newest::newest_at_is_greatest))]
     pub fn at(&self, time: Time) -> Option<&Version>
         ensures exact { option_copied result ≡ at_of self.now.versions time }
+        ensures greatest { MatchOption (option_copied result) ((w : Version) → Contains self.now.versions w → time < w.evt) (IsNewestAt self.now.versions time) }
     {
         newest_at(self.versions.as_slice(), time)
     }

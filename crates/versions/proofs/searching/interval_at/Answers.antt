@@ -1,4 +1,4 @@
-use Rattle.std.proofs.Common.{rules, ◌≡◌, ◌∙◌, ◌-◌, ◌<◌, arith}
+use Rattle.std.proofs.Common.{rules, ◌∙◌, ◌<◌, arith}
 use Rattle.std.proofs.lemmas.List.{drop_all}
 use Rattle.versions.proofs.Steps.{interval_next}
 use Rattle.versions.proofs.searching.interval_at.Goals as goal
