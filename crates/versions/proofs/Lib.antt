@@ -2,4 +2,5 @@ pub mod Tests
 pub mod Members
 pub mod Falling
 pub mod Newest
+pub mod Intervals
 pub mod Steps

@@ -1,5 +1,5 @@
 //! Chains of versions.
-ghost use Rattle.std.specs.Prelude.{◌≡◌, ◌+◌, ◌-◌, ◌≤◌, ◌<◌, [], length, slice_get, IfOk, OnOk, OnErr, IfErr, IsOk, is_ok, is_some, if◌then◌else◌, remove, MatchOption, Contains};
+ghost use Rattle.std.specs.Prelude.{◌≡◌, ◌+◌, ◌-◌, ◌≤◌, ◌<◌, [], length, slice_get, IfOk, OnOk, OnErr, IfErr, IsOk, is_ok, is_some, if◌then◌else◌, remove, MatchOption, Contains, IfSome, ℕ, ◌↔◌};
 ghost use Rattle.std.specs.Option.{option_copied};
 
 use crate::searching::{interval_at, newest_at, place_of};
@@ -29,7 +29,7 @@ impl Model for Chain {
 impl Chain {
     ghost use Rattle.std.specs.Prelude.{◌^◌};
     ghost use Rattle.versions.specs.Chain.{put_of, at_of, interval_of};
-    ghost use Rattle.versions.specs.Newest.{IsNewest, IsNewestAt};
+    ghost use Rattle.versions.specs.Newest.{IsNewest, IsNewestAt, IsWithin, IsPlaceNewestAt};
 
     /// A chain without a version.
     pub fn new(alloc: Global) -> Chain
@@ -102,8 +102,11 @@ impl Chain {
 
     /// The first and the last time at which the version at this place is the newest of those held; none where
     /// it is at no time, or where there is no such version. The last time of the newest version is 2^48 - 1.
+    #[tactic(auto, using(crate::proofs::Intervals::interval_is_exact, crate::proofs::Intervals::interval_is_ordered))]
     pub fn interval(&self, place: usize) -> Option<(Time, Time)>
         ensures exact { result ≡ interval_of (2 ^ 48) self.now.versions place }
+        ensures times { (t : ℕ) → IsWithin result t ↔ ((t < 2 ^ 48) × IsPlaceNewestAt self.now.versions place t) }
+        ensures ordered { IfSome result (λ times. times.0 ≤ times.1) }
     {
         interval_at(self.versions.as_slice(), place)
     }

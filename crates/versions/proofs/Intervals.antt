@@ -1,0 +1,86 @@
+-- An interval holds exactly the times at which a version is the newest.
+use Rattle.std.proofs.Common.{◌≡◌, refl, ℕ, zero, suc, ◌≤◌, ◌<◌, ◌-◌, subst, sym, ◌∙◌, true, false, Bool, nat_le, List, [], ◌∷◌, Option, Some, None, arith}
+use Rattle.std.proofs.lemmas.Bool.Decides.{nat_tests}
+use Rattle.std.specs.Prelude.{nat_lt, MatchOption, IfSome, Contains, slice_get, ◌↔◌}
+use Rattle.logical_time.specs.Stamps.{is_older}
+use Rattle.versions.specs.declared.version.Version.{Version}
+use Rattle.versions.specs.Chain.{AreOlder, IsFalling, at_of, least, interval_if, interval_of}
+use Rattle.versions.specs.Newest.{IsNewestAt, IsWithin, IsPlaceNewestAt}
+use Rattle.versions.proofs.Tests.{by_cases, not_older_than_itself}
+use Rattle.versions.proofs.Members.{contains_first, contains_rest, contained_older}
+
+same_value : (a b : Version) → Some a ≡ Some b → a ≡ b
+same_value a b e = cc
+
+-- what is seen in a list is contained in it
+seen_is_contained : (xs : List Version) (t : ℕ) (v : Version) → at_of xs t ≡ Some v → Contains xs v
+seen_is_contained [] t v e = absurd (cc)
+seen_is_contained (x ∷ xs) t v e =
+    by_cases (nat_le x.evt t)
+    (λ le. subst (Contains (x ∷ xs)) (same_value x v (rw le at e)) (contains_first x xs))
+    (λ gt. contains_rest x v xs (seen_is_contained xs t v (rw gt at e)))
+
+-- what stands in a list is contained in it
+placed_is_contained : (xs : List Version) (place : ℕ) (v : Version) → slice_get xs place ≡ Some v → Contains xs v
+placed_is_contained [] place v e = absurd (cc)
+placed_is_contained (x ∷ xs) zero v e = subst (Contains (x ∷ xs)) (same_value x v e) (contains_first x xs)
+placed_is_contained (x ∷ xs) (suc place) v e = contains_rest x v xs (placed_is_contained xs place v e)
+
+-- a version is not among the older ones
+not_among_older : (x : Version) (xs : List Version) → AreOlder x.stamp xs → Contains xs x → ⊥
+not_among_older x xs h c =
+    let older = contained_older x.stamp xs x h c in
+    let not = not_older_than_itself x.stamp in
+    absurd (cc)
+
+-- the least bound bounds a time that comes before both
+before_least : (b e t : ℕ) → t < b → nat_le e t ≡ false → t < least b e
+before_least b e t lt gt = by_cases (nat_lt e b) (λ l. rw l (grind (arith, nat_tests, gt))) (λ l. rw l lt)
+
+least_before : (b e t : ℕ) → t < least b e → (t < b) × (nat_le e t ≡ false)
+least_before b e t h =
+    by_cases (nat_lt e b)
+    (λ l. let k = rw l at h in (grind (arith, nat_tests, l, k), grind (arith, nat_tests, l, k)))
+    (λ l. let k = rw l at h in (k, grind (arith, nat_tests, l, k)))
+
+within_if : (b : ℕ) (xs : List Version) (place t : ℕ) → IsFalling xs → t < b → IsPlaceNewestAt xs place t → IsWithin (interval_of b xs place) t
+within_if b [] place t h lt p = p
+within_if b (x ∷ xs) zero t h lt p =
+    by_cases (nat_le x.evt t)
+    (λ le.
+    let before : nat_lt x.evt b ≡ true = grind (arith, nat_tests, le, lt) in
+    rw before (grind (arith, nat_tests, le), omega (arith, lt)))
+    (λ gt. absurd (not_among_older x xs h.0 (seen_is_contained xs t x (rw gt at p))))
+within_if b (x ∷ xs) (suc place) t h lt p =
+    by_cases (nat_le x.evt t)
+    (λ le. absurd (hidden le (slice_get xs place) refl p))
+    (λ gt. within_if (least b x.evt) xs place t h.1 (before_least b x.evt t lt gt) (rw gt at p))
+  where
+    hidden : nat_le x.evt t ≡ true → (o : Option Version) → slice_get xs place ≡ o → MatchOption o ⊥ (λ v. at_of (x ∷ xs) t ≡ Some v) → ⊥
+    hidden le None e m = m
+    hidden le (Some v) e m = not_among_older x xs h.0 (placed_is_contained xs place x (e ∙ sym (rw le at m)))
+
+within_only : (b : ℕ) (xs : List Version) (place t : ℕ) → IsFalling xs → IsWithin (interval_of b xs place) t → (t < b) × IsPlaceNewestAt xs place t
+within_only b [] place t h w = absurd w
+within_only b (x ∷ xs) zero t h w =
+    by_cases (nat_lt x.evt b)
+    (λ lt.
+    let k = rw lt at w in
+    let le : nat_le x.evt t ≡ true = grind (arith, nat_tests, k.0) in
+    (grind (arith, nat_tests, lt, k.1), rw le refl))
+    (λ ge. absurd (rw ge at w))
+within_only b (x ∷ xs) (suc place) t h w =
+    let r = within_only (least b x.evt) xs place t h.1 w in
+    let k = least_before b x.evt t r.0 in
+    (k.0, rw k.1 r.1)
+
+pub interval_is_exact : (b : ℕ) (xs : List Version) (place : ℕ) → IsFalling xs → (t : ℕ) → IsWithin (interval_of b xs place) t ↔ ((t < b) × IsPlaceNewestAt xs place t)
+interval_is_exact b xs place h t = (within_only b xs place t h, λ p. within_if b xs place t h p.0 p.1)
+
+pub interval_is_ordered : (b : ℕ) (xs : List Version) (place : ℕ) → IfSome (interval_of b xs place) (λ times. times.0 ≤ times.1)
+interval_is_ordered b [] place = tt
+interval_is_ordered b (x ∷ xs) zero =
+    by_cases (nat_lt x.evt b)
+    (λ lt. rw lt (grind (arith, nat_tests, lt)))
+    (λ ge. rw ge tt)
+interval_is_ordered b (x ∷ xs) (suc place) = interval_is_ordered (least b x.evt) xs place
