@@ -7,31 +7,7 @@ use Rattle.versions.specs.declared.version.Version.{Version}
 use Rattle.versions.specs.Chain.{AreOlder, IsFalling, at_of, least, interval_if, interval_of}
 use Rattle.versions.specs.Newest.{IsNewestAt, IsWithin, IsPlaceNewestAt}
 use Rattle.versions.proofs.Tests.{by_cases, not_older_than_itself}
-use Rattle.versions.proofs.Members.{contains_first, contains_rest, contained_older}
-
-same_value : (a b : Version) → Some a ≡ Some b → a ≡ b
-same_value a b e = cc
-
--- what is seen in a list is contained in it
-seen_is_contained : (xs : List Version) (t : ℕ) (v : Version) → at_of xs t ≡ Some v → Contains xs v
-seen_is_contained [] t v e = absurd (cc)
-seen_is_contained (x ∷ xs) t v e =
-    by_cases (nat_le x.evt t)
-    (λ le. subst (Contains (x ∷ xs)) (same_value x v (rw le at e)) (contains_first x xs))
-    (λ gt. contains_rest x v xs (seen_is_contained xs t v (rw gt at e)))
-
--- what stands in a list is contained in it
-placed_is_contained : (xs : List Version) (place : ℕ) (v : Version) → slice_get xs place ≡ Some v → Contains xs v
-placed_is_contained [] place v e = absurd (cc)
-placed_is_contained (x ∷ xs) zero v e = subst (Contains (x ∷ xs)) (same_value x v e) (contains_first x xs)
-placed_is_contained (x ∷ xs) (suc place) v e = contains_rest x v xs (placed_is_contained xs place v e)
-
--- a version is not among the older ones
-not_among_older : (x : Version) (xs : List Version) → AreOlder x.stamp xs → Contains xs x → ⊥
-not_among_older x xs h c =
-    let older = contained_older x.stamp xs x h c in
-    let not = not_older_than_itself x.stamp in
-    absurd (cc)
+use Rattle.versions.proofs.Members.{seen_is_contained, placed_is_contained, not_among_older}
 
 -- the least bound bounds a time that comes before both
 before_least : (b e t : ℕ) → t < b → nat_le e t ≡ false → t < least b e

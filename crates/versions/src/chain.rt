@@ -1,8 +1,9 @@
 //! Chains of versions.
-ghost use Rattle.std.specs.Prelude.{◌≡◌, ◌+◌, ◌-◌, ◌≤◌, ◌<◌, [], length, slice_get, IfOk, OnOk, OnErr, IfErr, IsOk, is_ok, is_some, if◌then◌else◌, remove, MatchOption, Contains, IfSome, ℕ, ◌↔◌};
+ghost use Rattle.std.specs.Prelude.{◌≡◌, ◌+◌, ◌-◌, ◌≤◌, ◌<◌, [], length, slice_get, IfOk, OnOk, OnErr, IfErr, IsOk, is_ok, is_some, if◌then◌else◌, remove, MatchOption, Contains, IfSome, ℕ, ◌↔◌, ◌⊎◌, Some, false};
 ghost use Rattle.std.specs.Option.{option_copied};
 
-use crate::searching::{interval_at, newest_at, place_of};
+use crate::places::{put_in, take_out};
+use crate::searching::{interval_at, newest_at};
 use crate::version::Version;
 use logical_time::{Fault, Time};
 use std::alloc::Global;
@@ -29,7 +30,7 @@ impl Model for Chain {
 impl Chain {
     ghost use Rattle.std.specs.Prelude.{◌^◌};
     ghost use Rattle.versions.specs.Chain.{put_of, at_of, interval_of};
-    ghost use Rattle.versions.specs.Newest.{IsNewest, IsNewestAt, IsWithin, IsPlaceNewestAt};
+    ghost use Rattle.versions.specs.Newest.{IsNewest, IsNewestAt, IsWithin, IsPlaceNewestAt, has_stamp};
 
     /// A chain without a version.
     pub fn new(alloc: Global) -> Chain
@@ -64,21 +65,16 @@ impl Chain {
     /// Puts a version in its place, in any order of stamps; a stamp that is held already changes nothing. Takes
     /// as many steps as versions are held. Refused with `Memory` alone, never where there is room, and then the
     /// version comes back and the chain stays.
-    #[tactic(auto, using(crate::proofs::Falling::falling_put))]
+    #[tactic(auto, using(crate::proofs::Falling::falling_put, crate::proofs::Held::held_after_put))]
     pub fn put(&mut self, version: Version) -> Result<(), (Fault, Version)>
         ensures ok { OnOk result (self.new.versions ≡ put_of self.old.versions version) }
+        ensures held { OnOk result ((w : Version) → Contains self.new.versions w ↔ (Contains self.old.versions w ⊎ ((w ≡ version) × (has_stamp self.old.versions version.stamp ≡ false)))) }
         ensures room { self.old.room ≤ self.new.room + (if is_ok result then 1 else 0) }
         ensures succeeds { 0 < self.old.room → IsOk result }
         ensures err { OnErr result (self.new.versions ≡ self.old.versions) }
         ensures back { IfErr result (λ e. e ≡ (Fault.Memory, version)) }
     {
-        match place_of(self.versions.as_slice(), &version) {
-            None => Ok(()),
-            Some(place) => match self.versions.insert(place, version) {
-                Ok(()) => Ok(()),
-                Err(refused) => Err((Fault::Memory, refused.value)),
-            },
-        }
+        put_in(&mut self.versions, version)
     }
 
     /// The newest version: that of the greatest stamp.
@@ -112,16 +108,14 @@ impl Chain {
     }
 
     /// Takes out the version at this place, if there is one; all others stay.
-    #[tactic(auto, using(crate::proofs::Falling::falling_remove))]
+    #[tactic(auto, using(crate::proofs::Falling::falling_remove, crate::proofs::Held::held_but_removed, crate::proofs::Held::removed_is_gone))]
     pub fn remove(&mut self, place: usize) -> Option<Version>
         ensures removed { result ≡ slice_get self.old.versions place }
         ensures left { self.new.versions ≡ remove self.old.versions place }
+        ensures others { (w : Version) → Contains self.old.versions w ↔ (Contains self.new.versions w ⊎ (result ≡ Some w)) }
+        ensures gone { IfSome result (λ v. Contains self.new.versions v → ⊥) }
         ensures room { self.new.room ≡ self.old.room + (if is_some result then 1 else 0) }
     {
-        if place < self.versions.len() {
-            Some(self.versions.remove(place))
-        } else {
-            None
-        }
+        take_out(&mut self.versions, place)
     }
 }

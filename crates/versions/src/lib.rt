@@ -5,6 +5,7 @@
 #![tactic(auto)]
 
 mod chain;
+mod places;
 mod searching;
 mod version;
 

@@ -1,4 +1,4 @@
-use Rattle.std.proofs.Common.{subst, sym, ◌≤◌, ◌≡◌, ℕ, Option, ◌^◌}
+use Rattle.std.proofs.Common.{subst, sym, ◌≤◌, ℕ, Option, ◌^◌}
 use Rattle.std.specs.Prelude.{IfSome}
 use Rattle.versions.proofs.Intervals.{interval_is_ordered}
 use Rattle.versions.proofs.chain.Chain.interval.Goals as goal

@@ -1,9 +1,9 @@
-use Rattle.std.proofs.Common.{arith}
-use Rattle.std.proofs.lemmas.Option.{slice_get_read, slice_get_past}
+use Rattle.std.proofs.Common.{ap}
+use Rattle.versions.specs.Chain.{Held}
+use Rattle.versions.proofs.Held.{held_but_removed}
 use Rattle.versions.proofs.chain.Chain.remove.Goals as goal
 
-pub returns-then-place-len-clause-removed : goal.returns-then-place-len-clause-removed
-returns-then-place-len-clause-removed c = grind (arith, slice_get_read, c.self.view_is, c.remove.ensures.value)
-
-pub returns-else-place-len-clause-removed : goal.returns-else-place-len-clause-removed
-returns-else-place-len-clause-removed c = grind (arith, slice_get_past, c.self.view_is)
+pub returns-clause-others : goal.returns-clause-others
+returns-clause-others c = λ w.
+    rw (← ap (λ (h : Held). h.versions) c.self.view_is, c.take_out.ensures.left, c.take_out.ensures.removed)
+        (held_but_removed c.self.inside.versions.items c.args.place w)

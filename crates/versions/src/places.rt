@@ -1,0 +1,39 @@
+//! Changes at a place of a list.
+ghost use Rattle.std.specs.Prelude.{◌≡◌, ◌+◌, ◌-◌, ◌≤◌, ◌<◌, is_some, is_ok, IsOk, OnOk, OnErr, IfErr, if◌then◌else◌, remove, slice_get, vec_capacity, vec_len};
+
+ghost use Rattle.versions.specs.Chain.{put_of};
+
+use crate::searching::place_of;
+use crate::version::Version;
+use logical_time::Fault;
+
+/// Puts a version in its place, unless its stamp is held.
+pub(crate) fn put_in(versions: &mut Vec<Version>, version: Version) -> Result<(), (Fault, Version)>
+    ensures ok { OnOk result (versions.new.items ≡ put_of versions.old.items version) }
+    ensures room { (vec_capacity versions.old - vec_len versions.old) ≤ (vec_capacity versions.new - vec_len versions.new) + (if is_ok result then 1 else 0) }
+    ensures succeeds { 0 < (vec_capacity versions.old - vec_len versions.old) → IsOk result }
+    ensures err { OnErr result (versions.new.items ≡ versions.old.items) }
+    ensures back { IfErr result (λ e. e ≡ (Fault.Memory, version)) }
+{
+    match place_of(versions.as_slice(), &version) {
+        None => Ok(()),
+        Some(place) => match versions.insert(place, version) {
+            Ok(()) => Ok(()),
+            Err(refused) => Err((Fault::Memory, refused.value)),
+        },
+    }
+}
+
+/// Takes out the version at this place, if there is one.
+pub(crate) fn take_out(versions: &mut Vec<Version>, place: usize) -> Option<Version>
+    ensures removed { result ≡ slice_get versions.old.items place }
+    ensures left { versions.new.items ≡ remove versions.old.items place }
+    ensures length { vec_len versions.new + (if is_some result then 1 else 0) ≡ vec_len versions.old }
+    ensures capacity { vec_capacity versions.new ≡ vec_capacity versions.old }
+{
+    if place < versions.len() {
+        Some(versions.remove(place))
+    } else {
+        None
+    }
+}
