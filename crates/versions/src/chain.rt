@@ -3,7 +3,7 @@ ghost use Rattle.std.specs.Prelude.{◌≡◌, ◌+◌, ◌-◌, ◌≤◌, ◌<
 ghost use Rattle.std.specs.Option.{option_copied};
 
 use crate::places::{put_in, take_out};
-use crate::searching::{interval_at, newest_at};
+use crate::times::{interval_at, newest_at};
 use crate::version::Version;
 use logical_time::{Fault, Time};
 use std::alloc::Global;
@@ -65,7 +65,7 @@ impl Chain {
     /// Puts a version in its place, in any order of stamps; a stamp that is held already changes nothing. Takes
     /// as many steps as versions are held. Refused with `Memory` alone, never where there is room, and then the
     /// version comes back and the chain stays.
-    #[tactic(auto, using(crate::proofs::Falling::falling_put, crate::proofs::Held::held_after_put))]
+    #[tactic(auto, using(crate::proofs::Falling::falling_put))]
     pub fn put(&mut self, version: Version) -> Result<(), (Fault, Version)>
         ensures ok { OnOk result (self.new.versions ≡ put_of self.old.versions version) }
         ensures held { OnOk result ((w : Version) → Contains self.new.versions w ↔ (Contains self.old.versions w ⊎ ((w ≡ version) × (has_stamp self.old.versions version.stamp ≡ false)))) }
@@ -108,7 +108,7 @@ impl Chain {
     }
 
     /// Takes out the version at this place, if there is one; all others stay.
-    #[tactic(auto, using(crate::proofs::Falling::falling_remove, crate::proofs::Held::held_but_removed, crate::proofs::Held::removed_is_gone))]
+    #[tactic(auto, using(crate::proofs::Falling::falling_remove, crate::proofs::Held::removed_is_gone))]
     pub fn remove(&mut self, place: usize) -> Option<Version>
         ensures removed { result ≡ slice_get self.old.versions place }
         ensures left { self.new.versions ≡ remove self.old.versions place }
@@ -117,5 +117,106 @@ impl Chain {
         ensures room { self.new.room ≡ self.old.room + (if is_some result then 1 else 0) }
     {
         take_out(&mut self.versions, place)
+    }
+}
+
+#[cfg(test)]
+mod tests {
+    use super::*;
+    use crate::version::What;
+    use logical_time::{Node, Stamp, TxnId, Writer};
+    use std::test::Fail;
+
+    fn time(number: u64) -> Result<Time, Fault> {
+        Time::new(number).ok_or(Fault::ClockSpent)
+    }
+
+    // A deletion of this stamp.
+    fn version(stamp: (u64, u16), evt: u64) -> Result<Version, Fault> {
+        let node = Node::new(stamp.1);
+        let txn = TxnId {
+            session: node,
+            number: stamp.0,
+        };
+        Ok(Version {
+            stamp: Stamp {
+                time: time(stamp.0)?,
+                node,
+            },
+            evt: time(evt)?,
+            what: What {
+                writer: Writer { txn, shard: 0 },
+                value: None,
+            },
+        })
+    }
+
+    fn put(chain: &mut Chain, stamp: (u64, u16), evt: u64) -> Result<(), Fault> {
+        chain.put(version(stamp, evt)?).map_err(|refused| refused.0)
+    }
+
+    // Four versions, not in the order of their stamps, one of them seen only from a later time on than a newer one.
+    fn four(alloc: Global) -> Result<Chain, Fault> {
+        let mut chain = Chain::new(alloc);
+        put(&mut chain, (4, 0), 4)?;
+        put(&mut chain, (9, 0), 12)?;
+        put(&mut chain, (7, 1), 10)?;
+        put(&mut chain, (8, 1), 15)?;
+        Ok(chain)
+    }
+
+    // The time and the node of the stamp.
+    fn stamp(version: Option<&Version>) -> Option<(u64, u16)> {
+        let stamp = version?.stamp;
+        Some((stamp.time.get(), stamp.node.get()))
+    }
+
+    fn times(chain: &Chain, place: usize) -> Option<(u64, u64)> {
+        let (first, last) = chain.interval(place)?;
+        Some((first.get(), last.get()))
+    }
+
+    #[test]
+    fn newest_goes_by_stamp(rt: HostRuntime) -> Result<(), Fail> {
+        let chain = four(rt.alloc())?;
+        assert_eq!(rt; chain.len(), 4);
+        assert_eq!(rt; stamp(chain.newest()), Some((9, 0)));
+        assert_eq!(rt; stamp(chain.at(time(3)?)), None);
+        assert_eq!(rt; stamp(chain.at(time(9)?)), Some((4, 0)));
+        assert_eq!(rt; stamp(chain.at(time(11)?)), Some((7, 1)));
+        assert_eq!(rt; stamp(chain.at(time(12)?)), Some((9, 0)));
+        assert_eq!(rt; stamp(chain.at(time(20)?)), Some((9, 0)));
+        Ok(())
+    }
+
+    #[test]
+    fn intervals_by_place(rt: HostRuntime) -> Result<(), Fail> {
+        let chain = four(rt.alloc())?;
+        assert_eq!(rt; times(&chain, 0), Some((12, 0xffff_ffff_ffff)));
+        assert_eq!(rt; times(&chain, 1), None);
+        assert_eq!(rt; times(&chain, 2), Some((10, 11)));
+        assert_eq!(rt; times(&chain, 3), Some((4, 9)));
+        assert_eq!(rt; times(&chain, 4), None);
+        Ok(())
+    }
+
+    #[test]
+    fn held_stamps_change_nothing(rt: HostRuntime) -> Result<(), Fail> {
+        let mut chain = four(rt.alloc())?;
+        put(&mut chain, (7, 1), 2)?;
+        assert_eq!(rt; chain.len(), 4);
+        assert_eq!(rt; stamp(chain.at(time(3)?)), None);
+        Ok(())
+    }
+
+    #[test]
+    fn removal_takes_one_version(rt: HostRuntime) -> Result<(), Fail> {
+        let mut chain = four(rt.alloc())?;
+        let removed = chain.remove(2);
+        assert_eq!(rt; stamp(removed.as_ref()), Some((7, 1)));
+        assert_eq!(rt; chain.len(), 3);
+        assert_eq!(rt; times(&chain, 2), Some((4, 11)));
+        assert_eq!(rt; stamp(chain.remove(3).as_ref()), None);
+        Ok(())
     }
 }

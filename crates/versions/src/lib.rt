@@ -6,7 +6,7 @@
 
 mod chain;
 mod places;
-mod searching;
+mod times;
 mod version;
 
 pub use chain::Chain;

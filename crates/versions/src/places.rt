@@ -1,11 +1,24 @@
-//! Changes at a place of a list.
+//! The places of versions, by falling stamp.
 ghost use Rattle.std.specs.Prelude.{◌≡◌, ◌+◌, ◌-◌, ◌≤◌, ◌<◌, is_some, is_ok, IsOk, OnOk, OnErr, IfErr, if◌then◌else◌, remove, slice_get, vec_capacity, vec_len};
+ghost use Rattle.versions.specs.Chain.{IsPlaceOf, put_of};
 
-ghost use Rattle.versions.specs.Chain.{put_of};
-
-use crate::searching::place_of;
 use crate::version::Version;
 use logical_time::Fault;
+use std::cmp::Ordering;
+
+// Where a version goes, or nowhere if its stamp is held.
+fn place_of(versions: &[Version], version: &Version) -> Option<usize>
+    ensures { IsPlaceOf version.now versions.now result }
+{
+    for (i, held) in versions.iter().enumerate() {
+        match version.stamp.cmp(&held.stamp) {
+            Ordering::Less => {}
+            Ordering::Equal => return None,
+            Ordering::Greater => return Some(i),
+        }
+    }
+    Some(versions.len())
+}
 
 /// Puts a version in its place, unless its stamp is held.
 pub(crate) fn put_in(versions: &mut Vec<Version>, version: Version) -> Result<(), (Fault, Version)>

@@ -6,4 +6,4 @@ use Rattle.versions.proofs.chain.Chain.remove.Goals as goal
 pub returns-clause-others : goal.returns-clause-others
 returns-clause-others c = λ w.
     rw (← ap (λ (h : Held). h.versions) c.self.view_is, c.take_out.ensures.left, c.take_out.ensures.removed)
-        (held_but_removed c.self.inside.versions.items c.args.place w)
+    (held_but_removed c.self.inside.versions.items c.args.place w)

@@ -1,6 +1,6 @@
 use Rattle.std.proofs.Common.{◌≡◌, ◌≤◌, ◌-◌, ◌^◌, drop}
 use Rattle.versions.specs.Chain.{interval_of}
-use Rattle.versions.proofs.searching.interval_at.Given as goal
+use Rattle.versions.proofs.times.interval_at.Given as goal
 
 -- a newer version is seen from the bound on
 abbrev pub invariant-loop-i : goal.invariant-loop-i

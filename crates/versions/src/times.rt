@@ -1,29 +1,14 @@
-//! Searches through the versions of a chain, the greatest stamp first.
+//! Which of the versions of a chain is the newest, at a time and for how long.
 ghost use Rattle.std.specs.Prelude.{◌≡◌, ◌^◌, ◌≤◌, nat_lt};
 ghost use Rattle.std.specs.Option.{option_copied};
 ghost use Rattle.versions.specs.Chain as chain;
-ghost use Rattle.versions.specs.Chain.{IsPlaceOf, at_of, interval_of, interval_if};
+ghost use Rattle.versions.specs.Chain.{at_of, interval_of, interval_if};
 
 use crate::version::Version;
 use logical_time::Time;
-use std::cmp::Ordering;
 
 /// The first number that is no time.
 const END: u64 = 0x1_0000_0000_0000;
-
-/// Where a version goes, or nowhere if its stamp is held.
-pub(crate) fn place_of(versions: &[Version], version: &Version) -> Option<usize>
-    ensures { IsPlaceOf version.now versions.now result }
-{
-    for (i, held) in versions.iter().enumerate() {
-        match version.stamp.cmp(&held.stamp) {
-            Ordering::Less => {}
-            Ordering::Equal => return None,
-            Ordering::Greater => return Some(i),
-        }
-    }
-    Some(versions.len())
-}
 
 /// The newest version that is seen by the time.
 pub(crate) fn newest_at(versions: &[Version], time: Time) -> Option<&Version>

@@ -1,6 +1,6 @@
 use Rattle.std.proofs.Common.{◌≡◌, ◌++◌, take, drop}
 use Rattle.versions.specs.Chain.{put_of}
-use Rattle.versions.proofs.searching.place_of.Given as goal
+use Rattle.versions.proofs.places.place_of.Given as goal
 
 -- what is newer stays before the version
 abbrev pub invariant-loop-i : goal.invariant-loop-i

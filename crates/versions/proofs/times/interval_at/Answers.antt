@@ -1,7 +1,7 @@
 use Rattle.std.proofs.Common.{rules, ◌∙◌, ◌<◌, arith}
 use Rattle.std.proofs.lemmas.List.{drop_all}
 use Rattle.versions.proofs.Steps.{interval_next}
-use Rattle.versions.proofs.searching.interval_at.Goals as goal
+use Rattle.versions.proofs.times.interval_at.Goals as goal
 
 pub loop-i-preserved : goal.loop-i-preserved
 loop-i-preserved c =
