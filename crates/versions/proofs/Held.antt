@@ -14,15 +14,15 @@ use Rattle.versions.proofs.Falling.{all_older}
 same_if_older : (s t : StampValue) → is_older s t ≡ true → is_eq (stamp_cmp t s) ≡ false
 same_if_older s t h = grind (arith, nat_tests)
 
-same_if_newer : (s t : StampValue) → is_older s t ≡ true → is_eq (stamp_cmp s t) ≡ false
+pub same_if_newer : (s t : StampValue) → is_older s t ≡ true → is_eq (stamp_cmp s t) ≡ false
 same_if_newer s t h = grind (arith, nat_tests)
 
 -- a stamp is not held where all are older
-new_if_older : (s : StampValue) (xs : List Version) → AreOlder s xs → has_stamp xs s ≡ false
+pub new_if_older : (s : StampValue) (xs : List Version) → AreOlder s xs → has_stamp xs s ≡ false
 new_if_older s [] h = refl
 new_if_older s (x ∷ xs) h = rw (same_if_older x.stamp s h.0) (new_if_older s xs h.1)
 
-pub held_before : (xs : List Version) (v w : Version) → Contains xs w → Contains (put_of xs v) w
+held_before : (xs : List Version) (v w : Version) → Contains xs w → Contains (put_of xs v) w
 held_before [] v w c = absurd (none_in_empty w c)
 held_before (x ∷ xs) v w c =
     by_cases (is_older v.stamp x.stamp)

@@ -30,7 +30,7 @@ impl Model for Chain {
 impl Chain {
     ghost use Rattle.std.specs.Prelude.{◌^◌};
     ghost use Rattle.versions.specs.Chain.{put_of, at_of, interval_of};
-    ghost use Rattle.versions.specs.Newest.{IsNewest, IsNewestAt, IsWithin, IsPlaceNewestAt, has_stamp};
+    ghost use Rattle.versions.specs.Newest.{IsNewest, IsNewestAt, IsWithin, IsPlaceNewestAt, at_with, has_stamp};
 
     /// A chain without a version.
     pub fn new(alloc: Global) -> Chain
@@ -69,6 +69,7 @@ impl Chain {
     pub fn put(&mut self, version: Version) -> Result<(), (Fault, Version)>
         ensures ok { OnOk result (self.new.versions ≡ put_of self.old.versions version) }
         ensures held { OnOk result ((w : Version) → Contains self.new.versions w ↔ (Contains self.old.versions w ⊎ ((w ≡ version) × (has_stamp self.old.versions version.stamp ≡ false)))) }
+        ensures seen { OnOk result ((t : ℕ) → at_of self.new.versions t ≡ at_with self.old.versions version t) }
         ensures room { self.old.room ≤ self.new.room + (if is_ok result then 1 else 0) }
         ensures succeeds { 0 < self.old.room → IsOk result }
         ensures err { OnErr result (self.new.versions ≡ self.old.versions) }
