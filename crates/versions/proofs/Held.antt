@@ -1,7 +1,7 @@
 -- What is held after a put and after a removal.
-use Rattle.std.proofs.Common.{◌≡◌, refl, sym, ℕ, zero, suc, ◌∙◌, ap, subst, true, false, List, [], ◌∷◌, Option, Some, None, inl, inr, ⊎_elim, arith}
+use Rattle.std.proofs.Common.{◌≡◌, refl, sym, ℕ, zero, suc, ◌∙◌, ap, subst, true, false, List, [], ◌∷◌, Some, inl, inr, ⊎_elim, arith}
 use Rattle.std.proofs.lemmas.Bool.Decides.{nat_tests}
-use Rattle.std.specs.Prelude.{remove, IfSome, Contains, slice_get, ◌↔◌, ◌⊎◌, ◌||◌}
+use Rattle.std.specs.Prelude.{remove, Contains, slice_get, ◌↔◌, ◌⊎◌}
 use Rattle.std.specs.Ordering.{is_eq}
 use Rattle.logical_time.specs.Stamps.{StampValue, stamp_cmp, is_older}
 use Rattle.versions.specs.declared.version.Version.{Version}

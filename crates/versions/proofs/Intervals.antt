@@ -1,12 +1,11 @@
 -- An interval holds exactly the times at which a version is the newest.
-use Rattle.std.proofs.Common.{◌≡◌, refl, ℕ, zero, suc, ◌≤◌, ◌<◌, ◌-◌, subst, sym, ◌∙◌, true, false, Bool, nat_le, List, [], ◌∷◌, Option, Some, None, arith}
+use Rattle.std.proofs.Common.{◌≡◌, refl, ℕ, zero, suc, ◌≤◌, ◌<◌, sym, ◌∙◌, true, false, nat_le, List, [], ◌∷◌, Option, Some, None, arith}
 use Rattle.std.proofs.lemmas.Bool.Decides.{nat_tests}
-use Rattle.std.specs.Prelude.{nat_lt, MatchOption, IfSome, Contains, slice_get, ◌↔◌}
-use Rattle.logical_time.specs.Stamps.{is_older}
+use Rattle.std.specs.Prelude.{nat_lt, MatchOption, IfSome, slice_get, ◌↔◌}
 use Rattle.versions.specs.declared.version.Version.{Version}
-use Rattle.versions.specs.Chain.{AreOlder, IsFalling, at_of, least, interval_if, interval_of}
-use Rattle.versions.specs.Newest.{IsNewestAt, IsWithin, IsPlaceNewestAt}
-use Rattle.versions.proofs.Tests.{by_cases, not_older_than_itself}
+use Rattle.versions.specs.Chain.{IsFalling, at_of, least, interval_of}
+use Rattle.versions.specs.Newest.{IsWithin, IsPlaceNewestAt}
+use Rattle.versions.proofs.Tests.{by_cases}
 use Rattle.versions.proofs.Members.{seen_is_contained, placed_is_contained, not_among_older}
 
 -- the least bound bounds a time that comes before both

@@ -1,5 +1,5 @@
 -- What a list of versions contains, where it was found, and what is older than a stamp.
-use Rattle.std.proofs.Common.{◌≡◌, refl, ℕ, zero, suc, ◌<◌, subst, true, false, nat_le, List, [], ◌∷◌, Some, length, get_or, inl, inr, ⊎_elim, arith}
+use Rattle.std.proofs.Common.{◌≡◌, refl, ℕ, zero, suc, ◌<◌, subst, true, nat_le, List, [], ◌∷◌, Some, length, get_or, inl, inr, ⊎_elim, arith}
 use Rattle.std.specs.Prelude.{Contains, slice_get, ◌⊎◌}
 use Rattle.logical_time.specs.Stamps.{StampValue, is_older}
 use Rattle.versions.specs.declared.version.Version.{Version}

@@ -1,5 +1,5 @@
 -- The newest version has the greatest stamp, also among those that are seen by a time.
-use Rattle.std.proofs.Common.{◌≡◌, refl, ℕ, ◌≤◌, ◌<◌, subst, sym, true, false, nat_le, List, [], ◌∷◌, Option, Some, None, ⊎_elim, arith}
+use Rattle.std.proofs.Common.{◌≡◌, refl, ℕ, ◌≤◌, ◌<◌, subst, sym, false, nat_le, List, [], ◌∷◌, Option, Some, None, ⊎_elim, arith}
 use Rattle.std.proofs.lemmas.Bool.Decides.{nat_tests}
 use Rattle.std.specs.Prelude.{MatchOption, Contains, slice_get}
 use Rattle.logical_time.specs.Stamps.{is_older}

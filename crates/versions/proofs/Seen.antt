@@ -1,5 +1,5 @@
 -- What is seen at a time after a put.
-use Rattle.std.proofs.Common.{◌≡◌, refl, sym, subst, ℕ, ap, ◌∙◌, true, false, Bool, if◌then◌else◌, nat_le, List, [], ◌∷◌, Option, Some, None}
+use Rattle.std.proofs.Common.{◌≡◌, refl, ℕ, ap, ◌∙◌, true, false, Bool, if◌then◌else◌, nat_le, List, [], ◌∷◌, Some}
 use Rattle.std.specs.Ordering.{is_eq}
 use Rattle.logical_time.specs.Stamps.{stamp_cmp, is_older}
 use Rattle.versions.specs.declared.version.Version.{Version}
