@@ -56,10 +56,8 @@ impl Chain {
         ensures room { self.old.room ≤ self.new.room }
         ensures memory { IfErr result (λ e. e ≡ Fault.Memory) }
     {
-        match self.versions.reserve(additional) {
-            Ok(()) => Ok(()),
-            Err(_) => Err(Fault::Memory),
-        }
+        self.versions.reserve(additional)?;
+        Ok(())
     }
 
     /// Puts a version in its place, in any order of stamps; a stamp that is held already changes nothing. Takes
