@@ -55,6 +55,6 @@ committed batch s t = record { batch = batch; stamp = s; commit = t }
 -- with it the table, and a read of it rests on the same.
 pub record StandsFor (kept given : List Change) : Type 0 where
   pub newest : (before after : History) (s : StampValue) (commit time : ℕ) (l : Location)
-    → newest_at (before ++ committed kept s commit ∷ after) time l ≡ newest_at (before ++ committed given s commit ∷ after) time l
+      → newest_at (before ++ committed kept s commit ∷ after) time l ≡ newest_at (before ++ committed given s commit ∷ after) time l
   pub rests : (before after : History) (s : StampValue) (commit time : ℕ) (l : Location) (w : StampValue)
-    → RestsOn (up_to time (before ++ committed kept s commit ∷ after)) l w ↔ RestsOn (up_to time (before ++ committed given s commit ∷ after)) l w
+      → RestsOn (up_to time (before ++ committed kept s commit ∷ after)) l w ↔ RestsOn (up_to time (before ++ committed given s commit ∷ after)) l w

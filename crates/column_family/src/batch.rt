@@ -3,7 +3,7 @@ ghost use Rattle.std.specs.Prelude.{◌≡◌, ◌++◌, [], ◌∷◌, length, 
 
 use crate::byte_strings::{Family, Key, Name, Value};
 use logical_time::{Stamp, Time};
-use std::alloc::{AllocFailed, Global};
+use std::alloc::{AllocError, AllocFailed, Global};
 use std::marker::Model;
 
 /// A row: a key in a column family.
@@ -48,6 +48,17 @@ pub struct Change {
     pub row: Row,
     /// What is done to it.
     pub mutation: Mutation,
+}
+
+impl Change {
+    ghost use Rattle.std.specs.Prelude.{◌≡◌, IfOk};
+
+    /// A copy, which shares the bytes of keys, names and values. Fails by memory alone.
+    pub fn copied(&self) -> Result<Change, AllocError>
+        ensures { IfOk result (λ copy. copy ≡ self.now) }
+    {
+        self.clone()
+    }
 }
 
 /// A batch: changes in order, the later ones newer. Each batch is one write transaction

@@ -1,6 +1,6 @@
 //! Rows of columns, mutations and batches, and what a history of batches makes of them.
 //!
-//! The definitions that a customer reads stand in `specs/`: location, touches, newer, history, table and
+//! The definitions that a reader needs first stand in `specs/`: location, touches, newer, history, table and
 //! what a read rests on. Nothing here knows of shards or versions.
 #![tactic(auto)]
 

@@ -63,13 +63,6 @@ fn is_covered(kept: &BTreeMap<Place, Change>, place: &Place) -> bool
     kept.contains_key(&deletion) || kept.contains_key(place)
 }
 
-/// A copy of the change, which shares its bytes.
-fn copy_of(change: &Change) -> Result<Change, AllocError>
-    ensures { IfOk result (λ copy. copy ≡ change.now) }
-{
-    change.clone()
-}
-
 /// Keeps an older change of the row, if it has an effect.
 fn keep(kept: &mut BTreeMap<Place, Change>, row: usize, change: &Change) -> Result<(), Fault>
     ensures ok { OnOk result (kept.new.entries ≡ spec.keep row kept.old.entries change.now) }
@@ -81,7 +74,7 @@ fn keep(kept: &mut BTreeMap<Place, Change>, row: usize, change: &Change) -> Resu
     if is_covered(kept, &place) {
         return Ok(());
     }
-    kept.insert(place, copy_of(change)?)?;
+    kept.insert(place, change.copied()?)?;
     Ok(())
 }
 

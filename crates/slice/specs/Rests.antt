@@ -3,7 +3,7 @@ use Rattle.std.specs.Prelude.{◌≡◌, ℕ, Bool, true, false, ◌&&◌, ◌||
 use Rattle.std.specs.Option.{option_map_or}
 use Rattle.logical_time.specs.Stamps.{StampValue}
 use Rattle.column_family.specs.declared.batch.Row.{Row}
-use Rattle.column_family.specs.Location.{Location, is_row_deletion}
+use Rattle.column_family.specs.Location.{is_row_deletion}
 use Rattle.column_family.specs.History.{History, newest_of, stamp_of, RestsOn}
 use Rattle.slice.specs.declared.column.Column.{Column}
 use Rattle.slice.specs.declared.predicate.Predicate.{Predicate}

@@ -12,7 +12,7 @@ use column_family::Name;
 use logical_time::Fault;
 use std::marker::Model;
 
-/// Names as a request lists them, repeats included.
+/// Names in the order in which they are listed, repeats included.
 #[derive(Drop, Debug, Clone)]
 pub struct Names {
     names: Vec<Name>,
@@ -113,7 +113,9 @@ impl Predicate {
         let is_within = match self {
             Predicate::Names(_) => true,
             Predicate::Range {
-                reversed, count, ..
+                reversed,
+                count,
+                ..
             } => columns.len() < *count as usize || is_reached(*reversed, columns, name),
         };
         self.is_asked(name) && is_within

@@ -1,5 +1,5 @@
 -- A column is among those that a history changes exactly if some change of the history changes it.
-use Rattle.std.proofs.Common.{◌≡◌, ◌∙◌, sym, ap, refl, ℕ, Bool, true, false, ◌&&◌, ◌||◌, cond, List, [], ◌∷◌, ◌++◌, Option, Some, None, option_map}
+use Rattle.std.proofs.Common.{◌≡◌, ◌∙◌, sym, ap, refl, ℕ, Bool, true, false, ◌&&◌, ◌||◌, List, [], ◌∷◌, Option, Some, None, option_map}
 use Rattle.std.specs.Prelude.{is_some, filter_map, flat_map, if◌then◌else◌}
 use Rattle.std.specs.List.{list_any, cons_option}
 use Rattle.std.specs.Option.{option_map_or, option_or}
@@ -13,7 +13,7 @@ use Rattle.column_family.specs.declared.batch.Mutation.{Mutation}
 use Rattle.column_family.specs.declared.batch.Mutation.TheVariants.{Insert, DeleteColumn, DeleteRow, DeleteRange}
 use Rattle.column_family.specs.Location.{Location, is_same_row, is_column_change, changes_name}
 use Rattle.column_family.specs.History.{History, Stamped, newer_of, newest_of, last_of, stamped}
-use Rattle.slice.specs.Live.{columns_changed, column_changed, column_named, in_name_order}
+use Rattle.slice.specs.Live.{columns_changed, column_changed, column_named}
 use Rattle.slice.proofs.Selected.{any_in_order}
 
 -- the name is one of these

@@ -1,6 +1,6 @@
 -- What is found of a row is the part by its newest versions.
-use Rattle.std.proofs.Common.{◌≡◌, ◌∙◌, sym, ap, subst, refl, ℕ, true, List, map}
-use Rattle.std.specs.Prelude.{filter, Contains}
+use Rattle.std.proofs.Common.{◌≡◌, ◌∙◌, sym, ap, subst, ℕ, List}
+use Rattle.std.specs.Prelude.{Contains}
 use Rattle.std.specs.List.Sorted.{IsStrictlySortedBy}
 use Rattle.logical_time.specs.Stamps.{StampValue, WriterValue, writer_cmp}
 use Rattle.column_family.specs.declared.batch.Row.{Row}
@@ -50,7 +50,7 @@ pub newest_part : (held : List Applied) (r : Row) (p : Predicate) (part : Part) 
 newest_part held r p part live names stamps writers l c n t s w keeps adds_none in_order =
     let columns = same_columns held r p part.columns live l c in
     let is : writers ≡ stamped_writers (stamps_found held r p) held =
-        w ∙ ap (λ ss. stamped_writers ss held) (same_stamps held r p part.columns names stamps n columns s) in
+    w ∙ ap (λ ss. stamped_writers ss held) (same_stamps held r p part.columns names stamps n columns s) in
     record {
       columns = columns;
       writers = λ v. (λ has. rested held r p v (subst (λ ws. Contains ws v) is (adds_none v has)), λ rests. keeps v (subst (λ ws. Contains ws v) (sym is) (written held r p v rests)));

@@ -1,6 +1,6 @@
 -- The row's own part of what was applied tells of the row what all of it tells.
 use Rattle.std.proofs.Common.{◌≡◌, ◌∙◌, sym, ap, refl, ℕ, suc, max, arith, Bool, true, false, ◌&&◌, cond, List, [], ◌∷◌, ◌++◌, length, map, Option, Some, None, option_map}
-use Rattle.std.specs.Prelude.{nat_lt, filter, filter_map, flat_map, option_to_list, if◌then◌else◌}
+use Rattle.std.specs.Prelude.{nat_lt, filter_map, flat_map, option_to_list, if◌then◌else◌}
 use Rattle.std.specs.List.{cons_option}
 use Rattle.std.specs.Option.{option_or}
 use Rattle.std.proofs.lemmas.Bool.Decides.{nat_tests}
@@ -9,8 +9,8 @@ use Rattle.column_family.specs.declared.batch.Row.{Row}
 use Rattle.column_family.specs.declared.batch.Change.{Change}
 use Rattle.column_family.specs.declared.batch.Committed.{Committed}
 use Rattle.column_family.specs.declared.batch.Mutation.{Mutation}
-use Rattle.column_family.specs.Location.{Location, is_same_row, touches, touches_name, is_column_change, changes_name, is_row_deletion, deletes_row}
-use Rattle.column_family.specs.History.{History, Stamped, newer_of, newest_of, last_of, stamped, stamp_of, newest, value_of}
+use Rattle.column_family.specs.Location.{is_same_row, touches, touches_name, is_column_change, changes_name, is_row_deletion, deletes_row}
+use Rattle.column_family.specs.History.{History, newer_of, newest_of, last_of, stamped, stamp_of, value_of}
 use Rattle.slice.specs.declared.column.Column.{Column}
 use Rattle.slice.specs.declared.predicate.Predicate.{Predicate}
 use Rattle.slice.specs.Slice.{is_asked}
@@ -19,7 +19,7 @@ use Rattle.slice.specs.Rests.{is_looked_at}
 use Rattle.slice.proofs.LiveTable.{live_columns_alike}
 use Rattle.store.specs.declared.store.Applied.{Applied}
 use Rattle.store.specs.Part.{history_of, committed_of, commit_of, column_evt, greatest_of, evt_of}
-use Rattle.store.specs.Own.{own_changes, own_entry, own_history, looked_stamp, rested_stamps}
+use Rattle.store.specs.Own.{own_changes, own_history, looked_stamp, rested_stamps}
 use Rattle.store.proofs.Changed.{column_at}
 
 -- the test passes changes of the row alone
@@ -122,9 +122,9 @@ evt_own r p held =
     ap (λ o. max (commit_of o) (greatest_of (map (column_evt (own_history r held) r p) (columns_changed (own_history r held) r)))) (newest_own r (is_row_deletion r) (deletion_of_row r) held)
     ∙ ap (λ ns. max (commit_of (newest_of (is_row_deletion r) (history_of held))) (greatest_of (map (column_evt (own_history r held) r p) ns))) (columns_own r held)
     ∙ ap (λ ts. max (commit_of (newest_of (is_row_deletion r) (history_of held))) (greatest_of ts))
-      (map_alike (column_evt (own_history r held) r p) (column_evt (history_of held) r p)
-      (λ n. ap (λ o. if is_asked p n then commit_of o else 0) (newest_own r (is_column_change (column_at r n)) (column_of_row r n) held))
-      (columns_changed (history_of held) r))
+    (map_alike (column_evt (own_history r held) r p) (column_evt (history_of held) r p)
+    (λ n. ap (λ o. if is_asked p n then commit_of o else 0) (newest_own r (is_column_change (column_at r n)) (column_of_row r n) held))
+    (columns_changed (history_of held) r))
 
 gives_alike : (f g : List ℕ → Option StampValue) → ((n : List ℕ) → f n ≡ g n) → (ns : List (List ℕ)) → filter_map f ns ≡ filter_map g ns
 gives_alike f g e [] = refl
@@ -134,6 +134,6 @@ pub stamps_own : (r : Row) (p : Predicate) (columns : List Column) (names : List
     → rested_stamps (own_history r held) r p columns names ≡ rested_stamps (history_of held) r p columns names
 stamps_own r p columns names held =
     ap (λ ss. ss ++ option_to_list (stamp_of (newest_of (is_row_deletion r) (own_history r held))))
-      (gives_alike (looked_stamp (own_history r held) r p columns) (looked_stamp (history_of held) r p columns)
-      (λ n. ap (λ o. if is_looked_at p columns n then stamp_of o else None) (newest_own r (touches (column_at r n)) (touches_of_row r n) held)) names)
+    (gives_alike (looked_stamp (own_history r held) r p columns) (looked_stamp (history_of held) r p columns)
+    (λ n. ap (λ o. if is_looked_at p columns n then stamp_of o else None) (newest_own r (touches (column_at r n)) (touches_of_row r n) held)) names)
     ∙ ap (λ o. filter_map (looked_stamp (history_of held) r p columns) names ++ option_to_list (stamp_of o)) (newest_own r (is_row_deletion r) (deletion_of_row r) held)

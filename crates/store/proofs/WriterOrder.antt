@@ -1,5 +1,5 @@
 -- Writers are ordered, and stand once after equal ones are left out of a list in order.
-use Rattle.std.proofs.Common.{◌≡◌, ◌∙◌, sym, ap, ℕ, Bool, true, ◌&&◌, List, arith}
+use Rattle.std.proofs.Common.{◌≡◌, ◌∙◌, sym, ap, Bool, true, ◌&&◌, List, arith}
 use Rattle.std.specs.Prelude.{◌==◌, Contains, IsSorted}
 use Rattle.std.specs.Cmp.{IsTotalOrder, IsEquivalence}
 use Rattle.std.specs.Ordering.{eq_by_cmp}

@@ -1,10 +1,10 @@
 -- What a store answers, by what was applied to it.
 use Rattle.std.specs.Prelude.{◌≡◌, ℕ, max, if◌then◌else◌, List, [], ◌∷◌, map, Option, Some, None, Contains, ◌↔◌}
 use Rattle.std.specs.List.Sorted.{IsStrictlySortedBy}
-use Rattle.logical_time.specs.Stamps.{StampValue, WriterValue, writer_cmp}
+use Rattle.logical_time.specs.Stamps.{WriterValue, writer_cmp}
 use Rattle.column_family.specs.declared.batch.Row.{Row}
 use Rattle.column_family.specs.declared.batch.Committed.{Committed}
-use Rattle.column_family.specs.Location.{Location, is_column_change, is_row_deletion}
+use Rattle.column_family.specs.Location.{is_column_change, is_row_deletion}
 use Rattle.column_family.specs.History.{History, Stamped, newest_of}
 use Rattle.slice.specs.declared.predicate.Predicate.{Predicate}
 use Rattle.slice.specs.Slice.{slice_of, is_asked}

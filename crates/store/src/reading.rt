@@ -1,10 +1,9 @@
 //! What a store answers of a row, found in the plain list of what was applied.
-ghost use Rattle.std.specs.Prelude.{◌≡◌, ◌++◌, [], max, IfOk, IfErr, OnOk, filter, filter_map, option_map, map};
+ghost use Rattle.std.specs.Prelude.{◌≡◌, IfOk, IfErr, Contains, filter_map, option_map, map};
 ghost use Rattle.std.specs.List.{list_any};
 ghost use Rattle.column_family.specs.Location.{is_same_row};
 ghost use Rattle.column_family.specs.Newest.{seen};
 ghost use Rattle.slice.specs.Live as live;
-ghost use Rattle.std.specs.Prelude.{Contains};
 ghost use Rattle.std.specs.List.Sorted.{IsStrictlySortedBy};
 ghost use Rattle.logical_time.specs.Stamps.{WriterValue, writer_cmp};
 ghost use Rattle.store.specs.Part.{IsNewestPart};
@@ -13,7 +12,10 @@ ghost use Rattle.store.specs.Own as own;
 
 use crate::part::{Part, Writers};
 use crate::store::Applied;
-use column_family::{Batch, Change, Committed, Name, NewestMutation, Row, newest_column_change, newest_row_deletion, newest_touching};
+use column_family::{
+    Batch, Change, Committed, Name, NewestMutation, Row, newest_column_change, newest_row_deletion,
+    newest_touching,
+};
 use logical_time::{Fault, Stamp, Time, Writer};
 use slice::{Column, Predicate, columns_changed, live_columns, select};
 use std::alloc::{AllocError, Global};
@@ -25,13 +27,6 @@ fn is_own(row: &Row, change: &Change) -> bool
     change.row == *row
 }
 
-// A copy of the change.
-fn copy_of(change: &Change) -> Result<Change, AllocError>
-    ensures { IfOk result (λ copy. copy ≡ change.now) }
-{
-    change.clone()
-}
-
 // The row's own changes.
 fn own_changes(alloc: Global, row: &Row, changes: &[Change]) -> Result<Batch, Fault>
     ensures ok { IfOk result (λ batch. batch ≡ own.own_changes row.now changes.now) }
@@ -41,10 +36,17 @@ fn own_changes(alloc: Global, row: &Row, changes: &[Change]) -> Result<Batch, Fa
     copies(alloc, &found)
 }
 
-fn found_changes<'c>(alloc: Global, row: &Row, changes: &'c [Change]) -> Result<Vec<&'c Change>, AllocError>
+fn found_changes<'c>(
+    alloc: Global,
+    row: &Row,
+    changes: &'c [Change],
+) -> Result<Vec<&'c Change>, AllocError>
     ensures { IfOk result (λ found. map (λ c. c.now) found.items ≡ own.own_changes row.now changes.now) }
 {
-    changes.iter().filter(|change| is_own(row, change)).collect(alloc)
+    changes
+        .iter()
+        .filter(|change| is_own(row, change))
+        .collect(alloc)
 }
 
 // Copies of these changes.
@@ -54,7 +56,7 @@ fn copies(alloc: Global, changes: &[&Change]) -> Result<Batch, Fault>
 {
     let mut batch = Batch::new(alloc);
     for change in changes {
-        batch.push(copy_of(change)?)?;
+        batch.push(change.copied()?)?;
     }
     Ok(batch)
 }
@@ -76,7 +78,11 @@ fn own_entry(alloc: Global, row: &Row, applied: &Applied) -> Result<Option<Commi
 }
 
 /// The row's own part of what was applied.
-pub(crate) fn own_history(alloc: Global, row: &Row, applied: &[Applied]) -> Result<Vec<Committed>, Fault>
+pub(crate) fn own_history(
+    alloc: Global,
+    row: &Row,
+    applied: &[Applied],
+) -> Result<Vec<Committed>, Fault>
     ensures ok { IfOk result (λ history. history.items ≡ own.own_history row.now applied.now) }
     ensures memory { IfErr result (λ e. e ≡ Fault.Memory) }
 {
@@ -111,7 +117,12 @@ fn column_evt(history: &[Committed], row: &Row, predicate: &Predicate, name: &Na
 }
 
 /// The earliest valid time of a row's slice, where these are the columns that its history ever changed.
-pub(crate) fn evt_of(history: &[Committed], row: &Row, predicate: &Predicate, names: &[Name]) -> Time
+pub(crate) fn evt_of(
+    history: &[Committed],
+    row: &Row,
+    predicate: &Predicate,
+    names: &[Name],
+) -> Time
     requires { names.now ≡ live.columns_changed history.now row.now }
     ensures { result ≡ part.evt_of history.now row.now predicate.now }
 {
@@ -126,7 +137,13 @@ pub(crate) fn evt_of(history: &[Committed], row: &Row, predicate: &Predicate, na
 }
 
 // The stamp of a column's newest mutation, if the read looked at the column.
-fn looked_stamp(history: &[Committed], row: &Row, predicate: &Predicate, columns: &[Column], name: &Name) -> Option<Stamp>
+fn looked_stamp(
+    history: &[Committed],
+    row: &Row,
+    predicate: &Predicate,
+    columns: &[Column],
+    name: &Name,
+) -> Option<Stamp>
     ensures { result ≡ own.looked_stamp history.now row.now predicate.now columns.now name.now }
 {
     if !predicate.is_looked_at(columns, name) {
@@ -145,14 +162,31 @@ fn stamp_of(newest: Option<NewestMutation>) -> Option<Stamp>
 }
 
 // The stamps of the newest mutations of the columns that a read looked at.
-fn looked_stamps(alloc: Global, history: &[Committed], row: &Row, predicate: &Predicate, columns: &[Column], names: &[Name]) -> Result<Vec<Stamp>, AllocError>
+fn looked_stamps(
+    alloc: Global,
+    history: &[Committed],
+    row: &Row,
+    predicate: &Predicate,
+    columns: &[Column],
+    names: &[Name],
+) -> Result<Vec<Stamp>, AllocError>
     ensures { IfOk result (λ stamps. stamps.items ≡ filter_map (own.looked_stamp history.now row.now predicate.now columns.now) names.now) }
 {
-    names.iter().filter_map(|name| looked_stamp(history, row, predicate, columns, name)).collect(alloc)
+    names
+        .iter()
+        .filter_map(|name| looked_stamp(history, row, predicate, columns, name))
+        .collect(alloc)
 }
 
 /// The stamps of all that a read rests on that returned these columns, where those are the names of all columns.
-pub(crate) fn rested_stamps(alloc: Global, history: &[Committed], row: &Row, predicate: &Predicate, columns: &[Column], names: &[Name]) -> Result<Vec<Stamp>, Fault>
+pub(crate) fn rested_stamps(
+    alloc: Global,
+    history: &[Committed],
+    row: &Row,
+    predicate: &Predicate,
+    columns: &[Column],
+    names: &[Name],
+) -> Result<Vec<Stamp>, Fault>
     ensures ok { IfOk result (λ stamps. stamps.items ≡ own.rested_stamps history.now row.now predicate.now columns.now names.now) }
     ensures memory { IfErr result (λ e. e ≡ Fault.Memory) }
 {
@@ -172,10 +206,18 @@ fn is_among(stamps: &[Stamp], stamp: Stamp) -> bool
 }
 
 // The writers of the parts that have one of these stamps.
-fn stamped_writers(alloc: Global, applied: &[Applied], stamps: &[Stamp]) -> Result<Vec<Writer>, AllocError>
+fn stamped_writers(
+    alloc: Global,
+    applied: &[Applied],
+    stamps: &[Stamp],
+) -> Result<Vec<Writer>, AllocError>
     ensures { IfOk result (λ writers. writers.items ≡ own.stamped_writers stamps.now applied.now) }
 {
-    applied.iter().filter(|one| is_among(stamps, one.stamp)).map(|one| one.part.writer).collect(alloc)
+    applied
+        .iter()
+        .filter(|one| is_among(stamps, one.stamp))
+        .map(|one| one.part.writer)
+        .collect(alloc)
 }
 
 // The writers in order, each once.
@@ -190,8 +232,12 @@ fn in_order(mut writers: Vec<Writer>) -> Writers
 }
 
 // What a store that applied these parts answers of the row.
-
-pub(crate) fn newest_part(alloc: Global, applied: &[Applied], row: &Row, predicate: &Predicate) -> Result<Part, Fault>
+pub(crate) fn newest_part(
+    alloc: Global,
+    applied: &[Applied],
+    row: &Row,
+    predicate: &Predicate,
+) -> Result<Part, Fault>
     ensures ok { IfOk result (IsNewestPart applied.now row.now predicate.now) }
     ensures memory { IfErr result (λ e. e ≡ Fault.Memory) }
 {
@@ -200,7 +246,14 @@ pub(crate) fn newest_part(alloc: Global, applied: &[Applied], row: &Row, predica
     let live = live_columns(alloc, &history, row)?;
     let columns = select(alloc, live.as_slice(), predicate)?;
     let evt = evt_of(&history, row, predicate, names.as_slice());
-    let stamps = rested_stamps(alloc, &history, row, predicate, columns.as_slice(), names.as_slice())?;
+    let stamps = rested_stamps(
+        alloc,
+        &history,
+        row,
+        predicate,
+        columns.as_slice(),
+        names.as_slice(),
+    )?;
     let writers = in_order(stamped_writers(alloc, applied, &stamps)?);
     Ok(Part {
         columns,

@@ -47,9 +47,14 @@ impl Store {
         }
     }
 
-    /// Applies a part with this commit time and this stamp. Where memory is refused the store stays, and the part
-    /// is handed back.
-    pub fn apply(&mut self, part: WritePart, commit: Time, stamp: Stamp) -> Result<(), (Fault, WritePart)>
+    /// Applies a part with this commit time and this stamp. Refused with `Memory` alone; then the store stays, and
+    /// the part is handed back.
+    pub fn apply(
+        &mut self,
+        part: WritePart,
+        commit: Time,
+        stamp: Stamp,
+    ) -> Result<(), (Fault, WritePart)>
         ensures ok { OnOk result (self.new ≡ self.old ++ record { part = part; commit = commit; stamp = stamp } ∷ []) }
         ensures err { OnErr result (self.new ≡ self.old) }
         ensures back { IfErr result (λ e. (e.0 ≡ Fault.Memory) × (e.1 ≡ part)) }
@@ -64,13 +69,19 @@ impl Store {
         }
     }
 
-    /// The slice of the row's newest versions, with what it rests on and its earliest valid time. Costs what was
-    /// applied, and for the row's own versions their number times that of its columns.
+    /// The slice of the row's newest versions, with what it rests on and its earliest valid time. Looks at every part
+    /// that was applied, each against the stamps that the slice rests on, and at the row's own changes once for each
+    /// of its columns. Refused with `Memory` alone.
     pub fn read_now(&self, row: &Row, predicate: &Predicate) -> Result<Part, Fault>
         ensures ok { IfOk result (IsNewestPart self.now row.now predicate.now) }
         ensures memory { IfErr result (λ e. e ≡ Fault.Memory) }
     {
-        newest_part(*self.applied.allocator(), self.applied.as_slice(), row, predicate)
+        newest_part(
+            *self.applied.allocator(),
+            self.applied.as_slice(),
+            row,
+            predicate,
+        )
     }
 
     /// Ends the store.

@@ -20,7 +20,8 @@ pub fn answer(alloc: Global, history: &History, time: Time, read: &Read) -> Resu
     answer_keys(alloc, &entries, read, &keys)
 }
 
-/// Each key once, in the order of first asking. Refused with `Memory` alone.
+/// Each key once, in the order of first asking. Compares each key with those before it. Refused with `Memory`
+/// alone.
 pub fn each_once(alloc: Global, keys: &[Key]) -> Result<Vec<Key>, Fault>
     ensures ok { IfOk result (λ once. once.items ≡ meaning.each_once keys.now) }
     ensures memory { IfErr result (λ e. e ≡ Fault.Memory) }

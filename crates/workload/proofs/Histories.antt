@@ -1,9 +1,8 @@
 -- A history with one more entry at its end.
-use Rattle.std.proofs.Common.{◌≡◌, ◌∙◌, sym, ap, refl, ℕ, ◌+◌, ◌<◌, ◌≤◌, max, Bool, true, false, cond, List, [], ◌∷◌, ◌++◌, map, Option, Some, None, option_map, arith}
-use Rattle.std.specs.Prelude.{nat_le, filter}
+use Rattle.std.proofs.Common.{◌≡◌, ◌∙◌, sym, ap, refl, ℕ, ◌≤◌, max, Bool, true, false, cond, List, [], ◌∷◌, ◌++◌, Option, Some, None, option_map, arith}
+use Rattle.std.specs.Prelude.{nat_le}
 use Rattle.std.proofs.lemmas.Bool.Decides.{nat_tests}
-use Rattle.std.specs.Ordering.{nat_cmp, ordering_then, is_lt}
-use Rattle.logical_time.specs.Stamps.{StampValue, stamp_cmp, is_older}
+use Rattle.logical_time.specs.Stamps.{StampValue, is_older}
 use Rattle.column_family.specs.declared.batch.Change.{Change}
 use Rattle.column_family.specs.declared.batch.Committed.{Committed}
 use Rattle.column_family.specs.History.{History, Stamped, newer_of, newest_of, last_of, stamped, up_to}
@@ -19,7 +18,7 @@ older : (a b c : StampValue) → is_older a b ≡ true → is_older b c ≡ true
 older a b c = grind (arith, nat_tests)
 
 newer_by : (a b c : Stamped) (x y : Bool) → is_older a.stamp b.stamp ≡ x → is_older b.stamp c.stamp ≡ y
-  → newer_of (newer_of (Some a) (Some b)) (Some c) ≡ newer_of (Some a) (newer_of (Some b) (Some c))
+    → newer_of (newer_of (Some a) (Some b)) (Some c) ≡ newer_of (Some a) (newer_of (Some b) (Some c))
 newer_by a b c true true p q = rw (p, q, older a.stamp b.stamp c.stamp p q) refl
 newer_by a b c true false p q = rw (p, q) (rw p refl)
 newer_by a b c false true p q = rw (p, q) refl

@@ -1,5 +1,5 @@
 -- No version of a history is younger than its greatest commit time.
-use Rattle.std.proofs.Common.{◌≡◌, ℕ, ◌≤◌, max, Bool, true, false, cond, List, [], ◌∷◌, map, Option, Some, None, option_map, arith}
+use Rattle.std.proofs.Common.{ℕ, ◌≤◌, max, Bool, true, false, List, [], ◌∷◌, map, Option, Some, None, option_map, arith}
 use Rattle.std.specs.Prelude.{if◌then◌else◌}
 use Rattle.logical_time.specs.Stamps.{is_older}
 use Rattle.column_family.specs.declared.batch.Row.{Row}

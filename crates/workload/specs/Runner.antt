@@ -3,10 +3,10 @@ use Rattle.std.specs.Prelude.{◌≡◌, ℕ, ◌+◌, ◌<◌, ◌≤◌, List,
 use Rattle.column_family.specs.declared.batch.Change.{Change}
 use Rattle.column_family.specs.Location.{Location}
 use Rattle.column_family.specs.History.{History, newest}
-use Rattle.column_family.specs.Normal.{committed, StandsFor}
+use Rattle.column_family.specs.Normal.{StandsFor}
 use Rattle.slice.specs.declared.read.Read.{Read}
 use Rattle.store.specs.declared.store.Applied.{Applied}
-use Rattle.store.specs.Part.{history_of, committed_of}
+use Rattle.store.specs.Part.{history_of}
 use Rattle.table.specs.Meaning.{shown}
 use Rattle.workload.specs.declared.script.Op.{Op}
 use Rattle.workload.specs.declared.script.Op.TheVariants.{Batch, Read as Asks}
@@ -62,7 +62,7 @@ GoesOn schema event old told new =
     (h : History) → HasCompleted old h
     → (k : History) × HasCompleted new k
     × ((events : List Event) (others : List Entry) → Tells schema k new.accepted new.open_op events others
-      → Tells schema h old.accepted old.open_op (event ∷ events) (option_to_list told ++ others))
+    → Tells schema h old.accepted old.open_op (event ∷ events) (option_to_list told ++ others))
 
 -- the runner has come to these events, with these entries told: whatever may be told of the rest goes on from there
 abbrev pub HasTold : List (List ℕ) → List Event → Runner → List Event → List Entry → Type 0

@@ -1,5 +1,5 @@
 -- Which JSON value stands for which script.
-use Rattle.std.specs.Prelude.{ℕ, ◌+◌, Bool, true, false, List, [], ◌∷◌, Option, Some, None, option_and_then, codes, if◌then◌else◌}
+use Rattle.std.specs.Prelude.{ℕ, ◌+◌, Bool, false, List, [], Option, Some, None, option_and_then, codes, if◌then◌else◌}
 use Rattle.std.specs.Str.{bytes_eq}
 use Rattle.serde_json.specs.Data.{Data}
 use Rattle.serde_json.specs.Find.{as_str, as_bool, get, at}
@@ -9,7 +9,6 @@ use Rattle.column_family.specs.declared.batch.Mutation.TheVariants.{Insert, Dele
 use Rattle.column_family.specs.Schema.{is_schema}
 use Rattle.slice.specs.declared.predicate.Predicate.{Predicate}
 use Rattle.slice.specs.declared.predicate.Predicate.TheVariants.{Names, Range}
-use Rattle.slice.specs.declared.read.Read.{Read}
 use Rattle.workload.specs.declared.script.Op.{Op}
 use Rattle.workload.specs.declared.script.Op.TheVariants.{Batch, Read as Asks}
 use Rattle.workload.specs.declared.script.Event.{Event}

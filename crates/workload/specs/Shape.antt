@@ -1,8 +1,7 @@
 -- Shapes of JSON values.
-use Rattle.std.specs.Prelude.{ℕ, suc, ◌+◌, ◌&&◌, ◌==◌, nat_le, List, [], ◌∷◌, length, Bool, false, Option, Some, None, option_map, option_and_then, is_some, if◌then◌else◌}
+use Rattle.std.specs.Prelude.{ℕ, suc, ◌&&◌, ◌==◌, nat_le, List, [], ◌∷◌, length, Bool, false, Option, Some, None, option_map, option_and_then, is_some, if◌then◌else◌}
 use Rattle.serde_json.specs.Data.{Data, Items, no_items, item, Members, no_members, member}
-use Rattle.serde_json.specs.Find.{as_number, as_u64, as_str, as_bool, as_array, as_object, get, at}
-use Rattle.workload.specs.Gives.{◌>>=◌}
+use Rattle.serde_json.specs.Find.{as_number, as_u64, as_str, as_array, as_object, get, at}
 
 -- a whole number from 0 to 2^64 - 1, written without a sign, a fraction and an exponent
 abbrev pub whole_of : Data → Option ℕ

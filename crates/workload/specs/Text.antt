@@ -1,5 +1,5 @@
 -- The text of a transcript: numbers are decimal, bytes are two hexadecimal digits each, in lower case.
-use Rattle.std.specs.Prelude.{ℕ, List, [], ◌∷◌, ◌++◌, codes, decimal}
+use Rattle.std.specs.Prelude.{ℕ, List, ◌++◌, codes, decimal}
 use Rattle.std.specs.List.{flat_map}
 use Rattle.hex.specs.Hex.{encode_lower}
 use Rattle.logical_time.specs.Fault.{number_of}

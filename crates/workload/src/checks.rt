@@ -66,7 +66,8 @@ fn check_mutation(mutation: &Mutation) -> Result<(), Fault>
     ensures { IsRefusedFor (mutation_fault mutation.now) result }
 {
     match mutation {
-        Mutation::Insert { name, .. } | Mutation::DeleteColumn { name } if !name.is_allowed() => Err(Fault::NameLength),
+        Mutation::Insert { name, .. } | Mutation::DeleteColumn { name } if !name.is_allowed() =>
+            Err(Fault::NameLength),
         Mutation::Insert { value, .. } if !value.is_allowed() => Err(Fault::ValueLength),
         Mutation::DeleteRange { .. } => Err(Fault::RangeDeletion),
         Mutation::Insert { .. } | Mutation::DeleteColumn { .. } | Mutation::DeleteRow => Ok(()),

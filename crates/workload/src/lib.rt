@@ -14,7 +14,6 @@ mod tests;
 mod text;
 mod transcript;
 
-pub use checks::check_op;
 pub use performing::{Task, perform};
 pub use reading::read_script;
 pub use script::{Event, Events, Op, Script};

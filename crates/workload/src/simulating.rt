@@ -211,7 +211,12 @@ impl Runner {
     }
 
     /// One event of the script.
-    fn step(&mut self, alloc: Global, schema: &Schema, event: &Event) -> Result<Option<Entry>, Fault>
+    fn step(
+        &mut self,
+        alloc: Global,
+        schema: &Schema,
+        event: &Event,
+    ) -> Result<Option<Entry>, Fault>
         ensures ok { IfOk result (λ told. GoesOn schema.now event.now self.old told self.new) }
         ensures faults { IfErr result (λ e. (e ≡ Fault.Memory) ⊎ (e ≡ Fault.ClockSpent)) }
         ensures moved { self.old.shard ≤ self.old.session → OnOk result (KeepsPace self.old self.new) }
@@ -231,7 +236,7 @@ impl Runner {
 }
 
 /// The transcript of a script. Refused with `ClockSpent` where a clock would leave its range, and with `Memory`.
-/// Costs for each read what was written before it, and else what the script is long.
+/// Linear in the script but for its reads: each costs what `Store::read_now` does.
 pub fn simulate(alloc: Global, script: &Script) -> Result<Transcript, Fault>
     ensures ok { IfOk result (IsTranscriptOf script.now) }
     ensures faults { IfErr result (λ e. (e ≡ Fault.Memory) ⊎ (e ≡ Fault.ClockSpent)) }
