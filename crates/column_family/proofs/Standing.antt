@@ -195,6 +195,7 @@ rests_alike l h g w e d (inr s) = inr (ap (λ (o : Option Stamped). stamp_of o) 
 pub stands_for : (kept given : List Change) → ((l : Location) → last_of (touches l) kept ≡ last_of (touches l) given) → ((r : Row) → last_of (is_row_deletion r) kept ≡ last_of (is_row_deletion r) given) → StandsFor kept given
 stands_for kept given t d = record {
   newest = λ before after s commit time l. newest_same (touches l) kept given (t l) before after s commit time;
+  deletion = λ before after s commit time r. newest_same (is_row_deletion r) kept given (d r) before after s commit time;
   rests = λ before after s commit time l w. (
     rests_alike l (up_to time (before ++ committed kept s commit ∷ after)) (up_to time (before ++ committed given s commit ∷ after)) w (newest_same (touches l) kept given (t l) before after s commit time) (newest_same (is_row_deletion l.row) kept given (d l.row) before after s commit time),
     rests_alike l (up_to time (before ++ committed given s commit ∷ after)) (up_to time (before ++ committed kept s commit ∷ after)) w (newest_same (touches l) given kept (sym (t l)) before after s commit time) (newest_same (is_row_deletion l.row) given kept (sym (d l.row)) before after s commit time),

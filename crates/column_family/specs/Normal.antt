@@ -9,8 +9,8 @@ use Rattle.column_family.specs.declared.batch.Change.{Change}
 use Rattle.column_family.specs.declared.batch.Committed.{Committed}
 use Rattle.column_family.specs.declared.batch.Mutation.{Mutation}
 use Rattle.column_family.specs.declared.batch.Mutation.TheVariants.{Insert, DeleteColumn, DeleteRow, DeleteRange}
-use Rattle.column_family.specs.Location.{Location, is_same_row}
-use Rattle.column_family.specs.History.{History, up_to, newest_at, RestsOn}
+use Rattle.column_family.specs.Location.{Location, is_same_row, is_row_deletion}
+use Rattle.column_family.specs.History.{History, newest_of, up_to, newest_at, RestsOn}
 
 -- how many changes stand before the row's first
 abbrev pub changes_before : List Change → Row → ℕ
@@ -52,9 +52,12 @@ abbrev pub committed : List Change → StampValue → ℕ → Committed
 committed batch s t = record { batch = batch; stamp = s; commit = t }
 
 -- One batch stands for the other: in every history, at every time, each location keeps its newest mutation, and
--- with it the table, and a read of it rests on the same.
+-- with it the table, each row keeps its newest deletion, and a read of a location rests on the same.
 pub record StandsFor (kept given : List Change) : Type 0 where
   pub newest : (before after : History) (s : StampValue) (commit time : ℕ) (l : Location)
       → newest_at (before ++ committed kept s commit ∷ after) time l ≡ newest_at (before ++ committed given s commit ∷ after) time l
+  pub deletion : (before after : History) (s : StampValue) (commit time : ℕ) (r : Row)
+    → newest_of (is_row_deletion r) (up_to time (before ++ committed kept s commit ∷ after))
+    ≡ newest_of (is_row_deletion r) (up_to time (before ++ committed given s commit ∷ after))
   pub rests : (before after : History) (s : StampValue) (commit time : ℕ) (l : Location) (w : StampValue)
       → RestsOn (up_to time (before ++ committed kept s commit ∷ after)) l w ↔ RestsOn (up_to time (before ++ committed given s commit ∷ after)) l w

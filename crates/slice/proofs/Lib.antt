@@ -3,3 +3,4 @@ pub mod Selected
 pub mod FilterMap
 pub mod Asked
 pub mod LiveTable
+pub mod Standing

@@ -21,7 +21,7 @@ use Rattle.slice.proofs.NameOrder.{sorted_in_order}
 use Rattle.slice.proofs.Selected.{any_in_order, is_eq_named}
 use Rattle.slice.proofs.Asked.{is_among, KeepsNames, given_at_name, given_if_among, given_in_order, given_alike}
 
-abbrev at : Row → List ℕ → Location
+abbrev pub at : Row → List ℕ → Location
 at r q = record { row = r; name = q }
 
 one_of_both : (o : Bool) (a b s : Stamped) → (if o then Some b else Some a) ≡ Some s → (Some a ≡ Some s) ⊎ (Some b ≡ Some s)

@@ -1,10 +1,14 @@
-//! What the live columns of a row are.
-ghost use Rattle.std.specs.Prelude.{◌≡◌, ◌↔◌, Some, AllPairs, Contains};
-ghost use Rattle.column_family.specs.Normal.{IsBelow};
-ghost use Rattle.column_family.specs.History.{History, newest, value_of};
+//! Laws of live columns and of what a read rests on.
+ghost use Rattle.std.specs.Prelude.{◌≡◌, ◌↔◌, ℕ, List, ◌∷◌, ◌++◌, Some, AllPairs, Contains};
+ghost use Rattle.logical_time.specs.Stamps.{StampValue};
+ghost use Rattle.column_family.specs.Normal.{IsBelow, committed, StandsFor};
+ghost use Rattle.column_family.specs.History.{History, newest, up_to, value_of};
+ghost use Rattle.column_family.specs.declared.batch.Change.{Change};
 ghost use Rattle.column_family.specs.declared.batch.Row.{Row};
 ghost use Rattle.slice.specs.declared.column.Column.{Column};
 ghost use Rattle.slice.specs.Live.{live_columns};
+ghost use Rattle.slice.specs.Rests.{RowRestsOn};
+ghost use Rattle.slice.specs.declared.predicate.Predicate.{Predicate};
 
 /// The live columns of a row are its part of the table: they ascend by name, and a column is one of them exactly
 /// if its location is live with its value. Does nothing; its contract is the law.
@@ -12,4 +16,11 @@ ghost use Rattle.slice.specs.Live.{live_columns};
 pub fn live_columns_are_the_table()
     ensures ordered { (h : History) (r : Row) → AllPairs (λ c d. IsBelow c.name d.name) (live_columns h r) }
     ensures exact { (h : History) (r : Row) (c : Column) → Contains (live_columns h r) c ↔ (value_of (newest h (record { row = r; name = c.name })) ≡ Some c.value) }
+{}
+
+/// A read of a row rests on the same transactions after a batch that stands for another, as its normal form does:
+/// in every history, at every time, whatever the read asks. Does nothing; its contract is the law.
+pub fn reads_rest_on_the_same()
+    ensures { (kept given : List Change) → StandsFor kept given → (before after : History) (s : StampValue) (commit time : ℕ) (r : Row) (p : Predicate) (w : StampValue)
+        → RowRestsOn (up_to time (before ++ committed kept s commit ∷ after)) r p w ↔ RowRestsOn (up_to time (before ++ committed given s commit ∷ after)) r p w }
 {}
