@@ -57,7 +57,7 @@ pub record StandsFor (kept given : List Change) : Type 0 where
   pub newest : (before after : History) (s : StampValue) (commit time : ℕ) (l : Location)
       → newest_at (before ++ committed kept s commit ∷ after) time l ≡ newest_at (before ++ committed given s commit ∷ after) time l
   pub deletion : (before after : History) (s : StampValue) (commit time : ℕ) (r : Row)
-    → newest_of (is_row_deletion r) (up_to time (before ++ committed kept s commit ∷ after))
-    ≡ newest_of (is_row_deletion r) (up_to time (before ++ committed given s commit ∷ after))
+      → newest_of (is_row_deletion r) (up_to time (before ++ committed kept s commit ∷ after))
+      ≡ newest_of (is_row_deletion r) (up_to time (before ++ committed given s commit ∷ after))
   pub rests : (before after : History) (s : StampValue) (commit time : ℕ) (l : Location) (w : StampValue)
       → RestsOn (up_to time (before ++ committed kept s commit ∷ after)) l w ↔ RestsOn (up_to time (before ++ committed given s commit ∷ after)) l w

@@ -94,7 +94,8 @@ impl Batch {
         Batch { changes }
     }
 
-    /// Adds a change, the newest.
+    /// Adds a change, the newest. Fails by memory alone; then nothing changes, and
+    /// it is handed back.
     pub fn push(&mut self, change: Change) -> Result<(), AllocFailed<Change>>
         ensures ok { OnOk result (self.new ≡ self.old ++ change ∷ []) }
         ensures err { OnErr result (self.new ≡ self.old) }

@@ -31,7 +31,7 @@ impl Model for Family {
 }
 
 impl Family {
-    /// A copy of these bytes.
+    /// A copy of these bytes. Fails by memory alone.
     pub fn from_slice(alloc: Global, bytes: &[u8]) -> Result<Family, AllocError>
         ensures { IfOk result (λ copy. copy ≡ bytes.now) }
     {
@@ -61,7 +61,7 @@ impl Model for Key {
 }
 
 impl Key {
-    /// A copy of these bytes.
+    /// A copy of these bytes. Fails by memory alone.
     pub fn from_slice(alloc: Global, bytes: &[u8]) -> Result<Key, AllocError>
         ensures { IfOk result (λ copy. copy ≡ bytes.now) }
     {
@@ -99,7 +99,7 @@ impl Model for Name {
 }
 
 impl Name {
-    /// A copy of these bytes.
+    /// A copy of these bytes. Fails by memory alone.
     pub fn from_slice(alloc: Global, bytes: &[u8]) -> Result<Name, AllocError>
         ensures { IfOk result (λ copy. copy ≡ bytes.now) }
     {
@@ -144,7 +144,7 @@ impl Model for Value {
 }
 
 impl Value {
-    /// A copy of these bytes.
+    /// A copy of these bytes. Fails by memory alone.
     pub fn from_slice(alloc: Global, bytes: &[u8]) -> Result<Value, AllocError>
         ensures { IfOk result (λ copy. copy ≡ bytes.now) }
     {

@@ -78,7 +78,7 @@ fn is_schema(families: &[Family]) -> bool
 }
 
 impl Schema {
-    /// The schema of these families, if they may be one.
+    /// The schema of these families, if they may be one. Compares each name with those after it.
     pub fn new(families: Vec<Family>) -> Option<Schema>
         ensures { SomeIff result (schema.is_schema families.items ≡ true) families.items }
     {

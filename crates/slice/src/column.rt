@@ -46,7 +46,8 @@ impl Columns {
         Columns { columns }
     }
 
-    /// Adds a column at the end.
+    /// Adds a column at the end. Fails by memory alone; then nothing changes, and
+    /// it is handed back.
     pub fn push(&mut self, column: Column) -> Result<(), AllocFailed<Column>>
         ensures ok { OnOk result (self.new ≡ self.old ++ column ∷ []) }
         ensures err { OnErr result (self.new ≡ self.old) }

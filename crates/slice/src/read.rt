@@ -82,7 +82,8 @@ impl Answer {
         }
     }
 
-    /// Adds a row at the end.
+    /// Adds a row at the end. Fails by memory alone; then nothing changes, and
+    /// it is handed back.
     pub fn push(&mut self, row: AnsweredRow) -> Result<(), AllocFailed<AnsweredRow>>
         ensures ok { OnOk result (self.new ≡ self.old ++ row ∷ []) }
         ensures err { OnErr result (self.new ≡ self.old) }

@@ -31,7 +31,8 @@ impl History {
         }
     }
 
-    /// Adds an entry at the end.
+    /// Adds an entry at the end. Fails by memory alone; then nothing changes, and
+    /// it is handed back.
     pub fn push(&mut self, entry: Committed) -> Result<(), AllocFailed<Committed>>
         ensures ok { OnOk result (self.new ≡ self.old ++ entry ∷ []) }
         ensures err { OnErr result (self.new ≡ self.old) }

@@ -18,7 +18,7 @@ pub enum Op {
 impl Op {
     ghost use Rattle.std.specs.Prelude.{◌≡◌, IfOk};
 
-    /// A copy, which shares the bytes of keys, names and values.
+    /// A copy, which shares the bytes of keys, names and values. Fails by memory alone.
     pub fn copied(&self) -> Result<Op, AllocError>
         ensures { IfOk result (λ copy. copy ≡ self.now) }
     {

@@ -72,7 +72,8 @@ impl Transcript {
         }
     }
 
-    /// Adds an entry at the end.
+    /// Adds an entry at the end. Fails by memory alone; then nothing changes, and
+    /// it is handed back.
     pub fn push(&mut self, entry: Entry) -> Result<(), AllocFailed<Entry>>
         ensures ok { OnOk result (self.new ≡ self.old ++ entry ∷ []) }
         ensures err { OnErr result (self.new ≡ self.old) }
