@@ -194,6 +194,7 @@ rests_alike l h g w e d (inr s) = inr (ap (λ (o : Option Stamped). stamp_of o) 
 
 pub stands_for : (kept given : List Change) → ((l : Location) → last_of (touches l) kept ≡ last_of (touches l) given) → ((r : Row) → last_of (is_row_deletion r) kept ≡ last_of (is_row_deletion r) given) → StandsFor kept given
 stands_for kept given t d = record {
+  table = λ before after s commit time l. ap (option_map (λ (x : Stamped). x.mutation)) (newest_same (touches l) kept given (t l) before after s commit time);
   newest = λ before after s commit time l. newest_same (touches l) kept given (t l) before after s commit time;
   deletion = λ before after s commit time r. newest_same (is_row_deletion r) kept given (d r) before after s commit time;
   rests = λ before after s commit time l w. (

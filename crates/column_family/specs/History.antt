@@ -63,7 +63,12 @@ inserted (DeleteColumn n) = None
 inserted DeleteRow = None
 inserted (DeleteRange start finish) = None
 
--- a location is live with the value that its newest mutation inserts, and else holds no column
+-- a location is live with the value that the mutation inserts which the table gives it, and else holds no column
+abbrev pub live_value : Option Mutation → Option (List ℕ)
+live_value None = None
+live_value (Some m) = inserted m
+
+-- the same of a newest mutation that is told with its stamp
 abbrev pub value_of : Option Stamped → Option (List ℕ)
 value_of None = None
 value_of (Some s) = inserted s.mutation

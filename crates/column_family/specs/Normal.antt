@@ -10,7 +10,7 @@ use Rattle.column_family.specs.declared.batch.Committed.{Committed}
 use Rattle.column_family.specs.declared.batch.Mutation.{Mutation}
 use Rattle.column_family.specs.declared.batch.Mutation.TheVariants.{Insert, DeleteColumn, DeleteRow, DeleteRange}
 use Rattle.column_family.specs.Location.{Location, is_same_row, is_row_deletion}
-use Rattle.column_family.specs.History.{History, newest_of, up_to, newest_at, RestsOn}
+use Rattle.column_family.specs.History.{History, newest_of, up_to, newest_at, table_at, RestsOn}
 
 -- how many changes stand before the row's first
 abbrev pub changes_before : List Change → Row → ℕ
@@ -51,9 +51,11 @@ IsNormal changes = All (λ c. IsEffective c.mutation) changes × IsInOrderOf cha
 abbrev pub committed : List Change → StampValue → ℕ → Committed
 committed batch s t = record { batch = batch; stamp = s; commit = t }
 
--- One batch stands for the other: in every history, at every time, each location keeps its newest mutation, and
--- with it the table, each row keeps its newest deletion, and a read of a location rests on the same.
+-- One batch stands for the other: in every history, at every time, the table is the same, each location keeps its
+-- newest mutation with its stamp and each row its newest deletion, and a read of a location rests on the same.
 pub record StandsFor (kept given : List Change) : Type 0 where
+  pub table : (before after : History) (s : StampValue) (commit time : ℕ) (l : Location)
+      → table_at (before ++ committed kept s commit ∷ after) time l ≡ table_at (before ++ committed given s commit ∷ after) time l
   pub newest : (before after : History) (s : StampValue) (commit time : ℕ) (l : Location)
       → newest_at (before ++ committed kept s commit ∷ after) time l ≡ newest_at (before ++ committed given s commit ∷ after) time l
   pub deletion : (before after : History) (s : StampValue) (commit time : ℕ) (r : Row)

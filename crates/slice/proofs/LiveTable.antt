@@ -14,7 +14,7 @@ use Rattle.column_family.specs.declared.batch.Mutation.{Mutation}
 use Rattle.column_family.specs.declared.batch.Mutation.TheVariants.{Insert, DeleteColumn, DeleteRow, DeleteRange}
 use Rattle.column_family.specs.Location.{Location, is_same_row, touches, touches_name}
 use Rattle.column_family.specs.Normal.{IsBelow}
-use Rattle.column_family.specs.History.{History, Stamped, stamped, newer_of, last_of, newest, inserted, value_of}
+use Rattle.column_family.specs.History.{History, Stamped, stamped, newer_of, last_of, newest, up_to, table_at, inserted, live_value, value_of}
 use Rattle.slice.specs.declared.column.Column.{Column}
 use Rattle.slice.specs.Live.{column_named, column_changed, columns_changed, live_column, live_columns}
 use Rattle.slice.proofs.NameOrder.{sorted_in_order}
@@ -134,3 +134,15 @@ live_if_in_table h r c = (
   (λ e. given_if_among (live_column h r) c.name c (ap (option_map (λ v. record { name = c.name; value = v })) e) (columns_changed h r)
       (value_changed h r c.name c.value (newest h (at r c.name)) refl e)),
 )
+
+live_value_of : (o : Option Stamped) → live_value (option_map (λ s. s.mutation) o) ≡ value_of o
+live_value_of None = refl
+live_value_of (Some s) = refl
+
+-- the same at a time, by the table
+pub live_if_in_table_at : (h : History) (t : ℕ) (r : Row) (c : Column)
+    → Contains (live_columns (up_to t h) r) c ↔ (live_value (table_at h t (at r c.name)) ≡ Some c.value)
+live_if_in_table_at h t r c =
+    let known = live_if_in_table (up_to t h) r c in
+    let same = live_value_of (newest (up_to t h) (at r c.name)) in
+    (λ has. same ∙ known.0 has, λ is. known.1 (sym same ∙ is))

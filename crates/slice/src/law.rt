@@ -2,7 +2,7 @@
 ghost use Rattle.std.specs.Prelude.{◌≡◌, ◌↔◌, ℕ, List, ◌∷◌, ◌++◌, Some, AllPairs, Contains};
 ghost use Rattle.logical_time.specs.Stamps.{StampValue};
 ghost use Rattle.column_family.specs.Normal.{IsBelow, committed, StandsFor};
-ghost use Rattle.column_family.specs.History.{History, newest, up_to, value_of};
+ghost use Rattle.column_family.specs.History.{History, newest, up_to, table_at, live_value, value_of};
 ghost use Rattle.column_family.specs.declared.batch.Change.{Change};
 ghost use Rattle.column_family.specs.declared.batch.Row.{Row};
 ghost use Rattle.slice.specs.declared.column.Column.{Column};
@@ -11,11 +11,13 @@ ghost use Rattle.slice.specs.Rests.{RowRestsOn};
 ghost use Rattle.slice.specs.declared.predicate.Predicate.{Predicate};
 
 /// The live columns of a row are its part of the table: they ascend by name, and a column is one of them exactly
-/// if its location is live with its value. Does nothing; its contract is the law.
+/// if its location is live with its value, in the table of a whole history and in that at each time. Does nothing; its
+/// contract is the law.
 #[tactic(auto, using(crate::proofs::LiveTable::live_in_order, crate::proofs::LiveTable::live_if_in_table))]
 pub fn live_columns_are_the_table()
     ensures ordered { (h : History) (r : Row) → AllPairs (λ c d. IsBelow c.name d.name) (live_columns h r) }
     ensures exact { (h : History) (r : Row) (c : Column) → Contains (live_columns h r) c ↔ (value_of (newest h (record { row = r; name = c.name })) ≡ Some c.value) }
+    ensures table { (h : History) (t : ℕ) (r : Row) (c : Column) → Contains (live_columns (up_to t h) r) c ↔ (live_value (table_at h t (record { row = r; name = c.name })) ≡ Some c.value) }
 {}
 
 /// A read of a row rests on the same transactions after a batch that stands for another, as its normal form does:

@@ -44,12 +44,6 @@ any_changed r q (c ∷ cs) =
     ∙ ap (λ b. b || is_named q (filter_map (column_changed r) cs)) (changed_alike q (is_same_row r c.row) c.mutation)
     ∙ ap (λ b. is_column_change (column_at r q) c || b) (any_changed r q cs)
 
-or_last : (b c : Bool) → (b || c) ≡ (c || b)
-or_last true true = refl
-or_last true false = refl
-or_last false true = refl
-or_last false false = refl
-
 some_or : (o : Option Mutation) (b : Bool) (m : Mutation) → is_some (option_or o (if b then Some m else None)) ≡ (b || is_some o)
 some_or None true m = refl
 some_or None false m = refl
