@@ -7,8 +7,10 @@ mod clock;
 mod fault;
 mod ids;
 mod time;
+mod writers;
 
 pub use clock::Clock;
 pub use fault::Fault;
 pub use ids::{Node, Stamp, TxnId, Writer};
 pub use time::Time;
+pub use writers::Writers;

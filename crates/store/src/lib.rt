@@ -7,5 +7,5 @@ mod part;
 mod reading;
 mod store;
 
-pub use part::{Part, WritePart, Writers};
+pub use part::{Part, WritePart};
 pub use store::{Applied, Store};

@@ -10,13 +10,13 @@ ghost use Rattle.store.specs.Part.{IsNewestPart};
 ghost use Rattle.store.specs.Part as part;
 ghost use Rattle.store.specs.Own as own;
 
-use crate::part::{Part, Writers};
+use crate::part::Part;
 use crate::store::Applied;
 use column_family::{
     Batch, Change, Committed, Name, NewestMutation, Row, newest_column_change, newest_row_deletion,
     newest_touching,
 };
-use logical_time::{Fault, Stamp, Time, Writer};
+use logical_time::{Fault, Stamp, Time, Writer, Writers};
 use slice::{Column, Predicate, columns_changed, live_columns, select};
 use std::alloc::{AllocError, Global};
 
