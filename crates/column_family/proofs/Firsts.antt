@@ -42,7 +42,7 @@ pub keep_new : (row : ℕ) (es : Placed) (c : Change) (p : Place) → place_of r
 keep_new row es c p e apart = ap (λ (o : Option Place). keep_at es o c) e ∙ rw apart refl
 
 -- equal rows are one row, by either test
-bytes_eq-flip : (a b : List ℕ) → bytes_eq a b ≡ bytes_eq b a
+pub bytes_eq-flip : (a b : List ℕ) → bytes_eq a b ≡ bytes_eq b a
 bytes_eq-flip a b =
     by_cases (bytes_eq a b)
     (λ y. y ∙ sym ((bytes_eq-Decides b a).1 (sym ((bytes_eq-Decides a b).0 y))))
@@ -55,7 +55,7 @@ is_eq-then Less y = refl
 is_eq-then Equal y = refl
 is_eq-then Greater y = refl
 
-row_test : (a b : Row) → is_eq (row_cmp a b) ≡ is_same_row b a
+pub row_test : (a b : Row) → is_eq (row_cmp a b) ≡ is_same_row b a
 row_test a b =
     is_eq-then (slice_cmp nat_cmp a.family b.family) (slice_cmp nat_cmp a.key b.key)
     ∙ ap (λ (x : Bool). x && is_eq (slice_cmp nat_cmp a.key b.key)) (is_eq-slice_cmp a.family b.family ∙ bytes_eq-flip a.family b.family)

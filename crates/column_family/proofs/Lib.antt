@@ -5,3 +5,4 @@ pub mod NewestFold
 pub mod Options
 pub mod Order
 pub mod UpTo
+pub mod Joins

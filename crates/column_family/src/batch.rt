@@ -117,6 +117,13 @@ impl Batch {
     {
         self.changes.len()
     }
+
+    /// The changes themselves, oldest first.
+    pub fn into_vec(self) -> Vec<Change>
+        ensures { result.items ≡ self }
+    {
+        self.changes
+    }
 }
 
 /// A batch that is committed: an entry of a history.

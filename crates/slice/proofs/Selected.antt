@@ -1,5 +1,5 @@
 -- What a set of names, and a walk from the end, find among columns.
-use Rattle.std.proofs.Common.{◌≡◌, ℕ, Bool, true, false, ◌||◌, List, [], ◌∷◌, ◌++◌, filter, reverse, refl, ap, ◌∙◌, sym, rules, cond, append-nil}
+use Rattle.std.proofs.Common.{◌≡◌, ℕ, Bool, true, false, ◌||◌, List, [], ◌∷◌, ◌++◌, filter, take, reverse, refl, ap, ◌∙◌, sym, rules, cond, append-nil}
 use Rattle.std.specs.declared.cmp.Ordering.{Ordering}
 use Rattle.std.specs.declared.cmp.Ordering.TheVariants.{Less, Equal, Greater}
 use Rattle.std.specs.Ordering.{nat_cmp, is_eq}
@@ -14,6 +14,9 @@ use Rattle.std.proofs.lemmas.Slice.Eq.{bytes_eq-Decides}
 use Rattle.std.proofs.lemmas.Grind.{reverse_onto}
 use Rattle.slice.specs.Live.{placed_name, with_name, in_name_order}
 use Rattle.slice.specs.declared.column.Column.{Column}
+use Rattle.slice.specs.declared.predicate.Predicate.{Predicate}
+use Rattle.slice.specs.declared.predicate.Predicate.TheVariants.{Names, Range}
+use Rattle.slice.specs.Slice.{is_asked, AreAsked, first_of_walk, walked, slice_of}
 
 or_twice : (a b : Bool) → (a || b) ≡ (a || (a || b))
 or_twice true b = refl
@@ -66,3 +69,17 @@ filter_reverse p [] = refl
 filter_reverse p (x ∷ xs) =
     ap (filter p) (reverse_onto xs x []) ∙ (filter-append p (reverse xs) (x ∷ [])
     ∙ (ap (λ ys. ys ++ filter p (x ∷ [])) (filter_reverse p xs) ∙ last_kept (p x) x (filter p xs)))
+
+asked_one : (b : Bool) (c : Column) (kept cs : List Column) → b ≡ true → kept ≡ cs → cond b (c ∷ kept) kept ≡ c ∷ cs
+asked_one true c kept cs e f = ap (λ ds. c ∷ ds) f
+asked_one false c kept cs e f = absurd (cc)
+
+all_asked : (p : Predicate) (cs : List Column) → AreAsked p cs → filter (λ c. is_asked p c.name) cs ≡ cs
+all_asked p [] h = refl
+all_asked p (c ∷ cs) h = asked_one (is_asked p c.name) c (filter (λ d. is_asked p d.name) cs) cs h.0 (all_asked p cs h.1)
+
+-- what is cut off the columns of a walk is cut off the slice
+pub cut_of_asked : (p : Predicate) (cs : List Column) → AreAsked p cs → first_of_walk p cs ≡ slice_of p cs
+cut_of_asked (Names names) cs h = sym (all_asked (Names names) cs h)
+cut_of_asked (Range start finish reversed count) cs h =
+    ap (λ ds. take count (walked reversed ds)) (sym (all_asked (Range start finish reversed count) cs h))

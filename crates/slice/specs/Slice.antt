@@ -1,5 +1,5 @@
 -- The slice of a row's live columns, and which predicates may be asked.
-use Rattle.std.specs.Prelude.{ℕ, Bool, true, false, ◌&&◌, ◌||◌, nat_lt, if◌then◌else◌, List, [], ◌∷◌, length, filter, take, reverse, Option, Some, None}
+use Rattle.std.specs.Prelude.{◌≡◌, ⊤, ℕ, Bool, true, false, ◌&&◌, ◌||◌, nat_lt, if◌then◌else◌, List, [], ◌∷◌, length, filter, take, reverse, Option, Some, None}
 use Rattle.std.specs.List.{list_all, list_any}
 use Rattle.std.specs.Str.{bytes_eq}
 use Rattle.std.specs.Ordering.{nat_cmp, is_le}
@@ -41,6 +41,16 @@ abbrev pub slice_of : Predicate → List Column → List Column
 slice_of (Names names) live = filter (λ c. is_asked (Names names) c.name) live
 slice_of (Range start finish reversed count) live =
     take count (walked reversed (filter (λ c. is_asked (Range start finish reversed count) c.name) live))
+
+-- the predicate speaks of each of these columns
+abbrev pub AreAsked : Predicate → List Column → Type 0
+AreAsked p [] = ⊤
+AreAsked p (c ∷ cs) = (is_asked p c.name ≡ true) × AreAsked p cs
+
+-- of columns that are all asked for, those that the slice has
+abbrev pub first_of_walk : Predicate → List Column → List Column
+first_of_walk (Names names) live = live
+first_of_walk (Range start finish reversed count) live = take count (walked reversed live)
 
 -- why a list of names is refused, if it is
 abbrev pub names_fault : List (List ℕ) → Option Fault

@@ -9,7 +9,7 @@ use std::collections::BTreeSet;
 
 /// The set of these names. Takes `n log n` steps. Refused with `Memory` alone.
 #[tactic(auto, using(crate::proofs::NameOrder::put_among_none, crate::proofs::NameOrder::put_among_insert))]
-pub(crate) fn set_of(alloc: Global, names: &[Name]) -> Result<BTreeSet<Name>, Fault>
+pub fn set_of(alloc: Global, names: &[Name]) -> Result<BTreeSet<Name>, Fault>
     ensures ok { IfOk result (λ set. set.keys ≡ in_name_order names.now) }
     ensures memory { IfErr result (λ e. e ≡ Fault.Memory) }
 {

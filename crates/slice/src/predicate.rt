@@ -65,7 +65,7 @@ const MOST_NAMES: usize = 4096;
 
 impl Predicate {
     ghost use Rattle.slice.specs.Slice.{predicate_fault, is_asked};
-    ghost use Rattle.slice.specs.Rests.{is_looked_at};
+    ghost use Rattle.slice.specs.Rests.{is_within, is_looked_at};
 
     /// Whether the predicate may be asked: refused with `TooMany` for more than 4,096 names, then with
     /// `NameLength` for a name that is empty or longer than 1,024 bytes or an end longer than that, then with
@@ -110,15 +110,23 @@ impl Predicate {
     pub fn is_looked_at(&self, columns: &[Column], name: &Name) -> bool
         ensures { result ≡ is_looked_at self.now columns.now name.now }
     {
-        let is_within = match self {
+        self.is_asked(name) && self.is_within(columns, name)
+    }
+
+    /// Whether the walk of a read that returned these columns of a row came to the column of this name, which is
+    /// asked for: where a range returned as many columns as its count, it doesn't lie after the last of them. A
+    /// list of names has no walk.
+    pub fn is_within(&self, columns: &[Column], name: &Name) -> bool
+        ensures { result ≡ is_within self.now columns.now name.now }
+    {
+        match self {
             Predicate::Names(_) => true,
             Predicate::Range {
                 reversed,
                 count,
                 ..
             } => columns.len() < *count as usize || is_reached(*reversed, columns, name),
-        };
-        self.is_asked(name) && is_within
+        }
     }
 }
 

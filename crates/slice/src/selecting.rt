@@ -3,6 +3,7 @@ ghost use Rattle.std.specs.Prelude.{◌≡◌, IfOk, IfErr, filter, take, revers
 ghost use Rattle.std.specs.List.{list_any};
 ghost use Rattle.std.specs.Str.{bytes_eq};
 ghost use Rattle.slice.specs.Slice as slice;
+ghost use Rattle.slice.specs.Slice.{AreAsked};
 ghost use Rattle.std.specs.BTreeSet.{contains};
 ghost use Rattle.std.specs.Cmp.Lexicographic.{slice_cmp};
 ghost use Rattle.std.specs.Ordering.{nat_cmp};
@@ -23,6 +24,33 @@ pub fn select(alloc: Global, live: &[Column], predicate: &Predicate) -> Result<C
 {
     let found = chosen(alloc, live, predicate)?;
     copies(alloc, &found)
+}
+
+/// The slice of the live columns of a row, which are given in name order and are all asked for: all of them, or
+/// the first `count` of a walk. Linear in the columns, and takes no memory.
+#[tactic(auto, using(crate::proofs::Selected::cut_of_asked))]
+pub fn cut(live: Vec<Column>, predicate: &Predicate) -> Columns
+    ensures { AreAsked predicate.now live.items → result ≡ slice.slice_of predicate.now live.items }
+{
+    first_of_walk(live, predicate)
+}
+
+// The first columns of the walk of a predicate; a list of names takes all.
+fn first_of_walk(mut live: Vec<Column>, predicate: &Predicate) -> Columns
+    ensures { result ≡ slice.first_of_walk predicate.now live.items }
+{
+    if let Predicate::Range {
+        reversed,
+        count,
+        ..
+    } = predicate
+    {
+        if *reversed {
+            live.reverse();
+        }
+        live.truncate(*count as usize);
+    }
+    Columns::from_vec(live)
 }
 
 // The columns of the slice.

@@ -1,7 +1,8 @@
 -- What is held after a put and after a removal.
-use Rattle.std.proofs.Common.{◌≡◌, refl, sym, ℕ, zero, suc, ◌∙◌, ap, subst, true, false, List, [], ◌∷◌, Some, inl, inr, ⊎_elim, arith}
+use Rattle.std.proofs.Common.{◌≡◌, refl, sym, ℕ, zero, suc, ◌≤◌, ◌∙◌, ap, length, subst, true, false, List, [], ◌∷◌, Some, inl, inr, ⊎_elim, arith}
 use Rattle.std.proofs.lemmas.Bool.Decides.{nat_tests}
-use Rattle.std.specs.Prelude.{remove, Contains, slice_get, ◌↔◌, ◌⊎◌}
+use Rattle.std.proofs.lemmas.List.Edits.{length-insert}
+use Rattle.std.specs.Prelude.{insert, remove, Contains, slice_get, ◌↔◌, ◌⊎◌}
 use Rattle.std.specs.Ordering.{is_eq}
 use Rattle.logical_time.specs.Stamps.{StampValue, stamp_cmp, is_older}
 use Rattle.versions.specs.declared.version.Version.{Version}
@@ -21,6 +22,19 @@ same_if_newer s t h = grind (arith, nat_tests)
 pub new_if_older : (s : StampValue) (xs : List Version) → AreOlder s xs → has_stamp xs s ≡ false
 new_if_older s [] h = refl
 new_if_older s (x ∷ xs) h = rw (same_if_older x.stamp s h.0) (new_if_older s xs h.1)
+
+-- a version whose stamp is held changes nothing
+pub put_if_held : (xs : List Version) (v : Version) → IsFalling xs → has_stamp xs v.stamp ≡ true → put_of xs v ≡ xs
+put_if_held [] v h held = absurd (cc)
+put_if_held (x ∷ xs) v h held =
+    by_cases (is_older v.stamp x.stamp)
+    (λ lt. rw lt (ap (λ ys. x ∷ ys) (put_if_held xs v h.1 (rw (same_if_newer v.stamp x.stamp lt) at held))))
+    (λ ge. by_cases (is_eq (stamp_cmp v.stamp x.stamp))
+    (λ eq. rw (ge, eq) refl)
+    (λ ne.
+    let none = new_if_older v.stamp xs (all_older v.stamp x.stamp xs (newer_if_not v.stamp x.stamp ge ne) h.0) in
+    let some : has_stamp xs v.stamp ≡ true = rw ne at held in
+    absurd (cc)))
 
 held_before : (xs : List Version) (v w : Version) → Contains xs w → Contains (put_of xs v) w
 held_before [] v w c = absurd (none_in_empty w c)
@@ -101,3 +115,10 @@ removed_is_gone (x ∷ xs) (suc place) w h e c =
     (λ same. not_among_older x xs h.0 (placed_is_contained xs place x (e ∙ ap Some (sym same))))
     (removed_is_gone xs place w h.1 e)
     (first_or_rest x w (remove xs place) c)
+
+-- a version that is inserted changes the list
+pub not_inserted : (xs : List Version) (v : Version) (place : ℕ) → place ≤ length xs → put_of xs v ≡ insert xs place v → put_of xs v ≡ xs → ⊥
+not_inserted xs v place le is same =
+    let more = length-insert xs place v le in
+    let equal : length (insert xs place v) ≡ length xs = ap length (sym is ∙ same) in
+    omega arith

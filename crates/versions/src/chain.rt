@@ -1,5 +1,5 @@
 //! Chains of versions.
-ghost use Rattle.std.specs.Prelude.{◌≡◌, ◌+◌, ◌-◌, ◌≤◌, ◌<◌, [], length, slice_get, IfOk, OnOk, OnErr, IfErr, IsOk, is_ok, is_some, if◌then◌else◌, remove, MatchOption, Contains, IfSome, ℕ, ◌↔◌, ◌⊎◌, Some, false};
+ghost use Rattle.std.specs.Prelude.{◌≡◌, ◌+◌, ◌-◌, ◌≤◌, ◌<◌, [], length, slice_get, IfOk, OnOk, OnErr, IfErr, IsOk, is_ok, is_some, if◌then◌else◌, remove, MatchOption, Contains, IfSome, ℕ, ◌↔◌, ◌⊎◌, Some, true, false};
 ghost use Rattle.std.specs.Option.{option_copied};
 
 use crate::places::{put_in, take_out};
@@ -54,6 +54,7 @@ impl Chain {
         ensures same { self.new.versions ≡ self.old.versions }
         ensures ok { OnOk result (additional ≤ self.new.room) }
         ensures room { self.old.room ≤ self.new.room }
+        ensures succeeds { 0 < additional → additional ≤ self.old.room → IsOk result }
         ensures memory { IfErr result (λ e. e ≡ Fault.Memory) }
     {
         self.versions.reserve(additional)?;
@@ -61,15 +62,15 @@ impl Chain {
     }
 
     /// Puts a version in its place, in any order of stamps; a stamp that is held already changes nothing. Takes
-    /// as many steps as versions are held. Refused with `Memory` alone, never where there is room, and then the
-    /// version comes back and the chain stays.
-    #[tactic(auto, using(crate::proofs::Falling::falling_put))]
+    /// as many steps as versions are held. Refused with `Memory` alone, never where there is room
+    /// or the stamp is held, and then the version comes back and the chain stays.
+    #[tactic(auto, using(crate::proofs::Falling::falling_put, crate::proofs::Held::put_if_held))]
     pub fn put(&mut self, version: Version) -> Result<(), (Fault, Version)>
         ensures ok { OnOk result (self.new.versions ≡ put_of self.old.versions version) }
         ensures held { OnOk result ((w : Version) → Contains self.new.versions w ↔ (Contains self.old.versions w ⊎ ((w ≡ version) × (has_stamp self.old.versions version.stamp ≡ false)))) }
         ensures seen { OnOk result ((t : ℕ) → at_of self.new.versions t ≡ at_with self.old.versions version t) }
         ensures room { self.old.room ≤ self.new.room + (if is_ok result then 1 else 0) }
-        ensures succeeds { 0 < self.old.room → IsOk result }
+        ensures succeeds { (0 < self.old.room) ⊎ (has_stamp self.old.versions version.stamp ≡ true) → IsOk result }
         ensures err { OnErr result (self.new.versions ≡ self.old.versions) }
         ensures back { IfErr result (λ e. e ≡ (Fault.Memory, version)) }
     {

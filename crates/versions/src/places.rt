@@ -21,10 +21,12 @@ fn place_of(versions: &[Version], version: &Version) -> Option<usize>
 }
 
 /// Puts a version in its place, unless its stamp is held.
+#[tactic(auto, using(crate::proofs::Held::not_inserted))]
 pub(crate) fn put_in(versions: &mut Vec<Version>, version: Version) -> Result<(), (Fault, Version)>
     ensures ok { OnOk result (versions.new.items ≡ put_of versions.old.items version) }
     ensures room { (vec_capacity versions.old - vec_len versions.old) ≤ (vec_capacity versions.new - vec_len versions.new) + (if is_ok result then 1 else 0) }
     ensures succeeds { 0 < (vec_capacity versions.old - vec_len versions.old) → IsOk result }
+    ensures held { put_of versions.old.items version ≡ versions.old.items → IsOk result }
     ensures err { OnErr result (versions.new.items ≡ versions.old.items) }
     ensures back { IfErr result (λ e. e ≡ (Fault.Memory, version)) }
 {
