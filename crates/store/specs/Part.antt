@@ -1,5 +1,5 @@
 -- What a store answers, by what was applied to it.
-use Rattle.std.specs.Prelude.{◌≡◌, ℕ, max, if◌then◌else◌, List, [], ◌∷◌, map, Option, Some, None, Contains, ◌↔◌}
+use Rattle.std.specs.Prelude.{◌≡◌, ℕ, max, nat_le, if◌then◌else◌, List, [], ◌∷◌, map, filter, Option, Some, None, Contains, ◌↔◌}
 use Rattle.std.specs.List.Sorted.{IsStrictlySortedBy}
 use Rattle.logical_time.specs.Stamps.{WriterValue, writer_cmp}
 use Rattle.column_family.specs.declared.batch.Row.{Row}
@@ -10,7 +10,7 @@ use Rattle.slice.specs.declared.predicate.Predicate.{Predicate}
 use Rattle.slice.specs.Slice.{slice_of, is_asked}
 use Rattle.slice.specs.Live.{live_columns, columns_changed}
 use Rattle.slice.specs.Rests.{RowRestsOn}
-use Rattle.store.specs.declared.store.Applied.{Applied}
+use Rattle.store.specs.declared.part.Applied.{Applied}
 use Rattle.store.specs.declared.part.Part.{Part}
 
 abbrev pub committed_of : Applied → Committed
@@ -18,7 +18,26 @@ committed_of a = record { batch = a.part.batch; stamp = a.stamp; commit = a.comm
 
 -- what was applied, as a history
 abbrev pub history_of : List Applied → History
-history_of held = map committed_of held
+history_of applied = map committed_of applied
+
+-- what was applied with a commit time at or before a time
+abbrev pub applied_by : ℕ → List Applied → List Applied
+applied_by t applied = filter (λ a. nat_le a.commit t) applied
+
+-- the read of the row rests on something that this writer's transaction applied
+abbrev pub IsRestedOn : List Applied → Row → Predicate → WriterValue → Type 0
+IsRestedOn applied r p w =
+    (a : Applied) × Contains applied a × (a.part.writer ≡ w) × RowRestsOn (history_of applied) r p a.stamp
+
+-- a row's part of what was applied: the asked slice of the table's live columns, and what a read of it rests on
+pub record IsPartOf (applied : List Applied) (r : Row) (p : Predicate) (part : Part) : Type 0 where
+  pub columns : part.columns ≡ slice_of p (live_columns (history_of applied) r)
+  pub writers : (w : WriterValue) → Contains part.writers w ↔ IsRestedOn applied r p w
+  pub in_order : IsStrictlySortedBy writer_cmp part.writers
+
+-- a row's part that is right at a time: by the table of what was applied, at that time
+abbrev pub IsRightPart : List Applied → Row → Predicate → ℕ → Part → Type 0
+IsRightPart applied r p t part = IsPartOf (applied_by t applied) r p part
 
 abbrev pub commit_of : Option Stamped → ℕ
 commit_of None = 0
@@ -38,14 +57,7 @@ abbrev pub evt_of : History → Row → Predicate → ℕ
 evt_of h r p =
     max (commit_of (newest_of (is_row_deletion r) h)) (greatest_of (map (column_evt h r p) (columns_changed h r)))
 
--- the read of the row rests on something that this writer's transaction applied
-abbrev pub IsRestedOn : List Applied → Row → Predicate → WriterValue → Type 0
-IsRestedOn held r p w =
-    (a : Applied) × Contains held a × (a.part.writer ≡ w) × RowRestsOn (history_of held) r p a.stamp
-
--- a row's part by the newest versions: the slice of the live columns, what it rests on, and since when it is valid
-pub record IsNewestPart (held : List Applied) (r : Row) (p : Predicate) (part : Part) : Type 0 where
-  pub columns : part.columns ≡ slice_of p (live_columns (history_of held) r)
-  pub writers : (w : WriterValue) → Contains part.writers w ↔ IsRestedOn held r p w
-  pub in_order : IsStrictlySortedBy writer_cmp part.writers
-  pub evt : part.evt ≡ evt_of (history_of held) r p
+-- a row's part by the newest versions, and since when it is valid
+pub record IsNewestPart (applied : List Applied) (r : Row) (p : Predicate) (part : Part) : Type 0 where
+  pub shown : IsPartOf applied r p part
+  pub evt : part.evt ≡ evt_of (history_of applied) r p

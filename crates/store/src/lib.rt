@@ -1,11 +1,15 @@
-//! A shard's store: the parts of batches that were applied, and slices of the newest versions.
+//! A shard's store: chains of the versions that were applied, and slices of rows, now and at a time.
 //!
 //! Nothing here knows of votes, messages or sessions.
 #![tactic(auto)]
 
+mod origin;
 mod part;
 mod reading;
+mod row;
+mod rows;
+mod sight;
 mod store;
 
-pub use part::{Part, WritePart};
-pub use store::{Applied, Store};
+pub use part::{Applied, Part, WritePart};
+pub use store::Store;

@@ -1,6 +1,6 @@
 //! What is applied to a store, and what it answers.
 use column_family::Batch;
-use logical_time::{Time, Writer, Writers};
+use logical_time::{Stamp, Time, Writer, Writers};
 use slice::Columns;
 
 /// A transaction's part for one shard: the changes of that shard's rows, in normal form.
@@ -12,6 +12,17 @@ pub struct WritePart {
     pub batch: Batch,
 }
 
+/// A part that was applied.
+#[derive(Drop, Debug)]
+pub struct Applied {
+    /// The part.
+    pub part: WritePart,
+    /// The commit time in this data centre, which is the part's earliest valid time.
+    pub commit: Time,
+    /// The stamp of the transaction.
+    pub stamp: Stamp,
+}
+
 /// What a store answers of a row.
 #[derive(Drop, Debug, Clone)]
 pub struct Part {
@@ -19,6 +30,6 @@ pub struct Part {
     pub columns: Columns,
     /// The transactions that the slice rests on.
     pub writers: Writers,
-    /// The earliest time at which the slice is valid (Eiger's EVT).
+    /// The earliest time at which the slice is valid (Eiger's EVT), or 0 in an answer at a time.
     pub evt: Time,
 }

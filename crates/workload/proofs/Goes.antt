@@ -20,7 +20,8 @@ use Rattle.workload.specs.declared.transcript.Entry.TheVariants.{Read as Answere
 use Rattle.workload.specs.declared.simulating.Runner.{Runner}
 use Rattle.workload.specs.Simulation.{session, stamp_at, greatest, Tells}
 use Rattle.workload.specs.Runner.{HasCompleted, Writes, Reads, Drains, GoesOn, HasTold}
-use Rattle.workload.proofs.Histories.{newest_of_append, greatest_append, history_of_append, up_to_all}
+use Rattle.column_family.proofs.Joins.{newest_of_append}
+use Rattle.workload.proofs.Histories.{greatest_append, up_to_all}
 
 rows_alike : (read : Read) (h k : History) (keys : List (List ℕ)) → ((l : Location) → newest h l ≡ newest k l) → map (shown_row read h) keys ≡ map (shown_row read k) keys
 rows_alike read h k [] same = refl

@@ -1,0 +1,91 @@
+-- What a store keeps: rows of chains, and the time below which it answers no more.
+use Rattle.std.specs.Prelude.{◌≡◌, ℕ, ◌<◌, Bool, true, ◌&&◌, List, [], ◌∷◌, map, filter, Option, Some, None, unwrap_or}
+use Rattle.std.specs.List.{list_any}
+use Rattle.std.specs.Ordering.{nat_cmp, is_eq}
+use Rattle.std.specs.declared.cmp.Ordering.{Ordering}
+use Rattle.std.specs.Cmp.Lexicographic.{slice_cmp}
+use Rattle.std.specs.Map.{lookup}
+use Rattle.column_family.specs.declared.batch.Row.{Row}
+use Rattle.column_family.specs.declared.batch.Change.{Change}
+use Rattle.column_family.specs.declared.batch.Mutation.{Mutation}
+use Rattle.column_family.specs.Location.{is_same_row, changes_name, deletes_row}
+use Rattle.column_family.specs.History.{inserted}
+use Rattle.column_family.specs.Places.{row_cmp}
+use Rattle.versions.specs.declared.version.Version.{Version}
+use Rattle.versions.specs.Chain.{Held, put_of}
+use Rattle.store.specs.declared.origin.Origin.{Origin}
+
+-- a place in a row: the column of a name, or none for the row's deletions
+abbrev pub Place : Type 0
+Place = Option (List ℕ)
+
+-- a row: a chain for each of its columns, and one for its deletions
+pub record Chains : Type 0 where
+  pub columns : List (List ℕ × Held)
+  pub deletions : Held
+
+-- what a store keeps: its rows, and its horizon, the time below which it answers no more
+pub record Kept : Type 0 where
+  pub rows : List (Row × Chains)
+  pub low : ℕ
+
+-- names are ordered as bytes
+abbrev pub name_cmp : List ℕ → List ℕ → Ordering
+name_cmp = slice_cmp nat_cmp
+
+-- what stands at a key, or else this
+abbrev pub held_by : {K X : Type 0} → (K → K → Ordering) → X → List (K × X) → K → X
+held_by R d es q = unwrap_or (lookup (λ k. is_eq (R q k)) es) d
+
+abbrev pub nothing_held : Held
+nothing_held = record { versions = []; room = 0 }
+
+abbrev pub no_row : Chains
+no_row = record { columns = []; deletions = nothing_held }
+
+abbrev pub column_held : List (List ℕ × Held) → List ℕ → Held
+column_held = held_by name_cmp nothing_held
+
+-- the chain of a place of a row
+abbrev pub chain_of : Chains → Place → Held
+chain_of r None = r.deletions
+chain_of r (Some n) = column_held r.columns n
+
+-- the chain of a place of one of these rows
+abbrev pub chain_at : List (Row × Chains) → Row → Place → Held
+chain_at rows r p = chain_of (held_by row_cmp no_row rows r) p
+
+-- whether a mutation is one of a place: an insertion or a deletion of the column, or a deletion of the row
+abbrev pub is_of_place : Place → Mutation → Bool
+is_of_place None m = deletes_row m
+is_of_place (Some n) m = changes_name m n
+
+-- whether a change is one of this place of this row
+abbrev pub is_at : Row → Place → Change → Bool
+is_at r p c = is_same_row r c.row && is_of_place p c.mutation
+
+-- the version that a mutation leaves
+abbrev pub version_of : Origin → Mutation → Version
+version_of o m = record { stamp = o.stamp; evt = o.evt; what = record { writer = o.writer; value = inserted m } }
+
+-- the versions that these changes leave at a place of a row, in order
+abbrev pub written : Origin → Row → Place → List Change → List Version
+written o r p changes = map (λ c. version_of o c.mutation) (filter (is_at r p) changes)
+
+-- versions put into a chain, one after the other
+abbrev pub put_all : List Version → List Version → List Version
+put_all xs [] = xs
+put_all xs (v ∷ vs) = put_all (put_of xs v) vs
+
+-- there is room for a version at each place that these changes write to
+abbrev pub HasRoom : List (Row × Chains) → List Change → Type 0
+HasRoom rows changes = (r : Row) (p : Place) → list_any (is_at r p) changes ≡ true → 0 < (chain_at rows r p).room
+
+-- both rows of chains have the same versions at each place
+abbrev pub HaveSameVersions : List (Row × Chains) → List (Row × Chains) → Type 0
+HaveSameVersions olds news = (r : Row) (p : Place) → (chain_at news r p).versions ≡ (chain_at olds r p).versions
+
+-- at each place the versions that these changes leave are put to what was held
+abbrev pub HavePut : Origin → List Change → List (Row × Chains) → List (Row × Chains) → Type 0
+HavePut o changes olds news =
+    (r : Row) (p : Place) → (chain_at news r p).versions ≡ put_all (chain_at olds r p).versions (written o r p changes)

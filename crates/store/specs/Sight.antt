@@ -1,0 +1,82 @@
+-- What is seen of a row at a moment, and what a read finds in it.
+use Rattle.std.specs.Prelude.{◌≡◌, ℕ, max, Bool, true, false, not, ◌&&◌, if◌then◌else◌, List, [], ◌∷◌, ◌++◌, map, filter_map, Option, Some, None, option_map, option_to_list, Contains, slice_get, ◌↔◌}
+use Rattle.std.specs.List.Sorted.{IsStrictlySortedBy}
+use Rattle.std.specs.declared.ops.Bound.{Bound}
+use Rattle.std.specs.declared.ops.Bound.TheVariants.{Included, Unbounded}
+use Rattle.logical_time.specs.Stamps.{WriterValue, writer_cmp, is_older}
+use Rattle.versions.specs.declared.version.Version.{Version}
+use Rattle.versions.specs.Chain.{at_of}
+use Rattle.slice.specs.declared.column.Column.{Column}
+use Rattle.slice.specs.declared.predicate.Predicate.{Predicate}
+use Rattle.slice.specs.Slice.{is_asked, is_open, name_le, slice_of}
+use Rattle.slice.specs.Rests.{is_within}
+use Rattle.store.specs.declared.sight.Moment.{Moment}
+use Rattle.store.specs.declared.sight.Moment.TheVariants.{Now, At}
+use Rattle.store.specs.declared.sight.Seen.{Seen}
+use Rattle.store.specs.Kept.{Chains, chain_of, name_cmp}
+use Rattle.store.specs.declared.part.Part.{Part}
+use Rattle.store.specs.Part.{greatest_of}
+
+-- the version that is seen of a chain: the newest, or the newest at a time
+abbrev pub seen_in : Moment → List Version → Option Version
+seen_in Now xs = slice_get xs 0
+seen_in (At t) xs = at_of xs t
+
+-- a column that is seen, with its version
+abbrev pub NamedVersion : Type 0
+NamedVersion = List ℕ × Version
+
+abbrev pub named : Seen → NamedVersion
+named s = (s.name.now, s.version.now)
+
+-- these are the columns of a row that are asked for and of which a version is seen, in name order
+pub record AreSeen (m : Moment) (row : Chains) (p : Predicate) (seen : List NamedVersion) : Type 0 where
+  pub in_order : IsStrictlySortedBy name_cmp (map (λ s. s.0) seen)
+  pub sound : (n : List ℕ) (v : Version) → Contains seen (n, v)
+      → (is_asked p n ≡ true) × (seen_in m (chain_of row (Some n)).versions ≡ Some v)
+  pub whole : (n : List ℕ) (v : Version) → is_asked p n ≡ true → seen_in m (chain_of row (Some n)).versions ≡ Some v
+      → Contains seen (n, v)
+
+-- neither end is open, and the first lies above the second
+abbrev pub is_backwards : List ℕ → List ℕ → Bool
+is_backwards low high = not (is_open low) && not (is_open high) && not (name_le low high)
+
+-- an end of a range as a bound: it is included, and an empty one is open
+abbrev pub bound_at : List ℕ → Bound (List ℕ)
+bound_at end = if is_open end then Unbounded else Included end
+
+-- a version of a column is covered by a newer deletion of its row
+abbrev pub is_covered : Option Version → Version → Bool
+is_covered None v = false
+is_covered (Some d) v = is_older v.stamp d.stamp
+
+-- the column, where it is live
+abbrev pub live_of : Option Version → NamedVersion → Option Column
+live_of d s = if is_covered d s.1 then None else option_map (λ v. record { name = s.0; value = v }) s.1.what.value
+
+abbrev pub evt_or_0 : Option Version → ℕ
+evt_or_0 None = 0
+evt_or_0 (Some v) = v.evt
+
+-- since when the columns and the deletion are all seen
+abbrev pub evt_of_sight : Option Version → List NamedVersion → ℕ
+evt_of_sight d seen = max (evt_or_0 d) (greatest_of (map (λ s. s.1.evt) seen))
+
+-- the writer of a column's version, where a read that returned these columns rests on it
+abbrev pub writer_of : Predicate → List Column → Option Version → NamedVersion → Option WriterValue
+writer_of p columns d s = if is_within p columns s.0 && not (is_covered d s.1) then Some s.1.what.writer else None
+
+-- the writers that a read rests on which returned these columns
+abbrev pub writers_of : Predicate → List Column → Option Version → List NamedVersion → List WriterValue
+writers_of p columns d seen =
+    filter_map (writer_of p columns d) seen ++ option_to_list (option_map (λ v. v.what.writer) d)
+
+-- this is what is seen of a row at a moment: the slice of the asked columns that are live, what it rests on, and
+-- since when all of it is seen
+pub record IsPartSeen (m : Moment) (row : Chains) (p : Predicate) (part : Part) : Type 0 where
+  pub seen : List NamedVersion
+  pub are_seen : AreSeen m row p seen
+  pub columns : part.columns ≡ slice_of p (filter_map (live_of (seen_in m row.deletions.versions)) seen)
+  pub writers : (w : WriterValue) → Contains part.writers w ↔ Contains (writers_of p part.columns (seen_in m row.deletions.versions) seen) w
+  pub in_order : IsStrictlySortedBy writer_cmp part.writers
+  pub evt : part.evt ≡ evt_of_sight (seen_in m row.deletions.versions) seen

@@ -1,0 +1,142 @@
+//! The chains of a row.
+ghost use Rattle.std.specs.Prelude.{◌≡◌, ◌+◌, ◌≤◌, ◌<◌, ◌⊎◌, [], ℕ, List, Some, None, true, if◌then◌else◌, OnOk, IfErr, IsOk};
+ghost use Rattle.std.specs.Map.{lookup};
+ghost use Rattle.std.specs.Ordering.{is_eq};
+ghost use Rattle.std.specs.Str.{bytes_eq};
+ghost use Rattle.logical_time.specs.declared.fault.Fault.TheVariants as fault;
+ghost use Rattle.versions.specs.Chain.{put_of};
+ghost use Rattle.versions.specs.Newest.{has_stamp};
+ghost use Rattle.store.specs.Kept as kept;
+ghost use Rattle.store.specs.Kept.{Place, chain_of, column_held, is_of_place, name_cmp};
+
+use crate::origin::Origin;
+use column_family::{Mutation, Name, Value};
+use logical_time::Fault;
+use std::alloc::Global;
+use std::collections::BTreeMap;
+use std::marker::Model;
+use versions::{Chain, Version, What};
+
+/// The chains of a row: one for each of its columns, and one for its deletions.
+#[derive(Drop, Debug)]
+pub(crate) struct RowChains {
+    pub(crate) columns: BTreeMap<Name, Chain>,
+    pub(crate) deletions: Chain,
+}
+
+impl Model for RowChains {
+    ghost use Rattle.store.specs.Kept.{Chains};
+
+    ghost Value = { Chains };
+
+    ghost view = { λ r. record { columns = r.columns.entries; deletions = r.deletions } };
+}
+
+// The version of this origin that leaves a value, or a deletion.
+fn version(origin: Origin, value: Option<Value>) -> Version
+    ensures { result ≡ record { stamp = origin.stamp; evt = origin.evt; what = record { writer = origin.writer; value = value } } }
+{
+    Version {
+        stamp: origin.stamp,
+        evt: origin.evt,
+        what: What {
+            writer: origin.writer,
+            value,
+        },
+    }
+}
+
+// Puts a version into the chain of a column.
+fn put_column(columns: &mut BTreeMap<Name, Chain>, name: &Name, version: Version)
+    requires { (0 < (column_held columns.old.entries name.now).room) ⊎ (has_stamp (column_held columns.old.entries name.now).versions version.stamp ≡ true) }
+    ensures versions { (n : List ℕ) → (column_held columns.new.entries n).versions ≡ (if bytes_eq name.now n then put_of (column_held columns.old.entries n).versions version else (column_held columns.old.entries n).versions) }
+    ensures room { (n : List ℕ) → (column_held columns.old.entries n).room ≤ (column_held columns.new.entries n).room + (if bytes_eq name.now n then 1 else 0) }
+{
+    if let Some(chain) = columns.get_mut(name) {
+        chain.put(version).unwrap();
+    }
+}
+
+// Gives a row a column with room for one version.
+fn add_column(
+    alloc: Global,
+    columns: &mut BTreeMap<Name, Chain>,
+    name: &Name,
+) -> Result<(), Fault>
+    requires { lookup (λ k. is_eq (name_cmp name.now k)) columns.old.entries ≡ None }
+    ensures versions { (n : List ℕ) → (column_held columns.new.entries n).versions ≡ (column_held columns.old.entries n).versions }
+    ensures room { (n : List ℕ) → (column_held columns.old.entries n).room ≤ (column_held columns.new.entries n).room }
+    ensures ok { OnOk result (0 < (column_held columns.new.entries name.now).room) }
+    ensures memory { IfErr result (λ e. e ≡ fault.Memory) }
+{
+    let mut chain = Chain::new(alloc);
+    chain.reserve(1)?;
+    columns.insert(name.clone()?, chain)?;
+    Ok(())
+}
+
+// Makes room for one more version of a column.
+fn reserve_column(
+    alloc: Global,
+    columns: &mut BTreeMap<Name, Chain>,
+    name: &Name,
+) -> Result<(), Fault>
+    ensures versions { (n : List ℕ) → (column_held columns.new.entries n).versions ≡ (column_held columns.old.entries n).versions }
+    ensures room { (n : List ℕ) → (column_held columns.old.entries n).room ≤ (column_held columns.new.entries n).room }
+    ensures ok { OnOk result (0 < (column_held columns.new.entries name.now).room) }
+    ensures succeeds { 0 < (column_held columns.old.entries name.now).room → IsOk result }
+    ensures memory { IfErr result (λ e. e ≡ fault.Memory) }
+{
+    if !columns.contains_key(name) {
+        return add_column(alloc, columns, name);
+    }
+    match columns.get_mut(name) {
+        Some(chain) => chain.reserve(1),
+        None => Ok(()),
+    }
+}
+
+impl RowChains {
+    /// A row without a version.
+    pub(crate) fn new(alloc: Global) -> RowChains
+        ensures columns { result.columns ≡ [] }
+        ensures deletions { result.deletions.versions ≡ [] }
+    {
+        RowChains {
+            columns: BTreeMap::new(alloc),
+            deletions: Chain::new(alloc),
+        }
+    }
+
+    /// Puts what a mutation leaves into the chain of its place.
+    pub(crate) fn put(&mut self, mutation: Mutation, origin: Origin)
+        requires { (p : Place) → is_of_place p mutation ≡ true → (0 < (chain_of self.old p).room) ⊎ (has_stamp (chain_of self.old p).versions origin.stamp ≡ true) }
+        ensures versions { (p : Place) → (chain_of self.new p).versions ≡ (if is_of_place p mutation then put_of (chain_of self.old p).versions (kept.version_of origin mutation) else (chain_of self.old p).versions) }
+        ensures room { (p : Place) → (chain_of self.old p).room ≤ (chain_of self.new p).room + (if is_of_place p mutation then 1 else 0) }
+    {
+        match mutation {
+            Mutation::Insert { name, value } =>
+                put_column(&mut self.columns, &name, version(origin, Some(value))),
+            Mutation::DeleteColumn { name } =>
+                put_column(&mut self.columns, &name, version(origin, None)),
+            Mutation::DeleteRow => self.deletions.put(version(origin, None)).unwrap(),
+            Mutation::DeleteRange { .. } => {}
+        }
+    }
+
+    /// Makes room for what a mutation leaves.
+    pub(crate) fn reserve(&mut self, alloc: Global, mutation: &Mutation) -> Result<(), Fault>
+        ensures versions { (p : Place) → (chain_of self.new p).versions ≡ (chain_of self.old p).versions }
+        ensures room { (p : Place) → (chain_of self.old p).room ≤ (chain_of self.new p).room }
+        ensures ok { OnOk result ((p : Place) → is_of_place p mutation.now ≡ true → 0 < (chain_of self.new p).room) }
+        ensures succeeds { ((p : Place) → is_of_place p mutation.now ≡ true → 0 < (chain_of self.old p).room) → IsOk result }
+        ensures memory { IfErr result (λ e. e ≡ fault.Memory) }
+    {
+        match mutation {
+            Mutation::Insert { name, .. } | Mutation::DeleteColumn { name } =>
+                reserve_column(alloc, &mut self.columns, name),
+            Mutation::DeleteRow => self.deletions.reserve(1),
+            Mutation::DeleteRange { .. } => Ok(()),
+        }
+    }
+}

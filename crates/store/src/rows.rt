@@ -1,0 +1,98 @@
+//! Rows of chains, by key.
+ghost use Rattle.std.specs.Prelude.{◌≡◌, ◌+◌, ◌≤◌, ◌<◌, ◌⊎◌, ℕ, List, Some, None, true, if◌then◌else◌, OnOk, IfErr, IsOk};
+ghost use Rattle.std.specs.Map.{lookup};
+ghost use Rattle.std.specs.Ordering.{is_eq};
+ghost use Rattle.logical_time.specs.declared.fault.Fault.TheVariants as fault;
+ghost use Rattle.column_family.specs.declared.batch.Row.{Row};
+ghost use Rattle.column_family.specs.Places.{row_cmp};
+ghost use Rattle.versions.specs.Chain.{put_of};
+ghost use Rattle.versions.specs.Newest.{has_stamp};
+ghost use Rattle.store.specs.Kept as kept;
+ghost use Rattle.store.specs.Kept.{Place, chain_at, is_at, HasRoom, HaveSameVersions, HavePut};
+
+use crate::origin::Origin;
+use crate::row::RowChains;
+use column_family::{Change, Row};
+use logical_time::Fault;
+use std::alloc::Global;
+use std::collections::BTreeMap;
+
+// Puts what a change leaves into the chain of its place.
+fn put_change(rows: &mut BTreeMap<Row, RowChains>, change: Change, origin: Origin)
+    requires { (r : Row) (p : Place) → is_at r p change ≡ true → (0 < (chain_at rows.old.entries r p).room) ⊎ (has_stamp (chain_at rows.old.entries r p).versions origin.stamp ≡ true) }
+    ensures versions { (r : Row) (p : Place) → (chain_at rows.new.entries r p).versions ≡ (if is_at r p change then put_of (chain_at rows.old.entries r p).versions (kept.version_of origin change.mutation) else (chain_at rows.old.entries r p).versions) }
+    ensures room { (r : Row) (p : Place) → (chain_at rows.old.entries r p).room ≤ (chain_at rows.new.entries r p).room + (if is_at r p change then 1 else 0) }
+{
+    let Change { row, mutation } = change;
+    if let Some(held) = rows.get_mut(&row) {
+        held.put(mutation, origin);
+    }
+}
+
+// Gives the rows one more, with room for what its first change leaves.
+fn add_row(
+    alloc: Global,
+    rows: &mut BTreeMap<Row, RowChains>,
+    change: &Change,
+) -> Result<(), Fault>
+    requires { lookup (λ k. is_eq (row_cmp change.now.row k)) rows.old.entries ≡ None }
+    ensures versions { HaveSameVersions rows.old.entries rows.new.entries }
+    ensures room { (r : Row) (p : Place) → (chain_at rows.old.entries r p).room ≤ (chain_at rows.new.entries r p).room }
+    ensures ok { OnOk result ((r : Row) (p : Place) → is_at r p change.now ≡ true → 0 < (chain_at rows.new.entries r p).room) }
+    ensures memory { IfErr result (λ e. e ≡ fault.Memory) }
+{
+    let mut held = RowChains::new(alloc);
+    held.reserve(alloc, &change.mutation)?;
+    rows.insert(change.row.clone()?, held)?;
+    Ok(())
+}
+
+// Makes room for what a change leaves.
+fn reserve_change(
+    alloc: Global,
+    rows: &mut BTreeMap<Row, RowChains>,
+    change: &Change,
+) -> Result<(), Fault>
+    ensures versions { HaveSameVersions rows.old.entries rows.new.entries }
+    ensures room { (r : Row) (p : Place) → (chain_at rows.old.entries r p).room ≤ (chain_at rows.new.entries r p).room }
+    ensures ok { OnOk result ((r : Row) (p : Place) → is_at r p change.now ≡ true → 0 < (chain_at rows.new.entries r p).room) }
+    ensures memory { IfErr result (λ e. e ≡ fault.Memory) }
+{
+    if !rows.contains_key(&change.row) {
+        return add_row(alloc, rows, change);
+    }
+    match rows.get_mut(&change.row) {
+        Some(held) => held.reserve(alloc, &change.mutation),
+        None => Ok(()),
+    }
+}
+
+/// Makes room for what these changes leave.
+pub(crate) fn reserve_changes(
+    alloc: Global,
+    rows: &mut BTreeMap<Row, RowChains>,
+    changes: &[Change],
+) -> Result<(), Fault>
+    ensures versions { HaveSameVersions rows.old.entries rows.new.entries }
+    ensures ok { OnOk result (HasRoom rows.new.entries changes.now) }
+    ensures memory { IfErr result (λ e. e ≡ fault.Memory) }
+{
+    for change in changes {
+        reserve_change(alloc, rows, change)?;
+    }
+    Ok(())
+}
+
+/// Puts what these changes leave, for which there is room, into the chains of their places.
+pub(crate) fn put_changes(
+    rows: &mut BTreeMap<Row, RowChains>,
+    changes: Vec<Change>,
+    origin: Origin,
+)
+    requires { HasRoom rows.old.entries changes.items }
+    ensures { HavePut origin changes.items rows.old.entries rows.new.entries }
+{
+    for change in changes {
+        put_change(rows, change, origin);
+    }
+}

@@ -1,0 +1,151 @@
+//! What is seen of a row, now or at a time.
+ghost use Rattle.std.specs.Prelude.{◌≡◌, IfOk, IfErr, map, filter, filter_map, option_map, false};
+ghost use Rattle.std.specs.Option.{option_copied};
+ghost use Rattle.std.specs.BTreeMap.{IsOrdered};
+ghost use Rattle.slice.specs.Slice as slice_words;
+ghost use Rattle.logical_time.specs.declared.fault.Fault.TheVariants as fault;
+ghost use Rattle.store.specs.Kept.{column_held, name_cmp};
+ghost use Rattle.store.specs.Sight as sight;
+ghost use Rattle.store.specs.Sight.{AreSeen, named};
+
+use crate::row::RowChains;
+use column_family::Name;
+use logical_time::{Fault, Time};
+use slice::{Predicate, set_of};
+use std::alloc::{AllocError, Global};
+use std::collections::{BTreeMap, BTreeSet};
+use std::ops::Bound;
+use versions::{Chain, Version};
+
+/// When a row is looked at.
+#[derive(Drop, Debug, Clone, Copy)]
+pub(crate) enum Moment {
+    /// By the newest versions.
+    Now,
+    /// By the newest versions at a time.
+    At(Time),
+}
+
+/// A column of which a version is seen.
+#[derive(Drop, Debug, Clone, Copy)]
+pub(crate) struct Seen<'s> {
+    /// The column.
+    pub(crate) name: &'s Name,
+    /// The version.
+    pub(crate) version: &'s Version,
+}
+
+/// The version that is seen of a chain.
+pub(crate) fn seen_in(chain: &Chain, moment: Moment) -> Option<&Version>
+    ensures { option_copied result ≡ sight.seen_in moment chain.now.versions }
+{
+    match moment {
+        Moment::Now => chain.newest(),
+        Moment::At(time) => chain.at(time),
+    }
+}
+
+// The column, if a version of it is seen.
+fn seen_column<'s>(name: &'s Name, chain: &'s Chain, moment: Moment) -> Option<Seen<'s>>
+    ensures { option_map named result ≡ option_map (λ v. (name.now, v)) (sight.seen_in moment chain.now.versions) }
+{
+    let version = seen_in(chain, moment)?;
+    Some(Seen { name, version })
+}
+
+// The column of this name, if a version of it is seen.
+fn seen_named<'s>(
+    columns: &'s BTreeMap<Name, Chain>,
+    name: &Name,
+    moment: Moment,
+) -> Option<Seen<'s>>
+    ensures { option_map named result ≡ option_map (λ v. (name.now, v)) (sight.seen_in moment (column_held columns.now.entries name.now).versions) }
+{
+    let (name, chain) = columns.get_key_value(name)?;
+    seen_column(name, chain, moment)
+}
+
+// The columns with these names of which a version is seen, in name order.
+fn seen_among<'s>(
+    alloc: Global,
+    columns: &'s BTreeMap<Name, Chain>,
+    names: &BTreeSet<Name>,
+    moment: Moment,
+) -> Result<Vec<Seen<'s>>, AllocError>
+    ensures { IfOk result (λ seen. map named seen.items ≡ filter_map (λ n. option_map (λ v. (n, v)) (sight.seen_in moment (column_held columns.now.entries n).versions)) names.now.keys) }
+{
+    names
+        .iter()
+        .filter_map(|name| seen_named(columns, name, moment))
+        .collect(alloc)
+}
+
+// Whether neither end is open and the first lies above the second.
+fn is_backwards(low: &Name, high: &Name) -> bool
+    ensures { result ≡ sight.is_backwards low.now high.now }
+{
+    !low.as_slice().is_empty() && !high.as_slice().is_empty() && high < low
+}
+
+// An end of a range: both are included, and an empty one is open.
+fn bound_of(end: &Name) -> Bound<&Name>
+    ensures { bound_map (λ x. x.now) result.entry ≡ sight.bound_at end.now }
+{
+    if end.as_slice().is_empty() {
+        Bound::Unbounded
+    } else {
+        Bound::Included(end)
+    }
+}
+
+// The columns between these ends of which a version is seen, in name order.
+fn seen_between<'s>(
+    alloc: Global,
+    columns: &'s BTreeMap<Name, Chain>,
+    low: &Name,
+    high: &Name,
+    moment: Moment,
+) -> Result<Vec<Seen<'s>>, AllocError>
+    ensures between { IfOk result (λ seen. map named seen.items ≡ filter_map (λ e. option_map (λ v. (e.0, v)) (sight.seen_in moment e.1.versions)) (filter (λ e. slice_words.is_between low.now high.now e.0) columns.now.entries)) }
+    ensures ordered { IsOrdered name_cmp columns.now }
+{
+    if is_backwards(low, high) {
+        return Ok(Vec::new(alloc));
+    }
+    columns
+        .range((bound_of(low), bound_of(high)))
+        .filter_map(|(name, chain)| seen_column(name, chain, moment))
+        .collect(alloc)
+}
+
+/// The columns of a row that are asked for and of which a version is seen, in name order. Looks for each name of
+/// a list, or walks over the columns of a range.
+pub(crate) fn asked_columns<'s>(
+    alloc: Global,
+    row: &'s RowChains,
+    predicate: &Predicate,
+    moment: Moment,
+) -> Result<Vec<Seen<'s>>, Fault>
+    ensures ok { IfOk result (λ seen. AreSeen moment row.now predicate.now (map named seen.items)) }
+    ensures memory { IfErr result (λ e. e ≡ fault.Memory) }
+{
+    let columns = &row.columns;
+    match predicate {
+        Predicate::Names(names) => {
+            let names = set_of(alloc, names.as_slice())?;
+            Ok(seen_among(alloc, columns, &names, moment)?)
+        }
+        Predicate::Range {
+            start,
+            finish,
+            reversed: false,
+            ..
+        } => Ok(seen_between(alloc, columns, start, finish, moment)?),
+        Predicate::Range {
+            start,
+            finish,
+            reversed: true,
+            ..
+        } => Ok(seen_between(alloc, columns, finish, start, moment)?),
+    }
+}
