@@ -1,5 +1,5 @@
 -- What a store keeps: rows of chains, and the time below which it answers no more.
-use Rattle.std.specs.Prelude.{◌≡◌, ℕ, ◌<◌, Bool, true, ◌&&◌, List, [], ◌∷◌, map, filter, Option, Some, None, unwrap_or}
+use Rattle.std.specs.Prelude.{◌≡◌, ℕ, ◌<◌, Bool, true, false, ◌&&◌, List, [], ◌∷◌, map, filter, Option, Some, None, unwrap_or}
 use Rattle.std.specs.List.{list_any}
 use Rattle.std.specs.Ordering.{nat_cmp, is_eq}
 use Rattle.std.specs.declared.cmp.Ordering.{Ordering}
@@ -8,6 +8,7 @@ use Rattle.std.specs.Map.{lookup}
 use Rattle.column_family.specs.declared.batch.Row.{Row}
 use Rattle.column_family.specs.declared.batch.Change.{Change}
 use Rattle.column_family.specs.declared.batch.Mutation.{Mutation}
+use Rattle.column_family.specs.declared.batch.Mutation.TheVariants.{Insert, DeleteColumn, DeleteRow, DeleteRange}
 use Rattle.column_family.specs.Location.{is_same_row, changes_name, deletes_row}
 use Rattle.column_family.specs.History.{inserted}
 use Rattle.column_family.specs.Places.{row_cmp}
@@ -63,6 +64,13 @@ is_of_place (Some n) m = changes_name m n
 -- whether a change is one of this place of this row
 abbrev pub is_at : Row → Place → Change → Bool
 is_at r p c = is_same_row r c.row && is_of_place p c.mutation
+
+-- whether a mutation leaves a version: a deletion of a range leaves none, for now
+abbrev pub leaves_version : Mutation → Bool
+leaves_version (Insert n v) = true
+leaves_version (DeleteColumn n) = true
+leaves_version DeleteRow = true
+leaves_version (DeleteRange start finish) = false
 
 -- the version that a mutation leaves
 abbrev pub version_of : Origin → Mutation → Version

@@ -33,8 +33,8 @@ impl Model for RowChains {
 }
 
 // The version of this origin that leaves a value, or a deletion.
-fn version(origin: Origin, value: Option<Value>) -> Version
-    ensures { result ≡ record { stamp = origin.stamp; evt = origin.evt; what = record { writer = origin.writer; value = value } } }
+fn version(origin: &Origin, value: Option<Value>) -> Version
+    ensures { result ≡ record { stamp = origin.now.stamp; evt = origin.now.evt; what = record { writer = origin.now.writer; value = value } } }
 {
     Version {
         stamp: origin.stamp,
@@ -109,9 +109,9 @@ impl RowChains {
     }
 
     /// Puts what a mutation leaves into the chain of its place.
-    pub(crate) fn put(&mut self, mutation: Mutation, origin: Origin)
-        requires { (p : Place) → is_of_place p mutation ≡ true → (0 < (chain_of self.old p).room) ⊎ (has_stamp (chain_of self.old p).versions origin.stamp ≡ true) }
-        ensures versions { (p : Place) → (chain_of self.new p).versions ≡ (if is_of_place p mutation then put_of (chain_of self.old p).versions (kept.version_of origin mutation) else (chain_of self.old p).versions) }
+    pub(crate) fn put(&mut self, mutation: Mutation, origin: &Origin)
+        requires { (p : Place) → is_of_place p mutation ≡ true → (0 < (chain_of self.old p).room) ⊎ (has_stamp (chain_of self.old p).versions origin.now.stamp ≡ true) }
+        ensures versions { (p : Place) → (chain_of self.new p).versions ≡ (if is_of_place p mutation then put_of (chain_of self.old p).versions (kept.version_of origin.now mutation) else (chain_of self.old p).versions) }
         ensures room { (p : Place) → (chain_of self.old p).room ≤ (chain_of self.new p).room + (if is_of_place p mutation then 1 else 0) }
     {
         match mutation {

@@ -12,15 +12,15 @@ ghost use Rattle.store.specs.Kept.{Place, chain_at, is_at, HasRoom, HaveSameVers
 
 use crate::origin::Origin;
 use crate::row::RowChains;
-use column_family::{Change, Row};
+use column_family::{Change, Mutation, Row};
 use logical_time::Fault;
 use std::alloc::Global;
 use std::collections::BTreeMap;
 
 // Puts what a change leaves into the chain of its place.
-fn put_change(rows: &mut BTreeMap<Row, RowChains>, change: Change, origin: Origin)
-    requires { (r : Row) (p : Place) → is_at r p change ≡ true → (0 < (chain_at rows.old.entries r p).room) ⊎ (has_stamp (chain_at rows.old.entries r p).versions origin.stamp ≡ true) }
-    ensures versions { (r : Row) (p : Place) → (chain_at rows.new.entries r p).versions ≡ (if is_at r p change then put_of (chain_at rows.old.entries r p).versions (kept.version_of origin change.mutation) else (chain_at rows.old.entries r p).versions) }
+fn put_change(rows: &mut BTreeMap<Row, RowChains>, change: Change, origin: &Origin)
+    requires { (r : Row) (p : Place) → is_at r p change ≡ true → (0 < (chain_at rows.old.entries r p).room) ⊎ (has_stamp (chain_at rows.old.entries r p).versions origin.now.stamp ≡ true) }
+    ensures versions { (r : Row) (p : Place) → (chain_at rows.new.entries r p).versions ≡ (if is_at r p change then put_of (chain_at rows.old.entries r p).versions (kept.version_of origin.now change.mutation) else (chain_at rows.old.entries r p).versions) }
     ensures room { (r : Row) (p : Place) → (chain_at rows.old.entries r p).room ≤ (chain_at rows.new.entries r p).room + (if is_at r p change then 1 else 0) }
 {
     let Change { row, mutation } = change;
@@ -47,6 +47,16 @@ fn add_row(
     Ok(())
 }
 
+// Whether the mutation leaves a version: a deletion of a range leaves none, for now.
+fn leaves_version(mutation: &Mutation) -> bool
+    ensures { result ≡ kept.leaves_version mutation.now }
+{
+    match mutation {
+        Mutation::Insert { .. } | Mutation::DeleteColumn { .. } | Mutation::DeleteRow => true,
+        Mutation::DeleteRange { .. } => false,
+    }
+}
+
 // Makes room for what a change leaves.
 fn reserve_change(
     alloc: Global,
@@ -56,8 +66,12 @@ fn reserve_change(
     ensures versions { HaveSameVersions rows.old.entries rows.new.entries }
     ensures room { (r : Row) (p : Place) → (chain_at rows.old.entries r p).room ≤ (chain_at rows.new.entries r p).room }
     ensures ok { OnOk result ((r : Row) (p : Place) → is_at r p change.now ≡ true → 0 < (chain_at rows.new.entries r p).room) }
+    ensures succeeds { ((r : Row) (p : Place) → is_at r p change.now ≡ true → 0 < (chain_at rows.old.entries r p).room) → IsOk result }
     ensures memory { IfErr result (λ e. e ≡ fault.Memory) }
 {
+    if !leaves_version(&change.mutation) {
+        return Ok(());
+    }
     if !rows.contains_key(&change.row) {
         return add_row(alloc, rows, change);
     }
@@ -75,6 +89,7 @@ pub(crate) fn reserve_changes(
 ) -> Result<(), Fault>
     ensures versions { HaveSameVersions rows.old.entries rows.new.entries }
     ensures ok { OnOk result (HasRoom rows.new.entries changes.now) }
+    ensures succeeds { HasRoom rows.old.entries changes.now → IsOk result }
     ensures memory { IfErr result (λ e. e ≡ fault.Memory) }
 {
     for change in changes {
@@ -87,10 +102,10 @@ pub(crate) fn reserve_changes(
 pub(crate) fn put_changes(
     rows: &mut BTreeMap<Row, RowChains>,
     changes: Vec<Change>,
-    origin: Origin,
+    origin: &Origin,
 )
     requires { HasRoom rows.old.entries changes.items }
-    ensures { HavePut origin changes.items rows.old.entries rows.new.entries }
+    ensures { HavePut origin.now changes.items rows.old.entries rows.new.entries }
 {
     for change in changes {
         put_change(rows, change, origin);

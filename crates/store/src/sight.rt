@@ -2,6 +2,7 @@
 ghost use Rattle.std.specs.Prelude.{◌≡◌, IfOk, IfErr, map, filter, filter_map, option_map, false};
 ghost use Rattle.std.specs.Option.{option_copied};
 ghost use Rattle.std.specs.BTreeMap.{IsOrdered};
+ghost use Rattle.std.specs.Range.Bound.{bound_map};
 ghost use Rattle.slice.specs.Slice as slice_words;
 ghost use Rattle.logical_time.specs.declared.fault.Fault.TheVariants as fault;
 ghost use Rattle.store.specs.Kept.{column_held, name_cmp};
@@ -89,7 +90,7 @@ fn is_backwards(low: &Name, high: &Name) -> bool
 
 // An end of a range: both are included, and an empty one is open.
 fn bound_of(end: &Name) -> Bound<&Name>
-    ensures { bound_map (λ x. x.now) result.entry ≡ sight.bound_at end.now }
+    ensures { bound_map (λ x. x.now) result ≡ sight.bound_at end.now }
 {
     if end.as_slice().is_empty() {
         Bound::Unbounded

@@ -1,0 +1,3 @@
+pub mod Maps
+pub mod Places
+pub mod Changes

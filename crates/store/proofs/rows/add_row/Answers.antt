@@ -1,0 +1,19 @@
+use Rattle.std.proofs.Common.{rules, ◌≡◌, ◌≤◌, ◌<◌, ◌∙◌, refl, ℕ, true, Option, Some, None, arith}
+use Rattle.std.specs.Prelude.{◌&&◌}
+use Rattle.column_family.specs.Places.{row_cmp}
+use Rattle.store.specs.Kept.{Place, no_row, chain_of, is_of_place}
+use Rattle.store.proofs.Maps.{each_row, not_found}
+use Rattle.store.proofs.rows.add_row.Goals as goal
+
+pub returns-clause-versions : goal.returns-clause-versions
+returns-clause-versions c =
+    let f = not_found row_cmp no_row c.args.rows.now c.args.change.now.row (search rules) in
+    let same : c.in_ok-clone.field-0 ≡ c.args.change.now.row = search rules in
+    let empty : (p : Place) → (chain_of c.new-held.result p).versions ≡ (chain_of no_row p).versions = λ p. elim p as (λ q. (chain_of c.new-held.result q).versions ≡ (chain_of no_row q).versions) [ None ↦ search rules | Some n ↦ grind (arith, c.new-held.ensures) ] in
+    each_row (λ b x y. (p : Place) → (chain_of y p).versions ≡ (chain_of x p).versions) c.args.rows.now c.insert.new.self c.in_ok-clone.field-0 c.reserve.new.self c.in_ok-insert.ensures.updates (rw (same, f) (λ p. c.reserve.ensures.versions p ∙ empty p)) (λ x p. refl)
+
+pub returns-clause-room : goal.returns-clause-room
+returns-clause-room c =
+    let f = not_found row_cmp no_row c.args.rows.now c.args.change.now.row (search rules) in
+    let same : c.in_ok-clone.field-0 ≡ c.args.change.now.row = search rules in
+    each_row (λ b x y. (p : Place) → (chain_of x p).room ≤ (chain_of y p).room) c.args.rows.now c.insert.new.self c.in_ok-clone.field-0 c.reserve.new.self c.in_ok-insert.ensures.updates (rw (same, f) (λ p. elim p as (λ q. (chain_of no_row q).room ≤ (chain_of c.reserve.new.self q).room) [ None ↦ omega arith | Some n ↦ omega arith ])) (λ x p. omega arith)
