@@ -73,3 +73,7 @@ found {K} {X} R d m k x e = ap (λ (o : Option X). unwrap_or o d) e
 -- where nothing was found nothing is held
 pub not_found : {K X : Type 0} (R : K → K → Ordering) (d : X) (m : BTreeMap K X) (k : K) → get R m k ≡ None → held_by R d m.entries k ≡ d
 not_found {K} {X} R d m k e = ap (λ (o : Option X). unwrap_or o d) e
+
+-- names that compare as equal are the same
+pub exact_name : (a b : List ℕ) → name_cmp a b ≡ Equal → a ≡ b
+exact_name a b e = exact_bytes a b e

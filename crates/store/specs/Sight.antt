@@ -3,17 +3,18 @@ use Rattle.std.specs.Prelude.{◌≡◌, ℕ, max, Bool, true, false, not, ◌&&
 use Rattle.std.specs.List.Sorted.{IsStrictlySortedBy}
 use Rattle.std.specs.declared.ops.Bound.{Bound}
 use Rattle.std.specs.declared.ops.Bound.TheVariants.{Included, Unbounded}
+use Rattle.std.specs.Ordering.{is_lt}
 use Rattle.logical_time.specs.Stamps.{WriterValue, writer_cmp, is_older}
 use Rattle.versions.specs.declared.version.Version.{Version}
-use Rattle.versions.specs.Chain.{at_of}
+use Rattle.versions.specs.Chain.{Held, at_of}
 use Rattle.slice.specs.declared.column.Column.{Column}
 use Rattle.slice.specs.declared.predicate.Predicate.{Predicate}
-use Rattle.slice.specs.Slice.{is_asked, is_open, name_le, slice_of}
+use Rattle.slice.specs.Slice.{is_asked, is_open, slice_of}
 use Rattle.slice.specs.Rests.{is_within}
 use Rattle.store.specs.declared.sight.Moment.{Moment}
 use Rattle.store.specs.declared.sight.Moment.TheVariants.{Now, At}
 use Rattle.store.specs.declared.sight.Seen.{Seen}
-use Rattle.store.specs.Kept.{Chains, chain_of, name_cmp}
+use Rattle.store.specs.Kept.{Chains, chain_of, column_held, name_cmp}
 use Rattle.store.specs.declared.part.Part.{Part}
 use Rattle.store.specs.Part.{greatest_of}
 
@@ -29,6 +30,14 @@ NamedVersion = List ℕ × Version
 abbrev pub named : Seen → NamedVersion
 named s = (s.name.now, s.version.now)
 
+-- an entry of a row's columns, if a version of it is seen
+abbrev pub seen_entry : Moment → List ℕ × Held → Option NamedVersion
+seen_entry m e = option_map (λ v. (e.0, v)) (seen_in m e.1.versions)
+
+-- the column of a name, if a version of it is seen
+abbrev pub seen_at : Moment → List (List ℕ × Held) → List ℕ → Option NamedVersion
+seen_at m columns n = seen_entry m (n, column_held columns n)
+
 -- these are the columns of a row that are asked for and of which a version is seen, in name order
 pub record AreSeen (m : Moment) (row : Chains) (p : Predicate) (seen : List NamedVersion) : Type 0 where
   pub in_order : IsStrictlySortedBy name_cmp (map (λ s. s.0) seen)
@@ -39,7 +48,7 @@ pub record AreSeen (m : Moment) (row : Chains) (p : Predicate) (seen : List Name
 
 -- neither end is open, and the first lies above the second
 abbrev pub is_backwards : List ℕ → List ℕ → Bool
-is_backwards low high = not (is_open low) && not (is_open high) && not (name_le low high)
+is_backwards low high = not (is_open low) && not (is_open high) && is_lt (name_cmp high low)
 
 -- an end of a range as a bound: it is included, and an empty one is open
 abbrev pub bound_at : List ℕ → Bound (List ℕ)

@@ -1,11 +1,12 @@
 //! A row's part, found in its chains.
-ghost use Rattle.std.specs.Prelude.{◌≡◌, IfOk, IfErr, Contains, map, filter_map, unwrap_or};
+ghost use Rattle.std.specs.Prelude.{◌≡◌, ◌++◌, IfOk, IfErr, Contains, map, filter_map, option_map, option_to_list, max};
 ghost use Rattle.std.specs.Option.{option_copied};
 ghost use Rattle.std.specs.List.Sorted.{IsStrictlySortedBy};
 ghost use Rattle.logical_time.specs.declared.fault.Fault.TheVariants as fault;
 ghost use Rattle.logical_time.specs.Stamps.{WriterValue, writer_cmp};
 ghost use Rattle.column_family.specs.Places.{row_cmp};
 ghost use Rattle.store.specs.Kept.{held_by, no_row};
+ghost use Rattle.store.specs.Part.{greatest_of};
 ghost use Rattle.store.specs.Sight as sight;
 ghost use Rattle.store.specs.Sight.{IsPartSeen, named};
 
@@ -52,7 +53,7 @@ fn live_columns(
     deletion: Option<&Version>,
     seen: &[Seen],
 ) -> Result<Vec<Column>, Fault>
-    ensures ok { IfOk result (λ columns. columns.items ≡ filter_map (sight.live_of (option_copied deletion.entry)) (map named seen.now)) }
+    ensures ok { IfOk result (λ columns. columns.items ≡ filter_map (λ s. sight.live_of (option_copied deletion.entry) (named s)) seen.now) }
     ensures memory { IfErr result (λ e. e ≡ fault.Memory) }
 {
     let mut columns = Vec::new(alloc);
@@ -66,7 +67,7 @@ fn live_columns(
 
 // Since when the deletion and the columns are all seen.
 fn evt_of(deletion: Option<&Version>, seen: &[Seen]) -> Time
-    ensures { result ≡ sight.evt_of_sight (option_copied deletion.entry) (map named seen.now) }
+    ensures { result ≡ max (sight.evt_or_0 (option_copied deletion.entry)) (greatest_of (map (λ s. s.version.now.evt) seen.now)) }
 {
     let mut evt = match deletion {
         None => Time::zero(),
@@ -104,7 +105,7 @@ fn column_writers(
     deletion: Option<&Version>,
     seen: &[Seen],
 ) -> Result<Vec<Writer>, AllocError>
-    ensures { IfOk result (λ writers. writers.items ≡ filter_map (sight.writer_of predicate.now columns.now (option_copied deletion.entry)) (map named seen.now)) }
+    ensures { IfOk result (λ writers. writers.items ≡ filter_map (λ s. sight.writer_of predicate.now columns.now (option_copied deletion.entry) (named s)) seen.now) }
 {
     seen.iter()
         .filter_map(|one| writer_of(predicate, columns, deletion, one))
@@ -119,11 +120,12 @@ fn writers_of(
     deletion: Option<&Version>,
     seen: &[Seen],
 ) -> Result<Vec<Writer>, AllocError>
-    ensures { IfOk result (λ writers. writers.items ≡ sight.writers_of predicate.now columns.now (option_copied deletion.entry) (map named seen.now)) }
+    ensures { IfOk result (λ writers. writers.items ≡ filter_map (λ s. sight.writer_of predicate.now columns.now (option_copied deletion.entry) (named s)) seen.now ++ option_to_list (option_map (λ v. v.what.writer) (option_copied deletion.entry))) }
 {
     let mut writers = column_writers(alloc, predicate, columns, deletion, seen)?;
-    if let Some(deletion) = deletion {
-        writers.push(deletion.what.writer)?;
+    match deletion {
+        Some(deletion) => writers.push(deletion.what.writer)?,
+        None => {}
     }
     Ok(writers)
 }
@@ -144,9 +146,9 @@ fn part_of(
     alloc: Global,
     row: &RowChains,
     predicate: &Predicate,
-    moment: Moment,
+    moment: &Moment,
 ) -> Result<Part, Fault>
-    ensures ok { IfOk result (IsPartSeen moment row.now predicate.now) }
+    ensures ok { IfOk result (IsPartSeen moment.now row.now predicate.now) }
     ensures memory { IfErr result (λ e. e ≡ fault.Memory) }
 {
     let seen = asked_columns(alloc, row, predicate, moment)?;
@@ -161,8 +163,8 @@ fn part_of(
 }
 
 // What is seen of a row of which nothing is kept.
-fn empty_part(alloc: Global, predicate: &Predicate, moment: Moment) -> Part
-    ensures { IsPartSeen moment no_row predicate.now result }
+fn empty_part(alloc: Global, predicate: &Predicate, moment: &Moment) -> Part
+    ensures { IsPartSeen moment.now no_row predicate.now result }
 {
     Part {
         columns: Columns::new(alloc),
@@ -177,9 +179,9 @@ pub(crate) fn part_in(
     rows: &BTreeMap<Row, RowChains>,
     row: &Row,
     predicate: &Predicate,
-    moment: Moment,
+    moment: &Moment,
 ) -> Result<Part, Fault>
-    ensures ok { IfOk result (IsPartSeen moment (held_by row_cmp no_row rows.now.entries row.now) predicate.now) }
+    ensures ok { IfOk result (IsPartSeen moment.now (held_by row_cmp no_row rows.now.entries row.now) predicate.now) }
     ensures memory { IfErr result (λ e. e ≡ fault.Memory) }
 {
     match rows.get(row) {

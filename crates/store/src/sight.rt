@@ -5,7 +5,7 @@ ghost use Rattle.std.specs.BTreeMap.{IsOrdered};
 ghost use Rattle.std.specs.Range.Bound.{bound_map};
 ghost use Rattle.slice.specs.Slice as slice_words;
 ghost use Rattle.logical_time.specs.declared.fault.Fault.TheVariants as fault;
-ghost use Rattle.store.specs.Kept.{column_held, name_cmp};
+ghost use Rattle.store.specs.Kept.{name_cmp};
 ghost use Rattle.store.specs.Sight as sight;
 ghost use Rattle.store.specs.Sight.{AreSeen, named};
 
@@ -19,7 +19,7 @@ use std::ops::Bound;
 use versions::{Chain, Version};
 
 /// When a row is looked at.
-#[derive(Drop, Debug, Clone, Copy)]
+#[derive(Drop, Debug)]
 pub(crate) enum Moment {
     /// By the newest versions.
     Now,
@@ -37,18 +37,18 @@ pub(crate) struct Seen<'s> {
 }
 
 /// The version that is seen of a chain.
-pub(crate) fn seen_in(chain: &Chain, moment: Moment) -> Option<&Version>
-    ensures { option_copied result ≡ sight.seen_in moment chain.now.versions }
+pub(crate) fn seen_in<'c>(chain: &'c Chain, moment: &Moment) -> Option<&'c Version>
+    ensures { option_copied result ≡ sight.seen_in moment.now chain.now.versions }
 {
     match moment {
         Moment::Now => chain.newest(),
-        Moment::At(time) => chain.at(time),
+        Moment::At(time) => chain.at(*time),
     }
 }
 
 // The column, if a version of it is seen.
-fn seen_column<'s>(name: &'s Name, chain: &'s Chain, moment: Moment) -> Option<Seen<'s>>
-    ensures { option_map named result ≡ option_map (λ v. (name.now, v)) (sight.seen_in moment chain.now.versions) }
+fn seen_column<'s>(name: &'s Name, chain: &'s Chain, moment: &Moment) -> Option<Seen<'s>>
+    ensures { option_map named result ≡ sight.seen_entry moment.now (name.now, chain.now) }
 {
     let version = seen_in(chain, moment)?;
     Some(Seen { name, version })
@@ -58,9 +58,9 @@ fn seen_column<'s>(name: &'s Name, chain: &'s Chain, moment: Moment) -> Option<S
 fn seen_named<'s>(
     columns: &'s BTreeMap<Name, Chain>,
     name: &Name,
-    moment: Moment,
+    moment: &Moment,
 ) -> Option<Seen<'s>>
-    ensures { option_map named result ≡ option_map (λ v. (name.now, v)) (sight.seen_in moment (column_held columns.now.entries name.now).versions) }
+    ensures { option_map named result ≡ sight.seen_at moment.now columns.now.entries name.now }
 {
     let (name, chain) = columns.get_key_value(name)?;
     seen_column(name, chain, moment)
@@ -71,14 +71,17 @@ fn seen_among<'s>(
     alloc: Global,
     columns: &'s BTreeMap<Name, Chain>,
     names: &BTreeSet<Name>,
-    moment: Moment,
+    moment: &Moment,
 ) -> Result<Vec<Seen<'s>>, AllocError>
-    ensures { IfOk result (λ seen. map named seen.items ≡ filter_map (λ n. option_map (λ v. (n, v)) (sight.seen_in moment (column_held columns.now.entries n).versions)) names.now.keys) }
+    ensures { IfOk result (λ seen. map named seen.items ≡ filter_map (sight.seen_at moment.now columns.now.entries) names.now.keys) }
 {
-    names
-        .iter()
-        .filter_map(|name| seen_named(columns, name, moment))
-        .collect(alloc)
+    let mut seen = Vec::new(alloc);
+    for name in names.iter() {
+        if let Some(one) = seen_named(columns, name, moment) {
+            seen.push(one)?;
+        }
+    }
+    Ok(seen)
 }
 
 // Whether neither end is open and the first lies above the second.
@@ -105,18 +108,21 @@ fn seen_between<'s>(
     columns: &'s BTreeMap<Name, Chain>,
     low: &Name,
     high: &Name,
-    moment: Moment,
+    moment: &Moment,
 ) -> Result<Vec<Seen<'s>>, AllocError>
-    ensures between { IfOk result (λ seen. map named seen.items ≡ filter_map (λ e. option_map (λ v. (e.0, v)) (sight.seen_in moment e.1.versions)) (filter (λ e. slice_words.is_between low.now high.now e.0) columns.now.entries)) }
-    ensures ordered { IsOrdered name_cmp columns.now }
+    ensures between { IfOk result (λ seen. map named seen.items ≡ filter_map (sight.seen_entry moment.now) (filter (λ e. slice_words.is_between low.now high.now e.0) columns.now.entries)) }
+    ensures ordered { sight.is_backwards low.now high.now ≡ false → IsOrdered name_cmp columns.now }
 {
+    let mut seen = Vec::new(alloc);
     if is_backwards(low, high) {
-        return Ok(Vec::new(alloc));
+        return Ok(seen);
     }
-    columns
-        .range((bound_of(low), bound_of(high)))
-        .filter_map(|(name, chain)| seen_column(name, chain, moment))
-        .collect(alloc)
+    for (name, chain) in columns.range((bound_of(low), bound_of(high))) {
+        if let Some(one) = seen_column(name, chain, moment) {
+            seen.push(one)?;
+        }
+    }
+    Ok(seen)
 }
 
 /// The columns of a row that are asked for and of which a version is seen, in name order. Looks for each name of
@@ -125,9 +131,9 @@ pub(crate) fn asked_columns<'s>(
     alloc: Global,
     row: &'s RowChains,
     predicate: &Predicate,
-    moment: Moment,
+    moment: &Moment,
 ) -> Result<Vec<Seen<'s>>, Fault>
-    ensures ok { IfOk result (λ seen. AreSeen moment row.now predicate.now (map named seen.items)) }
+    ensures ok { IfOk result (λ seen. AreSeen moment.now row.now predicate.now (map named seen.items)) }
     ensures memory { IfErr result (λ e. e ≡ fault.Memory) }
 {
     let columns = &row.columns;

@@ -1,12 +1,13 @@
 //! The store of a shard.
-ghost use Rattle.std.specs.Prelude.{◌≡◌, ◌++◌, [], ◌∷◌, ◌≤◌, ◌<◌, ◌⊎◌, ℕ, List, max, OnOk, OnErr, IfOk, IfErr, IsOk};
+ghost use Rattle.std.specs.Prelude.{◌≡◌, ◌++◌, [], ◌∷◌, ◌≤◌, ◌<◌, ◌⊎◌, ℕ, List, All, max, OnOk, OnErr, IfOk, IfErr, IsOk};
 ghost use Rattle.logical_time.specs.declared.fault.Fault.TheVariants as fault;
 ghost use Rattle.column_family.specs.Location.{Location};
 ghost use Rattle.column_family.specs.Normal.{IsNormal};
 ghost use Rattle.store.specs.declared.part.Applied.{Applied};
 ghost use Rattle.store.specs.Kept.{HasRoom, HaveSameVersions, HavePut};
 ghost use Rattle.store.specs.Keeps.{Keeps, IsNewStamp, IsOvertaken};
-ghost use Rattle.store.specs.Part.{IsNewestPart, IsRightPart};
+ghost use Rattle.column_family.specs.History.{newest_at};
+ghost use Rattle.store.specs.Part.{IsNewestPart, IsRightPart, history_of};
 
 use crate::origin::Origin;
 use crate::part::{Part, WritePart};
@@ -39,14 +40,123 @@ impl Model for Store {
 }
 
 impl Store {
+    ghost use Rattle.column_family.specs.declared.batch.Row.{Row};
+
     /// A store to which nothing was applied, with the horizon at 0.
+    #[tactic(auto, using(crate::proofs::Lasting::keeps_nothing))]
     pub fn new(alloc: Global) -> Store
-        ensures { result ≡ record { rows = []; low = 0 } }
+        ensures keeps { Keeps result [] }
+        ensures low { result.low ≡ 0 }
     {
         Store {
             alloc,
             rows: BTreeMap::new(alloc),
             low: Time::zero(),
         }
+    }
+
+    /// Makes room for the changes of a batch, so that the next `apply` of a part with that batch succeeds if no
+    /// other changing call stands between. What is held stays, also where this is refused, with `Memory` alone.
+    /// Logarithmic for each change in the rows and in the columns of its row.
+    #[tactic(auto, using(crate::proofs::Lasting::keeps_same))]
+    pub fn make_room(&mut self, batch: &Batch) -> Result<(), Fault>
+        ensures same { HaveSameVersions self.old.rows self.new.rows }
+        ensures low { self.new.low ≡ self.old.low }
+        ensures keeps { (all : List Applied) → Keeps self.old all → Keeps self.new all }
+        ensures ok { OnOk result (HasRoom self.new.rows batch.now) }
+        ensures succeeds { HasRoom self.old.rows batch.now → IsOk result }
+        ensures memory { IfErr result (λ e. e ≡ fault.Memory) }
+    {
+        reserve_changes(self.alloc, &mut self.rows, batch.as_slice())
+    }
+
+    /// Applies a part with this commit time and this stamp: it puts the version that each change leaves into the
+    /// chain of its place, in any order of stamps. So the store keeps this part too, if it is in normal form and
+    /// its stamp is new. Refused with `Memory` alone, and never after `make_room` for its batch; then what is held
+    /// stays, and the part is handed back. Logarithmic for each change in the rows and in the columns of its row,
+    /// and linear in the chain.
+    #[tactic(auto, using(crate::proofs::KeepsApplied::keeps_applied, crate::proofs::Lasting::keeps_same, crate::proofs::Overtaken::overtaken))]
+    pub fn apply(
+        &mut self,
+        part: WritePart,
+        commit: Time,
+        stamp: Stamp,
+    ) -> Result<(), (Fault, WritePart)>
+        ensures put { OnOk result (HavePut (record { writer = part.writer; stamp = stamp; evt = commit }) part.batch self.old.rows self.new.rows) }
+        ensures low { self.new.low ≡ self.old.low }
+        ensures keeps { (all : List Applied) → Keeps self.old all → IsNormal part.batch → IsNewStamp stamp all → OnOk result (Keeps self.new (all ++ record { part = part; commit = commit; stamp = stamp } ∷ [])) }
+        ensures succeeds { HasRoom self.old.rows part.batch → IsOk result }
+        ensures same { OnErr result (HaveSameVersions self.old.rows self.new.rows) }
+        ensures kept { (all : List Applied) → Keeps self.old all → OnErr result (Keeps self.new all) }
+        ensures back { IfErr result (λ e. (e.0 ≡ fault.Memory) × (e.1 ≡ part)) }
+
+        // A mutation that is committed no earlier than a newer one of its location changes the table at no time.
+        ensures overtaken { (all : List Applied) (l : Location) → IsOvertaken all l stamp commit → (t : ℕ) → newest_at (history_of (all ++ record { part = part; commit = commit; stamp = stamp } ∷ [])) t l ≡ newest_at (history_of all) t l }
+    {
+        match reserve_changes(self.alloc, &mut self.rows, part.batch.as_slice()) {
+            Ok(()) => {}
+            Err(fault) => return Err((fault, part)),
+        }
+        let origin = Origin {
+            writer: part.writer,
+            stamp,
+            evt: commit,
+        };
+        put_changes(&mut self.rows, part.batch.into_vec(), &origin);
+        Ok(())
+    }
+
+    /// The slice of the row's newest versions, with what it rests on and its earliest valid time: it is right at
+    /// every time from that one on, by everything that was ever applied. Takes as many steps as there are asked
+    /// columns, each found in the order of their logarithm. Refused with `Memory` alone.
+    #[tactic(auto, using(crate::proofs::PartAt::part_now, crate::proofs::FromEvt::right_from_evt))]
+    pub fn read_now(&self, row: &Row, predicate: &Predicate) -> Result<Part, Fault>
+        ensures newest { (all : List Applied) → Keeps self.now all → IfOk result (IsNewestPart all row.now predicate.now) }
+        ensures right { (all : List Applied) (t : ℕ) → Keeps self.now all → IfOk result (λ part. part.evt ≤ t → IsRightPart all row.now predicate.now t part) }
+        ensures memory { IfErr result (λ e. e ≡ fault.Memory) }
+    {
+        part_in(self.alloc, &self.rows, row, predicate, &Moment::Now)
+    }
+
+    /// The slice of the row at a time, with what it rests on there, and 0 for its earliest valid time: right by
+    /// everything that was ever applied, and by whatever is applied later with a greater commit time. Refused with
+    /// `Collected` exactly where the time lies below the horizon, else with `Memory` alone. Costs what `read_now`
+    /// does, and the length of each chain.
+    #[tactic(auto, using(crate::proofs::PartAt::part_at, crate::proofs::Later::right_lasts))]
+    pub fn read_at(&self, row: &Row, predicate: &Predicate, time: Time) -> Result<Part, Fault>
+        ensures right { (all : List Applied) → Keeps self.now all → IfOk result (IsRightPart all row.now predicate.now time) }
+        ensures lasts { (all later : List Applied) → Keeps self.now all → All (λ a. time < a.commit) later → IfOk result (IsRightPart (all ++ later) row.now predicate.now time) }
+        ensures evt { IfOk result (λ part. part.evt ≡ 0) }
+        ensures answered { IfOk result (λ part. self.now.low ≤ time) }
+        ensures refused { IfErr result (λ e. ((e ≡ fault.Collected) × (time < self.now.low)) ⊎ ((e ≡ fault.Memory) × (self.now.low ≤ time))) }
+    {
+        if time < self.low {
+            return Err(Fault::Collected);
+        }
+        let part = part_in(self.alloc, &self.rows, row, predicate, &Moment::At(time))?;
+        Ok(Part {
+            evt: Time::zero(),
+            ..part
+        })
+    }
+
+    /// Raises the horizon to this time if it lies below it. What a read at the new horizon or later answers stays.
+    #[tactic(auto, using(crate::proofs::Lasting::keeps_raised))]
+    pub fn collect(&mut self, time: Time)
+        ensures low { self.new.low ≡ max self.old.low time }
+        ensures keeps { (all : List Applied) → Keeps self.old all → Keeps self.new all }
+    {
+        if self.low < time {
+            self.low = time;
+        }
+    }
+
+    /// Ends the store.
+    pub fn close(self) {
+        let Store {
+            alloc: _,
+            rows: _,
+            low: _,
+        } = self;
     }
 }

@@ -1,0 +1,68 @@
+-- A part put together from the columns that are seen.
+use Rattle.std.proofs.Common.{◌≡◌, ◌≤◌, ◌∙◌, ap, sym, subst, refl, ℕ, max, Bool, true, false, List, [], ◌∷◌, ◌++◌, map, filter_map, Option, Some, None, option_map, Contains}
+use Rattle.std.specs.Prelude.{if◌then◌else◌, option_to_list}
+use Rattle.std.specs.List.{cons_option}
+use Rattle.std.specs.List.Sorted.{IsStrictlySortedBy}
+use Rattle.logical_time.specs.Stamps.{WriterValue, writer_cmp}
+use Rattle.slice.specs.declared.column.Column.{Column}
+use Rattle.slice.specs.declared.predicate.Predicate.{Predicate}
+use Rattle.slice.specs.Slice.{is_asked, AreAsked, slice_of}
+use Rattle.versions.specs.declared.version.Version.{Version}
+use Rattle.column_family.specs.declared.batch.Row.{Row}
+use Rattle.store.specs.declared.part.Applied.{Applied}
+use Rattle.store.specs.declared.part.Part.{Part}
+use Rattle.store.specs.declared.sight.Moment.{Moment}
+use Rattle.store.specs.declared.sight.Seen.{Seen}
+use Rattle.store.specs.Kept.{Chains}
+use Rattle.store.specs.Part.{greatest_of, IsPartOf}
+use Rattle.store.specs.Sight.{NamedVersion, named, seen_in, AreSeen, is_covered, live_of, evt_or_0, evt_of_sight, writer_of, writers_of, IsPartSeen}
+use Rattle.store.proofs.Lists.{contains_first, contains_rest, given_seen, map_of_map}
+
+asked_value : (p : Predicate) (covered : Bool) (n : List ℕ) (value : Option (List ℕ)) (rest : List Column) → is_asked p n ≡ true → AreAsked p rest
+    → AreAsked p (cons_option (if covered then None else option_map (λ v. record { name = n; value = v }) value) rest)
+asked_value p true n value rest asked h = h
+asked_value p false n None rest asked h = h
+asked_value p false n (Some v) rest asked h = (asked, h)
+
+-- the live columns of those that are asked for are asked for
+live_asked : (p : Predicate) (d : Option Version) (seen : List NamedVersion) → ((n : List ℕ) (v : Version) → Contains seen (n, v) → is_asked p n ≡ true)
+    → AreAsked p (filter_map (live_of d) seen)
+live_asked p d [] asked = tt
+live_asked p d (s ∷ seen) asked =
+    asked_value p (is_covered d s.1) s.0 s.1.what.value (filter_map (live_of d) seen) (asked s.0 s.1 (contains_first s seen))
+    (live_asked p d seen (λ n v has. asked n v (contains_rest s (n, v) seen has)))
+
+pub part_seen : (m : Moment) (row : Chains) (p : Predicate) (part : Part) (items : List Seen) (d : Option Version) (live : List Column) (found : List WriterValue)
+    → AreSeen m row p (map named items) → d ≡ seen_in m row.deletions.versions → live ≡ filter_map (λ s. live_of d (named s)) items
+    → (AreAsked p live → part.columns ≡ slice_of p live)
+    → found ≡ filter_map (λ s. writer_of p part.columns d (named s)) items ++ option_to_list (option_map (λ v. v.what.writer) d)
+    → ((w : WriterValue) → Contains found w → Contains part.writers w) → ((w : WriterValue) → Contains part.writers w → Contains found w)
+    → IsStrictlySortedBy writer_cmp part.writers → part.evt ≡ max (evt_or_0 d) (greatest_of (map (λ s. s.version.now.evt) items)) → IsPartSeen m row p part
+part_seen m row p part items d live found are_seen deletion lives cut writes keeps adds_none in_order evt =
+    let seen = map named items in
+    let e = seen_in m row.deletions.versions in
+    let columns : live ≡ filter_map (live_of e) seen =
+    lives ∙ sym (given_seen (live_of d) named items) ∙ ap (λ (o : Option Version). filter_map (live_of o) seen) deletion in
+    let asked = subst (AreAsked p) (sym columns) (live_asked p e seen (λ n v has. (are_seen.sound n v has).0)) in
+    let writers : found ≡ writers_of p part.columns e seen =
+    writes
+    ∙ ap (λ ws. ws ++ option_to_list (option_map (λ (v : Version). v.what.writer) d)) (sym (given_seen (writer_of p part.columns d) named items))
+    ∙ ap (λ (o : Option Version). writers_of p part.columns o seen) deletion in
+    record {
+      seen = seen;
+      are_seen = are_seen;
+      columns = cut asked ∙ ap (slice_of p) columns;
+      writers = λ w. (
+          λ has. subst (λ ws. Contains ws w) writers (adds_none w has),
+          λ has. keeps w (subst (λ ws. Contains ws w) (sym writers) has),
+        );
+      in_order = in_order;
+      evt = evt
+          ∙ ap (λ ts. max (evt_or_0 d) (greatest_of ts)) (sym (map_of_map (λ (s : NamedVersion). s.1.evt) named items))
+          ∙ ap (λ (o : Option Version). evt_of_sight o seen) deletion;
+    }
+
+-- a right part stays right whatever its earliest valid time says
+pub any_evt : (applied : List Applied) (r : Row) (p : Predicate) (part : Part) (evt : ℕ) → IsPartOf applied r p part
+    → IsPartOf applied r p (record { columns = part.columns; writers = part.writers; evt = evt })
+any_evt applied r p part evt is = record { columns = is.columns; writers = is.writers; in_order = is.in_order; }

@@ -1,0 +1,35 @@
+-- A store keeps what it kept where its versions stay and its horizon doesn't fall.
+use Rattle.std.proofs.Common.{◌≡◌, ◌∙◌, sym, ap, subst, refl, ◌≤◌, List, [], Some, None, arith}
+use Rattle.std.specs.Prelude.{option_map, Contains}
+use Rattle.column_family.specs.declared.batch.Row.{Row}
+use Rattle.versions.specs.declared.version.Version.{Version}
+use Rattle.versions.specs.Chain.{IsFalling, at_of}
+use Rattle.store.specs.declared.part.Applied.{Applied}
+use Rattle.store.specs.Kept.{Place, Chains, Kept, chain_at, HaveSameVersions}
+use Rattle.store.specs.Keeps.{stamped_of, Keeps}
+
+pub keeps_raised : (old new : Kept) (all : List Applied) → old.low ≤ new.low → HaveSameVersions old.rows new.rows → Keeps old all → Keeps new all
+keeps_raised old new all raised same k = record {
+  apart = k.apart;
+  falling = λ r p. subst (λ (xs : List Version). IsFalling xs) (sym (same r p)) (k.falling r p);
+  seen = λ r p t low. ap (λ (xs : List Version). option_map (stamped_of p) (at_of xs t)) (same r p) ∙ k.seen r p t (omega (arith, raised, low));
+  from = λ r p v has. k.from r p v (subst (λ (xs : List Version). Contains xs v) (same r p) has);
+}
+
+pub keeps_same : (old new : Kept) (all : List Applied) → new.low ≡ old.low → HaveSameVersions old.rows new.rows → Keeps old all → Keeps new all
+keeps_same old new all low same k = keeps_raised old new all (omega arith) same k
+
+empty_chain : (r : Row) (p : Place) → (chain_at [] r p).versions ≡ []
+empty_chain r None = refl
+empty_chain r (Some n) = refl
+
+-- a store without rows keeps that nothing was applied
+pub keeps_nothing : (s : Kept) → s.rows ≡ [] → Keeps s []
+keeps_nothing s none =
+    let empty : (r : Row) (p : Place) → (chain_at s.rows r p).versions ≡ [] = λ r p. ap (λ (rows : List (Row × Chains)). (chain_at rows r p).versions) none ∙ empty_chain r p in
+    record {
+      apart = tt;
+      falling = λ r p. subst (λ (xs : List Version). IsFalling xs) (sym (empty r p)) tt;
+      seen = λ r p t low. ap (λ (xs : List Version). option_map (stamped_of p) (at_of xs t)) (empty r p);
+      from = λ r p v has. let gone = subst (λ (xs : List Version). Contains xs v) (empty r p) has in absurd (omega (arith, gone.1));
+    }

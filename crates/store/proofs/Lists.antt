@@ -1,0 +1,81 @@
+-- What a list contains once it is filtered, or seen by a function.
+use Rattle.std.proofs.Common.{◌≡◌, ◌∙◌, sym, ap, subst, refl, zero, suc, Bool, true, false, ◌⊎◌, inl, inr, cond, List, [], ◌∷◌, map, Option, Some, None, arith}
+use Rattle.std.specs.Prelude.{filter, filter_map, Contains}
+use Rattle.std.specs.List.{cons_option}
+
+pub none_in_empty : {X : Type 0} (x : X) → Contains [] x → ⊥
+none_in_empty x (k, lt, e) = omega arith
+
+pub contains_first : {X : Type 0} (x : X) (xs : List X) → Contains (x ∷ xs) x
+contains_first x xs = (zero, omega arith, refl)
+
+pub contains_rest : {X : Type 0} (x z : X) (xs : List X) → Contains xs z → Contains (x ∷ xs) z
+contains_rest x z xs (k, lt, e) = (suc k, omega arith, e)
+
+pub first_or_rest : {X : Type 0} (x z : X) (xs : List X) → Contains (x ∷ xs) z → (x ≡ z) ⊎ Contains xs z
+first_or_rest x z xs (zero, lt, e) = inl e
+first_or_rest x z xs (suc k, lt, e) = inr (k, omega arith, e)
+
+-- what passes the test stays
+pub kept : {X : Type 0} (q : X → Bool) (xs : List X) (x : X) → Contains xs x → q x ≡ true → Contains (filter q xs) x
+kept q [] x has is = absurd (none_in_empty x has)
+kept {X} q (z ∷ xs) x has is = elim (first_or_rest z x xs has) [
+  | inl here ↦ (let p : q z ≡ true = ap q here ∙ is in rw p (subst (Contains (z ∷ filter q xs)) here (contains_first z (filter q xs))))
+  | inr there ↦ added (q z) (kept q xs x there is)
+]
+  where
+    added : (b : Bool) → Contains (filter q xs) x → Contains (cond b (z ∷ filter q xs) (filter q xs)) x
+    added true h = contains_rest z x (filter q xs) h
+    added false h = h
+
+-- and nothing else does
+pub kept_only : {X : Type 0} (q : X → Bool) (xs : List X) (x : X) → Contains (filter q xs) x → Contains xs x × (q x ≡ true)
+kept_only q [] x has = absurd (none_in_empty x has)
+kept_only {X} q (z ∷ xs) x has = go (q z) refl has (kept_only q xs x)
+  where
+    later : Contains xs x × (q x ≡ true) → Contains (z ∷ xs) x × (q x ≡ true)
+    later h = (contains_rest z x xs h.0, h.1)
+
+    go : (b : Bool) → q z ≡ b → Contains (cond b (z ∷ filter q xs) (filter q xs)) x → (Contains (filter q xs) x → Contains xs x × (q x ≡ true)) → Contains (z ∷ xs) x × (q x ≡ true)
+    go true is h more = elim (first_or_rest z x (filter q xs) h) [
+      | inl here ↦ (subst (Contains (z ∷ xs)) here (contains_first z xs), ap q (sym here) ∙ is)
+      | inr there ↦ later (more there)
+    ]
+    go false is h more = later (more h)
+
+-- what a function gives of an element is given
+pub given : {X Y : Type 0} (f : X → Option Y) (xs : List X) (x : X) (y : Y) → Contains xs x → f x ≡ Some y → Contains (filter_map f xs) y
+given f [] x y has is = absurd (none_in_empty x has)
+given {X} {Y} f (z ∷ xs) x y has is = elim (first_or_rest z x xs has) [
+  | inl here ↦ (let p : f z ≡ Some y = ap f here ∙ is in rw p (contains_first y (filter_map f xs)))
+  | inr there ↦ added (f z) (given f xs x y there is)
+]
+  where
+    added : (o : Option Y) → Contains (filter_map f xs) y → Contains (cons_option o (filter_map f xs)) y
+    added None h = h
+    added (Some w) h = contains_rest w y (filter_map f xs) h
+
+-- and nothing else is
+pub given_only : {X Y : Type 0} (f : X → Option Y) (xs : List X) (y : Y) → Contains (filter_map f xs) y → (x : X) × Contains xs x × (f x ≡ Some y)
+given_only f [] y has = absurd (none_in_empty y has)
+given_only {X} {Y} f (z ∷ xs) y has = go (f z) refl has (given_only f xs y)
+  where
+    later : (x : X) × Contains xs x × (f x ≡ Some y) → (x : X) × Contains (z ∷ xs) x × (f x ≡ Some y)
+    later (x, has', is) = (x, contains_rest z x xs has', is)
+
+    go : (o : Option Y) → f z ≡ o → Contains (cons_option o (filter_map f xs)) y → (Contains (filter_map f xs) y → (x : X) × Contains xs x × (f x ≡ Some y))
+        → (x : X) × Contains (z ∷ xs) x × (f x ≡ Some y)
+    go None is h more = later (more h)
+    go (Some w) is h more = elim (first_or_rest w y (filter_map f xs) h) [
+      | inl here ↦ (z, contains_first z xs, is ∙ ap Some here)
+      | inr there ↦ later (more there)
+    ]
+
+-- what is given of what a function makes
+pub given_seen : {X Y Z : Type 0} (f : Y → Option Z) (g : X → Y) (xs : List X) → filter_map f (map g xs) ≡ filter_map (λ x. f (g x)) xs
+given_seen f g [] = refl
+given_seen f g (x ∷ xs) = ap (cons_option (f (g x))) (given_seen f g xs)
+
+pub map_of_map : {X Y Z : Type 0} (f : Y → Z) (g : X → Y) (xs : List X) → map f (map g xs) ≡ map (λ x. f (g x)) xs
+map_of_map f g [] = refl
+map_of_map f g (x ∷ xs) = ap (λ zs. f (g x) ∷ zs) (map_of_map f g xs)

@@ -1,0 +1,8 @@
+use Rattle.std.proofs.Common.{rules, ◌≡◌, ◌∙◌, sym, ap, refl, [], ◌∷◌}
+use Rattle.store.proofs.Sights.{nothing_kept}
+use Rattle.store.proofs.reading.empty_part.Goals as goal
+
+pub returns : goal.returns
+returns c =
+    nothing_kept c.args.moment.now c.args.predicate.now (record { columns = c.new.result; writers = c.from_vec.result; evt = c.zero.result })
+    c.new.ensures (c.from_vec.ensures ∙ c.new-2.ensures.items) c.zero.ensures
