@@ -1,5 +1,5 @@
 -- A part put together from the columns that are seen.
-use Rattle.std.proofs.Common.{◌≡◌, ◌≤◌, ◌∙◌, ap, sym, subst, refl, ℕ, max, Bool, true, false, List, [], ◌∷◌, ◌++◌, map, filter_map, Option, Some, None, option_map, Contains}
+use Rattle.std.proofs.Common.{◌≡◌, ◌≤◌, ◌∙◌, ap, sym, subst, refl, ℕ, max, Bool, true, false, List, [], ◌∷◌, ◌++◌, map, filter_map, Option, Some, None, option_map, Contains, Result, Ok, Err, IfOk}
 use Rattle.std.specs.Prelude.{if◌then◌else◌, option_to_list}
 use Rattle.std.specs.List.{cons_option}
 use Rattle.std.specs.List.Sorted.{IsStrictlySortedBy}
@@ -53,9 +53,9 @@ part_seen m row p part items d live found are_seen deletion lives cut writes kee
       are_seen = are_seen;
       columns = cut asked ∙ ap (slice_of p) columns;
       writers = λ w. (
-          λ has. subst (λ ws. Contains ws w) writers (adds_none w has),
-          λ has. keeps w (subst (λ ws. Contains ws w) (sym writers) has),
-        );
+        λ has. subst (λ ws. Contains ws w) writers (adds_none w has),
+        λ has. keeps w (subst (λ ws. Contains ws w) (sym writers) has),
+      );
       in_order = in_order;
       evt = evt
           ∙ ap (λ ts. max (evt_or_0 d) (greatest_of ts)) (sym (map_of_map (λ (s : NamedVersion). s.1.evt) named items))
@@ -65,4 +65,9 @@ part_seen m row p part items d live found are_seen deletion lives cut writes kee
 -- a right part stays right whatever its earliest valid time says
 pub any_evt : (applied : List Applied) (r : Row) (p : Predicate) (part : Part) (evt : ℕ) → IsPartOf applied r p part
     → IsPartOf applied r p (record { columns = part.columns; writers = part.writers; evt = evt })
-any_evt applied r p part evt is = record { columns = is.columns; writers = is.writers; in_order = is.in_order; }
+any_evt applied r p part evt is = record { columns = is.columns; writers = is.writers; in_order = is.in_order }
+
+-- what holds of a call that succeeds and is enough for another fact of what it gives
+pub if_ok : {T E : Type 0} {P Q : T → Type 0} (result : Result T E) → ((x : T) → P x → Q x) → IfOk result P → IfOk result Q
+if_ok (Ok x) f h = f x h
+if_ok (Err e) f h = tt

@@ -222,9 +222,9 @@ nothing_kept m p part columns writers evt =
       are_seen = none_seen m p;
       columns = columns ∙ sym (no_slice p);
       writers = λ w. (
-          λ has. absurd (none_in_empty w (subst (λ ws. Contains ws w) writers has)),
-          λ has. absurd (none_in_empty w (subst (λ (o : Option Version). Contains (writers_of p part.columns o []) w) none has)),
-        );
+        λ has. absurd (none_in_empty w (subst (λ ws. Contains ws w) writers has)),
+        λ has. absurd (none_in_empty w (subst (λ (o : Option Version). Contains (writers_of p part.columns o []) w) none has)),
+      );
       in_order = subst (λ ws. IsStrictlySortedBy writer_cmp ws) (sym writers) no_writer_sorted;
       evt = evt ∙ ap (λ (o : Option Version). evt_of_sight o []) (sym none);
     }

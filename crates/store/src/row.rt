@@ -58,11 +58,7 @@ fn put_column(columns: &mut BTreeMap<Name, Chain>, name: &Name, version: Version
 }
 
 // Gives a row a column with room for one version.
-fn add_column(
-    alloc: Global,
-    columns: &mut BTreeMap<Name, Chain>,
-    name: &Name,
-) -> Result<(), Fault>
+fn add_column(alloc: Global, columns: &mut BTreeMap<Name, Chain>, name: &Name) -> Result<(), Fault>
     requires { lookup (λ k. is_eq (name_cmp name.now k)) columns.old.entries ≡ None }
     ensures versions { (n : List ℕ) → (column_held columns.new.entries n).versions ≡ (column_held columns.old.entries n).versions }
     ensures room { (n : List ℕ) → (column_held columns.old.entries n).room ≤ (column_held columns.new.entries n).room }
@@ -115,10 +111,16 @@ impl RowChains {
         ensures room { (p : Place) → (chain_of self.old p).room ≤ (chain_of self.new p).room + (if is_of_place p mutation then 1 else 0) }
     {
         match mutation {
-            Mutation::Insert { name, value } =>
-                put_column(&mut self.columns, &name, version(origin, Some(value))),
-            Mutation::DeleteColumn { name } =>
-                put_column(&mut self.columns, &name, version(origin, None)),
+            Mutation::Insert { name, value } => put_column(
+                &mut self.columns,
+                &name,
+                version(origin, Some(value)),
+            ),
+            Mutation::DeleteColumn { name } => put_column(
+                &mut self.columns,
+                &name,
+                version(origin, None),
+            ),
             Mutation::DeleteRow => self.deletions.put(version(origin, None)).unwrap(),
             Mutation::DeleteRange { .. } => {}
         }
@@ -133,8 +135,11 @@ impl RowChains {
         ensures memory { IfErr result (λ e. e ≡ fault.Memory) }
     {
         match mutation {
-            Mutation::Insert { name, .. } | Mutation::DeleteColumn { name } =>
-                reserve_column(alloc, &mut self.columns, name),
+            Mutation::Insert { name, .. } | Mutation::DeleteColumn { name } => reserve_column(
+                alloc,
+                &mut self.columns,
+                name,
+            ),
             Mutation::DeleteRow => self.deletions.reserve(1),
             Mutation::DeleteRange { .. } => Ok(()),
         }

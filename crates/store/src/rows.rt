@@ -30,11 +30,7 @@ fn put_change(rows: &mut BTreeMap<Row, RowChains>, change: Change, origin: &Orig
 }
 
 // Gives the rows one more, with room for what its first change leaves.
-fn add_row(
-    alloc: Global,
-    rows: &mut BTreeMap<Row, RowChains>,
-    change: &Change,
-) -> Result<(), Fault>
+fn add_row(alloc: Global, rows: &mut BTreeMap<Row, RowChains>, change: &Change) -> Result<(), Fault>
     requires { lookup (λ k. is_eq (row_cmp change.now.row k)) rows.old.entries ≡ None }
     ensures versions { HaveSameVersions rows.old.entries rows.new.entries }
     ensures room { (r : Row) (p : Place) → (chain_at rows.old.entries r p).room ≤ (chain_at rows.new.entries r p).room }
