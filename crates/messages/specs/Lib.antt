@@ -1,0 +1,2 @@
+pub mod Topology
+pub mod Outbox

@@ -1,0 +1,20 @@
+//! What actors send each other, and the definitions of the protocol.
+//!
+//! `specs/` holds the protocol as a pure machine: the states of a shard and of a session, and what each event makes
+//! of them and sends. Nothing here knows how a body is handled in code.
+#![tactic(auto)]
+
+mod body;
+mod copies;
+mod envelope;
+mod op;
+mod outbox;
+mod parts;
+mod topology;
+
+pub use body::{Body, Cohorts};
+pub use envelope::{Envelope, Refused};
+pub use op::{Op, Outcome};
+pub use outbox::Outbox;
+pub use parts::{AtTime, RowAt, RowNow, RowsAt, RowsNow};
+pub use topology::Topology;
