@@ -23,7 +23,7 @@ use Rattle.column_family.specs.declared.batch.Mutation.TheVariants.{Insert, Dele
 use Rattle.column_family.specs.declared.normalizing.Place.{Place}
 use Rattle.column_family.specs.Location.{is_same_row}
 use Rattle.column_family.specs.Normal.{changes_before, StandsBefore, IsEffective, IsInOrderOf, IsNormal, StandsFor}
-use Rattle.column_family.specs.Places.{Placed, place_cmp, place_of, is_covered, keep_at, keep, keep_all}
+use Rattle.column_family.specs.Places.{Placed, place_cmp, place_of, is_covered, keep_at, keep, keep_all, normal_of}
 use Rattle.column_family.proofs.Options.{by_cases}
 use Rattle.column_family.proofs.Kept.{part_of, placed_row, placed_part, same_number, IsPlaced, IsNumbering, one_row, placed_all, last_touch, last_deletion}
 use Rattle.column_family.proofs.Standing.{stands_for}
@@ -205,25 +205,36 @@ all_effective : (number : Row → ℕ) (n : ℕ) (es : Placed) → AllByRecursio
 all_effective number n [] all = tt
 all_effective number n (e ∷ es) all = (effective (number e.1.row) e.1.mutation e.0 all.0.0, all_effective number n es all.1)
 
--- ---- the theorems on what is kept of a batch
-kept_pairs : (batch : List Change) → Pairs (Precedes (changes_before batch)) (values_of (keep_all (changes_before batch) [] batch))
-kept_pairs batch = in_order (changes_before batch) (length batch) (first_apart batch) (keep_all (changes_before batch) [] batch) (placed_all (changes_before batch) (length batch) batch (first_below batch)) (sorted_all (changes_before batch) batch)
+-- ---- the theorems on the normal form
+normal_pairs : (batch : List Change) → Pairs (Precedes (changes_before batch)) (normal_of batch)
+normal_pairs batch = in_order (changes_before batch) (length batch) (first_apart batch) (keep_all (changes_before batch) [] batch) (placed_all (changes_before batch) (length batch) batch (first_below batch)) (sorted_all (changes_before batch) batch)
 
-pub kept_order : (batch kept : List Change) → kept ≡ values_of (keep_all (changes_before batch) [] batch) → IsInOrderOf batch kept
-kept_order batch kept e = subst (λ (cs : List Change). IsInOrderOf batch cs) (sym e) (all_pairs (Precedes (changes_before batch)) (values_of (keep_all (changes_before batch) [] batch)) (kept_pairs batch))
+-- rows stand in it in the order in which they first occur in the batch
+pub normal_order : (batch : List Change) → IsInOrderOf batch (normal_of batch)
+normal_order batch = all_pairs (Precedes (changes_before batch)) (normal_of batch) (normal_pairs batch)
 
-pub kept_normal : (batch kept : List Change) → kept ≡ values_of (keep_all (changes_before batch) [] batch) → IsNormal kept
-kept_normal batch kept e =
+-- it has the form
+pub normal_form : (batch : List Change) → IsNormal (normal_of batch)
+normal_form batch =
     let es = keep_all (changes_before batch) [] batch in
-    let cs = values_of es in
-    subst (λ (ds : List Change). IsNormal ds) (sym e) (
+    let cs = values_of es in (
       All-from_recursion (λ (c : Change). IsEffective c.mutation) cs (all_effective (changes_before batch) (length batch) es (placed_all (changes_before batch) (length batch) batch (first_below batch))),
-      all_pairs (Precedes (changes_before cs)) cs (own_order (changes_before batch) cs (kept_pairs batch)),
+      all_pairs (Precedes (changes_before cs)) cs (own_order (changes_before batch) cs (normal_pairs batch)),
     )
 
-pub kept_stands : (batch kept : List Change) → kept ≡ values_of (keep_all (changes_before batch) [] batch) → StandsFor kept batch
-kept_stands batch kept e =
-    subst (λ (ds : List Change). StandsFor ds batch) (sym e)
-    (stands_for (values_of (keep_all (changes_before batch) [] batch)) batch
+-- it stands for the batch
+pub normal_stands : (batch : List Change) → StandsFor (normal_of batch) batch
+normal_stands batch =
+    stands_for (normal_of batch) batch
     (last_touch (changes_before batch) (length batch) (first_apart batch) batch (first_below batch))
-    (last_deletion (changes_before batch) (length batch) (first_apart batch) batch (first_below batch)))
+    (last_deletion (changes_before batch) (length batch) (first_apart batch) batch (first_below batch))
+
+-- the same of a batch that is the normal form
+pub kept_order : (batch kept : List Change) → kept ≡ normal_of batch → IsInOrderOf batch kept
+kept_order batch kept e = subst (λ (cs : List Change). IsInOrderOf batch cs) (sym e) (normal_order batch)
+
+pub kept_normal : (batch kept : List Change) → kept ≡ normal_of batch → IsNormal kept
+kept_normal batch kept e = subst (λ (cs : List Change). IsNormal cs) (sym e) (normal_form batch)
+
+pub kept_stands : (batch kept : List Change) → kept ≡ normal_of batch → StandsFor kept batch
+kept_stands batch kept e = subst (λ (cs : List Change). StandsFor cs batch) (sym e) (normal_stands batch)

@@ -4,7 +4,7 @@ use Rattle.std.specs.declared.cmp.Ordering.{Ordering}
 use Rattle.std.specs.Ordering.{nat_cmp, is_eq, ordering_then}
 use Rattle.std.specs.Option.{option_cmp}
 use Rattle.std.specs.Cmp.Lexicographic.{slice_cmp}
-use Rattle.std.specs.Map.{lookup}
+use Rattle.std.specs.Map.{lookup, values_of}
 use Rattle.std.specs.BTreeMap.{insert_entry}
 use Rattle.column_family.specs.declared.batch.Row.{Row}
 use Rattle.column_family.specs.declared.batch.Change.{Change}
@@ -12,6 +12,7 @@ use Rattle.column_family.specs.declared.batch.Mutation.{Mutation}
 use Rattle.column_family.specs.declared.batch.Mutation.TheVariants.{Insert, DeleteColumn, DeleteRow, DeleteRange}
 use Rattle.column_family.specs.declared.normalizing.Place.{Place}
 use Rattle.column_family.specs.Location.{is_same_row}
+use Rattle.column_family.specs.Normal.{changes_before}
 
 -- changes at their places
 abbrev pub Placed : Type 0
@@ -58,3 +59,7 @@ keep row es c = keep_at es (place_of row c.mutation) c
 abbrev pub keep_all : (Row → ℕ) → Placed → List Change → Placed
 keep_all number es [] = es
 keep_all number es (c ∷ cs) = keep (number c.row) (keep_all number es cs) c
+
+-- the normal form of a batch: what is kept of it, in the order of places
+abbrev pub normal_of : List Change → List Change
+normal_of batch = values_of (keep_all (changes_before batch) [] batch)

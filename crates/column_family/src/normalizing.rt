@@ -4,7 +4,6 @@
 //! change is without effect where its place is taken, and where its row is deleted by a newer one.
 ghost use Rattle.std.specs.Prelude.{◌≡◌, [], length, unwrap_or, IfOk, OnOk, IfErr};
 ghost use Rattle.std.specs.BTreeMap.{get, values};
-ghost use Rattle.std.specs.Map.{values_of};
 ghost use Rattle.logical_time.specs.declared.fault.Fault.TheVariants as fault;
 ghost use Rattle.column_family.specs.declared.batch.Row.{Row};
 ghost use Rattle.column_family.specs.Normal.{IsNormal, IsInOrderOf, StandsFor, changes_before};
@@ -96,7 +95,7 @@ fn keep_all(alloc: Global, changes: &[Change]) -> Result<BTreeMap<Place, Change>
 
 /// The kept changes, in the order of their places.
 fn kept_changes(alloc: Global, batch: &Batch) -> Result<Batch, Fault>
-    ensures exact { IfOk result (λ kept. kept ≡ values_of (spec.keep_all (changes_before batch.now) [] batch.now)) }
+    ensures exact { IfOk result (λ kept. kept ≡ spec.normal_of batch.now) }
     ensures memory { IfErr result (λ e. e ≡ fault.Memory) }
 {
     let kept = keep_all(alloc, batch.as_slice())?;
@@ -110,6 +109,7 @@ fn kept_changes(alloc: Global, batch: &Batch) -> Result<Batch, Fault>
 /// `Memory`.
 #[tactic(auto, using(crate::proofs::Order::kept_stands))]
 pub fn normal(alloc: Global, batch: &Batch) -> Result<Batch, Fault>
+    ensures exact { IfOk result (λ kept. kept ≡ spec.normal_of batch.now) }
     ensures form { IfOk result (λ kept. IsNormal kept) }
     ensures order { IfOk result (λ kept. IsInOrderOf batch.now kept) }
     ensures stands_for { IfOk result (λ kept. StandsFor kept batch.now) }

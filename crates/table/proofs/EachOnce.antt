@@ -1,9 +1,13 @@
 -- Keys taken once each, one after the other.
 use Rattle.std.proofs.Common.{◌≡◌, ℕ, ◌+◌, ◌<◌, Bool, true, false, not, ◌||◌, cond, List, [], ◌∷◌, ◌++◌, filter, length, take, get_or, refl, ap, ◌∙◌, sym, rules, append-nil}
 use Rattle.std.specs.List.{list_any}
+use Rattle.std.specs.Ordering.{nat_cmp, is_eq}
+use Rattle.std.specs.Cmp.Lexicographic.{slice_cmp}
 use Rattle.std.specs.Str.{bytes_eq}
 use Rattle.std.proofs.lemmas.List.{take_more}
 use Rattle.std.proofs.lemmas.List.Elements.{filter-append}
+use Rattle.std.proofs.lemmas.List.Folds.{list_any-append}
+use Rattle.std.proofs.lemmas.Map.Text.{is_eq-slice_cmp}
 use Rattle.std.proofs.lemmas.Map.Views.{any-filter_same}
 use Rattle.std.proofs.lemmas.Slice.Eq.{bytes_eq-Decides}
 use Rattle.table.specs.Meaning.{each_once}
@@ -63,3 +67,17 @@ each_once_old ks once i x lt e f g = each_once_more ks once i x true lt e f g
 pub each_once_new : (ks once : List (List ℕ)) (i : ℕ) (x y : List ℕ) → i < length ks → x ≡ get_or ks i x → list_any (λ z. bytes_eq z x) once ≡ false
     → once ≡ each_once (take i ks) → y ≡ x → once ++ y ∷ [] ≡ each_once (take (i + 1) ks)
 each_once_new ks once i x y lt e f g s = ap (λ z. once ++ z ∷ []) s ∙ each_once_more ks once i x false lt e f g
+
+-- a key more that was seen and taken
+either : (b s : Bool) → cond b true s ≡ (s || (b || false))
+either true true = refl
+either true false = refl
+either false true = refl
+either false false = refl
+
+pub seen_more : (once : List (List ℕ)) (x y k : List ℕ) (before after : Bool) → after ≡ cond (is_eq (slice_cmp nat_cmp x k)) true before → x ≡ y → before ≡ list_any (λ z. bytes_eq z k) once
+    → after ≡ list_any (λ z. bytes_eq z k) (once ++ y ∷ [])
+seen_more once x y k before after added same so_far =
+    added ∙ (ap (λ b. cond b true before) (is_eq-slice_cmp x k ∙ ap (λ z. bytes_eq z k) same)
+    ∙ (either (bytes_eq y k) before
+    ∙ (ap (λ b. b || (bytes_eq y k || false)) so_far ∙ sym (list_any-append (λ z. bytes_eq z k) once (y ∷ [])))))

@@ -7,6 +7,7 @@ use column_family::{Committed, Key, Row, up_to};
 use logical_time::{Fault, Time};
 use slice::{Answer, AnsweredRow, Read, live_columns, select};
 use std::alloc::Global;
+use std::collections::BTreeSet;
 
 /// What the read means on the history at the time: each asked key once, in the order of first asking, with its
 /// slice of what is committed by then. Of two entries with one stamp the first in the list wins. Slow: it copies
@@ -20,15 +21,16 @@ pub fn answer(alloc: Global, history: &History, time: Time, read: &Read) -> Resu
     answer_keys(alloc, &entries, read, &keys)
 }
 
-/// Each key once, in the order of first asking. Compares each key with those before it. Refused with `Memory`
-/// alone.
+/// Each key once, in the order of first asking. In the order of n log n for n keys. Refused with `Memory` alone.
 pub fn each_once(alloc: Global, keys: &[Key]) -> Result<Vec<Key>, Fault>
     ensures ok { IfOk result (λ once. once.items ≡ meaning.each_once keys.now) }
     ensures memory { IfErr result (λ e. e ≡ Fault.Memory) }
 {
-    let mut once: Vec<Key> = Vec::new(alloc);
+    let mut seen = BTreeSet::new(alloc);
+    let mut once = Vec::new(alloc);
     for key in keys {
-        if !once.contains(key) {
+        if !seen.contains(key) {
+            seen.insert(key.clone()?)?;
             once.push(key.clone()?)?;
         }
     }

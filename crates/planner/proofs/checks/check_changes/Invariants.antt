@@ -1,6 +1,6 @@
 use Rattle.std.proofs.Common.{◌≡◌, drop}
-use Rattle.workload.specs.Checks.{changes_fault}
-use Rattle.workload.proofs.checks.check_changes.Given as goal
+use Rattle.planner.specs.Checks.{changes_fault}
+use Rattle.planner.proofs.checks.check_changes.Given as goal
 
 -- no change so far has a fault
 abbrev pub invariant-loop-change : goal.invariant-loop-change

@@ -1,0 +1,7 @@
+pub mod Asked
+pub mod Found
+pub mod Lists
+pub mod Members
+pub mod Parts
+pub mod Right
+pub mod Rows

@@ -1,0 +1,81 @@
+//! The cut of a read by shards.
+ghost use Rattle.std.specs.Prelude.{◌≡◌, ◌<◌, List, ℕ, map, filter, IfOk, IfErr};
+ghost use Rattle.planner.specs.Checks.{read_fault, IsRefusedForOrMemory};
+ghost use Rattle.planner.specs.Plan as plans;
+ghost use Rattle.planner.specs.Planned.{keys_on, IsKeyCut};
+
+use crate::checks::check_read;
+use crate::partition::shard_of;
+use column_family::{Key, Schema};
+use logical_time::Fault;
+use slice::{Keys, Read};
+use std::alloc::Global;
+use table::each_once;
+
+/// The keys that a read asks of a shard.
+#[derive(Drop, Debug)]
+pub struct ShardKeys {
+    /// The shard, as its number within a data centre.
+    pub shard: u16,
+    /// Its keys among those that the read lists, each once, in the order of first asking.
+    pub keys: Keys,
+}
+
+/// The plan of a read: what is asked of which shards.
+#[derive(Drop, Debug)]
+pub struct ReadPlan {
+    /// The shards that hold an asked key, ascending, each with its keys.
+    pub asked: Vec<ShardKeys>,
+}
+
+/// The keys of a shard among these.
+fn keys_of(alloc: Global, keys: &[Key], shard: u16, shards: u16) -> Result<Vec<Key>, Fault>
+    requires { 0 < shards }
+    ensures exact { IfOk result (λ own. own.items ≡ filter (plans.is_on shards shard) keys.now) }
+    ensures memory { IfErr result (λ e. e ≡ Fault.Memory) }
+{
+    let mut own = Vec::new(alloc);
+    for key in keys {
+        if shard_of(key, shards) == shard {
+            own.push(key.clone()?)?;
+        }
+    }
+    Ok(own)
+}
+
+/// The keys of each shard that has some of those that a read lists, ascending by shard.
+fn cut(alloc: Global, keys: &[Key], shards: u16) -> Result<ReadPlan, Fault>
+    requires { 0 < shards }
+    ensures exact { IfOk result (λ plan. plan.asked.items ≡ map (keys_on shards keys.now) (plans.shards_asked shards keys.now)) }
+    ensures memory { IfErr result (λ e. e ≡ Fault.Memory) }
+{
+    let once = each_once(alloc, keys)?;
+    let mut asked = Vec::new(alloc);
+    for shard in 0..shards {
+        let own = keys_of(alloc, &once, shard, shards)?;
+        if !own.is_empty() {
+            asked.push(ShardKeys {
+                shard,
+                keys: Keys::from_vec(own),
+            })?;
+        }
+    }
+    Ok(ReadPlan { asked })
+}
+
+/// The plan of a read for so many shards: its keys, each once, cut by shards. In the order of n log n for n keys as
+/// listed, and once through them for each shard. Refused as `check_read` refuses it, and else with `Memory` alone.
+pub fn plan_read(
+    alloc: Global,
+    read: &Read,
+    schema: &Schema,
+    shards: u16,
+) -> Result<ReadPlan, Fault>
+    requires { 0 < shards }
+    ensures refused { IsRefusedForOrMemory (read_fault schema.now read.now) result }
+    ensures asked { IfOk result (λ plan. plan.asked.items ≡ map (keys_on shards read.now.keys) (plans.shards_asked shards read.now.keys)) }
+    ensures cut { IfOk result (λ plan. IsKeyCut shards read.now.keys plan.asked.items) }
+{
+    check_read(schema, read)?;
+    cut(alloc, read.keys.as_slice(), shards)
+}
