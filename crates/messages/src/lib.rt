@@ -7,6 +7,7 @@
 mod body;
 mod copies;
 mod envelope;
+mod law;
 mod op;
 mod outbox;
 mod parts;
@@ -14,6 +15,7 @@ mod topology;
 
 pub use body::{Body, Cohorts};
 pub use envelope::{Envelope, Refused};
+pub use law::rounds_of_two_rows;
 pub use op::{Op, Outcome};
 pub use outbox::Outbox;
 pub use parts::{AtTime, RowAt, RowNow, RowsAt, RowsNow};
