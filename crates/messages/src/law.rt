@@ -1,5 +1,11 @@
 //! Laws of the protocol's definitions.
-ghost use Rattle.std.specs.Prelude.{◌≡◌, [], ◌∷◌};
+ghost use Rattle.std.specs.Prelude.{◌≡◌, ◌↔◌, true, [], ◌∷◌};
+ghost use Rattle.logical_time.specs.Stamps.{StampValue};
+ghost use Rattle.column_family.specs.declared.batch.Row.{Row};
+ghost use Rattle.column_family.specs.History.{History};
+ghost use Rattle.slice.specs.declared.predicate.Predicate.{Predicate};
+ghost use Rattle.slice.specs.Rests.{RowRestsOn};
+ghost use Rattle.messages.specs.Rows.{is_rested_on};
 ghost use Rattle.messages.specs.Examples.{key_a, key_b, asks, hears_both, asked, asked_at};
 
 /// The two rounds of reads of the rows b and a, which lie on the shards 0 and 1. A key that is listed twice is asked
@@ -9,4 +15,11 @@ pub fn rounds_of_two_rows()
     ensures first_round { (asks (key_b ∷ key_a ∷ key_b ∷ [])).sends ≡ asked 0 (key_b ∷ []) ∷ asked 1 (key_a ∷ []) ∷ [] }
     ensures late_row { (hears_both 0).sends ≡ asked_at 1 3 (key_a ∷ []) ∷ [] }
     ensures floor { (hears_both 5).sends ≡ asked_at 0 5 (key_b ∷ []) ∷ asked_at 1 5 (key_a ∷ []) ∷ [] }
+{}
+
+/// The transactions whose writers a shard answers with a row are those that the read of the row rests on. Does nothing;
+/// its contract is the law.
+#[tactic(auto, using(crate::proofs::Rested::tested_if_rested))]
+pub fn writers_are_rested_on()
+    ensures { (h : History) (r : Row) (p : Predicate) (s : StampValue) → (is_rested_on h r p s ≡ true) ↔ RowRestsOn h r p s }
 {}

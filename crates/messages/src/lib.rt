@@ -15,7 +15,7 @@ mod topology;
 
 pub use body::{Body, Cohorts};
 pub use envelope::{Envelope, Refused};
-pub use law::rounds_of_two_rows;
+pub use law::{rounds_of_two_rows, writers_are_rested_on};
 pub use op::{Op, Outcome};
 pub use outbox::Outbox;
 pub use parts::{AtTime, RowAt, RowNow, RowsAt, RowsNow};
