@@ -3,8 +3,8 @@ use Rattle.std.specs.Prelude.{ℕ, Bool, true, false, ◌&&◌, not, ◌==◌, n
 use Rattle.std.specs.List.{list_any}
 use Rattle.logical_time.specs.Stamps.{TxnValue, WriterValue}
 use Rattle.slice.specs.declared.read.Read.{Read}
-use Rattle.messages.specs.declared.parts.AtTime.{AtTime}
-use Rattle.messages.specs.declared.parts.AtTime.TheVariants.{Collected, Rows}
+use Rattle.messages.specs.declared.rows_at.AtTime.{AtTime}
+use Rattle.messages.specs.declared.rows_at.AtTime.TheVariants.{Collected, Rows}
 use Rattle.messages.specs.declared.body.Body.TheVariants.{Check, PartNow, PartAt}
 use Rattle.messages.specs.declared.envelope.Envelope.{Envelope}
 use Rattle.messages.specs.Topology.{TopologyValue, dc_of, shard_node}

@@ -6,8 +6,8 @@ use Rattle.slice.specs.declared.read.Read.{Read}
 use Rattle.slice.specs.declared.read.AnsweredRow.{AnsweredRow}
 use Rattle.planner.specs.Join.{joined}
 use Rattle.planner.specs.Plan.{shards_asked}
-use Rattle.messages.specs.declared.parts.RowNow.{RowNow}
-use Rattle.messages.specs.declared.parts.RowAt.{RowAt}
+use Rattle.messages.specs.declared.rows_now.RowNow.{RowNow}
+use Rattle.messages.specs.declared.rows_at.RowAt.{RowAt}
 use Rattle.messages.specs.Topology.{TopologyValue}
 use Rattle.messages.specs.Words.{in_writer_order}
 use Rattle.messages.specs.Session.{SessionState, HeardNow, HeardAt}

@@ -13,8 +13,8 @@ use Rattle.slice.specs.declared.read.Read.{Read}
 use Rattle.slice.specs.Slice.{slice_of, is_asked}
 use Rattle.slice.specs.Live.{live_columns, columns_changed}
 use Rattle.slice.specs.Rests.{is_looked_at}
-use Rattle.messages.specs.declared.parts.RowNow.{RowNow}
-use Rattle.messages.specs.declared.parts.RowAt.{RowAt}
+use Rattle.messages.specs.declared.rows_now.RowNow.{RowNow}
+use Rattle.messages.specs.declared.rows_at.RowAt.{RowAt}
 use Rattle.messages.specs.Words.{in_writer_order}
 use Rattle.messages.specs.Shard.{ShardState, PreparedPart, AppliedPart}
 use Rattle.messages.specs.Known.{is_applied}

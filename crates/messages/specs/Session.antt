@@ -2,9 +2,9 @@
 use Rattle.std.specs.Prelude.{ℕ, Bool, true, false, List, [], Option, None}
 use Rattle.logical_time.specs.Stamps.{WriterValue}
 use Rattle.slice.specs.declared.read.Read.{Read}
-use Rattle.messages.specs.declared.parts.RowNow.{RowNow}
-use Rattle.messages.specs.declared.parts.RowAt.{RowAt}
-use Rattle.messages.specs.declared.op.Outcome.{Outcome}
+use Rattle.messages.specs.declared.rows_now.RowNow.{RowNow}
+use Rattle.messages.specs.declared.rows_at.RowAt.{RowAt}
+use Rattle.messages.specs.declared.outcome.Outcome.{Outcome}
 use Rattle.messages.specs.declared.envelope.Envelope.{Envelope}
 
 -- the first answer of a shard in the first round of a read

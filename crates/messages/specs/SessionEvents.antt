@@ -3,12 +3,12 @@ use Rattle.std.specs.Prelude.{ℕ, ◌+◌, max, Bool, true, false, ◌&&◌, �
 use Rattle.logical_time.specs.declared.fault.Fault.{Fault}
 use Rattle.logical_time.specs.Stamps.{StampValue, TxnValue, WriterValue}
 use Rattle.slice.specs.declared.read.Read.{Read}
-use Rattle.messages.specs.declared.parts.RowNow.{RowNow}
-use Rattle.messages.specs.declared.parts.RowAt.{RowAt}
-use Rattle.messages.specs.declared.parts.AtTime.{AtTime}
-use Rattle.messages.specs.declared.parts.AtTime.TheVariants as at
-use Rattle.messages.specs.declared.op.Outcome.{Outcome}
-use Rattle.messages.specs.declared.op.Outcome.TheVariants as outcome
+use Rattle.messages.specs.declared.rows_now.RowNow.{RowNow}
+use Rattle.messages.specs.declared.rows_at.RowAt.{RowAt}
+use Rattle.messages.specs.declared.rows_at.AtTime.{AtTime}
+use Rattle.messages.specs.declared.rows_at.AtTime.TheVariants as at
+use Rattle.messages.specs.declared.outcome.Outcome.{Outcome}
+use Rattle.messages.specs.declared.outcome.Outcome.TheVariants as outcome
 use Rattle.messages.specs.declared.body.Body.{Body}
 use Rattle.messages.specs.declared.body.Body.TheVariants.{Begin, Prepare, Yes, Commit, At, NotBy, Check, ReadAt, ReplBegin, ReplPart, Notify, PrepareRemote, DepCheck, DepOk, Done, PartNow, PartAt}
 use Rattle.messages.specs.declared.envelope.Envelope.{Envelope}

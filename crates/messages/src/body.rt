@@ -4,7 +4,8 @@ ghost use Rattle.std.specs.Prelude.{◌≡◌};
 use crate::copies::{
     begin, first_round, part_at, part_now, prepare, repl_begin, repl_part, second_round,
 };
-use crate::parts::{AtTime, RowsNow};
+use crate::rows_at::AtTime;
+use crate::rows_now::RowsNow;
 use column_family::Batch;
 use logical_time::{Stamp, Time, TxnId, Writers};
 use slice::Read;

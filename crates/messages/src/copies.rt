@@ -3,7 +3,8 @@ ghost use Rattle.std.specs.Prelude.{◌≡◌, IfOk};
 ghost use Rattle.messages.specs.declared.body.Body.TheVariants as body;
 
 use crate::body::{Body, Cohorts};
-use crate::parts::{AtTime, RowsNow};
+use crate::rows_at::AtTime;
+use crate::rows_now::RowsNow;
 use column_family::Batch;
 use logical_time::{Stamp, Time, TxnId, Writers};
 use slice::Read;

@@ -1,12 +1,24 @@
 //! Laws of the protocol's definitions.
-ghost use Rattle.std.specs.Prelude.{◌≡◌, ◌↔◌, true, [], ◌∷◌};
+ghost use Rattle.std.specs.Prelude.{◌≡◌, ◌↔◌, ◌<◌, ℕ, true, false, [], ◌∷◌, length, Some};
 ghost use Rattle.logical_time.specs.Stamps.{StampValue};
 ghost use Rattle.column_family.specs.declared.batch.Row.{Row};
 ghost use Rattle.column_family.specs.History.{History};
 ghost use Rattle.slice.specs.declared.predicate.Predicate.{Predicate};
 ghost use Rattle.slice.specs.Rests.{RowRestsOn};
 ghost use Rattle.messages.specs.Rows.{is_rested_on};
+ghost use Rattle.messages.specs.Topology.{TopologyValue, shard_node, session_node, dc_of, shard_of, is_shard, session_of};
 ghost use Rattle.messages.specs.Examples.{key_a, key_b, asks, hears_both, asked, asked_at};
+
+/// Each node is one shard of one data centre or one session. Does nothing; its contract is the law.
+#[tactic(auto, using(crate::proofs::Numbering::dc_of_shard, crate::proofs::Numbering::number_of_shard, crate::proofs::Numbering::shard_again, crate::proofs::Numbering::shard_is_shard, crate::proofs::Numbering::session_again, crate::proofs::Numbering::session_is_no_shard))]
+pub fn nodes_are_numbered_once()
+    ensures dc { (top : TopologyValue) (dc shard : ℕ) → shard < top.shards → dc_of top (shard_node top dc shard) ≡ dc }
+    ensures shard { (top : TopologyValue) (dc shard : ℕ) → shard < top.shards → shard_of top (shard_node top dc shard) ≡ shard }
+    ensures again { (top : TopologyValue) (node : ℕ) → shard_node top (dc_of top node) (shard_of top node) ≡ node }
+    ensures is_shard { (top : TopologyValue) (dc shard : ℕ) → dc < top.dcs → shard < top.shards → is_shard top (shard_node top dc shard) ≡ true }
+    ensures session { (top : TopologyValue) (i : ℕ) → i < length top.homes → session_of top (session_node top i) ≡ Some i }
+    ensures apart { (top : TopologyValue) (i : ℕ) → is_shard top (session_node top i) ≡ false }
+{}
 
 /// The two rounds of reads of the rows b and a, which lie on the shards 0 and 1. A key that is listed twice is asked
 /// once, of its shard. Where b is valid from 3 to 4 and a from 0 to 2, a session with floor 0 asks again for a alone,
