@@ -1,3 +1,5 @@
 pub mod Changed
+pub mod Greatest
 pub mod Numbering
 pub mod Rested
+pub mod WritersInOrder

@@ -1,10 +1,10 @@
 -- The numbers of nodes name each shard and each session once.
-use Rattle.std.proofs.Common.{◌≡◌, ℕ, zero, suc, ◌+◌, ◌*◌, ◌-◌, ◌<◌, ◌≤◌, Bool, true, false, ap, ◌∙◌, refl, length, arith, Some, None}
-use Rattle.std.specs.Prelude.{nat_lt, nat_le, ◌&&◌, if◌then◌else◌}
+use Rattle.std.proofs.Common.{◌≡◌, ℕ, ◌+◌, ◌*◌, ◌-◌, ◌<◌, ◌≤◌, Bool, true, false, ap, length, arith, Some, None}
+use Rattle.std.specs.Prelude.{if◌then◌else◌}
 use Rattle.std.proofs.lemmas.Bool.Decides.{nat_tests}
 use Rattle.std.proofs.lemmas.Nat.{div-mul-add, mod-mul-add, div-add-mod'}
 use Rattle.std.proofs.Math.Nat.{mul-le-mul_right}
-use Rattle.messages.specs.Topology.{TopologyValue, shard_count, shard_node, session_node, dc_of, shard_of, is_shard, is_session, session_of, node_count}
+use Rattle.messages.specs.Topology.{TopologyValue, shard_count, shard_node, session_node, dc_of, shard_of, is_shard, is_session, session_of}
 
 pub dc_of_shard : (top : TopologyValue) (dc shard : ℕ) → shard < top.shards → dc_of top (shard_node top dc shard) ≡ dc
 dc_of_shard top dc shard lt = div-mul-add dc top.shards shard lt

@@ -1,13 +1,13 @@
 -- The test whether a read rests on a transaction holds exactly if the read of the row rests on it.
 use Rattle.std.proofs.Common.{◌≡◌, ◌∙◌, sym, ap, refl, ℕ, Bool, true, false, ◌&&◌, ◌||◌, ◌⊎◌, inl, inr, List, [], ◌∷◌, Option, Some, None, arith}
-use Rattle.std.specs.Prelude.{◌↔◌, is_some}
+use Rattle.std.specs.Prelude.{◌↔◌}
 use Rattle.std.specs.List.{list_any}
 use Rattle.std.specs.Str.{bytes_eq}
 use Rattle.std.proofs.lemmas.Bool.Decides.{nat_tests}
 use Rattle.std.proofs.lemmas.Slice.Eq.{bytes_eq-Decides}
 use Rattle.logical_time.specs.Stamps.{StampValue}
 use Rattle.column_family.specs.declared.batch.Row.{Row}
-use Rattle.column_family.specs.Location.{is_row_deletion, is_column_change}
+use Rattle.column_family.specs.Location.{is_row_deletion}
 use Rattle.column_family.specs.History.{History, newest, newest_of, stamp_of}
 use Rattle.slice.specs.declared.predicate.Predicate.{Predicate}
 use Rattle.slice.specs.Slice.{slice_of}

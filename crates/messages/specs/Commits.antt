@@ -1,13 +1,13 @@
 -- A shard's step in a two-phase commit: Begin, Prepare, Yes, Commit, At, NotBy, Check, and what a decision and an
 -- application send.
 use Rattle.std.specs.Prelude.{ℕ, Bool, true, false, List, [], ◌∷◌, ◌++◌, map, filter, nat_le, Option, Some, None}
-use Rattle.logical_time.specs.Stamps.{StampValue, TxnValue, WriterValue}
+use Rattle.logical_time.specs.Stamps.{StampValue, TxnValue}
 use Rattle.column_family.specs.declared.batch.Change.{Change}
 use Rattle.messages.specs.declared.body.Body.TheVariants.{Yes, Commit, At, NotBy, ReplBegin, ReplPart, DepOk, Done}
 use Rattle.messages.specs.declared.envelope.Envelope.{Envelope}
 use Rattle.messages.specs.Topology.{TopologyValue, dc_of, shard_of, shard_node}
 use Rattle.messages.specs.Words.{is_same_txn, envelope, other_dcs}
-use Rattle.messages.specs.Shard.{ShardState, ShardStep, Role, Own, Cohort, Replica, PreparedPart, BegunBallot, Vote, Decision, AppliedPart, Asker, quiet}
+use Rattle.messages.specs.Shard.{ShardState, ShardStep, Role, Own, Cohort, Replica, PreparedPart, BegunBallot, Vote, Decision, Asker, quiet}
 use Rattle.messages.specs.Known.{decision_of, prepared_part, standing_ballot, is_known, is_applied, has_vote, is_awaited, all_voted}
 use Rattle.messages.specs.Reads.{answer, let_go}
 

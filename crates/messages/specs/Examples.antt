@@ -1,5 +1,5 @@
 -- Worked examples: reads of two rows that lie on two shards.
-use Rattle.std.specs.Prelude.{ℕ, List, [], ◌∷◌, Result, Ok, Err}
+use Rattle.std.specs.Prelude.{ℕ, List, [], ◌∷◌}
 use Rattle.slice.specs.declared.predicate.Predicate.TheVariants.{Names}
 use Rattle.slice.specs.declared.read.Read.{Read}
 use Rattle.messages.specs.declared.rows_now.RowNow.{RowNow}
@@ -8,7 +8,7 @@ use Rattle.messages.specs.declared.op.Op.TheVariants as op
 use Rattle.messages.specs.declared.envelope.Envelope.{Envelope}
 use Rattle.messages.specs.Topology.{TopologyValue}
 use Rattle.messages.specs.Words.{envelope}
-use Rattle.messages.specs.Session.{SessionState, SessionStep, new_session}
+use Rattle.messages.specs.Session.{SessionStep, new_session}
 use Rattle.messages.specs.Submitting.{begun}
 use Rattle.messages.specs.SessionEvents.{heard}
 

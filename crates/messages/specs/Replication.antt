@@ -1,12 +1,12 @@
 -- A shard's step for writes of other data centres: ReplBegin, ReplPart, Notify, PrepareRemote, DepCheck, DepOk.
 use Rattle.std.specs.Prelude.{ℕ, Bool, true, false, ◌&&◌, not, List, [], ◌∷◌, ◌++◌, map, Option, Some, None, is_some}
 use Rattle.std.specs.List.{list_any}
-use Rattle.logical_time.specs.Stamps.{TxnValue, WriterValue}
+use Rattle.logical_time.specs.Stamps.{TxnValue}
 use Rattle.messages.specs.declared.body.Body.TheVariants.{PrepareRemote, Notify, DepCheck, DepOk}
 use Rattle.messages.specs.declared.envelope.Envelope.{Envelope}
 use Rattle.messages.specs.Topology.{TopologyValue, dc_of, shard_node}
 use Rattle.messages.specs.Words.{is_same_txn, envelope}
-use Rattle.messages.specs.Shard.{ShardState, ShardStep, Replica, BegunBallot, KeptPart, KeptBallot, Vote, Decision, Asker, Met, quiet}
+use Rattle.messages.specs.Shard.{ShardState, ShardStep, Replica, BegunBallot, KeptPart, KeptBallot, Decision, Asker, Met, quiet}
 use Rattle.messages.specs.Known.{decision_of, prepared_part, kept_part, kept_ballot, is_known, has_vote, is_awaited, all_voted, is_met, all_met, is_asker}
 use Rattle.messages.specs.Reads.{answer}
 use Rattle.messages.specs.Commits.{decide, hold, prepare_part}

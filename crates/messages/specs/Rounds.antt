@@ -1,5 +1,5 @@
 -- The two rounds of a read: which rows are taken from the first, and what is asked again in the second.
-use Rattle.std.specs.Prelude.{ℕ, max, Bool, true, false, ◌&&◌, not, ◌==◌, nat_le, nat_lt, List, [], ◌∷◌, ◌++◌, map, filter, flat_map}
+use Rattle.std.specs.Prelude.{ℕ, max, Bool, ◌&&◌, not, ◌==◌, nat_le, nat_lt, List, [], ◌∷◌, ◌++◌, map, filter, flat_map}
 use Rattle.std.specs.List.{list_any, list_all}
 use Rattle.logical_time.specs.Stamps.{WriterValue}
 use Rattle.slice.specs.declared.read.Read.{Read}

@@ -17,7 +17,10 @@ mod topology;
 
 pub use body::{Body, Cohorts};
 pub use envelope::{Envelope, Refused};
-pub use law::{nodes_are_numbered_once, rounds_of_two_rows, writers_are_rested_on};
+pub use law::{
+    nodes_are_numbered_once, rounds_of_two_rows, times_of_reads, writers_are_rested_on,
+    writers_stand_in_order,
+};
 pub use op::Op;
 pub use outbox::Outbox;
 pub use outcome::Outcome;
