@@ -5,7 +5,7 @@ ghost use Rattle.std.specs.Ordering.{nat_cmp};
 ghost use Rattle.std.specs.Cmp.Lexicographic.{slice_cmp};
 ghost use Rattle.std.specs.BTreeMap.{get};
 ghost use Rattle.column_family.specs.History.{History, up_to};
-ghost use Rattle.table.specs.Meaning.{each_once as once_of, shown_row};
+ghost use Rattle.table.specs.Meaning.{each_once as once_of, meaning, shown_row};
 ghost use Rattle.planner.specs.Join.{columns_for, joined, place_in, AreRight};
 
 use column_family::Key;
@@ -83,11 +83,12 @@ fn join(alloc: Global, keys: &[Key], rows: &[AnsweredRow]) -> Result<Answer, Fau
 }
 
 /// The answer of a read, of the rows that shards answered, in any order: each asked key once, in the order of first
-/// asking, with the columns of its first row, or none. Where each row is right against a history of its own, the answer
-/// shows each key by that history; of one history it is the read's meaning. In the order of n log n for n rows and
-/// keys; no byte of a column is copied. Refused with `Memory` alone.
+/// asking, with the columns of its first row, or none. Where the rows are right against one history, it is the read's
+/// meaning, and where each key's are right against a history of its own, each key is shown by that. In the order of
+/// n log n for n rows and keys; no byte of a column is copied. Refused with `Memory` alone.
 pub fn join_answers(alloc: Global, read: &Read, rows: &[AnsweredRow]) -> Result<Answer, Fault>
     ensures exact { IfOk result (λ answer. answer ≡ joined read.now.keys rows.now) }
+    ensures meaning { IfOk result (λ answer. (h : History) (t : ℕ) → AreRight read.now (λ k. h) t rows.now → answer ≡ meaning read.now h t) }
     ensures right { IfOk result (λ answer. (history : List ℕ → History) (t : ℕ) → AreRight read.now history t rows.now → answer ≡ map (λ k. shown_row read.now (up_to t (history k)) k) (once_of read.now.keys)) }
     ensures memory { IfErr result (λ e. e ≡ Fault.Memory) }
 {

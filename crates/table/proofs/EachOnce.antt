@@ -60,13 +60,13 @@ each_once_more ks once i x b lt e f g =
     ∙ (ap (λ js. taken (list_any (λ y. bytes_eq y x) js) x js) (sym g) ∙ ap (λ c. taken c x once) f))))
 
 -- the step at a key that was taken, and at one that wasn't
-pub each_once_old : (ks once : List (List ℕ)) (i : ℕ) (x : List ℕ) → i < length ks → x ≡ get_or ks i x → list_any (λ y. bytes_eq y x) once ≡ true
-    → once ≡ each_once (take i ks) → once ≡ each_once (take (i + 1) ks)
-each_once_old ks once i x lt e f g = each_once_more ks once i x true lt e f g
+pub each_once_old : (ks once once' : List (List ℕ)) (i : ℕ) (x : List ℕ) → i < length ks → x ≡ get_or ks i x → list_any (λ y. bytes_eq y x) once ≡ true
+    → once ≡ each_once (take i ks) → once' ≡ once → once' ≡ each_once (take (i + 1) ks)
+each_once_old ks once once' i x lt e f g kept = kept ∙ each_once_more ks once i x true lt e f g
 
-pub each_once_new : (ks once : List (List ℕ)) (i : ℕ) (x y : List ℕ) → i < length ks → x ≡ get_or ks i x → list_any (λ z. bytes_eq z x) once ≡ false
-    → once ≡ each_once (take i ks) → y ≡ x → once ++ y ∷ [] ≡ each_once (take (i + 1) ks)
-each_once_new ks once i x y lt e f g s = ap (λ z. once ++ z ∷ []) s ∙ each_once_more ks once i x false lt e f g
+pub each_once_new : (ks once once' : List (List ℕ)) (i : ℕ) (x y : List ℕ) → i < length ks → x ≡ get_or ks i x → list_any (λ z. bytes_eq z x) once ≡ false
+    → once ≡ each_once (take i ks) → y ≡ x → once' ≡ once ++ y ∷ [] → once' ≡ each_once (take (i + 1) ks)
+each_once_new ks once once' i x y lt e f g s taken = taken ∙ (ap (λ z. once ++ z ∷ []) s ∙ each_once_more ks once i x false lt e f g)
 
 -- a key more that was seen and taken
 either : (b s : Bool) → cond b true s ≡ (s || (b || false))
@@ -75,9 +75,14 @@ either true false = refl
 either false true = refl
 either false false = refl
 
-pub seen_more : (once : List (List ℕ)) (x y k : List ℕ) (before after : Bool) → after ≡ cond (is_eq (slice_cmp nat_cmp x k)) true before → x ≡ y → before ≡ list_any (λ z. bytes_eq z k) once
-    → after ≡ list_any (λ z. bytes_eq z k) (once ++ y ∷ [])
-seen_more once x y k before after added same so_far =
-    added ∙ (ap (λ b. cond b true before) (is_eq-slice_cmp x k ∙ ap (λ z. bytes_eq z k) same)
+pub seen_more : (once once' : List (List ℕ)) (x y k : List ℕ) (before after last : Bool) → last ≡ after → after ≡ cond (is_eq (slice_cmp nat_cmp x k)) true before → x ≡ y
+    → once' ≡ once ++ y ∷ [] → before ≡ list_any (λ z. bytes_eq z k) once → last ≡ list_any (λ z. bytes_eq z k) once'
+seen_more once once' x y k before after last now added same taken so_far =
+    now ∙ (added
+    ∙ (ap (λ b. cond b true before) (is_eq-slice_cmp x k ∙ ap (λ z. bytes_eq z k) same)
     ∙ (either (bytes_eq y k) before
-    ∙ (ap (λ b. b || (bytes_eq y k || false)) so_far ∙ sym (list_any-append (λ z. bytes_eq z k) once (y ∷ [])))))
+    ∙ (ap (λ b. b || (bytes_eq y k || false)) so_far
+    ∙ sym (ap (list_any (λ z. bytes_eq z k)) taken ∙ list_any-append (λ z. bytes_eq z k) once (y ∷ []))))))
+
+pub seen_same : (once once' : List (List ℕ)) (k : List ℕ) (before last : Bool) → last ≡ before → once' ≡ once → before ≡ list_any (λ z. bytes_eq z k) once → last ≡ list_any (λ z. bytes_eq z k) once'
+seen_same once once' k before last now kept so_far = now ∙ (so_far ∙ ap (list_any (λ z. bytes_eq z k)) (sym kept))
