@@ -1,0 +1,4 @@
+pub mod Greatest
+pub mod Numbering
+pub mod Rested
+pub mod WritersInOrder

@@ -1,0 +1,16 @@
+pub mod Topology
+pub mod Outbox
+pub mod Clock
+pub mod Words
+pub mod Shard
+pub mod Known
+pub mod Rows
+pub mod Reads
+pub mod Commits
+pub mod Replication
+pub mod ShardEvents
+pub mod Session
+pub mod Submitting
+pub mod Rounds
+pub mod SessionEvents
+pub mod Examples

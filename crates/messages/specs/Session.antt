@@ -1,0 +1,76 @@
+-- What a session keeps.
+use Rattle.std.specs.Prelude.{ℕ, Bool, true, false, List, [], Option, None}
+use Rattle.logical_time.specs.Stamps.{WriterValue}
+use Rattle.slice.specs.declared.read.Read.{Read}
+use Rattle.messages.specs.declared.rows_now.RowNow.{RowNow}
+use Rattle.messages.specs.declared.rows_at.RowAt.{RowAt}
+use Rattle.messages.specs.declared.outcome.Outcome.{Outcome}
+use Rattle.messages.specs.declared.envelope.Envelope.{Envelope}
+
+-- the first answer of a shard in the first round of a read
+pub record HeardNow : Type 0 where
+  pub from : ℕ
+  pub rows : List RowNow
+
+-- the first answer of a shard in the second round of a read
+pub record HeardAt : Type 0 where
+  pub from : ℕ
+  pub rows : List RowAt
+
+-- the open operation: none, a write with its coordinator, or a read in its first or its second round, with what was
+-- heard so far, in the order of its coming. Its number is the count of accepted operations
+pub data Open : Type 0 where
+  Idle : Open
+  Writing : (coordinator : ℕ) → Open
+  FirstRound : (read : Read) (heard : List HeardNow) → Open
+  SecondRound : (read : Read) (time : ℕ) (first : List HeardNow) (heard : List HeardAt) → Open
+
+-- what came of the operation of this number
+pub record Finished : Type 0 where
+  pub number : ℕ
+  pub outcome : Outcome
+
+pub record SessionState : Type 0 where
+  pub clock : ℕ
+  -- how many operations were accepted
+  pub count : ℕ
+  -- the data centre
+  pub home : ℕ
+  -- the greatest commit or effective time of the completed operations
+  pub floor : ℕ
+  -- what the next write depends on, in order
+  pub dependencies : List WriterValue
+  pub current : Open
+  -- all outcomes so far, oldest first
+  pub outcomes : List Finished
+  -- the last outcome, until it is taken or the next operation is accepted
+  pub untaken : Option Finished
+
+-- a session before its first event
+abbrev pub new_session : ℕ → SessionState
+new_session home =
+    record {
+      clock = 0;
+      count = 0;
+      home = home;
+      floor = 0;
+      dependencies = [];
+      current = Idle;
+      outcomes = [];
+      untaken = None;
+    }
+
+-- a session after an event, and what the event sends, in order
+pub record SessionStep : Type 0 where
+  pub state : SessionState
+  pub sends : List Envelope
+
+-- the clock moves, and nothing else happens
+abbrev pub calm : ℕ → SessionState → SessionStep
+calm n a = record { state = record a { clock = n }; sends = [] }
+
+abbrev pub is_idle : Open → Bool
+is_idle Idle = true
+is_idle (Writing coordinator) = false
+is_idle (FirstRound read heard) = false
+is_idle (SecondRound read time first heard) = false

@@ -1,0 +1,242 @@
+//! The kinds of messages.
+ghost use Rattle.std.specs.Prelude.{◌≡◌};
+
+use crate::copies::{
+    begin, first_round, part_at, part_now, prepare, repl_begin, repl_part, second_round,
+};
+use crate::rows_at::AtTime;
+use crate::rows_now::RowsNow;
+use column_family::Batch;
+use logical_time::{Stamp, Time, TxnId, Writers};
+use slice::Read;
+use std::alloc::AllocError;
+use std::marker::Model;
+
+/// The cohorts of a transaction: the shards, beside its coordinator, of which it writes rows, by their numbers within a
+/// data centre. The same in all data centres.
+#[derive(Drop, Debug, Clone)]
+pub struct Cohorts {
+    shards: Vec<u16>,
+}
+
+impl Model for Cohorts {
+    ghost use Rattle.std.specs.Prelude.{List, ℕ};
+
+    ghost Value = { List ℕ };
+
+    ghost view = { λ list. list.shards.items };
+}
+
+impl Cohorts {
+    /// These shards.
+    pub fn from_vec(shards: Vec<u16>) -> Cohorts
+        ensures { result ≡ shards.items }
+    {
+        Cohorts { shards }
+    }
+
+    /// The shards.
+    pub fn as_slice(&self) -> &[u16]
+        ensures { result.now ≡ self.now }
+    {
+        self.shards.as_slice()
+    }
+}
+
+/// What a message says. A shard that is named in one is meant by its number within a data centre.
+#[derive(Drop, Debug, Clone)]
+pub enum Body {
+    /// A session submits a write: to its coordinator.
+    Begin {
+        /// The transaction.
+        txn: TxnId,
+        /// The coordinator's part.
+        rows: Batch,
+        /// The other shards of the transaction.
+        cohorts: Cohorts,
+        /// What the session's writes depend on.
+        dependencies: Writers,
+    },
+    /// A session submits a write: to a cohort.
+    Prepare {
+        /// The transaction.
+        txn: TxnId,
+        /// The cohort's part.
+        rows: Batch,
+        /// The coordinator.
+        coordinator: u16,
+    },
+    /// A cohort has prepared its part.
+    Yes {
+        /// The transaction.
+        txn: TxnId,
+    },
+    /// The coordinator has decided.
+    Commit {
+        /// The transaction.
+        txn: TxnId,
+        /// Its commit time in this data centre.
+        commit: Time,
+        /// Its stamp.
+        stamp: Stamp,
+    },
+    /// The answer to a check of a transaction that is decided.
+    At {
+        /// The transaction.
+        txn: TxnId,
+        /// Its commit time in this data centre.
+        commit: Time,
+        /// Its stamp.
+        stamp: Stamp,
+    },
+    /// The answer to a check of a transaction that isn't decided: it commits after the time, if ever.
+    NotBy {
+        /// The transaction.
+        txn: TxnId,
+        /// The time that was asked about.
+        time: Time,
+    },
+    /// Asks a coordinator whether the transaction commits at or before a time (Eiger's indirect commit check).
+    Check {
+        /// The transaction.
+        txn: TxnId,
+        /// The time.
+        time: Time,
+    },
+    /// The first round of a read: asks for the newest versions.
+    Read {
+        /// The number of the read among the session's operations.
+        number: u64,
+        /// What is asked of this shard.
+        read: Read,
+    },
+    /// The second round of a read: asks for the versions at its effective time.
+    ReadAt {
+        /// The number of the read among the session's operations.
+        number: u64,
+        /// The effective time.
+        time: Time,
+        /// What is asked of this shard.
+        read: Read,
+    },
+    /// Replicates a write: to its coordinator in another data centre.
+    ReplBegin {
+        /// The transaction.
+        txn: TxnId,
+        /// The coordinator's part.
+        rows: Batch,
+        /// The stamp of the transaction.
+        stamp: Stamp,
+        /// The other shards of the transaction.
+        cohorts: Cohorts,
+        /// What the write depends on.
+        dependencies: Writers,
+    },
+    /// Replicates a write: to a cohort in another data centre.
+    ReplPart {
+        /// The transaction.
+        txn: TxnId,
+        /// The cohort's part.
+        rows: Batch,
+        /// The stamp of the transaction.
+        stamp: Stamp,
+        /// The coordinator.
+        coordinator: u16,
+    },
+    /// A cohort keeps its replicated part.
+    Notify {
+        /// The transaction.
+        txn: TxnId,
+    },
+    /// Asks a cohort to prepare its replicated part.
+    PrepareRemote {
+        /// The transaction.
+        txn: TxnId,
+    },
+    /// Asks whether a dependency is committed in this data centre (Eiger's dependency check).
+    DepCheck {
+        /// The dependency.
+        dependency: TxnId,
+        /// The write that depends on it.
+        waiter: TxnId,
+    },
+    /// The dependency is committed in this data centre.
+    DepOk {
+        /// The dependency.
+        dependency: TxnId,
+        /// The write that depends on it.
+        waiter: TxnId,
+        /// The commit time of the dependency in this data centre.
+        commit: Time,
+    },
+    /// A write is committed: to its session.
+    Done {
+        /// The transaction.
+        txn: TxnId,
+        /// Its commit time in the session's data centre.
+        commit: Time,
+        /// Its stamp.
+        stamp: Stamp,
+    },
+    /// A shard's answer in the first round of a read.
+    PartNow {
+        /// The number of the read.
+        number: u64,
+        /// The asked rows of this shard.
+        rows: RowsNow,
+    },
+    /// A shard's answer in the second round of a read.
+    PartAt {
+        /// The number of the read.
+        number: u64,
+        /// The effective time.
+        time: Time,
+        /// The asked rows of this shard, or that they are collected.
+        answer: AtTime,
+    },
+}
+
+impl Body {
+    ghost use Rattle.std.specs.Prelude.{◌≡◌, IfOk};
+
+    /// A copy, which shares the bytes of keys, names and values. Fails by memory alone.
+    pub fn copied(&self) -> Result<Body, AllocError>
+        ensures { IfOk result (λ copy. copy ≡ self.now) }
+    {
+        match self {
+            Body::Begin {
+                txn,
+                rows,
+                cohorts,
+                dependencies,
+            } => begin(*txn, rows, cohorts, dependencies),
+            Body::Prepare {
+                txn,
+                rows,
+                coordinator,
+            } => prepare(*txn, rows, *coordinator),
+            Body::Read { number, read } => first_round(*number, read),
+            Body::ReadAt { number, time, read } => second_round(*number, *time, read),
+            Body::ReplBegin {
+                txn,
+                rows,
+                stamp,
+                cohorts,
+                dependencies,
+            } => repl_begin(*txn, rows, *stamp, cohorts, dependencies),
+            Body::ReplPart {
+                txn,
+                rows,
+                stamp,
+                coordinator,
+            } => repl_part(*txn, rows, *stamp, *coordinator),
+            Body::PartNow { number, rows } => part_now(*number, rows),
+            Body::PartAt {
+                number,
+                time,
+                answer,
+            } => part_at(*number, *time, answer),
+            numbers_alone => numbers_alone.clone(),
+        }
+    }
+}

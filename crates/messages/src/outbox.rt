@@ -1,0 +1,85 @@
+//! Envelopes in the order of sending.
+ghost use Rattle.std.specs.Prelude.{◌≡◌, ◌+◌, ◌≤◌, ◌<◌, ◌++◌, [], ◌∷◌, length, slice_get, if◌then◌else◌, is_ok, IsOk, IfErr, OnOk, OnErr};
+ghost use Rattle.std.specs.Option.{option_copied};
+
+use crate::envelope::{Envelope, Refused};
+use logical_time::Fault;
+use std::alloc::Global;
+use std::marker::Model;
+
+/// Envelopes in the order in which they were posted, numbered from 0.
+#[derive(Drop, Debug)]
+pub struct Outbox {
+    envelopes: Vec<Envelope>,
+}
+
+impl Model for Outbox {
+    ghost use Rattle.std.specs.Prelude.{◌-◌, vec_len, vec_capacity};
+    ghost use Rattle.messages.specs.Outbox.{Posted};
+
+    ghost Value = { Posted };
+
+    ghost view = { λ o. record { sent = o.envelopes.items; room = vec_capacity o.envelopes - vec_len o.envelopes } };
+}
+
+impl Outbox {
+    /// An outbox to which nothing was posted.
+    pub fn new(alloc: Global) -> Outbox
+        ensures { result.sent ≡ [] }
+    {
+        Outbox {
+            envelopes: Vec::new(alloc),
+        }
+    }
+
+    /// Makes room for so many more envelopes, so that the next `additional` posts succeed. What was posted stays.
+    /// Refused with `Memory` alone.
+    pub fn reserve(&mut self, additional: usize) -> Result<(), Fault>
+        ensures same { self.new.sent ≡ self.old.sent }
+        ensures ok { OnOk result (additional ≤ self.new.room) }
+        ensures room { self.old.room ≤ self.new.room }
+        ensures memory { IfErr result (λ e. e ≡ Fault.Memory) }
+    {
+        self.envelopes.reserve(additional)?;
+        Ok(())
+    }
+
+    /// Adds an envelope at the end. Refused with `Memory` alone, never where there is room; then the outbox stays, and
+    /// the envelope is handed back.
+    pub fn post(&mut self, envelope: Envelope) -> Result<(), Refused>
+        ensures ok { OnOk result (self.new.sent ≡ self.old.sent ++ envelope ∷ []) }
+        ensures room { self.old.room ≤ self.new.room + (if is_ok result then 1 else 0) }
+        ensures succeeds { 0 < self.old.room → IsOk result }
+        ensures err { OnErr result (self.new.sent ≡ self.old.sent) }
+        ensures back { IfErr result (λ r. r ≡ record { fault = Fault.Memory; envelope = envelope }) }
+    {
+        match self.envelopes.push(envelope) {
+            Ok(()) => Ok(()),
+            Err(refused) => Err(Refused {
+                fault: Fault::Memory,
+                envelope: refused.value,
+            }),
+        }
+    }
+
+    /// How many envelopes were posted.
+    pub fn len(&self) -> usize
+        ensures { result ≡ length self.now.sent }
+    {
+        self.envelopes.len()
+    }
+
+    /// The envelope of this number, if so many were posted.
+    pub fn get(&self, number: usize) -> Option<&Envelope>
+        ensures { option_copied result ≡ slice_get self.now.sent number }
+    {
+        self.envelopes.get(number)
+    }
+
+    /// The envelopes.
+    pub fn as_slice(&self) -> &[Envelope]
+        ensures { result.now ≡ self.now.sent }
+    {
+        self.envelopes.as_slice()
+    }
+}
