@@ -1,16 +1,15 @@
 -- What a shard answers of a row, by what it applied, and the marks of what it prepared.
-use Rattle.std.specs.Prelude.{ℕ, min, max, Bool, false, ◌&&◌, ◌||◌, not, nat_le, if◌then◌else◌, List, [], ◌∷◌, map, filter, Option, Some, None}
+use Rattle.std.specs.Prelude.{ℕ, min, Bool, false, ◌&&◌, ◌||◌, not, List, [], ◌∷◌, map, filter, Option, Some, None}
 use Rattle.std.specs.List.{list_any}
 use Rattle.std.specs.Ordering.{is_eq}
 use Rattle.logical_time.specs.Stamps.{StampValue, stamp_cmp, WriterValue}
 use Rattle.column_family.specs.declared.batch.Row.{Row}
-use Rattle.column_family.specs.declared.batch.Committed.{Committed}
-use Rattle.column_family.specs.Location.{is_same_row, is_row_deletion, is_column_change}
-use Rattle.column_family.specs.History.{History, Stamped, newest, newest_of, stamp_of}
+use Rattle.column_family.specs.Location.{is_same_row, is_row_deletion}
+use Rattle.column_family.specs.History.{History, newest, newest_of, stamp_of}
 use Rattle.slice.specs.declared.column.Column.{Column}
 use Rattle.slice.specs.declared.predicate.Predicate.{Predicate}
 use Rattle.slice.specs.declared.read.Read.{Read}
-use Rattle.slice.specs.Slice.{slice_of, is_asked}
+use Rattle.slice.specs.Slice.{slice_of}
 use Rattle.slice.specs.Live.{live_columns, columns_changed}
 use Rattle.slice.specs.Rests.{is_looked_at}
 use Rattle.store.specs.declared.part.Applied.{Applied}
