@@ -1,15 +1,20 @@
 -- What the runner does at a drain is told as a transcript tells it.
 use Rattle.std.proofs.Common.{◌≡◌, ◌∙◌, sym, ap, subst, refl, inl, inr, ℕ, ◌<◌, ◌≤◌, List, [], ◌∷◌, ◌++◌, map, Option, Some, None, arith, append-nil}
+use Rattle.std.proofs.lemmas.List.Elements.{All-nil, All-push}
 use Rattle.logical_time.specs.Stamps.{StampValue}
 use Rattle.column_family.specs.declared.batch.Change.{Change}
 use Rattle.column_family.specs.Location.{Location, touches}
 use Rattle.column_family.specs.History.{History, newer_of, newest, newest_of, value_of}
 use Rattle.column_family.specs.Normal.{committed, StandsFor}
+use Rattle.column_family.proofs.Joins.{newest_of_append}
 use Rattle.slice.specs.declared.read.Read.{Read}
 use Rattle.slice.specs.Slice.{slice_of}
 use Rattle.slice.specs.Live.{live_columns}
 use Rattle.slice.proofs.LiveTable.{live_columns_alike}
-use Rattle.store.specs.Part.{history_of, committed_of}
+use Rattle.store.specs.declared.part.Applied.{Applied}
+use Rattle.store.specs.declared.part.WritePart.{WritePart}
+use Rattle.store.specs.Keeps.{Keeps}
+use Rattle.store.specs.Part.{history_of}
 use Rattle.table.specs.Meaning.{shown, shown_row, meaning, each_once, row_of}
 use Rattle.workload.specs.declared.script.Op.{Op}
 use Rattle.workload.specs.declared.script.Op.TheVariants.{Batch, Read as Asks}
@@ -19,9 +24,8 @@ use Rattle.workload.specs.declared.transcript.Entry.{Entry}
 use Rattle.workload.specs.declared.transcript.Entry.TheVariants.{Read as Answered}
 use Rattle.workload.specs.declared.simulating.Runner.{Runner}
 use Rattle.workload.specs.Simulation.{session, stamp_at, greatest, Tells}
-use Rattle.workload.specs.Runner.{HasCompleted, Writes, Reads, Drains, GoesOn, HasTold}
-use Rattle.column_family.proofs.Joins.{newest_of_append}
-use Rattle.workload.proofs.Histories.{greatest_append, up_to_all}
+use Rattle.workload.specs.Runner.{HasCompleted, applied_at, Writes, Reads, Drains, GoesOn, HasTold}
+use Rattle.workload.proofs.Histories.{greatest_append, history_of_append, up_to_all, new_above}
 
 rows_alike : (read : Read) (h k : History) (keys : List (List ℕ)) → ((l : Location) → newest h l ≡ newest k l) → map (shown_row read h) keys ≡ map (shown_row read k) keys
 rows_alike read h k [] same = refl
@@ -51,24 +55,40 @@ newest_alike held h kept given s t l same stands le =
     ∙ ap (λ o. newer_of o (newest_of (touches l) (committed given s t ∷ []))) (same l)
     ∙ sym (newest_of_append (touches l) h (committed given s t ∷ []))
 
+-- a batch is completed once the store keeps what stands for it
+completed : (old new : Runner) (batch : List Change) (h : History) (all : List Applied) (part : WritePart) (t : ℕ) → HasCompleted old h all → old.floor < t
+    → StandsFor part.batch batch → Keeps new.store (all ++ applied_at part t ∷ []) → new.floor ≡ t → new.shard ≡ t
+    → HasCompleted new (h ++ committed batch (stamp_at t) t ∷ []) (all ++ applied_at part t ∷ [])
+completed old new batch h all part t done above stands kept floor shard =
+    let entry = committed part.batch (stamp_at t) t in
+    let held : history_of (all ++ applied_at part t ∷ []) ≡ history_of all ++ entry ∷ [] = history_of_append all (applied_at part t ∷ []) in
+    let first = done.floor in
+    let times = done.times in
+    let from_held = greatest_append (history_of all) (entry ∷ []) in
+    let from_h = greatest_append h (committed batch (stamp_at t) t ∷ []) in
+    let last : greatest (h ++ committed batch (stamp_at t) t ∷ []) ≡ t = omega arith in
+    let same : greatest (history_of all ++ entry ∷ []) ≡ greatest (h ++ committed batch (stamp_at t) t ∷ []) = omega arith in
+    record {
+      floor = floor ∙ sym last;
+      behind = omega arith;
+      kept = kept;
+      stamps = All-push (λ a. a.stamp ≡ stamp_at a.commit) all (applied_at part t) done.stamps refl;
+      times = ap greatest held ∙ same;
+      newest = λ l. ap (λ k. newest k l) held ∙ newest_alike (history_of all) h part.batch batch (stamp_at t) t l done.newest stands (omega arith);
+    }
+
 written : (schema : List (List ℕ)) (old : Runner) (told : Option Entry) (new : Runner) (batch : List Change) (e : Entry)
     → old.open_op ≡ Some (Batch batch) → told ≡ Some e → new.open_op ≡ None → Writes batch (record old { open_op = None }) e new
     → GoesOn schema Drain old told new
-written schema old told new batch e is tells empty (t, a, later, entry, stands, commit, stamp, store, floor, shard, accepted, open_op) h done =
-    let same_entry : committed_of a ≡ committed a.part.batch (stamp_at t) t = ap (λ s. record { batch = a.part.batch; stamp = s; commit = a.commit }) stamp ∙ ap (λ c. committed a.part.batch (stamp_at t) c) commit in
-    let held : history_of new.store ≡ history_of old.store ++ committed a.part.batch (stamp_at t) t ∷ [] =
-    ap history_of store ∙ history_of_append old.store (a ∷ []) ∙ ap (λ c. history_of old.store ++ c ∷ []) same_entry in
-    let above : greatest h < t = let f = done.floor in let b = done.behind in omega arith in
+written schema old told new batch e is tells empty (t, part, later, entry, stands, keeps, floor, shard, accepted, open_op) h all done =
+    let first = done.floor in
+    let behind = done.behind in
     let times = done.times in
-    let from_held = greatest_append (history_of old.store) (committed a.part.batch (stamp_at t) t ∷ []) in
-    let from_h = greatest_append h (committed batch (stamp_at t) t ∷ []) in (
+    let above : greatest h < t = omega arith in
+    let kept = keeps all done.kept (new_above all t done.stamps (omega arith)) in (
       h ++ committed batch (stamp_at t) t ∷ [],
-      record {
-        floor = let g : greatest (h ++ committed batch (stamp_at t) t ∷ []) ≡ t = omega arith in floor ∙ sym g;
-        behind = omega arith;
-        times = ap greatest held ∙ (let g : greatest (history_of old.store ++ committed a.part.batch (stamp_at t) t ∷ []) ≡ greatest (h ++ committed batch (stamp_at t) t ∷ []) = omega arith in g);
-        newest = λ l. ap (λ k. newest k l) held ∙ newest_alike (history_of old.store) h a.part.batch batch (stamp_at t) t l done.newest stands (omega arith);
-      },
+      all ++ applied_at part t ∷ [],
+      completed old new batch h all part t done (omega arith) stands kept floor shard,
       λ events others tail.
           rw (is, tells) (t, others, above, ap (λ x. x ∷ others) entry, rw (← accepted, ← empty) tail),
     )
@@ -76,28 +96,35 @@ written schema old told new batch e is tells empty (t, a, later, entry, stands, 
 answered : (schema : List (List ℕ)) (old : Runner) (told : Option Entry) (new : Runner) (read : Read) (e : Entry)
     → old.open_op ≡ Some (Asks read) → told ≡ Some e → new.open_op ≡ None → Reads read (record old { open_op = None }) e new
     → GoesOn schema Drain old told new
-answered schema old told new read e is tells empty (t, from, to, entry, store, floor, shard, accepted, open_op) h done =
-    let time : t ≡ greatest h =
-    (let f = done.floor in let times = done.times in elim to [ inl le ↦ omega arith | inr le ↦ omega arith ]) in
-    let meant : shown read (history_of old.store) ≡ meaning read h (greatest h) =
-    shown_as_meant read (history_of old.store) h (greatest h) done.newest (omega arith) in
+answered schema old told new read e is tells empty (t, from, answers, store, floor, shard, accepted, open_op) h all done =
+    let (to, entry) = answers all done.kept in
+    let first = done.floor in
+    let behind = done.behind in
+    let times = done.times in
+    let time : t ≡ greatest h = elim to [ inl le ↦ omega arith | inr le ↦ omega arith ] in
+    let meant : shown read (history_of all) ≡ meaning read h (greatest h) =
+    shown_as_meant read (history_of all) h (greatest h) done.newest (omega arith) in
     let same : e ≡ Answered session old.accepted (greatest h) (meaning read h (greatest h)) =
-    entry ∙ ap (λ n. Answered session old.accepted n (shown read (history_of old.store))) time ∙ ap (Answered session old.accepted (greatest h)) meant in (
+    entry ∙ ap (λ n. Answered session old.accepted n (shown read (history_of all))) time ∙ ap (Answered session old.accepted (greatest h)) meant in (
       h,
+      all,
       record {
         floor = floor ∙ time;
-        behind = let f = done.floor in let b = done.behind in omega arith;
-        times = ap (λ s. greatest (history_of s)) store ∙ done.times;
-        newest = λ l. ap (λ s. newest (history_of s) l) store ∙ done.newest l;
+        behind = omega arith;
+        kept = subst (λ s. Keeps s all) (sym store) done.kept;
+        stamps = done.stamps;
+        times = done.times;
+        newest = done.newest;
       },
       λ events others tail. rw (is, tells) (others, ap (λ x. x ∷ others) same, rw (← accepted, ← empty) tail),
     )
 
 nothing : (schema : List (List ℕ)) (old : Runner) (told : Option Entry) (new : Runner)
     → old.open_op ≡ None → told ≡ None → new ≡ old → GoesOn schema Drain old told new
-nothing schema old told new is tells same h done = (
+nothing schema old told new is tells same h all done = (
   h,
-  subst (λ r. HasCompleted r h) (sym same) done,
+  all,
+  subst (λ r. HasCompleted r h all) (sym same) done,
   λ events others tail. let next = rw (same, is) at tail in rw (is, tells) next,
 )
 
@@ -112,9 +139,26 @@ pub drained : (schema : List (List ℕ)) (event : Event) (old : Runner) (told : 
 drained schema event old told new is drains =
     subst (λ e. GoesOn schema e old told new) (sym is) (drained_by schema old told new old.open_op refl drains)
 
+-- at the start nothing is told, and nothing completed
+pub told_none : (schema : List (List ℕ)) (script : List Event) (r : Runner) (told : List Entry) → told ≡ [] → r.floor ≡ 0 → r.accepted ≡ 0 → r.open_op ≡ None → Keeps r.store []
+    → HasTold schema script r script told
+told_none schema script r told none floor accepted empty kept = (
+  [],
+  [],
+  record {
+    floor = floor;
+    behind = omega arith;
+    kept = kept;
+    stamps = All-nil (λ a. a.stamp ≡ stamp_at a.commit);
+    times = refl;
+    newest = λ l. refl;
+  },
+  λ others tail. let start = rw (accepted, empty) at tail in rw none start,
+)
+
 -- once no event is left, the transcript is whole
-pub told_whole : (schema : List (List ℕ)) (all : List Event) (r : Runner) (events : List Event) (told : List Entry)
-    → events ≡ [] → HasTold schema all r events told → Tells schema [] 0 None all told
-told_whole schema all r events told none (h, done, tail) =
-    subst (λ es. Tells schema [] 0 None all es) (append-nil told)
+pub told_whole : (schema : List (List ℕ)) (script : List Event) (r : Runner) (events : List Event) (told : List Entry)
+    → events ≡ [] → HasTold schema script r events told → Tells schema [] 0 None script told
+told_whole schema script r events told none (h, all, done, tail) =
+    subst (λ es. Tells schema [] 0 None script es) (append-nil told)
     (tail [] (subst (λ es. Tells schema h r.accepted r.open_op es []) (sym none) refl))

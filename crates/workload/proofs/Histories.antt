@@ -1,14 +1,16 @@
--- A history with one more entry at its end.
-use Rattle.std.proofs.Common.{◌≡◌, ◌∙◌, sym, ap, refl, ℕ, ◌≤◌, max, Bool, true, false, cond, List, [], ◌∷◌, ◌++◌, Option, Some, None, option_map, arith}
-use Rattle.std.specs.Prelude.{nat_le}
+-- A history with more at its end, and stamps of times above all of it.
+use Rattle.std.proofs.Common.{◌≡◌, ap, refl, ℕ, ◌<◌, ◌≤◌, max, Bool, true, false, cond, List, [], ◌∷◌, ◌++◌, arith}
+use Rattle.std.specs.Prelude.{nat_le, All}
+use Rattle.std.specs.Ordering.{is_eq}
 use Rattle.std.proofs.lemmas.Bool.Decides.{nat_tests}
-use Rattle.logical_time.specs.Stamps.{StampValue, is_older}
-use Rattle.column_family.specs.declared.batch.Change.{Change}
+use Rattle.std.proofs.lemmas.List.Elements.{All-head, All-tail}
+use Rattle.logical_time.specs.Stamps.{StampValue, stamp_cmp}
 use Rattle.column_family.specs.declared.batch.Committed.{Committed}
-use Rattle.column_family.specs.History.{History, Stamped, newer_of, newest_of, last_of, stamped, up_to}
-use Rattle.store.specs.declared.store.Applied.{Applied}
+use Rattle.column_family.specs.History.{History, up_to}
+use Rattle.store.specs.declared.part.Applied.{Applied}
+use Rattle.store.specs.Keeps.{IsNewStamp}
 use Rattle.store.specs.Part.{history_of, committed_of}
-use Rattle.workload.specs.Simulation.{greatest}
+use Rattle.workload.specs.Simulation.{greatest, stamp_at}
 
 pub greatest_append : (h k : History) → greatest (h ++ k) ≡ max (greatest h) (greatest k)
 greatest_append [] k = omega arith
@@ -28,3 +30,13 @@ up_to_all [] t le = refl
 up_to_all (c ∷ h) t le =
     let by : nat_le c.commit t ≡ true = grind (arith, nat_tests) in
     kept (nat_le c.commit t) c (up_to t h) h by (up_to_all h t (omega arith))
+
+later_is_apart : (s : StampValue) (t u : ℕ) → s ≡ stamp_at u → u < t → is_eq (stamp_cmp (stamp_at t) s) ≡ false
+later_is_apart s t u is lt = rw is (grind (arith, nat_tests))
+
+-- where each part is stamped by its commit time, a time above all of them makes a new stamp
+pub new_above : (all : List Applied) (t : ℕ) → All (λ a. a.stamp ≡ stamp_at a.commit) all → greatest (history_of all) < t → IsNewStamp (stamp_at t) all
+new_above [] t stamps lt = refl
+new_above (a ∷ all) t stamps lt =
+    rw (later_is_apart a.stamp t a.commit (All-head (λ b. b.stamp ≡ stamp_at b.commit) a all stamps) (omega arith))
+    (new_above all t (All-tail (λ b. b.stamp ≡ stamp_at b.commit) a all stamps) (omega arith))

@@ -1,5 +1,7 @@
 //! A script is run by one session and one shard, each with its clock.
-ghost use Rattle.std.specs.Prelude.{◌≡◌, ◌*◌, ◌^◌, ◌≤◌, [], ◌++◌, ◌∷◌, length, IfOk, IfErr, OnOk, IsErrOf, ◌⊎◌};
+ghost use Rattle.std.specs.Prelude.{◌≡◌, ◌*◌, ◌^◌, ◌≤◌, List, [], ◌++◌, ◌∷◌, length, IfOk, IfErr, OnOk, IsErrOf, ◌⊎◌};
+ghost use Rattle.store.specs.declared.part.Applied.{Applied};
+ghost use Rattle.store.specs.Keeps.{Keeps};
 ghost use Rattle.store.specs.Part.{history_of};
 ghost use Rattle.table.specs.Meaning.{shown, shown_row};
 ghost use Rattle.workload.specs.Simulation.{IsTranscriptOf, greatest};
@@ -22,8 +24,8 @@ const SESSION: u16 = 1;
 // What the store shows of a row, and since when it is valid.
 #[tactic(auto, using(crate::proofs::Times::evt_of_within))]
 fn read_row(store: &Store, read: &Read, key: &Key) -> Result<(Time, AnsweredRow), Fault>
-    ensures row { IfOk result (λ r. r.1 ≡ shown_row read.now (history_of store.now) key.now) }
-    ensures evt { IfOk result (λ r. r.0 ≤ greatest (history_of store.now)) }
+    ensures row { (all : List Applied) → Keeps store.now all → IfOk result (λ r. r.1 ≡ shown_row read.now (history_of all) key.now) }
+    ensures evt { (all : List Applied) → Keeps store.now all → IfOk result (λ r. r.0 ≤ greatest (history_of all)) }
     ensures memory { IfErr result (λ e. e ≡ Fault.Memory) }
 {
     let row = Row {
@@ -41,9 +43,9 @@ fn read_row(store: &Store, read: &Read, key: &Key) -> Result<(Time, AnsweredRow)
 // What the store shows of the asked rows, and the effective time: the greatest of the floor and of the earliest
 // valid times.
 fn read_all(alloc: Global, store: &Store, floor: Time, read: &Read) -> Result<(Time, Answer), Fault>
-    ensures answer { IfOk result (λ r. r.1 ≡ shown read.now (history_of store.now)) }
+    ensures answer { (all : List Applied) → Keeps store.now all → IfOk result (λ r. r.1 ≡ shown read.now (history_of all)) }
     ensures from { IfOk result (λ r. floor ≤ r.0) }
-    ensures to { IfOk result (λ r. (r.0 ≤ floor) ⊎ (r.0 ≤ greatest (history_of store.now))) }
+    ensures to { (all : List Applied) → Keeps store.now all → IfOk result (λ r. (r.0 ≤ floor) ⊎ (r.0 ≤ greatest (history_of all))) }
     ensures memory { IfErr result (λ e. e ≡ Fault.Memory) }
 {
     let keys = each_once(alloc, read.keys.as_slice())?;
@@ -72,7 +74,7 @@ pub struct Runner {
     accepted: u64,
     /// The operation that is open.
     open_op: Option<Op>,
-    /// What the shard has applied.
+    /// What the shard keeps of what it has applied.
     store: Store,
     ghost numbered: { accepted ≤ session },
 }
@@ -85,7 +87,7 @@ impl Runner {
 
     /// Both start at 0, with nothing applied.
     fn new(alloc: Global) -> Runner
-        ensures store { result.store ≡ [] }
+        ensures store { Keeps result.store [] }
         ensures floor { result.floor ≡ 0 }
         ensures shard { result.shard ≡ 0 }
         ensures accepted { result.accepted ≡ 0 }
@@ -157,8 +159,9 @@ impl Runner {
             writer: Writer { txn, shard: SHARD },
             batch: normal,
         };
-        if let Err((fault, _part)) = self.store.apply(part, commit, stamp) {
-            return Err(fault);
+        match self.store.apply(part, commit, stamp) {
+            Ok(()) => {}
+            Err((fault, _part)) => return Err(fault),
         }
         self.session.receive(commit)?;
         self.floor = commit;
@@ -236,7 +239,8 @@ impl Runner {
 }
 
 /// The transcript of a script. Refused with `ClockSpent` where a clock would leave its range, and with `Memory`.
-/// Linear in the script but for its reads: each costs what `Store::read_now` does.
+/// Linear in the script but for the store: each batch costs what `normal` and `Store::apply` do, and each row read
+/// what `Store::read_now` does.
 pub fn simulate(alloc: Global, script: &Script) -> Result<Transcript, Fault>
     ensures ok { IfOk result (IsTranscriptOf script.now) }
     ensures faults { IfErr result (λ e. (e ≡ Fault.Memory) ⊎ (e ≡ Fault.ClockSpent)) }

@@ -1,7 +1,16 @@
 use Rattle.std.proofs.Common.{◌≡◌, [], drop, arith}
 use Rattle.std.proofs.lemmas.List.{drop_all}
-use Rattle.workload.proofs.Goes.{told_whole}
+use Rattle.workload.proofs.Goes.{told_none, told_whole}
 use Rattle.workload.proofs.simulating.simulate.Goals as goal
+
+pub loop-event-init : goal.loop-event-init
+loop-event-init c = record {
+  told =
+      (let start = c.new-runner.ensures in
+      told_none c.args.script.now.schema c.as_slice-event-items.result.now c.new-runner.result c.new-transcript.result c.new-transcript.ensures start.floor start.accepted start.none_open start.store);
+  level = omega arith;
+  session = omega arith;
+}
 
 pub returns-clause-ok : goal.returns-clause-ok
 returns-clause-ok c =
