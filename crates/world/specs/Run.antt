@@ -1,0 +1,158 @@
+-- Runs: what a list of events makes of the shards, the sessions and the network between them.
+use Rattle.std.specs.Prelude.{ℕ, Bool, true, false, ◌&&◌, ◌==◌, if◌then◌else◌, List, [], ◌∷◌, ◌++◌, length, drop, find, filter_map, slice_get, Option, Some, None, option_map, Result, Ok, Err}
+use Rattle.std.specs.Option.{unwrap_or}
+use Rattle.logical_time.specs.declared.fault.Fault.{Fault}
+use Rattle.logical_time.specs.Stamps.{TxnValue}
+use Rattle.messages.specs.declared.op.Op.{Op}
+use Rattle.messages.specs.declared.outcome.Outcome.{Outcome}
+use Rattle.messages.specs.declared.envelope.Envelope.{Envelope}
+use Rattle.messages.specs.Topology.{TopologyValue, is_shard, is_session, home_of}
+use Rattle.messages.specs.Words.{is_same_txn}
+use Rattle.messages.specs.Shard.{ShardState, ShardStep, new_shard}
+use Rattle.messages.specs.Session.{SessionState, SessionStep, Finished, new_session}
+use Rattle.messages.specs.ShardEvents.{shard_handle, shard_collect}
+use Rattle.messages.specs.SessionEvents.{session_handle}
+use Rattle.messages.specs.Submitting.{session_submit}
+
+-- ## Events
+
+-- An event: a session submits an operation, the message of this number is delivered, or a shard collects up to a
+-- time. Messages are numbered from 0 in the order of sending, and delivered in any order, again, or never. Sessions
+-- and shards are named by their nodes.
+pub data Event : Type 0 where
+  Submit : (session : ℕ) (op : Op) → Event
+  Deliver : (number : ℕ) → Event
+  Collect : (shard time : ℕ) → Event
+
+-- an operation that its session accepted, with its number there and the session's home
+pub record Submission : Type 0 where
+  pub session : ℕ
+  pub number : ℕ
+  pub home : ℕ
+  pub op : Op
+
+-- an operation that ended, with its session's node and home, its number, and what came of it
+pub record Completed : Type 0 where
+  pub node : ℕ
+  pub number : ℕ
+  pub home : ℕ
+  pub op : Op
+  pub outcome : Outcome
+
+-- ## The state of a run
+
+pub record Run : Type 0 where
+  -- what happened so far, oldest first. A refused event isn't in it
+  pub events : List Event
+  -- each shard by its node
+  pub shards : ℕ → ShardState
+  -- each session by its node
+  pub sessions : ℕ → SessionState
+  -- the network: every envelope that was ever sent, in order
+  pub sent : List Envelope
+  -- the operations that were accepted, in order
+  pub submitted : List Submission
+  -- the operations that ended, in order
+  pub transcript : List Completed
+
+-- a run before its first event: each session is at its home
+abbrev pub opening : TopologyValue → Run
+opening top =
+    record {
+      events = [];
+      shards = λ node. new_shard;
+      sessions = λ node. new_session (unwrap_or (home_of top node) 0);
+      sent = [];
+      submitted = [];
+      transcript = [];
+    }
+
+-- the actors with this one changed, and no other
+abbrev pub with_actor : {X : Type 0} → (ℕ → X) → ℕ → X → ℕ → X
+with_actor actors node x other = if other == node then x else actors other
+
+-- the submission of an operation, by its session and number
+abbrev pub submission_of : List Submission → TxnValue → Option Submission
+submission_of submitted t = find (λ s. is_same_txn (record { session = s.session; number = s.number }) t) submitted
+
+-- an operation that its session finished, as it was submitted
+abbrev pub completed_of : List Submission → ℕ → Finished → Option Completed
+completed_of submitted node f =
+    option_map (λ s. record { node = node; number = f.number; home = s.home; op = s.op; outcome = f.outcome })
+    (submission_of submitted (record { session = node; number = f.number }))
+
+-- what a session finished in a step, from what it had finished before
+abbrev pub newly_completed : List Submission → ℕ → SessionState → SessionState → List Completed
+newly_completed submitted node before after =
+    filter_map (completed_of submitted node) (drop (length before.outcomes) after.outcomes)
+
+-- ## The step of an event
+
+-- a shard's step: it alone changes, and what it sends is added to the network. A refused event changes nothing
+abbrev pub after_shard : Result ShardStep Fault → Run → Event → ℕ → Run
+after_shard (Err e) w x node = w
+after_shard (Ok s) w x node =
+    record w {
+      events = w.events ++ x ∷ [];
+      shards = with_actor w.shards node s.state;
+      sent = w.sent ++ s.sends;
+    }
+
+-- a session's step, in the same way; what it finishes is added to the transcript
+abbrev pub after_session : Result SessionStep Fault → Run → Event → ℕ → Run
+after_session (Err e) w x node = w
+after_session (Ok s) w x node =
+    record w {
+      events = w.events ++ x ∷ [];
+      sessions = with_actor w.sessions node s.state;
+      sent = w.sent ++ s.sends;
+      transcript = w.transcript ++ newly_completed w.submitted node (w.sessions node) s.state;
+    }
+
+-- a session's step at a submission: the operation is added to those that were accepted
+abbrev pub after_submission : Result SessionStep Fault → Run → ℕ → Op → Run
+after_submission (Err e) w node op = w
+after_submission (Ok s) w node op =
+    record w {
+      events = w.events ++ Submit node op ∷ [];
+      sessions = with_actor w.sessions node s.state;
+      sent = w.sent ++ s.sends;
+      submitted = w.submitted ++ record { session = node; number = s.state.count; home = (w.sessions node).home; op = op } ∷ [];
+    }
+
+-- a submission, by whether the node is a session
+abbrev pub submit_if : Bool → TopologyValue → Run → ℕ → Op → Run
+submit_if true top w node op = after_submission (session_submit top node (w.sessions node) op) w node op
+submit_if false top w node op = w
+
+-- a delivery of this envelope, by whether it is for a shard and whether it is for a session
+abbrev pub deliver_if : Bool → Bool → TopologyValue → Run → Event → Envelope → Run
+deliver_if true session top w x e = after_shard (shard_handle top e.to (w.shards e.to) e) w x e.to
+deliver_if false true top w x e = after_session (session_handle top e.to (w.sessions e.to) e) w x e.to
+deliver_if false false top w x e = w
+
+-- a delivery of the message of a number, if it was sent
+abbrev pub deliver_for : Option Envelope → TopologyValue → Run → Event → Run
+deliver_for None top w x = w
+deliver_for (Some e) top w x = deliver_if (is_shard top e.to) (is_session top e.to) top w x e
+
+-- a collection, by whether the node is a shard
+abbrev pub collect_if : Bool → Run → ℕ → ℕ → Run
+collect_if true w node time = after_shard (shard_collect (w.shards node) time) w (Collect node time) node
+collect_if false w node time = w
+
+-- what an event makes of a run: one actor's step. An event that is refused, one of a message that wasn't sent and one
+-- of a node that is no such actor change nothing
+abbrev pub step : TopologyValue → Run → Event → Run
+step top w (Submit node op) = submit_if (is_session top node) top w node op
+step top w (Deliver k) = deliver_for (slice_get w.sent k) top w (Deliver k)
+step top w (Collect node time) = collect_if (is_shard top node) w node time
+
+-- events in order, from a run so far
+abbrev pub continued : TopologyValue → Run → List Event → Run
+continued top w [] = w
+continued top w (x ∷ xs) = continued top (step top w x) xs
+
+-- the run of these events
+abbrev pub run : TopologyValue → List Event → Run
+run top events = continued top (opening top) events

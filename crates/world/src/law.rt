@@ -1,0 +1,84 @@
+//! Worked runs of the protocol, as laws of its definitions.
+ghost use Rattle.std.specs.Prelude.{◌≡◌, [], ◌∷◌, Some};
+ghost use Rattle.messages.specs.declared.outcome.Outcome.TheVariants as outcome;
+ghost use Rattle.world.specs.Histories.{history_of};
+ghost use Rattle.world.specs.Worked.{outcomes_of, shard_clocks, times_sent, valid_in, commit_times, prepare_times, times_applied, x_at, wrote, column, row, digit, key_a, key_b, key_c, name_c, name_d, name_x, name_y, both_rows, two_shards, two_centres, three_at_home, two_by_two};
+ghost use Rattle.world.specs.Worked.{insert_and_read_back, two_shard_write, read_asks_coordinator, second_round_collected, undecided_is_excluded, unseen_column_under_mark, concurrent_inserts_meet, older_stamp_arrives_late, dependency_holds_back, read_before_dependency, dependency_through_a_read, write_is_replicated};
+
+/// A column is inserted and read back; a batch is committed on both of its shards. Does nothing; its contract is the law.
+pub fn worked_writes()
+    ensures read_back { outcomes_of insert_and_read_back 1 ≡ wrote 2 0 ∷ outcome.Read 2 (row key_b (column name_x 1 ∷ []) ∷ []) ∷ [] }
+    ensures read_back_times { times_sent insert_and_read_back ≡ 1 ∷ 2 ∷ 4 ∷ 5 ∷ [] }
+    ensures read_back_valid { valid_in insert_and_read_back 3 ≡ 2 ∷ 5 ∷ [] }
+    ensures two_shards { outcomes_of two_shard_write 2 ≡ wrote 3 0 ∷ [] }
+    ensures two_shards_times { times_sent two_shard_write ≡ 1 ∷ 1 ∷ 2 ∷ 3 ∷ 3 ∷ [] }
+    ensures coordinator_prepares { prepare_times two_shard_write 0 ≡ 2 ∷ [] }
+    ensures cohort_prepares { prepare_times two_shard_write 1 ≡ 2 ∷ [] }
+    ensures coordinator_applies { times_applied two_shard_write 0 ≡ 3 ∷ [] }
+    ensures cohort_applies { times_applied two_shard_write 1 ≡ 3 ∷ [] }
+    ensures two_shards_clocks { shard_clocks two_shards two_shard_write ≡ 3 ∷ 4 ∷ [] }
+{}
+
+/// Reads that meet a mark. The shard asks the coordinator, and the read shows the batch whole, a column that didn't exist
+/// included; a batch that is undecided is excluded at the read's time, and committed above it; a shard that has collected
+/// past that time gives no answer. Does nothing; its contract is the law.
+pub fn worked_reads()
+    ensures asks { outcomes_of read_asks_coordinator 3 ≡ outcome.Read 3 both_rows ∷ [] }
+    ensures asks_times { times_sent read_asks_coordinator ≡ 1 ∷ 1 ∷ 2 ∷ 3 ∷ 3 ∷ 1 ∷ 1 ∷ 4 ∷ 3 ∷ 6 ∷ 7 ∷ 8 ∷ 9 ∷ [] }
+    ensures asks_valid_b { valid_in read_asks_coordinator 7 ≡ 3 ∷ 4 ∷ [] }
+    ensures asks_valid_a { valid_in read_asks_coordinator 8 ≡ 0 ∷ 2 ∷ [] }
+    ensures asks_clocks { shard_clocks two_shards read_asks_coordinator ≡ 8 ∷ 9 ∷ [] }
+    ensures collected { outcomes_of second_round_collected 3 ≡ outcome.Collected ∷ [] }
+    ensures collected_clocks { shard_clocks two_shards second_round_collected ≡ 4 ∷ 7 ∷ [] }
+    ensures collected_session { (second_round_collected.sessions 3).clock ≡ 8 }
+    ensures excluded { outcomes_of undecided_is_excluded 3 ≡ wrote 3 0 ∷ outcome.Read 3 (row key_a [] ∷ []) ∷ [] }
+    ensures excluded_times { times_sent undecided_is_excluded ≡ 1 ∷ 1 ∷ 2 ∷ 1 ∷ 3 ∷ 5 ∷ 6 ∷ 7 ∷ 8 ∷ 9 ∷ 10 ∷ 10 ∷ 10 ∷ [] }
+    ensures excluded_valid { valid_in undecided_is_excluded 6 ≡ 0 ∷ 2 ∷ [] }
+    ensures excluded_commits { commit_times two_shards undecided_is_excluded 0 ≡ 3 ∷ 10 ∷ [] }
+    ensures unseen { outcomes_of unseen_column_under_mark 3 ≡ outcome.Read 6 (row key_a (column name_c 0 ∷ column name_d 2 ∷ []) ∷ row key_b (column name_x 1 ∷ []) ∷ []) ∷ [] }
+    ensures unseen_times { times_sent unseen_column_under_mark ≡ 1 ∷ 2 ∷ 4 ∷ 4 ∷ 5 ∷ 6 ∷ 6 ∷ 1 ∷ 1 ∷ 7 ∷ 6 ∷ 9 ∷ 10 ∷ 11 ∷ 12 ∷ [] }
+    ensures unseen_valid_b { valid_in unseen_column_under_mark 9 ≡ 6 ∷ 7 ∷ [] }
+    ensures unseen_valid_a { valid_in unseen_column_under_mark 10 ≡ 2 ∷ 5 ∷ [] }
+{}
+
+/// Two concurrent inserts of one column: the one with the greater stamp stays in both data centres, whenever the other
+/// comes. Does nothing; its contract is the law.
+pub fn worked_inserts_that_meet()
+    ensures commits { commit_times two_centres concurrent_inserts_meet 0 ≡ 2 ∷ 3 ∷ [] }
+    ensures commits_there { commit_times two_centres concurrent_inserts_meet 1 ≡ 2 ∷ 3 ∷ [] }
+    ensures before { x_at (history_of two_centres concurrent_inserts_meet 0) 2 ≡ Some (digit 1) }
+    ensures after { x_at (history_of two_centres concurrent_inserts_meet 0) 3 ≡ Some (digit 2) }
+    ensures before_there { x_at (history_of two_centres concurrent_inserts_meet 1) 2 ≡ Some (digit 2) }
+    ensures after_there { x_at (history_of two_centres concurrent_inserts_meet 1) 3 ≡ Some (digit 2) }
+    ensures late { outcomes_of older_stamp_arrives_late 3 ≡ wrote 2 1 ∷ outcome.Read 2 (row key_b (column name_x 2 ∷ []) ∷ []) ∷ [] }
+    ensures late_at_home { outcomes_of older_stamp_arrives_late 2 ≡ wrote 2 0 ∷ outcome.Read 3 (row key_b (column name_x 2 ∷ []) ∷ []) ∷ [] }
+    ensures late_valid { valid_in older_stamp_arrives_late 8 ≡ 2 ∷ 5 ∷ [] }
+    ensures late_valid_at_home { valid_in older_stamp_arrives_late 9 ≡ 3 ∷ 5 ∷ [] }
+{}
+
+/// A write waits in another data centre for what its session did before: for a write, or for writes of others that it read.
+/// Does nothing; its contract is the law.
+pub fn worked_dependencies()
+    ensures held_back { outcomes_of dependency_holds_back 3 ≡ outcome.Read 9 (row key_b (column name_x 1 ∷ column name_y 2 ∷ []) ∷ []) ∷ [] }
+    ensures held_back_times { times_sent dependency_holds_back ≡ 1 ∷ 2 ∷ 2 ∷ 4 ∷ 5 ∷ 5 ∷ 6 ∷ 8 ∷ 1 ∷ 10 ∷ [] }
+    ensures held_back_commits { commit_times two_centres dependency_holds_back 1 ≡ 8 ∷ 9 ∷ [] }
+    ensures held_back_valid { valid_in dependency_holds_back 9 ≡ 9 ∷ 10 ∷ [] }
+    ensures too_early { outcomes_of read_before_dependency 3 ≡ outcome.Read 0 (row key_b [] ∷ []) ∷ [] }
+    ensures too_early_valid { valid_in read_before_dependency 8 ≡ 0 ∷ 8 ∷ [] }
+    ensures through_reads { outcomes_of dependency_through_a_read 4 ≡ outcome.Read 2 (row key_b (column name_x 1 ∷ []) ∷ []) ∷ outcome.Read 3 (row key_c (column name_y 1 ∷ []) ∷ []) ∷ [] }
+    ensures through_reads_times { times_sent dependency_through_a_read ≡ 1 ∷ 2 ∷ 2 ∷ 1 ∷ 3 ∷ 3 ∷ 1 ∷ 4 ∷ 6 ∷ 7 ∷ 9 ∷ 10 ∷ 10 ∷ 11 ∷ 11 ∷ 14 ∷ 16 ∷ [] }
+    ensures through_reads_commits { commit_times three_at_home dependency_through_a_read 0 ≡ 2 ∷ 3 ∷ 10 ∷ [] }
+    ensures through_reads_commits_there { commit_times three_at_home dependency_through_a_read 1 ≡ 14 ∷ 16 ∷ 17 ∷ [] }
+{}
+
+/// A batch for two shards is committed in both data centres, with one stamp. Does nothing; its contract is the law.
+pub fn worked_replication()
+    ensures outcomes { outcomes_of write_is_replicated 4 ≡ wrote 3 0 ∷ [] }
+    ensures times { times_sent write_is_replicated ≡ 1 ∷ 1 ∷ 2 ∷ 3 ∷ 3 ∷ 3 ∷ 4 ∷ 5 ∷ 6 ∷ 7 ∷ 8 ∷ [] }
+    ensures clocks { shard_clocks two_by_two write_is_replicated ≡ 3 ∷ 4 ∷ 8 ∷ 9 ∷ [] }
+    ensures commits { commit_times two_by_two write_is_replicated 0 ≡ 3 ∷ [] }
+    ensures commits_there { commit_times two_by_two write_is_replicated 1 ≡ 8 ∷ [] }
+    ensures coordinator_there { prepare_times write_is_replicated 2 ≡ 6 ∷ [] }
+    ensures cohort_there { prepare_times write_is_replicated 3 ≡ 7 ∷ [] }
+    ensures applied_there { times_applied write_is_replicated 3 ≡ 8 ∷ [] }
+{}
