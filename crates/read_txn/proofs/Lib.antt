@@ -1,0 +1,4 @@
+pub mod Steps
+pub mod RowsHeard
+pub mod LateKeys
+pub mod AskedAgain

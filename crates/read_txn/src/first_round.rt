@@ -3,7 +3,7 @@ ghost use Rattle.std.specs.Prelude.{◌≡◌, false, [], ◌∷◌, ◌++◌, I
 ghost use Rattle.messages.specs.Rounds.{is_missing};
 
 use crate::answered::Answered;
-use crate::heard::ShardNow;
+use crate::heard::{ShardNow, is_missing};
 use crate::second_round::SecondRound;
 use logical_time::{Fault, Node, Time};
 use messages::RowsNow;
@@ -77,6 +77,9 @@ impl FirstRound {
         ensures round { IfErr result (λ e. e.1 ≡ self) }
         ensures rows { IfErr result (λ e. e.2 ≡ rows) }
     {
+        if !is_missing(self.asked.as_slice(), self.heard.as_slice(), from) {
+            return Ok(FirstTaken::More(self));
+        }
         Err((Fault::Memory, self, rows))
     }
 

@@ -6,10 +6,12 @@
 #![tactic(auto)]
 
 mod answered;
+mod asking;
 mod first_round;
 mod heard;
 mod late;
 mod second_round;
+mod valid;
 
 pub use answered::Answered;
 pub use first_round::{FirstRound, FirstTaken};

@@ -2,6 +2,7 @@
 ghost use Rattle.std.specs.Prelude.{◌≡◌, false};
 
 use crate::answered::Answered;
+use crate::asking::is_missing_at;
 use crate::heard::{ShardAt, ShardNow};
 use crate::late::LateShard;
 use logical_time::{Fault, Node, Time};
@@ -70,6 +71,7 @@ impl SecondRound {
     /// Takes the answer of a shard. A stranger's, or the second of a shard, changes nothing; an awaited `Collected` ends
     /// the read, and the last awaited rows complete it. In the order of m log m for m rows, once all have answered.
     /// Refused with `Memory` alone; then the round and the answer are handed back.
+    #[tactic(auto, using(crate::proofs::AskedAgain::any_again))]
     pub fn take(
         self,
         from: Node,
@@ -82,7 +84,16 @@ impl SecondRound {
         ensures round { IfErr result (λ e. e.1 ≡ self) }
         ensures answer { IfErr result (λ e. e.2 ≡ answer) }
     {
-        Err((Fault::Memory, self, answer))
+        if !is_missing_at(self.late.as_slice(), self.heard.as_slice(), from) {
+            return Ok(SecondTaken::More(self));
+        }
+        match answer {
+            AtTime::Collected => {
+                let _read = self.surrender();
+                Ok(SecondTaken::Collected)
+            }
+            AtTime::Rows(rows) => Err((Fault::Memory, self, AtTime::Rows(rows))),
+        }
     }
 
     /// Gives the round up and hands out what was read: for a session that is closed.
