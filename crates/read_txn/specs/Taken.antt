@@ -1,20 +1,15 @@
 -- What an answer makes of a round.
-use Rattle.std.specs.Prelude.{ℕ, Bool, true, false, List, [], ◌∷◌, ◌++◌, flat_map}
-use Rattle.slice.specs.declared.read.Read.{Read}
+use Rattle.std.specs.Prelude.{ℕ, Bool, true, false, List, [], ◌∷◌, ◌++◌}
 use Rattle.messages.specs.declared.rows_now.RowNow.{RowNow}
-use Rattle.messages.specs.declared.rows_at.RowAt.{RowAt}
 use Rattle.messages.specs.declared.rows_at.AtTime.{AtTime}
 use Rattle.messages.specs.declared.rows_at.AtTime.TheVariants as at
-use Rattle.messages.specs.Rounds.{is_missing, all_heard, effective_time, late_nodes, is_missing_at, all_heard_at, rows_taken, answer_of}
+use Rattle.messages.specs.Rounds.{is_missing, all_heard, effective_time, late_nodes, is_missing_at, all_heard_at, rows_taken}
 use Rattle.read_txn.specs.declared.first_round.FirstTaken.{FirstTaken}
 use Rattle.read_txn.specs.declared.first_round.FirstTaken.TheVariants as in_first
 use Rattle.read_txn.specs.declared.second_round.SecondTaken.{SecondTaken}
 use Rattle.read_txn.specs.declared.second_round.SecondTaken.TheVariants as in_second
-use Rattle.read_txn.specs.States.{First, Second, Completed}
-
--- a read that completes at a time with these rows
-abbrev pub answered : Read → ℕ → List RowAt → Completed
-answered read time rows = record { effective = time; answer = answer_of read rows; writers = flat_map (λ r. r.writers) rows }
+use Rattle.read_txn.specs.States.{First, Second}
+use Rattle.read_txn.specs.Completed.{answered}
 
 -- ## The first round
 

@@ -7,6 +7,7 @@
 
 mod answered;
 mod asking;
+mod completing;
 mod first_round;
 mod heard;
 mod late;

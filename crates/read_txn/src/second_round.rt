@@ -8,6 +8,7 @@ use crate::late::LateShard;
 use logical_time::{Fault, Node, Time};
 use messages::AtTime;
 use slice::Read;
+use std::alloc::Global;
 use std::marker::Model;
 
 /// The second round of a read. It must be spent: each shard that is asked again is heard, or the session is closed.
@@ -42,10 +43,32 @@ pub enum SecondTaken {
 }
 
 impl SecondRound {
-    ghost use Rattle.std.specs.Prelude.{◌≡◌, false, IsOk, IfOk, IfErr};
+    ghost use Rattle.std.specs.Prelude.{◌≡◌, false, [], IsOk, IfOk, IfErr};
     ghost use Rattle.messages.specs.declared.rows_at.AtTime.TheVariants as at;
     ghost use Rattle.read_txn.specs.States.{asked_again};
     ghost use Rattle.read_txn.specs.Taken.{second_taken, is_awaited};
+
+    /// The second round of a read at a time, after these answers of the first, which leave these shards to be asked.
+    pub(crate) fn new(
+        alloc: Global,
+        read: Read,
+        time: Time,
+        asked: Vec<Node>,
+        first: Vec<ShardNow>,
+        late: Vec<LateShard>,
+    ) -> SecondRound
+        requires { late.items ≡ asked_again asked.items time first.items }
+        ensures { result ≡ record { read = read; time = time; asked = asked.items; first = first.items; heard = [] } }
+    {
+        SecondRound {
+            read,
+            time,
+            asked,
+            first,
+            late,
+            heard: Vec::new(alloc),
+        }
+    }
 
     /// What is read.
     pub fn read(&self) -> &Read
