@@ -121,7 +121,7 @@ impl FirstRound {
         ensures round { IfErr result (λ e. e.1 ≡ self) }
         ensures rows { IfErr result (λ e. e.2 ≡ rows) }
     {
-        if is_missing(self.asked.as_slice(), self.heard.as_slice(), from) {
+        if is_missing(&self.asked, &self.heard, from) {
             self.keep(from, rows)
         } else {
             Ok(FirstTaken::More(self))
@@ -135,29 +135,11 @@ impl FirstRound {
         ensures round { IfErr result (λ e. e.1 ≡ self) }
         ensures rows { IfErr result (λ e. e.2 ≡ rows) }
     {
-        let FirstRound {
-            read,
-            floor,
-            asked,
-            mut heard,
-        } = self;
-        if let Err(refused) = heard.push(ShardNow::new(from, rows)) {
-            let round = FirstRound {
-                read,
-                floor,
-                asked,
-                heard,
-            };
+        let mut round = self;
+        if let Err(refused) = round.heard.push(ShardNow::new(from, rows)) {
             return Err((Fault::Memory, round, refused.value.into_rows()));
         }
-        match (FirstRound {
-            read,
-            floor,
-            asked,
-            heard,
-        })
-        .after_answer()
-        {
+        match round.after_answer() {
             Ok(taken) => Ok(taken),
             Err(round) => {
                 let (round, rows) = round.without_last();
@@ -172,19 +154,8 @@ impl FirstRound {
         ensures round { (heard : List HeardNow) (last : HeardNow) → self.heard ≡ heard ++ last ∷ [] → result.0 ≡ record self { heard = heard } }
         ensures rows { (heard : List HeardNow) (last : HeardNow) → self.heard ≡ heard ++ last ∷ [] → result.1 ≡ last.rows }
     {
-        let FirstRound {
-            read,
-            floor,
-            asked,
-            mut heard,
-        } = self;
-        let rows = take_last(&mut heard);
-        let round = FirstRound {
-            read,
-            floor,
-            asked,
-            heard,
-        };
+        let mut round = self;
+        let rows = take_last(&mut round.heard);
         (round, rows)
     }
 
@@ -193,7 +164,7 @@ impl FirstRound {
         ensures exact { IfOk result (λ taken. taken ≡ after_answer self) }
         ensures round { IfErr result (λ r. r ≡ self) }
     {
-        if all_heard(self.asked.as_slice(), self.heard.as_slice()) {
+        if all_heard(&self.asked, &self.heard) {
             self.after_last()
         } else {
             Ok(FirstTaken::More(self))
@@ -206,8 +177,8 @@ impl FirstRound {
         ensures round { IfErr result (λ r. r ≡ self) }
     {
         let alloc = *self.heard.allocator();
-        let time = effective_time(self.floor, self.heard.as_slice());
-        match late_shards(alloc, self.asked.as_slice(), time, self.heard.as_slice()) {
+        let time = effective_time(self.floor, &self.heard);
+        match late_shards(alloc, &self.asked, time, &self.heard) {
             Ok(late) if late.is_empty() => self.complete(alloc, time),
             Ok(late) => Ok(FirstTaken::Second(self.again(alloc, time, late))),
             Err(_) => Err(self),
@@ -219,7 +190,7 @@ impl FirstRound {
         ensures exact { IfOk result (λ taken. taken ≡ in_first.Done (answered self.read time (rows_taken time self.heard []))) }
         ensures round { IfErr result (λ r. r ≡ self) }
     {
-        match complete(alloc, &self.read, time, self.heard.as_slice(), &[]) {
+        match complete(alloc, &self.read, time, &self.heard, &[]) {
             Ok(answered) => {
                 let _read = self.surrender();
                 Ok(FirstTaken::Done(answered))

@@ -151,7 +151,7 @@ impl SecondRound {
     fn awaits(&self, node: Node) -> bool
         ensures { result ≡ is_awaited self.now node }
     {
-        is_missing_at(self.late.as_slice(), self.heard.as_slice(), node)
+        is_missing_at(&self.late, &self.heard, node)
     }
 
     /// Takes an awaited answer.
@@ -182,39 +182,12 @@ impl SecondRound {
         ensures round { IfErr result (λ e. e.1 ≡ self) }
         ensures answer { IfErr result (λ e. e.2 ≡ at.Rows rows) }
     {
-        let SecondRound {
-            read,
-            time,
-            asked,
-            first,
-            late,
-            mut heard,
-        } = self;
-        if let Err(refused) = heard.push(ShardAt::new(from, rows)) {
-            let round = SecondRound {
-                read,
-                time,
-                asked,
-                first,
-                late,
-                heard,
-            };
-            return Err((
-                Fault::Memory,
-                round,
-                AtTime::Rows(refused.value.into_rows()),
-            ));
+        let mut round = self;
+        if let Err(refused) = round.heard.push(ShardAt::new(from, rows)) {
+            let rows = refused.value.into_rows();
+            return Err((Fault::Memory, round, AtTime::Rows(rows)));
         }
-        match (SecondRound {
-            read,
-            time,
-            asked,
-            first,
-            late,
-            heard,
-        })
-        .after_answer()
-        {
+        match round.after_answer() {
             Ok(taken) => Ok(taken),
             Err(round) => {
                 let (round, rows) = round.without_last();
@@ -229,23 +202,8 @@ impl SecondRound {
         ensures round { (heard : List HeardAt) (last : HeardAt) → self.heard ≡ heard ++ last ∷ [] → result.0 ≡ record self { heard = heard } }
         ensures rows { (heard : List HeardAt) (last : HeardAt) → self.heard ≡ heard ++ last ∷ [] → result.1 ≡ last.rows }
     {
-        let SecondRound {
-            read,
-            time,
-            asked,
-            first,
-            late,
-            mut heard,
-        } = self;
-        let rows = take_last(&mut heard);
-        let round = SecondRound {
-            read,
-            time,
-            asked,
-            first,
-            late,
-            heard,
-        };
+        let mut round = self;
+        let rows = take_last(&mut round.heard);
         (round, rows)
     }
 
@@ -255,7 +213,7 @@ impl SecondRound {
         ensures exact { IfOk result (λ taken. taken ≡ after_answer self) }
         ensures round { IfErr result (λ r. r ≡ self) }
     {
-        if all_heard_at(self.late.as_slice(), self.heard.as_slice()) {
+        if all_heard_at(&self.late, &self.heard) {
             self.complete()
         } else {
             Ok(SecondTaken::More(self))
@@ -268,13 +226,7 @@ impl SecondRound {
         ensures round { IfErr result (λ r. r ≡ self) }
     {
         let alloc = *self.heard.allocator();
-        match complete(
-            alloc,
-            &self.read,
-            self.time,
-            self.first.as_slice(),
-            self.heard.as_slice(),
-        ) {
+        match complete(alloc, &self.read, self.time, &self.first, &self.heard) {
             Ok(answered) => {
                 let _read = self.surrender();
                 Ok(SecondTaken::Done(answered))
