@@ -24,12 +24,12 @@ abbrev pub asked_nodes : TopologyValue → SessionState → Read → List ℕ
 asked_nodes top a read = map (home_node top a) (shards_asked top.shards read.keys)
 
 -- whether this shard is asked and hasn't answered
-abbrev pub is_missing : TopologyValue → SessionState → Read → List HeardNow → ℕ → Bool
-is_missing top a read heard node = list_any (λ s. s == node) (asked_nodes top a read) && not (was_heard heard node)
+abbrev pub is_missing : List ℕ → List HeardNow → ℕ → Bool
+is_missing asked heard node = list_any (λ s. s == node) asked && not (was_heard heard node)
 
 -- whether all asked shards have answered
-abbrev pub all_heard : TopologyValue → SessionState → Read → List HeardNow → Bool
-all_heard top a read heard = list_all (was_heard heard) (asked_nodes top a read)
+abbrev pub all_heard : List ℕ → List HeardNow → Bool
+all_heard asked heard = list_all (was_heard heard) asked
 
 abbrev pub rows_heard : List HeardNow → List RowNow
 rows_heard heard = flat_map (λ h. h.rows) heard
@@ -62,22 +62,23 @@ late_keys time heard node = map (λ r. r.key) (filter (λ r. nat_lt r.lvt time) 
 abbrev pub is_late : ℕ → List HeardNow → ℕ → Bool
 is_late time heard node = list_any (λ r. nat_lt r.lvt time) (rows_from heard node)
 
--- the shards that are asked in the second round, ascending, as nodes: those with a row that isn't accepted
-abbrev pub late_nodes : TopologyValue → SessionState → Read → ℕ → List HeardNow → List ℕ
-late_nodes top a read time heard = filter (is_late time heard) (asked_nodes top a read)
+-- of the shards asked in the first round those that are asked in the second, in the same order: those with a row that
+-- isn't accepted
+abbrev pub late_nodes : List ℕ → ℕ → List HeardNow → List ℕ
+late_nodes asked time heard = filter (is_late time heard) asked
 
 -- whether this shard has answered in the second round
 abbrev pub was_heard_at : List HeardAt → ℕ → Bool
 was_heard_at heard node = list_any (λ h. h.from == node) heard
 
 -- whether this shard is asked in the second round and hasn't answered there
-abbrev pub is_missing_at : TopologyValue → SessionState → Read → ℕ → List HeardNow → List HeardAt → ℕ → Bool
-is_missing_at top a read time first heard node =
-    list_any (λ s. s == node) (late_nodes top a read time first) && not (was_heard_at heard node)
+abbrev pub is_missing_at : List ℕ → ℕ → List HeardNow → List HeardAt → ℕ → Bool
+is_missing_at asked time first heard node =
+    list_any (λ s. s == node) (late_nodes asked time first) && not (was_heard_at heard node)
 
 -- whether all shards of the second round have answered
-abbrev pub all_heard_at : TopologyValue → SessionState → Read → ℕ → List HeardNow → List HeardAt → Bool
-all_heard_at top a read time first heard = list_all (was_heard_at heard) (late_nodes top a read time first)
+abbrev pub all_heard_at : List ℕ → ℕ → List HeardNow → List HeardAt → Bool
+all_heard_at asked time first heard = list_all (was_heard_at heard) (late_nodes asked time first)
 
 -- ## What a read took
 

@@ -16,7 +16,7 @@ use Rattle.messages.specs.Topology.{TopologyValue}
 use Rattle.messages.specs.Words.{is_same_txn, envelope}
 use Rattle.messages.specs.Clock.{ticked, on_clock}
 use Rattle.messages.specs.Session.{SessionState, SessionStep, Open, Idle, Writing, FirstRound, SecondRound, HeardNow, HeardAt, calm}
-use Rattle.messages.specs.Rounds.{is_missing, all_heard, effective_time, late_keys, late_nodes, is_missing_at, all_heard_at, rows_taken, answer_of, with_writers}
+use Rattle.messages.specs.Rounds.{asked_nodes, is_missing, all_heard, effective_time, late_keys, late_nodes, is_missing_at, all_heard_at, rows_taken, answer_of, with_writers}
 
 -- ## The end of an operation
 
@@ -86,7 +86,7 @@ second_if (s ∷ ss) me n a read time heard =
     }
 
 abbrev pub second : TopologyValue → ℕ → ℕ → SessionState → Read → ℕ → List HeardNow → SessionStep
-second top me n a read time heard = second_if (late_nodes top a read time heard) me n a read time heard
+second top me n a read time heard = second_if (late_nodes (asked_nodes top a read) time heard) me n a read time heard
 
 -- an answer of the first round was kept, by whether all asked shards have answered: the last one gives the effective
 -- time
@@ -95,7 +95,7 @@ heard_if true top me n a read heard = second top me n a read (effective_time a.f
 heard_if false top me n a read heard = record { state = record a { clock = n; current = FirstRound read heard }; sends = [] }
 
 abbrev pub heard_now : TopologyValue → ℕ → ℕ → SessionState → Read → List HeardNow → SessionStep
-heard_now top me n a read heard = heard_if (all_heard top a read heard) top me n a read heard
+heard_now top me n a read heard = heard_if (all_heard (asked_nodes top a read) heard) top me n a read heard
 
 -- PartNow in a first round, by whether it is of this read and this shard is missing
 abbrev pub part_now_if : Bool → TopologyValue → ℕ → ℕ → SessionState → Read → List HeardNow → ℕ → List RowNow → SessionStep
@@ -105,7 +105,7 @@ part_now_if true top me n a read heard from rows =
 
 abbrev pub part_now_in : Open → TopologyValue → ℕ → ℕ → SessionState → ℕ → ℕ → List RowNow → SessionStep
 part_now_in (FirstRound read heard) top me n a from number rows =
-    part_now_if ((number == a.count) && is_missing top a read heard from) top me n a read heard from rows
+    part_now_if ((number == a.count) && is_missing (asked_nodes top a read) heard from) top me n a read heard from rows
 part_now_in Idle top me n a from number rows = calm n a
 part_now_in (Writing coordinator) top me n a from number rows = calm n a
 part_now_in (SecondRound read time first heard) top me n a from number rows = calm n a
@@ -124,7 +124,7 @@ heard_at_if false n a read time first heard =
 
 abbrev pub heard_at : TopologyValue → ℕ → SessionState → Read → ℕ → List HeardNow → List HeardAt → SessionStep
 heard_at top n a read time first heard =
-    heard_at_if (all_heard_at top a read time first heard) n a read time first heard
+    heard_at_if (all_heard_at (asked_nodes top a read) time first heard) n a read time first heard
 
 -- an awaited answer of the second round: Collected ends the read
 abbrev pub taken_at : AtTime → TopologyValue → ℕ → SessionState → Read → ℕ → List HeardNow → List HeardAt → ℕ → SessionStep
@@ -139,7 +139,7 @@ part_at_if true top n a read time first heard from answer = taken_at answer top 
 
 abbrev pub part_at_in : Open → TopologyValue → ℕ → SessionState → ℕ → ℕ → AtTime → SessionStep
 part_at_in (SecondRound read time first heard) top n a from number answer =
-    part_at_if ((number == a.count) && is_missing_at top a read time first heard from) top n a read time first heard from answer
+    part_at_if ((number == a.count) && is_missing_at (asked_nodes top a read) time first heard from) top n a read time first heard from answer
 part_at_in Idle top n a from number answer = calm n a
 part_at_in (Writing coordinator) top n a from number answer = calm n a
 part_at_in (FirstRound read heard) top n a from number answer = calm n a

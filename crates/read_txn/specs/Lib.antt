@@ -1,0 +1,4 @@
+pub mod States
+pub mod Completed
+pub mod Taken
+pub mod Valid
