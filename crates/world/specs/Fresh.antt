@@ -17,7 +17,7 @@ use Rattle.messages.specs.declared.outcome.Outcome.{Outcome}
 use Rattle.messages.specs.declared.outcome.Outcome.TheVariants as outcome
 use Rattle.messages.specs.Topology.{TopologyValue}
 use Rattle.messages.specs.Session.{HeardNow, FirstRound}
-use Rattle.messages.specs.Rounds.{is_missing}
+use Rattle.messages.specs.Rounds.{asked_nodes, is_missing}
 use Rattle.world.specs.Run.{Run, Event, Deliver, Completed, step, run}
 use Rattle.world.specs.Histories.{history_of}
 
@@ -35,7 +35,7 @@ pub record IsKept (top : TopologyValue) (w : Run) (session number k : ℕ) (e : 
   pub read : Read
   pub heard : List HeardNow
   pub first_round : ((run top before).sessions session).current ≡ FirstRound read heard
-  pub missing : is_missing top ((run top before).sessions session) read heard e.from ≡ true
+  pub missing : is_missing (asked_nodes top ((run top before).sessions session) read) heard e.from ≡ true
 
 -- the shard had applied this part when it sent this message
 pub record WasApplied (top : TopologyValue) (w : Run) (shard k : ℕ) (x : Applied) : Type 0 where
