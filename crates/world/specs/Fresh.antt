@@ -1,5 +1,5 @@
 -- What an answered read owes to the answers of its first round: it shows nothing older than the asked shards had applied.
-use Rattle.std.specs.Prelude.{◌≡◌, ℕ, ◌<◌, ◌≤◌, Bool, true, false, List, ◌∷◌, ◌++◌, length, slice_get, Some, Contains}
+use Rattle.std.specs.Prelude.{◌≡◌, ℕ, ◌<◌, ◌≤◌, true, false, List, ◌∷◌, ◌++◌, length, slice_get, Some, Contains}
 use Rattle.std.specs.List.{list_any}
 use Rattle.logical_time.specs.Stamps.{is_older}
 use Rattle.column_family.specs.Location.{Location, touches}

@@ -1,8 +1,8 @@
 -- Worked runs, each with what comes of it. Keys, names and values are single letters and digits. Of two shards
 -- the keys b and d lie on shard 0, the key a on shard 1.
-use Rattle.std.specs.Prelude.{ℕ, ◌+◌, Bool, false, List, [], ◌∷◌, ◌++◌, map, flat_map, slice_get, Option, Some, None}
+use Rattle.std.specs.Prelude.{ℕ, ◌+◌, false, List, [], ◌∷◌, ◌++◌, map, flat_map, slice_get, Option, Some, None}
 use Rattle.std.specs.List.{range_with_len}
-use Rattle.logical_time.specs.Stamps.{TxnValue, WriterValue}
+use Rattle.logical_time.specs.Stamps.{TxnValue}
 use Rattle.column_family.specs.declared.batch.Change.{Change}
 use Rattle.column_family.specs.declared.batch.Mutation.TheVariants.{Insert}
 use Rattle.column_family.specs.History.{History, table_at, live_value}
@@ -13,7 +13,6 @@ use Rattle.messages.specs.declared.rows_now.RowNow.{RowNow}
 use Rattle.messages.specs.declared.body.Body.{Body}
 use Rattle.messages.specs.declared.body.Body.TheVariants.{PartNow}
 use Rattle.messages.specs.declared.envelope.Envelope.{Envelope}
-use Rattle.messages.specs.declared.op.Op.{Op}
 use Rattle.messages.specs.declared.op.Op.TheVariants as op
 use Rattle.messages.specs.declared.outcome.Outcome.{Outcome}
 use Rattle.messages.specs.declared.outcome.Outcome.TheVariants as outcome
@@ -84,6 +83,10 @@ abbrev pub deliver : List ℕ → List Event
 deliver numbers = map Deliver numbers
 
 -- ## Words for what comes of them
+
+-- the operation of this number of a session
+abbrev pub operation : ℕ → ℕ → TxnValue
+operation session number = record { session = session; number = number }
 
 -- what came of a session's operations, oldest first
 abbrev pub outcomes_of : Run → ℕ → List Outcome

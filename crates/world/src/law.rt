@@ -2,7 +2,9 @@
 ghost use Rattle.std.specs.Prelude.{◌≡◌, [], ◌∷◌, Some};
 ghost use Rattle.messages.specs.declared.outcome.Outcome.TheVariants as outcome;
 ghost use Rattle.world.specs.Histories.{history_of};
-ghost use Rattle.world.specs.Worked.{outcomes_of, shard_clocks, times_sent, valid_in, commit_times, prepare_times, times_applied, x_at, wrote, column, row, digit, key_a, key_b, key_c, name_c, name_d, name_x, name_y, both_rows, two_shards, two_centres, three_at_home, two_by_two};
+ghost use Rattle.world.specs.Quiet.{IsQuiet};
+ghost use Rattle.world.specs.Before.{Past};
+ghost use Rattle.world.specs.Worked.{operation, outcomes_of, shard_clocks, times_sent, valid_in, commit_times, prepare_times, times_applied, x_at, wrote, column, row, digit, key_a, key_b, key_c, name_c, name_d, name_x, name_y, both_rows, two_shards, two_centres, three_at_home, two_by_two};
 ghost use Rattle.world.specs.Worked.{insert_and_read_back, two_shard_write, read_asks_coordinator, second_round_collected, undecided_is_excluded, unseen_column_under_mark, concurrent_inserts_meet, older_stamp_arrives_late, dependency_holds_back, read_before_dependency, dependency_through_a_read, write_is_replicated};
 
 /// A column is inserted and read back; a batch is committed on both of its shards. Does nothing; its contract is the law.
@@ -81,4 +83,13 @@ pub fn worked_replication()
     ensures coordinator_there { prepare_times write_is_replicated 2 ≡ 6 ∷ [] }
     ensures cohort_there { prepare_times write_is_replicated 3 ≡ 7 ∷ [] }
     ensures applied_there { times_applied write_is_replicated 3 ≡ 8 ∷ [] }
+{}
+
+/// A session's earlier write is in the past of its next one, and so is what a session has read before it writes. The
+/// replicated batch leaves its run quiet. Does nothing; its contract is the law.
+pub fn worked_pasts()
+    ensures own_write { Past two_centres dependency_holds_back (operation 2 2) (operation 2 1) }
+    ensures first_read { Past three_at_home dependency_through_a_read (operation 4 3) (operation 2 1) }
+    ensures second_read { Past three_at_home dependency_through_a_read (operation 4 3) (operation 3 1) }
+    ensures quiet { IsQuiet write_is_replicated }
 {}

@@ -6,5 +6,6 @@
 mod law;
 
 pub use law::{
-    worked_dependencies, worked_inserts_that_meet, worked_reads, worked_replication, worked_writes,
+    worked_dependencies, worked_inserts_that_meet, worked_pasts, worked_reads, worked_replication,
+    worked_writes,
 };
