@@ -1,1 +1,2 @@
+mod Replayed
 mod WorkedPasts

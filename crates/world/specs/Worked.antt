@@ -180,6 +180,18 @@ read_asks_coordinator = run two_shards (second_round ++ deliver (9 ∷ 10 ∷ 11
 abbrev pub second_round_collected : Run
 second_round_collected = run two_shards (second_round ++ Collect 1 10 ∷ deliver (9 ∷ 10 ∷ []))
 
+-- the cohort collects past that time while it waits for the coordinator's answer
+abbrev pub collected_while_waiting : Run
+collected_while_waiting = run two_shards (second_round ++ Deliver 9 ∷ Collect 1 10 ∷ deliver (10 ∷ 11 ∷ 12 ∷ []))
+
+-- it collects up to that time, and not past it
+abbrev pub horizon_at_effective_time : Run
+horizon_at_effective_time = run two_shards (second_round ++ Deliver 9 ∷ Collect 1 3 ∷ deliver (10 ∷ 11 ∷ 12 ∷ []))
+
+-- the read is answered; then the commit comes to the cohort at last, and the question for the second round again
+abbrev pub late_repeats : Run
+late_repeats = run two_shards (second_round ++ deliver (9 ∷ 10 ∷ 11 ∷ 12 ∷ 3 ∷ 9 ∷ []))
+
 -- A batch that is prepared and undecided is excluded at a read's time, which another write of its session has raised
 -- above the mark. Then it is decided, later than that time
 abbrev pub undecided_is_excluded : Run

@@ -1,11 +1,21 @@
-//! Worked runs of the protocol, as laws of its definitions.
-ghost use Rattle.std.specs.Prelude.{◌≡◌, [], ◌∷◌, Some};
+//! Laws of runs, and worked runs as laws of the protocol's definitions.
+ghost use Rattle.std.specs.Prelude.{◌≡◌, List, [], ◌∷◌, Some};
 ghost use Rattle.messages.specs.declared.outcome.Outcome.TheVariants as outcome;
+ghost use Rattle.messages.specs.Topology.{TopologyValue};
+ghost use Rattle.world.specs.Run.{Event, run};
 ghost use Rattle.world.specs.Histories.{history_of};
 ghost use Rattle.world.specs.Quiet.{IsQuiet};
+ghost use Rattle.world.specs.Honest.{horizon};
 ghost use Rattle.world.specs.Before.{Past};
 ghost use Rattle.world.specs.Worked.{operation, outcomes_of, shard_clocks, times_sent, valid_in, commit_times, prepare_times, times_applied, x_at, wrote, column, row, digit, key_a, key_b, key_c, name_c, name_d, name_x, name_y, both_rows, two_shards, two_centres, three_at_home, two_by_two};
-ghost use Rattle.world.specs.Worked.{insert_and_read_back, two_shard_write, read_asks_coordinator, second_round_collected, undecided_is_excluded, unseen_column_under_mark, concurrent_inserts_meet, older_stamp_arrives_late, dependency_holds_back, read_before_dependency, dependency_through_a_read, write_is_replicated};
+ghost use Rattle.world.specs.Worked.{insert_and_read_back, two_shard_write, read_asks_coordinator, second_round_collected, collected_while_waiting, horizon_at_effective_time, late_repeats, undecided_is_excluded, unseen_column_under_mark, concurrent_inserts_meet, older_stamp_arrives_late, dependency_holds_back, read_before_dependency, dependency_through_a_read, write_is_replicated};
+
+/// The events that a run keeps, which are those that weren't refused, lead to the same run. Does nothing; its contract is
+/// the law.
+#[tactic(auto, using(crate::proofs::Replayed::runs_replayed))]
+pub fn refused_events_are_left_out()
+    ensures { (top : TopologyValue) (events : List Event) → run top (run top events).events ≡ run top events }
+{}
 
 /// A column is inserted and read back; a batch is committed on both of its shards. Does nothing; its contract is the law.
 pub fn worked_writes()
@@ -22,17 +32,14 @@ pub fn worked_writes()
 {}
 
 /// Reads that meet a mark. The shard asks the coordinator, and the read shows the batch whole, a column that didn't exist
-/// included; a batch that is undecided is excluded at the read's time, and committed above it; a shard that has collected
-/// past that time gives no answer. Does nothing; its contract is the law.
+/// included; a batch that is undecided is excluded at the read's time, and committed above it. Does nothing; its contract
+/// is the law.
 pub fn worked_reads()
     ensures asks { outcomes_of read_asks_coordinator 3 ≡ outcome.Read 3 both_rows ∷ [] }
     ensures asks_times { times_sent read_asks_coordinator ≡ 1 ∷ 1 ∷ 2 ∷ 3 ∷ 3 ∷ 1 ∷ 1 ∷ 4 ∷ 3 ∷ 6 ∷ 7 ∷ 8 ∷ 9 ∷ [] }
     ensures asks_valid_b { valid_in read_asks_coordinator 7 ≡ 3 ∷ 4 ∷ [] }
     ensures asks_valid_a { valid_in read_asks_coordinator 8 ≡ 0 ∷ 2 ∷ [] }
     ensures asks_clocks { shard_clocks two_shards read_asks_coordinator ≡ 8 ∷ 9 ∷ [] }
-    ensures collected { outcomes_of second_round_collected 3 ≡ outcome.Collected ∷ [] }
-    ensures collected_clocks { shard_clocks two_shards second_round_collected ≡ 4 ∷ 7 ∷ [] }
-    ensures collected_session { (second_round_collected.sessions 3).clock ≡ 8 }
     ensures excluded { outcomes_of undecided_is_excluded 3 ≡ wrote 3 0 ∷ outcome.Read 3 (row key_a [] ∷ []) ∷ [] }
     ensures excluded_times { times_sent undecided_is_excluded ≡ 1 ∷ 1 ∷ 2 ∷ 1 ∷ 3 ∷ 5 ∷ 6 ∷ 7 ∷ 8 ∷ 9 ∷ 10 ∷ 10 ∷ 10 ∷ [] }
     ensures excluded_valid { valid_in undecided_is_excluded 6 ≡ 0 ∷ 2 ∷ [] }
@@ -41,6 +48,22 @@ pub fn worked_reads()
     ensures unseen_times { times_sent unseen_column_under_mark ≡ 1 ∷ 2 ∷ 4 ∷ 4 ∷ 5 ∷ 6 ∷ 6 ∷ 1 ∷ 1 ∷ 7 ∷ 6 ∷ 9 ∷ 10 ∷ 11 ∷ 12 ∷ [] }
     ensures unseen_valid_b { valid_in unseen_column_under_mark 9 ≡ 6 ∷ 7 ∷ [] }
     ensures unseen_valid_a { valid_in unseen_column_under_mark 10 ≡ 2 ∷ 5 ∷ [] }
+{}
+
+/// Collections on a shard during a read's second round. One past its effective time, before the shard is asked or while it
+/// waits, ends the read without an answer; one up to that time doesn't. Messages that come late or again change no outcome.
+/// Does nothing; its contract is the law.
+pub fn worked_collections()
+    ensures collected { outcomes_of second_round_collected 3 ≡ outcome.Collected ∷ [] }
+    ensures collected_clocks { shard_clocks two_shards second_round_collected ≡ 4 ∷ 7 ∷ [] }
+    ensures collected_session { (second_round_collected.sessions 3).clock ≡ 8 }
+    ensures waiting { outcomes_of collected_while_waiting 3 ≡ outcome.Collected ∷ [] }
+    ensures waiting_clocks { shard_clocks two_shards collected_while_waiting ≡ 8 ∷ 9 ∷ [] }
+    ensures waiting_horizon { horizon collected_while_waiting 1 ≡ 10 }
+    ensures at_time { outcomes_of horizon_at_effective_time 3 ≡ outcome.Read 3 both_rows ∷ [] }
+    ensures late { outcomes_of late_repeats 3 ≡ outcome.Read 3 both_rows ∷ [] }
+    ensures late_times { times_sent late_repeats ≡ 1 ∷ 1 ∷ 2 ∷ 3 ∷ 3 ∷ 1 ∷ 1 ∷ 4 ∷ 3 ∷ 6 ∷ 7 ∷ 8 ∷ 9 ∷ 11 ∷ [] }
+    ensures late_clocks { shard_clocks two_shards late_repeats ≡ 8 ∷ 11 ∷ [] }
 {}
 
 /// Two concurrent inserts of one column: the one with the greater stamp stays in both data centres, whenever the other

@@ -6,6 +6,6 @@
 mod law;
 
 pub use law::{
-    worked_dependencies, worked_inserts_that_meet, worked_pasts, worked_reads, worked_replication,
-    worked_writes,
+    refused_events_are_left_out, worked_collections, worked_dependencies, worked_inserts_that_meet,
+    worked_pasts, worked_reads, worked_replication, worked_writes,
 };
