@@ -14,3 +14,4 @@ pub mod Submitting
 pub mod Rounds
 pub mod SessionEvents
 pub mod Examples
+pub mod Honest

@@ -1,2 +1,6 @@
 mod Replayed
 mod WorkedPasts
+pub mod Among
+pub mod Growth
+pub mod Facts
+pub mod Invariant

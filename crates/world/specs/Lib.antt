@@ -2,6 +2,6 @@ pub mod Run
 pub mod Histories
 pub mod Quiet
 pub mod Before
-pub mod Honest
+pub mod Met
 pub mod Fresh
 pub mod Worked

@@ -2,7 +2,7 @@
 use Rattle.std.specs.Prelude.{ℕ, Bool, true, false, ◌==◌, if◌then◌else◌, List, [], ◌∷◌, ◌++◌, length, drop, find, filter_map, slice_get, Option, Some, None, option_map, Result, Ok, Err}
 use Rattle.std.specs.Option.{unwrap_or}
 use Rattle.logical_time.specs.declared.fault.Fault.{Fault}
-use Rattle.logical_time.specs.Stamps.{TxnValue}
+use Rattle.logical_time.specs.Stamps.{TxnValue, WriterValue}
 use Rattle.messages.specs.declared.op.Op.{Op}
 use Rattle.messages.specs.declared.outcome.Outcome.{Outcome}
 use Rattle.messages.specs.declared.envelope.Envelope.{Envelope}
@@ -24,12 +24,13 @@ pub data Event : Type 0 where
   Deliver : (number : ℕ) → Event
   Collect : (shard time : ℕ) → Event
 
--- an operation that its session accepted, with its number there and the session's home
+-- an operation that its session accepted, with its number there, the session's home, and what a write then depends on
 pub record Submission : Type 0 where
   pub session : ℕ
   pub number : ℕ
   pub home : ℕ
   pub op : Op
+  pub dependencies : List WriterValue
 
 -- an operation that ended, with its session's node and home, its number, and what came of it
 pub record Completed : Type 0 where
@@ -117,7 +118,7 @@ after_submission (Ok s) w node op =
       events = w.events ++ Submit node op ∷ [];
       sessions = with_actor w.sessions node s.state;
       sent = w.sent ++ s.sends;
-      submitted = w.submitted ++ record { session = node; number = s.state.count; home = (w.sessions node).home; op = op } ∷ [];
+      submitted = w.submitted ++ record { session = node; number = s.state.count; home = (w.sessions node).home; op = op; dependencies = (w.sessions node).dependencies } ∷ [];
     }
 
 -- a submission, by whether the node is a session

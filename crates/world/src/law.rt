@@ -5,7 +5,7 @@ ghost use Rattle.messages.specs.Topology.{TopologyValue};
 ghost use Rattle.world.specs.Run.{Event, run};
 ghost use Rattle.world.specs.Histories.{history_of};
 ghost use Rattle.world.specs.Quiet.{IsQuiet};
-ghost use Rattle.world.specs.Honest.{horizon};
+ghost use Rattle.world.specs.Met.{horizon};
 ghost use Rattle.world.specs.Before.{Past};
 ghost use Rattle.world.specs.Worked.{operation, outcomes_of, shard_clocks, times_sent, valid_in, commit_times, prepare_times, times_applied, x_at, wrote, column, row, digit, key_a, key_b, key_c, name_c, name_d, name_x, name_y, both_rows, two_shards, two_centres, three_at_home, two_by_two};
 ghost use Rattle.world.specs.Worked.{insert_and_read_back, two_shard_write, read_asks_coordinator, second_round_collected, collected_while_waiting, horizon_at_effective_time, late_repeats, undecided_is_excluded, unseen_column_under_mark, concurrent_inserts_meet, older_stamp_arrives_late, dependency_holds_back, read_before_dependency, dependency_through_a_read, write_is_replicated};

@@ -1,31 +1,13 @@
--- What one shard met in a run: its horizon, and the envelopes that it handled, which are honest.
-use Rattle.std.specs.Prelude.{◌≡◌, ℕ, ◌<◌, ◌≤◌, ◌==◌, if◌then◌else◌, List, [], ◌++◌, map, filter, filter_map, slice_get, Option, Some, None, Contains}
+-- What the envelopes to one shard say, and when they are honest.
+use Rattle.std.specs.Prelude.{◌≡◌, ℕ, ◌<◌, ◌≤◌, List, [], ◌++◌, map, filter_map, Option, Some, None, Contains}
 use Rattle.logical_time.specs.Stamps.{StampValue, TxnValue}
 use Rattle.column_family.specs.declared.batch.Change.{Change}
 use Rattle.column_family.specs.Normal.{IsNormal}
 use Rattle.slice.specs.declared.read.Read.{Read}
-use Rattle.store.specs.Part.{greatest_of}
 use Rattle.messages.specs.declared.body.Body.{Body}
 use Rattle.messages.specs.declared.body.Body.TheVariants as body
 use Rattle.messages.specs.declared.envelope.Envelope.{Envelope}
 use Rattle.messages.specs.Shard.{ShardState, PreparedPart}
-use Rattle.world.specs.Run.{Run, Event, Submit, Deliver, Collect}
-use Rattle.world.specs.Quiet.{handled}
-
--- ## One shard in a run
-
-abbrev pub time_collected : ℕ → Event → ℕ
-time_collected node (Submit session op) = 0
-time_collected node (Deliver k) = 0
-time_collected node (Collect shard time) = if shard == node then time else 0
-
--- the horizon of a shard: the greatest time of its collections, 0 without any
-abbrev pub horizon : Run → ℕ → ℕ
-horizon w node = greatest_of (map (time_collected node) w.events)
-
--- the envelopes that the actor of this node handled, in order, repeats included
-abbrev pub envelopes_to : Run → ℕ → List Envelope
-envelopes_to w node = filter (λ e. e.to == node) (filter_map (λ k. slice_get w.sent k) (handled w))
 
 -- ## What envelopes say
 

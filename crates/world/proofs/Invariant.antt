@@ -1,0 +1,209 @@
+-- What holds of every run: of each envelope, each shard, each session, and each completed operation.
+use Rattle.std.specs.Prelude.{◌≡◌, ℕ, ◌+◌, ◌≤◌, true, false, List, [], map, filter, Option, Some, None}
+use Rattle.std.specs.Option.{unwrap_or}
+use Rattle.logical_time.specs.Stamps.{StampValue, TxnValue, WriterValue}
+use Rattle.column_family.specs.declared.batch.Change.{Change}
+use Rattle.slice.specs.declared.read.Read.{Read}
+use Rattle.slice.specs.declared.read.AnsweredRow.{AnsweredRow}
+use Rattle.store.specs.declared.part.Applied.{Applied}
+use Rattle.store.specs.Keeps.{AreApart}
+use Rattle.planner.specs.Partition.{shard_of as shard_of_key}
+use Rattle.planner.specs.Plan.{coordinator_of, cohorts_of}
+use Rattle.messages.specs.declared.rows_now.RowNow.{RowNow}
+use Rattle.messages.specs.declared.rows_at.RowAt.{RowAt}
+use Rattle.messages.specs.declared.rows_at.AtTime.{AtTime}
+use Rattle.messages.specs.declared.rows_at.AtTime.TheVariants as at
+use Rattle.messages.specs.declared.op.Op.{Op}
+use Rattle.messages.specs.declared.op.Op.TheVariants as op
+use Rattle.messages.specs.declared.outcome.Outcome.{Outcome}
+use Rattle.messages.specs.declared.outcome.Outcome.TheVariants as outcome
+use Rattle.messages.specs.declared.body.Body.{Body}
+use Rattle.messages.specs.declared.body.Body.TheVariants.{Begin, Prepare, Yes, Commit, At, NotBy, Check, Read as ReadNow, ReadAt, ReplBegin, ReplPart, Notify, PrepareRemote, DepCheck, DepOk, Done, PartNow, PartAt}
+use Rattle.messages.specs.declared.envelope.Envelope.{Envelope}
+use Rattle.messages.specs.Topology.{TopologyValue, dc_of, shard_of, shard_node, home_of}
+use Rattle.messages.specs.Shard.{ShardState, PreparedPart, BegunBallot, Vote, Decision, KeptPart, KeptBallot, Met, Asker, WaitingRead}
+use Rattle.messages.specs.Session.{SessionState, Open, Idle, Writing, FirstRound, SecondRound, HeardNow, HeardAt}
+use Rattle.messages.specs.Submitting.{share_of, plan_fault}
+use Rattle.messages.specs.Rounds.{asked_nodes, all_heard, effective_time, late_keys, late_nodes, answer_of}
+use Rattle.world.specs.Run.{Run, Submission, Completed}
+use Rattle.world.proofs.Among.{Among}
+use Rattle.world.proofs.Growth.{AskedNow, AskedAt}
+use Rattle.world.proofs.Facts.{txn_of, IsWritten, near, lead, part_on, IsDecided, IsDone, PreparedBefore, PreparedSound, BallotSound, KeptBallotSound, KeptPartSound, DecisionSound, AppliedSound, Excluded, WaitSound, RowAtSound, AnswersNow, AnswersAt}
+
+-- the home of the session with this node
+abbrev pub home : TopologyValue → ℕ → ℕ
+home top node = unwrap_or (home_of top node) 0
+
+-- ## Messages
+
+-- the transaction was submitted, and this shard coordinates it in this data centre
+pub record IsLead (top : TopologyValue) (w : Run) (dc node : ℕ) (t : TxnValue) : Type 0 where
+  pub submission : Submission
+  pub batch : List Change
+  pub written : IsWritten w t submission batch
+  pub here : node ≡ lead top dc batch
+
+-- a cohort's part, where the write was submitted
+pub record PrepareSound (top : TopologyValue) (w : Run) (node : ℕ) (t : TxnValue) (changes : List Change) (c : ℕ) : Type 0 where
+  pub submission : Submission
+  pub batch : List Change
+  pub written : IsWritten w t submission batch
+  pub coordinator : c ≡ coordinator_of top.shards batch
+  pub rows : changes ≡ part_on top batch node
+  pub cohort : Among (shard_of top node) (cohorts_of top.shards batch)
+  pub origin : dc_of top node ≡ submission.home
+
+-- the sender decided so, not above this time
+pub record TellsDecision (w : Run) (from n : ℕ) (t : TxnValue) (commit : ℕ) (stamp : StampValue) : Type 0 where
+  pub decided : IsDecided w from t commit stamp
+  pub time : commit ≤ n
+
+-- rows that answer what a session asked in its first round
+pub record TellsNow (top : TopologyValue) (w : Run) (from to time number : ℕ) (rows : List RowNow) : Type 0 where
+  pub read : Read
+  pub asked : AskedNow top (w.sessions to) number from read
+  pub answers : AnswersNow top w from time read rows
+
+-- rows that answer what a session asked in its second round
+pub record TellsAt (top : TopologyValue) (w : Run) (from to number bound : ℕ) (rows : List RowAt) : Type 0 where
+  pub read : Read
+  pub asked : AskedAt (w.sessions to) number bound from read
+  pub answers : AnswersAt top w from bound read rows
+
+abbrev pub TellsThen : AtTime → TopologyValue → Run → ℕ → ℕ → ℕ → ℕ → Type 0
+TellsThen at.Collected top w from to number bound = Unit {0}
+TellsThen (at.Rows rows) top w from to number bound = TellsAt top w from to number bound rows
+
+-- what each body says, from this sender to this receiver, in an envelope of this time
+abbrev pub Says : TopologyValue → Run → ℕ → ℕ → ℕ → Body → Type 0
+Says top w from to time (Begin t rows cohorts dependencies) =
+    BallotSound top w to time (record { txn = t; rows = rows; cohorts = cohorts; dependencies = dependencies; stamp = None })
+Says top w from to time (Prepare t rows coordinator) = PrepareSound top w to t rows coordinator
+Says top w from to time (Yes t) = PreparedBefore w from t (time + 1)
+Says top w from to time (Commit t commit stamp) = TellsDecision w from time t commit stamp × (dc_of top from ≡ dc_of top to)
+Says top w from to time (At t commit stamp) = TellsDecision w from time t commit stamp × (dc_of top from ≡ dc_of top to)
+Says top w from to time (NotBy t bound) = Excluded w from t bound × IsLead top w (dc_of top to) from t
+Says top w from to time (Check t bound) = (bound ≤ time) × (dc_of top from ≡ dc_of top to) × IsLead top w (dc_of top from) to t
+Says top w from to time (ReadNow number read) = AskedNow top (w.sessions from) number to read
+Says top w from to time (ReadAt number bound read) = (bound ≤ time) × AskedAt (w.sessions from) number bound to read
+Says top w from to time (ReplBegin t rows stamp cohorts dependencies) =
+    KeptBallotSound top w to time (record { txn = t; rows = rows; stamp = stamp; cohorts = cohorts; dependencies = dependencies })
+Says top w from to time (ReplPart t rows stamp coordinator) =
+    KeptPartSound top w to (record { txn = t; rows = rows; stamp = stamp; coordinator = coordinator })
+Says top w from to time (Notify t) = Unit {0}
+Says top w from to time (PrepareRemote t) = Unit {0}
+Says top w from to time (DepCheck dependency waiter) = dc_of top from ≡ dc_of top to
+Says top w from to time (DepOk dependency waiter commit) = IsDone top w (dc_of top to) dependency (time + 1)
+Says top w from to time (Done t commit stamp) = TellsDecision w from time t commit stamp × (dc_of top from ≡ home top to)
+Says top w from to time (PartNow number rows) = TellsNow top w from to time number rows
+Says top w from to time (PartAt number bound answer) = TellsThen answer top w from to number bound
+
+abbrev pub EnvelopeSound : TopologyValue → Run → Envelope → Type 0
+EnvelopeSound top w e = Says top w e.from e.to e.time e.body
+
+-- ## Shards
+
+pub record ShardSound (top : TopologyValue) (w : Run) (node : ℕ) (a : ShardState) : Type 0 where
+  pub prepared : (p : PreparedPart) → Among p a.prepared → PreparedSound top w node p
+  pub ballots : (b : BegunBallot) → Among b a.ballots → BallotSound top w node (w.shards node).clock b
+  pub early : (v : Vote) → Among v a.early → PreparedBefore w v.node v.txn (w.shards node).clock
+  pub votes : (v : Vote) → Among v a.votes → PreparedBefore w v.node v.txn (w.shards node).clock
+  pub decided : (d : Decision) → Among d a.decided → DecisionSound top w node d
+  pub applied : (v : Applied) → Among v a.applied → AppliedSound top w node v
+  pub apart : AreApart a.applied
+  pub kept_parts : (k : KeptPart) → Among k a.kept_parts → KeptPartSound top w node k
+  pub kept_ballots : (r : KeptBallot) → Among r a.kept_ballots → KeptBallotSound top w node (w.shards node).clock r
+  pub met : (m : Met) → Among m a.met → IsDone top w (dc_of top node) m.dependency (w.shards node).clock
+  pub askers : (k : Asker) → Among k a.askers → dc_of top k.from ≡ dc_of top node
+  pub waiting : (y : WaitingRead) → Among y a.waiting → WaitSound top w node y
+
+-- ## Sessions
+
+-- the operation of this number is this one
+pub record IsOpen (w : Run) (node m dc : ℕ) (o : Op) : Type 0 where
+  pub submission : Submission
+  pub among : Among submission w.submitted
+  pub session : submission.session ≡ node
+  pub number : submission.number ≡ m
+  pub home : submission.home ≡ dc
+  pub op : submission.op ≡ o
+
+-- an answer of a first round that was kept
+pub record HeardNowSound (top : TopologyValue) (w : Run) (a : SessionState) (read : Read) (h : HeardNow) : Type 0 where
+  pub asked : Among h.from (asked_nodes top a read)
+  pub answers : AnswersNow top w h.from a.clock (share_of top read (shard_of top h.from)) h.rows
+
+-- an answer of a second round that was kept
+pub record HeardAtSound (top : TopologyValue) (w : Run) (a : SessionState) (read : Read) (time : ℕ) (first : List HeardNow) (h : HeardAt) : Type 0 where
+  pub asked : Among h.from (late_nodes (asked_nodes top a read) time first)
+  pub answers : AnswersAt top w h.from time (record read { keys = late_keys time first h.from }) h.rows
+
+pub record WritingSound (top : TopologyValue) (w : Run) (node : ℕ) (a : SessionState) (c : ℕ) : Type 0 where
+  pub batch : List Change
+  pub opened : IsOpen w node a.count a.home (op.Batch batch)
+  pub coordinator : c ≡ coordinator_of top.shards batch
+
+pub record FirstSound (top : TopologyValue) (w : Run) (node : ℕ) (a : SessionState) (read : Read) (hs : List HeardNow) : Type 0 where
+  pub opened : IsOpen w node a.count a.home (op.Read read)
+  pub heard : (h : HeardNow) → Among h hs → HeardNowSound top w a read h
+
+pub record SecondSound (top : TopologyValue) (w : Run) (node : ℕ) (a : SessionState) (read : Read) (n : ℕ) (fs : List HeardNow) (hs : List HeardAt) : Type 0 where
+  pub opened : IsOpen w node a.count a.home (op.Read read)
+  pub first : (h : HeardNow) → Among h fs → HeardNowSound top w a read h
+  pub all : all_heard (asked_nodes top a read) fs ≡ true
+  pub time : n ≡ effective_time a.floor fs
+  pub clock : n ≤ a.clock
+  pub heard : (h : HeardAt) → Among h hs → HeardAtSound top w a read n fs h
+
+abbrev pub OpenSound : TopologyValue → Run → ℕ → SessionState → Open → Type 0
+OpenSound top w node a Idle = Unit {0}
+OpenSound top w node a (Writing coordinator) = WritingSound top w node a coordinator
+OpenSound top w node a (FirstRound read heard) = FirstSound top w node a read heard
+OpenSound top w node a (SecondRound read time first heard) = SecondSound top w node a read time first heard
+
+pub record SessionSound (top : TopologyValue) (w : Run) (node : ℕ) (a : SessionState) : Type 0 where
+  pub home : a.home ≡ home top node
+  pub floor : a.floor ≤ a.clock
+  pub current : OpenSound top w node a a.current
+  pub dependencies : (k : WriterValue) → Among k a.dependencies → IsDone top w a.home k.txn (a.floor + 1)
+
+-- ## Submissions and completed operations
+
+pub record SubmittedSound (top : TopologyValue) (w : Run) : Type 0 where
+  pub accepted : (b : Submission) → Among b w.submitted → plan_fault top b.op ≡ None
+  pub home : (b : Submission) → Among b w.submitted → b.home ≡ home top b.session
+  pub number : (b : Submission) → Among b w.submitted → b.number ≤ (w.sessions b.session).count
+  pub one : (b c : Submission) → Among b w.submitted → Among c w.submitted → txn_of b ≡ txn_of c → b ≡ c
+
+-- A read was answered from these rows: each asked key has one, and each is right at the effective time, on the shard of its
+-- key.
+pub record AnsweredFrom (top : TopologyValue) (w : Run) (dc : ℕ) (read : Read) (time : ℕ) (rows : List RowAt) : Type 0 where
+  pub given : (key : List ℕ) → Among key read.keys → Among key (map (λ r. r.key) rows)
+  pub right : (r : RowAt) → Among r rows → RowAtSound top w (shard_node top dc (shard_of_key top.shards r.key)) time read r
+
+pub record AnsweredSound (top : TopologyValue) (w : Run) (dc : ℕ) (read : Read) (time : ℕ) (shown : List AnsweredRow) : Type 0 where
+  pub rows : List RowAt
+  pub answer : shown ≡ answer_of read rows
+  pub from : AnsweredFrom top w dc read time rows
+
+-- what came of an operation, by what was submitted
+abbrev pub EndSound : Op → Outcome → TopologyValue → Run → ℕ → TxnValue → Type 0
+EndSound (op.Batch batch) (outcome.Wrote commit stamp) top w dc t = IsDecided w (lead top dc batch) t commit stamp
+EndSound (op.Batch batch) (outcome.Read time answer) top w dc t = ⊥
+EndSound (op.Batch batch) outcome.Collected top w dc t = ⊥
+EndSound (op.Read read) (outcome.Wrote commit stamp) top w dc t = ⊥
+EndSound (op.Read read) (outcome.Read time answer) top w dc t = AnsweredSound top w dc read time answer
+EndSound (op.Read read) outcome.Collected top w dc t = Unit {0}
+
+pub record CompletedSound (top : TopologyValue) (w : Run) (c : Completed) : Type 0 where
+  pub opened : IsOpen w c.node c.number c.home c.op
+  pub came : EndSound c.op c.outcome top w c.home (record { session = c.node; number = c.number })
+
+-- ## Runs
+
+pub record Inv (top : TopologyValue) (w : Run) : Type 0 where
+  pub shards : (node : ℕ) → ShardSound top w node (w.shards node)
+  pub sessions : (node : ℕ) → SessionSound top w node (w.sessions node)
+  pub sent : (e : Envelope) → Among e w.sent → EnvelopeSound top w e
+  pub submitted : SubmittedSound top w
+  pub transcript : (c : Completed) → Among c w.transcript → CompletedSound top w c
