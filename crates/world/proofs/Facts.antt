@@ -1,6 +1,6 @@
 -- What holds of each entry and each envelope of every run. Each fact speaks of what only grows, so it is kept once it
 -- holds.
-use Rattle.std.specs.Prelude.{◌≡◌, ℕ, ◌+◌, ◌<◌, ◌≤◌, true, List, [], map, Option, Some, None, ◌⊎◌}
+use Rattle.std.specs.Prelude.{◌≡◌, ℕ, ◌+◌, ◌<◌, ◌≤◌, true, List, [], ◌∷◌, map, Option, Some, None, ◌⊎◌}
 use Rattle.logical_time.specs.Stamps.{StampValue, TxnValue, WriterValue}
 use Rattle.column_family.specs.declared.batch.Change.{Change}
 use Rattle.column_family.specs.declared.batch.Row.{Row}
@@ -74,6 +74,11 @@ pub record PreparedBefore (w : Run) (node : ℕ) (t : TxnValue) (n : ℕ) : Type
   pub txn : part.txn ≡ t
   pub time : part.time < n
 
+-- no two of these decisions are of one transaction
+abbrev pub DecidedOnce : List Decision → Type 0
+DecidedOnce [] = Unit {0}
+DecidedOnce (d ∷ ds) = ((e : Decision) → Among e ds → e.txn ≡ d.txn → ⊥) × DecidedOnce ds
+
 -- ## What a shard kept
 
 -- the coordinator's own part is on the coordinator, every other on a cohort
@@ -92,6 +97,8 @@ pub record PreparedSound (top : TopologyValue) (w : Run) (node : ℕ) (p : Prepa
   pub origin : p.role ≡ Cohort → dc_of top node ≡ submission.home
   pub time : p.time ≤ (w.shards node).clock
   pub one : (g : PreparedPart) → Among g (w.shards node).prepared → g.txn ≡ p.txn → g ≡ p
+  -- where the shard itself decides the transaction, it is above
+  pub below : (d : Decision) → Among d (w.shards node).decided → d.txn ≡ p.txn → p.time < d.commit
 
 -- its origin's stamp, not above this time, or none at the origin
 abbrev pub StampFits : TopologyValue → Run → ℕ → ℕ → Submission → List Change → Option StampValue → Type 0

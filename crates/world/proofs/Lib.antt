@@ -4,3 +4,7 @@ pub mod Among
 pub mod Growth
 pub mod Facts
 pub mod Invariant
+pub mod Lasting
+pub mod LastingAll
+pub mod Able
+pub mod ShardSteps
