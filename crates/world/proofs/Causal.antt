@@ -1,0 +1,61 @@
+-- What keeps causal order in every run: what a session's dependencies cover, and the times of its operations.
+use Rattle.std.specs.Prelude.{◌≡◌, ℕ, ◌+◌, ◌<◌, ◌≤◌, true, false, List, flat_map}
+use Rattle.logical_time.specs.Stamps.{TxnValue, WriterValue}
+use Rattle.messages.specs.declared.rows_at.RowAt.{RowAt}
+use Rattle.messages.specs.declared.op.Op.{Op}
+use Rattle.messages.specs.declared.op.Op.TheVariants as op
+use Rattle.messages.specs.declared.outcome.Outcome.{Outcome}
+use Rattle.messages.specs.declared.outcome.Outcome.TheVariants as outcome
+use Rattle.messages.specs.Topology.{TopologyValue}
+use Rattle.messages.specs.Session.{is_idle}
+use Rattle.world.specs.Run.{Run, Submission, Completed}
+use Rattle.world.specs.Committed.{time_of}
+use Rattle.world.proofs.Among.{Among}
+use Rattle.world.proofs.Facts.{txn_of}
+use Rattle.world.proofs.Invariant.{AnsweredFrom}
+
+abbrev pub txn_ended : Completed → TxnValue
+txn_ended c = record { session = c.node; number = c.number }
+
+-- these dependencies name the transaction, or one of them depends on it
+pub data Covered (w : Run) (t : TxnValue) : List WriterValue → Type 0 where
+  direct : (deps : List WriterValue) (k : WriterValue) → Among k deps → k.txn ≡ t → Covered w t deps
+  via : (deps : List WriterValue) (k : WriterValue) (b : Submission) → Among k deps → Among b w.submitted → txn_of b ≡ k.txn → Covered w t b.dependencies → Covered w t deps
+
+-- whatever the session submits after its operation of this number depends on the transaction, and so will the next
+pub record LaterCovered (w : Run) (session m : ℕ) (t : TxnValue) : Type 0 where
+  pub submitted : (b : Submission) → Among b w.submitted → b.session ≡ session → m < b.number → Covered w t b.dependencies
+  pub next : Covered w t (w.sessions session).dependencies
+
+-- the transactions that came with these rows
+abbrev pub writers_in : List RowAt → List WriterValue
+writers_in rows = flat_map (λ r. r.writers) rows
+
+-- what a completed operation leaves to later ones
+abbrev pub EndCausal : Op → Outcome → TopologyValue → Run → Completed → Type 0
+EndCausal (op.Batch batch) (outcome.Wrote commit stamp) top w c = LaterCovered w c.node c.number (txn_ended c)
+EndCausal (op.Read read) (outcome.Read time answer) top w c =
+    (rows : List RowAt) × AnsweredFrom top w c.home read time rows
+    × ((k : WriterValue) → Among k (writers_in rows) → LaterCovered w c.node c.number k.txn)
+EndCausal (op.Batch batch) (outcome.Read time answer) top w c = Unit {0}
+EndCausal (op.Batch batch) outcome.Collected top w c = Unit {0}
+EndCausal (op.Read read) (outcome.Wrote commit stamp) top w c = Unit {0}
+EndCausal (op.Read read) outcome.Collected top w c = Unit {0}
+
+-- the time isn't above what this outcome names
+abbrev pub IsAbove : Outcome → ℕ → Type 0
+IsAbove (outcome.Wrote commit stamp) n = n ≤ commit
+IsAbove (outcome.Read time answer) n = n ≤ time
+IsAbove outcome.Collected n = Unit {0}
+
+pub record Causal (top : TopologyValue) (w : Run) : Type 0 where
+  pub ended : (c : Completed) → Among c w.transcript → EndCausal c.op c.outcome top w c
+  -- the floor is above all times so far
+  pub floor : (c : Completed) → Among c w.transcript → time_of c.outcome ≤ (w.sessions c.node).floor
+  -- a session's times never fall
+  pub ordered : (c e : Completed) → Among c w.transcript → Among e w.transcript → c.node ≡ e.node → c.number < e.number → IsAbove e.outcome (time_of c.outcome)
+  -- what ended is no longer open
+  pub number : (c : Completed) → Among c w.transcript → c.number ≤ (w.sessions c.node).count
+  pub closed : (c : Completed) → Among c w.transcript → is_idle (w.sessions c.node).current ≡ false → c.number < (w.sessions c.node).count
+  -- each operation ends once
+  pub one : (c e : Completed) → Among c w.transcript → Among e w.transcript → txn_ended c ≡ txn_ended e → c ≡ e

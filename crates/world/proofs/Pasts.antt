@@ -1,0 +1,253 @@
+-- What is before an operation is committed before it: the past of a read stands in its table.
+use Rattle.std.proofs.Common.{◌≡◌, ℕ, ◌+◌, ◌<◌, ◌≤◌, true, false, List, [], ◌∷◌, Some, None, Option, ◌⊎◌, inl, inr, refl, sym, ap, ◌∙◌, subst, arith, le_refl, le_trans, mod-lt}
+use Rattle.std.specs.Prelude.{Contains, option_and_then, sum}
+use Rattle.logical_time.specs.Stamps.{TxnValue, WriterValue}
+use Rattle.column_family.specs.declared.batch.Change.{Change}
+use Rattle.slice.specs.declared.read.Read.{Read}
+use Rattle.slice.specs.declared.read.AnsweredRow.{AnsweredRow}
+use Rattle.messages.specs.declared.rows_at.RowAt.{RowAt}
+use Rattle.messages.specs.declared.op.Op.{Op}
+use Rattle.messages.specs.declared.op.Op.TheVariants as op
+use Rattle.messages.specs.declared.outcome.Outcome.{Outcome}
+use Rattle.messages.specs.declared.outcome.Outcome.TheVariants as outcome
+use Rattle.planner.specs.Plan.{coordinator_of}
+use Rattle.messages.specs.Topology.{TopologyValue, dc_of}
+use Rattle.messages.proofs.Numbering.{dc_of_shard}
+use Rattle.messages.specs.Words.{is_same_txn}
+use Rattle.messages.specs.Shard.{Decision}
+use Rattle.world.specs.Run.{Run, Submission, Completed, submission_of}
+use Rattle.world.specs.Committed.{time_of}
+use Rattle.world.specs.Histories.{batch_in, batch_submitted}
+use Rattle.world.specs.Before.{IsSubmitted, IsWrite, completes, IsEndOf, IsCompleted, IsEarlier, ReadRestsOn, EndRestsOn, RestsOn, IsJustBefore, IsBeforeOver, Before, Past}
+use Rattle.world.proofs.Among.{Among, contains_among, find_some, same_txn}
+use Rattle.world.proofs.Facts.{txn_of, IsWritten, IsDone, IsDecided, lead}
+use Rattle.world.proofs.Invariant.{home, IsOpen, AnsweredFrom, EndSound, Inv}
+use Rattle.world.proofs.Causal.{txn_ended, Covered, direct, via, LaterCovered, writers_in, EndCausal, IsAbove, Causal}
+
+done_later : {top : TopologyValue} {w : Run} {dc n m : ℕ} {t : TxnValue} → n ≤ m → IsDone top w dc t n → IsDone top w dc t m
+done_later le k = record { node = k.node; here = k.here; decision = k.decision; among = k.among; txn = k.txn; commit = let lt = k.commit in omega arith }
+
+-- the submission of a write, of its batch
+pub written_at : (w : Run) (t : TxnValue) → IsWrite w t → (b : Submission) × (batch : List Change) × IsWritten w t b batch
+written_at w t k = go (submission_of w.submitted t) refl k.1
+  where
+    op_go : (b : Submission) (o : Op) → b.op ≡ o → batch_in o ≡ Some k.0 → b.op ≡ op.Batch k.0
+    op_go b (op.Batch batch) e q = e ∙ ap op.Batch (cc)
+    op_go b (op.Read read) e q = absurd (cc)
+
+    go : (o : Option Submission) → submission_of w.submitted t ≡ o → option_and_then (λ s. batch_in s.op) o ≡ Some k.0 → (b : Submission) × (batch : List Change) × IsWritten w t b batch
+    go None e q = absurd (cc)
+    go (Some b) e q =
+        let f = find_some (λ s. is_same_txn (record { session = s.session; number = s.number }) t) w.submitted b e in
+        (b, k.0, record { among = f.0; txn = same_txn (txn_of b) t f.1; op = op_go b b.op refl q })
+
+coordinator_below : (shards : ℕ) (batch : List Change) → 0 < shards → coordinator_of shards batch < shards
+coordinator_below shards [] lt = lt
+coordinator_below shards (c ∷ cs) lt = mod-lt (sum c.row.key) lt
+
+-- the coordinator of a batch in a data centre is a shard of it
+pub lead_dc : (top : TopologyValue) (dc : ℕ) (batch : List Change) → 0 < top.shards → dc_of top (lead top dc batch) ≡ dc
+lead_dc top dc batch lt = dc_of_shard top dc (coordinator_of top.shards batch) (coordinator_below top.shards batch lt)
+
+module _ (top : TopologyValue) (w : Run) (some : 0 < top.shards) (inv : Inv top w) (causal : Causal top w)
+    (rests : (dc time : ℕ) (read : Read) (rows : List RowAt) → AnsweredFrom top w dc read time rows → (u : TxnValue) → ReadRestsOn top w dc read time u → (k : WriterValue) × Among k (writers_in rows) × (k.txn ≡ u))
+    (committed : (dc time : ℕ) (read : Read) (rows : List RowAt) → AnsweredFrom top w dc read time rows → (k : WriterValue) → Among k (writers_in rows) → IsDone top w dc k.txn (time + 1)) where
+  -- what dependencies cover is committed where they are, before them
+  covered_done : (t : TxnValue) (deps : List WriterValue) (dc n : ℕ) → ((k : WriterValue) → Among k deps → IsDone top w dc k.txn n) → Covered w t deps → IsDone top w dc t n
+  covered_done t deps dc n f (direct l k m q) = subst (λ z. IsDone top w dc z n) q (f k m)
+  covered_done t deps dc n f (via l k b m among q c) =
+      let d = f k m in
+      let s = (inv.shards d.node).decided d.decision d.among in
+      let same : s.submission ≡ b = inv.submitted.one s.submission b s.written.among among (s.written.txn ∙ d.txn ∙ sym q) in
+      let lt = d.commit in
+      let here : IsDone top w (dc_of top d.node) t d.decision.commit =
+      covered_done t b.dependencies (dc_of top d.node) d.decision.commit (λ k m. s.done k (subst (λ z. Among k z.dependencies) (sym same) m)) c in
+      subst (λ z. IsDone top w z t n) d.here (done_later (omega arith) here)
+
+  later_write : (session m : ℕ) (t : TxnValue) → LaterCovered w session m t → (y : TxnValue) → y.session ≡ session → m < y.number → (node : ℕ) (d : Decision) → Among d (w.shards node).decided → d.txn ≡ y → IsDone top w (dc_of top node) t d.commit
+  later_write session m t k y es lt node d among q =
+      let s = (inv.shards node).decided d among in
+      let e : txn_of s.submission ≡ y = s.written.txn ∙ q in
+      let number : s.submission.number ≡ y.number = ap (λ z. z.number) e in
+      covered_done t s.submission.dependencies (dc_of top node) d.commit s.done
+      (k.submitted s.submission s.written.among (ap (λ z. z.session) e ∙ es) (omega arith))
+
+  -- ## What reaches an operation
+
+  -- the transaction is committed before the operation: below each commit time of a write, not above a read's time
+  pub record Reached (u v : TxnValue) : Type 0 where
+    pub write : (node : ℕ) (d : Decision) → Among d (w.shards node).decided → d.txn ≡ v → IsDone top w (dc_of top node) u d.commit
+    pub read : (c : Completed) → Among c w.transcript → txn_ended c ≡ v → (r : Read) (time : ℕ) (answer : List AnsweredRow) → c.op ≡ op.Read r → c.outcome ≡ outcome.Read time answer → IsDone top w c.home u (time + 1)
+
+  -- the transaction is the operation or is committed before it, and is committed before all that its session submits after
+  -- completing it
+  pub record Carries (u z : TxnValue) : Type 0 where
+    pub here : (z ≡ u) ⊎ Reached u z
+    pub later : IsCompleted w z → (y : TxnValue) → IsSubmitted w y → z.session ≡ y.session → z.number < y.number → Reached u y
+
+  home_at : (c : Completed) → Among c w.transcript → c.home ≡ home top c.node
+  home_at c m =
+      let o = (inv.transcript c m).opened in
+      sym o.home ∙ inv.submitted.home o.submission o.among ∙ ap (home top) o.session
+
+  same_home : (c e : Completed) → Among c w.transcript → Among e w.transcript → c.node ≡ e.node → c.home ≡ e.home
+  same_home c e m n q = home_at c m ∙ ap (home top) q ∙ sym (home_at e n)
+
+  -- a read that the session completes later has a greater time
+  later_read : (c e : Completed) → Among c w.transcript → Among e w.transcript → c.node ≡ e.node → c.number < e.number → (n : ℕ) → time_of c.outcome ≡ n → (u : TxnValue) → IsDone top w c.home u (n + 1)
+      → (time : ℕ) (answer : List AnsweredRow) → e.outcome ≡ outcome.Read time answer → IsDone top w e.home u (time + 1)
+  later_read c e m k node number n q u done time answer o =
+      let le = subst (λ z. IsAbove z (time_of c.outcome)) o (causal.ordered c e m k node number) in
+      subst (λ z. IsDone top w z u (time + 1)) (same_home c e m k node) (done_later (omega arith) done)
+
+  -- ## A write that its session completed
+
+  pub record WriteEnd (c : Completed) : Type 0 where
+    pub commit : ℕ
+    pub time : time_of c.outcome ≡ commit
+    pub done : IsDone top w c.home (txn_ended c) (commit + 1)
+    pub later : LaterCovered w c.node c.number (txn_ended c)
+
+  write_go : (c : Completed) (b : Submission) (batch : List Change) → b.op ≡ op.Batch batch → b.op ≡ c.op → (o : Op) (e : Outcome) → c.op ≡ o → c.outcome ≡ e
+      → EndSound o e top w c.home (txn_ended c) → EndCausal o e top w c → completes e ≡ true → WriteEnd c
+  write_go c b batch is same (op.Batch other) (outcome.Wrote commit stamp) p q k l t =
+      record {
+        commit = commit;
+        time = ap time_of q;
+        done =
+            record {
+              node = lead top c.home other;
+              here = lead_dc top c.home other some;
+              decision = k.decision;
+              among = k.among;
+              txn = k.txn;
+              commit = let z = k.commit in omega arith;
+            };
+        later = l;
+      }
+  write_go c b batch is same (op.Batch other) (outcome.Read time answer) p q k l t = absurd k
+  write_go c b batch is same (op.Batch other) outcome.Collected p q k l t = absurd k
+  write_go c b batch is same (op.Read read) e p q k l t = let z : op.Batch batch ≡ op.Read read = sym is ∙ same ∙ p in absurd (cc)
+
+  write_end : (c : Completed) → Among c w.transcript → (b : Submission) (batch : List Change) → IsWritten w (txn_ended c) b batch → completes c.outcome ≡ true → WriteEnd c
+  write_end c m b batch k t =
+      let s = inv.transcript c m in
+      let o = s.opened in
+      let same : b ≡ o.submission = inv.submitted.one b o.submission k.among o.among (k.txn ∙ λ i. record { session = sym o.session i; number = sym o.number i }) in
+      write_go c b batch k.op (ap (λ z. z.op) same ∙ o.op) c.op c.outcome refl refl s.came (causal.ended c m) t
+
+  own_carries : (u : TxnValue) → IsWrite w u → Carries u u
+  own_carries u k = record { here = inl refl; later = λ done y sub es lt. go (written_at w u k) done y es lt }
+    where
+      go : (b : Submission) × (batch : List Change) × IsWritten w u b batch → IsCompleted w u → (y : TxnValue) → u.session ≡ y.session → u.number < y.number → Reached u y
+      go (b, batch, k) (c, (m, q), t) y es lt =
+          let among = contains_among c w.transcript m in
+          let e = write_end c among b batch (record { among = k.among; txn = k.txn ∙ sym q; op = k.op }) t in
+          let node : c.node ≡ u.session = ap (λ z. z.session) q in
+          let number : c.number ≡ u.number = ap (λ z. z.number) q in
+          record {
+            write = λ x d i p. subst (λ z. IsDone top w (dc_of top x) z d.commit) q (later_write c.node c.number (txn_ended c) e.later y (sym (node ∙ es)) (omega arith) x d i p);
+            read = λ f i p r time answer o a.
+                let f_node : f.node ≡ y.session = ap (λ z. z.session) p in
+                let f_number : f.number ≡ y.number = ap (λ z. z.number) p in
+                later_read c f among i (node ∙ es ∙ sym f_node) (omega arith) e.commit e.time u (subst (λ z. IsDone top w c.home z (e.commit + 1)) q e.done) time answer a;
+          }
+
+  -- ## A read that rests on a transaction
+
+  pub record ReadEnd (c : Completed) (z : TxnValue) : Type 0 where
+    pub time : ℕ
+    pub is : time_of c.outcome ≡ time
+    pub read : Read
+    pub op : c.op ≡ op.Read read
+    pub done : IsDone top w c.home z (time + 1)
+    pub later : LaterCovered w c.node c.number z
+
+  rests_go : (c : Completed) (z : TxnValue) (o : Op) (e : Outcome) → c.op ≡ o → c.outcome ≡ e → EndRestsOn o e top w c.home z → EndCausal o e top w c → ReadEnd c z
+  rests_go c z (op.Read read) (outcome.Read time answer) p q r k =
+      let n = rests c.home time read k.0 k.1 z r in
+      record {
+        time = time;
+        is = ap time_of q;
+        read = read;
+        op = p;
+        done = subst (λ v. IsDone top w c.home v (time + 1)) n.2 (committed c.home time read k.0 k.1 n.0 n.1);
+        later = subst (λ v. LaterCovered w c.node c.number v) n.2 (k.2 n.0 n.1);
+      }
+  rests_go c z (op.Read read) (outcome.Wrote commit stamp) p q r k = absurd r
+  rests_go c z (op.Read read) outcome.Collected p q r k = absurd r
+  rests_go c z (op.Batch batch) e p q r k = absurd r
+
+  read_end : (c : Completed) → Among c w.transcript → (z : TxnValue) → EndRestsOn c.op c.outcome top w c.home z → ReadEnd c z
+  read_end c m z r = rests_go c z c.op c.outcome refl refl r (causal.ended c m)
+
+  -- where what carries the transaction is decided or done, so is the transaction
+  through : (u z : TxnValue) → Carries u z → (dc n : ℕ) → IsDone top w dc z n → IsDone top w dc u n
+  through u z k dc n d =
+      elim (k.here) [
+        | inl same ↦ subst (λ v. IsDone top w dc v n) same d
+        | inr r ↦ let lt = d.commit in subst (λ v. IsDone top w v u n) d.here (done_later (omega arith) (r.write d.node d.decision d.among d.txn))
+      ]
+
+  -- a read is no write
+  no_decision : (c : Completed) → Among c w.transcript → (r : Read) → c.op ≡ op.Read r → (node : ℕ) (d : Decision) → Among d (w.shards node).decided → d.txn ≡ txn_ended c → ⊥
+  no_decision c m r e node d among q =
+      let s = (inv.shards node).decided d among in
+      let o = (inv.transcript c m).opened in
+      let same : s.submission ≡ o.submission =
+      inv.submitted.one s.submission o.submission s.written.among o.among (s.written.txn ∙ q ∙ λ i. record { session = sym o.session i; number = sym o.number i }) in
+      let z : op.Batch s.batch ≡ op.Read r = sym s.written.op ∙ ap (λ v. v.op) same ∙ o.op ∙ e in
+      absurd (cc)
+
+  rests_carries : (u z y : TxnValue) → Carries u z → RestsOn top w y z → Carries u y
+  rests_carries u z y k (c, (m, q), r) =
+      let among = contains_among c w.transcript m in
+      let e = read_end c among z r in
+      let node : c.node ≡ y.session = ap (λ v. v.session) q in
+      let number : c.number ≡ y.number = ap (λ v. v.number) q in
+      let done : IsDone top w c.home u (e.time + 1) = through u z k c.home (e.time + 1) e.done in
+      record {
+        here =
+            inr
+            (record {
+              write = λ x d i p. absurd (no_decision c among e.read e.op x d i (p ∙ sym q));
+              read = λ f i p r time answer o a.
+                  let same : f ≡ c = causal.one f c i among (p ∙ sym q) in
+                  let t : e.time ≡ time = sym e.is ∙ ap (λ v. time_of v.outcome) (sym same) ∙ ap time_of a in
+                  subst (λ v. IsDone top w v.home u (time + 1)) (sym same) (subst (λ v. IsDone top w c.home u (v + 1)) t done);
+            });
+        later = λ ended v sub es lt.
+            record {
+              write = λ x d i p. through u z k (dc_of top x) d.commit (later_write c.node c.number z e.later v (sym (node ∙ es)) (omega arith) x d i p);
+              read = λ f i p r time answer o a.
+                  let f_node : f.node ≡ v.session = ap (λ v. v.session) p in
+                  let f_number : f.number ≡ v.number = ap (λ v. v.number) p in
+                  later_read c f among i (node ∙ es ∙ sym f_node) (omega arith) e.time e.is u done time answer a;
+            };
+      }
+
+  earlier_carries : (u z y : TxnValue) → Carries u z → IsEarlier w z y → Carries u y
+  earlier_carries u z y k (ended, sub, es, lt) =
+      record { here = inr (k.later ended y sub es lt); later = λ done v more same lv. k.later ended v more (es ∙ same) (omega arith) }
+
+  link_carries : (u z y : TxnValue) → Carries u z → IsJustBefore top w z y → Carries u y
+  link_carries u z y k (inl e) = earlier_carries u z y k e
+  link_carries u z y k (inr r) = rests_carries u z y k r
+
+  chain_carries : (u z : TxnValue) (xs : List TxnValue) (v : TxnValue) → Carries u z → IsBeforeOver top w z xs v → Carries u v
+  chain_carries u z [] v k b = link_carries u z v k b
+  chain_carries u z (x ∷ xs) v k b = chain_carries u x xs v (link_carries u z x k b.0) b.1
+
+  pub past_carries : (u v : TxnValue) → Past top w v u → Carries u v
+  past_carries u v p = chain_carries u u p.1.0 v (own_carries u p.0) p.1.1
+
+  -- a write in the past of a completed read is committed in its home, not above its effective time
+  pub past_read : (c : Completed) → Among c w.transcript → (r : Read) (time : ℕ) (answer : List AnsweredRow) → c.op ≡ op.Read r → c.outcome ≡ outcome.Read time answer → (u : TxnValue) → Past top w (txn_ended c) u → IsDone top w c.home u (time + 1)
+  past_read c m r time answer o a u p =
+      elim ((past_carries u (txn_ended c) p).here) [
+        | inr k ↦ k.read c m refl r time answer o a
+        | inl q ↦ let x = written_at w u p.0 in let s = (inv.transcript c m).opened in
+            let same : x.0 ≡ s.submission = inv.submitted.one x.0 s.submission x.2.among s.among (x.2.txn ∙ sym q ∙ λ i. record { session = sym s.session i; number = sym s.number i }) in
+            let z : op.Batch x.1 ≡ op.Read r = sym x.2.op ∙ ap (λ v. v.op) same ∙ s.op ∙ o in
+            absurd (cc)
+      ]
