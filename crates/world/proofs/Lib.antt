@@ -10,3 +10,5 @@ pub mod Able
 pub mod ShardSteps
 pub mod Causal
 pub mod Pasts
+pub mod About
+pub mod Underway
