@@ -4,3 +4,4 @@ pub mod Among
 pub mod Growth
 pub mod Facts
 pub mod Invariant
+pub mod SameNewest
