@@ -5,3 +5,4 @@ pub mod Growth
 pub mod Facts
 pub mod Invariant
 pub mod SameNewest
+pub mod RowTests
