@@ -6,3 +6,5 @@ pub mod Facts
 pub mod Invariant
 pub mod SameNewest
 pub mod RowTests
+pub mod NodeNumbers
+pub mod DecidedIn
