@@ -6,6 +6,7 @@ use Rattle.std.proofs.lemmas.Bool.{false≢true}
 use Rattle.logical_time.specs.Stamps.{StampValue, TxnValue}
 use Rattle.column_family.specs.declared.batch.Change.{Change}
 use Rattle.column_family.specs.declared.batch.Committed.{Committed}
+use Rattle.store.specs.declared.part.Applied.{Applied}
 use Rattle.store.proofs.Lists.{given, given_only}
 use Rattle.planner.proofs.Members.{contains_flat, flat_contains, contains_below}
 use Rattle.messages.specs.declared.op.Op.{Op}
@@ -16,9 +17,9 @@ use Rattle.messages.specs.Shard.{Decision}
 use Rattle.world.specs.Run.{Run, Submission, submission_of}
 use Rattle.world.specs.Histories.{batch_in, batch_submitted, decisions_in, committed_of, history_of}
 use Rattle.world.proofs.Among.{Among, among_contains, contains_among, find_some, find_none, any_false, same_txn, same_txn_self}
-use Rattle.world.proofs.Facts.{txn_of, IsWritten, lead, IsStamp, DecisionSound}
+use Rattle.world.proofs.Facts.{txn_of, IsWritten, lead, part_on, IsStamp, DecisionSound, AppliedSound}
 use Rattle.world.proofs.Invariant.{SubmittedSound, Inv}
-use Rattle.world.proofs.NodeNumbers.{dc_of_node, listed_below}
+use Rattle.world.proofs.NodeNumbers.{coordinator_below, dc_of_node, listed_below}
 use Rattle.world.proofs.SameNewest.{OneEach}
 
 -- ---- a transaction has one submission, with one batch
@@ -98,8 +99,36 @@ stamp_decision top w inv dc d e is was same =
     one_decision top w inv dc d e is was
     (sym is.sound.written.txn
     ∙ one_stamp top w inv is.sound.submission was.sound.submission is.sound.batch was.sound.batch e.stamp
-      (subst (λ s. IsStamp top w is.sound.submission is.sound.batch s) same is.sound.stamp) was.sound.stamp
+    (subst (λ s. IsStamp top w is.sound.submission is.sound.batch s) same is.sound.stamp) was.sound.stamp
     ∙ was.sound.written.txn)
+
+-- ---- what a shard of it applied
+-- the part is that of a decision of the data centre
+pub record IsAppliedIn (top : TopologyValue) (w : Run) (node : ℕ) (v : Applied) : Type 0 where
+  pub decision : Decision
+  pub among : Among decision (decisions_in top w (dc_of top node))
+  pub decided : DecidedIn top w (dc_of top node) decision
+  pub txn : decision.txn ≡ v.part.writer.txn
+  pub commit : decision.commit ≡ v.commit
+  pub stamp : decision.stamp ≡ v.stamp
+  pub batch : v.part.batch ≡ part_on top decided.sound.batch node
+
+pub applied_in : (top : TopologyValue) (w : Run) → Inv top w → 0 < top.shards → (node : ℕ) (v : Applied) → AppliedSound top w node v → IsAppliedIn top w node v
+applied_in top w inv some node v sound =
+    let d = sound.decided.decision in
+    let below = subst (λ s. s < top.shards) (sym sound.coordinator) (coordinator_below top.shards sound.batch some) in
+    let has = in_decisions top w (dc_of top node) v.part.writer.shard d below sound.decided.among in
+    let is = decided_in top w inv (dc_of top node) d has in
+    let same = one_batch top w inv.submitted sound.submission is.sound.submission v.part.writer.txn d.txn sound.batch is.sound.batch (sym sound.decided.txn) sound.written is.sound.written in
+    record {
+      decision = d;
+      among = has;
+      decided = is;
+      txn = sound.decided.txn;
+      commit = sound.decided.commit;
+      stamp = sound.decided.stamp;
+      batch = sound.rows ∙ ap (λ (batch : List Change). part_on top batch node) same;
+    }
 
 -- ---- the entries of its history
 -- the entry is that of a decision

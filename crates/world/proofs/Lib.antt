@@ -8,3 +8,4 @@ pub mod SameNewest
 pub mod RowTests
 pub mod NodeNumbers
 pub mod DecidedIn
+pub mod ShownOnRow
