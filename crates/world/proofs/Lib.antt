@@ -9,3 +9,4 @@ pub mod RowTests
 pub mod NodeNumbers
 pub mod DecidedIn
 pub mod ShownOnRow
+pub mod ReadTables
