@@ -9,4 +9,6 @@ pub mod RowTests
 pub mod NodeNumbers
 pub mod DecidedIn
 pub mod ShownOnRow
+pub mod RowAlike
 pub mod ReadTables
+pub mod ReadRests

@@ -1,15 +1,12 @@
 -- A completed read shows one table: that of its home's history, at its effective time.
-use Rattle.std.proofs.Common.{◌≡◌, ◌∙◌, ℕ, ◌<◌, sym, ap, subst, refl, List, map}
+use Rattle.std.proofs.Common.{◌≡◌, ◌∙◌, ℕ, ◌<◌, sym, ap, subst, List, map}
 use Rattle.std.specs.Prelude.{Contains}
-use Rattle.std.specs.List.{flat_map}
-use Rattle.column_family.specs.Location.{Location, touches, is_row_deletion}
-use Rattle.column_family.specs.History.{History, Stamped, up_to, newest, newest_of, value_of}
+use Rattle.column_family.specs.History.{History, up_to}
 use Rattle.slice.specs.declared.column.Column.{Column}
 use Rattle.slice.specs.declared.read.Read.{Read}
 use Rattle.slice.specs.declared.read.AnsweredRow.{AnsweredRow}
 use Rattle.slice.specs.Slice.{slice_of}
 use Rattle.slice.specs.Live.{live_columns}
-use Rattle.slice.proofs.LiveTable.{live_columns_alike}
 use Rattle.store.specs.Part.{history_of as parts_of, applied_by}
 use Rattle.table.specs.Meaning.{row_of, shown_row, meaning}
 use Rattle.planner.specs.Partition.{shard_of as shard_of_key}
@@ -29,8 +26,7 @@ use Rattle.world.proofs.Among.{Among, among_contains, contains_among}
 use Rattle.world.proofs.Facts.{RowAtSound}
 use Rattle.world.proofs.Invariant.{AnsweredFrom, AnsweredSound, EndSound, CompletedSound, Inv}
 use Rattle.world.proofs.NodeNumbers.{key_below, dc_of_node, shard_of_node}
-use Rattle.world.proofs.RowTests.{IsRowTest, touches_test, deletion_test}
-use Rattle.world.proofs.ShownOnRow.{shown_on_row}
+use Rattle.world.proofs.RowAlike.{AreAlike, alike_live, complete_alike}
 
 -- the shard of a key in a data centre
 abbrev pub node_of : TopologyValue → ℕ → List ℕ → ℕ
@@ -48,21 +44,19 @@ answered top w inv c read time answer has is came =
     answered_so c.op c.outcome top w c.home read time answer (record { session = c.node; number = c.number }) is came
     (inv.transcript c (contains_among c w.transcript has)).came
 
--- a row that is right, on the shard of its key, has what the history of the data centre makes of the row
-pub row_shown : (top : TopologyValue) (w : Run) → Inv top w → 0 < top.shards → (dc time : ℕ) (read : Read) (r : RowAt) (sound : RowAtSound top w (node_of top dc r.key) time read r)
-    → (q : _) → IsRowTest (row_of read r.key) q → (h : History) → IsHistory top w dc h → newest_of q (up_to time h) ≡ newest_of q (parts_of (applied_by time sound.seen))
-row_shown top w inv some dc time read r sound q test h is =
+-- what is right of a row, on the shard of its key, is what the history of the data centre makes of the row
+pub right_alike : (top : TopologyValue) (w : Run) → Inv top w → 0 < top.shards → (dc time : ℕ) (read : Read) (r : RowAt) (sound : RowAtSound top w (node_of top dc r.key) time read r)
+    → (h : History) → IsHistory top w dc h → AreAlike (row_of read r.key) (up_to time h) (parts_of (applied_by time sound.seen))
+right_alike top w inv some dc time read r sound h is =
     let below = key_below top.shards r.key some in
-    shown_on_row top w inv some (node_of top dc r.key) (row_of read r.key) (sym (shard_of_node top dc (shard_of_key top.shards r.key) below)) time sound.seen sound.complete q test h
+    complete_alike top w inv some (node_of top dc r.key) (row_of read r.key) (sym (shard_of_node top dc (shard_of_key top.shards r.key) below)) time sound.seen sound.complete h
     (subst (λ d. IsHistory top w d h) (sym (dc_of_node top dc (shard_of_key top.shards r.key) below)) is)
 
-pub row_columns : (top : TopologyValue) (w : Run) → Inv top w → 0 < top.shards → (dc time : ℕ) (read : Read) (r : RowAt) → RowAtSound top w (node_of top dc r.key) time read r
+pub right_columns : (top : TopologyValue) (w : Run) → Inv top w → 0 < top.shards → (dc time : ℕ) (read : Read) (r : RowAt) → RowAtSound top w (node_of top dc r.key) time read r
     → (h : History) → IsHistory top w dc h → r.columns ≡ slice_of read.predicate (live_columns (up_to time h) (row_of read r.key))
-row_columns top w inv some dc time read r sound h is =
+right_columns top w inv some dc time read r sound h is =
     sound.shown.columns
-    ∙ ap (slice_of read.predicate)
-      (sym (live_columns_alike (up_to time h) (parts_of (applied_by time sound.seen)) (row_of read r.key)
-      (λ n. ap value_of (row_shown top w inv some dc time read r sound (touches (record { row = row_of read r.key; name = n })) (touches_test (record { row = row_of read r.key; name = n })) h is))))
+    ∙ ap (slice_of read.predicate) (sym (alike_live (row_of read r.key) (up_to time h) (parts_of (applied_by time sound.seen)) (right_alike top w inv some dc time read r sound h is)))
 
 -- the row of an answer
 abbrev pub answered_row : RowAt → AnsweredRow
@@ -81,7 +75,7 @@ rows_right top w inv some dc time read rows from h is =
           let r = m.0 in
           let sound = from.right r (contains_among r rows m.1) in
           subst (λ (z : AnsweredRow). z ≡ shown_row read (up_to time h) z.key) m.2
-          (ap (λ (cs : List Column). let z : AnsweredRow = record { key = r.key; columns = cs } in z) (row_columns top w inv some dc time read r sound h is));
+          (ap (λ (cs : List Column). let z : AnsweredRow = record { key = r.key; columns = cs } in z) (right_columns top w inv some dc time read r sound h is));
     }
 
 pub one_table : (top : TopologyValue) (w : Run) → Inv top w → 0 < top.shards → (c : Completed) (read : Read) (time : ℕ) (answer : List AnsweredRow)
