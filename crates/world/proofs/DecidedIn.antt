@@ -23,7 +23,8 @@ use Rattle.world.proofs.NodeNumbers.{coordinator_below, dc_of_node, listed_below
 use Rattle.world.proofs.SameNewest.{OneEach}
 
 -- ---- a transaction has one submission, with one batch
-found : (top : TopologyValue) (w : Run) → SubmittedSound top w → (b : Submission) (t : TxnValue) → Among b w.submitted → txn_of b ≡ t → submission_of w.submitted t ≡ Some b
+found : (top : TopologyValue) (w : Run) → SubmittedSound top w → (b : Submission) (t : TxnValue) → Among b w.submitted → txn_of b ≡ t
+    → submission_of w.submitted t ≡ Some b
 found top w sound b t m e = go (find is_it w.submitted) refl
   where
     is_it : Submission → Bool
@@ -37,14 +38,16 @@ found top w sound b t m e = go (find is_it w.submitted) refl
         let is = find_some is_it w.submitted c f in
         f ∙ ap Some (sound.one c b is.0 m (same_txn (txn_of c) t is.1 ∙ sym e))
 
-pub written_batch : (top : TopologyValue) (w : Run) → SubmittedSound top w → (b : Submission) (t : TxnValue) (batch : List Change) → IsWritten w t b batch → batch_submitted w t ≡ Some batch
+pub written_batch : (top : TopologyValue) (w : Run) → SubmittedSound top w → (b : Submission) (t : TxnValue) (batch : List Change)
+    → IsWritten w t b batch → batch_submitted w t ≡ Some batch
 written_batch top w sound b t batch is =
     ap (λ (o : Option Submission). option_and_then (λ s. batch_in s.op) o) (found top w sound b t is.among is.txn) ∙ ap (λ (o : Op). batch_in o) is.op
 
-pub one_batch : (top : TopologyValue) (w : Run) → SubmittedSound top w → (b c : Submission) (t u : TxnValue) (batch other : List Change) → t ≡ u
+pub one_batch : (top : TopologyValue) (w : Run) → SubmittedSound top w → {b c : Submission} {t u : TxnValue} {batch other : List Change} → t ≡ u
     → IsWritten w t b batch → IsWritten w u c other → batch ≡ other
-one_batch top w sound b c t u batch other e is was =
-    let some : Some batch ≡ Some other = sym (written_batch top w sound b t batch is) ∙ ap (batch_submitted w) e ∙ written_batch top w sound c u other was in
+one_batch top w sound {b} {c} {t} {u} {batch} {other} e is was =
+    let some : Some batch ≡ Some other =
+    sym (written_batch top w sound b t batch is) ∙ ap (batch_submitted w) e ∙ written_batch top w sound c u other was in
     cc
 
 -- ---- a stamp names one transaction
@@ -77,7 +80,8 @@ decided_in top w inv dc d m =
       here = dc_of_node top dc r.0 (listed_below top.shards r.0 (contains_among r.0 (range_with_len 0 top.shards) r.1));
     }
 
-pub in_decisions : (top : TopologyValue) (w : Run) (dc shard : ℕ) (d : Decision) → shard < top.shards → Among d (w.shards (shard_node top dc shard)).decided → Among d (decisions_in top w dc)
+pub in_decisions : (top : TopologyValue) (w : Run) (dc shard : ℕ) (d : Decision) → shard < top.shards
+    → Among d (w.shards (shard_node top dc shard)).decided → Among d (decisions_in top w dc)
 in_decisions top w dc shard d below m =
     contains_among d (decisions_in top w dc)
     (contains_flat (λ shard. (w.shards (shard_node top dc shard)).decided) (range_with_len 0 top.shards) shard d
@@ -87,14 +91,16 @@ pub on_lead : (top : TopologyValue) (w : Run) (dc : ℕ) (d : Decision) (is : De
 on_lead top w dc d is = is.sound.here ∙ ap (λ (z : ℕ). lead top z is.sound.batch) is.here
 
 -- a transaction has one decision there
-pub one_decision : (top : TopologyValue) (w : Run) → Inv top w → (dc : ℕ) (d e : Decision) → DecidedIn top w dc d → DecidedIn top w dc e → d.txn ≡ e.txn → d ≡ e
+pub one_decision : (top : TopologyValue) (w : Run) → Inv top w → (dc : ℕ) (d e : Decision) → DecidedIn top w dc d → DecidedIn top w dc e
+    → d.txn ≡ e.txn → d ≡ e
 one_decision top w inv dc d e is was same =
-    let batch = one_batch top w inv.submitted is.sound.submission was.sound.submission d.txn e.txn is.sound.batch was.sound.batch same is.sound.written was.sound.written in
+    let batch = one_batch top w inv.submitted same is.sound.written was.sound.written in
     let node : is.node ≡ was.node = on_lead top w dc d is ∙ ap (lead top dc) batch ∙ sym (on_lead top w dc e was) in
     was.sound.one d (subst (λ n. Among d (w.shards n).decided) node is.among) same
 
 -- and so has a stamp
-pub stamp_decision : (top : TopologyValue) (w : Run) → Inv top w → (dc : ℕ) (d e : Decision) → DecidedIn top w dc d → DecidedIn top w dc e → d.stamp ≡ e.stamp → d ≡ e
+pub stamp_decision : (top : TopologyValue) (w : Run) → Inv top w → (dc : ℕ) (d e : Decision) → DecidedIn top w dc d → DecidedIn top w dc e
+    → d.stamp ≡ e.stamp → d ≡ e
 stamp_decision top w inv dc d e is was same =
     one_decision top w inv dc d e is was
     (sym is.sound.written.txn
@@ -113,13 +119,14 @@ pub record IsAppliedIn (top : TopologyValue) (w : Run) (node : ℕ) (v : Applied
   pub stamp : decision.stamp ≡ v.stamp
   pub batch : v.part.batch ≡ part_on top decided.sound.batch node
 
-pub applied_in : (top : TopologyValue) (w : Run) → Inv top w → 0 < top.shards → (node : ℕ) (v : Applied) → AppliedSound top w node v → IsAppliedIn top w node v
+pub applied_in : (top : TopologyValue) (w : Run) → Inv top w → 0 < top.shards → (node : ℕ) (v : Applied) → AppliedSound top w node v
+    → IsAppliedIn top w node v
 applied_in top w inv some node v sound =
     let d = sound.decided.decision in
     let below = subst (λ s. s < top.shards) (sym sound.coordinator) (coordinator_below top.shards sound.batch some) in
     let has = in_decisions top w (dc_of top node) v.part.writer.shard d below sound.decided.among in
     let is = decided_in top w inv (dc_of top node) d has in
-    let same = one_batch top w inv.submitted sound.submission is.sound.submission v.part.writer.txn d.txn sound.batch is.sound.batch (sym sound.decided.txn) sound.written is.sound.written in
+    let same = one_batch top w inv.submitted (sym sound.decided.txn) sound.written is.sound.written in
     record {
       decision = d;
       among = has;
@@ -145,12 +152,14 @@ pub record IsEntry (top : TopologyValue) (w : Run) (dc : ℕ) (c : Committed) : 
 abbrev pub entry : Decision → List Change → Committed
 entry d batch = record { batch = batch; stamp = d.stamp; commit = d.commit }
 
-made_so : (top : TopologyValue) (w : Run) → Inv top w → (dc : ℕ) (d : Decision) (is : DecidedIn top w dc d) → committed_of w d ≡ Some (entry d is.sound.batch)
+made_so : (top : TopologyValue) (w : Run) → Inv top w → (dc : ℕ) (d : Decision) (is : DecidedIn top w dc d)
+    → committed_of w d ≡ Some (entry d is.sound.batch)
 made_so top w inv dc d is =
     ap (λ (o : Option (List Change)). option_map (λ batch. entry d batch) o)
     (written_batch top w inv.submitted is.sound.submission d.txn is.sound.batch is.sound.written)
 
-pub entry_among : (top : TopologyValue) (w : Run) → Inv top w → (dc : ℕ) (d : Decision) → Among d (decisions_in top w dc) → (is : DecidedIn top w dc d) → Among (entry d is.sound.batch) (history_of top w dc)
+pub entry_among : (top : TopologyValue) (w : Run) → Inv top w → (dc : ℕ) (d : Decision) → Among d (decisions_in top w dc)
+    → (is : DecidedIn top w dc d) → Among (entry d is.sound.batch) (history_of top w dc)
 entry_among top w inv dc d m is =
     contains_among (entry d is.sound.batch) (history_of top w dc)
     (given (committed_of w) (decisions_in top w dc) d (entry d is.sound.batch) (among_contains d (decisions_in top w dc) m) (made_so top w inv dc d is))

@@ -32,7 +32,8 @@ use Rattle.world.proofs.RowAlike.{AreAlike, alike_back, alike_rests}
 use Rattle.world.proofs.ReadTables.{node_of, right_alike}
 
 -- ---- what a read of a row rests on is one of the parts
-of_stamp : (q : Change → Bool) (applied : List Applied) (s : StampValue) → stamp_of (newest_of q (parts_of applied)) ≡ Some s → (a : Applied) × Contains applied a × (a.stamp ≡ s)
+of_stamp : (q : Change → Bool) (applied : List Applied) (s : StampValue) → stamp_of (newest_of q (parts_of applied)) ≡ Some s
+    → (a : Applied) × Contains applied a × (a.stamp ≡ s)
 of_stamp q applied s e = go (newest_of q (parts_of applied)) refl e
   where
     go : (o : Option Stamped) → newest_of q (parts_of applied) ≡ o → stamp_of o ≡ Some s → (a : Applied) × Contains applied a × (a.stamp ≡ s)
@@ -42,11 +43,13 @@ of_stamp q applied s e = go (newest_of q (parts_of applied)) refl e
         let same : x.stamp ≡ s = cc in
         (r.0, r.1, r.2 ∙ same)
 
-of_location : (applied : List Applied) (l : Location) (s : StampValue) → RestsOn (parts_of applied) l s → (a : Applied) × Contains applied a × (a.stamp ≡ s)
+of_location : (applied : List Applied) (l : Location) (s : StampValue) → RestsOn (parts_of applied) l s
+    → (a : Applied) × Contains applied a × (a.stamp ≡ s)
 of_location applied l s (inl c) = of_stamp (touches l) applied s c.1
 of_location applied l s (inr d) = of_stamp (is_row_deletion l.row) applied s d
 
-rested_part : (applied : List Applied) (r : Row) (p : Predicate) (s : StampValue) → RowRestsOn (parts_of applied) r p s → (a : Applied) × Contains applied a × (a.stamp ≡ s)
+rested_part : (applied : List Applied) (r : Row) (p : Predicate) (s : StampValue) → RowRestsOn (parts_of applied) r p s
+    → (a : Applied) × Contains applied a × (a.stamp ≡ s)
 rested_part applied r p s (inl (name, looked, rests)) = of_location applied (record { row = r; name = name }) s rests
 rested_part applied r p s (inr gone) = of_stamp (is_row_deletion r) applied s gone
 
@@ -65,7 +68,8 @@ module _ (top : TopologyValue) (w : Run) (inv : Inv top w) (some : 0 < top.shard
   home_is = dc_of_node top dc _ (key_below top.shards r.key some)
 
   -- what the read rests on in the row is the transaction of one of the row's writers
-  pub writer_of_row : (d : Decision) → Among d (decisions_in top w dc) → RowRestsOn (up_to time (history_of top w dc)) (row_of read r.key) read.predicate d.stamp
+  pub writer_of_row : (d : Decision) → Among d (decisions_in top w dc)
+      → RowRestsOn (up_to time (history_of top w dc)) (row_of read r.key) read.predicate d.stamp
       → (k : WriterValue) × Contains r.writers k × (k.txn ≡ d.txn)
   writer_of_row d has rests =
       let here = alike_rests (row_of read r.key) (up_to time (history_of top w dc)) (parts_of (applied_by time sound.seen)) read.predicate d.stamp alike rests in
@@ -97,7 +101,8 @@ module _ (top : TopologyValue) (w : Run) (inv : Inv top w) (some : 0 < top.shard
 
 -- ---- the read
 -- each transaction that a completed read rests on is that of a writer of its rows
-pub rests_on_written : (top : TopologyValue) (w : Run) → Inv top w → 0 < top.shards → (dc time : ℕ) (read : Read) (rows : List RowAt) → AnsweredFrom top w dc read time rows
+pub rests_on_written : (top : TopologyValue) (w : Run) → Inv top w → 0 < top.shards → (dc time : ℕ) (read : Read) (rows : List RowAt)
+    → AnsweredFrom top w dc read time rows
     → (u : TxnValue) → ReadRestsOn top w dc read time u → (k : WriterValue) × Contains (flat_map (λ r. r.writers) rows) k × (k.txn ≡ u)
 rests_on_written top w inv some dc time read rows from u (d, key, has, txn, asked, rests) =
     let m = map_contains (λ (r : RowAt). r.key) rows key (among_contains key (map (λ (r : RowAt). r.key) rows) (from.given key (contains_among key read.keys asked))) in
@@ -107,7 +112,8 @@ rests_on_written top w inv some dc time read rows from u (d, key, has, txn, aske
     (k.0, contains_flat (λ (r : RowAt). r.writers) rows r k.0 m.1 k.1, k.2 ∙ txn)
 
 -- and a read rests on the transaction of each writer of a row of an asked key
-pub written_is_rested_on : (top : TopologyValue) (w : Run) → Inv top w → 0 < top.shards → (dc time : ℕ) (read : Read) (rows : List RowAt) → AnsweredFrom top w dc read time rows
+pub written_is_rested_on : (top : TopologyValue) (w : Run) → Inv top w → 0 < top.shards → (dc time : ℕ) (read : Read) (rows : List RowAt)
+    → AnsweredFrom top w dc read time rows
     → (r : RowAt) (k : WriterValue) → Contains rows r → Contains read.keys r.key → Contains r.writers k → ReadRestsOn top w dc read time k.txn
 written_is_rested_on top w inv some dc time read rows from r k has asked wrote =
     let d = row_of_writer top w inv some dc time read r (from.right r (contains_among r rows has)) k wrote in

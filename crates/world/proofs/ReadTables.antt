@@ -45,14 +45,16 @@ answered top w inv c read time answer has is came =
     (inv.transcript c (contains_among c w.transcript has)).came
 
 -- what is right of a row, on the shard of its key, is what the history of the data centre makes of the row
-pub right_alike : (top : TopologyValue) (w : Run) → Inv top w → 0 < top.shards → (dc time : ℕ) (read : Read) (r : RowAt) (sound : RowAtSound top w (node_of top dc r.key) time read r)
+pub right_alike : (top : TopologyValue) (w : Run) → Inv top w → 0 < top.shards
+    → (dc time : ℕ) (read : Read) (r : RowAt) (sound : RowAtSound top w (node_of top dc r.key) time read r)
     → (h : History) → IsHistory top w dc h → AreAlike (row_of read r.key) (up_to time h) (parts_of (applied_by time sound.seen))
 right_alike top w inv some dc time read r sound h is =
     let below = key_below top.shards r.key some in
     complete_alike top w inv some (node_of top dc r.key) (row_of read r.key) (sym (shard_of_node top dc (shard_of_key top.shards r.key) below)) time sound.seen sound.complete h
     (subst (λ d. IsHistory top w d h) (sym (dc_of_node top dc (shard_of_key top.shards r.key) below)) is)
 
-pub right_columns : (top : TopologyValue) (w : Run) → Inv top w → 0 < top.shards → (dc time : ℕ) (read : Read) (r : RowAt) → RowAtSound top w (node_of top dc r.key) time read r
+pub right_columns : (top : TopologyValue) (w : Run) → Inv top w → 0 < top.shards → (dc time : ℕ) (read : Read) (r : RowAt)
+    → RowAtSound top w (node_of top dc r.key) time read r
     → (h : History) → IsHistory top w dc h → r.columns ≡ slice_of read.predicate (live_columns (up_to time h) (row_of read r.key))
 right_columns top w inv some dc time read r sound h is =
     sound.shown.columns
@@ -62,7 +64,8 @@ right_columns top w inv some dc time read r sound h is =
 abbrev pub answered_row : RowAt → AnsweredRow
 answered_row r = record { key = r.key; columns = r.columns }
 
-rows_right : (top : TopologyValue) (w : Run) → Inv top w → 0 < top.shards → (dc time : ℕ) (read : Read) (rows : List RowAt) → AnsweredFrom top w dc read time rows
+rows_right : (top : TopologyValue) (w : Run) → Inv top w → 0 < top.shards → (dc time : ℕ) (read : Read) (rows : List RowAt)
+    → AnsweredFrom top w dc read time rows
     → (h : History) → IsHistory top w dc h → AreRight read (λ k. h) time (map answered_row rows)
 rows_right top w inv some dc time read rows from h is =
     record {
@@ -79,7 +82,8 @@ rows_right top w inv some dc time read rows from h is =
     }
 
 pub one_table : (top : TopologyValue) (w : Run) → Inv top w → 0 < top.shards → (c : Completed) (read : Read) (time : ℕ) (answer : List AnsweredRow)
-    → Contains w.transcript c → c.op ≡ op.Read read → c.outcome ≡ outcome.Read time answer → (h : History) → IsHistory top w c.home h → answer ≡ meaning read h time
+    → Contains w.transcript c → c.op ≡ op.Read read → c.outcome ≡ outcome.Read time answer → (h : History) → IsHistory top w c.home h
+    → answer ≡ meaning read h time
 one_table top w inv some c read time answer has is came h history =
     let sound = answered top w inv c read time answer has is came in
     right_joined read (map answered_row sound.rows) answer sound.answer (λ k. h) time

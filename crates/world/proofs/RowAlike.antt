@@ -38,8 +38,10 @@ alike_rests r h k p s is rests =
     row_alike h k r p s (alike_live r h k is) (λ n. location_alike (record { row = r; name = n }) h k s (is.newest n) is.deletion) is.deletion rests
 
 -- a shard's complete parts and the history of its data centre, in any order
-pub complete_alike : (top : TopologyValue) (w : Run) → Inv top w → 0 < top.shards → (node : ℕ) (row : Row) → shard_of_key top.shards row.key ≡ shard_of top node → (time : ℕ) (seen : List Applied)
-    → Complete top w node row time seen → (h : History) → IsHistory top w (dc_of top node) h → AreAlike row (up_to time h) (parts_of (applied_by time seen))
+pub complete_alike : (top : TopologyValue) (w : Run) → Inv top w → 0 < top.shards → (node : ℕ) (row : Row)
+    → shard_of_key top.shards row.key ≡ shard_of top node → (time : ℕ) (seen : List Applied)
+    → Complete top w node row time seen → (h : History) → IsHistory top w (dc_of top node) h
+    → AreAlike row (up_to time h) (parts_of (applied_by time seen))
 complete_alike top w inv some node row here time seen complete h is =
     record {
       newest = λ n. shown_on_row top w inv some node row here time seen complete (touches (record { row = row; name = n })) (touches_test (record { row = row; name = n })) h is;

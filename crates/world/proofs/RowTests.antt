@@ -37,7 +37,8 @@ alone q cs = go (last_of q cs)
     go None = refl
     go (Some m) = refl
 
-same_last : (q : Change → Bool) (cs ds : List Change) → newest_of q (committed cs nothing 0 ∷ []) ≡ newest_of q (committed ds nothing 0 ∷ []) → last_of q cs ≡ last_of q ds
+same_last : (q : Change → Bool) (cs ds : List Change) → newest_of q (committed cs nothing 0 ∷ []) ≡ newest_of q (committed ds nothing 0 ∷ [])
+    → last_of q cs ≡ last_of q ds
 same_last q cs ds e = sym (alone q cs) ∙ ap (λ (o : Option Stamped). option_map (λ x. x.mutation) o) e ∙ alone q ds
 
 pub touches_test : (l : Location) → IsRowTest l.row (touches l)
@@ -58,7 +59,8 @@ deletion_test r =
 own_shard : (shards s : ℕ) (r : Row) (c : Change) → shard_of shards r.key ≡ s → is_same_row r c.row ≡ true → is_on shards s c.row.key ≡ true
 own_shard shards s r c here same = ap (λ (z : Row). is_on shards s z.key) (sym (one_row r c.row same)) ∙ eq-eqb (shard_of shards r.key) s here
 
-pub last_part : (shards s : ℕ) (r : Row) (q : Change → Bool) → IsRowTest r q → shard_of shards r.key ≡ s → (changes : List Change) → last_of q (part_for shards changes s) ≡ last_of q changes
+pub last_part : (shards s : ℕ) (r : Row) (q : Change → Bool) → IsRowTest r q → shard_of shards r.key ≡ s → (changes : List Change)
+    → last_of q (part_for shards changes s) ≡ last_of q changes
 last_part shards s r q test here [] = refl
 last_part shards s r q test here (c ∷ cs) = go (is_on shards s c.row.key) refl (last_part shards s r q test here cs)
   where
@@ -87,18 +89,21 @@ last_among q (c ∷ cs) m e = go (last_of q cs) (q c) refl (last_among q cs) e
     go None true f ih g = (c, inl refl, f)
     go None false f ih g = absurd (cc)
 
-pub has_row : (r : Row) (q : Change → Bool) → IsRowTest r q → (cs : List Change) (m : Mutation) → last_of q cs ≡ Some m → list_any (λ c. is_same_row r c.row) cs ≡ true
+pub has_row : (r : Row) (q : Change → Bool) → IsRowTest r q → (cs : List Change) (m : Mutation) → last_of q cs ≡ Some m
+    → list_any (λ c. is_same_row r c.row) cs ≡ true
 has_row r q test cs m e =
     let c = last_among q cs m e in
     any_among (λ c. is_same_row r c.row) cs c.0 c.1 (test.own c.0 c.2)
 
-touched : (shards s : ℕ) (r : Row) (q : Change → Bool) → IsRowTest r q → shard_of shards r.key ≡ s → (cs : List Change) (m : Mutation) → last_of q cs ≡ Some m → is_touched shards cs s ≡ true
+touched : (shards s : ℕ) (r : Row) (q : Change → Bool) → IsRowTest r q → shard_of shards r.key ≡ s → (cs : List Change) (m : Mutation)
+    → last_of q cs ≡ Some m → is_touched shards cs s ≡ true
 touched shards s r q test here cs m e =
     let c = last_among q cs m e in
     any_among (λ c. is_on shards s c.row.key) cs c.0 c.1 (own_shard shards s r c.0 here (test.own c.0 c.2))
 
 -- its row's shard is its coordinator or one of its cohorts
-pub leads_or_follows : (shards s : ℕ) (r : Row) (q : Change → Bool) → IsRowTest r q → shard_of shards r.key ≡ s → s < shards → (batch : List Change) (m : Mutation) → last_of q batch ≡ Some m
+pub leads_or_follows : (shards s : ℕ) (r : Row) (q : Change → Bool) → IsRowTest r q → shard_of shards r.key ≡ s → s < shards
+    → (batch : List Change) (m : Mutation) → last_of q batch ≡ Some m
     → (s ≡ coordinator_of shards batch) ⊎ Among s (cohorts_of shards batch)
 leads_or_follows shards s r q test here below batch m e =
     by_cases (s == coordinator_of shards batch)

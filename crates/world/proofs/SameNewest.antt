@@ -35,7 +35,8 @@ pub record IsNewest (q : Change → Bool) (h : History) (x : Stamped) : Type 0 w
   pub commit : entry.commit ≡ x.commit
   pub top : (c : Committed) (m : Mutation) → Among c h → last_of q c.batch ≡ Some m → is_older x.stamp c.stamp ≡ false
 
-none_go : (q : Change → Bool) (c : Committed) (o : Option Mutation) (n : Option Stamped) → newer_of (option_map (stamped c) o) n ≡ None → (o ≡ None) × (n ≡ None)
+none_go : (q : Change → Bool) (c : Committed) (o : Option Mutation) (n : Option Stamped) → newer_of (option_map (stamped c) o) n ≡ None
+    → (o ≡ None) × (n ≡ None)
 none_go q c None n e = (refl, e)
 none_go q c (Some m) None e = absurd (cc)
 none_go q c (Some m) (Some y) e = by (is_older c.stamp y.stamp) e
@@ -68,7 +69,8 @@ own q b h m x e is no_newer =
     by st c k (inr j) f = ap (λ (s : StampValue). is_older s c.stamp) (sym st) ∙ no_newer c k j f
 
 -- or it is that of the rest
-of_rest : (q : Change → Bool) (b : Committed) (h : History) (x : Stamped) → ((m : Mutation) → last_of q b.batch ≡ Some m → is_older x.stamp b.stamp ≡ false)
+of_rest : (q : Change → Bool) (b : Committed) (h : History) (x : Stamped)
+    → ((m : Mutation) → last_of q b.batch ≡ Some m → is_older x.stamp b.stamp ≡ false)
     → IsNewest q h x → IsNewest q (b ∷ h) x
 of_rest q b h x first n =
     record {
@@ -97,7 +99,8 @@ newest_some q (b ∷ h) x e = go (last_of q b.batch) (newest_of q h) refl refl (
         let same : stamped b m ≡ x = cc in
         own q b h m x f same (λ c k j is. not_over b.stamp y.stamp c.stamp ge (n.top c k j is))
 
-    go : (o : Option Mutation) (n : Option Stamped) → last_of q b.batch ≡ o → newest_of q h ≡ n → ((y : Stamped) → newest_of q h ≡ Some y → IsNewest q h y)
+    go : (o : Option Mutation) (n : Option Stamped) → last_of q b.batch ≡ o → newest_of q h ≡ n
+        → ((y : Stamped) → newest_of q h ≡ Some y → IsNewest q h y)
         → newer_of (option_map (stamped b) o) n ≡ Some x → IsNewest q (b ∷ h) x
     go None n f g ih k = of_rest q b h x (λ m is. absurd (cc)) (ih x (g ∙ k))
     go (Some m) None f g ih k =

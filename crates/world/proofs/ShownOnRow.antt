@@ -28,11 +28,13 @@ use Rattle.world.proofs.RowTests.{IsRowTest, last_in_part, has_row, leads_or_fol
 use Rattle.world.proofs.DecidedIn.{DecidedIn, one_batch, one_decision, on_lead, IsAppliedIn, applied_in, IsEntry, entry, entry_among, entry_is, one_each}
 
 -- ---- a history in any order
-among_history : (top : TopologyValue) (w : Run) (dc : ℕ) (h : History) → IsHistory top w dc h → (c : Committed) → Among c (history_of top w dc) → Among c h
+among_history : (top : TopologyValue) (w : Run) (dc : ℕ) (h : History) → IsHistory top w dc h → (c : Committed) → Among c (history_of top w dc)
+    → Among c h
 among_history top w dc h is c m =
     contains_among c h (Contains-permutation (history_of top w dc) h c (IsPermutation-sym h (history_of top w dc) is) (among_contains c (history_of top w dc) m))
 
-history_among : (top : TopologyValue) (w : Run) (dc : ℕ) (h : History) → IsHistory top w dc h → (c : Committed) → Among c h → Among c (history_of top w dc)
+history_among : (top : TopologyValue) (w : Run) (dc : ℕ) (h : History) → IsHistory top w dc h → (c : Committed) → Among c h
+    → Among c (history_of top w dc)
 history_among top w dc h is c m =
     contains_among c (history_of top w dc) (Contains-permutation h (history_of top w dc) c is (among_contains c h m))
 
@@ -74,7 +76,7 @@ module _ (top : TopologyValue) (w : Run) (inv : Inv top w) (some : 0 < top.shard
   sees_prepared d is m e le before =
       let p = before.part in
       let sound = (inv.shards node).prepared p before.among in
-      let batch = one_batch top w inv.submitted sound.submission is.sound.submission p.txn d.txn sound.batch is.sound.batch before.txn sound.written is.sound.written in
+      let batch = one_batch top w inv.submitted before.txn sound.written is.sound.written in
       let rows : p.rows ≡ part_on top is.sound.batch node = sound.rows ∙ ap (λ (b : List Change). part_on top b node) batch in
       let touches : touches_row row p ≡ true = has_row row q test p.rows m (ap (last_of q) rows ∙ part_last is.sound.batch ∙ e) in
       let coordinator : near top node p.coordinator ≡ is.node =
@@ -88,7 +90,8 @@ module _ (top : TopologyValue) (w : Run) (inv : Inv top w) (some : 0 < top.shard
       ]
 
   -- what is decided in the data centre up to the time is seen
-  sees_it : (d : Decision) (is : DecidedIn top w (dc_of top node) d) (m : Mutation) → last_of q is.sound.batch ≡ Some m → d.commit ≤ time → Sees seen d.txn
+  sees_it : (d : Decision) (is : DecidedIn top w (dc_of top node) d) (m : Mutation) → last_of q is.sound.batch ≡ Some m → d.commit ≤ time
+      → Sees seen d.txn
   sees_it d is m e le =
       elim (leads_or_follows top.shards (shard_of top node) row q test here (shard_below top node some) is.sound.batch m e) [
         | inl leads ↦
@@ -113,8 +116,7 @@ module _ (top : TopologyValue) (w : Run) (inv : Inv top w) (some : 0 < top.shard
       let v = s.0 in
       let was = seen_in v s.1 in
       let same : was.decision ≡ d = one_decision top w inv (dc_of top node) was.decision d was.decided is.decided (was.txn ∙ s.2) in
-      let batch = one_batch top w inv.submitted was.decided.sound.submission is.decided.sound.submission was.decision.txn d.txn was.decided.sound.batch is.decided.sound.batch
-      (was.txn ∙ s.2) was.decided.sound.written is.decided.sound.written in
+      let batch = one_batch top w inv.submitted (was.txn ∙ s.2) was.decided.sound.written is.decided.sound.written in
       let commit : v.commit ≡ c.commit = sym was.commit ∙ ap (λ (a : Decision). a.commit) same ∙ sym is.commit in
       let stamp : v.stamp ≡ c.stamp = sym was.stamp ∙ ap (λ (a : Decision). a.stamp) same ∙ sym is.stamp in (
         part_entry v,
