@@ -1,6 +1,6 @@
 -- What the coordinators of a data centre decided, and the entries that this makes in its history: a stamp names one.
-use Rattle.std.proofs.Common.{◌≡◌, ◌∙◌, ℕ, ◌<◌, sym, ap, subst, refl, Bool, true, false, List, [], ◌∷◌, Option, Some, None, find}
-use Rattle.std.specs.Prelude.{option_map, option_and_then, Contains}
+use Rattle.std.proofs.Common.{◌≡◌, ◌∙◌, ℕ, ◌<◌, sym, ap, subst, refl, Bool, List, Option, Some, None, find}
+use Rattle.std.specs.Prelude.{option_map, option_and_then}
 use Rattle.std.specs.List.{range_with_len}
 use Rattle.std.proofs.lemmas.Bool.{false≢true}
 use Rattle.logical_time.specs.Stamps.{StampValue, TxnValue}
@@ -10,7 +10,6 @@ use Rattle.store.specs.declared.part.Applied.{Applied}
 use Rattle.store.proofs.Lists.{given, given_only}
 use Rattle.planner.proofs.Members.{contains_flat, flat_contains, contains_below}
 use Rattle.messages.specs.declared.op.Op.{Op}
-use Rattle.messages.specs.declared.op.Op.TheVariants as op
 use Rattle.messages.specs.Topology.{TopologyValue, dc_of, shard_node}
 use Rattle.messages.specs.Words.{is_same_txn}
 use Rattle.messages.specs.Shard.{Decision}

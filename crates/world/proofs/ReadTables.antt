@@ -18,13 +18,12 @@ use Rattle.messages.specs.declared.op.Op.{Op}
 use Rattle.messages.specs.declared.op.Op.TheVariants as op
 use Rattle.messages.specs.declared.outcome.Outcome.{Outcome}
 use Rattle.messages.specs.declared.outcome.Outcome.TheVariants as outcome
-use Rattle.messages.specs.Topology.{TopologyValue, dc_of, shard_of, shard_node}
-use Rattle.messages.specs.Rounds.{answer_of}
+use Rattle.messages.specs.Topology.{TopologyValue, shard_node}
 use Rattle.world.specs.Run.{Run, Completed}
 use Rattle.world.specs.Histories.{IsHistory}
-use Rattle.world.proofs.Among.{Among, among_contains, contains_among}
+use Rattle.world.proofs.Among.{among_contains, contains_among}
 use Rattle.world.proofs.Facts.{RowAtSound}
-use Rattle.world.proofs.Invariant.{AnsweredFrom, AnsweredSound, EndSound, CompletedSound, Inv}
+use Rattle.world.proofs.Invariant.{AnsweredFrom, AnsweredSound, EndSound, Inv}
 use Rattle.world.proofs.NodeNumbers.{key_below, dc_of_node, shard_of_node}
 use Rattle.world.proofs.RowAlike.{AreAlike, alike_live, complete_alike}
 

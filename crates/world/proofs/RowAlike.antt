@@ -1,6 +1,6 @@
 -- Two histories that make the same of a row: they show the same columns there, and a read rests on the same. A shard's
 -- complete parts and its data centre's history are such.
-use Rattle.std.proofs.Common.{◌≡◌, ℕ, ◌<◌, sym, ap, subst, List}
+use Rattle.std.proofs.Common.{◌≡◌, ℕ, ◌<◌, sym, ap, List}
 use Rattle.logical_time.specs.Stamps.{StampValue}
 use Rattle.column_family.specs.declared.batch.Row.{Row}
 use Rattle.column_family.specs.Location.{touches, is_row_deletion}

@@ -1,7 +1,7 @@
 -- Tests of changes of one row: what a batch last does under one, its normal form does too, and its part on the row's
 -- shard.
 use Rattle.std.proofs.Common.{◌≡◌, ◌∙◌, ℕ, ◌<◌, sym, ap, refl, Bool, true, false, cond, not, ◌&&◌, List, [], ◌∷◌, Option, Some, None, ◌⊎◌, inl, inr, eq-eqb, eqb-true}
-use Rattle.std.specs.Prelude.{◌==◌, if◌then◌else◌, option_map, filter}
+use Rattle.std.specs.Prelude.{◌==◌, if◌then◌else◌, option_map}
 use Rattle.std.specs.List.{list_any, range_with_len}
 use Rattle.std.specs.Option.{option_or}
 use Rattle.std.proofs.lemmas.Bool.{false≢true, and_parts}

@@ -1,31 +1,28 @@
 -- Where a shard's parts are complete for a row up to a time, they make of the row what the history of the shard's data
 -- centre makes of it.
-use Rattle.std.proofs.Common.{◌≡◌, ◌∙◌, ℕ, ◌<◌, ◌≤◌, sym, ap, subst, refl, Bool, true, nat_le, List, Option, Some, ◌⊎◌, inl, inr, arith, leb-true}
-use Rattle.std.specs.Prelude.{Contains}
-use Rattle.std.specs.List.{list_any}
+use Rattle.std.proofs.Common.{◌≡◌, ◌∙◌, ℕ, ◌<◌, ◌≤◌, sym, ap, subst, Bool, true, nat_le, List, Some, inl, inr, arith, leb-true}
 use Rattle.std.proofs.lemmas.List.Sorted.{Contains-permutation, IsPermutation-sym}
 use Rattle.column_family.specs.declared.batch.Row.{Row}
 use Rattle.column_family.specs.declared.batch.Change.{Change}
 use Rattle.column_family.specs.declared.batch.Committed.{Committed}
 use Rattle.column_family.specs.declared.batch.Mutation.{Mutation}
-use Rattle.column_family.specs.Location.{is_same_row}
 use Rattle.column_family.specs.History.{History, up_to, last_of, newest_of}
 use Rattle.store.specs.declared.part.Applied.{Applied}
 use Rattle.store.specs.Part.{committed_of as part_entry, history_of as parts_of, applied_by}
 use Rattle.planner.specs.Partition.{shard_of as shard_of_key}
-use Rattle.planner.specs.Plan.{coordinator_of, cohorts_of}
+use Rattle.planner.specs.Plan.{coordinator_of}
 use Rattle.messages.specs.Topology.{TopologyValue, dc_of, shard_of, shard_node}
-use Rattle.messages.specs.Shard.{PreparedPart, Decision}
+use Rattle.messages.specs.Shard.{Decision}
 use Rattle.messages.specs.Rows.{touches_row}
 use Rattle.world.specs.Run.{Run}
 use Rattle.world.specs.Histories.{history_of, IsHistory}
 use Rattle.world.proofs.Among.{Among, among_contains, contains_among, filter_only, filter_among, map_only, map_among}
-use Rattle.world.proofs.Facts.{near, lead, part_on, PreparedBefore, PreparedSound, Excluded, Sees, Complete}
+use Rattle.world.proofs.Facts.{near, part_on, PreparedBefore, Sees, Complete}
 use Rattle.world.proofs.Invariant.{Inv}
 use Rattle.world.proofs.NodeNumbers.{shard_below, own_node}
 use Rattle.world.proofs.SameNewest.{HasEach, OneEach, same_newest}
 use Rattle.world.proofs.RowTests.{IsRowTest, last_in_part, has_row, leads_or_follows}
-use Rattle.world.proofs.DecidedIn.{DecidedIn, one_batch, one_decision, on_lead, IsAppliedIn, applied_in, IsEntry, entry, entry_among, entry_is, one_each}
+use Rattle.world.proofs.DecidedIn.{DecidedIn, one_batch, one_decision, on_lead, IsAppliedIn, applied_in, entry, entry_among, entry_is, one_each}
 
 -- ---- a history in any order
 among_history : (top : TopologyValue) (w : Run) (dc : ℕ) (h : History) → IsHistory top w dc h → (c : Committed) → Among c (history_of top w dc)
