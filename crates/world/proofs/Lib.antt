@@ -12,3 +12,11 @@ pub mod Causal
 pub mod Pasts
 pub mod About
 pub mod Underway
+pub mod SameNewest
+pub mod RowTests
+pub mod NodeNumbers
+pub mod DecidedIn
+pub mod ShownOnRow
+pub mod RowAlike
+pub mod ReadTables
+pub mod ReadRests
