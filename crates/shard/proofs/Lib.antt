@@ -1,0 +1,4 @@
+pub mod Lists
+pub mod OneShard
+pub mod Shown
+pub mod Untouched
