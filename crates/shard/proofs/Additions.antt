@@ -1,9 +1,9 @@
 -- What a shard knows goes on holding when a part is prepared or applied, and a ballot begun or decided.
-use Rattle.std.proofs.Common.{◌≡◌, ◌∙◌, sym, ap, subst, refl, ℕ, ◌≤◌, ◌⊎◌, inl, inr, Bool, true, false, List, [], ◌∷◌, ◌++◌, arith}
+use Rattle.std.proofs.Common.{◌≡◌, ◌∙◌, sym, ap, subst, refl, ℕ, ◌≤◌, ◌⊎◌, inl, inr, true, false, List, [], ◌∷◌, ◌++◌, arith}
 use Rattle.std.specs.Prelude.{Contains}
 use Rattle.std.specs.Ordering.{is_eq}
 use Rattle.std.proofs.lemmas.List.Elements.{Contains-append_left, Contains-push_cases}
-use Rattle.logical_time.specs.Stamps.{TxnValue, StampValue, stamp_cmp}
+use Rattle.logical_time.specs.Stamps.{TxnValue, stamp_cmp}
 use Rattle.column_family.specs.Normal.{IsNormal}
 use Rattle.store.specs.declared.part.Applied.{Applied}
 use Rattle.store.specs.Keeps.{IsNewStamp}
@@ -15,7 +15,7 @@ use Rattle.messages.specs.Shard.{ShardState, Own, PreparedPart, BegunBallot, Dec
 use Rattle.messages.specs.Known.{is_applied}
 use Rattle.messages.specs.Replication.{is_ready}
 use Rattle.messages.specs.Honest.{IsHonest, StampedTxn, stamps_met}
-use Rattle.shard.specs.Sound.{IsBallot, IsDecided, IsCohorts, IsLed, IsFollowed, Holds, Onward}
+use Rattle.shard.specs.Sound.{IsDecided, IsCohorts, IsLed, IsFollowed, Holds, Onward}
 use Rattle.shard.proofs.Lists.{any_has, any_none, same_if_equal, same_stamp, no_truth}
 use Rattle.shard.proofs.Grow.{grows_beside, with_prepared, grows_prepared, with_applied, IsLate, grows_applied, wait_grows}
 

@@ -1,29 +1,27 @@
 -- Begin, Prepare, Yes, Commit, At, NotBy and Check.
-use Rattle.std.proofs.Common.{◌≡◌, ◌∙◌, sym, ap, subst, refl, ℕ, ◌<◌, ◌≤◌, ◌⊎◌, inl, inr, Bool, true, false, ◌&&◌, ◌||◌, cond, nat_le, List, [], ◌∷◌, ◌++◌, map, Option, Some, None, arith}
-use Rattle.std.specs.Prelude.{filter, find, if◌then◌else◌, is_some, Contains}
+use Rattle.std.proofs.Common.{◌≡◌, subst, refl, ℕ, ◌<◌, inl, inr, Bool, true, false, ◌||◌, List, [], ◌∷◌, ◌++◌, map, Option, Some, None, arith}
+use Rattle.std.specs.Prelude.{filter, is_some}
 use Rattle.std.specs.List.{list_any}
-use Rattle.std.proofs.lemmas.Bool.Decides.{nat_tests}
-use Rattle.std.proofs.lemmas.List.Elements.{Contains-append_left, Contains-append_right, Contains-push}
+use Rattle.std.proofs.lemmas.List.Elements.{Contains-append_right, Contains-push}
 use Rattle.logical_time.specs.Stamps.{TxnValue, StampValue}
 use Rattle.column_family.specs.declared.batch.Change.{Change}
 use Rattle.column_family.specs.Normal.{IsNormal}
 use Rattle.column_family.proofs.Options.{neither}
 use Rattle.planner.proofs.Members.{contains_map}
 use Rattle.store.specs.declared.part.Applied.{Applied}
-use Rattle.messages.specs.declared.body.Body.TheVariants as body
 use Rattle.messages.specs.declared.envelope.Envelope.{Envelope}
-use Rattle.messages.specs.Topology.{TopologyValue, dc_of, shard_of, shard_node}
-use Rattle.messages.specs.Words.{is_same_txn, envelope, other_dcs}
-use Rattle.messages.specs.Shard.{ShardState, ShardStep, Role, Own, Cohort, Replica, PreparedPart, BegunBallot, Vote, Decision, KeptPart, KeptBallot, Asker, WaitingRead}
-use Rattle.messages.specs.Known.{decision_of, prepared_part, kept_part, kept_ballot, standing_ballot, is_known, is_applied, has_vote, is_awaited, all_voted}
-use Rattle.messages.specs.Commits.{applied_part, commits, stamp_for, announcements, dep_oks, decide, hold, begin_if, prepare_part, prepare_if, with_vote, counted_if, vote_if, early_if, yes_for, repl_parts, apply_part, commit_if, commit_for, check_for, on_begin, on_prepare, on_yes, on_commit, on_not_by, on_check}
+use Rattle.messages.specs.Topology.{TopologyValue, shard_of}
+use Rattle.messages.specs.Words.{is_same_txn, other_dcs}
+use Rattle.messages.specs.Shard.{ShardState, Role, Own, Cohort, PreparedPart, BegunBallot, Vote, Decision, KeptPart, KeptBallot, Asker}
+use Rattle.messages.specs.Known.{decision_of, prepared_part, kept_part, kept_ballot, is_known, is_applied, all_voted}
+use Rattle.messages.specs.Commits.{applied_part, commits, stamp_for, announcements, dep_oks, decide, hold, begin_if, prepare_part, prepare_if, on_begin, on_prepare}
 use Rattle.messages.specs.Honest.{Told, all_told, IsHonest, StampedTxn}
-use Rattle.shard.specs.Sound.{IsBallot, IsDecided, IsKeptBallot, IsKeptPart, IsCohorts, IsLed, IsFollowed, BodySound, Holds, Onward, Able, IsWithin}
-use Rattle.shard.proofs.Lists.{no_truth, or_left, or_right, same_txn, same_if_equal, any_found, any_has, any_none, found, found_some, each_joined, each_mapped}
+use Rattle.shard.specs.Sound.{IsDecided, IsCohorts, IsLed, IsFollowed, BodySound, Holds, Able, IsWithin}
+use Rattle.shard.proofs.Lists.{no_truth, same_txn, same_if_equal, any_has, any_none, found_some, each_joined, each_mapped}
 use Rattle.shard.proofs.Grow.{with_prepared, with_applied}
 use Rattle.shard.proofs.Updates.{aside}
 use Rattle.shard.proofs.Additions.{prepare_one, with_ballot, AreReady, begin_one, with_decision, decide_one, stamped_txn, apply_one}
-use Rattle.shard.proofs.LetGo.{able_after, quiet_able, answer_able, IsCleared, ArePlain, let_go_able}
+use Rattle.shard.proofs.LetGo.{able_after, quiet_able, ArePlain, let_go_able}
 
 -- ## What isn't known
 

@@ -1,5 +1,5 @@
 -- What is settled, complete or sound goes on being so.
-use Rattle.std.proofs.Common.{◌≡◌, ◌∙◌, sym, ap, subst, refl, ℕ, ◌<◌, ◌≤◌, ◌⊎◌, inl, inr, Bool, true, false, List, [], ◌∷◌, ◌++◌, arith}
+use Rattle.std.proofs.Common.{◌≡◌, ◌∙◌, ap, subst, ℕ, ◌<◌, ◌≤◌, ◌⊎◌, inl, inr, true, false, List, [], ◌∷◌, ◌++◌, arith}
 use Rattle.std.specs.Prelude.{Contains}
 use Rattle.std.specs.List.{list_any}
 use Rattle.std.proofs.lemmas.List.{append_assoc}
@@ -18,9 +18,9 @@ use Rattle.messages.specs.declared.envelope.Envelope.{Envelope}
 use Rattle.messages.specs.Words.{is_same_txn}
 use Rattle.messages.specs.Shard.{ShardState, PreparedPart, WaitingRead}
 use Rattle.messages.specs.Known.{is_applied}
-use Rattle.messages.specs.Rows.{row_of, touches_row}
+use Rattle.messages.specs.Rows.{row_of}
 use Rattle.messages.specs.Honest.{Told, all_told}
-use Rattle.shard.specs.Sound.{has_row, IsExcluded, IsSettled, IsComplete, Grows, RowNowSound, RowAtSound, NowSound, AtSound, BodySound, AreSound, WaitSound}
+use Rattle.shard.specs.Sound.{has_row, IsSettled, Grows, RowNowSound, RowAtSound, BodySound, AreSound, WaitSound}
 use Rattle.shard.proofs.Lists.{any_more, each_weaker, no_truth}
 
 -- ## States

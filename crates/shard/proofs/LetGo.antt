@@ -1,11 +1,11 @@
 -- Steps that change little, and steps that let waiting reads go.
-use Rattle.std.proofs.Common.{◌≡◌, ◌∙◌, sym, ap, subst, refl, ℕ, ◌<◌, ◌≤◌, ◌⊎◌, inl, inr, Bool, true, false, not, nat_lt, List, [], ◌∷◌, ◌++◌, map, arith, append-nil}
+use Rattle.std.proofs.Common.{◌≡◌, sym, ap, subst, refl, ℕ, ◌<◌, ◌≤◌, ◌⊎◌, inl, inr, Bool, true, false, not, nat_lt, List, [], ◌∷◌, map, arith, append-nil}
 use Rattle.std.specs.Prelude.{filter, if◌then◌else◌, Contains}
 use Rattle.std.proofs.lemmas.Bool.Decides.{nat_tests}
 use Rattle.logical_time.specs.Stamps.{TxnValue}
 use Rattle.column_family.specs.declared.batch.Row.{Row}
 use Rattle.planner.proofs.Members.{map_contains}
-use Rattle.store.proofs.Lists.{none_in_empty, kept, kept_only, map_of_map}
+use Rattle.store.proofs.Lists.{none_in_empty, kept, kept_only}
 use Rattle.messages.specs.declared.rows_at.RowAt.{RowAt}
 use Rattle.messages.specs.declared.rows_at.AtTime.TheVariants as at_time
 use Rattle.messages.specs.declared.body.Body.TheVariants as body

@@ -1,11 +1,11 @@
 -- What lists contain, and what the tests of them tell.
-use Rattle.std.proofs.Common.{◌≡◌, ◌∙◌, sym, ap, subst, refl, Bool, true, false, cond, ◌&&◌, ◌||◌, not, ◌⊎◌, inl, inr, List, [], ◌∷◌, ◌++◌, map, Option, Some, None, arith}
+use Rattle.std.proofs.Common.{◌≡◌, ◌∙◌, sym, ap, subst, refl, Bool, true, false, cond, ◌&&◌, ◌||◌, not, ◌⊎◌, inl, inr, List, [], ◌∷◌, ◌++◌, map, Some, arith}
 use Rattle.std.specs.Prelude.{find, is_some, Contains}
 use Rattle.std.specs.List.{list_any, list_all, AllByRecursion}
 use Rattle.std.specs.Ordering.{is_eq}
 use Rattle.std.proofs.lemmas.Bool.Decides.{nat_tests}
 use Rattle.std.proofs.lemmas.List.Folds.{list_any-append}
-use Rattle.logical_time.specs.Stamps.{TxnValue, StampValue, txn_cmp, stamp_cmp}
+use Rattle.logical_time.specs.Stamps.{TxnValue, StampValue, stamp_cmp}
 use Rattle.column_family.proofs.Options.{both_true, either_true}
 use Rattle.store.proofs.Lists.{none_in_empty, first_or_rest, contains_first, contains_rest}
 use Rattle.messages.specs.Words.{is_same_txn}

@@ -1,6 +1,5 @@
 -- One shard is right: what it sent is right against all that it applied, later events included.
-use Rattle.std.proofs.Common.{◌≡◌, sym, subst, ℕ, ◌<◌, ◌≤◌, List, arith}
-use Rattle.std.specs.Prelude.{Contains}
+use Rattle.std.proofs.Common.{sym, subst, ℕ, List, arith}
 use Rattle.slice.specs.declared.read.Read.{Read}
 use Rattle.store.specs.declared.part.Applied.{Applied}
 use Rattle.store.specs.Part.{IsRightPart}
@@ -8,15 +7,13 @@ use Rattle.store.specs.Keeps.{AreApart}
 use Rattle.store.proofs.FromEvt.{right_from_evt}
 use Rattle.messages.specs.declared.rows_now.RowNow.{RowNow}
 use Rattle.messages.specs.declared.rows_at.RowAt.{RowAt}
-use Rattle.messages.specs.declared.rows_at.AtTime.TheVariants as at
-use Rattle.messages.specs.declared.body.Body.TheVariants as body
 use Rattle.messages.specs.declared.envelope.Envelope.{Envelope}
 use Rattle.messages.specs.Topology.{TopologyValue}
 use Rattle.messages.specs.Shard.{ShardState}
 use Rattle.messages.specs.Rows.{row_of}
 use Rattle.messages.specs.Honest.{IsHonest}
 use Rattle.shard.specs.Events.{ShardEvent, fresh_shard, shard_run, envelopes_handled}
-use Rattle.shard.specs.Right.{part_now, part_then, IsRightNow, IsRightAt, AnswersNow, AnswersAt, IsRightShard}
+use Rattle.shard.specs.Right.{part_now, part_then, IsRightNow, IsRightAt, IsRightShard}
 use Rattle.shard.specs.Sound.{RowNowSound, RowAtSound, BodySound}
 use Rattle.shard.proofs.Lists.{each_contained}
 use Rattle.shard.proofs.Untouched.{right_stays}

@@ -1,10 +1,10 @@
 -- Read and ReadAt.
-use Rattle.std.proofs.Common.{◌≡◌, ◌∙◌, sym, ap, subst, refl, ℕ, ◌<◌, ◌≤◌, ◌⊎◌, inl, inr, Bool, true, false, not, ◌&&◌, nat_lt, List, [], ◌∷◌, ◌++◌, map, arith, append-nil}
-use Rattle.std.specs.Prelude.{filter, Contains}
+use Rattle.std.proofs.Common.{◌≡◌, sym, ap, subst, refl, ℕ, ◌<◌, ◌≤◌, ◌⊎◌, inl, inr, Bool, true, false, not, ◌&&◌, nat_lt, List, [], ◌∷◌, ◌++◌, map, arith, append-nil}
+use Rattle.std.specs.Prelude.{Contains}
 use Rattle.std.specs.List.{list_any}
 use Rattle.std.proofs.lemmas.Bool.Decides.{nat_tests}
 use Rattle.std.proofs.lemmas.List.Elements.{Contains-push_cases}
-use Rattle.logical_time.specs.Stamps.{TxnValue, WriterValue}
+use Rattle.logical_time.specs.Stamps.{WriterValue}
 use Rattle.slice.specs.declared.read.Read.{Read}
 use Rattle.planner.proofs.Members.{contains_map, map_contains}
 use Rattle.store.proofs.Lists.{none_in_empty, kept}
@@ -13,14 +13,14 @@ use Rattle.messages.specs.declared.rows_at.AtTime.TheVariants as at_time
 use Rattle.messages.specs.declared.body.Body.TheVariants as body
 use Rattle.messages.specs.declared.envelope.Envelope.{Envelope}
 use Rattle.messages.specs.Topology.{TopologyValue}
-use Rattle.messages.specs.Words.{envelope, in_writer_order}
-use Rattle.messages.specs.Shard.{ShardState, PreparedPart, WaitingRead}
+use Rattle.messages.specs.Words.{envelope}
+use Rattle.messages.specs.Shard.{ShardState, PreparedPart}
 use Rattle.messages.specs.Known.{is_applied}
 use Rattle.messages.specs.Rows.{row_of, touches_row, marks_on, least_mark, row_now}
 use Rattle.messages.specs.Reads.{part_at, marks_below, asked_below, check_of, is_waiting, waiting_read, read_at_of, read_at_if, on_read, on_read_at}
 use Rattle.messages.proofs.Greatest.{mark_below_clock, mark_below_each}
 use Rattle.messages.proofs.WritersInOrder.{writers_stay}
-use Rattle.shard.specs.Sound.{IsExcluded, RowNowSound, NowSound, BodySound, WaitSound, Holds, Able}
+use Rattle.shard.specs.Sound.{IsExcluded, RowNowSound, BodySound, WaitSound, Holds, Able}
 use Rattle.shard.proofs.Lists.{any_has, both_hold, each_mapped}
 use Rattle.shard.proofs.Shown.{newest_shown}
 use Rattle.shard.proofs.Updates.{moved, now_waiting}
@@ -102,10 +102,10 @@ wait_made es a n number time read e has is le ws same =
         let test = both_hold (list_any (λ k. touches_row (row_of read k) p) read.keys && not (is_applied p.txn a)) (nat_lt p.time time)
         (both_hold (list_any (λ k. touches_row (row_of read k) p) read.keys) (not (is_applied p.txn a)) rows (ap not new)) below in
         let mark = kept (λ q. list_any (λ k. touches_row (row_of read k) q) read.keys && not (is_applied q.txn a) && nat_lt q.time time) a.prepared p prepared test in
-        let w : WriterValue = record { txn = p.txn; shard = p.coordinator } in
-        let listed = contains_map (λ (q : PreparedPart). let z : WriterValue = record { txn = q.txn; shard = q.coordinator } in z) (marks_below a time read) p mark in
-        let asks = subst (λ zs. Contains zs w) same ((writers_stay (map (λ (q : PreparedPart). let z : WriterValue = record { txn = q.txn; shard = q.coordinator } in z) (marks_below a time read)) w).1 listed) in
-        inr (inr (contains_map (λ (z : WriterValue). z.txn) ws w asks))
+        let w = asks p in
+        let listed = contains_map asks (marks_below a time read) p mark in
+        let named = subst (λ zs. Contains zs w) same ((writers_stay (map asks (marks_below a time read)) w).1 listed) in
+        inr (inr (contains_map (λ (z : WriterValue). z.txn) ws w named))
 
     by_applied : (key : List ℕ) → Contains read.keys key → (p : PreparedPart) → Contains a.prepared p → touches_row (row_of read key) p ≡ true
         → (b : Bool) → is_applied p.txn a ≡ b

@@ -1,5 +1,5 @@
 -- ReplBegin, ReplPart, Notify, PrepareRemote, DepCheck and DepOk.
-use Rattle.std.proofs.Common.{◌≡◌, ◌∙◌, sym, ap, subst, refl, ℕ, ◌<◌, ◌≤◌, ◌⊎◌, inl, inr, Bool, true, false, not, ◌&&◌, List, [], ◌∷◌, ◌++◌, map, Option, Some, None, arith, eqb-true}
+use Rattle.std.proofs.Common.{◌≡◌, ◌∙◌, sym, ap, subst, refl, ℕ, ◌<◌, ◌⊎◌, inl, inr, Bool, true, false, not, List, [], ◌∷◌, ◌++◌, map, Option, Some, None, arith, eqb-true}
 use Rattle.std.specs.Prelude.{is_some, ◌==◌, Contains}
 use Rattle.std.specs.List.{list_any}
 use Rattle.std.proofs.lemmas.List.Elements.{Contains-push}
@@ -10,15 +10,14 @@ use Rattle.messages.specs.declared.body.Body.TheVariants as body
 use Rattle.messages.specs.declared.envelope.Envelope.{Envelope}
 use Rattle.messages.specs.Topology.{TopologyValue, dc_of, shard_node}
 use Rattle.messages.specs.Words.{is_same_txn, envelope}
-use Rattle.messages.specs.Shard.{ShardState, Replica, PreparedPart, Vote, Decision, KeptPart, KeptBallot, Met, Asker}
+use Rattle.messages.specs.Shard.{ShardState, Replica, Decision, KeptPart, KeptBallot, Asker}
 use Rattle.messages.specs.Known.{decision_of, prepared_part, kept_part, kept_ballot, is_known, has_vote, is_cohort, is_awaited, all_voted, is_met, all_met, is_asker}
 use Rattle.messages.specs.Replication.{ballot_of, remote_prepare, is_ready, ready_if, ready, dep_checks, with_ballot, repl_begin_if, on_repl_begin, with_notice, notice_if, early_notice_if, notify_for, on_notify, repl_part_if, on_repl_part, prepare_remote_for, on_prepare_remote, remember_if, dep_check_for, on_dep_check, is_unmet, with_met, met_if, dep_ok_for, on_dep_ok}
 use Rattle.messages.specs.Honest.{IsHonest}
-use Rattle.shard.specs.Sound.{IsBallot, IsDecided, BodySound, AreSound, Holds, Able, IsWithin}
+use Rattle.shard.specs.Sound.{IsBallot, IsDecided, BodySound, Holds, Able, IsWithin}
 use Rattle.shard.proofs.Lists.{no_truth, not_true, same_txn, any_found, all_have, found, each_joined, each_mapped}
-use Rattle.shard.proofs.Updates.{aside, moved, more_notices, more_met, with_kept_part, keep_part, with_kept_ballot, keep_ballot}
-use Rattle.shard.proofs.Additions.{AreReady}
-use Rattle.shard.proofs.LetGo.{able_after, quiet_able, answer_able, ArePlain}
+use Rattle.shard.proofs.Updates.{aside, more_notices, more_met, with_kept_part, keep_part, keep_ballot}
+use Rattle.shard.proofs.LetGo.{able_after, quiet_able, answer_able}
 use Rattle.shard.proofs.Commits.{unknown_unled, unknown_unfollowed, decide_able, hold_able, prepare_part_able}
 
 -- ## The remote coordinator

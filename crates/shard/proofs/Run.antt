@@ -1,6 +1,6 @@
 -- What holds of one shard at each of its events.
-use Rattle.std.proofs.Common.{◌≡◌, ◌∙◌, sym, ap, subst, refl, ℕ, ◌+◌, ◌^◌, ◌<◌, ◌≤◌, max, ◌⊎◌, inl, inr, Bool, true, false, nat_lt, List, [], ◌∷◌, ◌++◌, Option, Some, None, Result, Ok, Err, arith}
-use Rattle.std.specs.Prelude.{if◌then◌else◌, filter_map, Contains}
+use Rattle.std.proofs.Common.{◌≡◌, ap, subst, refl, ℕ, ◌+◌, ◌^◌, ◌<◌, max, inl, inr, Bool, true, false, nat_lt, List, [], ◌∷◌, ◌++◌, Option, Some, None, Result, Ok, Err, arith}
+use Rattle.std.specs.Prelude.{if◌then◌else◌, Contains}
 use Rattle.std.proofs.lemmas.List.Elements.{Contains-append_left, Contains-push}
 use Rattle.column_family.specs.Normal.{IsNormal}
 use Rattle.logical_time.specs.declared.fault.Fault.{Fault}
@@ -10,7 +10,7 @@ use Rattle.messages.specs.declared.body.Body.TheVariants as body
 use Rattle.messages.specs.declared.envelope.Envelope.{Envelope}
 use Rattle.messages.specs.Topology.{TopologyValue}
 use Rattle.messages.specs.Clock.{ticked, on_clock}
-use Rattle.messages.specs.Shard.{ShardState, ShardStep, new_shard}
+use Rattle.messages.specs.Shard.{ShardState, ShardStep}
 use Rattle.messages.specs.ShardEvents.{handled, collected}
 use Rattle.messages.specs.Honest.{told_in, part_in, IsHonest}
 use Rattle.shard.specs.Events.{ShardEvent, Handle, Collect, ShardRun, fresh_shard, event_step, after_step, shard_continued, envelope_in, envelopes_handled}
@@ -131,11 +131,6 @@ event_ran {top = top} {me = me} {last = last} {es = es} w (Collect time) honest 
         ran
 
 -- ## Lists of events
-
-step_within : (w : ShardRun) (x : ShardEvent) (r : Result ShardStep Fault) → ((st : ShardStep) → r ≡ Ok st → IsWithin w.state st.state)
-    → IsWithin w.state (after_step r w x).state
-step_within w x (Err e) h = within_itself w.state
-step_within w x (Ok st) h = h st refl
 
 event_within : (top : TopologyValue) (me : ℕ) (w : ShardRun) (x : ShardEvent) → IsWithin w.state (after_step (event_step top me w.state x) w x).state
 event_within top me w (Handle e) = go (ticked w.state.clock e.time)

@@ -1,5 +1,5 @@
 -- What a shard answers of a row is the store's part of it.
-use Rattle.std.proofs.Common.{◌≡◌, ◌∙◌, sym, ap, refl, ℕ, Bool, true, List, map}
+use Rattle.std.proofs.Common.{refl, ℕ, List, map}
 use Rattle.std.specs.Prelude.{filter, Contains}
 use Rattle.logical_time.specs.Stamps.{WriterValue}
 use Rattle.column_family.specs.declared.batch.Row.{Row}

@@ -1,19 +1,18 @@
 -- Parts that don't touch a row, or are committed later, change nothing of what is right of it.
-use Rattle.std.proofs.Common.{◌≡◌, ◌∙◌, sym, ap, subst, refl, ℕ, ◌<◌, Bool, true, false, ◌&&◌, List, [], ◌∷◌, ◌++◌, Option, Some, None, option_map, nat_le, arith}
+use Rattle.std.proofs.Common.{◌≡◌, ◌∙◌, sym, ap, subst, refl, ℕ, ◌<◌, Bool, true, false, List, [], ◌∷◌, ◌++◌, None, option_map, nat_le, arith}
 use Rattle.std.specs.Prelude.{Contains}
-use Rattle.std.specs.List.{list_any, AllByRecursion}
+use Rattle.std.specs.List.{AllByRecursion}
 use Rattle.std.proofs.lemmas.Bool.Decides.{nat_tests}
 use Rattle.std.proofs.lemmas.List.Elements.{filter-append, Contains-append_left}
 use Rattle.logical_time.specs.Stamps.{StampValue, WriterValue}
 use Rattle.column_family.specs.declared.batch.Row.{Row}
 use Rattle.column_family.specs.declared.batch.Change.{Change}
 use Rattle.column_family.specs.Location.{is_same_row, touches, touches_name, changes_name, deletes_row, is_column_change, is_row_deletion}
-use Rattle.column_family.specs.History.{Stamped, newer_of, newest, newest_of, last_of, stamped}
+use Rattle.column_family.specs.History.{newer_of, newest, newest_of, last_of, stamped}
 use Rattle.column_family.proofs.Options.{both_true}
 use Rattle.column_family.proofs.Joins.{newer_of_none, newest_of_append}
 use Rattle.slice.specs.declared.predicate.Predicate.{Predicate}
-use Rattle.slice.specs.Slice.{is_asked, slice_of}
-use Rattle.slice.specs.Live.{live_columns}
+use Rattle.slice.specs.Slice.{is_asked}
 use Rattle.slice.specs.Rests.{RowRestsOn}
 use Rattle.slice.proofs.LiveTable.{at as column_at}
 use Rattle.store.specs.declared.part.Applied.{Applied}

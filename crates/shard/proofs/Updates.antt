@@ -1,25 +1,18 @@
 -- What a shard knows goes on holding when one thing is added to it.
-use Rattle.std.proofs.Common.{◌≡◌, ◌∙◌, sym, ap, subst, refl, ℕ, ◌≤◌, ◌⊎◌, inl, inr, Bool, true, false, List, [], ◌∷◌, ◌++◌, arith}
+use Rattle.std.proofs.Common.{◌≡◌, ◌∙◌, sym, ap, subst, refl, ℕ, ◌≤◌, inl, inr, true, List, [], ◌∷◌, ◌++◌, arith}
 use Rattle.std.specs.Prelude.{Contains}
-use Rattle.std.specs.List.{list_any}
-use Rattle.std.specs.Ordering.{is_eq}
-use Rattle.std.proofs.lemmas.List.Elements.{Contains-append_left, Contains-push, Contains-push_cases}
-use Rattle.logical_time.specs.Stamps.{TxnValue, StampValue, stamp_cmp}
+use Rattle.std.proofs.lemmas.List.Elements.{Contains-push_cases}
+use Rattle.logical_time.specs.Stamps.{TxnValue}
 use Rattle.column_family.specs.Normal.{IsNormal}
 use Rattle.column_family.proofs.Options.{both_true}
-use Rattle.store.specs.declared.part.Applied.{Applied}
-use Rattle.store.specs.Keeps.{IsNewStamp}
-use Rattle.store.proofs.Apart.{apart_more}
 use Rattle.messages.specs.declared.envelope.Envelope.{Envelope}
 use Rattle.messages.specs.Topology.{TopologyValue, dc_of, shard_node}
-use Rattle.messages.specs.Words.{is_same_txn}
-use Rattle.messages.specs.Shard.{ShardState, Own, PreparedPart, BegunBallot, Vote, Decision, KeptPart, KeptBallot, Met, Asker, WaitingRead}
-use Rattle.messages.specs.Known.{is_applied, has_vote, all_voted, is_met, all_met}
+use Rattle.messages.specs.Shard.{ShardState, Vote, KeptPart, KeptBallot, Met, Asker, WaitingRead}
+use Rattle.messages.specs.Known.{has_vote, all_voted, is_met, all_met}
 use Rattle.messages.specs.Replication.{is_ready}
-use Rattle.messages.specs.Honest.{IsHonest, StampedTxn, stamps_met}
-use Rattle.shard.specs.Sound.{IsBallot, IsDecided, IsKeptBallot, IsCohorts, IsLed, IsFollowed, Holds, Onward, WaitSound}
-use Rattle.shard.proofs.Lists.{any_has, any_more, any_none, all_weaker, both_hold, same_if_equal, same_stamp, no_truth}
-use Rattle.shard.proofs.Grow.{grows_then, grows_beside, with_prepared, grows_prepared, with_applied, IsLate, grows_applied, wait_grows}
+use Rattle.shard.specs.Sound.{IsLed, IsFollowed, Holds, Onward, WaitSound}
+use Rattle.shard.proofs.Lists.{any_more, all_weaker, both_hold}
+use Rattle.shard.proofs.Grow.{grows_then, grows_beside, wait_grows}
 
 pub onward_then : {top : TopologyValue} {me : ℕ} {last : ShardState} {es : List Envelope} {a b c : ShardState} → Onward top me last es a b → Onward top me last es b c
     → Onward top me last es a c

@@ -1,21 +1,20 @@
 -- Yes, Commit, At, NotBy and Check.
-use Rattle.std.proofs.Common.{◌≡◌, ◌∙◌, sym, ap, subst, refl, ℕ, ◌<◌, ◌≤◌, ◌⊎◌, inl, inr, Bool, true, false, cond, nat_le, List, [], ◌∷◌, ◌++◌, map, Option, Some, None, arith}
+use Rattle.std.proofs.Common.{◌≡◌, ◌∙◌, sym, ap, subst, refl, ℕ, ◌<◌, ◌≤◌, inl, inr, Bool, true, false, nat_le, List, [], ◌∷◌, ◌++◌, map, Option, Some, None, arith}
 use Rattle.std.specs.Prelude.{find, if◌then◌else◌, is_some, Contains}
 use Rattle.std.proofs.lemmas.Bool.Decides.{nat_tests}
 use Rattle.std.proofs.lemmas.List.Elements.{Contains-append_left}
 use Rattle.logical_time.specs.Stamps.{TxnValue, StampValue}
 use Rattle.planner.proofs.Members.{contains_map}
-use Rattle.store.proofs.Lists.{given}
 use Rattle.messages.specs.declared.body.Body.TheVariants as body
 use Rattle.messages.specs.declared.envelope.Envelope.{Envelope}
-use Rattle.messages.specs.Topology.{TopologyValue, shard_of}
+use Rattle.messages.specs.Topology.{TopologyValue}
 use Rattle.messages.specs.Words.{is_same_txn, envelope, other_dcs}
 use Rattle.messages.specs.Shard.{ShardState, Role, Own, Cohort, Replica, PreparedPart, BegunBallot, Decision}
 use Rattle.messages.specs.Known.{decision_of, prepared_part, standing_ballot, is_known, is_applied, has_vote, is_awaited, all_voted}
 use Rattle.messages.specs.Commits.{applied_part, with_vote, counted_if, vote_if, early_if, yes_for, repl_parts, apply_part, commit_if, commit_for, check_for, on_yes, on_commit, on_not_by, on_check}
-use Rattle.messages.specs.Honest.{Told, told_in, all_told, IsHonest, StampedTxn, stamps_met}
+use Rattle.messages.specs.Honest.{Told, all_told, IsHonest, StampedTxn}
 use Rattle.shard.specs.Sound.{BodySound, Holds, Able, IsWithin}
-use Rattle.shard.proofs.Lists.{same_txn, any_has, same_if_equal, found, each_mapped}
+use Rattle.shard.proofs.Lists.{same_txn, found, each_mapped}
 use Rattle.shard.proofs.Grow.{with_applied}
 use Rattle.shard.proofs.Updates.{aside}
 use Rattle.shard.proofs.Additions.{stamped_txn, apply_one}

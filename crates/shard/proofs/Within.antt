@@ -1,5 +1,5 @@
 -- What was prepared or decided stays so, whatever comes.
-use Rattle.std.proofs.Common.{◌≡◌, sym, subst, ℕ, refl, Bool, true, false, List, [], ◌∷◌, ◌++◌, Option, Some, None, Result, Ok, Err}
+use Rattle.std.proofs.Common.{◌≡◌, sym, subst, ℕ, refl, Bool, true, false, List, [], ◌∷◌, Option, Some, None}
 use Rattle.std.specs.Prelude.{is_some, nat_lt, Contains}
 use Rattle.std.proofs.lemmas.List.Elements.{Contains-append_left}
 use Rattle.logical_time.specs.Stamps.{TxnValue, StampValue, WriterValue}
@@ -9,9 +9,9 @@ use Rattle.messages.specs.declared.body.Body.{Body}
 use Rattle.messages.specs.declared.body.Body.TheVariants as body
 use Rattle.messages.specs.declared.envelope.Envelope.{Envelope}
 use Rattle.messages.specs.Topology.{TopologyValue}
-use Rattle.messages.specs.Shard.{ShardState, ShardStep, Role, Own, Cohort, Replica, PreparedPart, BegunBallot, Vote, Decision, KeptPart, KeptBallot, Asker}
+use Rattle.messages.specs.Shard.{ShardState, Role, Own, Cohort, Replica, PreparedPart, BegunBallot, Vote, Decision, KeptPart, KeptBallot, Asker}
 use Rattle.messages.specs.Known.{decision_of, prepared_part, kept_part, kept_ballot, standing_ballot, is_known, is_applied, has_vote, is_awaited, all_voted, is_asker}
-use Rattle.messages.specs.Commits.{decide, hold, begin_if, prepare_part, prepare_if, with_vote, counted_if, vote_if, early_if, yes_for, apply_part, commit_if, commit_for, check_for}
+use Rattle.messages.specs.Commits.{decide, hold, begin_if, prepare_part, prepare_if, with_vote, counted_if, vote_if, early_if, yes_for, commit_if, commit_for, check_for}
 use Rattle.messages.specs.Reads.{asked_below, is_waiting, read_at_of, read_at_if}
 use Rattle.messages.specs.Replication.{ballot_of, remote_prepare, is_ready, ready_if, with_ballot, repl_begin_if, with_notice, notice_if, early_notice_if, notify_for, repl_part_if, prepare_remote_for, remember_if, dep_check_for, is_unmet, with_met, met_if, dep_ok_for}
 use Rattle.messages.specs.ShardEvents.{handled}

@@ -18,11 +18,11 @@ use Rattle.messages.specs.declared.body.Body.{Body}
 use Rattle.messages.specs.declared.body.Body.TheVariants as body
 use Rattle.messages.specs.declared.envelope.Envelope.{Envelope}
 use Rattle.messages.specs.Topology.{TopologyValue}
-use Rattle.messages.specs.Shard.{ShardState, ShardStep, Role, Own, PreparedPart, BegunBallot, Decision, KeptPart, KeptBallot, WaitingRead}
+use Rattle.messages.specs.Shard.{ShardState, ShardStep, Own, PreparedPart, BegunBallot, Decision, KeptPart, KeptBallot, WaitingRead}
 use Rattle.messages.specs.Known.{is_applied}
 use Rattle.messages.specs.Rows.{row_of, touches_row}
 use Rattle.messages.specs.Replication.{is_ready}
-use Rattle.messages.specs.Honest.{Told, all_told, StampedTxn, stamps_met}
+use Rattle.messages.specs.Honest.{Told, all_told, stamps_met}
 use Rattle.shard.specs.Right.{part_now, part_then}
 
 -- ## What is complete
@@ -100,6 +100,7 @@ BodySound es a to (body.PartAt number time (at_time.Rows rows)) = AtSound es a t
 BodySound es a to (body.PartAt number time at_time.Collected) = time < a.low
 BodySound es a to other = ⊤
 
+-- each of these is sound
 abbrev pub AreSound : List Envelope → ShardState → List Envelope → Type 0
 AreSound es a sends = AllByRecursion (λ e. BodySound es a e.to e.body) sends
 
@@ -114,15 +115,19 @@ pub record WaitSound (es : List Envelope) (a : ShardState) (x : WaitingRead) : T
 
 -- ## What the shard knows
 
+-- a ballot of the transaction was begun
 abbrev pub IsBallot : ShardState → TxnValue → Type 0
 IsBallot a t = (b : BegunBallot) × Contains a.ballots b × (b.txn ≡ t)
 
+-- the shard decided the transaction
 abbrev pub IsDecided : ShardState → TxnValue → Type 0
 IsDecided a t = (d : Decision) × Contains a.decided d × (d.txn ≡ t)
 
+-- a replicated ballot of the transaction is kept
 abbrev pub IsKeptBallot : ShardState → TxnValue → Type 0
 IsKeptBallot a t = (b : KeptBallot) × Contains a.kept_ballots b × (b.txn ≡ t)
 
+-- a replicated part of the transaction is kept
 abbrev pub IsKeptPart : ShardState → TxnValue → Type 0
 IsKeptPart a t = (k : KeptPart) × Contains a.kept_parts k × (k.txn ≡ t)
 
