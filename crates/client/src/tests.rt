@@ -51,8 +51,17 @@ fn read(alloc: Global) -> Result<Op, Fault> {
 /// One data centre of two shards with the family `f`.
 fn topology(alloc: Global) -> Result<Topology, Fault> {
     let families = vec![in alloc; Family::from_slice(alloc, b"f")?]?;
-    let schema = Schema::new(families).ok_or(Fault::UnknownFamily)?;
+    let schema = Schema::new(families).ok_or(Fault::Script)?;
     Topology::new(1, 2, schema, vec![in alloc; 0u16]?)
+}
+
+fn new_session(alloc: Global) -> Result<Session, Fault> {
+    let topology = topology(alloc)?;
+    let node = Node::new(2);
+    match topology.home_of(node) {
+        Some(_) => Session::new(alloc, &topology, node),
+        None => Err(Fault::Script),
+    }
 }
 
 /// What a shard sends to the session.
@@ -208,8 +217,7 @@ fn refused(
 #[test]
 fn late_rows_are_asked_again(rt: HostRuntime) -> Result<(), Fail> {
     let alloc = rt.alloc();
-    let topology = topology(alloc)?;
-    let mut session = Session::new(alloc, &topology, Node::new(2))?;
+    let mut session = new_session(alloc)?;
     let mut outbox = Outbox::new(alloc);
     let worked = worked(alloc, &mut session, &mut outbox);
     session.close();
@@ -228,8 +236,7 @@ fn late_rows_are_asked_again(rt: HostRuntime) -> Result<(), Fail> {
 #[test]
 fn refused_batches_are_handed_back(rt: HostRuntime) -> Result<(), Fail> {
     let alloc = rt.alloc();
-    let topology = topology(alloc)?;
-    let mut session = Session::new(alloc, &topology, Node::new(2))?;
+    let mut session = new_session(alloc)?;
     let mut outbox = Outbox::new(alloc);
     let refused = refused(alloc, &mut session, &mut outbox);
     session.close();
