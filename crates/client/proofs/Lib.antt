@@ -1,0 +1,10 @@
+pub mod Ordered
+pub mod Planned
+pub mod Submitted
+pub mod Heard
+pub mod HeardNow
+pub mod Opening
+pub mod RightAnswers
+pub mod Ended
+pub mod Ignored
+pub mod SameNode
