@@ -10,3 +10,4 @@ pub mod Able
 pub mod ShardSteps
 pub mod Near
 pub mod Ables
+pub mod LetGo
