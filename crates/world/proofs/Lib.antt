@@ -11,3 +11,5 @@ pub mod ShardSteps
 pub mod Near
 pub mod Ables
 pub mod LetGo
+pub mod StampsApart
+pub mod Decides
