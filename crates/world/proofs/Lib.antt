@@ -13,3 +13,4 @@ pub mod Ables
 pub mod LetGo
 pub mod StampsApart
 pub mod Decides
+pub mod Writes
