@@ -14,3 +14,4 @@ pub mod LetGo
 pub mod StampsApart
 pub mod Decides
 pub mod Writes
+pub mod CommitsKept
