@@ -20,3 +20,10 @@ pub mod ShownOnRow
 pub mod RowAlike
 pub mod ReadTables
 pub mod ReadRests
+pub mod Near
+pub mod Ables
+pub mod LetGo
+pub mod StampsApart
+pub mod Decides
+pub mod Writes
+pub mod CommitsKept
