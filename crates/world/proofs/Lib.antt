@@ -8,3 +8,8 @@ pub mod Lasting
 pub mod LastingAll
 pub mod Able
 pub mod ShardSteps
+pub mod SessionSteps
+pub mod Asking
+pub mod TakenRows
+pub mod WritersDone
+pub mod SessionEnds
