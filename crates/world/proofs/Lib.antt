@@ -13,3 +13,4 @@ pub mod Asking
 pub mod TakenRows
 pub mod WritersDone
 pub mod SessionEnds
+pub mod SessionsKept

@@ -41,7 +41,7 @@ one_given {X} {Y} g x y m = go (given_only g (x ∷ []) y (among_contains y (fil
     go : (z : X) × Contains (x ∷ []) z × (g z ≡ Some y) → g x ≡ Some y
     go (z, has, e) = by z (contains_among z (x ∷ []) has) e
 
-open_txn : {w : Run} {node m dc : ℕ} {o : Op} (k : IsOpen w node m dc o) → txn_of k.submission ≡ record { session = node; number = m }
+pub open_txn : {w : Run} {node m dc : ℕ} {o : Op} (k : IsOpen w node m dc o) → txn_of k.submission ≡ record { session = node; number = m }
 open_txn k = ap₂ (λ s n. record { session = s; number = n }) k.session k.number
 
 -- what ended is the operation that was open
