@@ -8,3 +8,5 @@ pub mod Lasting
 pub mod LastingAll
 pub mod Able
 pub mod ShardSteps
+pub mod RowTimes
+pub mod AskedMarks
