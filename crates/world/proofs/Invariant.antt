@@ -1,5 +1,5 @@
 -- What holds of every run: of each envelope, each shard, each session, and each completed operation.
-use Rattle.std.specs.Prelude.{◌≡◌, ℕ, ◌+◌, ◌≤◌, true, false, List, [], map, filter, Option, Some, None}
+use Rattle.std.specs.Prelude.{◌≡◌, ℕ, ◌+◌, ◌<◌, ◌≤◌, true, false, List, [], map, filter, Option, Some, None}
 use Rattle.std.specs.Option.{unwrap_or}
 use Rattle.logical_time.specs.Stamps.{StampValue, TxnValue, WriterValue}
 use Rattle.column_family.specs.declared.batch.Change.{Change}
@@ -178,6 +178,8 @@ pub record SessionSound (top : TopologyValue) (w : Run) (node : ℕ) (a : Sessio
   pub floor : a.floor ≤ a.clock
   pub current : OpenSound top w node a a.current
   pub dependencies : (k : WriterValue) → Among k a.dependencies → IsDone top w a.home k.txn (a.floor + 1)
+  -- each is of a shard that there is
+  pub placed : (k : WriterValue) → Among k a.dependencies → k.shard < top.shards
 
 -- ## Submissions and completed operations
 
@@ -186,6 +188,8 @@ pub record SubmittedSound (top : TopologyValue) (w : Run) : Type 0 where
   pub home : (b : Submission) → Among b w.submitted → b.home ≡ home top b.session
   pub number : (b : Submission) → Among b w.submitted → b.number ≤ (w.sessions b.session).count
   pub one : (b c : Submission) → Among b w.submitted → Among c w.submitted → txn_of b ≡ txn_of c → b ≡ c
+  -- each write depends on transactions of shards that there are
+  pub placed : (b : Submission) (k : WriterValue) → Among b w.submitted → Among k b.dependencies → k.shard < top.shards
 
 -- A read was answered from these rows: each asked key has one, and each is right at the effective time, on the shard of its
 -- key.

@@ -10,3 +10,4 @@ pub mod Able
 pub mod ShardSteps
 pub mod RowTimes
 pub mod AskedMarks
+pub mod Written
