@@ -11,3 +11,6 @@ pub mod ShardSteps
 pub mod RowTimes
 pub mod AskedMarks
 pub mod Written
+pub mod Near
+pub mod Ables
+pub mod PartsKept
