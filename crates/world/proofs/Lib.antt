@@ -14,3 +14,4 @@ pub mod Written
 pub mod Near
 pub mod Ables
 pub mod PartsKept
+pub mod LetGo
