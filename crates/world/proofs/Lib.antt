@@ -15,3 +15,4 @@ pub mod Near
 pub mod Ables
 pub mod PartsKept
 pub mod LetGo
+pub mod ReadsKept
