@@ -14,3 +14,11 @@ pub mod TakenRows
 pub mod WritersDone
 pub mod SessionEnds
 pub mod SessionsKept
+pub mod RowTimes
+pub mod AskedMarks
+pub mod Written
+pub mod Near
+pub mod Ables
+pub mod PartsKept
+pub mod LetGo
+pub mod ReadsKept
