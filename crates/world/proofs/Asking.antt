@@ -5,10 +5,9 @@ use Rattle.std.specs.List.{list_any, list_all, range_with_len}
 use Rattle.std.proofs.lemmas.Bool.{and_parts}
 use Rattle.std.proofs.lemmas.Bool.Decides.{nat_tests}
 use Rattle.std.proofs.lemmas.Nat.{mod_below}
-use Rattle.column_family.specs.declared.batch.Change.{Change}
 use Rattle.slice.specs.declared.read.Read.{Read}
 use Rattle.planner.specs.Partition.{shard_of as shard_of_key}
-use Rattle.planner.specs.Plan.{is_on, coordinator_of, cohorts_of, is_touched, keys_for, shards_asked}
+use Rattle.planner.specs.Plan.{is_on, keys_for, shards_asked}
 use Rattle.planner.proofs.Asked.{own_key, asked_key, asked_shard}
 use Rattle.messages.specs.Topology.{TopologyValue, shard_node, shard_of}
 use Rattle.messages.specs.Session.{SessionState, HeardNow, HeardAt}
@@ -40,15 +39,6 @@ range_below a (suc n) s (inr m) = let lt = range_below (a + 1) n s m in omega ar
 
 pub key_below : (shards : ℕ) (key : List ℕ) → 0 < shards → shard_of_key shards key < shards
 key_below shards key some = mod_below (sum key) shards some
-
-pub coordinator_below : (shards : ℕ) (batch : List Change) → 0 < shards → coordinator_of shards batch < shards
-coordinator_below shards [] some = some
-coordinator_below shards (c ∷ cs) some = key_below shards c.row.key some
-
-pub cohort_below : (shards : ℕ) (batch : List Change) (s : ℕ) → Among s (cohorts_of shards batch) → s < shards
-cohort_below shards batch s m =
-    let lt = range_below 0 shards s (filter_only (λ s. not (s == coordinator_of shards batch) && is_touched shards batch s) (range_with_len 0 shards) s m).0 in
-    omega arith
 
 pub asked_below : (shards : ℕ) (keys : List (List ℕ)) (s : ℕ) → Among s (shards_asked shards keys) → s < shards
 asked_below shards keys s m =

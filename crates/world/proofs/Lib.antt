@@ -22,3 +22,4 @@ pub mod Ables
 pub mod PartsKept
 pub mod LetGo
 pub mod ReadsKept
+pub mod Submissions

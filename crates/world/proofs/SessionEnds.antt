@@ -1,5 +1,5 @@
 -- A session's step that ends its operation, and one that leaves it open.
-use Rattle.std.proofs.Common.{◌≡◌, ℕ, ◌+◌, ◌≤◌, List, [], ◌∷◌, ◌++◌, drop, length, Option, Some, None, inl, inr, refl, sym, ap, ap₂, ◌∙◌, subst, arith, le_refl, le_trans}
+use Rattle.std.proofs.Common.{◌≡◌, ℕ, ◌+◌, ◌<◌, ◌≤◌, List, [], ◌∷◌, ◌++◌, drop, length, Option, Some, None, inl, inr, refl, sym, ap, ap₂, ◌∙◌, subst, arith, le_refl, le_trans}
 use Rattle.std.specs.Prelude.{filter_map, option_map, Contains}
 use Rattle.std.proofs.Math.Seq.{drop-append_seam, drop-length}
 use Rattle.logical_time.specs.Stamps.{TxnValue, WriterValue}
@@ -77,8 +77,8 @@ module _ (top : TopologyValue) (w : Run) (node n : ℕ) (inv : Inv top w) (le : 
   -- the operation ends
   pub ended_able : (floor : ℕ) (dependencies : List WriterValue) (out : Outcome) (o : Op) → (w.sessions node).floor ≤ floor → floor ≤ n → IsOpen w node (w.sessions node).count (w.sessions node).home o
       → EndSound o out top w (w.sessions node).home (record { session = node; number = (w.sessions node).count })
-      → ((k : WriterValue) → Among k dependencies → IsDone top w (w.sessions node).home k.txn (floor + 1)) → SessionAble top w node (ended n (w.sessions node) floor dependencies out)
-  ended_able floor dependencies out o above below b came done =
+      → ((k : WriterValue) → Among k dependencies → IsDone top w (w.sessions node).home k.txn (floor + 1)) → ((k : WriterValue) → Among k dependencies → k.shard < top.shards) → SessionAble top w node (ended n (w.sessions node) floor dependencies out)
+  ended_able floor dependencies out o above below b came done placed =
       let a = w.sessions node in
       record {
         grows =
@@ -90,7 +90,7 @@ module _ (top : TopologyValue) (w : Run) (node n : ℕ) (inv : Inv top w) (le : 
               asked_now = λ number m asked k. record { number = k.number; round = λ q. tt };
               asked_at = λ number time m asked k. record { number = k.number; round = λ q. tt };
             };
-        session = record { home = (inv.sessions node).home; floor = below; current = tt; dependencies = done };
+        session = record { home = (inv.sessions node).home; floor = below; current = tt; dependencies = done; placed = placed };
         completed = λ c m. found_completed top w node a.count a.home o out inv.submitted b came c (
             one_given (completed_of w.submitted node) (record { number = a.count; outcome = out }) c (
             subst (λ fs. Among c (filter_map (completed_of w.submitted node) fs)) (drop-append_seam a.outcomes (record { number = a.count; outcome = out } ∷ [])) m
@@ -121,6 +121,7 @@ module _ (top : TopologyValue) (w : Run) (node n : ℕ) (inv : Inv top w) (le : 
           floor = le_trans (inv.sessions node).floor le;
           current = sound;
           dependencies = (inv.sessions node).dependencies;
+          placed = (inv.sessions node).placed;
         };
         completed = λ c m. absurd (subst (λ fs. Among c (filter_map (completed_of w.submitted node) fs)) (drop-length a.outcomes) m);
         sends = send;

@@ -48,6 +48,7 @@ session_step_kept top w node st ev inv k =
     let gr = session_run_grows top w node st ev k.grows in
     record {
       shards = λ m. shard_grows gr (inv.shards m);
+      patient = inv.patient;
       sessions = session_actor_sound top x w.sessions node st.state (λ m. session_grows gr (inv.sessions m)) (session_grows gr k.session);
       sent = λ e m. elim (among_append e w.sent st.sends m) [
         | inl o ↦ says_grows top e.from e.to e.time gr e.body (inv.sent e o)
@@ -58,6 +59,7 @@ session_step_kept top w node st ev inv k =
         home = inv.submitted.home;
         number = λ b m. le_trans (inv.submitted.number b m) (gr.sessions b.session).count;
         one = inv.submitted.one;
+        placed = inv.submitted.placed;
       };
       transcript = λ c m. elim (among_append c w.transcript (newly_completed w.submitted node (w.sessions node) st.state) m) [
         | inl o ↦ completed_grows gr (inv.transcript c o)

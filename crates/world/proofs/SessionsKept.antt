@@ -25,14 +25,16 @@ use Rattle.messages.proofs.Greatest.{effective_above_floor}
 use Rattle.world.specs.Run.{Run}
 use Rattle.world.proofs.Among.{Among, last_or_old, map_only, same_txn}
 use Rattle.world.proofs.Growth.{FirstAsked, SecondAsked, AskedNow, AskedAt, Grows}
-use Rattle.world.proofs.Facts.{txn_of, lead, IsDecided, IsDone, DecisionSound, AnswersNow, AnswersAt}
+use Rattle.world.proofs.Facts.{IsWritten, lead, IsDecided, IsDone, DecisionSound, AnswersNow, AnswersAt}
 use Rattle.world.proofs.Invariant.{home, TellsDecision, TellsNow, TellsAt, TellsThen, Says, EnvelopeSound, IsOpen, HeardNowSound, HeardAtSound, WritingSound, FirstSound, SecondSound, OpenSound, AnsweredFrom, Inv}
 use Rattle.world.proofs.Lasting.{answers_now_grow}
 use Rattle.world.proofs.SessionSteps.{SessionAble}
 use Rattle.world.proofs.SessionEnds.{same_run_grows, open_txn, ended_able, waits_able, calm_able, heard_now_later, heard_at_later}
 use Rattle.world.proofs.Asking.{missing_asked, missing_late}
+use Rattle.world.proofs.Near.{coordinator_below}
+use Rattle.world.proofs.Written.{one_batch}
 use Rattle.world.proofs.TakenRows.{effective_by_clock, taken_answers}
-use Rattle.world.proofs.WritersDone.{writers_done}
+use Rattle.world.proofs.WritersDone.{writers_done, writers_placed}
 
 module _ (top : TopologyValue) (w : Run) (node n : ℕ) (some : 0 < top.shards) (inv : Inv top w) (le : (w.sessions node).clock ≤ n) where
   -- ## Done
@@ -42,10 +44,8 @@ module _ (top : TopologyValue) (w : Run) (node n : ℕ) (some : 0 < top.shards) 
       → t ≡ record { session = node; number = (w.sessions node).count } → from ≡ lead top (w.sessions node).home k.batch
   decided_lead c from t commit stamp k d here is =
       let s : DecisionSound top w from d.decision = (inv.shards from).decided d.decision d.among in
-      let same = inv.submitted.one s.submission k.opened.submission s.written.among k.opened.among (s.written.txn ∙ d.txn ∙ is ∙ sym (open_txn k.opened)) in
-      let ops : op.Batch s.batch ≡ op.Batch k.batch = sym s.written.op ∙ ap (λ b. b.op) same ∙ k.opened.op in
-      let batches : s.batch ≡ k.batch = cc in
-      s.here ∙ ap₂ (λ dc b. lead top dc b) (here ∙ sym (inv.sessions node).home) batches
+      let opened : IsWritten w (record { session = node; number = (w.sessions node).count }) k.opened.submission k.batch = record { among = k.opened.among; txn = open_txn k.opened; op = k.opened.op } in
+      s.here ∙ ap₂ (λ dc b. lead top dc b) (here ∙ sym (inv.sessions node).home) (one_batch inv.submitted s.written opened (d.txn ∙ is))
 
   written_able : (c from : ℕ) (t : TxnValue) (commit : ℕ) (stamp : StampValue) → WritingSound top w node (w.sessions node) c → commit ≤ n → IsDecided w from t commit stamp → dc_of top from ≡ home top node
       → t ≡ record { session = node; number = (w.sessions node).count } → SessionAble top w node (written n (w.sessions node) c t commit stamp)
@@ -66,6 +66,10 @@ module _ (top : TopologyValue) (w : Run) (node n : ℕ) (some : 0 < top.shards) 
       (subst (λ m. IsDecided w m (record { session = node; number = a.count }) commit stamp) (decided_lead c from t commit stamp k d here is)
       (subst (λ u. IsDecided w from u commit stamp) is d))
       (λ u m. elim m [ inl q ↦ subst (λ z. IsDone top w a.home z.txn (max a.floor commit + 1)) (sym q) done | inr o ↦ absurd o ])
+      (λ u m. elim m [
+        | inl q ↦ subst (λ s. s < top.shards) (sym (ap (λ z. z.shard) q ∙ k.coordinator)) (coordinator_below top.shards k.batch some)
+        | inr o ↦ absurd o
+      ])
 
   done_go : (o : Open) → OpenSound top w node (w.sessions node) o → (from : ℕ) (t : TxnValue) (commit : ℕ) (stamp : StampValue) → commit ≤ n → IsDecided w from t commit stamp → dc_of top from ≡ home top node
       → SessionAble top w node (done_in o node n (w.sessions node) t commit stamp)
@@ -89,6 +93,7 @@ module _ (top : TopologyValue) (w : Run) (node n : ℕ) (some : 0 < top.shards) 
       let a = w.sessions node in
       ended_able top w node n inv le time (with_writers a.dependencies rows) (outcome.Read time (answer_of read rows)) (op.Read read) above below opened (record { rows = rows; answer = refl; from = from })
       (writers_done top w some inv a.home a.floor time read rows a.dependencies from above (inv.sessions node).dependencies)
+      (writers_placed top w some inv a.home time read rows a.dependencies from (inv.sessions node).placed)
 
   -- ## PartNow
 
@@ -202,7 +207,7 @@ module _ (top : TopologyValue) (w : Run) (node n : ℕ) (some : 0 < top.shards) 
         → SessionAble top w node (taken_at answer top n (w.sessions node) read time first old from)
     taken_go at.Collected from number bound tells is asked =
         let a = w.sessions node in
-        ended_able top w node n inv le a.floor a.dependencies outcome.Collected (op.Read read) (le_refl a.floor) (le_trans (inv.sessions node).floor le) k.opened tt (inv.sessions node).dependencies
+        ended_able top w node n inv le a.floor a.dependencies outcome.Collected (op.Read read) (le_refl a.floor) (le_trans (inv.sessions node).floor le) k.opened tt (inv.sessions node).dependencies (inv.sessions node).placed
     taken_go (at.Rows rows) from number bound tells is asked =
         let hs = old ++ record { from = from; rows = rows } ∷ [] in
         heard_at_go hs (more_heard_at from number bound rows tells is asked) (all_heard_at (asked_nodes top (w.sessions node) read) time first hs) refl

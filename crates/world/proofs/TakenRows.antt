@@ -25,7 +25,7 @@ use Rattle.world.proofs.Among.{Among, among_append, append_first, append_second,
 use Rattle.world.proofs.Growth.{Grows}
 use Rattle.world.proofs.Facts.{Excluded, Complete, IsDone, RowNowSound, RowAtSound, AppliedSound, part_now, near}
 use Rattle.world.proofs.Invariant.{HeardNowSound, HeardAtSound, AnsweredFrom, Inv}
-use Rattle.world.proofs.Asking.{flat_only, flat_among, key_below, coordinator_below, key_asked, key_shared, shared_lies, heard_from, heard_late}
+use Rattle.world.proofs.Asking.{flat_only, flat_among, key_asked, key_shared, shared_lies, heard_from, heard_late}
 
 excluded_below : {w : Run} {node : ℕ} {t : TxnValue} {n m : ℕ} → m ≤ n → Excluded w node t n → Excluded w node t m
 excluded_below le k = record { clock = le_trans le k.clock; above = λ d i e. lt_of_le_of_lt le (k.above d i e) }
