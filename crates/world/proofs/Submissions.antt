@@ -132,3 +132,108 @@ module _ (top : TopologyValue) (w : Run) (node n : ℕ) (o : Op) (inv : Inv top 
         submitted = submitted_sound accepted;
         transcript = λ c m. completed_grows gr (inv.transcript c m);
       }
+
+-- ## A batch
+
+module _ (top : TopologyValue) (w : Run) (node n : ℕ) (batch : List Change) (some : 0 < top.shards) (inv : Inv top w) (lt : (w.sessions node).clock < n) where
+  abbrev state : SessionState
+  state = w.sessions node
+
+  abbrev began : SessionStep
+  began = write_begun top node n state batch
+
+  abbrev written : Run
+  written = after_submission (Ok began) w node (op.Batch batch)
+
+  abbrev coordinator : ℕ
+  coordinator = coordinator_of top.shards batch
+
+  write_grows : Grows top w written
+  write_grows = submission_grows top w node n (op.Batch batch) inv lt began.state.current began.sends
+
+  is_written : IsWritten written (next_txn node state) (sub top w node n (op.Batch batch) inv lt began.state.current began.sends) batch
+  is_written = record { among = among_last _ w.submitted; txn = refl; op = refl }
+
+  begin_sound : EnvelopeSound top written (begin_of top node n state batch)
+  begin_sound =
+      let c = coordinator_below top.shards batch some in
+      let here = dc_of_shard top state.home coordinator c in
+      record {
+        submission = sub top w node n (op.Batch batch) inv lt began.state.current began.sends;
+        batch = batch;
+        written = is_written;
+        here = ap (λ d. lead top d batch) (sym here);
+        rows = ap (part_for top.shards (normal_of batch)) (sym (number_of_shard top state.home coordinator c));
+        cohorts = refl;
+        dependencies = refl;
+        done = λ k m.
+            subst (λ d. IsDone top written d k.txn n) (sym here)
+            (done_grows write_grows (let le = (inv.sessions node).floor in omega arith) ((inv.sessions node).dependencies k m));
+        stamp = here;
+      }
+
+  prepare_sound : (s : ℕ) → Among s (cohorts_of top.shards batch) → EnvelopeSound top written (prepare_of top node n state batch s)
+  prepare_sound s m =
+      let c = cohort_below top.shards batch s m in
+      let number = number_of_shard top state.home s c in
+      record {
+        submission = sub top w node n (op.Batch batch) inv lt began.state.current began.sends;
+        batch = batch;
+        written = is_written;
+        coordinator = refl;
+        rows = ap (part_for top.shards (normal_of batch)) (sym number);
+        cohort = subst (λ z. Among z (cohorts_of top.shards batch)) (sym number) m;
+        origin = dc_of_shard top state.home s c;
+      }
+
+  write_sends : (e : Envelope) → Among e began.sends → EnvelopeSound top written e
+  write_sends e (inl q) = subst (λ z. EnvelopeSound top written z) (sym q) begin_sound
+  write_sends e (inr m) =
+      let q = map_only (prepare_of top node n state batch) (cohorts_of top.shards batch) e m in
+      subst (λ z. EnvelopeSound top written z) (sym q.2) (prepare_sound q.0 q.1)
+
+  write_kept : plan_fault top (op.Batch batch) ≡ None → Inv top written
+  write_kept accepted =
+      let o = op.Batch batch in
+      opens_kept top w node n o inv lt began.state.current began.sends accepted
+      (record { batch = batch; opened = is_open top w node n o inv lt began.state.current began.sends; coordinator = refl }) write_sends
+
+-- ## A read
+
+module _ (top : TopologyValue) (w : Run) (node n : ℕ) (read : Read) (inv : Inv top w) (lt : (w.sessions node).clock < n) where
+  abbrev starts : SessionStep
+  starts = read_begun top node n (w.sessions node) read
+
+  abbrev asking : Run
+  asking = after_submission (Ok starts) w node (op.Read read)
+
+  read_sound : (s : ℕ) → Among s (shards_asked top.shards read.keys) → AskedNow top (asking.sessions node) starts.state.count (home_node top (w.sessions node) s) (share_of top read s)
+  read_sound s m =
+      let number = number_of_shard top (w.sessions node).home s (asked_below top.shards read.keys s m) in
+      subst (λ z. AskedNow top z starts.state.count (home_node top (w.sessions node) s) (share_of top read s)) (sym (actor_same w.sessions node starts.state))
+      (record { number = le_refl starts.state.count; round = λ q. ap (share_of top read) (sym number) })
+
+  read_sends : (e : Envelope) → Among e starts.sends → EnvelopeSound top asking e
+  read_sends e m =
+      let q = map_only (λ s. envelope node (home_node top (w.sessions node) s) n (body.Read starts.state.count (share_of top read s))) (shards_asked top.shards read.keys) e m in
+      subst (λ z. EnvelopeSound top asking z) (sym q.2) (read_sound q.0 q.1)
+
+  read_kept : plan_fault top (op.Read read) ≡ None → Inv top asking
+  read_kept accepted =
+      let o = op.Read read in
+      opens_kept top w node n o inv lt starts.state.current starts.sends accepted
+      (record { opened = is_open top w node n o inv lt starts.state.current starts.sends; heard = λ h m. absurd m }) read_sends
+
+-- ## Every operation
+
+pub begun_kept : (top : TopologyValue) (w : Run) (node n : ℕ) (o : Op) → 0 < top.shards → Inv top w → (w.sessions node).clock < n → plan_fault top o ≡ None → Inv top (after_submission (Ok (begun top node n (w.sessions node) o)) w node o)
+begun_kept top w node n (op.Batch batch) some inv lt accepted = write_kept top w node n batch some inv lt accepted
+begun_kept top w node n (op.Read read) some inv lt accepted = read_kept top w node n read inv lt accepted
+
+pub begun_grows : (top : TopologyValue) (w : Run) (node n : ℕ) (o : Op) → Inv top w → (w.sessions node).clock < n → Grows top w (after_submission (Ok (begun top node n (w.sessions node) o)) w node o)
+begun_grows top w node n (op.Batch batch) inv lt =
+    let st = write_begun top node n (w.sessions node) batch in
+    submission_grows top w node n (op.Batch batch) inv lt st.state.current st.sends
+begun_grows top w node n (op.Read read) inv lt =
+    let st = read_begun top node n (w.sessions node) read in
+    submission_grows top w node n (op.Read read) inv lt st.state.current st.sends
