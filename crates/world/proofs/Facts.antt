@@ -92,6 +92,8 @@ pub record PreparedSound (top : TopologyValue) (w : Run) (node : ℕ) (p : Prepa
   pub origin : p.role ≡ Cohort → dc_of top node ≡ submission.home
   pub time : p.time ≤ (w.shards node).clock
   pub one : (g : PreparedPart) → Among g (w.shards node).prepared → g.txn ≡ p.txn → g ≡ p
+  -- the coordinator's own part was prepared before it decided
+  pub before : p.role ≡ Own → (d : Decision) → Among d (w.shards node).decided → d.txn ≡ p.txn → p.time < d.commit
 
 -- its origin's stamp, not above this time, or none at the origin
 abbrev pub StampFits : TopologyValue → Run → ℕ → ℕ → Submission → List Change → Option StampValue → Type 0

@@ -26,6 +26,7 @@ use Rattle.messages.specs.Session.{SessionState, Open, Idle, Writing, FirstRound
 use Rattle.messages.specs.Submitting.{share_of, plan_fault}
 use Rattle.messages.specs.Rounds.{asked_nodes, all_heard, effective_time, late_keys, late_nodes, answer_of}
 use Rattle.world.specs.Run.{Run, Submission, Completed}
+use Rattle.world.specs.Entries.{AreOnce}
 use Rattle.world.proofs.Among.{Among}
 use Rattle.world.proofs.Growth.{AskedNow, AskedAt}
 use Rattle.world.proofs.Facts.{txn_of, IsWritten, near, lead, part_on, IsDecided, IsDone, PreparedBefore, PreparedSound, BallotSound, KeptBallotSound, KeptPartSound, DecisionSound, AppliedSound, Excluded, WaitSound, RowAtSound, AnswersNow, AnswersAt}
@@ -109,6 +110,7 @@ pub record ShardSound (top : TopologyValue) (w : Run) (node : ℕ) (a : ShardSta
   pub early : (v : Vote) → Among v a.early → PreparedBefore w v.node v.txn (w.shards node).clock
   pub votes : (v : Vote) → Among v a.votes → PreparedBefore w v.node v.txn (w.shards node).clock
   pub decided : (d : Decision) → Among d a.decided → DecisionSound top w node d
+  pub decided_once : AreOnce a.decided
   pub applied : (v : Applied) → Among v a.applied → AppliedSound top w node v
   pub apart : AreApart a.applied
   pub kept_parts : (k : KeptPart) → Among k a.kept_parts → KeptPartSound top w node k

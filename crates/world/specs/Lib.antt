@@ -5,3 +5,4 @@ pub mod Before
 pub mod Met
 pub mod Fresh
 pub mod Worked
+pub mod Entries
