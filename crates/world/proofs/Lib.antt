@@ -9,3 +9,5 @@ pub mod Decisions
 pub mod Entries
 pub mod Histories
 pub mod KeptEntries
+pub mod Told
+pub mod HonestLists
