@@ -11,3 +11,4 @@ pub mod Histories
 pub mod KeptEntries
 pub mod Told
 pub mod HonestLists
+pub mod DecidedOnce
