@@ -1,18 +1,17 @@
 -- Decisions in a run: by whom they are made, that a data centre makes one of a transaction, and their stamps.
-use Rattle.std.proofs.Common.{◌≡◌, ◌∙◌, ℕ, ◌<◌, List, [], ◌∷◌, sym, ap, subst, arith}
+use Rattle.std.proofs.Common.{◌≡◌, ◌∙◌, ℕ, ◌<◌, List, [], ◌∷◌, sym, ap, subst}
 use Rattle.std.proofs.lemmas.Nat.{mod_below}
 use Rattle.std.specs.Prelude.{sum}
 use Rattle.logical_time.specs.Stamps.{StampValue, TxnValue}
 use Rattle.column_family.specs.declared.batch.Change.{Change}
 use Rattle.planner.specs.Plan.{coordinator_of}
-use Rattle.messages.specs.declared.op.Op.{Op}
 use Rattle.messages.specs.declared.op.Op.TheVariants as op
-use Rattle.messages.specs.Topology.{TopologyValue, dc_of, shard_of, shard_node}
+use Rattle.messages.specs.Topology.{TopologyValue, dc_of}
 use Rattle.messages.specs.Shard.{Decision}
-use Rattle.messages.proofs.Numbering.{dc_of_shard, number_of_shard}
+use Rattle.messages.proofs.Numbering.{dc_of_shard}
 use Rattle.world.specs.Run.{Run, Submission}
 use Rattle.world.proofs.Among.{Among}
-use Rattle.world.proofs.Facts.{txn_of, IsWritten, IsDecided, IsStamp, DecisionSound, lead}
+use Rattle.world.proofs.Facts.{txn_of, IsWritten, IsStamp, DecisionSound, lead}
 use Rattle.world.proofs.Invariant.{Inv, SubmittedSound}
 
 -- ## Coordinators
@@ -27,14 +26,16 @@ dc_of_lead top dc batch some = dc_of_shard top dc (coordinator_of top.shards bat
 -- ## One submission
 
 -- an operation is submitted once, with one batch
-pub one_batch : (top : TopologyValue) (w : Run) (t : TxnValue) (b c : Submission) (xs ys : List Change) → SubmittedSound top w → IsWritten w t b xs → IsWritten w t c ys → (b ≡ c) × (xs ≡ ys)
+pub one_batch : (top : TopologyValue) (w : Run) (t : TxnValue) (b c : Submission) (xs ys : List Change) → SubmittedSound top w → IsWritten w t b xs
+    → IsWritten w t c ys → (b ≡ c) × (xs ≡ ys)
 one_batch top w t b c xs ys s p q =
     let same : b ≡ c = s.one b c p.among q.among (p.txn ∙ sym q.txn) in
     let ops : op.Batch xs ≡ op.Batch ys = sym p.op ∙ ap (λ (z : Submission). z.op) same ∙ q.op in
     (same, cc)
 
 -- the same of two names for the transaction
-pub same_batch : (top : TopologyValue) (w : Run) (t u : TxnValue) (b c : Submission) (xs ys : List Change) → SubmittedSound top w → t ≡ u → IsWritten w t b xs → IsWritten w u c ys → (b ≡ c) × (xs ≡ ys)
+pub same_batch : (top : TopologyValue) (w : Run) (t u : TxnValue) (b c : Submission) (xs ys : List Change) → SubmittedSound top w → t ≡ u
+    → IsWritten w t b xs → IsWritten w u c ys → (b ≡ c) × (xs ≡ ys)
 same_batch top w t u b c xs ys s e p q = one_batch top w u b c xs ys s (subst (λ z. IsWritten w z b xs) e p) q
 
 -- ## One decision
@@ -60,7 +61,8 @@ one_decision top w x y d e inv m n same near =
 
 -- ## Stamps
 
-stamp_of_one : (top : TopologyValue) (w : Run) (b c : Submission) (xs ys : List Change) (s t : StampValue) → Inv top w → b ≡ c → xs ≡ ys → IsStamp top w b xs s → IsStamp top w c ys t → s ≡ t
+stamp_of_one : (top : TopologyValue) (w : Run) (b c : Submission) (xs ys : List Change) (s t : StampValue) → Inv top w → b ≡ c → xs ≡ ys
+    → IsStamp top w b xs s → IsStamp top w c ys t → s ≡ t
 stamp_of_one top w b c xs ys s t inv same batches p q =
     let at : lead top b.home xs ≡ lead top c.home ys = ap (λ (z : Submission). lead top z.home xs) same ∙ ap (lead top c.home) batches in
     let d = p.decided in
@@ -78,7 +80,8 @@ one_stamp top w x y d e inv m n same =
     let batches = same_batch top w d.txn e.txn p.submission q.submission p.batch q.batch inv.submitted same p.written q.written in
     stamp_of_one top w p.submission q.submission p.batch q.batch d.stamp e.stamp inv batches.0 batches.1 p.stamp q.stamp
 
-txn_of_one : (top : TopologyValue) (w : Run) (b c : Submission) (xs ys : List Change) (s t : StampValue) → Inv top w → s ≡ t → IsStamp top w b xs s → IsStamp top w c ys t → txn_of b ≡ txn_of c
+txn_of_one : (top : TopologyValue) (w : Run) (b c : Submission) (xs ys : List Change) (s t : StampValue) → Inv top w → s ≡ t → IsStamp top w b xs s
+    → IsStamp top w c ys t → txn_of b ≡ txn_of c
 txn_of_one top w b c xs ys s t inv same p q =
     let at : lead top b.home xs ≡ lead top c.home ys = sym p.node ∙ ap (λ (z : StampValue). z.node) same ∙ q.node in
     let d = p.decided in

@@ -1,6 +1,6 @@
 -- The entries of a history are those of the decisions of its data centre, one for each.
-use Rattle.std.proofs.Common.{◌≡◌, ◌∙◌, ℕ, zero, suc, ◌+◌, ◌<◌, ◌≤◌, Bool, true, false, List, [], ◌∷◌, Option, Some, None, refl, sym, ap, subst, length, arith}
-use Rattle.std.specs.Prelude.{◌≢◌, AllPairs, Contains, find, filter_map, flat_map, IsPermutation, option_map, option_and_then}
+use Rattle.std.proofs.Common.{◌≡◌, ◌∙◌, ℕ, zero, suc, ◌+◌, ◌<◌, ◌≤◌, Bool, List, Option, Some, None, refl, sym, ap, arith}
+use Rattle.std.specs.Prelude.{◌≢◌, Contains, flat_map, option_map, option_and_then}
 use Rattle.std.specs.List.{range_with_len}
 use Rattle.std.proofs.lemmas.List.FromFn.{length-range_with_len, get_or-range_with_len}
 use Rattle.logical_time.specs.Stamps.{TxnValue}
@@ -8,19 +8,18 @@ use Rattle.column_family.specs.declared.batch.Change.{Change}
 use Rattle.column_family.specs.declared.batch.Committed.{Committed}
 use Rattle.column_family.specs.Normal.{committed}
 use Rattle.planner.proofs.Members.{contains_flat, flat_contains, contains_below}
-use Rattle.store.proofs.Lists.{given, given_only}
-use Rattle.messages.specs.Topology.{TopologyValue, dc_of, shard_of, shard_node}
+use Rattle.messages.specs.Topology.{TopologyValue, shard_of, shard_node}
 use Rattle.messages.specs.Words.{is_same_txn}
 use Rattle.messages.specs.Shard.{Decision}
 use Rattle.messages.proofs.Numbering.{dc_of_shard, number_of_shard}
 use Rattle.world.specs.Run.{Run, Submission, submission_of}
-use Rattle.world.specs.Histories.{batch_in, batch_submitted, decisions_in, committed_of, history_of}
-use Rattle.world.specs.Entries.{AreOnce, HaveOwnStamps, IsEntryOf}
+use Rattle.world.specs.Histories.{batch_in, batch_submitted, decisions_in, committed_of}
+use Rattle.world.specs.Entries.{AreOnce, IsEntryOf}
 use Rattle.world.proofs.Among.{Among, among_contains, contains_among, find_some, find_none, any_false, same_txn, same_txn_self}
-use Rattle.world.proofs.Pairs.{no_pairs, append_pairs, among_pairs, given_pairs}
-use Rattle.world.proofs.Facts.{txn_of, IsWritten, lead}
+use Rattle.world.proofs.Pairs.{no_pairs, append_pairs}
+use Rattle.world.proofs.Facts.{txn_of, IsWritten}
 use Rattle.world.proofs.Invariant.{Inv, SubmittedSound}
-use Rattle.world.proofs.Decisions.{coordinator_below, one_lead, own_stamp, sound}
+use Rattle.world.proofs.Decisions.{one_lead}
 
 -- ## The decisions of a data centre
 
@@ -28,7 +27,8 @@ use Rattle.world.proofs.Decisions.{coordinator_below, one_lead, own_stamp, sound
 abbrev decided_by : TopologyValue → Run → ℕ → ℕ → List Decision
 decided_by top w dc shard = (w.shards (shard_node top dc shard)).decided
 
-pub decided_in : (top : TopologyValue) (w : Run) (dc s : ℕ) (d : Decision) → s < top.shards → Among d (w.shards (shard_node top dc s)).decided → Contains (decisions_in top w dc) d
+pub decided_in : (top : TopologyValue) (w : Run) (dc s : ℕ) (d : Decision) → s < top.shards → Among d (w.shards (shard_node top dc s)).decided
+    → Contains (decisions_in top w dc) d
 decided_in top w dc s d lt m =
     contains_flat (decided_by top w dc) (range_with_len 0 top.shards) s d (contains_below top.shards s lt) (among_contains d (decided_by top w dc s) m)
 
@@ -54,7 +54,8 @@ decided_apart top w dc s t d e inv a b lt m n same =
     let numbers = sym (number_of_shard top dc s a) ∙ ap (shard_of top) nodes ∙ number_of_shard top dc t b in
     omega arith
 
-once_from : (top : TopologyValue) (w : Run) (dc a n : ℕ) → Inv top w → a + n ≤ top.shards → AreOnce (flat_map (decided_by top w dc) (range_with_len a n))
+once_from : (top : TopologyValue) (w : Run) (dc a n : ℕ) → Inv top w → a + n ≤ top.shards
+    → AreOnce (flat_map (decided_by top w dc) (range_with_len a n))
 once_from top w dc a zero inv le = no_pairs (λ d e. d.txn ≢ e.txn)
 once_from top w dc a (suc n) inv le =
     append_pairs (λ d e. d.txn ≢ e.txn) (decided_by top w dc a) (flat_map (decided_by top w dc) (range_with_len (a + 1) n))
@@ -73,7 +74,8 @@ decided_once top w dc inv = once_from top w dc 0 top.shards inv (omega arith)
 
 -- ## Batches as submitted
 
-pub submission_found : (top : TopologyValue) (w : Run) (b : Submission) (t : TxnValue) → SubmittedSound top w → Among b w.submitted → txn_of b ≡ t → submission_of w.submitted t ≡ Some b
+pub submission_found : (top : TopologyValue) (w : Run) (b : Submission) (t : TxnValue) → SubmittedSound top w → Among b w.submitted → txn_of b ≡ t
+    → submission_of w.submitted t ≡ Some b
 submission_found top w b t s m e = go (submission_of w.submitted t) refl
   where
     is : Submission → Bool
@@ -87,7 +89,8 @@ submission_found top w b t s m e = go (submission_of w.submitted t) refl
         let r = find_some is w.submitted c found in
         ap Some (s.one c b r.0 m (same_txn (txn_of c) t r.1 ∙ sym e))
 
-pub batch_found : (top : TopologyValue) (w : Run) (t : TxnValue) (b : Submission) (batch : List Change) → SubmittedSound top w → IsWritten w t b batch → batch_submitted w t ≡ Some batch
+pub batch_found : (top : TopologyValue) (w : Run) (t : TxnValue) (b : Submission) (batch : List Change) → SubmittedSound top w
+    → IsWritten w t b batch → batch_submitted w t ≡ Some batch
 batch_found top w t b batch s p =
     ap (option_and_then (λ (z : Submission). batch_in z.op)) (submission_found top w b t s p.among p.txn) ∙ ap batch_in p.op
 

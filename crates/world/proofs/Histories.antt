@@ -1,35 +1,25 @@
 -- What histories tell, that they only grow, that stamps agree, and that completed writes stand in them.
-use Rattle.std.proofs.Common.{◌≡◌, ◌∙◌, ℕ, ◌<◌, Bool, true, false, List, Option, Some, inl, inr, refl, sym, ap, subst, arith}
-use Rattle.std.specs.Prelude.{◌≢◌, AllPairs, Contains, IsPermutation}
-use Rattle.std.specs.List.{IsDistinct}
+use Rattle.std.proofs.Common.{◌≡◌, ◌∙◌, ℕ, Bool, true, false, refl, sym, ap, arith}
+use Rattle.std.specs.Prelude.{◌≢◌, Contains, IsPermutation}
 use Rattle.std.specs.Ordering.{is_eq, ordering_then, nat_cmp}
 use Rattle.std.proofs.lemmas.Bool.Decides.{nat_tests}
 use Rattle.std.proofs.lemmas.List.Sorted.{Contains-permutation, IsPermutation-sym}
 use Rattle.std.proofs.lemmas.Map.Keys.{IsDistinct-IsPermutation, IsDistinct-from_apart, apart_from_distinct}
-use Rattle.logical_time.specs.Stamps.{StampValue, TxnValue, stamp_cmp}
-use Rattle.column_family.specs.declared.batch.Change.{Change}
+use Rattle.logical_time.specs.Stamps.{StampValue, stamp_cmp}
 use Rattle.column_family.specs.declared.batch.Committed.{Committed}
 use Rattle.column_family.specs.History.{History}
 use Rattle.column_family.specs.Normal.{committed}
-use Rattle.planner.specs.Plan.{coordinator_of}
 use Rattle.store.proofs.Lists.{given, given_only}
-use Rattle.messages.specs.declared.op.Op.{Op}
-use Rattle.messages.specs.declared.op.Op.TheVariants as op
-use Rattle.messages.specs.declared.outcome.Outcome.{Outcome}
-use Rattle.messages.specs.declared.outcome.Outcome.TheVariants as outcome
 use Rattle.messages.specs.Topology.{TopologyValue, shard_node}
 use Rattle.messages.specs.Shard.{Decision}
-use Rattle.messages.proofs.Numbering.{dc_of_shard}
-use Rattle.world.specs.Run.{Run, Submission, Completed}
+use Rattle.world.specs.Run.{Run}
 use Rattle.world.specs.Histories.{decisions_in, committed_of, history_of, IsHistory}
-use Rattle.world.specs.Entries.{HaveOwnStamps, IsEntryOf, TellsDecided, IsKeptIn, IsOf, IsHomeStamp, StampsAgree, IsTold, WritesAreTold}
-use Rattle.world.proofs.Among.{Among, among_contains, contains_among}
+use Rattle.world.specs.Entries.{AreNamedOnce, CoordinatorsDecide, HaveOwnStamps, IsEntryOf, TellsDecided}
+use Rattle.world.proofs.Among.{among_contains, contains_among}
 use Rattle.world.proofs.Pairs.{among_pairs, given_pairs}
-use Rattle.world.proofs.Growth.{Grows}
-use Rattle.world.proofs.Facts.{txn_of, IsWritten, lead, DecisionSound}
-use Rattle.world.proofs.Invariant.{Inv, IsOpen, EndSound}
-use Rattle.world.proofs.Decisions.{coordinator_below, sound, one_stamp, own_stamp, home_stamp}
-use Rattle.world.proofs.Entries.{decided_in, decided_by_one, decided_once, entry_found, entry_only}
+use Rattle.world.proofs.Invariant.{Inv}
+use Rattle.world.proofs.Decisions.{sound, own_stamp}
+use Rattle.world.proofs.Entries.{decided_by_one, decided_once, batch_found, entry_found, entry_only}
 
 -- ## Stamps of a history
 
@@ -110,3 +100,14 @@ history_tells top w dc h inv p = record {
 
     back : {d : Decision} → (c : Committed) × Contains (history_of top w dc) c × IsEntryOf w d c → (c : Committed) × Contains h c × IsEntryOf w d c
     back (c, has, is) = (c, Contains-permutation (history_of top w dc) h c turn has, is)
+
+-- ## Submissions and coordinators
+
+pub named_once : (top : TopologyValue) (w : Run) → Inv top w → AreNamedOnce w
+named_once top w inv s t m n sessions numbers =
+    inv.submitted.one s t (contains_among s w.submitted m) (contains_among t w.submitted n) (λ i. record { session = sessions i; number = numbers i })
+
+pub coordinators_decide : (top : TopologyValue) (w : Run) → Inv top w → CoordinatorsDecide top w
+coordinators_decide top w inv node d has =
+    let s = sound top w node d inv (contains_among d (w.shards node).decided has) in
+    (s.batch, batch_found top w d.txn s.submission s.batch inv.submitted s.written, s.here)

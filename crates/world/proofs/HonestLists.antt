@@ -1,7 +1,6 @@
 -- What a shard handled in a run is honest.
 use Rattle.std.proofs.Common.{◌≡◌, ℕ, ◌<◌, ◌≤◌, List, [], sym, subst, arith}
 use Rattle.std.specs.Prelude.{Contains}
-use Rattle.logical_time.specs.Stamps.{TxnValue}
 use Rattle.column_family.specs.declared.batch.Change.{Change}
 use Rattle.column_family.specs.Normal.{IsNormal}
 use Rattle.column_family.specs.Places.{normal_of}
@@ -12,7 +11,6 @@ use Rattle.messages.specs.declared.body.Body.{Body}
 use Rattle.messages.specs.declared.body.Body.TheVariants.{Begin, Prepare, Yes, Commit, At, NotBy, Check, Read as ReadNow, ReadAt, ReplBegin, ReplPart, Notify, PrepareRemote, DepCheck, DepOk, Done, PartNow, PartAt}
 use Rattle.messages.specs.declared.envelope.Envelope.{Envelope}
 use Rattle.messages.specs.Topology.{TopologyValue, shard_of}
-use Rattle.messages.specs.Shard.{PreparedPart}
 use Rattle.messages.specs.Honest.{IsHonest, Told, all_told, part_in}
 use Rattle.world.specs.Run.{Run}
 use Rattle.world.specs.Met.{envelopes_to}
@@ -51,12 +49,14 @@ part_normal top w from node time (PartAt number bound rows) h = nothing_normal
 
 -- ## All of it
 
-excluded_above : (top : TopologyValue) (w : Run) (node : ℕ) (x : Told) (e : Envelope) (time : ℕ) → Inv top w → Contains (all_told (envelopes_to w node)) x → Contains (envelopes_to w node) e → e.body ≡ NotBy x.txn time → time < x.commit
+excluded_above : (top : TopologyValue) (w : Run) (node : ℕ) (x : Told) (e : Envelope) (time : ℕ) → Inv top w
+    → Contains (all_told (envelopes_to w node)) x → Contains (envelopes_to w node) e → e.body ≡ NotBy x.txn time → time < x.commit
 excluded_above top w node x e time inv told has body =
     let h = subst (Says top w e.from node e.time) body (said top w node e inv has) in
     told_excluded top w e.from node time x inv (told_true top w node x inv told) h.0 h.1
 
-early_read : (top : TopologyValue) (w : Run) (node : ℕ) (e : Envelope) (number time : ℕ) (read : Read) → Inv top w → Contains (envelopes_to w node) e → e.body ≡ ReadAt number time read → time ≤ e.time
+early_read : (top : TopologyValue) (w : Run) (node : ℕ) (e : Envelope) (number time : ℕ) (read : Read) → Inv top w → Contains (envelopes_to w node) e
+    → e.body ≡ ReadAt number time read → time ≤ e.time
 early_read top w node e number time read inv has body = (subst (Says top w e.from node e.time) body (said top w node e inv has)).0
 
 -- the envelopes that a shard handled in a run are honest

@@ -1,11 +1,8 @@
 -- What holds of each two places of a list: of lists put together, of what a function gives, and in any order.
-use Rattle.std.proofs.Common.{◌≡◌, ◌∙◌, ℕ, zero, suc, ◌<◌, Bool, true, false, List, [], ◌∷◌, ◌++◌, Option, Some, None, ◌⊎◌, inl, inr, refl, sym, ap, subst, length, get_or, arith}
-use Rattle.std.specs.Prelude.{◌≢◌, AllPairs, Contains, filter_map, IsPermutation}
-use Rattle.std.specs.List.{cons_option, IsDistinct}
-use Rattle.std.specs.Ordering.{is_eq, ordering_then, nat_cmp}
-use Rattle.std.proofs.lemmas.Bool.Decides.{nat_tests}
+use Rattle.std.proofs.Common.{◌≡◌, suc, List, [], ◌∷◌, ◌++◌, Option, Some, None, inl, inr, refl, subst, arith}
+use Rattle.std.specs.Prelude.{AllPairs, filter_map}
+use Rattle.std.specs.List.{cons_option}
 use Rattle.std.proofs.lemmas.List.Kept.{AllPairs-cons}
-use Rattle.std.proofs.lemmas.Map.Keys.{IsDistinct-IsPermutation, IsDistinct-from_apart, apart_from_distinct}
 use Rattle.planner.proofs.Members.{all_members}
 use Rattle.store.proofs.Lists.{given_only}
 use Rattle.world.proofs.Among.{Among, among_contains, contains_among, among_append}
@@ -24,7 +21,8 @@ no_pairs R = λ i j d lt below. absurd (omega arith)
 pub more_pairs : {X : Type 0} (R : X → X → Type 0) (x : X) (xs : List X) → ((y : X) → Among y xs → R x y) → AllPairs R xs → AllPairs R (x ∷ xs)
 more_pairs R x xs h pairs = AllPairs-cons R x xs (all_members (R x) xs (λ y c. h y (contains_among y xs c))) pairs
 
-pub append_pairs : {X : Type 0} (R : X → X → Type 0) (xs ys : List X) → AllPairs R xs → AllPairs R ys → ((x y : X) → Among x xs → Among y ys → R x y) → AllPairs R (xs ++ ys)
+pub append_pairs : {X : Type 0} (R : X → X → Type 0) (xs ys : List X) → AllPairs R xs → AllPairs R ys → ((x y : X) → Among x xs → Among y ys → R x y)
+    → AllPairs R (xs ++ ys)
 append_pairs R [] ys first second cross = second
 append_pairs R (x ∷ xs) ys first second cross =
     more_pairs R x (xs ++ ys)
@@ -53,7 +51,8 @@ given_pairs R S f [] step pairs = no_pairs S
 given_pairs R S f (x ∷ xs) step pairs = given_more R S f x xs (f x) refl step pairs (given_pairs R S f xs step (later_pairs R x xs pairs))
 
 -- what holds of each two of the list's elements, in places one after the other
-pub among_pairs : {X : Type 0} (R S : X → X → Type 0) (xs : List X) → ((a b : X) → Among a xs → Among b xs → R a b → S a b) → AllPairs R xs → AllPairs S xs
+pub among_pairs : {X : Type 0} (R S : X → X → Type 0) (xs : List X) → ((a b : X) → Among a xs → Among b xs → R a b → S a b) → AllPairs R xs
+    → AllPairs S xs
 among_pairs R S [] step pairs = no_pairs S
 among_pairs R S (x ∷ xs) step pairs =
     more_pairs S x xs (λ y m. step x y (inl refl) (inr m) (first_pairs R x xs pairs y m))

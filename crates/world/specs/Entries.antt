@@ -8,10 +8,23 @@ use Rattle.planner.specs.Plan.{coordinator_of}
 use Rattle.messages.specs.declared.op.Op.TheVariants as op
 use Rattle.messages.specs.declared.outcome.Outcome.TheVariants as outcome
 use Rattle.logical_time.specs.Stamps.{StampValue}
-use Rattle.messages.specs.Topology.{TopologyValue, shard_node}
+use Rattle.messages.specs.Topology.{TopologyValue, dc_of, shard_node}
 use Rattle.messages.specs.Shard.{Decision}
 use Rattle.world.specs.Run.{Run, Submission, Completed}
 use Rattle.world.specs.Histories.{batch_submitted, decisions_in, IsHistory}
+
+-- ## Submissions and decisions
+
+-- an operation is submitted once: its session and its number name one submission
+abbrev pub AreNamedOnce : Run → Type 0
+AreNamedOnce w =
+    (s t : Submission) → Contains w.submitted s → Contains w.submitted t → s.session ≡ t.session → s.number ≡ t.number → s ≡ t
+
+-- whatever a shard decided was submitted as a batch, and the shard is the batch's coordinator in its data centre
+abbrev pub CoordinatorsDecide : TopologyValue → Run → Type 0
+CoordinatorsDecide top w =
+    (node : ℕ) (d : Decision) → Contains (w.shards node).decided d
+    → (batch : List Change) × (batch_submitted w d.txn ≡ Some batch) × (node ≡ shard_node top (dc_of top node) (coordinator_of top.shards batch))
 
 -- ## Entries
 
