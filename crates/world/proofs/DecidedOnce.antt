@@ -202,3 +202,14 @@ pub once_handled : (top : TopologyValue) (me n : ℕ) (a : ShardState) (from : �
     → ShardGrows a (handled top me n a from b).state → AreOnce a.decided → AreOnce (handled top me n a from b).state.decided
 once_handled top me n a from b above early grows once =
     once_grown a (handled top me n a from b).state n above early grows (handled_adds top me n a from b) once
+
+-- ## Parts prepared before
+
+-- a part that was prepared before what was decided of its transaction stays so
+pub before_kept : (a b : ShardState) (p : PreparedPart) → ShardGrows a b → p.time ≤ a.clock
+    → ((d : Decision) → Among d a.decided → d.txn ≡ p.txn → p.time < d.commit)
+    → (d : Decision) → Among d b.decided → d.txn ≡ p.txn → p.time < d.commit
+before_kept a b p grows le old d m same = elim (grows.decided_new d m) [
+  | inl was ↦ old d was same
+  | inr new ↦ (let above = new.above in omega arith)
+]
