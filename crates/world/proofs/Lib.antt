@@ -39,3 +39,10 @@ pub mod Writes
 pub mod CommitsKept
 pub mod ReadsKept
 pub mod Submissions
+pub mod Pairs
+pub mod Decisions
+pub mod Entries
+pub mod Histories
+pub mod KeptEntries
+pub mod Told
+pub mod HonestLists
