@@ -1,5 +1,5 @@
 -- A session's step that ends its operation, and one that leaves it open.
-use Rattle.std.proofs.Common.{◌≡◌, ℕ, ◌+◌, ◌<◌, ◌≤◌, List, [], ◌∷◌, ◌++◌, drop, length, Option, Some, None, inl, inr, refl, sym, ap, ap₂, ◌∙◌, subst, arith, le_refl, le_trans}
+use Rattle.std.proofs.Common.{◌≡◌, ℕ, ◌+◌, ◌<◌, ◌≤◌, false, List, [], ◌∷◌, ◌++◌, drop, length, Option, Some, None, inl, inr, refl, sym, ap, ap₂, ◌∙◌, subst, arith, le_refl, le_trans}
 use Rattle.std.specs.Prelude.{filter_map, option_map, Contains}
 use Rattle.std.proofs.Math.Seq.{drop-append_seam, drop-length}
 use Rattle.logical_time.specs.Stamps.{TxnValue, WriterValue}
@@ -10,7 +10,7 @@ use Rattle.messages.specs.declared.outcome.Outcome.{Outcome}
 use Rattle.messages.specs.declared.envelope.Envelope.{Envelope}
 use Rattle.messages.specs.Topology.{TopologyValue}
 use Rattle.messages.specs.Words.{is_same_txn}
-use Rattle.messages.specs.Session.{SessionState, SessionStep, Open, Idle, Writing, FirstRound, SecondRound, HeardNow, HeardAt, Finished, calm}
+use Rattle.messages.specs.Session.{SessionState, SessionStep, Open, Idle, Writing, FirstRound, SecondRound, HeardNow, HeardAt, Finished, calm, is_idle}
 use Rattle.messages.specs.SessionEvents.{ended}
 use Rattle.world.specs.Run.{Run, Submission, Completed, submission_of, completed_of, newly_completed}
 use Rattle.world.proofs.Among.{Among, among_contains, contains_among, find_some, same_txn}
@@ -18,7 +18,7 @@ use Rattle.world.proofs.Growth.{FirstAsked, SecondAsked, Grows}
 use Rattle.world.proofs.Facts.{txn_of, IsDone}
 use Rattle.world.proofs.Invariant.{EnvelopeSound, IsOpen, HeardNowSound, HeardAtSound, OpenSound, SubmittedSound, EndSound, CompletedSound, Inv}
 use Rattle.world.proofs.Lasting.{same_shard_grows, same_session_grows, answers_now_grow}
-use Rattle.world.proofs.SessionSteps.{SessionAble}
+use Rattle.world.proofs.SessionSteps.{EndLeaves, SessionAble}
 
 pub same_run_grows : (top : TopologyValue) (w : Run) → Grows top w w
 same_run_grows top w =
@@ -77,8 +77,9 @@ module _ (top : TopologyValue) (w : Run) (node n : ℕ) (inv : Inv top w) (le : 
   -- the operation ends
   pub ended_able : (floor : ℕ) (dependencies : List WriterValue) (out : Outcome) (o : Op) → (w.sessions node).floor ≤ floor → floor ≤ n → IsOpen w node (w.sessions node).count (w.sessions node).home o
       → EndSound o out top w (w.sessions node).home (record { session = node; number = (w.sessions node).count })
-      → ((k : WriterValue) → Among k dependencies → IsDone top w (w.sessions node).home k.txn (floor + 1)) → ((k : WriterValue) → Among k dependencies → k.shard < top.shards) → SessionAble top w node (ended n (w.sessions node) floor dependencies out)
-  ended_able floor dependencies out o above below b came done placed =
+      → ((k : WriterValue) → Among k dependencies → IsDone top w (w.sessions node).home k.txn (floor + 1)) → ((k : WriterValue) → Among k dependencies → k.shard < top.shards)
+      → is_idle (w.sessions node).current ≡ false → EndLeaves o out top w node floor dependencies → SessionAble top w node (ended n (w.sessions node) floor dependencies out)
+  ended_able floor dependencies out o above below b came done placed busy leaves =
       let a = w.sessions node in
       record {
         grows =
@@ -97,14 +98,27 @@ module _ (top : TopologyValue) (w : Run) (node n : ℕ) (inv : Inv top w) (le : 
             )
             );
         sends = λ x g at e m. absurd m;
+        turn =
+            inr
+            (record {
+              what = o;
+              came = out;
+              opened = b;
+              busy = busy;
+              idle = refl;
+              count = refl;
+              floor = above;
+              outcomes = refl;
+              leaves = leaves;
+            });
       }
 
   -- the operation is left open
   pub waits_able : (o : Open) (sends : List Envelope) → ((m : ℕ) (asked : Read) → FirstAsked top (w.sessions node).current m asked → FirstAsked top o m asked)
       → ((time m : ℕ) (asked : Read) → SecondAsked (w.sessions node).current time m asked → SecondAsked o time m asked) → OpenSound top w node (record (w.sessions node) { clock = n; current = o }) o
       → ((x : Run) → Grows top w x → x.sessions node ≡ record (w.sessions node) { clock = n; current = o } → (e : Envelope) → Among e sends → EnvelopeSound top x e)
-      → SessionAble top w node (record { state = record (w.sessions node) { clock = n; current = o }; sends = sends })
-  waits_able o sends asked_first asked_second sound send =
+      → is_idle o ≡ is_idle (w.sessions node).current → SessionAble top w node (record { state = record (w.sessions node) { clock = n; current = o }; sends = sends })
+  waits_able o sends asked_first asked_second sound send idle =
       let a = w.sessions node in
       record {
         grows =
@@ -125,6 +139,7 @@ module _ (top : TopologyValue) (w : Run) (node n : ℕ) (inv : Inv top w) (le : 
         };
         completed = λ c m. absurd (subst (λ fs. Among c (filter_map (completed_of w.submitted node) fs)) (drop-length a.outcomes) m);
         sends = send;
+        turn = inl (record { count = refl; floor = refl; dependencies = refl; outcomes = refl; idle = idle });
       }
 
   -- ## What was heard stays so as the clock moves
@@ -153,4 +168,4 @@ module _ (top : TopologyValue) (w : Run) (node n : ℕ) (inv : Inv top w) (le : 
   pub calm_able : SessionAble top w node (calm n (w.sessions node))
   calm_able =
       let now = (w.sessions node).current in
-      waits_able now [] (λ m asked k. k) (λ time m asked k. k) (open_later now now (inv.sessions node).current) (λ x g at e m. absurd m)
+      waits_able now [] (λ m asked k. k) (λ time m asked k. k) (open_later now now (inv.sessions node).current) (λ x g at e m. absurd m) refl
