@@ -16,3 +16,4 @@ pub mod Ables
 pub mod PartsKept
 pub mod LetGo
 pub mod ReadsKept
+pub mod Patience
