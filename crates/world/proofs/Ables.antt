@@ -75,6 +75,29 @@ added top w node a b st g f k =
       fresh = λ x gr at. then_fresh top x node a b st (f x gr (subst (λ z. st.state.clock ≤ z.clock) (sym at) (le_refl _))) (k.fresh x gr at);
     }
 
+-- the second differs from the first in kept inputs alone: in votes, notices, answers, or what was replicated
+pub record Alike (a b : ShardState) : Type 0 where
+  pub clock : b.clock ≡ a.clock
+  pub prepared : b.prepared ≡ a.prepared
+  pub decided : b.decided ≡ a.decided
+  pub applied : b.applied ≡ a.applied
+  pub askers : b.askers ≡ a.askers
+  pub waiting : b.waiting ≡ a.waiting
+
+pub alike_self : (a : ShardState) → Alike a a
+alike_self a = record { clock = refl; prepared = refl; decided = refl; applied = refl; askers = refl; waiting = refl }
+
+pub alike_grows : (a b : ShardState) → Alike a b → ShardGrows a b
+alike_grows a b k =
+    record {
+      clock = subst (λ c. a.clock ≤ c) (sym k.clock) (le_refl a.clock);
+      prepared = λ p m. subst (λ l. Among p l) (sym k.prepared) m;
+      prepared_new = λ p m. inl (subst (λ l. Among p l) k.prepared m);
+      decided = λ d m. subst (λ l. Among d l) (sym k.decided) m;
+      decided_new = λ d m. inl (subst (λ l. Among d l) k.decided m);
+      applied = λ v m. subst (λ l. Among v l) (sym k.applied) m;
+    }
+
 -- ## What isn't known
 
 pub absent : {X : Type 0} (f : X → TxnValue) (t : TxnValue) (xs : List X) → list_any (λ x. is_same_txn (f x) t) xs ≡ false → (x : X) → Among x xs → f x ≡ t → ⊥

@@ -17,3 +17,5 @@ pub mod PartsKept
 pub mod LetGo
 pub mod ReadsKept
 pub mod Patience
+pub mod StampsApart
+pub mod Decides
