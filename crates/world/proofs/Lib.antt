@@ -10,7 +10,6 @@ pub mod Able
 pub mod ShardSteps
 pub mod RowTimes
 pub mod AskedMarks
-pub mod Written
 pub mod Near
 pub mod Ables
 pub mod PartsKept
@@ -19,3 +18,4 @@ pub mod ReadsKept
 pub mod Patience
 pub mod StampsApart
 pub mod Decides
+pub mod ReadyKept
