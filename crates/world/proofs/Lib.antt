@@ -19,3 +19,4 @@ pub mod Patience
 pub mod StampsApart
 pub mod Decides
 pub mod ReadyKept
+pub mod ReplicasKept
