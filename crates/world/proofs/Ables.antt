@@ -20,9 +20,12 @@ use Rattle.world.proofs.Facts.{IsWritten, part_on, DecidedOnce, PreparedBefore, 
 use Rattle.world.proofs.Invariant.{EnvelopeSound}
 use Rattle.world.proofs.Able.{Fresh, Able}
 use Rattle.world.proofs.Near.{lead_number}
-use Rattle.world.proofs.Lasting.{written_grows, before_grows, ballot_grows}
+use Rattle.world.proofs.Lasting.{same_shard_grows, same_session_grows, written_grows, before_grows, ballot_grows}
 
 -- ## One step after another
+
+pub same_run : (top : TopologyValue) (w : Run) → Grows top w w
+same_run top w = record { shards = λ i. same_shard_grows (w.shards i); sessions = λ i. same_session_grows top (w.sessions i); submitted = λ b m. m; transcript = λ c m. m }
 
 pub then_grows : {a b c : ShardState} → ShardGrows a b → ShardGrows b c → ShardGrows a c
 then_grows {a} {b} {c} f g =

@@ -20,3 +20,5 @@ pub mod StampsApart
 pub mod Decides
 pub mod ReadyKept
 pub mod ReplicasKept
+pub mod Writes
+pub mod CommitsKept
