@@ -20,5 +20,6 @@ pub mod StampsApart
 pub mod Decides
 pub mod ReadyKept
 pub mod ReplicasKept
+pub mod PatientSteps
 pub mod Writes
 pub mod CommitsKept
