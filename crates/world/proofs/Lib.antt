@@ -23,3 +23,4 @@ pub mod ReplicasKept
 pub mod PatientSteps
 pub mod Writes
 pub mod CommitsKept
+pub mod HandlesKept
