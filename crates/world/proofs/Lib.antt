@@ -28,16 +28,19 @@ pub mod SessionEnds
 pub mod SessionsKept
 pub mod RowTimes
 pub mod AskedMarks
-pub mod Written
 pub mod Near
 pub mod Ables
 pub mod PartsKept
 pub mod LetGo
+pub mod ReadsKept
+pub mod Patience
 pub mod StampsApart
 pub mod Decides
+pub mod ReadyKept
+pub mod ReplicasKept
+pub mod PatientSteps
 pub mod Writes
 pub mod CommitsKept
-pub mod ReadsKept
 pub mod Submissions
 pub mod Pairs
 pub mod Decisions
@@ -46,3 +49,4 @@ pub mod Histories
 pub mod KeptEntries
 pub mod Told
 pub mod HonestLists
+pub mod HandlesKept
