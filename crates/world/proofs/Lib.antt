@@ -23,3 +23,4 @@ pub mod PartsKept
 pub mod LetGo
 pub mod ReadsKept
 pub mod Submissions
+pub mod Events
