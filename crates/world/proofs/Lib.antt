@@ -24,3 +24,4 @@ pub mod LetGo
 pub mod ReadsKept
 pub mod Submissions
 pub mod Events
+pub mod Runs
