@@ -1,5 +1,5 @@
 -- Each event keeps all, and the run grows by it, if the steps of shards do.
-use Rattle.std.proofs.Common.{◌≡◌, ℕ, ◌+◌, ◌<◌, max, Bool, true, false, cond, List, [], ◌∷◌, Option, Some, None, Result, Ok, Err, refl, sym, subst, arith, le_of_lt, slice_get}
+use Rattle.std.proofs.Common.{◌≡◌, ℕ, ◌+◌, ◌<◌, max, Bool, true, false, cond, Option, Some, None, refl, arith, le_of_lt, slice_get}
 use Rattle.std.specs.Prelude.{nat_lt, ◌^◌}
 use Rattle.logical_time.specs.declared.fault.Fault.{Fault}
 use Rattle.messages.specs.declared.op.Op.{Op}
@@ -7,11 +7,10 @@ use Rattle.messages.specs.declared.body.Body.{Body}
 use Rattle.messages.specs.declared.envelope.Envelope.{Envelope}
 use Rattle.messages.specs.Topology.{TopologyValue, is_shard, is_session}
 use Rattle.messages.specs.Clock.{ticked, on_clock}
-use Rattle.messages.specs.Shard.{ShardState, ShardStep}
-use Rattle.messages.specs.Session.{SessionState, SessionStep, is_idle}
-use Rattle.messages.specs.Submitting.{begun, plan_fault, submit_fault, session_submit, submit_if as session_submit_if}
+use Rattle.messages.specs.Session.{is_idle}
+use Rattle.messages.specs.Submitting.{begun, plan_fault, submit_fault, submit_if as session_submit_if}
 use Rattle.messages.specs.SessionEvents.{heard, session_handle}
-use Rattle.messages.specs.ShardEvents.{handled, shard_handle, collected, shard_collect}
+use Rattle.messages.specs.ShardEvents.{handled, shard_handle, collected}
 use Rattle.world.specs.Run.{Run, Event, Submit, Deliver, Collect, after_shard, after_session, after_submission, submit_if, deliver_if, deliver_for, collect_if, step}
 use Rattle.world.proofs.Among.{Among, get_among}
 use Rattle.world.proofs.Growth.{Grows}

@@ -1,5 +1,5 @@
 -- All holds of every run, and a run grows with each event.
-use Rattle.std.proofs.Common.{◌≡◌, ℕ, ◌<◌, List, [], ◌∷◌, ◌++◌, refl, ◌∙◌, le_refl, le_trans}
+use Rattle.std.proofs.Common.{◌≡◌, ◌<◌, List, [], ◌∷◌, ◌++◌, refl, ◌∙◌, le_refl, le_trans}
 use Rattle.messages.specs.Topology.{TopologyValue}
 use Rattle.messages.specs.Session.{SessionState}
 use Rattle.world.specs.Run.{Run, Event, opening, step, continued, run}
@@ -7,7 +7,7 @@ use Rattle.world.proofs.Growth.{SessionGrows, Grows}
 use Rattle.world.proofs.Invariant.{Inv}
 use Rattle.world.proofs.Ables.{then_grows}
 use Rattle.world.proofs.SessionEnds.{same_run_grows}
-use Rattle.world.proofs.Events.{Kept, Handles, Collects, event_kept}
+use Rattle.world.proofs.Events.{Handles, Collects, event_kept}
 
 pub opening_holds : (top : TopologyValue) → Inv top (opening top)
 opening_holds top =

@@ -1,10 +1,10 @@
 -- One session's step keeps all, if what it adds is sound.
-use Rattle.std.proofs.Common.{◌≡◌, ℕ, ◌≤◌, Bool, true, false, cond, List, [], ◌∷◌, ◌++◌, ◌⊎◌, inl, inr, refl, sym, ap, ◌∙◌, subst, arith, eqb-true, eq-eqb, le_trans, Ok}
+use Rattle.std.proofs.Common.{◌≡◌, ℕ, Bool, true, false, cond, inl, inr, refl, sym, subst, eqb-true, le_trans, Ok}
 use Rattle.std.specs.Prelude.{◌==◌}
 use Rattle.messages.specs.declared.envelope.Envelope.{Envelope}
 use Rattle.messages.specs.Topology.{TopologyValue}
 use Rattle.messages.specs.Session.{SessionState, SessionStep}
-use Rattle.world.specs.Run.{Run, Event, Submission, Completed, with_actor, newly_completed, after_session}
+use Rattle.world.specs.Run.{Run, Event, Completed, with_actor, newly_completed, after_session}
 use Rattle.world.proofs.Among.{Among, among_append, append_first}
 use Rattle.world.proofs.Growth.{SessionGrows, Grows}
 use Rattle.world.proofs.Invariant.{EnvelopeSound, SessionSound, CompletedSound, Inv}

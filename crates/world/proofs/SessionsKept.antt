@@ -3,8 +3,7 @@ use Rattle.std.proofs.Common.{◌≡◌, ℕ, ◌+◌, ◌<◌, ◌≤◌, max, 
 use Rattle.std.specs.Prelude.{◌==◌}
 use Rattle.std.specs.List.{list_all}
 use Rattle.std.proofs.lemmas.Bool.{and_parts}
-use Rattle.logical_time.specs.Stamps.{StampValue, TxnValue, WriterValue}
-use Rattle.column_family.specs.declared.batch.Change.{Change}
+use Rattle.logical_time.specs.Stamps.{StampValue, TxnValue}
 use Rattle.slice.specs.declared.read.Read.{Read}
 use Rattle.messages.specs.declared.rows_now.RowNow.{RowNow}
 use Rattle.messages.specs.declared.rows_at.RowAt.{RowAt}
@@ -14,19 +13,18 @@ use Rattle.messages.specs.declared.op.Op.TheVariants as op
 use Rattle.messages.specs.declared.outcome.Outcome.TheVariants as outcome
 use Rattle.messages.specs.declared.body.Body.{Body}
 use Rattle.messages.specs.declared.body.Body.TheVariants.{Done, PartNow, PartAt}
-use Rattle.messages.specs.declared.envelope.Envelope.{Envelope}
 use Rattle.messages.specs.Topology.{TopologyValue, dc_of, shard_of}
 use Rattle.messages.specs.Words.{is_same_txn}
-use Rattle.messages.specs.Session.{SessionState, Open, Idle, Writing, FirstRound, SecondRound, HeardNow, HeardAt}
+use Rattle.messages.specs.Session.{Open, Idle, Writing, FirstRound, SecondRound, HeardNow, HeardAt}
 use Rattle.messages.specs.Submitting.{share_of}
 use Rattle.messages.specs.Rounds.{asked_nodes, is_missing, all_heard, effective_time, late_keys, late_nodes, was_heard_at, is_missing_at, all_heard_at, rows_taken, answer_of, with_writers}
-use Rattle.messages.specs.SessionEvents.{answered, given_up, written, done_if, done_in, read_at_of, second_if, second, heard_if, heard_now, part_now_if, part_now_in, heard_at_if, heard_at, taken_at, part_at_if, part_at_in, heard}
+use Rattle.messages.specs.SessionEvents.{answered, written, done_if, done_in, read_at_of, second_if, heard_if, part_now_if, part_now_in, heard_at_if, taken_at, part_at_if, part_at_in, heard}
 use Rattle.messages.proofs.Greatest.{effective_above_floor}
 use Rattle.world.specs.Run.{Run}
 use Rattle.world.proofs.Among.{Among, last_or_old, map_only, same_txn}
-use Rattle.world.proofs.Growth.{FirstAsked, SecondAsked, AskedNow, AskedAt, Grows}
+use Rattle.world.proofs.Growth.{FirstAsked, SecondAsked, AskedAt}
 use Rattle.world.proofs.Facts.{IsWritten, lead, IsDecided, IsDone, DecisionSound, AnswersNow, AnswersAt}
-use Rattle.world.proofs.Invariant.{home, TellsDecision, TellsNow, TellsAt, TellsThen, Says, EnvelopeSound, IsOpen, HeardNowSound, HeardAtSound, WritingSound, FirstSound, SecondSound, OpenSound, AnsweredFrom, Inv}
+use Rattle.world.proofs.Invariant.{home, TellsNow, TellsAt, TellsThen, Says, EnvelopeSound, IsOpen, HeardNowSound, HeardAtSound, WritingSound, SecondSound, OpenSound, AnsweredFrom, Inv}
 use Rattle.world.proofs.Lasting.{answers_now_grow}
 use Rattle.world.proofs.SessionSteps.{SessionAble}
 use Rattle.world.proofs.SessionEnds.{same_run_grows, open_txn, ended_able, waits_able, calm_able, heard_now_later, heard_at_later}

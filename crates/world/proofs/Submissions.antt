@@ -1,7 +1,5 @@
 -- A submission keeps all: its messages are sound, and so is the operation that it opens.
-use Rattle.std.proofs.Common.{◌≡◌, ℕ, ◌+◌, ◌<◌, ◌≤◌, Bool, true, false, cond, List, [], ◌∷◌, ◌++◌, map, Option, Some, None, ◌⊎◌, inl, inr, refl, sym, ap, ◌∙◌, subst, arith, eqb-true, eq-eqb, le_refl, le_trans, le_of_lt, Ok}
-use Rattle.std.specs.Prelude.{◌==◌}
-use Rattle.logical_time.specs.Stamps.{TxnValue, WriterValue}
+use Rattle.std.proofs.Common.{◌≡◌, ℕ, ◌+◌, ◌<◌, ◌≤◌, List, [], ◌∷◌, None, ◌⊎◌, inl, inr, refl, sym, ap, ◌∙◌, subst, arith, le_refl, le_trans, le_of_lt, Ok}
 use Rattle.column_family.specs.declared.batch.Change.{Change}
 use Rattle.column_family.specs.Places.{normal_of}
 use Rattle.slice.specs.declared.read.Read.{Read}
@@ -10,16 +8,16 @@ use Rattle.messages.specs.declared.op.Op.{Op}
 use Rattle.messages.specs.declared.op.Op.TheVariants as op
 use Rattle.messages.specs.declared.body.Body.TheVariants as body
 use Rattle.messages.specs.declared.envelope.Envelope.{Envelope}
-use Rattle.messages.specs.Topology.{TopologyValue, dc_of, shard_of}
+use Rattle.messages.specs.Topology.{TopologyValue}
 use Rattle.messages.specs.Words.{envelope}
-use Rattle.messages.specs.Session.{SessionState, SessionStep, Open, FirstRound}
+use Rattle.messages.specs.Session.{SessionState, SessionStep, Open}
 use Rattle.messages.specs.Submitting.{next_txn, home_node, begin_of, prepare_of, write_begun, share_of, read_begun, begun, plan_fault}
 use Rattle.messages.proofs.Numbering.{dc_of_shard, number_of_shard}
 use Rattle.world.specs.Run.{Run, Submission, after_submission}
 use Rattle.world.proofs.Among.{Among, among_append, append_first, among_last, last_or_old, map_only}
-use Rattle.world.proofs.Growth.{FirstAsked, SecondAsked, AskedNow, AskedAt, SessionGrows, Grows}
-use Rattle.world.proofs.Facts.{txn_of, IsWritten, lead, IsDone, BallotSound}
-use Rattle.world.proofs.Invariant.{home, PrepareSound, EnvelopeSound, IsOpen, OpenSound, SessionSound, SubmittedSound, Inv}
+use Rattle.world.proofs.Growth.{AskedNow, SessionGrows, Grows}
+use Rattle.world.proofs.Facts.{txn_of, IsWritten, lead, IsDone}
+use Rattle.world.proofs.Invariant.{home, EnvelopeSound, IsOpen, OpenSound, SessionSound, SubmittedSound, Inv}
 use Rattle.world.proofs.Lasting.{same_shard_grows, done_grows}
 use Rattle.world.proofs.LastingAll.{says_grows, shard_grows, session_grows, completed_grows}
 use Rattle.world.proofs.ShardSteps.{actor_same}

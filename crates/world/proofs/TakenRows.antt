@@ -1,30 +1,26 @@
 -- The rows that a read takes answer it: each asked key has one, and each is right at the effective time.
-use Rattle.std.proofs.Common.{◌≡◌, ℕ, ◌<◌, ◌≤◌, ◌+◌, Bool, true, false, List, [], ◌∷◌, ◌++◌, map, ◌⊎◌, inl, inr, refl, sym, ap, ◌∙◌, subst, arith, eqb-true, eq-eqb, leb-true, le_trans, lt_of_le_of_lt}
+use Rattle.std.proofs.Common.{◌≡◌, ℕ, ◌<◌, ◌≤◌, Bool, true, false, List, map, inl, inr, refl, sym, ap, ◌∙◌, subst, arith, eqb-true, eq-eqb, leb-true, le_trans, lt_of_le_of_lt}
 use Rattle.std.specs.Prelude.{◌==◌, nat_le, nat_lt, flat_map, filter}
 use Rattle.std.proofs.lemmas.Bool.Decides.{nat_tests}
-use Rattle.logical_time.specs.Stamps.{TxnValue, WriterValue}
+use Rattle.logical_time.specs.Stamps.{TxnValue}
 use Rattle.column_family.specs.declared.batch.Row.{Row}
 use Rattle.slice.specs.declared.read.Read.{Read}
 use Rattle.store.specs.declared.part.Applied.{Applied}
-use Rattle.store.specs.Part.{applied_by}
 use Rattle.store.proofs.FromEvt.{right_from_evt}
 use Rattle.planner.specs.Partition.{shard_of as shard_of_key}
 use Rattle.planner.specs.Plan.{keys_for}
 use Rattle.messages.specs.declared.rows_now.RowNow.{RowNow}
 use Rattle.messages.specs.declared.rows_at.RowAt.{RowAt}
-use Rattle.messages.specs.Topology.{TopologyValue, shard_of, shard_node, dc_of}
+use Rattle.messages.specs.Topology.{TopologyValue, shard_of, shard_node}
 use Rattle.messages.specs.Session.{SessionState, HeardNow, HeardAt}
-use Rattle.messages.specs.Submitting.{home_node, share_of}
+use Rattle.messages.specs.Submitting.{home_node}
 use Rattle.messages.specs.Rows.{row_of}
-use Rattle.messages.specs.Rounds.{asked_nodes, all_heard, rows_heard, effective_time, row_taken, accepted, rows_from, late_keys, is_late, late_nodes, all_heard_at, rows_taken, with_writers}
-use Rattle.messages.proofs.Greatest.{effective_above_floor, effective_above_each, effective_no_greater}
-use Rattle.messages.proofs.Numbering.{dc_of_shard}
-use Rattle.messages.proofs.WritersInOrder.{writers_stay}
+use Rattle.messages.specs.Rounds.{asked_nodes, all_heard, rows_heard, effective_time, row_taken, accepted, rows_from, late_keys, is_late, all_heard_at, rows_taken}
+use Rattle.messages.proofs.Greatest.{effective_above_each, effective_no_greater}
 use Rattle.world.specs.Run.{Run}
 use Rattle.world.proofs.Among.{Among, among_append, append_first, append_second, among_contains, contains_among, any_among, filter_only, filter_among, map_only, map_among}
-use Rattle.world.proofs.Growth.{Grows}
-use Rattle.world.proofs.Facts.{Excluded, Complete, IsDone, RowNowSound, RowAtSound, AppliedSound, part_now, near}
-use Rattle.world.proofs.Invariant.{HeardNowSound, HeardAtSound, AnsweredFrom, Inv}
+use Rattle.world.proofs.Facts.{Excluded, Complete, RowNowSound, RowAtSound, part_now}
+use Rattle.world.proofs.Invariant.{HeardNowSound, HeardAtSound, AnsweredFrom}
 use Rattle.world.proofs.Asking.{flat_only, flat_among, key_asked, key_shared, shared_lies, heard_from, heard_late}
 
 excluded_below : {w : Run} {node : ℕ} {t : TxnValue} {n m : ℕ} → m ≤ n → Excluded w node t n → Excluded w node t m

@@ -1,6 +1,6 @@
 -- What the rows of a read rest on was decided where they lie, not above the time of the read.
 use Rattle.std.proofs.Common.{◌≡◌, ℕ, ◌+◌, ◌<◌, ◌≤◌, List, ◌++◌, ◌⊎◌, inl, inr, sym, ap, ◌∙◌, subst, arith, leb-true, lt_of_lt_of_le}
-use Rattle.std.specs.Prelude.{nat_le, flat_map, Contains}
+use Rattle.std.specs.Prelude.{nat_le, flat_map}
 use Rattle.logical_time.specs.Stamps.{TxnValue, WriterValue}
 use Rattle.slice.specs.declared.read.Read.{Read}
 use Rattle.store.specs.declared.part.Applied.{Applied}
