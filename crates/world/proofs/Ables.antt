@@ -2,7 +2,7 @@
 use Rattle.std.proofs.Common.{◌≡◌, ℕ, ◌+◌, ◌<◌, ◌≤◌, Bool, true, false, ◌||◌, List, [], ◌∷◌, ◌++◌, Option, Some, None, ◌⊎◌, inl, inr, refl, sym, ap, ◌∙◌, subst, arith, le_refl, le_trans, le_of_lt, lt_of_le_of_lt}
 use Rattle.std.specs.Prelude.{find, is_some}
 use Rattle.std.specs.List.{list_any}
-use Rattle.std.proofs.lemmas.Bool.{false≢true, or_parts}
+use Rattle.std.proofs.lemmas.Bool.{false≢true}
 use Rattle.logical_time.specs.Stamps.{TxnValue}
 use Rattle.column_family.specs.declared.batch.Change.{Change}
 use Rattle.store.specs.Keeps.{AreApart}
@@ -10,19 +10,22 @@ use Rattle.planner.specs.Plan.{coordinator_of}
 use Rattle.messages.specs.declared.envelope.Envelope.{Envelope}
 use Rattle.messages.specs.Topology.{TopologyValue, dc_of, shard_of}
 use Rattle.messages.specs.Words.{is_same_txn}
-use Rattle.messages.specs.Shard.{ShardState, ShardStep, Role, Own, Cohort, Replica, PreparedPart, BegunBallot, Vote, Decision, KeptPart, KeptBallot, quiet}
+use Rattle.messages.specs.Shard.{ShardState, ShardStep, Role, Own, Cohort, PreparedPart, BegunBallot, Vote, Decision, KeptPart, KeptBallot, quiet}
 use Rattle.messages.specs.Known.{decision_of, prepared_part, kept_part, kept_ballot, is_known}
 use Rattle.messages.specs.Commits.{hold, prepare_part}
 use Rattle.world.specs.Run.{Run, Submission}
-use Rattle.world.proofs.Among.{Among, among_append, append_first, append_second, among_last, last_or_old, any_false, find_none, same_txn_self}
+use Rattle.world.proofs.Among.{Among, among_append, append_first, among_last, last_or_old, any_false, find_none, same_txn_self}
 use Rattle.world.proofs.Growth.{NewPrepared, NewDecision, ShardGrows, Grows}
 use Rattle.world.proofs.Facts.{IsWritten, part_on, DecidedOnce, PreparedBefore, RoleFits, PreparedSound, BallotSound}
 use Rattle.world.proofs.Invariant.{EnvelopeSound}
 use Rattle.world.proofs.Able.{Fresh, Able}
 use Rattle.world.proofs.Near.{lead_number}
-use Rattle.world.proofs.Lasting.{written_grows, before_grows, ballot_grows}
+use Rattle.world.proofs.Lasting.{same_shard_grows, same_session_grows, written_grows, before_grows, ballot_grows}
 
 -- ## One step after another
+
+pub same_run : (top : TopologyValue) (w : Run) → Grows top w w
+same_run top w = record { shards = λ i. same_shard_grows (w.shards i); sessions = λ i. same_session_grows top (w.sessions i); submitted = λ b m. m; transcript = λ c m. m }
 
 pub then_grows : {a b c : ShardState} → ShardGrows a b → ShardGrows b c → ShardGrows a c
 then_grows {a} {b} {c} f g =
@@ -73,6 +76,29 @@ added top w node a b st g f k =
     record {
       grows = then_grows g k.grows;
       fresh = λ x gr at. then_fresh top x node a b st (f x gr (subst (λ z. st.state.clock ≤ z.clock) (sym at) (le_refl _))) (k.fresh x gr at);
+    }
+
+-- the second differs from the first in kept inputs alone: in votes, notices, answers, or what was replicated
+pub record Alike (a b : ShardState) : Type 0 where
+  pub clock : b.clock ≡ a.clock
+  pub prepared : b.prepared ≡ a.prepared
+  pub decided : b.decided ≡ a.decided
+  pub applied : b.applied ≡ a.applied
+  pub askers : b.askers ≡ a.askers
+  pub waiting : b.waiting ≡ a.waiting
+
+pub alike_self : (a : ShardState) → Alike a a
+alike_self a = record { clock = refl; prepared = refl; decided = refl; applied = refl; askers = refl; waiting = refl }
+
+pub alike_grows : (a b : ShardState) → Alike a b → ShardGrows a b
+alike_grows a b k =
+    record {
+      clock = subst (λ c. a.clock ≤ c) (sym k.clock) (le_refl a.clock);
+      prepared = λ p m. subst (λ l. Among p l) (sym k.prepared) m;
+      prepared_new = λ p m. inl (subst (λ l. Among p l) k.prepared m);
+      decided = λ d m. subst (λ l. Among d l) (sym k.decided) m;
+      decided_new = λ d m. inl (subst (λ l. Among d l) k.decided m);
+      applied = λ v m. subst (λ l. Among v l) (sym k.applied) m;
     }
 
 -- ## What isn't known
@@ -161,7 +187,8 @@ quiet_able top w node n a lt once apart = sends_able top w node n a [] lt once a
 
 -- ## A new mark
 
-new_prepared : (a : ShardState) (p : PreparedPart) → a.clock < p.time → ((g : PreparedPart) → Among g a.prepared → g.txn ≡ p.txn → ⊥) → (g : PreparedPart) → Among g (a.prepared ++ p ∷ []) → Among g a.prepared ⊎ NewPrepared a g
+new_prepared : (a : ShardState) (p : PreparedPart) → a.clock < p.time → ((g : PreparedPart) → Among g a.prepared → g.txn ≡ p.txn → ⊥)
+    → (g : PreparedPart) → Among g (a.prepared ++ p ∷ []) → Among g a.prepared ⊎ NewPrepared a g
 new_prepared a p lt none g m = elim (last_or_old g p a.prepared m) [ inl o ↦ inl o | inr q ↦ inr (subst (λ z. NewPrepared a z) (sym q) (record { above = lt; unprepared = none })) ]
 
 prepared_one : (ps : List PreparedPart) (p : PreparedPart) → ((g : PreparedPart) → Among g ps → g.txn ≡ p.txn → ⊥) → (g : PreparedPart) → Among g (ps ++ p ∷ []) → g.txn ≡ p.txn → g ≡ p
@@ -176,7 +203,14 @@ pub prepare_able : (top : TopologyValue) (w : Run) (node n : ℕ) (a : ShardStat
 prepare_able top w node n a t rows c role b batch lt once apart none never written coord r fits origin =
     let p : PreparedPart = record { txn = t; rows = rows; coordinator = c; time = n; role = role } in
     record {
-      grows = record { clock = le_of_lt lt; prepared = λ e m. append_first e a.prepared (p ∷ []) m; prepared_new = new_prepared a p lt none; decided = λ d m. m; decided_new = λ d m. inl m; applied = λ v m. m };
+      grows = record {
+        clock = le_of_lt lt;
+        prepared = λ e m. append_first e a.prepared (p ∷ []) m;
+        prepared_new = new_prepared a p lt none;
+        decided = λ d m. m;
+        decided_new = λ d m. inl m;
+        applied = λ v m. m;
+      };
       fresh = λ x gr at.
           let le : n ≤ (x.shards node).clock = subst (λ z. n ≤ z.clock) (sym at) (le_refl n) in
           let ps : PreparedSound top x node p =
@@ -226,7 +260,14 @@ pub hold_able : (top : TopologyValue) (w : Run) (node n : ℕ) (a : ShardState) 
 hold_able top w node n a b counted sends some lt once apart none never k voted f =
     let p : PreparedPart = record { txn = b.txn; rows = b.rows; coordinator = shard_of top node; time = n; role = Own } in
     record {
-      grows = record { clock = le_of_lt lt; prepared = λ e m. append_first e a.prepared (p ∷ []) m; prepared_new = new_prepared a p lt none; decided = λ d m. m; decided_new = λ d m. inl m; applied = λ v m. m };
+      grows = record {
+        clock = le_of_lt lt;
+        prepared = λ e m. append_first e a.prepared (p ∷ []) m;
+        prepared_new = new_prepared a p lt none;
+        decided = λ d m. m;
+        decided_new = λ d m. inl m;
+        applied = λ v m. m;
+      };
       fresh = λ x gr at.
           let le : n ≤ (x.shards node).clock = subst (λ z. n ≤ z.clock) (sym at) (le_refl n) in
           let bs = ballot_grows gr le k in
