@@ -1,4 +1,4 @@
--- Each event keeps all, and the run grows by it, if the steps of shards do.
+-- Each event keeps all, and the run grows by it.
 use Rattle.std.proofs.Common.{◌≡◌, ℕ, ◌+◌, ◌<◌, max, Bool, true, false, cond, Option, Some, None, refl, arith, le_of_lt, slice_get}
 use Rattle.std.specs.Prelude.{nat_lt, ◌^◌}
 use Rattle.logical_time.specs.declared.fault.Fault.{Fault}
@@ -15,10 +15,10 @@ use Rattle.world.specs.Run.{Run, Event, Submit, Deliver, Collect, after_shard, a
 use Rattle.world.proofs.Among.{Among, get_among}
 use Rattle.world.proofs.Growth.{Grows}
 use Rattle.world.proofs.Invariant.{Says, EnvelopeSound, IsPatient, Inv}
-use Rattle.world.proofs.Able.{Able}
-use Rattle.world.proofs.ShardSteps.{shard_run_grows, shard_step_kept}
+use Rattle.world.proofs.ShardSteps.{shard_run_grows}
+use Rattle.world.proofs.HandlesKept.{handle_able, handle_kept, collect_able, collect_kept}
 use Rattle.world.proofs.SessionSteps.{session_run_grows, session_step_kept}
-use Rattle.world.proofs.SessionEnds.{same_run_grows}
+use Rattle.world.proofs.Ables.{same_run}
 use Rattle.world.proofs.SessionsKept.{heard_able}
 use Rattle.world.proofs.Submissions.{begun_kept, begun_grows}
 
@@ -26,20 +26,8 @@ use Rattle.world.proofs.Submissions.{begun_kept, begun_grows}
 abbrev pub Kept : TopologyValue → Run → Run → Type 0
 Kept top w x = Inv top x × Grows top w x
 
--- a shard's step at a message keeps all, in each run where all holds
-abbrev pub Handles : Type 0
-Handles =
-    (top : TopologyValue) (w : Run) (node n from time : ℕ) (b : Body) → 0 < top.shards → Inv top w → (w.shards node).clock < n → time < n → Says top w from node time b
-    → Able top w node (w.shards node) (handled top node n (w.shards node) from b) × IsPatient top node (handled top node n (w.shards node) from b).state
-
--- and so does a collection
-abbrev pub Collects : Type 0
-Collects =
-    (top : TopologyValue) (w : Run) (node n time : ℕ) → Inv top w → (w.shards node).clock < n
-    → Able top w node (w.shards node) (collected n (w.shards node) time) × IsPatient top node (collected n (w.shards node) time).state
-
 same_kept : (top : TopologyValue) (w : Run) → Inv top w → Kept top w w
-same_kept top w inv = (inv, same_run_grows top w)
+same_kept top w inv = (inv, same_run top w)
 
 -- the clock moves above what it showed and above the time of the message
 ticked_above : (c t n : ℕ) → ticked c t ≡ Some n → (c < n) × (t < n)
@@ -49,7 +37,7 @@ ticked_above c t n e = go (nat_lt (max c t + 1) (2 ^ 48)) e
     go true q = let is : max c t + 1 ≡ n = cc in (omega arith, omega arith)
     go false q = absurd (cc)
 
-module _ (handles : Handles) (collects : Collects) (top : TopologyValue) (w : Run) (some : 0 < top.shards) (inv : Inv top w) where
+module _ (top : TopologyValue) (w : Run) (some : 0 < top.shards) (inv : Inv top w) where
   -- ## A message comes
 
   shard_hears : (e : Envelope) (x : Event) → EnvelopeSound top w e → Kept top w (after_shard (shard_handle top e.to (w.shards e.to) e) w x e.to)
@@ -59,9 +47,10 @@ module _ (handles : Handles) (collects : Collects) (top : TopologyValue) (w : Ru
       go None q = same_kept top w inv
       go (Some n) q =
           let above = ticked_above (w.shards e.to).clock e.time n q in
-          let st = handled top e.to n (w.shards e.to) e.from e.body in
-          let able = handles top w e.to n e.from e.time e.body some inv above.0 above.1 says in
-          (shard_step_kept top w e.to st x inv able.0 able.1, shard_run_grows top w e.to st x able.0.grows)
+          let st = handled top e.to n (w.shards e.to) e.from e.body in (
+            handle_kept top w e.to n e.from e.time e.body x some inv above.0 above.1 says,
+            shard_run_grows top w e.to st x (handle_able top w e.to n e.from e.time e.body some inv above.0 above.1 says).grows,
+          )
 
   session_hears : (e : Envelope) (x : Event) → EnvelopeSound top w e → Kept top w (after_session (session_handle top e.to (w.sessions e.to) e) w x e.to)
   session_hears e x says = go (ticked (w.sessions e.to).clock e.time) refl
@@ -94,8 +83,7 @@ module _ (handles : Handles) (collects : Collects) (top : TopologyValue) (w : Ru
       go (Some n) q =
           let above = ticked_above (w.shards node).clock (w.shards node).clock n q in
           let st = collected n (w.shards node) time in
-          let able = collects top w node n time inv above.0 in
-          (shard_step_kept top w node st (Collect node time) inv able.0 able.1, shard_run_grows top w node st (Collect node time) able.0.grows)
+          (collect_kept top w node n time (Collect node time) inv above.0, shard_run_grows top w node st (Collect node time) (collect_able top w node n time inv above.0).grows)
 
   -- ## A submission
 

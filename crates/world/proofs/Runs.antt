@@ -5,9 +5,8 @@ use Rattle.messages.specs.Session.{SessionState}
 use Rattle.world.specs.Run.{Run, Event, opening, step, continued, run}
 use Rattle.world.proofs.Growth.{SessionGrows, Grows}
 use Rattle.world.proofs.Invariant.{Inv}
-use Rattle.world.proofs.Ables.{then_grows}
-use Rattle.world.proofs.SessionEnds.{same_run_grows}
-use Rattle.world.proofs.Events.{Handles, Collects, event_kept}
+use Rattle.world.proofs.Ables.{same_run, then_grows}
+use Rattle.world.proofs.Events.{event_kept}
 
 pub opening_holds : (top : TopologyValue) → Inv top (opening top)
 opening_holds top =
@@ -74,19 +73,19 @@ pub run_after : (top : TopologyValue) (w : Run) (xs ys : List Event) → continu
 run_after top w [] ys = refl
 run_after top w (x ∷ xs) ys = run_after top (step top w x) xs ys
 
-module _ (handles : Handles) (collects : Collects) (top : TopologyValue) (some : 0 < top.shards) where
+module _ (top : TopologyValue) (some : 0 < top.shards) where
   pub step_kept : (w : Run) (x : Event) → Inv top w → Inv top (step top w x)
-  step_kept w x inv = (event_kept handles collects top w some inv x).0
+  step_kept w x inv = (event_kept top w some inv x).0
 
   pub step_grows : (w : Run) (x : Event) → Inv top w → Grows top w (step top w x)
-  step_grows w x inv = (event_kept handles collects top w some inv x).1
+  step_grows w x inv = (event_kept top w some inv x).1
 
   pub run_kept : (w : Run) (events : List Event) → Inv top w → Inv top (continued top w events)
   run_kept w [] inv = inv
   run_kept w (x ∷ xs) inv = run_kept (step top w x) xs (step_kept w x inv)
 
   pub run_grows : (w : Run) (events : List Event) → Inv top w → Grows top w (continued top w events)
-  run_grows w [] inv = same_run_grows top w
+  run_grows w [] inv = same_run top w
   run_grows w (x ∷ xs) inv = then_run_grows (step_grows w x inv) (run_grows (step top w x) xs (step_kept w x inv))
 
   pub every_run : (events : List Event) → Inv top (run top events)

@@ -17,17 +17,9 @@ use Rattle.world.proofs.Among.{Among, among_contains, contains_among, find_some,
 use Rattle.world.proofs.Growth.{FirstAsked, SecondAsked, Grows}
 use Rattle.world.proofs.Facts.{txn_of, IsDone}
 use Rattle.world.proofs.Invariant.{EnvelopeSound, IsOpen, HeardNowSound, HeardAtSound, OpenSound, SubmittedSound, EndSound, CompletedSound, Inv}
-use Rattle.world.proofs.Lasting.{same_shard_grows, same_session_grows, answers_now_grow}
+use Rattle.world.proofs.Lasting.{answers_now_grow}
+use Rattle.world.proofs.Ables.{same_run}
 use Rattle.world.proofs.SessionSteps.{SessionAble}
-
-pub same_run_grows : (top : TopologyValue) (w : Run) → Grows top w w
-same_run_grows top w =
-    record {
-      shards = λ m. same_shard_grows (w.shards m);
-      sessions = λ m. same_session_grows top (w.sessions m);
-      submitted = λ b m. m;
-      transcript = λ c m. m;
-    }
 
 -- ## What is newly completed
 
@@ -136,7 +128,7 @@ module _ (top : TopologyValue) (w : Run) (node n : ℕ) (inv : Inv top w) (le : 
   -- ## What was heard stays so as the clock moves
 
   pub heard_now_later : (o : Open) (read : Read) (h : HeardNow) → HeardNowSound top w a read h → HeardNowSound top w (later o) read h
-  heard_now_later o read h k = record { asked = k.asked; answers = answers_now_grow (same_run_grows top w) le k.answers }
+  heard_now_later o read h k = record { asked = k.asked; answers = answers_now_grow (same_run top w) le k.answers }
 
   pub heard_at_later : (o : Open) (read : Read) (time : ℕ) (first : List HeardNow) (h : HeardAt) → HeardAtSound top w a read time first h → HeardAtSound top w (later o) read time first h
   heard_at_later o read time first h k = record { asked = k.asked; answers = k.answers }

@@ -27,10 +27,11 @@ use Rattle.world.proofs.Facts.{IsWritten, lead, IsDecided, IsDone, DecisionSound
 use Rattle.world.proofs.Invariant.{home, TellsNow, TellsAt, TellsThen, Says, EnvelopeSound, IsOpen, HeardNowSound, HeardAtSound, WritingSound, SecondSound, OpenSound, AnsweredFrom, Inv}
 use Rattle.world.proofs.Lasting.{answers_now_grow}
 use Rattle.world.proofs.SessionSteps.{SessionAble}
-use Rattle.world.proofs.SessionEnds.{same_run_grows, open_txn, ended_able, waits_able, calm_able, heard_now_later, heard_at_later}
+use Rattle.world.proofs.SessionEnds.{open_txn, ended_able, waits_able, calm_able, heard_now_later, heard_at_later}
 use Rattle.world.proofs.Asking.{missing_asked, missing_late}
 use Rattle.world.proofs.Near.{coordinator_below}
-use Rattle.world.proofs.Written.{one_batch}
+use Rattle.world.proofs.StampsApart.{written_at, batch_one}
+use Rattle.world.proofs.Ables.{same_run}
 use Rattle.world.proofs.TakenRows.{effective_by_clock, taken_answers}
 use Rattle.world.proofs.WritersDone.{writers_done, writers_placed}
 
@@ -51,7 +52,7 @@ module _ (top : TopologyValue) (w : Run) (node n : ℕ) (some : 0 < top.shards) 
   decided_lead c from t commit stamp k d here is =
       let s : DecisionSound top w from d.decision = (inv.shards from).decided d.decision d.among in
       let opened : IsWritten w (record { session = node; number = a.count }) k.opened.submission k.batch = record { among = k.opened.among; txn = open_txn k.opened; op = k.opened.op } in
-      s.here ∙ ap₂ (λ dc b. lead top dc b) (here ∙ sym (inv.sessions node).home) (one_batch inv.submitted s.written opened (d.txn ∙ is))
+      s.here ∙ ap₂ (λ dc b. lead top dc b) (here ∙ sym (inv.sessions node).home) (batch_one inv.submitted (written_at (d.txn ∙ is) s.written) opened)
 
   written_able : (c from : ℕ) (t : TxnValue) (commit : ℕ) (stamp : StampValue) → WritingSound top w node a c → commit ≤ n → IsDecided w from t commit stamp → dc_of top from ≡ home top node
       → t ≡ record { session = node; number = a.count } → SessionAble top w node (written n a c t commit stamp)
@@ -142,7 +143,7 @@ module _ (top : TopologyValue) (w : Run) (node n : ℕ) (some : 0 < top.shards) 
         new =
             record {
               asked = asked;
-              answers = subst (λ z. AnswersNow top w from n z rows) share (answers_now_grow (same_run_grows top w) early tells.answers);
+              answers = subst (λ z. AnswersNow top w from n z rows) share (answers_now_grow (same_run top w) early tells.answers);
             }
 
         by : Among h old ⊎ (h ≡ record { from = from; rows = rows }) → HeardNowSound top w (later o) read h

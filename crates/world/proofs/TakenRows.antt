@@ -21,10 +21,8 @@ use Rattle.world.specs.Run.{Run}
 use Rattle.world.proofs.Among.{Among, among_append, append_first, append_second, among_contains, contains_among, any_among, filter_only, filter_among, map_only, map_among}
 use Rattle.world.proofs.Facts.{Excluded, Complete, RowNowSound, RowAtSound, part_now}
 use Rattle.world.proofs.Invariant.{HeardNowSound, HeardAtSound, AnsweredFrom}
+use Rattle.world.proofs.CommitsKept.{excluded_below}
 use Rattle.world.proofs.Asking.{flat_only, flat_among, key_asked, key_shared, shared_lies, heard_from, heard_late}
-
-excluded_below : {w : Run} {node : ℕ} {t : TxnValue} {n m : ℕ} → m ≤ n → Excluded w node t n → Excluded w node t m
-excluded_below le k = record { clock = le_trans le k.clock; above = λ d i e. lt_of_le_of_lt le (k.above d i e) }
 
 -- what is complete at a time is complete at each earlier one
 pub complete_below : {top : TopologyValue} {w : Run} {node n m : ℕ} {r : Row} {seen : List Applied} → m ≤ n → Complete top w node r n seen → Complete top w node r m seen

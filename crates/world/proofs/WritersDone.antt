@@ -16,11 +16,10 @@ use Rattle.world.specs.Run.{Run}
 use Rattle.world.proofs.Among.{Among, among_append, among_contains, contains_among, filter_only}
 use Rattle.world.proofs.Facts.{IsDone, RowAtSound, AppliedSound, near}
 use Rattle.world.proofs.Invariant.{AnsweredFrom, Inv}
+use Rattle.world.proofs.Lasting.{done_grows}
+use Rattle.world.proofs.Ables.{same_run}
 use Rattle.world.proofs.Asking.{flat_only, key_below}
 use Rattle.world.proofs.Near.{coordinator_below}
-
-done_later : {top : TopologyValue} {w : Run} {dc n m : ℕ} {t : TxnValue} → n ≤ m → IsDone top w dc t n → IsDone top w dc t m
-done_later le k = record { node = k.node; here = k.here; decision = k.decision; among = k.among; txn = k.txn; commit = lt_of_lt_of_le k.commit le }
 
 module _ (top : TopologyValue) (w : Run) (some : 0 < top.shards) (inv : Inv top w) where
   -- a part that is applied by a time is decided in its data centre by then
@@ -73,7 +72,7 @@ module _ (top : TopologyValue) (w : Run) (some : 0 < top.shards) (inv : Inv top 
   writers_done dc floor time read rows old from le done k m = go (cases rows old k m)
     where
       go : Among k old ⊎ ((r : RowAt) × Among r rows × Among k r.writers) → IsDone top w dc k.txn (time + 1)
-      go (inl o) = done_later (omega arith) (done k o)
+      go (inl o) = done_grows (same_run top w) (omega arith) (done k o)
       go (inr (r, i, j)) = writer_done dc time read r (from.right r i) k j
 
   -- and of shards that there are
