@@ -3,7 +3,6 @@ use Rattle.std.proofs.Common.{◌≡◌, ℕ, ◌+◌, ◌<◌, max, Bool, true,
 use Rattle.std.specs.Prelude.{nat_lt, ◌^◌}
 use Rattle.logical_time.specs.declared.fault.Fault.{Fault}
 use Rattle.messages.specs.declared.op.Op.{Op}
-use Rattle.messages.specs.declared.body.Body.{Body}
 use Rattle.messages.specs.declared.envelope.Envelope.{Envelope}
 use Rattle.messages.specs.Topology.{TopologyValue, is_shard, is_session}
 use Rattle.messages.specs.Clock.{ticked, on_clock}
@@ -14,7 +13,7 @@ use Rattle.messages.specs.ShardEvents.{handled, shard_handle, collected}
 use Rattle.world.specs.Run.{Run, Event, Submit, Deliver, Collect, after_shard, after_session, after_submission, submit_if, deliver_if, deliver_for, collect_if, step}
 use Rattle.world.proofs.Among.{Among, get_among}
 use Rattle.world.proofs.Growth.{Grows}
-use Rattle.world.proofs.Invariant.{Says, EnvelopeSound, IsPatient, Inv}
+use Rattle.world.proofs.Invariant.{EnvelopeSound, Inv}
 use Rattle.world.proofs.ShardSteps.{shard_run_grows}
 use Rattle.world.proofs.HandlesKept.{handle_able, handle_kept, collect_able, collect_kept}
 use Rattle.world.proofs.SessionSteps.{session_run_grows, session_step_kept}
@@ -43,7 +42,8 @@ module _ (top : TopologyValue) (w : Run) (some : 0 < top.shards) (inv : Inv top 
   shard_hears : (e : Envelope) (x : Event) → EnvelopeSound top w e → Kept top w (after_shard (shard_handle top e.to (w.shards e.to) e) w x e.to)
   shard_hears e x says = go (ticked (w.shards e.to).clock e.time) refl
     where
-      go : (o : Option ℕ) → ticked (w.shards e.to).clock e.time ≡ o → Kept top w (after_shard (on_clock o (λ n. handled top e.to n (w.shards e.to) e.from e.body)) w x e.to)
+      go : (o : Option ℕ) → ticked (w.shards e.to).clock e.time ≡ o
+          → Kept top w (after_shard (on_clock o (λ n. handled top e.to n (w.shards e.to) e.from e.body)) w x e.to)
       go None q = same_kept top w inv
       go (Some n) q =
           let above = ticked_above (w.shards e.to).clock e.time n q in
@@ -55,7 +55,8 @@ module _ (top : TopologyValue) (w : Run) (some : 0 < top.shards) (inv : Inv top 
   session_hears : (e : Envelope) (x : Event) → EnvelopeSound top w e → Kept top w (after_session (session_handle top e.to (w.sessions e.to) e) w x e.to)
   session_hears e x says = go (ticked (w.sessions e.to).clock e.time) refl
     where
-      go : (o : Option ℕ) → ticked (w.sessions e.to).clock e.time ≡ o → Kept top w (after_session (on_clock o (λ n. heard top e.to n (w.sessions e.to) e.from e.body)) w x e.to)
+      go : (o : Option ℕ) → ticked (w.sessions e.to).clock e.time ≡ o
+          → Kept top w (after_session (on_clock o (λ n. heard top e.to n (w.sessions e.to) e.from e.body)) w x e.to)
       go None q = same_kept top w inv
       go (Some n) q =
           let above = ticked_above (w.sessions e.to).clock e.time n q in
@@ -78,7 +79,8 @@ module _ (top : TopologyValue) (w : Run) (some : 0 < top.shards) (inv : Inv top 
   collect_go false node time = same_kept top w inv
   collect_go true node time = go (ticked (w.shards node).clock (w.shards node).clock) refl
     where
-      go : (o : Option ℕ) → ticked (w.shards node).clock (w.shards node).clock ≡ o → Kept top w (after_shard (on_clock o (λ n. collected n (w.shards node) time)) w (Collect node time) node)
+      go : (o : Option ℕ) → ticked (w.shards node).clock (w.shards node).clock ≡ o
+          → Kept top w (after_shard (on_clock o (λ n. collected n (w.shards node) time)) w (Collect node time) node)
       go None q = same_kept top w inv
       go (Some n) q =
           let above = ticked_above (w.shards node).clock (w.shards node).clock n q in
@@ -102,7 +104,8 @@ module _ (top : TopologyValue) (w : Run) (some : 0 < top.shards) (inv : Inv top 
           let above = ticked_above (w.sessions node).clock (w.sessions node).clock n q in
           (begun_kept top w node n o some inv above.0 plan, begun_grows top w node n o inv above.0)
 
-      by : (f : Option Fault) → submit_fault (is_idle (w.sessions node).current) top o ≡ f → Kept top w (after_submission (session_submit_if f top node (w.sessions node) o) w node o)
+      by : (f : Option Fault) → submit_fault (is_idle (w.sessions node).current) top o ≡ f
+          → Kept top w (after_submission (session_submit_if f top node (w.sessions node) o) w node o)
       by (Some e) q = same_kept top w inv
       by None q = go (accepted o (is_idle (w.sessions node).current) q) (ticked (w.sessions node).clock (w.sessions node).clock) refl
 

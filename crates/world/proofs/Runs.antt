@@ -73,20 +73,21 @@ pub run_after : (top : TopologyValue) (w : Run) (xs ys : List Event) → continu
 run_after top w [] ys = refl
 run_after top w (x ∷ xs) ys = run_after top (step top w x) xs ys
 
-module _ (top : TopologyValue) (some : 0 < top.shards) where
-  pub step_kept : (w : Run) (x : Event) → Inv top w → Inv top (step top w x)
-  step_kept w x inv = (event_kept top w some inv x).0
+-- ## Every run
 
-  pub step_grows : (w : Run) (x : Event) → Inv top w → Grows top w (step top w x)
-  step_grows w x inv = (event_kept top w some inv x).1
+pub step_kept : (top : TopologyValue) (w : Run) (x : Event) → 0 < top.shards → Inv top w → Inv top (step top w x)
+step_kept top w x some inv = (event_kept top w some inv x).0
 
-  pub run_kept : (w : Run) (events : List Event) → Inv top w → Inv top (continued top w events)
-  run_kept w [] inv = inv
-  run_kept w (x ∷ xs) inv = run_kept (step top w x) xs (step_kept w x inv)
+pub step_grows : (top : TopologyValue) (w : Run) (x : Event) → 0 < top.shards → Inv top w → Grows top w (step top w x)
+step_grows top w x some inv = (event_kept top w some inv x).1
 
-  pub run_grows : (w : Run) (events : List Event) → Inv top w → Grows top w (continued top w events)
-  run_grows w [] inv = same_run top w
-  run_grows w (x ∷ xs) inv = then_run_grows (step_grows w x inv) (run_grows (step top w x) xs (step_kept w x inv))
+pub run_kept : (top : TopologyValue) (w : Run) (events : List Event) → 0 < top.shards → Inv top w → Inv top (continued top w events)
+run_kept top w [] some inv = inv
+run_kept top w (x ∷ xs) some inv = run_kept top (step top w x) xs some (step_kept top w x some inv)
 
-  pub every_run : (events : List Event) → Inv top (run top events)
-  every_run events = run_kept (opening top) events (opening_holds top)
+pub run_grows : (top : TopologyValue) (w : Run) (events : List Event) → 0 < top.shards → Inv top w → Grows top w (continued top w events)
+run_grows top w [] some inv = same_run top w
+run_grows top w (x ∷ xs) some inv = then_run_grows (step_grows top w x some inv) (run_grows top (step top w x) xs some (step_kept top w x some inv))
+
+pub every_run : (top : TopologyValue) (events : List Event) → 0 < top.shards → Inv top (run top events)
+every_run top events some = run_kept top (opening top) events some (opening_holds top)

@@ -37,7 +37,8 @@ pub open_txn : {w : Run} {node m dc : ℕ} {o : Op} (k : IsOpen w node m dc o) �
 open_txn k = ap₂ (λ s n. record { session = s; number = n }) k.session k.number
 
 -- what ended is the operation that was open
-open_completed : (top : TopologyValue) (w : Run) (node m dc : ℕ) (o : Op) (out : Outcome) → SubmittedSound top w → IsOpen w node m dc o → EndSound o out top w dc (record { session = node; number = m })
+open_completed : (top : TopologyValue) (w : Run) (node m dc : ℕ) (o : Op) (out : Outcome) → SubmittedSound top w → IsOpen w node m dc o
+    → EndSound o out top w dc (record { session = node; number = m })
     → (s : Submission) → Among s w.submitted → txn_of s ≡ record { session = node; number = m } → CompletedSound top w (record { node = node; number = m; home = s.home; op = s.op; outcome = out })
 open_completed top w node m dc o out k b came s i e =
     let same : s ≡ b.submission = k.one s b.submission i b.among (e ∙ sym (open_txn b)) in
@@ -48,7 +49,8 @@ open_completed top w node m dc o out k b came s i e =
           (subst (λ z. EndSound o out top w z (record { session = node; number = m })) (sym (ap (λ z. z.home) same ∙ b.home)) came);
     }
 
-found_completed : (top : TopologyValue) (w : Run) (node m dc : ℕ) (o : Op) (out : Outcome) → SubmittedSound top w → IsOpen w node m dc o → EndSound o out top w dc (record { session = node; number = m })
+found_completed : (top : TopologyValue) (w : Run) (node m dc : ℕ) (o : Op) (out : Outcome) → SubmittedSound top w → IsOpen w node m dc o
+    → EndSound o out top w dc (record { session = node; number = m })
     → (c : Completed) → completed_of w.submitted node (record { number = m; outcome = out }) ≡ Some c → CompletedSound top w c
 found_completed top w node m dc o out k b came c e = go (submission_of w.submitted t) refl e
   where
@@ -77,7 +79,8 @@ module _ (top : TopologyValue) (w : Run) (node n : ℕ) (inv : Inv top w) (le : 
   -- the operation ends
   pub ended_able : (floor : ℕ) (dependencies : List WriterValue) (out : Outcome) (o : Op) → a.floor ≤ floor → floor ≤ n → IsOpen w node a.count a.home o
       → EndSound o out top w a.home (record { session = node; number = a.count })
-      → ((k : WriterValue) → Among k dependencies → IsDone top w a.home k.txn (floor + 1)) → ((k : WriterValue) → Among k dependencies → k.shard < top.shards) → SessionAble top w node (ended n a floor dependencies out)
+      → ((k : WriterValue) → Among k dependencies → IsDone top w a.home k.txn (floor + 1))
+      → ((k : WriterValue) → Among k dependencies → k.shard < top.shards) → SessionAble top w node (ended n a floor dependencies out)
   ended_able floor dependencies out o above below b came done placed =
       record {
         grows =
@@ -130,7 +133,8 @@ module _ (top : TopologyValue) (w : Run) (node n : ℕ) (inv : Inv top w) (le : 
   pub heard_now_later : (o : Open) (read : Read) (h : HeardNow) → HeardNowSound top w a read h → HeardNowSound top w (later o) read h
   heard_now_later o read h k = record { asked = k.asked; answers = answers_now_grow (same_run top w) le k.answers }
 
-  pub heard_at_later : (o : Open) (read : Read) (time : ℕ) (first : List HeardNow) (h : HeardAt) → HeardAtSound top w a read time first h → HeardAtSound top w (later o) read time first h
+  pub heard_at_later : (o : Open) (read : Read) (time : ℕ) (first : List HeardNow) (h : HeardAt) → HeardAtSound top w a read time first h
+      → HeardAtSound top w (later o) read time first h
   heard_at_later o read time first h k = record { asked = k.asked; answers = k.answers }
 
   open_later : (now o : Open) → OpenSound top w node a o → OpenSound top w node (record a { clock = n; current = now }) o

@@ -47,14 +47,16 @@ module _ (top : TopologyValue) (w : Run) (node n : ℕ) (some : 0 < top.shards) 
   -- ## Done
 
   -- the shard that decided the open write is its coordinator at the session's home
-  decided_lead : (c from : ℕ) (t : TxnValue) (commit : ℕ) (stamp : StampValue) (k : WritingSound top w node a c) → IsDecided w from t commit stamp → dc_of top from ≡ home top node
+  decided_lead : (c from : ℕ) (t : TxnValue) (commit : ℕ) (stamp : StampValue) (k : WritingSound top w node a c) → IsDecided w from t commit stamp
+      → dc_of top from ≡ home top node
       → t ≡ record { session = node; number = a.count } → from ≡ lead top a.home k.batch
   decided_lead c from t commit stamp k d here is =
       let s : DecisionSound top w from d.decision = (inv.shards from).decided d.decision d.among in
       let opened : IsWritten w (record { session = node; number = a.count }) k.opened.submission k.batch = record { among = k.opened.among; txn = open_txn k.opened; op = k.opened.op } in
       s.here ∙ ap₂ (λ dc b. lead top dc b) (here ∙ sym (inv.sessions node).home) (batch_one inv.submitted (written_at (d.txn ∙ is) s.written) opened)
 
-  written_able : (c from : ℕ) (t : TxnValue) (commit : ℕ) (stamp : StampValue) → WritingSound top w node a c → commit ≤ n → IsDecided w from t commit stamp → dc_of top from ≡ home top node
+  written_able : (c from : ℕ) (t : TxnValue) (commit : ℕ) (stamp : StampValue) → WritingSound top w node a c → commit ≤ n → IsDecided w from t commit stamp
+      → dc_of top from ≡ home top node
       → t ≡ record { session = node; number = a.count } → SessionAble top w node (written n a c t commit stamp)
   written_able c from t commit stamp k early d here is =
       let floor = (inv.sessions node).floor in
@@ -77,7 +79,8 @@ module _ (top : TopologyValue) (w : Run) (node n : ℕ) (some : 0 < top.shards) 
         | inr o ↦ absurd o
       ])
 
-  done_go : (o : Open) → OpenSound top w node a o → (from : ℕ) (t : TxnValue) (commit : ℕ) (stamp : StampValue) → commit ≤ n → IsDecided w from t commit stamp → dc_of top from ≡ home top node
+  done_go : (o : Open) → OpenSound top w node a o → (from : ℕ) (t : TxnValue) (commit : ℕ) (stamp : StampValue) → commit ≤ n → IsDecided w from t commit stamp
+      → dc_of top from ≡ home top node
       → SessionAble top w node (done_in o node n a t commit stamp)
   done_go Idle k from t commit stamp early d here = calm_able top w node n inv le
   done_go (FirstRound read heard) k from t commit stamp early d here = calm_able top w node n inv le
@@ -96,7 +99,8 @@ module _ (top : TopologyValue) (w : Run) (node n : ℕ) (some : 0 < top.shards) 
   answered_able : (read : Read) (time : ℕ) (rows : List RowAt) → a.floor ≤ time → time ≤ n → IsOpen w node a.count a.home (op.Read read)
       → AnsweredFrom top w a.home read time rows → SessionAble top w node (answered n a read time rows)
   answered_able read time rows above below opened from =
-      ended_able top w node n inv le time (with_writers a.dependencies rows) (outcome.Read time (answer_of read rows)) (op.Read read) above below opened (record { rows = rows; answer = refl; from = from })
+      ended_able top w node n inv le time (with_writers a.dependencies rows) (outcome.Read time (answer_of read rows)) (op.Read read) above below opened
+      (record { rows = rows; answer = refl; from = from })
       (writers_done top w some inv a.home a.floor time read rows a.dependencies from above (inv.sessions node).dependencies)
       (writers_placed top w some inv a.home time read rows a.dependencies from (inv.sessions node).placed)
 
@@ -131,7 +135,8 @@ module _ (top : TopologyValue) (w : Run) (node n : ℕ) (some : 0 < top.shards) 
           (λ t m asked k. absurd (subst (λ z. SecondAsked z t m asked) current k)) (record { opened = opened; heard = sound (FirstRound read hs) }) (λ x g is env m. absurd m)
 
     -- the answers that were kept before, and this one
-    more_heard : (from number time : ℕ) (rows : List RowNow) → time ≤ n → ((h : HeardNow) → Among h old → HeardNowSound top w a read h) → TellsNow top w from node time number rows
+    more_heard : (from number time : ℕ) (rows : List RowNow) → time ≤ n → ((h : HeardNow) → Among h old → HeardNowSound top w a read h)
+        → TellsNow top w from node time number rows
         → number ≡ a.count → Among from (asked_nodes top a read)
         → (o : Open) (h : HeardNow) → Among h (old ++ record { from = from; rows = rows } ∷ []) → HeardNowSound top w (later o) read h
     more_heard from number time rows early k tells is asked o h m = by (last_or_old h (record { from = from; rows = rows }) old m)
@@ -150,7 +155,8 @@ module _ (top : TopologyValue) (w : Run) (node n : ℕ) (some : 0 < top.shards) 
         by (inl i) = heard_now_later top w node n inv le o read h (k h i)
         by (inr e) = subst (λ z. HeardNowSound top w (later o) read z) (sym e) new
 
-    first_go : ((h : HeardNow) → Among h old → HeardNowSound top w a read h) → (from number time : ℕ) (rows : List RowNow) → time ≤ n → TellsNow top w from node time number rows
+    first_go : ((h : HeardNow) → Among h old → HeardNowSound top w a read h) → (from number time : ℕ) (rows : List RowNow) → time ≤ n
+        → TellsNow top w from node time number rows
         → (b : Bool) → ((number == a.count) && is_missing (asked_nodes top a read) old from) ≡ b
         → SessionAble top w node (part_now_if b top node n a read old from rows)
     first_go k from number time rows early tells false e = calm_able top w node n inv le
@@ -160,7 +166,8 @@ module _ (top : TopologyValue) (w : Run) (node n : ℕ) (some : 0 < top.shards) 
         let hs = old ++ record { from = from; rows = rows } ∷ [] in
         heard_now_go hs (more_heard from number time rows early k tells (eqb-true number a.count p.0) (missing_asked asked old from p.1)) (all_heard asked hs) refl
 
-  part_now_go : (o : Open) → a.current ≡ o → OpenSound top w node a o → (from number time : ℕ) (rows : List RowNow) → time ≤ n → TellsNow top w from node time number rows
+  part_now_go : (o : Open) → a.current ≡ o → OpenSound top w node a o → (from number time : ℕ) (rows : List RowNow) → time ≤ n
+      → TellsNow top w from node time number rows
       → SessionAble top w node (part_now_in o top node n a from number rows)
   part_now_go Idle e k from number time rows early tells = calm_able top w node n inv le
   part_now_go (Writing c) e k from number time rows early tells = calm_able top w node n inv le
@@ -187,7 +194,8 @@ module _ (top : TopologyValue) (w : Run) (node n : ℕ) (some : 0 < top.shards) 
         (record { opened = k.opened; first = first_later o; all = k.all; time = k.time; clock = le_trans k.clock le; heard = sound o }) (λ x g is env m. absurd m)
 
     -- the answers that were kept before, and this one
-    more_heard_at : (from number bound : ℕ) (rows : List RowAt) → TellsAt top w from node number bound rows → number ≡ a.count → Among from (late_nodes (asked_nodes top a read) time first)
+    more_heard_at : (from number bound : ℕ) (rows : List RowAt) → TellsAt top w from node number bound rows → number ≡ a.count
+        → Among from (late_nodes (asked_nodes top a read) time first)
         → (o : Open) (h : HeardAt) → Among h (old ++ record { from = from; rows = rows } ∷ []) → HeardAtSound top w (later o) read time first h
     more_heard_at from number bound rows tells is asked o h m = by (last_or_old h (record { from = from; rows = rows }) old m)
       where
@@ -206,10 +214,12 @@ module _ (top : TopologyValue) (w : Run) (node n : ℕ) (some : 0 < top.shards) 
         by (inl i) = heard_at_later top w node n inv le o read time first h (k.heard h i)
         by (inr e) = subst (λ z. HeardAtSound top w (later o) read time first z) (sym e) new
 
-    taken_go : (answer : AtTime) (from number bound : ℕ) → TellsThen answer top w from node number bound → number ≡ a.count → Among from (late_nodes (asked_nodes top a read) time first)
+    taken_go : (answer : AtTime) (from number bound : ℕ) → TellsThen answer top w from node number bound → number ≡ a.count
+        → Among from (late_nodes (asked_nodes top a read) time first)
         → SessionAble top w node (taken_at answer top n a read time first old from)
     taken_go at.Collected from number bound tells is asked =
-        ended_able top w node n inv le a.floor a.dependencies outcome.Collected (op.Read read) (le_refl a.floor) (le_trans (inv.sessions node).floor le) k.opened tt (inv.sessions node).dependencies (inv.sessions node).placed
+        ended_able top w node n inv le a.floor a.dependencies outcome.Collected (op.Read read) (le_refl a.floor)
+        (le_trans (inv.sessions node).floor le) k.opened tt (inv.sessions node).dependencies (inv.sessions node).placed
     taken_go (at.Rows rows) from number bound tells is asked =
         let hs = old ++ record { from = from; rows = rows } ∷ [] in
         heard_at_go hs (more_heard_at from number bound rows tells is asked) (all_heard_at (asked_nodes top a read) time first hs) refl

@@ -205,7 +205,8 @@ module _ (top : TopologyValue) (w : Run) (node n : ℕ) (read : Read) (inv : Inv
   abbrev asking : Run
   asking = after_submission (Ok starts) w node (op.Read read)
 
-  read_sound : (s : ℕ) → Among s (shards_asked top.shards read.keys) → AskedNow top (asking.sessions node) starts.state.count (home_node top (w.sessions node) s) (share_of top read s)
+  read_sound : (s : ℕ) → Among s (shards_asked top.shards read.keys)
+      → AskedNow top (asking.sessions node) starts.state.count (home_node top (w.sessions node) s) (share_of top read s)
   read_sound s m =
       let number = number_of_shard top (w.sessions node).home s (asked_below top.shards read.keys s m) in
       subst (λ z. AskedNow top z starts.state.count (home_node top (w.sessions node) s) (share_of top read s)) (sym (actor_same w.sessions node starts.state))
@@ -224,11 +225,13 @@ module _ (top : TopologyValue) (w : Run) (node n : ℕ) (read : Read) (inv : Inv
 
 -- ## Every operation
 
-pub begun_kept : (top : TopologyValue) (w : Run) (node n : ℕ) (o : Op) → 0 < top.shards → Inv top w → (w.sessions node).clock < n → plan_fault top o ≡ None → Inv top (after_submission (Ok (begun top node n (w.sessions node) o)) w node o)
+pub begun_kept : (top : TopologyValue) (w : Run) (node n : ℕ) (o : Op) → 0 < top.shards → Inv top w → (w.sessions node).clock < n → plan_fault top o ≡ None
+    → Inv top (after_submission (Ok (begun top node n (w.sessions node) o)) w node o)
 begun_kept top w node n (op.Batch batch) some inv lt accepted = write_kept top w node n batch some inv lt accepted
 begun_kept top w node n (op.Read read) some inv lt accepted = read_kept top w node n read inv lt accepted
 
-pub begun_grows : (top : TopologyValue) (w : Run) (node n : ℕ) (o : Op) → Inv top w → (w.sessions node).clock < n → Grows top w (after_submission (Ok (begun top node n (w.sessions node) o)) w node o)
+pub begun_grows : (top : TopologyValue) (w : Run) (node n : ℕ) (o : Op) → Inv top w → (w.sessions node).clock < n
+    → Grows top w (after_submission (Ok (begun top node n (w.sessions node) o)) w node o)
 begun_grows top w node n (op.Batch batch) inv lt =
     let st = write_begun top node n (w.sessions node) batch in
     submission_grows top w node n (op.Batch batch) inv lt st.state.current st.sends
