@@ -1,20 +1,19 @@
 -- Each envelope that a shard handles, and each collection, keeps all.
-use Rattle.std.proofs.Common.{ℕ, ◌+◌, ◌<◌, ◌≤◌, arith, inl, refl, le_trans, le_of_lt, Ok}
+use Rattle.std.proofs.Common.{ℕ, ◌+◌, ◌<◌, ◌≤◌, arith, inl, le_trans, le_of_lt, Ok}
 use Rattle.messages.specs.declared.body.Body.{Body}
 use Rattle.messages.specs.declared.body.Body.TheVariants.{Begin, Prepare, Yes, Commit, At, NotBy, Check, Read as ReadNow, ReadAt, ReplBegin, ReplPart, Notify, PrepareRemote, DepCheck, DepOk, Done, PartNow, PartAt}
 use Rattle.messages.specs.Topology.{TopologyValue}
 use Rattle.messages.specs.ShardEvents.{handled, collected}
 use Rattle.world.specs.Run.{Run, Event, after_shard}
-use Rattle.world.proofs.Invariant.{Says, IsPatient, Inv}
+use Rattle.world.proofs.Invariant.{Says, Inv}
 use Rattle.world.proofs.Able.{Able}
 use Rattle.world.proofs.Lasting.{done_grows, kept_ballot_grows}
 use Rattle.world.proofs.ShardSteps.{shard_step_kept}
-use Rattle.world.proofs.Ables.{quiet_able}
+use Rattle.world.proofs.Ables.{same_run, quiet_able}
 use Rattle.world.proofs.Writes.{begin_able, prepared_able, yes_able}
 use Rattle.world.proofs.CommitsKept.{commit_able, at_able, not_by_able, check_able}
 use Rattle.world.proofs.ReadsKept.{read_able, read_at_able}
 use Rattle.world.proofs.PartsKept.{repl_part_able, prepare_remote_able, dep_check_able}
-use Rattle.world.proofs.ReadyKept.{same_run}
 use Rattle.world.proofs.ReplicasKept.{repl_begin_able, notify_able, dep_ok_able}
 use Rattle.world.proofs.PatientSteps.{handled_patient}
 
