@@ -50,3 +50,5 @@ pub mod KeptEntries
 pub mod Told
 pub mod HonestLists
 pub mod HandlesKept
+pub mod Events
+pub mod Runs
