@@ -52,3 +52,5 @@ pub mod HonestLists
 pub mod HandlesKept
 pub mod Events
 pub mod Runs
+pub mod CausalKept
+pub mod CausalRuns

@@ -23,7 +23,7 @@ use Rattle.world.proofs.SessionSteps.{EndLeaves, SessionAble}
 
 -- ## What is newly completed
 
-one_given : {X Y : Type 0} (g : X → Option Y) (x : X) (y : Y) → Among y (filter_map g (x ∷ [])) → g x ≡ Some y
+pub one_given : {X Y : Type 0} (g : X → Option Y) (x : X) (y : Y) → Among y (filter_map g (x ∷ [])) → g x ≡ Some y
 one_given {X} {Y} g x y m = go (given_only g (x ∷ []) y (among_contains y (filter_map g (x ∷ [])) m))
   where
     by : (z : X) → Among z (x ∷ []) → g z ≡ Some y → g x ≡ Some y
