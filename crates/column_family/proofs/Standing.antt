@@ -188,7 +188,7 @@ rests_from l g w (Some x) e s =
     (λ d. inr (deletion_stamp (newest_of (is_row_deletion l.row) g) x (subst (λ (o : Option Stamped). Accords (newest_of (is_row_deletion l.row) g) o) e (accords l g)) d ∙ s))
     (λ k. inl (column_in_history l g x e k, ap (λ (o : Option Stamped). stamp_of o) e ∙ s))
 
-rests_alike : (l : Location) (h g : History) (w : StampValue) → newest h l ≡ newest g l → newest_of (is_row_deletion l.row) h ≡ newest_of (is_row_deletion l.row) g → RestsOn h l w → RestsOn g l w
+pub rests_alike : (l : Location) (h g : History) (w : StampValue) → newest h l ≡ newest g l → newest_of (is_row_deletion l.row) h ≡ newest_of (is_row_deletion l.row) g → RestsOn h l w → RestsOn g l w
 rests_alike l h g w e d (inl c) = rests_from l g w (newest h l) (sym e) c.1
 rests_alike l h g w e d (inr s) = inr (ap (λ (o : Option Stamped). stamp_of o) (sym d) ∙ s)
 

@@ -13,7 +13,7 @@ use Rattle.slice.specs.Live.{live_columns}
 use Rattle.slice.specs.Rests.{is_looked_at, RowRestsOn}
 use Rattle.slice.proofs.LiveTable.{at, live_columns_alike}
 
-rests_alike : (h k : History) (r : Row) (p : Predicate) (w : StampValue) → live_columns h r ≡ live_columns k r
+pub rests_alike : (h k : History) (r : Row) (p : Predicate) (w : StampValue) → live_columns h r ≡ live_columns k r
     → ((name : List ℕ) → RestsOn h (at r name) w → RestsOn k (at r name) w)
     → newest_of (is_row_deletion r) h ≡ newest_of (is_row_deletion r) k → RowRestsOn h r p w → RowRestsOn k r p w
 rests_alike h k r p w live locations deletion (inl (name, looked, rests)) =

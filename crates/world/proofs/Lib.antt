@@ -10,3 +10,11 @@ pub mod Able
 pub mod ShardSteps
 pub mod Causal
 pub mod Pasts
+pub mod SameNewest
+pub mod RowTests
+pub mod NodeNumbers
+pub mod DecidedIn
+pub mod ShownOnRow
+pub mod RowAlike
+pub mod ReadTables
+pub mod ReadRests

@@ -1,0 +1,90 @@
+-- A completed read shows one table: that of its home's history, at its effective time.
+use Rattle.std.proofs.Common.{◌≡◌, ◌∙◌, ℕ, ◌<◌, sym, ap, subst, List, map}
+use Rattle.std.specs.Prelude.{Contains}
+use Rattle.column_family.specs.History.{History, up_to}
+use Rattle.slice.specs.declared.column.Column.{Column}
+use Rattle.slice.specs.declared.read.Read.{Read}
+use Rattle.slice.specs.declared.read.AnsweredRow.{AnsweredRow}
+use Rattle.slice.specs.Slice.{slice_of}
+use Rattle.slice.specs.Live.{live_columns}
+use Rattle.store.specs.Part.{history_of as parts_of, applied_by}
+use Rattle.table.specs.Meaning.{row_of, shown_row, meaning}
+use Rattle.planner.specs.Partition.{shard_of as shard_of_key}
+use Rattle.planner.specs.Join.{AreRight}
+use Rattle.planner.proofs.Members.{contains_map, map_contains}
+use Rattle.planner.proofs.Right.{right_joined}
+use Rattle.messages.specs.declared.rows_at.RowAt.{RowAt}
+use Rattle.messages.specs.declared.op.Op.{Op}
+use Rattle.messages.specs.declared.op.Op.TheVariants as op
+use Rattle.messages.specs.declared.outcome.Outcome.{Outcome}
+use Rattle.messages.specs.declared.outcome.Outcome.TheVariants as outcome
+use Rattle.messages.specs.Topology.{TopologyValue, dc_of, shard_of, shard_node}
+use Rattle.messages.specs.Rounds.{answer_of}
+use Rattle.world.specs.Run.{Run, Completed}
+use Rattle.world.specs.Histories.{IsHistory}
+use Rattle.world.proofs.Among.{Among, among_contains, contains_among}
+use Rattle.world.proofs.Facts.{RowAtSound}
+use Rattle.world.proofs.Invariant.{AnsweredFrom, AnsweredSound, EndSound, CompletedSound, Inv}
+use Rattle.world.proofs.NodeNumbers.{key_below, dc_of_node, shard_of_node}
+use Rattle.world.proofs.RowAlike.{AreAlike, alike_live, complete_alike}
+
+-- the shard of a key in a data centre
+abbrev pub node_of : TopologyValue → ℕ → List ℕ → ℕ
+node_of top dc key = shard_node top dc (shard_of_key top.shards key)
+
+-- what a completed read was answered from
+answered_so : (o : Op) (end : Outcome) (top : TopologyValue) (w : Run) (dc : ℕ) (read : Read) (time : ℕ) (answer : List AnsweredRow) → (t : _)
+    → o ≡ op.Read read → end ≡ outcome.Read time answer → EndSound o end top w dc t → AnsweredSound top w dc read time answer
+answered_so o end top w dc read time answer t is came sound =
+    subst (λ e. EndSound (op.Read read) e top w dc t) came (subst (λ p. EndSound p end top w dc t) is sound)
+
+pub answered : (top : TopologyValue) (w : Run) → Inv top w → (c : Completed) (read : Read) (time : ℕ) (answer : List AnsweredRow)
+    → Contains w.transcript c → c.op ≡ op.Read read → c.outcome ≡ outcome.Read time answer → AnsweredSound top w c.home read time answer
+answered top w inv c read time answer has is came =
+    answered_so c.op c.outcome top w c.home read time answer (record { session = c.node; number = c.number }) is came
+    (inv.transcript c (contains_among c w.transcript has)).came
+
+-- what is right of a row, on the shard of its key, is what the history of the data centre makes of the row
+pub right_alike : (top : TopologyValue) (w : Run) → Inv top w → 0 < top.shards
+    → (dc time : ℕ) (read : Read) (r : RowAt) (sound : RowAtSound top w (node_of top dc r.key) time read r)
+    → (h : History) → IsHistory top w dc h → AreAlike (row_of read r.key) (up_to time h) (parts_of (applied_by time sound.seen))
+right_alike top w inv some dc time read r sound h is =
+    let below = key_below top.shards r.key some in
+    complete_alike top w inv some (node_of top dc r.key) (row_of read r.key) (sym (shard_of_node top dc (shard_of_key top.shards r.key) below)) time sound.seen sound.complete h
+    (subst (λ d. IsHistory top w d h) (sym (dc_of_node top dc (shard_of_key top.shards r.key) below)) is)
+
+pub right_columns : (top : TopologyValue) (w : Run) → Inv top w → 0 < top.shards → (dc time : ℕ) (read : Read) (r : RowAt)
+    → RowAtSound top w (node_of top dc r.key) time read r
+    → (h : History) → IsHistory top w dc h → r.columns ≡ slice_of read.predicate (live_columns (up_to time h) (row_of read r.key))
+right_columns top w inv some dc time read r sound h is =
+    sound.shown.columns
+    ∙ ap (slice_of read.predicate) (sym (alike_live (row_of read r.key) (up_to time h) (parts_of (applied_by time sound.seen)) (right_alike top w inv some dc time read r sound h is)))
+
+-- the row of an answer
+abbrev pub answered_row : RowAt → AnsweredRow
+answered_row r = record { key = r.key; columns = r.columns }
+
+rows_right : (top : TopologyValue) (w : Run) → Inv top w → 0 < top.shards → (dc time : ℕ) (read : Read) (rows : List RowAt)
+    → AnsweredFrom top w dc read time rows
+    → (h : History) → IsHistory top w dc h → AreRight read (λ k. h) time (map answered_row rows)
+rows_right top w inv some dc time read rows from h is =
+    record {
+      given = λ k asked.
+          let m = map_contains (λ (r : RowAt). r.key) rows k (among_contains k (map (λ (r : RowAt). r.key) rows) (from.given k (contains_among k read.keys asked))) in
+          subst (λ z. Contains (map (λ (r : AnsweredRow). r.key) (map answered_row rows)) z) m.2
+          (contains_map (λ (r : AnsweredRow). r.key) (map answered_row rows) (answered_row m.0) (contains_map answered_row rows m.0 m.1));
+      right = λ a has asked.
+          let m = map_contains answered_row rows a has in
+          let r = m.0 in
+          let sound = from.right r (contains_among r rows m.1) in
+          subst (λ (z : AnsweredRow). z ≡ shown_row read (up_to time h) z.key) m.2
+          (ap (λ (cs : List Column). let z : AnsweredRow = record { key = r.key; columns = cs } in z) (right_columns top w inv some dc time read r sound h is));
+    }
+
+pub one_table : (top : TopologyValue) (w : Run) → Inv top w → 0 < top.shards → (c : Completed) (read : Read) (time : ℕ) (answer : List AnsweredRow)
+    → Contains w.transcript c → c.op ≡ op.Read read → c.outcome ≡ outcome.Read time answer → (h : History) → IsHistory top w c.home h
+    → answer ≡ meaning read h time
+one_table top w inv some c read time answer has is came h history =
+    let sound = answered top w inv c read time answer has is came in
+    right_joined read (map answered_row sound.rows) answer sound.answer (λ k. h) time
+    (rows_right top w inv some c.home time read sound.rows sound.from h history)
