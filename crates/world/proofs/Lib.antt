@@ -18,3 +18,4 @@ pub mod ShownOnRow
 pub mod RowAlike
 pub mod ReadTables
 pub mod ReadRests
+pub mod FreshShown
