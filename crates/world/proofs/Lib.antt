@@ -19,3 +19,4 @@ pub mod RowAlike
 pub mod ReadTables
 pub mod ReadRests
 pub mod FreshShown
+pub mod EventCases
