@@ -20,3 +20,5 @@ pub mod ReadTables
 pub mod ReadRests
 pub mod FreshShown
 pub mod EventCases
+pub mod Prefixes
+pub mod HeardFirst
