@@ -21,7 +21,7 @@ pub record Cases (top : TopologyValue) (w : Run) (x : Event) (P : Run → Type 0
       → P (after_session (Ok (heard top e.to n (w.sessions e.to) e.from e.body)) w x e.to)
   pub begun : (node : ℕ) (o : Op) (n : ℕ) → x ≡ Submit node o → is_session top node ≡ true
       → P (after_submission (Ok (begun top node n (w.sessions node) o)) w node o)
-  pub collected : (node time n : ℕ) → P (after_shard (Ok (collected n (w.shards node) time)) w x node)
+  pub collected : (node time n : ℕ) → x ≡ Collect node time → P (after_shard (Ok (collected n (w.shards node) time)) w x node)
 
 handle_cases : (top : TopologyValue) (w : Run) (x : Event) (P : Run → Type 0) (k : ℕ) (e : Envelope) → x ≡ Deliver k → slice_get w.sent k ≡ Some e → is_shard top e.to ≡ true
     → Cases top w x P → P (after_shard (shard_handle top e.to (w.shards e.to) e) w x e.to)
@@ -71,7 +71,7 @@ collect_cases top w node time P c = by (is_shard top node)
   where
     go : (o : Option ℕ) → P (after_shard (on_clock o (λ n. collected n (w.shards node) time)) w (Collect node time) node)
     go None = c.nothing
-    go (Some n) = c.collected node time n
+    go (Some n) = c.collected node time n refl
 
     by : (b : Bool) → P (collect_if b w node time)
     by true = go (ticked (w.shards node).clock (w.shards node).clock)

@@ -1,6 +1,6 @@
 -- What a session heard of a shard in the first round of a read stays with it: the effective time isn't below the earliest
 -- valid time of any row that was heard.
-use Rattle.std.proofs.Common.{◌≡◌, ◌∙◌, ℕ, ◌+◌, ◌≤◌, ap, sym, refl, subst, arith, Bool, true, false, ◌&&◌, ◌⊎◌, inl, inr, List, [], ◌∷◌, ◌++◌, length, drop, Option, Some, None}
+use Rattle.std.proofs.Common.{◌≡◌, ◌∙◌, ℕ, ◌+◌, ◌≤◌, ap, sym, refl, subst, arith, Bool, true, false, ◌&&◌, ◌⊎◌, inl, inr, List, [], ◌∷◌, ◌++◌, length, drop, Option, Some, None, eq-eqb}
 use Rattle.std.specs.Prelude.{◌==◌}
 use Rattle.std.proofs.Math.Seq.{drop-length, drop-append_seam}
 use Rattle.logical_time.specs.Stamps.{StampValue, TxnValue, WriterValue}
@@ -112,7 +112,7 @@ second_still : (nodes : List ℕ) (me n : ℕ) (a : SessionState) (read : Read) 
 second_still [] me n a read time hs number h le k = still_ended n a _ _ (outcome.Read time _) number h le k
 second_still (s ∷ ss) me n a read time hs number h le k = still_open n a (SecondRound read time hs []) number h le k
 
-pub heard_still : (top : TopologyValue) (me n : ℕ) (a : SessionState) (read : Read) (hs : List HeardNow) (number : ℕ) (h : HeardNow) → number ≤ a.count
+heard_still : (top : TopologyValue) (me n : ℕ) (a : SessionState) (read : Read) (hs : List HeardNow) (number : ℕ) (h : HeardNow) → number ≤ a.count
     → (number ≡ a.count → Among h hs) → StillHeard a (heard_now top me n a read hs).state number h
 heard_still top me n a read hs number h le k = by (all_heard (asked_nodes top a read) hs)
   where
@@ -132,6 +132,18 @@ part_now_still (FirstRound read hs) top me n a from m rows number h k old = by (
 part_now_still Idle top me n a from m rows number h k old = still_calm n a number h k
 part_now_still (Writing coordinator) top me n a from m rows number h k old = still_calm n a number h k
 part_now_still (SecondRound read time first hs) top me n a from m rows number h k old = still_calm n a number h k
+
+-- what is kept now has been heard
+pub part_now_heard : (top : TopologyValue) (me n : ℕ) (a : SessionState) (from number : ℕ) (rows : List RowNow) (read : Read) (hs : List HeardNow) → a.count ≡ number
+    → a.current ≡ FirstRound read hs → is_missing (asked_nodes top a read) hs from ≡ true
+    → StillHeard a (heard top me n a from (PartNow number rows)).state number (record { from = from; rows = rows })
+part_now_heard top me n a from number rows read hs count current missing =
+    let h : HeardNow = record { from = from; rows = rows } in
+    let test : ((number == a.count) && is_missing (asked_nodes top a read) hs from) ≡ true =
+    ap (λ b. b && is_missing (asked_nodes top a read) hs from) (eq-eqb number a.count (sym count)) ∙ missing in
+    subst (λ o. StillHeard a (part_now_in o top me n a from number rows).state number h) (sym current)
+    (subst (λ b. StillHeard a (part_now_if b top me n a read hs from rows).state number h) (sym test)
+    (heard_still top me n a read (hs ++ h ∷ []) number h (omega arith) (λ q. among_last h hs)))
 
 -- ## PartAt
 

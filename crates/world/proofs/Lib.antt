@@ -22,3 +22,4 @@ pub mod FreshShown
 pub mod EventCases
 pub mod Prefixes
 pub mod HeardFirst
+pub mod HeardRuns

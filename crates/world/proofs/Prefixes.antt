@@ -62,7 +62,7 @@ sent_step top w x =
       handled = λ k e n is sent to. (_, refl);
       heard = λ k e n is sent other to. (_, refl);
       begun = λ node o n is to. (_, refl);
-      collected = λ node time n. (_, refl);
+      collected = λ node time n is. (_, refl);
     })
 
 pub sent_later : (top : TopologyValue) (w : Run) (xs : List Event) → HasSent w (continued top w xs)
