@@ -23,3 +23,4 @@ pub mod EventCases
 pub mod Prefixes
 pub mod HeardFirst
 pub mod HeardRuns
+pub mod NowSent
