@@ -211,6 +211,22 @@ one_message top w replayed before x after split k e f sent is =
     let both : Some f ≡ Some e = sym later ∙ sent in
     cc
 
+-- a message that was delivered had been sent
+pub delivered_sent : (top : TopologyValue) (v : Run) (k : ℕ) → IsAccepted v (Deliver k) (step top v (Deliver k)) → (e : Envelope) × (slice_get v.sent k ≡ Some e)
+delivered_sent top v k now =
+    event_cases top v (Deliver k) (λ z. IsAccepted v (Deliver k) z → (e : Envelope) × (slice_get v.sent k ≡ Some e))
+    (record {
+      nothing = λ no. absurd (not_both v (Deliver k) no);
+      handled = λ j e n is sent to here. (e, same j is e sent);
+      heard = λ j e n is sent other to here. (e, same j is e sent);
+      begun = λ node o n is to here. absurd (cc);
+      collected = λ node time n is here. absurd (cc);
+    })
+    now
+  where
+    same : (j : ℕ) → Deliver k ≡ Deliver j → (e : Envelope) → slice_get v.sent j ≡ Some e → slice_get v.sent k ≡ Some e
+    same j is e sent = let one : k ≡ j = cc in ap (slice_get v.sent) one ∙ sent
+
 -- a read that kept a shard's answer is answered at a time not below the earliest valid time of each of its rows
 pub kept_heard : (top : TopologyValue) (w : Run) → run top w.events ≡ w → (session number k : ℕ) (e : Envelope) (kept : IsKept top w session number k e)
     → ((c : Completed) → Among c (run top kept.before).transcript → is_idle ((run top kept.before).sessions c.node).current ≡ false

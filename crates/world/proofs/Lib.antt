@@ -24,3 +24,5 @@ pub mod Prefixes
 pub mod HeardFirst
 pub mod HeardRuns
 pub mod NowSent
+pub mod NowSentRuns
+pub mod FreshReads

@@ -34,21 +34,21 @@ is_now other = false
 abbrev pub AreSilent : List Envelope → Type 0
 AreSilent es = (e : Envelope) → Among e es → is_now e.body ≡ false
 
-none : AreSilent []
+pub none : AreSilent []
 none e m = absurd m
 
 one : (x : Envelope) → is_now x.body ≡ false → AreSilent (x ∷ [])
 one x q e (inl same) = ap (λ (z : Envelope). is_now z.body) same ∙ q
 one x q e (inr m) = absurd m
 
-first : (x : Envelope) (xs : List Envelope) → is_now x.body ≡ false → AreSilent xs → AreSilent (x ∷ xs)
+pub first : (x : Envelope) (xs : List Envelope) → is_now x.body ≡ false → AreSilent xs → AreSilent (x ∷ xs)
 first x xs q k e (inl same) = ap (λ (z : Envelope). is_now z.body) same ∙ q
 first x xs q k e (inr m) = k e m
 
 both : (xs ys : List Envelope) → AreSilent xs → AreSilent ys → AreSilent (xs ++ ys)
 both xs ys k l e m = elim (among_append e xs ys m) [ inl a ↦ k e a | inr b ↦ l e b ]
 
-each : {X : Type 0} (f : X → Envelope) (xs : List X) → ((x : X) → is_now (f x).body ≡ false) → AreSilent (map f xs)
+pub each : {X : Type 0} (f : X → Envelope) (xs : List X) → ((x : X) → is_now (f x).body ≡ false) → AreSilent (map f xs)
 each f xs k e m = let r = map_only f xs e m in ap (λ (z : Envelope). is_now z.body) r.2 ∙ k r.0
 
 -- ## A shard's steps
