@@ -23,7 +23,8 @@ pub record Cases (top : TopologyValue) (w : Run) (x : Event) (P : Run → Type 0
       → P (after_submission (Ok (begun top node n (w.sessions node) o)) w node o)
   pub collected : (node time n : ℕ) → x ≡ Collect node time → P (after_shard (Ok (collected n (w.shards node) time)) w x node)
 
-handle_cases : (top : TopologyValue) (w : Run) (x : Event) (P : Run → Type 0) (k : ℕ) (e : Envelope) → x ≡ Deliver k → slice_get w.sent k ≡ Some e → is_shard top e.to ≡ true
+handle_cases : (top : TopologyValue) (w : Run) (x : Event) (P : Run → Type 0) (k : ℕ) (e : Envelope) → x ≡ Deliver k → slice_get w.sent k ≡ Some e
+    → is_shard top e.to ≡ true
     → Cases top w x P → P (after_shard (shard_handle top e.to (w.shards e.to) e) w x e.to)
 handle_cases top w x P k e is sent to c = go (ticked (w.shards e.to).clock e.time)
   where
@@ -31,7 +32,8 @@ handle_cases top w x P k e is sent to c = go (ticked (w.shards e.to).clock e.tim
     go None = c.nothing
     go (Some n) = c.handled k e n is sent to
 
-hear_cases : (top : TopologyValue) (w : Run) (x : Event) (P : Run → Type 0) (k : ℕ) (e : Envelope) → x ≡ Deliver k → slice_get w.sent k ≡ Some e → is_shard top e.to ≡ false
+hear_cases : (top : TopologyValue) (w : Run) (x : Event) (P : Run → Type 0) (k : ℕ) (e : Envelope) → x ≡ Deliver k → slice_get w.sent k ≡ Some e
+    → is_shard top e.to ≡ false
     → is_session top e.to ≡ true → Cases top w x P → P (after_session (session_handle top e.to (w.sessions e.to) e) w x e.to)
 hear_cases top w x P k e is sent other to c = go (ticked (w.sessions e.to).clock e.time)
   where
@@ -42,7 +44,8 @@ hear_cases top w x P k e is sent other to c = go (ticked (w.sessions e.to).clock
 message_cases : (top : TopologyValue) (w : Run) (k : ℕ) (P : Run → Type 0) → Cases top w (Deliver k) P → P (step top w (Deliver k))
 message_cases top w k P c = go (slice_get w.sent k) refl
   where
-    to : (e : Envelope) → slice_get w.sent k ≡ Some e → (s t : Bool) → is_shard top e.to ≡ s → is_session top e.to ≡ t → P (deliver_if s t top w (Deliver k) e)
+    to : (e : Envelope) → slice_get w.sent k ≡ Some e → (s t : Bool) → is_shard top e.to ≡ s → is_session top e.to ≡ t
+        → P (deliver_if s t top w (Deliver k) e)
     to e sent true t p q = handle_cases top w (Deliver k) P k e refl sent p c
     to e sent false true p q = hear_cases top w (Deliver k) P k e refl sent p q c
     to e sent false false p q = c.nothing
@@ -66,7 +69,8 @@ submit_cases top w node o P c = by (is_session top node) refl
     by true is = go is (submit_fault (is_idle (w.sessions node).current) top o)
     by false is = c.nothing
 
-collect_cases : (top : TopologyValue) (w : Run) (node time : ℕ) (P : Run → Type 0) → Cases top w (Collect node time) P → P (step top w (Collect node time))
+collect_cases : (top : TopologyValue) (w : Run) (node time : ℕ) (P : Run → Type 0) → Cases top w (Collect node time) P
+    → P (step top w (Collect node time))
 collect_cases top w node time P c = by (is_shard top node)
   where
     go : (o : Option ℕ) → P (after_shard (on_clock o (λ n. collected n (w.shards node) time)) w (Collect node time) node)

@@ -52,7 +52,8 @@ use Rattle.world.proofs.FreshShown.{IsCover, covered, shown}
 -- ## Rows and shards
 
 -- the rows of a part lie on its shard
-row_here : (top : TopologyValue) (node : ℕ) (batch part : List Change) (row : Row) (name : List ℕ) → part ≡ part_on top batch node → list_any (touches (at row name)) part ≡ true
+row_here : (top : TopologyValue) (node : ℕ) (batch part : List Change) (row : Row) (name : List ℕ) → part ≡ part_on top batch node
+    → list_any (touches (at row name)) part ≡ true
     → shard_of_key top.shards row.key ≡ shard_of top node
 row_here top node batch part row name is touched =
     let c = any_true (touches (at row name)) part touched in
@@ -61,10 +62,13 @@ row_here top node batch part row name is touched =
     ap (λ (z : Row). shard_of_key top.shards z.key) same ∙ eqb-true (shard_of_key top.shards c.0.row.key) (shard_of top node) on.1
 
 -- an asked shard is one of the session's home
-home_of_asked : (top : TopologyValue) (a : SessionState) (read : Read) (heard : List HeardNow) (node : ℕ) → is_missing (asked_nodes top a read) heard node ≡ true
+home_of_asked : (top : TopologyValue) (a : SessionState) (read : Read) (heard : List HeardNow) (node : ℕ)
+    → is_missing (asked_nodes top a read) heard node ≡ true
     → dc_of top node ≡ a.home
 home_of_asked top a read heard node missing =
-    let s = any_true (λ (z : ℕ). z == node) (asked_nodes top a read) (and_parts (list_any (λ (z : ℕ). z == node) (asked_nodes top a read)) (not (was_heard heard node)) missing).0 in
+    let s =
+    any_true (λ (z : ℕ). z == node) (asked_nodes top a read)
+    (and_parts (list_any (λ (z : ℕ). z == node) (asked_nodes top a read)) (not (was_heard heard node)) missing).0 in
     let m = map_only (home_node top a) (shards_asked top.shards read.keys) s.0 s.1 in
     let listed = filter_only (λ (z : ℕ). list_any (is_on top.shards z) read.keys) (range_with_len 0 top.shards) m.0 m.1 in
     ap (dc_of top) (sym (eqb-true s.0 node s.2) ∙ m.2) ∙ dc_of_node top a.home m.0 (listed_below top.shards m.0 listed.0)
@@ -76,7 +80,8 @@ pub record IsOf (top : TopologyValue) (w : Run) (c : Completed) (a : SessionStat
   pub op : c.op ≡ op.Read read
   pub home : c.home ≡ a.home
 
-open_of : (top : TopologyValue) (u w : Run) (c : Completed) (a : SessionState) (read : Read) → Inv top w → Grows top u w → Among c w.transcript → a.count ≡ c.number
+open_of : (top : TopologyValue) (u w : Run) (c : Completed) (a : SessionState) (read : Read) → Inv top w → Grows top u w → Among c w.transcript
+    → a.count ≡ c.number
     → IsOpen u c.node a.count a.home (op.Read read) → IsOf top w c a read
 open_of top u w c a read inv g m count is =
     let was = (inv.transcript c m).opened in
@@ -89,7 +94,8 @@ open_of top u w c a read inv g m count is =
     }
 
 -- what a shard was asked is its share of the read
-asked_share : (top : TopologyValue) (a : SessionState) (read asked : Read) (hs : List HeardNow) (number node : ℕ) → AskedNow top a number node asked → a.count ≡ number
+asked_share : (top : TopologyValue) (a : SessionState) (read asked : Read) (hs : List HeardNow) (number node : ℕ) → AskedNow top a number node asked
+    → a.count ≡ number
     → a.current ≡ FirstRound read hs → asked ≡ share_of top read (shard_of top node)
 asked_share top a read asked hs number node is count current = subst (λ (o : Open). FirstAsked top o node asked) current (is.round (sym count))
 
@@ -135,7 +141,8 @@ module _ (top : TopologyValue) (some : 0 < top.shards) (every : (events : List E
         by (inl (zs, q)) = subst (λ (es : List Event). Grows top then (run top es)) (sym q) (grows was.before zs)
         by (inr (zs, q)) =
             let no_less = sent_no_less top later zs in
-            let same : length then.sent ≡ length (continued top later zs).sent = ap (λ (z : Run). length z.sent) (ap (run top) q ∙ continued_append top _ kept.before zs) in
+            let same : length then.sent ≡ length (continued top later zs).sent =
+            ap (λ (z : Run). length z.sent) (ap (run top) q ∙ continued_append top _ kept.before zs) in
             let le = was.not_sent in
             let lt = slice_get_within later.sent k e sent_later in
             absurd (omega arith)
@@ -156,7 +163,8 @@ module _ (top : TopologyValue) (some : 0 < top.shards) (every : (events : List E
     asked_then : AskedNow top (then.sessions c.node) c.number e.from answer.read
     asked_then =
         let to : answer.asking.from ≡ c.node = sym (ap (λ (z : Envelope). z.to) answer.answer) ∙ kept.address in
-        let says : Says top then answer.asking.from answer.asking.to answer.asking.time answer.asking.body = (every was.before).sent answer.asking answer.among in
+        let says : Says top then answer.asking.from answer.asking.to answer.asking.time answer.asking.body =
+        (every was.before).sent answer.asking answer.among in
         let asked : AskedNow top (then.sessions answer.asking.from) answer.number answer.asking.to answer.read =
         subst (λ b. Says top then answer.asking.from answer.asking.to answer.asking.time b) answer.asked says in
         subst (λ z. AskedNow top (then.sessions z) c.number e.from answer.read) to
@@ -172,13 +180,15 @@ module _ (top : TopologyValue) (some : 0 < top.shards) (every : (events : List E
     own =
         let first : FirstSound top later c.node (later.sessions c.node) kept.read kept.heard =
         subst (λ o. OpenSound top later c.node (later.sessions c.node) o) kept.first_round ((every kept.before).sessions c.node).current in
-        open_of top later w c (later.sessions c.node) kept.read inv (to_end kept.before (Deliver k ∷ kept.after) kept.delivery) there kept.count first.opened
+        open_of top later w c (later.sessions c.node) kept.read inv
+        (to_end kept.before (Deliver k ∷ kept.after) kept.delivery) there kept.count first.opened
 
     here : dc_of top e.from ≡ c.home
     here = home_of_asked top (later.sessions c.node) kept.read kept.heard e.from kept.missing ∙ sym own.home
 
     -- the row was answered, with a time that isn't above the read's
-    row_timely : (key : List ℕ) → Contains kept.read.keys key → shard_of_key top.shards key ≡ shard_of top e.from → (time : ℕ) (shown : List AnsweredRow) → c.outcome ≡ outcome.Read time shown
+    row_timely : (key : List ℕ) → Contains kept.read.keys key → shard_of_key top.shards key ≡ shard_of top e.from
+        → (time : ℕ) (shown : List AnsweredRow) → c.outcome ≡ outcome.Read time shown
         → evt_of (parts_of (then.shards e.from).applied) (row_of kept.read key) kept.read.predicate ≤ time
     row_timely key has on time shown came =
         let given : Contains (keys_for top.shards kept.read.keys (shard_of top e.from)) key =
@@ -187,16 +197,19 @@ module _ (top : TopologyValue) (some : 0 < top.shards) (every : (events : List E
         subst (λ (r : Read). Among key r.keys) (sym share) (contains_among key (keys_for top.shards kept.read.keys (shard_of top e.from)) given) in
         let r = row_now answer.clock (then.shards answer.asking.to) answer.read key in
         let among : Among r kept.rows =
-        subst (λ (l : List RowNow). Among r l) (sym rows) (map_among (row_now answer.clock (then.shards answer.asking.to) answer.read) answer.read.keys key asked) in
+        subst (λ (l : List RowNow). Among r l) (sym rows)
+        (map_among (row_now answer.clock (then.shards answer.asking.to) answer.read) answer.read.keys key asked) in
         let heard = kept_heard top w replayed c.node c.number k e kept ((causal kept.before).closed) in
         let ends : EndsTimely c.outcome (record { from = e.from; rows = kept.rows }) = heard.ended c there refl refl in
-        let timely : IsTimely (record { from = e.from; rows = kept.rows }) time = subst (λ o. EndsTimely o (record { from = e.from; rows = kept.rows })) came ends in
+        let timely : IsTimely (record { from = e.from; rows = kept.rows }) time =
+        subst (λ o. EndsTimely o (record { from = e.from; rows = kept.rows })) came ends in
         subst (λ n. evt_of (parts_of (then.shards n).applied) (row_of kept.read key) kept.read.predicate ≤ time) (sym from)
         (subst (λ (z : Read). evt_of (parts_of (then.shards answer.asking.to).applied) (row_of z key) z.predicate ≤ time) share (timely r among))
 
     -- what the table shows
     pub shows : (read : Read) (time : ℕ) (answered : List AnsweredRow) → c.op ≡ op.Read read → c.outcome ≡ outcome.Read time answered
-        → (key name : List ℕ) → Contains read.keys key → is_asked read.predicate name ≡ true → list_any (touches (at (row_of read key) name)) x.part.batch ≡ true
+        → (key name : List ℕ) → Contains read.keys key → is_asked read.predicate name ≡ true
+        → list_any (touches (at (row_of read key) name)) x.part.batch ≡ true
         → IsNoOlder top w c.home time (at (row_of read key) name) x
     shows read time answered is came key name has asked touched =
         let both : op.Read kept.read ≡ op.Read read = sym own.op ∙ is in
@@ -208,7 +221,8 @@ module _ (top : TopologyValue) (some : 0 < top.shards) (every : (events : List E
         let evt : evt_of (parts_of (then.shards e.from).applied) (row_of read key) read.predicate ≤ time =
         subst (λ (z : Read). evt_of (parts_of (then.shards e.from).applied) (row_of z key) z.predicate ≤ time) same
         (row_timely key (subst (λ (z : Read). Contains z.keys key) (sym same) has) on time answered came) in
-        let cover = covered (then.shards e.from).applied (row_of read key) read.predicate name time x (sound.shards e.from).apart evt asked had touched in
+        let cover =
+        covered (then.shards e.from).applied (row_of read key) read.predicate name time x (sound.shards e.from).apart evt asked had touched in
         let whole = to_end was.before (was.event ∷ was.after) was.sending in
         subst (λ dc. IsNoOlder top w dc time (at (row_of read key) name) x) here
         (shown top w inv some e.from (row_of read key) name on time x
@@ -221,7 +235,8 @@ module _ (top : TopologyValue) (some : 0 < top.shards) (every : (events : List E
           newer = cover.newer;
         }))
 
-  fresh_for : (w : Run) → run top w.events ≡ w → Inv top w → (c : Completed) → Among c w.transcript → (o : Op) (end : Outcome) → c.op ≡ o → c.outcome ≡ end → IsFreshFor o end top w c
+  fresh_for : (w : Run) → run top w.events ≡ w → Inv top w → (c : Completed) → Among c w.transcript → (o : Op) (end : Outcome) → c.op ≡ o
+      → c.outcome ≡ end → IsFreshFor o end top w c
   fresh_for w replayed inv c m (op.Read read) (outcome.Read time answered) is came =
       λ k e x key name kept was has asked touched. shows w replayed inv c m k e kept x was read time answered is came key name has asked touched
   fresh_for w replayed inv c m (op.Read read) (outcome.Wrote commit stamp) is came = tt

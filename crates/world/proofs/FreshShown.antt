@@ -57,7 +57,8 @@ newest_go q h c m has e = go (newest_of q h) refl
     go (Some n) f = (n, f, (newest_some q h n f).top c m has e)
 
 -- what touches an asked location is covered by the time of the row's newest versions
-pub covered : (all : List Applied) (row : Row) (p : Predicate) (name : List ℕ) (time : ℕ) (x : Applied) → AreApart all → evt_of (parts_of all) row p ≤ time
+pub covered : (all : List Applied) (row : Row) (p : Predicate) (name : List ℕ) (time : ℕ) (x : Applied) → AreApart all
+    → evt_of (parts_of all) row p ≤ time
     → is_asked p name ≡ true → Among x all → list_any (touches (at row name)) x.part.batch ≡ true → IsCover all (at row name) time x
 covered all row p name time x apart le asked has touched =
     let q = touches (at row name) in

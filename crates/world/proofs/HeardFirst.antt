@@ -107,7 +107,8 @@ timely : (floor : ℕ) (hs : List HeardNow) (h : HeardNow) → Among h hs → Is
 timely floor hs h m r i =
     effective_above_each floor hs r (contains_flat (λ (z : HeardNow). z.rows) hs h r (among_contains h hs m) (among_contains r h.rows i))
 
-second_still : (nodes : List ℕ) (me n : ℕ) (a : SessionState) (read : Read) (time : ℕ) (hs : List HeardNow) (number : ℕ) (h : HeardNow) → number ≤ a.count
+second_still : (nodes : List ℕ) (me n : ℕ) (a : SessionState) (read : Read) (time : ℕ) (hs : List HeardNow) (number : ℕ) (h : HeardNow)
+    → number ≤ a.count
     → (number ≡ a.count → IsTimely h time) → StillHeard a (second_if nodes me n a read time hs).state number h
 second_still [] me n a read time hs number h le k = still_ended n a _ _ (outcome.Read time _) number h le k
 second_still (s ∷ ss) me n a read time hs number h le k = still_open n a (SecondRound read time hs []) number h le k
@@ -122,7 +123,8 @@ heard_still top me n a read hs number h le k = by (all_heard (asked_nodes top a 
         (λ q. timely a.floor hs h (k q))
     by false = still_open n a (FirstRound read hs) number h le k
 
-part_now_still : (o : Open) (top : TopologyValue) (me n : ℕ) (a : SessionState) (from m : ℕ) (rows : List RowNow) (number : ℕ) (h : HeardNow) → Heard a number h
+part_now_still : (o : Open) (top : TopologyValue) (me n : ℕ) (a : SessionState) (from m : ℕ) (rows : List RowNow) (number : ℕ) (h : HeardNow)
+    → Heard a number h
     → (number ≡ a.count → HasHeard o h) → StillHeard a (part_now_in o top me n a from m rows).state number h
 part_now_still (FirstRound read hs) top me n a from m rows number h k old = by ((m == a.count) && is_missing (asked_nodes top a read) hs from)
   where
@@ -134,7 +136,8 @@ part_now_still (Writing coordinator) top me n a from m rows number h k old = sti
 part_now_still (SecondRound read time first hs) top me n a from m rows number h k old = still_calm n a number h k
 
 -- what is kept now has been heard
-pub part_now_heard : (top : TopologyValue) (me n : ℕ) (a : SessionState) (from number : ℕ) (rows : List RowNow) (read : Read) (hs : List HeardNow) → a.count ≡ number
+pub part_now_heard : (top : TopologyValue) (me n : ℕ) (a : SessionState) (from number : ℕ) (rows : List RowNow) (read : Read) (hs : List HeardNow)
+    → a.count ≡ number
     → a.current ≡ FirstRound read hs → is_missing (asked_nodes top a read) hs from ≡ true
     → StillHeard a (heard top me n a from (PartNow number rows)).state number (record { from = from; rows = rows })
 part_now_heard top me n a from number rows read hs count current missing =
@@ -147,18 +150,22 @@ part_now_heard top me n a from number rows read hs count current missing =
 
 -- ## PartAt
 
-taken_still : (answer : AtTime) (top : TopologyValue) (n : ℕ) (a : SessionState) (read : Read) (time : ℕ) (first : List HeardNow) (hs : List HeardAt) (from number : ℕ) (h : HeardNow) → number ≤ a.count
+taken_still : (answer : AtTime) (top : TopologyValue) (n : ℕ) (a : SessionState) (read : Read) (time : ℕ) (first : List HeardNow) (hs : List HeardAt)
+    (from number : ℕ) (h : HeardNow) → number ≤ a.count
     → (number ≡ a.count → IsTimely h time) → StillHeard a (taken_at answer top n a read time first hs from).state number h
 taken_still at.Collected top n a read time first hs from number h le k = still_ended n a _ _ outcome.Collected number h le (λ q. tt)
-taken_still (at.Rows rows) top n a read time first hs from number h le k = by (all_heard_at (asked_nodes top a read) time first (hs ++ record { from = from; rows = rows } ∷ []))
+taken_still (at.Rows rows) top n a read time first hs from number h le k =
+    by (all_heard_at (asked_nodes top a read) time first (hs ++ record { from = from; rows = rows } ∷ []))
   where
     by : (b : Bool) → StillHeard a (heard_at_if b n a read time first (hs ++ record { from = from; rows = rows } ∷ [])).state number h
     by true = still_ended n a _ _ (outcome.Read time _) number h le k
     by false = still_open n a (SecondRound read time first (hs ++ record { from = from; rows = rows } ∷ [])) number h le k
 
-part_at_still : (o : Open) (top : TopologyValue) (n : ℕ) (a : SessionState) (from m : ℕ) (answer : AtTime) (number : ℕ) (h : HeardNow) → Heard a number h
+part_at_still : (o : Open) (top : TopologyValue) (n : ℕ) (a : SessionState) (from m : ℕ) (answer : AtTime) (number : ℕ) (h : HeardNow)
+    → Heard a number h
     → (number ≡ a.count → HasHeard o h) → StillHeard a (part_at_in o top n a from m answer).state number h
-part_at_still (SecondRound read time first hs) top n a from m answer number h k old = by ((m == a.count) && is_missing_at (asked_nodes top a read) time first hs from)
+part_at_still (SecondRound read time first hs) top n a from m answer number h k old =
+    by ((m == a.count) && is_missing_at (asked_nodes top a read) time first hs from)
   where
     by : (b : Bool) → StillHeard a (part_at_if b top n a read time first hs from answer).state number h
     by true = taken_still answer top n a read time first hs from number h k.count old
@@ -192,6 +199,7 @@ message_still top me n a from (DepCheck dependency waiter) number h k = still_ca
 message_still top me n a from (DepOk dependency waiter commit) number h k = still_calm n a number h k
 
 -- what the session submits is its next operation
-pub begun_still : (top : TopologyValue) (me n : ℕ) (a : SessionState) (o : Op) (number : ℕ) (h : HeardNow) → Heard a number h → Heard (begun top me n a o).state number h
+pub begun_still : (top : TopologyValue) (me n : ℕ) (a : SessionState) (o : Op) (number : ℕ) (h : HeardNow) → Heard a number h
+    → Heard (begun top me n a o).state number h
 begun_still top me n a (op.Batch batch) number h k = let le = k.count in record { count = omega arith; current = λ q. absurd (omega arith) }
 begun_still top me n a (op.Read read) number h k = let le = k.count in record { count = omega arith; current = λ q. absurd (omega arith) }

@@ -33,12 +33,16 @@ pub record IsFinished (node : ℕ) (a b : SessionState) (c : Completed) : Type 0
   pub number : c.number ≡ finished.number
   pub outcome : c.outcome ≡ finished.outcome
 
-finished_go : (submitted : List Submission) (node : ℕ) (a b : SessionState) (c : Completed) (f : Finished) → Among f (drop (length a.outcomes) b.outcomes)
-    → (o : Option Submission) → option_map (λ (s : Submission). let d : Completed = record { node = node; number = f.number; home = s.home; op = s.op; outcome = f.outcome } in d) o ≡ Some c → IsFinished node a b c
+abbrev completion : ℕ → Finished → Submission → Completed
+completion node f s = record { node = node; number = f.number; home = s.home; op = s.op; outcome = f.outcome }
+
+finished_go : (submitted : List Submission) (node : ℕ) (a b : SessionState) (c : Completed) (f : Finished)
+    → Among f (drop (length a.outcomes) b.outcomes)
+    → (o : Option Submission)
+    → option_map (completion node f) o ≡ Some c → IsFinished node a b c
 finished_go submitted node a b c f m None e = absurd (cc)
 finished_go submitted node a b c f m (Some s) e =
-    let d : Completed = record { node = node; number = f.number; home = s.home; op = s.op; outcome = f.outcome } in
-    let same : d ≡ c = cc in
+    let same : completion node f s ≡ c = cc in
     record {
       finished = f;
       among = m;
@@ -47,14 +51,18 @@ finished_go submitted node a b c f m (Some s) e =
       outcome = sym (ap (λ (z : Completed). z.outcome) same);
     }
 
-pub newly_finished : (submitted : List Submission) (node : ℕ) (a b : SessionState) (c : Completed) → Among c (newly_completed submitted node a b) → IsFinished node a b c
+pub newly_finished : (submitted : List Submission) (node : ℕ) (a b : SessionState) (c : Completed) → Among c (newly_completed submitted node a b)
+    → IsFinished node a b c
 newly_finished submitted node a b c m =
-    let r = given_only (completed_of submitted node) (drop (length a.outcomes) b.outcomes) c (among_contains c (newly_completed submitted node a b) m) in
-    finished_go submitted node a b c r.0 (contains_among r.0 (drop (length a.outcomes) b.outcomes) r.1) (submission_of submitted (record { session = node; number = r.0.number })) r.2
+    let r =
+    given_only (completed_of submitted node) (drop (length a.outcomes) b.outcomes) c (among_contains c (newly_completed submitted node a b) m) in
+    finished_go submitted node a b c r.0 (contains_among r.0 (drop (length a.outcomes) b.outcomes) r.1)
+    (submission_of submitted (record { session = node; number = r.0.number })) r.2
 
 -- ## One actor changes
 
-pub changed_actor : {X : Type 0} (P : X → Type 0) (f : ℕ → X) (node : ℕ) (b : X) (m : ℕ) → (m ≡ node → P b) → ((m == node) ≡ false → P (f m)) → P (with_actor f node b m)
+pub changed_actor : {X : Type 0} (P : X → Type 0) (f : ℕ → X) (node : ℕ) (b : X) (m : ℕ) → (m ≡ node → P b) → ((m == node) ≡ false → P (f m))
+    → P (with_actor f node b m)
 changed_actor {X} P f node b m new old = go (m == node) refl
   where
     go : (t : Bool) → (m == node) ≡ t → P (cond t b (f m))
@@ -103,15 +111,20 @@ session_after : (w : Run) (x : Event) (node : ℕ) (st : SessionStep) (session n
 session_after w x node st session number h old own other =
     record {
       heard = changed_actor (λ (a : SessionState). Heard a number h) w.sessions node st.state session (λ same. (own same).kept) other;
-      ended = λ c m p q. elim (among_append c w.transcript (newly_completed w.submitted node (w.sessions node) st.state) m) [ inl o ↦ old c o p q | inr new ↦ newly c new p q ];
+      ended = λ c m p q. elim (among_append c w.transcript (newly_completed w.submitted node (w.sessions node) st.state) m) [
+        | inl o ↦ old c o p q
+        | inr new ↦ newly c new p q
+      ];
     }
   where
-    newly : (c : Completed) → Among c (newly_completed w.submitted node (w.sessions node) st.state) → c.node ≡ session → c.number ≡ number → EndsTimely c.outcome h
+    newly : (c : Completed) → Among c (newly_completed w.submitted node (w.sessions node) st.state) → c.node ≡ session → c.number ≡ number
+        → EndsTimely c.outcome h
     newly c m p q =
         let f = newly_finished w.submitted node (w.sessions node) st.state c m in
         subst (λ o. EndsTimely o h) (sym f.outcome) ((own (sym p ∙ f.node_is)).ended f.finished f.among (sym f.number ∙ q))
 
-heard_step : (top : TopologyValue) (w : Run) (x : Event) (session number : ℕ) (h : HeardNow) → RunHeard w session number h → RunHeard (step top w x) session number h
+heard_step : (top : TopologyValue) (w : Run) (x : Event) (session number : ℕ) (h : HeardNow) → RunHeard w session number h
+    → RunHeard (step top w x) session number h
 heard_step top w x session number h k =
     event_cases top w x (λ v. RunHeard v session number h)
     (record {
@@ -120,19 +133,22 @@ heard_step top w x session number h k =
       heard =
           λ j e n is sent other to.
           session_after w x e.to _ session number h k.ended
-          (λ same. message_still top e.to n (w.sessions e.to) e.from e.body number h (subst (λ z. Heard (w.sessions z) number h) same k.heard)) (λ apart. k.heard);
+          (λ same. message_still top e.to n (w.sessions e.to) e.from e.body number h (subst (λ z. Heard (w.sessions z) number h) same k.heard))
+          (λ apart. k.heard);
       begun =
           λ node o n is to.
           record {
             heard =
                 changed_actor (λ (a : SessionState). Heard a number h) w.sessions node (begun top node n (w.sessions node) o).state session
-                (λ same. begun_still top node n (w.sessions node) o number h (subst (λ z. Heard (w.sessions z) number h) same k.heard)) (λ apart. k.heard);
+                (λ same. begun_still top node n (w.sessions node) o number h (subst (λ z. Heard (w.sessions z) number h) same k.heard))
+                (λ apart. k.heard);
             ended = k.ended;
           };
       collected = λ node time n is. record { heard = k.heard; ended = k.ended };
     })
 
-heard_later : (top : TopologyValue) (w : Run) (xs : List Event) (session number : ℕ) (h : HeardNow) → RunHeard w session number h → RunHeard (continued top w xs) session number h
+heard_later : (top : TopologyValue) (w : Run) (xs : List Event) (session number : ℕ) (h : HeardNow) → RunHeard w session number h
+    → RunHeard (continued top w xs) session number h
 heard_later top w [] session number h k = k
 heard_later top w (x ∷ xs) session number h k = heard_later top (step top w x) xs session number h (heard_step top w x session number h k)
 
@@ -144,7 +160,8 @@ no_both top node is also = by_count (shard_count top) (node_count top) node is a
     by_count : (m n k : ℕ) → nat_lt k m ≡ true → (nat_le m k && nat_lt k n) ≡ true → ⊥
     by_count m n k p q = grind (arith, nat_tests)
 
-not_open : (top : TopologyValue) (w : Run) (node : ℕ) (o : Open) → OnlySessions top w → (w.sessions node).current ≡ o → is_idle o ≡ false → is_shard top node ≡ true → ⊥
+not_open : (top : TopologyValue) (w : Run) (node : ℕ) (o : Open) → OnlySessions top w → (w.sessions node).current ≡ o → is_idle o ≡ false
+    → is_shard top node ≡ true → ⊥
 not_open top w node o only e busy is = by (is_session top node) refl
   where
     by : (b : Bool) → is_session top node ≡ b → ⊥
@@ -152,7 +169,8 @@ not_open top w node o only e busy is = by (is_session top node) refl
     by false to = false≢true (sym busy ∙ ap is_idle (sym e ∙ only node to))
 
 -- the session kept the message at this delivery
-kept_at : (top : TopologyValue) (w : Run) (session number k : ℕ) (e : Envelope) (kept : IsKept top w session number k e) → OnlySessions top (run top kept.before)
+kept_at : (top : TopologyValue) (w : Run) (session number k : ℕ) (e : Envelope) (kept : IsKept top w session number k e)
+    → OnlySessions top (run top kept.before)
     → ((c : Completed) → Among c (run top kept.before).transcript → is_idle ((run top kept.before).sessions c.node).current ≡ false
     → c.number < ((run top kept.before).sessions c.node).count)
     → ((f : Envelope) → slice_get (run top kept.before).sent k ≡ Some f → f ≡ e)
@@ -165,12 +183,14 @@ kept_at top w session number k e kept only closed same =
       handled =
           λ j f n is sent to now.
           let one = same f (ap (slice_get u.sent) (delivered j is) ∙ sent) in
-          absurd (not_open top u session (FirstRound kept.read kept.heard) only kept.first_round refl (ap (is_shard top) (sym (addressed f one)) ∙ to));
+          absurd
+          (not_open top u session (FirstRound kept.read kept.heard) only kept.first_round refl (ap (is_shard top) (sym (addressed f one)) ∙ to));
       heard =
           λ j f n is sent other to now.
           let one = same f (ap (slice_get u.sent) (delivered j is) ∙ sent) in
           session_after u (Deliver k) f.to (heard top f.to n (u.sessions f.to) f.from f.body) session number h old
-          (λ here. subst (λ (z : Envelope). StillHeard (u.sessions z.to) (heard top z.to n (u.sessions z.to) z.from z.body).state number h) (sym one) (own n))
+          (λ here. subst (λ (z : Envelope). StillHeard (u.sessions z.to) (heard top z.to n (u.sessions z.to) z.from z.body).state number h) (sym one)
+          (own n))
           (λ apart. absurd (false≢true (sym apart ∙ eq-eqb session f.to (sym (addressed f one)))));
       begun = λ node o n is to now. absurd (cc);
       collected = λ node time n is now. absurd (cc);
@@ -203,16 +223,19 @@ kept_at top w session number k e kept only closed same =
         (subst (λ z. is_missing (asked_nodes top (u.sessions z) kept.read) kept.heard e.from ≡ true) (sym kept.address) kept.missing))
 
 -- the message of this number is this one wherever it was sent
-pub one_message : (top : TopologyValue) (w : Run) → run top w.events ≡ w → (before : List Event) (x : Event) (after : List Event) → w.events ≡ before ++ x ∷ after
+pub one_message : (top : TopologyValue) (w : Run) → run top w.events ≡ w → (before : List Event) (x : Event) (after : List Event)
+    → w.events ≡ before ++ x ∷ after
     → (k : ℕ) (e f : Envelope) → slice_get w.sent k ≡ Some e → slice_get (run top before).sent k ≡ Some f → f ≡ e
 one_message top w replayed before x after split k e f sent is =
     let whole : continued top (run top before) (x ∷ after) ≡ w = splits top w replayed before x after split in
-    let later : slice_get w.sent k ≡ Some f = ap (λ (z : Run). slice_get z.sent k) (sym whole) ∙ number_later top (run top before) (x ∷ after) k f is in
+    let later : slice_get w.sent k ≡ Some f =
+    ap (λ (z : Run). slice_get z.sent k) (sym whole) ∙ number_later top (run top before) (x ∷ after) k f is in
     let both : Some f ≡ Some e = sym later ∙ sent in
     cc
 
 -- a message that was delivered had been sent
-pub delivered_sent : (top : TopologyValue) (v : Run) (k : ℕ) → IsAccepted v (Deliver k) (step top v (Deliver k)) → (e : Envelope) × (slice_get v.sent k ≡ Some e)
+pub delivered_sent : (top : TopologyValue) (v : Run) (k : ℕ) → IsAccepted v (Deliver k) (step top v (Deliver k))
+    → (e : Envelope) × (slice_get v.sent k ≡ Some e)
 delivered_sent top v k now =
     event_cases top v (Deliver k) (λ z. IsAccepted v (Deliver k) z → (e : Envelope) × (slice_get v.sent k ≡ Some e))
     (record {
@@ -228,7 +251,8 @@ delivered_sent top v k now =
     same j is e sent = let one : k ≡ j = cc in ap (slice_get v.sent) one ∙ sent
 
 -- a read that kept a shard's answer is answered at a time not below the earliest valid time of each of its rows
-pub kept_heard : (top : TopologyValue) (w : Run) → run top w.events ≡ w → (session number k : ℕ) (e : Envelope) (kept : IsKept top w session number k e)
+pub kept_heard : (top : TopologyValue) (w : Run) → run top w.events ≡ w
+    → (session number k : ℕ) (e : Envelope) (kept : IsKept top w session number k e)
     → ((c : Completed) → Among c (run top kept.before).transcript → is_idle ((run top kept.before).sessions c.node).current ≡ false
     → c.number < ((run top kept.before).sessions c.node).count)
     → RunHeard w session number (record { from = e.from; rows = kept.rows })
@@ -236,5 +260,6 @@ kept_heard top w replayed session number k e kept closed =
     let now = kept_at top w session number k e kept (only_sessions top kept.before) closed
     (λ f is. one_message top w replayed kept.before (Deliver k) kept.after kept.delivery k e f kept.message is)
     (accepted top w replayed kept.before (Deliver k) kept.after kept.delivery) in
-    subst (λ (z : Run). RunHeard z session number (record { from = e.from; rows = kept.rows })) (splits top w replayed kept.before (Deliver k) kept.after kept.delivery)
+    subst (λ (z : Run). RunHeard z session number (record { from = e.from; rows = kept.rows }))
+    (splits top w replayed kept.before (Deliver k) kept.after kept.delivery)
     (heard_later top (step top (run top kept.before) (Deliver k)) kept.after session number (record { from = e.from; rows = kept.rows }) now)

@@ -30,7 +30,8 @@ use Rattle.world.proofs.Prefixes.{get_added}
 
 -- ## A session sends none
 
-done_silent : (o : Open) (me n : ℕ) (a : SessionState) (t : TxnValue) (commit : ℕ) (stamp : StampValue) → AreSilent (done_in o me n a t commit stamp).sends
+done_silent : (o : Open) (me n : ℕ) (a : SessionState) (t : TxnValue) (commit : ℕ) (stamp : StampValue)
+    → AreSilent (done_in o me n a t commit stamp).sends
 done_silent (Writing coordinator) me n a t commit stamp = by (is_same_txn t (record { session = me; number = a.count }))
   where
     by : (b : Bool) → AreSilent (done_if b n a coordinator t commit stamp).sends
@@ -40,7 +41,8 @@ done_silent Idle me n a t commit stamp = none
 done_silent (FirstRound read hs) me n a t commit stamp = none
 done_silent (SecondRound read time fs hs) me n a t commit stamp = none
 
-second_silent : (nodes : List ℕ) (me n : ℕ) (a : SessionState) (read : Read) (time : ℕ) (hs : List HeardNow) → AreSilent (second_if nodes me n a read time hs).sends
+second_silent : (nodes : List ℕ) (me n : ℕ) (a : SessionState) (read : Read) (time : ℕ) (hs : List HeardNow)
+    → AreSilent (second_if nodes me n a read time hs).sends
 second_silent [] me n a read time hs = none
 second_silent (s ∷ ss) me n a read time hs = each (read_at_of me n a read time hs) (s ∷ ss) (λ z. refl)
 
@@ -51,7 +53,8 @@ heard_silent top me n a read hs = by (all_heard (asked_nodes top a read) hs)
     by true = second_silent (late_nodes (asked_nodes top a read) (effective_time a.floor hs) hs) me n a read (effective_time a.floor hs) hs
     by false = none
 
-part_now_silent : (o : Open) (top : TopologyValue) (me n : ℕ) (a : SessionState) (from m : ℕ) (rows : List RowNow) → AreSilent (part_now_in o top me n a from m rows).sends
+part_now_silent : (o : Open) (top : TopologyValue) (me n : ℕ) (a : SessionState) (from m : ℕ) (rows : List RowNow)
+    → AreSilent (part_now_in o top me n a from m rows).sends
 part_now_silent (FirstRound read hs) top me n a from m rows = by ((m == a.count) && is_missing (asked_nodes top a read) hs from)
   where
     by : (b : Bool) → AreSilent (part_now_if b top me n a read hs from rows).sends
@@ -64,13 +67,15 @@ part_now_silent (SecondRound read time fs hs) top me n a from m rows = none
 taken_silent : (answer : AtTime) (top : TopologyValue) (n : ℕ) (a : SessionState) (read : Read) (time : ℕ) (fs : List HeardNow) (hs : List HeardAt) (from : ℕ)
     → AreSilent (taken_at answer top n a read time fs hs from).sends
 taken_silent at.Collected top n a read time fs hs from = none
-taken_silent (at.Rows rows) top n a read time fs hs from = by (all_heard_at (asked_nodes top a read) time fs (hs ++ record { from = from; rows = rows } ∷ []))
+taken_silent (at.Rows rows) top n a read time fs hs from =
+    by (all_heard_at (asked_nodes top a read) time fs (hs ++ record { from = from; rows = rows } ∷ []))
   where
     by : (b : Bool) → AreSilent (heard_at_if b n a read time fs (hs ++ record { from = from; rows = rows } ∷ [])).sends
     by true = none
     by false = none
 
-part_at_silent : (o : Open) (top : TopologyValue) (n : ℕ) (a : SessionState) (from m : ℕ) (answer : AtTime) → AreSilent (part_at_in o top n a from m answer).sends
+part_at_silent : (o : Open) (top : TopologyValue) (n : ℕ) (a : SessionState) (from m : ℕ) (answer : AtTime)
+    → AreSilent (part_at_in o top n a from m answer).sends
 part_at_silent (SecondRound read time fs hs) top n a from m answer = by ((m == a.count) && is_missing_at (asked_nodes top a read) time fs hs from)
   where
     by : (b : Bool) → AreSilent (part_at_if b top n a read time fs hs from answer).sends
@@ -119,7 +124,8 @@ pub record IsNowSent (v : Run) (e : Envelope) : Type 0 where
   pub clock : ℕ
   pub answer : e ≡ envelope asking.to asking.from clock (PartNow number (map (row_now clock (v.shards asking.to) read) read.keys))
 
-pub now_sent_at : (top : TopologyValue) (v : Run) (x : Event) (k : ℕ) (e : Envelope) → length v.sent ≤ k → slice_get (step top v x).sent k ≡ Some e → is_now e.body ≡ true → IsNowSent v e
+pub now_sent_at : (top : TopologyValue) (v : Run) (x : Event) (k : ℕ) (e : Envelope) → length v.sent ≤ k → slice_get (step top v x).sent k ≡ Some e
+    → is_now e.body ≡ true → IsNowSent v e
 now_sent_at top v x k e le sent is =
     event_cases top v x (λ z. slice_get z.sent k ≡ Some e → IsNowSent v e)
     (record {

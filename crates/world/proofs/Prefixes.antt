@@ -73,7 +73,8 @@ sent_later top w (x ∷ xs) =
     (now.0 ++ later.0, later.1 ∙ ap (λ es. es ++ later.0) now.1 ∙ append_assoc w.sent now.0 later.0)
 
 -- a message keeps its number
-pub number_later : (top : TopologyValue) (w : Run) (xs : List Event) (k : ℕ) (e : Envelope) → slice_get w.sent k ≡ Some e → slice_get (continued top w xs).sent k ≡ Some e
+pub number_later : (top : TopologyValue) (w : Run) (xs : List Event) (k : ℕ) (e : Envelope) → slice_get w.sent k ≡ Some e
+    → slice_get (continued top w xs).sent k ≡ Some e
 number_later top w xs k e is =
     let more = sent_later top w xs in
     ap (λ es. slice_get es k) more.1 ∙ get_first w.sent more.0 k e is
@@ -81,7 +82,8 @@ number_later top w xs k e is =
 pub sent_no_less : (top : TopologyValue) (w : Run) (xs : List Event) → length w.sent ≤ length (continued top w xs).sent
 sent_no_less top w xs =
     let more = sent_later top w xs in
-    let count : length (continued top w xs).sent ≡ length w.sent + length more.0 = ap (λ (es : List Envelope). length es) more.1 ∙ length-append w.sent more.0 in
+    let count : length (continued top w xs).sent ≡ length w.sent + length more.0 =
+    ap (λ (es : List Envelope). length es) more.1 ∙ length-append w.sent more.0 in
     omega arith
 
 -- an event adds at most itself
@@ -91,7 +93,9 @@ no_more_events top w (x ∷ xs) =
     let rest = no_more_events top (step top w x) xs in
     let one : length (step top w x).events ≤ length w.events + 1 = elim (happens top w x) [
       | inl same ↦ let e : length (step top w x).events ≡ length w.events = ap (λ (v : Run). length v.events) same in omega arith
-      | inr added ↦ let e : length (step top w x).events ≡ length w.events + 1 = ap (λ (es : List Event). length es) added ∙ length-append w.events (x ∷ []) in omega arith
+      | inr added ↦
+          let e : length (step top w x).events ≡ length w.events + 1 = ap (λ (es : List Event). length es) added ∙ length-append w.events (x ∷ []) in
+          omega arith
     ] in
     omega arith
 
@@ -101,24 +105,29 @@ IsAccepted w x v = v.events ≡ w.events ++ x ∷ []
 
 -- what is refused isn't accepted
 pub not_both : (w : Run) (x : Event) → IsAccepted w x w → ⊥
-not_both w x e = let count : length w.events ≡ length w.events + 1 = ap (λ (es : List Event). length es) e ∙ length-append w.events (x ∷ []) in omega arith
+not_both w x e =
+    let count : length w.events ≡ length w.events + 1 = ap (λ (es : List Event). length es) e ∙ length-append w.events (x ∷ []) in omega arith
 
 -- where a run's events are split, it is what follows from there
-pub splits : (top : TopologyValue) (w : Run) → run top w.events ≡ w → (before : List Event) (x : Event) (after : List Event) → w.events ≡ before ++ x ∷ after
+pub splits : (top : TopologyValue) (w : Run) → run top w.events ≡ w → (before : List Event) (x : Event) (after : List Event)
+    → w.events ≡ before ++ x ∷ after
     → continued top (step top (run top before) x) after ≡ w
 splits top w replayed before x after e = sym (continued_append top (opening top) before (x ∷ after)) ∙ ap (run top) (sym e) ∙ replayed
 
 -- each event that a run keeps was accepted where it stands
-pub accepted : (top : TopologyValue) (w : Run) → run top w.events ≡ w → (before : List Event) (x : Event) (after : List Event) → w.events ≡ before ++ x ∷ after
+pub accepted : (top : TopologyValue) (w : Run) → run top w.events ≡ w → (before : List Event) (x : Event) (after : List Event)
+    → w.events ≡ before ++ x ∷ after
     → IsAccepted (run top before) x (step top (run top before) x)
 accepted top w replayed before x after e = by (happens top (run top before) x)
   where
-    by : (step top (run top before) x ≡ run top before) ⊎ ((step top (run top before) x).events ≡ (run top before).events ++ x ∷ []) → IsAccepted (run top before) x (step top (run top before) x)
+    by : (step top (run top before) x ≡ run top before) ⊎ ((step top (run top before) x).events ≡ (run top before).events ++ x ∷ [])
+        → IsAccepted (run top before) x (step top (run top before) x)
     by (inr added) = added
     by (inl same) =
         let first = no_more_events top (opening top) before in
         let rest = no_more_events top (step top (run top before) x) after in
         let stays : length (step top (run top before) x).events ≡ length (run top before).events = ap (λ (v : Run). length v.events) same in
-        let whole : length (continued top (step top (run top before) x) after).events ≡ length w.events = ap (λ (v : Run). length v.events) (splits top w replayed before x after e) in
+        let whole : length (continued top (step top (run top before) x) after).events ≡ length w.events =
+        ap (λ (v : Run). length v.events) (splits top w replayed before x after e) in
         let count : length w.events ≡ length before + suc (length after) = ap (λ (es : List Event). length es) e ∙ length-append before (x ∷ after) in
         absurd (omega arith)
