@@ -1,14 +1,14 @@
 -- What an event makes of a run, case by case: nothing, or the step of one actor.
-use Rattle.std.proofs.Common.{◌≡◌, ℕ, Bool, true, false, Option, Some, None, Result, Ok, Err, refl, slice_get}
+use Rattle.std.proofs.Common.{◌≡◌, ℕ, Bool, true, false, Option, Some, None, Ok, refl, slice_get}
 use Rattle.logical_time.specs.declared.fault.Fault.{Fault}
 use Rattle.messages.specs.declared.op.Op.{Op}
 use Rattle.messages.specs.declared.envelope.Envelope.{Envelope}
 use Rattle.messages.specs.Topology.{TopologyValue, is_shard, is_session}
 use Rattle.messages.specs.Clock.{ticked, on_clock}
-use Rattle.messages.specs.Session.{SessionState, SessionStep, is_idle}
-use Rattle.messages.specs.ShardEvents.{handled, shard_handle, collected, shard_collect}
+use Rattle.messages.specs.Session.{is_idle}
+use Rattle.messages.specs.ShardEvents.{handled, shard_handle, collected}
 use Rattle.messages.specs.SessionEvents.{heard, session_handle}
-use Rattle.messages.specs.Submitting.{begun, session_submit, submit_fault, submit_if as submitted_if}
+use Rattle.messages.specs.Submitting.{begun, submit_fault, submit_if as submitted_if}
 use Rattle.world.specs.Run.{Run, Event, Submit, Deliver, Collect, after_shard, after_session, after_submission, submit_if, deliver_if, deliver_for, collect_if, step}
 
 -- What holds of each thing that an event may make of the run holds of what it makes.

@@ -1,6 +1,6 @@
 -- An answered read is fresh: it shows, at each asked location, nothing older than what an asked shard had applied before it
 -- sent the answer that the session kept.
-use Rattle.std.proofs.Common.{◌≡◌, ◌∙◌, ℕ, ◌<◌, ◌≤◌, ap, sym, refl, subst, arith, Bool, true, ◌&&◌, inl, inr, List, ◌∷◌, ◌++◌, map, length, Option, Some, slice_get, eqb-true}
+use Rattle.std.proofs.Common.{◌≡◌, ◌∙◌, ℕ, ◌<◌, ◌≤◌, ap, sym, refl, subst, arith, true, inl, inr, List, ◌∷◌, ◌++◌, map, length, Some, slice_get, eqb-true}
 use Rattle.std.specs.Prelude.{◌==◌, not, ◌⊎◌, Contains}
 use Rattle.std.specs.List.{list_any, range_with_len}
 use Rattle.std.proofs.lemmas.Bool.{and_parts}
@@ -25,29 +25,28 @@ use Rattle.messages.specs.declared.op.Op.{Op}
 use Rattle.messages.specs.declared.op.Op.TheVariants as op
 use Rattle.messages.specs.declared.outcome.Outcome.{Outcome}
 use Rattle.messages.specs.declared.outcome.Outcome.TheVariants as outcome
-use Rattle.messages.specs.declared.body.Body.{Body}
 use Rattle.messages.specs.declared.body.Body.TheVariants.{PartNow}
 use Rattle.messages.specs.declared.envelope.Envelope.{Envelope}
-use Rattle.messages.specs.Topology.{TopologyValue, dc_of, shard_of, shard_node}
+use Rattle.messages.specs.Topology.{TopologyValue, dc_of, shard_of}
 use Rattle.messages.specs.Rows.{row_now}
 use Rattle.messages.specs.Session.{SessionState, Open, FirstRound, HeardNow}
 use Rattle.messages.specs.Submitting.{home_node, share_of}
 use Rattle.messages.specs.Rounds.{asked_nodes, was_heard, is_missing}
 use Rattle.world.specs.Run.{Run, Event, Deliver, Submission, Completed, step, continued, run}
-use Rattle.world.specs.Fresh.{IsKept, WasApplied, IsNoOlder, IsFreshAt, IsFreshFor, IsFresh}
-use Rattle.world.proofs.Among.{Among, among_contains, contains_among, any_true, filter_only, map_only, map_among}
+use Rattle.world.specs.Fresh.{IsKept, WasApplied, IsNoOlder, IsFreshFor, IsFresh}
+use Rattle.world.proofs.Among.{Among, contains_among, any_true, filter_only, map_only, map_among}
 use Rattle.world.proofs.Growth.{FirstAsked, AskedNow, Grows}
-use Rattle.world.proofs.Facts.{txn_of, part_on}
-use Rattle.world.proofs.Invariant.{EnvelopeSound, Says, IsOpen, OpenSound, FirstSound, Inv}
+use Rattle.world.proofs.Facts.{part_on}
+use Rattle.world.proofs.Invariant.{Says, IsOpen, OpenSound, FirstSound, Inv}
 use Rattle.world.proofs.Causal.{Causal}
 use Rattle.world.proofs.NodeNumbers.{dc_of_node, listed_below}
 use Rattle.world.proofs.Replayed.{runs_replayed}
 use Rattle.world.proofs.Prefixes.{get_there, one_begins, continued_append, number_later, sent_no_less, splits, accepted}
 use Rattle.world.proofs.HeardFirst.{IsTimely, EndsTimely}
-use Rattle.world.proofs.HeardRuns.{RunHeard, one_message, delivered_sent, kept_heard}
+use Rattle.world.proofs.HeardRuns.{one_message, delivered_sent, kept_heard}
 use Rattle.world.proofs.NowSent.{is_now}
 use Rattle.world.proofs.NowSentRuns.{IsNowSent, now_sent_at}
-use Rattle.world.proofs.FreshShown.{IsCover, covered, shown}
+use Rattle.world.proofs.FreshShown.{covered, shown}
 
 -- ## Rows and shards
 

@@ -9,7 +9,7 @@ use Rattle.column_family.specs.declared.batch.Change.{Change}
 use Rattle.column_family.specs.declared.batch.Committed.{Committed}
 use Rattle.column_family.specs.declared.batch.Mutation.{Mutation}
 use Rattle.column_family.specs.Location.{Location, touches}
-use Rattle.column_family.specs.History.{History, Stamped, up_to, last_of, newest_of, newest_at}
+use Rattle.column_family.specs.History.{History, Stamped, up_to, last_of, newest_of}
 use Rattle.slice.specs.declared.predicate.Predicate.{Predicate}
 use Rattle.slice.specs.Slice.{is_asked}
 use Rattle.slice.proofs.LiveTable.{at}
@@ -25,9 +25,8 @@ use Rattle.world.specs.Run.{Run}
 use Rattle.world.specs.Histories.{history_of}
 use Rattle.world.specs.Fresh.{IsNoOlder}
 use Rattle.world.proofs.Among.{Among, filter_only, filter_among, map_only, map_among}
-use Rattle.world.proofs.Facts.{part_on}
 use Rattle.world.proofs.Invariant.{Inv}
-use Rattle.world.proofs.SameNewest.{IsNewest, newest_none, newest_some}
+use Rattle.world.proofs.SameNewest.{newest_none, newest_some}
 use Rattle.world.proofs.RowTests.{last_in_part, touches_test}
 use Rattle.world.proofs.DecidedIn.{applied_in, entry, entry_among}
 

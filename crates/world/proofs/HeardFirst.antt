@@ -1,13 +1,12 @@
 -- What a session heard of a shard in the first round of a read stays with it: the effective time isn't below the earliest
 -- valid time of any row that was heard.
-use Rattle.std.proofs.Common.{◌≡◌, ◌∙◌, ℕ, ◌+◌, ◌≤◌, ap, sym, refl, subst, arith, Bool, true, false, ◌&&◌, ◌⊎◌, inl, inr, List, [], ◌∷◌, ◌++◌, length, drop, Option, Some, None, eq-eqb}
+use Rattle.std.proofs.Common.{◌≡◌, ◌∙◌, ℕ, ◌≤◌, ap, sym, subst, arith, Bool, true, false, ◌&&◌, inl, inr, List, [], ◌∷◌, ◌++◌, length, drop, eq-eqb}
 use Rattle.std.specs.Prelude.{◌==◌}
 use Rattle.std.proofs.Math.Seq.{drop-length, drop-append_seam}
 use Rattle.logical_time.specs.Stamps.{StampValue, TxnValue, WriterValue}
 use Rattle.planner.proofs.Members.{contains_flat}
 use Rattle.slice.specs.declared.read.Read.{Read}
 use Rattle.messages.specs.declared.rows_now.RowNow.{RowNow}
-use Rattle.messages.specs.declared.rows_at.RowAt.{RowAt}
 use Rattle.messages.specs.declared.rows_at.AtTime.{AtTime}
 use Rattle.messages.specs.declared.rows_at.AtTime.TheVariants as at
 use Rattle.messages.specs.declared.op.Op.{Op}
@@ -18,10 +17,10 @@ use Rattle.messages.specs.declared.body.Body.{Body}
 use Rattle.messages.specs.declared.body.Body.TheVariants.{Begin, Prepare, Yes, Commit, At, NotBy, Check, Read as ReadNow, ReadAt, ReplBegin, ReplPart, Notify, PrepareRemote, DepCheck, DepOk, Done, PartNow, PartAt}
 use Rattle.messages.specs.Topology.{TopologyValue}
 use Rattle.messages.specs.Words.{is_same_txn}
-use Rattle.messages.specs.Session.{SessionState, SessionStep, Open, Idle, Writing, FirstRound, SecondRound, HeardNow, HeardAt, Finished, calm}
+use Rattle.messages.specs.Session.{SessionState, Open, Idle, Writing, FirstRound, SecondRound, HeardNow, HeardAt, Finished, calm}
 use Rattle.messages.specs.Submitting.{begun}
-use Rattle.messages.specs.Rounds.{asked_nodes, is_missing, all_heard, effective_time, rows_heard, late_nodes, is_missing_at, all_heard_at, rows_taken}
-use Rattle.messages.specs.SessionEvents.{ended, answered, given_up, done_if, done_in, second_if, second, heard_if, heard_now, part_now_if, part_now_in, heard_at_if, heard_at, taken_at, part_at_if, part_at_in, heard}
+use Rattle.messages.specs.Rounds.{asked_nodes, is_missing, all_heard, effective_time, late_nodes, is_missing_at, all_heard_at}
+use Rattle.messages.specs.SessionEvents.{ended, done_if, done_in, second_if, heard_if, heard_now, part_now_if, part_now_in, heard_at_if, taken_at, part_at_if, part_at_in, heard}
 use Rattle.messages.proofs.Greatest.{effective_above_each}
 use Rattle.world.proofs.Among.{Among, append_first, among_last, among_contains}
 

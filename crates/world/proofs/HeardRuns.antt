@@ -1,22 +1,18 @@
 -- What a session kept of a first round stays with the read over a run: its effective time isn't below the earliest valid
 -- time of any row that was kept.
-use Rattle.std.proofs.Common.{◌≡◌, ◌∙◌, ℕ, ◌+◌, ◌<◌, ◌≤◌, ap, sym, refl, subst, arith, Bool, true, false, cond, ◌&&◌, nat_le, nat_lt, inl, inr, List, [], ◌∷◌, ◌++◌, length, drop, Option, Some, None, Ok, slice_get, eqb-true, eq-eqb}
+use Rattle.std.proofs.Common.{◌≡◌, ◌∙◌, ℕ, ◌<◌, ap, sym, refl, subst, arith, Bool, true, false, cond, ◌&&◌, nat_le, nat_lt, inl, inr, List, [], ◌∷◌, ◌++◌, length, drop, Option, Some, None, Ok, slice_get, eqb-true, eq-eqb}
 use Rattle.std.specs.Prelude.{◌==◌, option_map}
 use Rattle.std.proofs.lemmas.Bool.{false≢true}
 use Rattle.std.proofs.lemmas.Bool.Decides.{nat_tests}
-use Rattle.logical_time.specs.Stamps.{TxnValue}
 use Rattle.store.proofs.Lists.{given_only}
-use Rattle.messages.specs.declared.rows_now.RowNow.{RowNow}
-use Rattle.messages.specs.declared.op.Op.{Op}
 use Rattle.messages.specs.declared.body.Body.{Body}
-use Rattle.messages.specs.declared.body.Body.TheVariants.{PartNow}
 use Rattle.messages.specs.declared.envelope.Envelope.{Envelope}
 use Rattle.messages.specs.Topology.{TopologyValue, is_shard, is_session, shard_count, node_count}
-use Rattle.messages.specs.Session.{SessionState, SessionStep, Open, Idle, Writing, FirstRound, SecondRound, HeardNow, Finished, is_idle}
+use Rattle.messages.specs.Session.{SessionState, SessionStep, Open, Idle, FirstRound, HeardNow, Finished, is_idle}
 use Rattle.messages.specs.Submitting.{begun}
 use Rattle.messages.specs.Rounds.{asked_nodes, is_missing}
 use Rattle.messages.specs.SessionEvents.{heard}
-use Rattle.world.specs.Run.{Run, Event, Submit, Deliver, Collect, Submission, Completed, opening, submission_of, completed_of, newly_completed, with_actor, after_session, after_submission, step, continued, run}
+use Rattle.world.specs.Run.{Run, Event, Deliver, Submission, Completed, opening, submission_of, completed_of, newly_completed, with_actor, after_session, step, continued, run}
 use Rattle.world.specs.Fresh.{IsKept}
 use Rattle.world.proofs.Among.{Among, among_append, among_contains, contains_among}
 use Rattle.world.proofs.EventCases.{event_cases}

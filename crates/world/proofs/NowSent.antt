@@ -1,28 +1,22 @@
 -- A shard sends a PartNow at a Read alone, with its rows as they are then; a session never sends one.
-use Rattle.std.proofs.Common.{◌≡◌, ◌∙◌, ℕ, ap, sym, refl, Bool, true, false, ◌&&◌, inl, inr, List, [], ◌∷◌, ◌++◌, map, Option, Some, None}
+use Rattle.std.proofs.Common.{◌≡◌, ◌∙◌, ℕ, ap, sym, refl, Bool, true, false, inl, inr, List, [], ◌∷◌, ◌++◌, map, Option, Some, None}
 use Rattle.std.specs.Prelude.{filter, nat_le, nat_lt, is_some}
 use Rattle.std.proofs.lemmas.Bool.{false≢true}
 use Rattle.logical_time.specs.Stamps.{StampValue, TxnValue, WriterValue}
 use Rattle.column_family.specs.declared.batch.Change.{Change}
 use Rattle.slice.specs.declared.read.Read.{Read}
-use Rattle.planner.specs.Plan.{cohorts_of, shards_asked}
-use Rattle.messages.specs.declared.rows_now.RowNow.{RowNow}
-use Rattle.messages.specs.declared.rows_at.RowAt.{RowAt}
-use Rattle.messages.specs.declared.rows_at.AtTime.{AtTime}
 use Rattle.messages.specs.declared.rows_at.AtTime.TheVariants as at
-use Rattle.messages.specs.declared.op.Op.{Op}
-use Rattle.messages.specs.declared.op.Op.TheVariants as op
 use Rattle.messages.specs.declared.body.Body.{Body}
 use Rattle.messages.specs.declared.body.Body.TheVariants.{Begin, Prepare, Yes, Commit, At, NotBy, Check, Read as ReadNow, ReadAt, ReplBegin, ReplPart, Notify, PrepareRemote, DepCheck, DepOk, Done, PartNow, PartAt}
 use Rattle.messages.specs.declared.envelope.Envelope.{Envelope}
 use Rattle.messages.specs.Topology.{TopologyValue, dc_of, shard_of, shard_node}
 use Rattle.messages.specs.Words.{is_same_txn, envelope, other_dcs}
-use Rattle.messages.specs.Shard.{ShardState, ShardStep, Role, Own, Cohort, Replica, PreparedPart, BegunBallot, Decision, KeptPart, KeptBallot, Asker, WaitingRead}
+use Rattle.messages.specs.Shard.{ShardState, Role, Own, Cohort, Replica, PreparedPart, BegunBallot, Decision, KeptPart, KeptBallot, Asker, WaitingRead}
 use Rattle.messages.specs.Known.{decision_of, prepared_part, kept_part, kept_ballot, standing_ballot, is_known, is_applied, has_vote, is_awaited, all_voted, is_asker}
 use Rattle.messages.specs.Rows.{row_now}
 use Rattle.messages.specs.Reads.{part_at, asked_below, check_of, is_waiting, waiting_read, read_at_of, read_at_if, lessened, is_free, let_go}
 use Rattle.messages.specs.Commits.{applied_part, commits, stamp_for, announcements, dep_oks, decide, begin_if, prepare_if, with_vote, counted_if, vote_if, early_if, yes_for, repl_parts, apply_part, commit_if, commit_for, check_for}
-use Rattle.messages.specs.Replication.{ballot_of, remote_prepare, is_ready, ready_if, ready, dep_checks, with_ballot, sent_before, repl_begin_if, repl_part_if, with_notice, notice_if, early_notice_if, notify_for, prepare_remote_for, remember_if, dep_check_for, is_unmet, with_met, met_if, dep_ok_for}
+use Rattle.messages.specs.Replication.{ballot_of, remote_prepare, is_ready, ready_if, ready, dep_checks, with_ballot, repl_begin_if, repl_part_if, with_notice, notice_if, early_notice_if, notify_for, prepare_remote_for, remember_if, dep_check_for, is_unmet, with_met, met_if, dep_ok_for}
 use Rattle.messages.specs.ShardEvents.{handled}
 use Rattle.world.proofs.Among.{Among, among_append, map_only}
 

@@ -1,5 +1,5 @@
 -- Prefixes of runs: what was sent stays, and each event that a run keeps was accepted where it stands.
-use Rattle.std.proofs.Common.{◌≡◌, ◌∙◌, ℕ, zero, suc, ◌+◌, ◌<◌, ◌≤◌, ap, sym, refl, subst, arith, inl, inr, List, [], ◌∷◌, ◌++◌, length, Option, Some, None, slice_get, append-nil}
+use Rattle.std.proofs.Common.{◌≡◌, ◌∙◌, ℕ, zero, suc, ◌+◌, ◌<◌, ◌≤◌, ap, sym, refl, arith, inl, inr, List, [], ◌∷◌, ◌++◌, length, Some, slice_get, append-nil}
 use Rattle.std.specs.Prelude.{◌⊎◌}
 use Rattle.std.proofs.lemmas.List.{length-append, append_assoc}
 use Rattle.messages.specs.declared.envelope.Envelope.{Envelope}
