@@ -54,3 +54,11 @@ pub mod Events
 pub mod Runs
 pub mod CausalKept
 pub mod CausalRuns
+pub mod FreshShown
+pub mod EventCases
+pub mod Prefixes
+pub mod HeardFirst
+pub mod HeardRuns
+pub mod NowSent
+pub mod NowSentRuns
+pub mod FreshReads
