@@ -62,3 +62,4 @@ pub mod HeardRuns
 pub mod NowSent
 pub mod NowSentRuns
 pub mod FreshReads
+pub mod Laws

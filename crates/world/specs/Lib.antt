@@ -7,3 +7,4 @@ pub mod Fresh
 pub mod Worked
 pub mod Committed
 pub mod Entries
+pub mod Promises
