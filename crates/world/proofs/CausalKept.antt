@@ -94,7 +94,7 @@ found_new top w node what came inv opened c e = go (submission_of w.submitted t)
         let is : ended_as s ≡ c = cc in
         let i = find_some (λ s. is_same_txn (record { session = s.session; number = s.number }) t) w.submitted s q in
         let same : s ≡ opened.submission =
-            inv.submitted.one s opened.submission i.0 opened.among (same_txn (txn_of s) t i.1 ∙ λ j. record { session = sym opened.session j; number = sym opened.number j }) in
+        inv.submitted.one s opened.submission i.0 opened.among (same_txn (txn_of s) t i.1 ∙ λ j. record { session = sym opened.session j; number = sym opened.number j }) in
         record {
           node_is = ap (λ z. z.node) (sym is);
           number = ap (λ z. z.number) (sym is);
@@ -178,8 +178,11 @@ module _ (top : TopologyValue) (w : Run) (node : ℕ) (st : SessionStep) (ev : E
 
       go : Stays (w.sessions node) st.state ⊎ Ends top w node st.state → (e : Ends top w node st.state) × IsNew w node e.what e.came c
       go (inl s) = absurd (subst (λ fs. Among c (filter_map (completed_of w.submitted node) fs)) (ap (drop (length (w.sessions node).outcomes)) s.outcomes ∙ drop-length (w.sessions node).outcomes) m)
-      go (inr e) = (e, found_new top w node e.what e.came inv e.opened c (one_given (completed_of w.submitted node) (f e) c (
-          subst (λ fs. Among c (filter_map (completed_of w.submitted node) fs)) (ap (drop (length (w.sessions node).outcomes)) e.outcomes ∙ drop-append_seam (w.sessions node).outcomes (f e ∷ [])) m)))
+      go (inr e) = (
+        e,
+        found_new top w node e.what e.came inv e.opened c (one_given (completed_of w.submitted node) (f e) c (
+            subst (λ fs. Among c (filter_map (completed_of w.submitted node) fs)) (ap (drop (length (w.sessions node).outcomes)) e.outcomes ∙ drop-append_seam (w.sessions node).outcomes (f e ∷ [])) m)),
+      )
 
   -- one operation at most
   added_same : (c d : Completed) → Among c added → Among d added → c ≡ d
@@ -221,9 +224,11 @@ module _ (top : TopologyValue) (w : Run) (node : ℕ) (st : SessionStep) (ev : E
       go (op.Batch batch) (outcome.Wrote commit stamp) v =
           let own : WriterValue = record { txn = record { session = node; number = (w.sessions node).count }; shard = v.1.0 } in
           new_later c e n (txn_ended c) (subst (λ d. Covered w (txn_ended c) d) (sym v.1.1) (direct (own ∷ []) own (inl refl) (λ j. record { session = sym n.node_is j; number = sym n.number j })))
-      go (op.Read read) (outcome.Read time answer) v =
-          (v.1.0, subst (λ d. AnsweredFrom top x d read time v.1.0) (sym n.home) (from_grows grows v.1.1),
-          λ u m. new_later c e n u.txn (subst (λ d. Covered w u.txn d) (sym v.1.2) (direct (with_writers (w.sessions node).dependencies v.1.0) u (new_writers v.1.0 (w.sessions node).dependencies u m) refl)))
+      go (op.Read read) (outcome.Read time answer) v = (
+        v.1.0,
+        subst (λ d. AnsweredFrom top x d read time v.1.0) (sym n.home) (from_grows grows v.1.1),
+        λ u m. new_later c e n u.txn (subst (λ d. Covered w u.txn d) (sym v.1.2) (direct (with_writers (w.sessions node).dependencies v.1.0) u (new_writers v.1.0 (w.sessions node).dependencies u m) refl)),
+      )
       go (op.Read read) outcome.Collected v = tt
       go (op.Batch batch) (outcome.Read time answer) v = absurd v
       go (op.Batch batch) outcome.Collected v = absurd v
@@ -273,12 +278,12 @@ module _ (top : TopologyValue) (w : Run) (node : ℕ) (st : SessionStep) (ev : E
   above_go c m e d n is q outcome.Collected p s o t v = tt
   above_go c m e d n is q (outcome.Wrote commit stamp) p s (op.Batch batch) t v =
       let done : EndSound (op.Batch batch) (outcome.Wrote commit stamp) top w d.home (txn_ended d) =
-          subst (λ z. EndSound z (outcome.Wrote commit stamp) top w d.home (txn_ended d)) (is.op ∙ t)
-          (subst (λ z. EndSound d.op z top w d.home (txn_ended d)) p (able.completed d n).came) in
+      subst (λ z. EndSound z (outcome.Wrote commit stamp) top w d.home (txn_ended d)) (is.op ∙ t)
+      (subst (λ z. EndSound d.op z top w d.home (txn_ended d)) p (able.completed d n).came) in
       let s = (inv.shards (lead top d.home batch)).decided done.decision done.among in
       let o = e.opened in
       let same : s.submission ≡ o.submission =
-          inv.submitted.one s.submission o.submission s.written.among o.among (s.written.txn ∙ done.txn ∙ λ j. record { session = (is.node_is ∙ sym o.session) j; number = (is.number ∙ sym o.number) j }) in
+      inv.submitted.one s.submission o.submission s.written.among o.among (s.written.txn ∙ done.txn ∙ λ j. record { session = (is.node_is ∙ sym o.session) j; number = (is.number ∙ sym o.number) j }) in
       let lt = old_number c m e q in
       let number = o.number in
       let early = k.begun o.submission c o.among m (q ∙ sym o.session) (omega arith) in

@@ -1,7 +1,5 @@
 -- Decisions in a run: by whom they are made, that a data centre makes one of a transaction, and their stamps.
 use Rattle.std.proofs.Common.{◌≡◌, ◌∙◌, ℕ, ◌<◌, List, [], ◌∷◌, sym, ap, subst}
-use Rattle.std.proofs.lemmas.Nat.{mod_below}
-use Rattle.std.specs.Prelude.{sum}
 use Rattle.logical_time.specs.Stamps.{StampValue, TxnValue}
 use Rattle.column_family.specs.declared.batch.Change.{Change}
 use Rattle.planner.specs.Plan.{coordinator_of}
@@ -13,15 +11,7 @@ use Rattle.world.specs.Run.{Run, Submission}
 use Rattle.world.proofs.Among.{Among}
 use Rattle.world.proofs.Facts.{txn_of, IsWritten, IsStamp, DecisionSound, lead}
 use Rattle.world.proofs.Invariant.{Inv, SubmittedSound}
-
--- ## Coordinators
-
-pub coordinator_below : (shards : ℕ) (batch : List Change) → 0 < shards → coordinator_of shards batch < shards
-coordinator_below shards [] some = some
-coordinator_below shards (c ∷ cs) some = mod_below (sum c.row.key) shards some
-
-pub dc_of_lead : (top : TopologyValue) (dc : ℕ) (batch : List Change) → 0 < top.shards → dc_of top (lead top dc batch) ≡ dc
-dc_of_lead top dc batch some = dc_of_shard top dc (coordinator_of top.shards batch) (coordinator_below top.shards batch some)
+use Rattle.world.proofs.Near.{lead_dc}
 
 -- ## One submission
 

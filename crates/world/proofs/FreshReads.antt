@@ -34,14 +34,16 @@ use Rattle.messages.specs.Submitting.{home_node, share_of}
 use Rattle.messages.specs.Rounds.{asked_nodes, was_heard, is_missing}
 use Rattle.world.specs.Run.{Run, Event, Deliver, Submission, Completed, step, continued, run}
 use Rattle.world.specs.Fresh.{IsKept, WasApplied, IsNoOlder, IsFreshFor, IsFresh}
+use Rattle.messages.proofs.Numbering.{dc_of_shard}
+use Rattle.world.proofs.Runs.{run_after}
+use Rattle.world.proofs.Near.{listed_below}
 use Rattle.world.proofs.Among.{Among, contains_among, any_true, filter_only, map_only, map_among}
 use Rattle.world.proofs.Growth.{FirstAsked, AskedNow, Grows}
 use Rattle.world.proofs.Facts.{part_on}
 use Rattle.world.proofs.Invariant.{Says, IsOpen, OpenSound, FirstSound, Inv}
 use Rattle.world.proofs.Causal.{Causal}
-use Rattle.world.proofs.NodeNumbers.{dc_of_node, listed_below}
 use Rattle.world.proofs.Replayed.{runs_replayed}
-use Rattle.world.proofs.Prefixes.{get_there, one_begins, continued_append, number_later, sent_no_less, splits, accepted}
+use Rattle.world.proofs.Prefixes.{get_there, one_begins, number_later, sent_no_less, splits, accepted}
 use Rattle.world.proofs.HeardFirst.{IsTimely, EndsTimely}
 use Rattle.world.proofs.HeardRuns.{one_message, delivered_sent, kept_heard}
 use Rattle.world.proofs.NowSent.{is_now}
@@ -70,7 +72,7 @@ home_of_asked top a read heard node missing =
     (and_parts (list_any (λ (z : ℕ). z == node) (asked_nodes top a read)) (not (was_heard heard node)) missing).0 in
     let m = map_only (home_node top a) (shards_asked top.shards read.keys) s.0 s.1 in
     let listed = filter_only (λ (z : ℕ). list_any (is_on top.shards z) read.keys) (range_with_len 0 top.shards) m.0 m.1 in
-    ap (dc_of top) (sym (eqb-true s.0 node s.2) ∙ m.2) ∙ dc_of_node top a.home m.0 (listed_below top.shards m.0 listed.0)
+    ap (dc_of top) (sym (eqb-true s.0 node s.2) ∙ m.2) ∙ dc_of_shard top a.home m.0 (listed_below top.shards m.0 listed.0)
 
 -- ## What was asked
 
@@ -141,7 +143,7 @@ module _ (top : TopologyValue) (some : 0 < top.shards) (every : (events : List E
         by (inr (zs, q)) =
             let no_less = sent_no_less top later zs in
             let same : length then.sent ≡ length (continued top later zs).sent =
-            ap (λ (z : Run). length z.sent) (ap (run top) q ∙ continued_append top _ kept.before zs) in
+            ap (λ (z : Run). length z.sent) (ap (run top) q ∙ run_after top _ kept.before zs) in
             let le = was.not_sent in
             let lt = slice_get_within later.sent k e sent_later in
             absurd (omega arith)

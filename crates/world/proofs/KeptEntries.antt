@@ -23,7 +23,8 @@ use Rattle.world.proofs.Among.{Among, contains_among}
 use Rattle.world.proofs.Growth.{Grows}
 use Rattle.world.proofs.Facts.{IsWritten, IsDecided, lead}
 use Rattle.world.proofs.Invariant.{Inv, IsOpen, EndSound}
-use Rattle.world.proofs.Decisions.{coordinator_below, sound, one_stamp, own_stamp, home_stamp}
+use Rattle.world.proofs.Near.{coordinator_below}
+use Rattle.world.proofs.Decisions.{sound, one_stamp, own_stamp, home_stamp}
 use Rattle.world.proofs.Entries.{decided_in, decided_by_one, entry_found}
 
 -- ## Later entries
@@ -56,35 +57,6 @@ pub history_kept : (top : TopologyValue) (w x : Run) (dc : ℕ) (h k : History) 
 history_kept top w x dc h k inv later g p q c has =
     Contains-permutation (history_of top x dc) k c (IsPermutation-sym k (history_of top x dc) q)
     (still_there top w x dc inv later g c (Contains-permutation h (history_of top w dc) c p has))
-
--- ## Later events
-
-continued_append : (top : TopologyValue) (w : Run) (xs ys : List Event) → continued top w (xs ++ ys) ≡ continued top (continued top w xs) ys
-continued_append top w [] ys = refl
-continued_append top w (x ∷ xs) ys = continued_append top (step top w x) xs ys
-
--- the facts of a run hold after each event, and it grows
-abbrev pub Lasts : TopologyValue → Type 0
-Lasts top = (w : Run) (x : Event) → Inv top w → Inv top (step top w x) × Grows top w (step top w x)
-
-pub lasting : (top : TopologyValue) (w : Run) (xs : List Event) → Lasts top → Inv top w → Inv top (continued top w xs)
-lasting top w [] lasts inv = inv
-lasting top w (x ∷ xs) lasts inv = lasting top (step top w x) xs lasts (lasts w x inv).0
-
-kept_on : (top : TopologyValue) (w : Run) (dc : ℕ) (xs : List Event) → Lasts top → Inv top w
-    → IsKeptIn (history_of top w dc) (history_of top (continued top w xs) dc)
-kept_on top w dc [] lasts inv c has = has
-kept_on top w dc (x ∷ xs) lasts inv c has =
-    let after = lasts w x inv in
-    kept_on top (step top w x) dc xs lasts after.0 c (still_there top w (step top w x) dc inv after.0 after.1 c has)
-
--- the histories of a run keep their entries through all later events
-pub histories_grow : (top : TopologyValue) (xs ys : List Event) (dc : ℕ) (h k : History) → Lasts top → Inv top (opening top)
-    → IsHistory top (run top xs) dc h → IsHistory top (run top (xs ++ ys)) dc k → IsKeptIn h k
-histories_grow top xs ys dc h k lasts start p q c has =
-    let there = kept_on top (run top xs) dc ys lasts (lasting top (opening top) xs lasts start) c (Contains-permutation h (history_of top (run top xs) dc) c p has) in
-    let all = subst (λ w. Contains (history_of top w dc) c) (sym (continued_append top (opening top) xs ys)) there in
-    Contains-permutation (history_of top (run top (xs ++ ys)) dc) k c (IsPermutation-sym k (history_of top (run top (xs ++ ys)) dc) q) all
 
 -- ## Stamps of all data centres
 

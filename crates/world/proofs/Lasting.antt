@@ -58,6 +58,10 @@ done_grows g le k =
       commit = lt_of_lt_of_le k.commit le;
     }
 
+-- done below a time is done below each later one
+pub done_later : {top : TopologyValue} {w : Run} {dc n m : ℕ} {t : TxnValue} → n ≤ m → IsDone top w dc t n → IsDone top w dc t m
+done_later le k = record { node = k.node; here = k.here; decision = k.decision; among = k.among; txn = k.txn; commit = lt_of_lt_of_le k.commit le }
+
 pub before_grows : {top : TopologyValue} {w x : Run} {node : ℕ} {t : TxnValue} {n m : ℕ} → Grows top w x → n ≤ m → PreparedBefore w node t n → PreparedBefore x node t m
 before_grows {node = node} g le k = record { part = k.part; among = (g.shards node).prepared k.part k.among; txn = k.txn; time = lt_of_lt_of_le k.time le }
 

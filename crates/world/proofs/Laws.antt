@@ -53,8 +53,8 @@ module _ (top : TopologyValue) (some : 0 < top.shards) (w : Run) (inv : Inv top 
   done_here : (dc time : ℕ) (u : TxnValue) (d : IsDone top w dc u time) → Contains (decisions_in top w dc) d.decision
   done_here dc time u d =
       let at : Among d.decision (w.shards (shard_node top dc (shard_of top d.node))).decided =
-          subst (λ z. Among d.decision (w.shards (shard_node top z (shard_of top d.node))).decided) d.here
-          (subst (λ z. Among d.decision (w.shards z).decided) (sym (shard_again top d.node)) d.among) in
+      subst (λ z. Among d.decision (w.shards (shard_node top z (shard_of top d.node))).decided) d.here
+      (subst (λ z. Among d.decision (w.shards z).decided) (sym (shard_again top d.node)) d.among) in
       among_contains d.decision (decisions_in top w dc) (in_decisions top w dc (shard_of top d.node) d.decision (shard_below top d.node some) at)
 
   done_committed : (dc time : ℕ) (u : TxnValue) → IsDone top w dc u (time + 1) → IsCommittedBy top w dc u time

@@ -14,7 +14,6 @@ pub mod About
 pub mod Underway
 pub mod SameNewest
 pub mod RowTests
-pub mod NodeNumbers
 pub mod DecidedIn
 pub mod ShownOnRow
 pub mod RowAlike

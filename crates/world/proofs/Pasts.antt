@@ -1,6 +1,6 @@
 -- What is before an operation is committed before it: the past of a read stands in its table.
-use Rattle.std.proofs.Common.{◌≡◌, ℕ, ◌+◌, ◌<◌, ◌≤◌, true, false, List, [], ◌∷◌, Some, None, Option, ◌⊎◌, inl, inr, refl, sym, ap, ◌∙◌, subst, arith, le_refl, le_trans, mod-lt}
-use Rattle.std.specs.Prelude.{Contains, option_and_then, sum}
+use Rattle.std.proofs.Common.{◌≡◌, ℕ, ◌+◌, ◌<◌, ◌≤◌, true, false, List, [], ◌∷◌, Some, None, Option, ◌⊎◌, inl, inr, refl, sym, ap, ◌∙◌, subst, arith, le_refl}
+use Rattle.std.specs.Prelude.{Contains, option_and_then}
 use Rattle.logical_time.specs.Stamps.{TxnValue, WriterValue}
 use Rattle.column_family.specs.declared.batch.Change.{Change}
 use Rattle.slice.specs.declared.read.Read.{Read}
@@ -10,9 +10,7 @@ use Rattle.messages.specs.declared.op.Op.{Op}
 use Rattle.messages.specs.declared.op.Op.TheVariants as op
 use Rattle.messages.specs.declared.outcome.Outcome.{Outcome}
 use Rattle.messages.specs.declared.outcome.Outcome.TheVariants as outcome
-use Rattle.planner.specs.Plan.{coordinator_of}
 use Rattle.messages.specs.Topology.{TopologyValue, dc_of}
-use Rattle.messages.proofs.Numbering.{dc_of_shard}
 use Rattle.messages.specs.Words.{is_same_txn}
 use Rattle.messages.specs.Shard.{Decision}
 use Rattle.world.specs.Run.{Run, Submission, Completed, submission_of}
@@ -22,10 +20,9 @@ use Rattle.world.specs.Before.{IsSubmitted, IsWrite, completes, IsEndOf, IsCompl
 use Rattle.world.proofs.Among.{Among, contains_among, find_some, same_txn}
 use Rattle.world.proofs.Facts.{txn_of, IsWritten, IsDone, IsDecided, lead}
 use Rattle.world.proofs.Invariant.{home, IsOpen, AnsweredFrom, EndSound, Inv}
+use Rattle.world.proofs.Lasting.{done_later}
+use Rattle.world.proofs.Near.{lead_dc}
 use Rattle.world.proofs.Causal.{txn_ended, Covered, direct, via, LaterCovered, writers_in, EndCausal, Causal}
-
-done_later : {top : TopologyValue} {w : Run} {dc n m : ℕ} {t : TxnValue} → n ≤ m → IsDone top w dc t n → IsDone top w dc t m
-done_later le k = record { node = k.node; here = k.here; decision = k.decision; among = k.among; txn = k.txn; commit = let lt = k.commit in omega arith }
 
 -- the submission of a write, of its batch
 pub written_at : (w : Run) (t : TxnValue) → IsWrite w t → (b : Submission) × (batch : List Change) × IsWritten w t b batch
@@ -40,14 +37,6 @@ written_at w t k = go (submission_of w.submitted t) refl k.1
     go (Some b) e q =
         let f = find_some (λ s. is_same_txn (record { session = s.session; number = s.number }) t) w.submitted b e in
         (b, k.0, record { among = f.0; txn = same_txn (txn_of b) t f.1; op = op_go b b.op refl q })
-
-coordinator_below : (shards : ℕ) (batch : List Change) → 0 < shards → coordinator_of shards batch < shards
-coordinator_below shards [] lt = lt
-coordinator_below shards (c ∷ cs) lt = mod-lt (sum c.row.key) lt
-
--- the coordinator of a batch in a data centre is a shard of it
-pub lead_dc : (top : TopologyValue) (dc : ℕ) (batch : List Change) → 0 < top.shards → dc_of top (lead top dc batch) ≡ dc
-lead_dc top dc batch lt = dc_of_shard top dc (coordinator_of top.shards batch) (coordinator_below top.shards batch lt)
 
 module _ (top : TopologyValue) (w : Run) (some : 0 < top.shards) (inv : Inv top w) (causal : Causal top w)
     (rests : (dc time : ℕ) (read : Read) (rows : List RowAt) → AnsweredFrom top w dc read time rows → (u : TxnValue) → ReadRestsOn top w dc read time u → (k : WriterValue) × Among k (writers_in rows) × (k.txn ≡ u))

@@ -5,6 +5,7 @@ use Rattle.std.proofs.lemmas.List.{length-append, append_assoc}
 use Rattle.messages.specs.declared.envelope.Envelope.{Envelope}
 use Rattle.messages.specs.Topology.{TopologyValue}
 use Rattle.world.specs.Run.{Run, Event, opening, step, continued, run}
+use Rattle.world.proofs.Runs.{run_after}
 use Rattle.world.proofs.Among.{Among}
 use Rattle.world.proofs.EventCases.{event_cases}
 use Rattle.world.proofs.Replayed.{happens}
@@ -42,10 +43,6 @@ one_begins (x ∷ xs) ys (u ∷ us) vs e =
     ]
 
 -- ## Runs
-
-pub continued_append : (top : TopologyValue) (w : Run) (xs ys : List Event) → continued top w (xs ++ ys) ≡ continued top (continued top w xs) ys
-continued_append top w [] ys = refl
-continued_append top w (x ∷ xs) ys = continued_append top (step top w x) xs ys
 
 -- what was sent before and more
 abbrev pub HasSent : Run → Run → Type 0
@@ -112,7 +109,7 @@ not_both w x e =
 pub splits : (top : TopologyValue) (w : Run) → run top w.events ≡ w → (before : List Event) (x : Event) (after : List Event)
     → w.events ≡ before ++ x ∷ after
     → continued top (step top (run top before) x) after ≡ w
-splits top w replayed before x after e = sym (continued_append top (opening top) before (x ∷ after)) ∙ ap (run top) (sym e) ∙ replayed
+splits top w replayed before x after e = sym (run_after top (opening top) before (x ∷ after)) ∙ ap (run top) (sym e) ∙ replayed
 
 -- each event that a run keeps was accepted where it stands
 pub accepted : (top : TopologyValue) (w : Run) → run top w.events ≡ w → (before : List Event) (x : Event) (after : List Event)
