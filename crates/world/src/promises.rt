@@ -70,8 +70,8 @@ pub fn times_of_a_session_never_fall()
     ensures once { (top : TopologyValue) (events : List Event) → 0 < top.shards → OperationsEndOnce (run top events) }
 {}
 
-/// In every run the envelopes that a shard handled are honest. So what is promised of one shard holds of each. Does nothing;
-/// its contract is the law.
+/// In every run the envelopes that a shard handled are honest, which is the condition under which one shard is right. Does
+/// nothing; its contract is the law.
 #[tactic(auto, using(crate::proofs::Laws::handled_is_honest))]
 pub fn handled_envelopes_are_honest()
     ensures { (top : TopologyValue) (events : List Event) → 0 < top.shards → HandledIsHonest top (run top events) }
