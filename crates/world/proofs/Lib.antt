@@ -12,6 +12,7 @@ pub mod Causal
 pub mod Pasts
 pub mod About
 pub mod Underway
+pub mod LiveGrow
 pub mod SameNewest
 pub mod RowTests
 pub mod NodeNumbers
