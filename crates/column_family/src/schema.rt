@@ -1,14 +1,15 @@
 //! The column families that there are.
-ghost use Rattle.std.specs.Prelude.{◌≡◌, SomeIff, true};
+ghost use Rattle.std.specs.Prelude.{◌≡◌, SomeIff, IfOk, true};
 ghost use Rattle.std.specs.List.{list_all};
 ghost use Rattle.column_family.specs.Schema as schema;
 
 use crate::byte_strings::Family;
+use std::alloc::AllocError;
 use std::marker::Model;
 
 /// The column families of a store: 1 to 16 names, no two the same, each of 1 to 64 ASCII letters, digits
 /// and underscores.
-#[derive(Drop, Debug)]
+#[derive(Drop, Debug, Clone)]
 pub struct Schema {
     families: Vec<Family>,
 }
@@ -100,5 +101,12 @@ impl Schema {
         ensures { result.now ≡ self.now }
     {
         self.families.as_slice()
+    }
+
+    /// A copy, which shares the bytes of the names. Fails by memory alone.
+    pub fn copied(&self) -> Result<Schema, AllocError>
+        ensures { IfOk result (λ copy. copy ≡ self.now) }
+    {
+        self.clone()
     }
 }

@@ -1,4 +1,5 @@
 pub mod Greatest
 pub mod Numbering
 pub mod Rested
+pub mod RowParts
 pub mod WritersInOrder

@@ -44,7 +44,7 @@ before_part shards s (x ∷ xs) q r on lt =
     go false false true e f g rest h = let ih = rest (omega arith) in rw (e, f) (omega arith)
     go false false false e f g rest h = rest (omega arith)
 
-normal_part : (shards s : ℕ) (xs : List Change) → IsNormal xs → IsNormal (part_for shards xs s)
+pub normal_part : (shards s : ℕ) (xs : List Change) → IsNormal xs → IsNormal (part_for shards xs s)
 normal_part shards s xs normal = (
   All-filter (λ c. is_on shards s c.row.key) (λ c. IsEffective c.mutation) xs normal.0,
   λ i j d lt below. step (get_or (part_for shards xs s) i d) (get_or (part_for shards xs s) j d) (filter_passes (λ c. is_on shards s c.row.key) xs i d (omega arith)) (AllPairs-filter (λ c e. (changes_before xs c.row < changes_before xs e.row) ⊎ ((c.row ≡ e.row) × StandsBefore c.mutation e.mutation)) (λ c. is_on shards s c.row.key) xs normal.1 i j d lt below),

@@ -83,6 +83,13 @@ impl FirstRound {
         &self.read
     }
 
+    /// The session's floor.
+    pub fn floor(&self) -> Time
+        ensures { result ≡ self.now.floor }
+    {
+        self.floor
+    }
+
     /// Takes the answer of a shard. A stranger's, or the second of a shard, changes nothing. With the last missing one
     /// the effective time is the greatest of the floor and the earliest valid times of all rows (this profile's rule).
     /// Where each row is valid at that time the read is complete; else the other rows are asked again. In the order of
@@ -148,8 +155,25 @@ impl FirstRound {
         }
     }
 
+    /// A first round in which these answers were heard.
+    pub(crate) fn with_heard(
+        read: Read,
+        floor: Time,
+        asked: Vec<Node>,
+        heard: Vec<ShardNow>,
+    ) -> FirstRound
+        ensures { result ≡ record { read = read; floor = floor; asked = asked.items; heard = heard.items } }
+    {
+        FirstRound {
+            read,
+            floor,
+            asked,
+            heard,
+        }
+    }
+
     /// Takes the last answer back out.
-    fn without_last(self) -> (FirstRound, RowsNow)
+    pub(crate) fn without_last(self) -> (FirstRound, RowsNow)
         requires { 0 < length self.heard }
         ensures round { (heard : List HeardNow) (last : HeardNow) → self.heard ≡ heard ++ last ∷ [] → result.0 ≡ record self { heard = heard } }
         ensures rows { (heard : List HeardNow) (last : HeardNow) → self.heard ≡ heard ++ last ∷ [] → result.1 ≡ last.rows }

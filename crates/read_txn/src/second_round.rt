@@ -6,9 +6,10 @@ use crate::answered::Answered;
 use crate::asking::{all_heard_at, is_missing_at};
 use crate::completing::complete;
 use crate::heard::{ShardAt, ShardNow};
+use crate::first_round::FirstRound;
 use crate::late::LateShard;
 use logical_time::{Fault, Node, Time};
-use messages::{AtTime, RowsAt};
+use messages::{AtTime, RowsAt, RowsNow};
 use slice::Read;
 use std::alloc::Global;
 use std::marker::Model;
@@ -58,9 +59,9 @@ pub enum SecondTaken {
 
 impl SecondRound {
     ghost use Rattle.std.specs.Prelude.{◌≡◌, ◌<◌, false, List, [], ◌∷◌, ◌++◌, length, IsOk, IfOk, IfErr};
+    ghost use Rattle.messages.specs.Session.{HeardNow, HeardAt};
     ghost use Rattle.messages.specs.declared.rows_at.AtTime.TheVariants as at;
     ghost use Rattle.read_txn.specs.States.{asked_again};
-    ghost use Rattle.messages.specs.Session.{HeardAt};
     ghost use Rattle.messages.specs.Rounds.{rows_taken};
     ghost use Rattle.read_txn.specs.Completed.{answered};
     ghost use Rattle.read_txn.specs.Taken.{second_taken, is_awaited, taken_at, heard_at as after_answer};
@@ -129,6 +130,24 @@ impl SecondRound {
         } else {
             Ok(SecondTaken::More(self))
         }
+    }
+
+    /// Goes back to the first round, of this floor, as it was before its last answer, and hands the rows of that out: for
+    /// an event that is refused after it.
+    pub fn back(self, floor: Time) -> (FirstRound, RowsNow)
+        requires { 0 < length self.first }
+        ensures round { (heard : List HeardNow) (last : HeardNow) → self.first ≡ heard ++ last ∷ [] → result.0 ≡ record { read = self.read; floor = floor; asked = self.asked; heard = heard } }
+        ensures rows { (heard : List HeardNow) (last : HeardNow) → self.first ≡ heard ++ last ∷ [] → result.1 ≡ last.rows }
+    {
+        let SecondRound {
+            read,
+            time: _,
+            asked,
+            first,
+            late: _,
+            heard: _,
+        } = self;
+        FirstRound::with_heard(read, floor, asked, first).without_last()
     }
 
     /// Gives the round up and hands out what was read: for a session that is closed.

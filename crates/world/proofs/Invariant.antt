@@ -1,5 +1,5 @@
 -- What holds of every run: of each envelope, each shard, each session, and each completed operation.
-use Rattle.std.specs.Prelude.{◌≡◌, ℕ, ◌+◌, ◌≤◌, true, false, List, [], map, filter, Option, Some, None}
+use Rattle.std.specs.Prelude.{◌≡◌, ℕ, ◌+◌, ◌<◌, ◌≤◌, true, false, List, [], map, filter, Option, Some, None}
 use Rattle.std.specs.Option.{unwrap_or}
 use Rattle.logical_time.specs.Stamps.{StampValue, TxnValue, WriterValue}
 use Rattle.column_family.specs.declared.batch.Change.{Change}
@@ -22,6 +22,7 @@ use Rattle.messages.specs.declared.body.Body.TheVariants.{Begin, Prepare, Yes, C
 use Rattle.messages.specs.declared.envelope.Envelope.{Envelope}
 use Rattle.messages.specs.Topology.{TopologyValue, dc_of, shard_of, shard_node, home_of}
 use Rattle.messages.specs.Shard.{ShardState, PreparedPart, BegunBallot, Vote, Decision, KeptPart, KeptBallot, Met, Asker, WaitingRead}
+use Rattle.messages.specs.Replication.{is_ready}
 use Rattle.messages.specs.Session.{SessionState, Open, Idle, Writing, FirstRound, SecondRound, HeardNow, HeardAt}
 use Rattle.messages.specs.Submitting.{share_of, plan_fault}
 use Rattle.messages.specs.Rounds.{asked_nodes, all_heard, effective_time, late_keys, late_nodes, answer_of}
@@ -118,6 +119,16 @@ pub record ShardSound (top : TopologyValue) (w : Run) (node : ℕ) (a : ShardSta
   pub askers : (k : Asker) → Among k a.askers → dc_of top k.from ≡ dc_of top node
   pub waiting : (y : WaitingRead) → Among y a.waiting → WaitSound top w node y
 
+-- none of these is of the transaction
+pub record Untouched (ballots : List BegunBallot) (prepared : List PreparedPart) (decided : List Decision) (t : TxnValue) : Type 0 where
+  pub unbegun : (b : BegunBallot) → Among b ballots → b.txn ≡ t → ⊥
+  pub unprepared : (p : PreparedPart) → Among p prepared → p.txn ≡ t → ⊥
+  pub undecided : (d : Decision) → Among d decided → d.txn ≡ t → ⊥
+
+-- of a kept ballot that misses a notice or an answer nothing is held or decided
+abbrev pub IsPatient : TopologyValue → ℕ → ShardState → Type 0
+IsPatient top node a = (r : KeptBallot) → Among r a.kept_ballots → is_ready top node a r ≡ false → Untouched a.ballots a.prepared a.decided r.txn
+
 -- ## Sessions
 
 -- the operation of this number is this one
@@ -167,6 +178,8 @@ pub record SessionSound (top : TopologyValue) (w : Run) (node : ℕ) (a : Sessio
   pub floor : a.floor ≤ a.clock
   pub current : OpenSound top w node a a.current
   pub dependencies : (k : WriterValue) → Among k a.dependencies → IsDone top w a.home k.txn (a.floor + 1)
+  -- each is of a shard that there is
+  pub placed : (k : WriterValue) → Among k a.dependencies → k.shard < top.shards
 
 -- ## Submissions and completed operations
 
@@ -175,6 +188,8 @@ pub record SubmittedSound (top : TopologyValue) (w : Run) : Type 0 where
   pub home : (b : Submission) → Among b w.submitted → b.home ≡ home top b.session
   pub number : (b : Submission) → Among b w.submitted → b.number ≤ (w.sessions b.session).count
   pub one : (b c : Submission) → Among b w.submitted → Among c w.submitted → txn_of b ≡ txn_of c → b ≡ c
+  -- each write depends on transactions of shards that there are
+  pub placed : (b : Submission) (k : WriterValue) → Among b w.submitted → Among k b.dependencies → k.shard < top.shards
 
 -- A read was answered from these rows: each asked key has one, and each is right at the effective time, on the shard of its
 -- key.
@@ -204,6 +219,7 @@ pub record CompletedSound (top : TopologyValue) (w : Run) (c : Completed) : Type
 
 pub record Inv (top : TopologyValue) (w : Run) : Type 0 where
   pub shards : (node : ℕ) → ShardSound top w node (w.shards node)
+  pub patient : (node : ℕ) → IsPatient top node (w.shards node)
   pub sessions : (node : ℕ) → SessionSound top w node (w.sessions node)
   pub sent : (e : Envelope) → Among e w.sent → EnvelopeSound top w e
   pub submitted : SubmittedSound top w

@@ -18,7 +18,7 @@ use Rattle.world.proofs.Growth.{Grows}
 use Rattle.world.proofs.Invariant.{IsLead, PrepareSound, TellsDecision, TellsNow, TellsAt, TellsThen, Says, ShardSound, IsOpen, HeardNowSound, HeardAtSound, WritingSound, FirstSound, SecondSound, OpenSound, SessionSound, AnsweredFrom, AnsweredSound, EndSound, CompletedSound}
 use Rattle.world.proofs.Lasting.{written_grows, decided_grows, done_grows, before_grows, prepared_grows, ballot_grows, kept_ballot_grows, kept_part_grows, decision_grows, applied_grows, excluded_grows, row_at_grows, answers_now_grow, answers_at_grow, wait_grows}
 
-lead_grows : {top : TopologyValue} {w x : Run} {dc node : ℕ} {t : TxnValue} → Grows top w x → IsLead top w dc node t → IsLead top x dc node t
+pub lead_grows : {top : TopologyValue} {w x : Run} {dc node : ℕ} {t : TxnValue} → Grows top w x → IsLead top w dc node t → IsLead top x dc node t
 lead_grows g k = record { submission = k.submission; batch = k.batch; written = written_grows g k.written; here = k.here }
 
 tells_grows : {top : TopologyValue} {w x : Run} {from n commit : ℕ} {t : TxnValue} {s : StampValue} → Grows top w x → TellsDecision w from n t commit s → TellsDecision x from n t commit s
@@ -115,6 +115,7 @@ session_grows {top = top} {node = node} {a = a} g k =
       floor = k.floor;
       current = open_grows top node a g a.current k.current;
       dependencies = λ u m. done_grows g (le_refl _) (k.dependencies u m);
+      placed = k.placed;
     }
 
 from_grows : {top : TopologyValue} {w x : Run} {dc time : ℕ} {read : Read} {rows : List RowAt} → Grows top w x → AnsweredFrom top w dc read time rows → AnsweredFrom top x dc read time rows

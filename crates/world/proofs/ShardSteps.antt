@@ -7,7 +7,7 @@ use Rattle.messages.specs.Shard.{ShardState, ShardStep}
 use Rattle.world.specs.Run.{Run, Event, with_actor, after_shard}
 use Rattle.world.proofs.Among.{Among, among_append}
 use Rattle.world.proofs.Growth.{ShardGrows, Grows}
-use Rattle.world.proofs.Invariant.{EnvelopeSound, ShardSound, Inv}
+use Rattle.world.proofs.Invariant.{EnvelopeSound, ShardSound, IsPatient, Inv}
 use Rattle.world.proofs.Able.{Fresh, Able}
 use Rattle.world.proofs.Lasting.{same_shard_grows, same_session_grows}
 use Rattle.world.proofs.LastingAll.{says_grows, shard_grows, session_grows, completed_grows}
@@ -56,15 +56,23 @@ actor_sound top x f node b k new m = go (m == node) refl
     go true e = subst (λ n. ShardSound top x n b) (sym (eqb-true m node e)) new
     go false e = k m
 
-pub shard_step_kept : (top : TopologyValue) (w : Run) (node : ℕ) (st : ShardStep) (ev : Event) → Inv top w → Able top w node (w.shards node) st → Inv top (after_shard (Ok st) w ev node)
-shard_step_kept top w node st ev inv k =
+actor_patient : (top : TopologyValue) (f : ℕ → ShardState) (node : ℕ) (b : ShardState) → ((m : ℕ) → IsPatient top m (f m)) → IsPatient top node b → (m : ℕ) → IsPatient top m (with_actor f node b m)
+actor_patient top f node b k new m = go (m == node) refl
+  where
+    go : (t : Bool) → (m == node) ≡ t → IsPatient top m (cond t b (f m))
+    go true e = subst (λ n. IsPatient top n b) (sym (eqb-true m node e)) new
+    go false e = k m
+
+pub shard_step_kept : (top : TopologyValue) (w : Run) (node : ℕ) (st : ShardStep) (ev : Event) → Inv top w → Able top w node (w.shards node) st → IsPatient top node st.state → Inv top (after_shard (Ok st) w ev node)
+shard_step_kept top w node st ev inv k patient =
     let x = after_shard (Ok st) w ev node in
     let gr = shard_run_grows top w node st ev k.grows in
     let f = k.fresh x gr (actor_same w.shards node st.state) in
     record {
       shards = actor_sound top x w.shards node st.state (λ m. shard_grows gr (inv.shards m)) (fresh_sound (shard_grows gr (inv.shards node)) f);
+      patient = actor_patient top w.shards node st.state inv.patient patient;
       sessions = λ i. session_grows gr (inv.sessions i);
       sent = λ e m. elim (among_append e w.sent st.sends m) [ inl o ↦ says_grows top e.from e.to e.time gr e.body (inv.sent e o) | inr n ↦ f.sends e n ];
-      submitted = record { accepted = inv.submitted.accepted; home = inv.submitted.home; number = inv.submitted.number; one = inv.submitted.one };
+      submitted = record { accepted = inv.submitted.accepted; home = inv.submitted.home; number = inv.submitted.number; one = inv.submitted.one; placed = inv.submitted.placed };
       transcript = λ c m. completed_grows gr (inv.transcript c m);
     }

@@ -1,0 +1,9 @@
+pub mod Accepted
+pub mod Current
+pub mod Envelopes
+pub mod Home
+pub mod Ordering
+pub mod Represents
+pub mod Right
+pub mod State
+pub mod Steps

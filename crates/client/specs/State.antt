@@ -1,0 +1,35 @@
+-- What a session keeps, as a state of the machine.
+use Rattle.std.specs.Prelude.{ℕ, List, [], ◌++◌, Option, Some, None}
+use Rattle.logical_time.specs.Stamps.{WriterValue}
+use Rattle.messages.specs.declared.outcome.Outcome.{Outcome}
+use Rattle.messages.specs.Topology.{TopologyValue}
+use Rattle.messages.specs.Words.{in_writer_order}
+use Rattle.messages.specs.Session.{SessionState, Finished}
+use Rattle.client.specs.declared.kept.Kept.{Kept}
+use Rattle.client.specs.Current.{open_of}
+
+-- what the next write depends on
+abbrev pub dependencies_of : Kept → List WriterValue
+dependencies_of k = in_writer_order (k.dependencies ++ k.added)
+
+abbrev pub finished_of : Option (ℕ × Outcome) → Option Finished
+finished_of None = None
+finished_of (Some p) = Some (record { number = p.0; outcome = p.1 })
+
+-- the state of the machine that is kept, beside all outcomes so far, which aren't kept
+abbrev pub state_of : Kept → List Finished → SessionState
+state_of k outcomes =
+    record {
+      clock = k.clock;
+      count = k.count;
+      home = k.home.dc;
+      floor = k.floor;
+      dependencies = dependencies_of k;
+      current = open_of k.current;
+      outcomes = outcomes;
+      untaken = finished_of k.untaken;
+    }
+
+-- what is kept of the topology
+abbrev pub topology_of : Kept → TopologyValue
+topology_of k = record { dcs = 0; shards = k.home.shards; schema = k.schema; homes = [] }

@@ -1,0 +1,122 @@
+-- What an envelope makes of what a session keeps. Each definition takes the clock of the event first.
+use Rattle.std.specs.Prelude.{ℕ, max, Bool, true, false, ◌==◌, List, [], ◌∷◌, map, Some}
+use Rattle.logical_time.specs.Stamps.{StampValue, TxnValue, WriterValue}
+use Rattle.slice.specs.declared.read.Read.{Read}
+use Rattle.messages.specs.declared.rows_now.RowNow.{RowNow}
+use Rattle.messages.specs.declared.rows_at.AtTime.{AtTime}
+use Rattle.messages.specs.declared.outcome.Outcome.{Outcome}
+use Rattle.messages.specs.declared.outcome.Outcome.TheVariants as outcome
+use Rattle.messages.specs.declared.body.Body.{Body}
+use Rattle.messages.specs.declared.body.Body.TheVariants as body
+use Rattle.messages.specs.declared.envelope.Envelope.{Envelope}
+use Rattle.messages.specs.Words.{is_same_txn, envelope}
+use Rattle.read_txn.specs.declared.late.LateShard.{LateShard}
+use Rattle.read_txn.specs.declared.first_round.FirstTaken.{FirstTaken}
+use Rattle.read_txn.specs.declared.first_round.FirstTaken.TheVariants as in_first
+use Rattle.read_txn.specs.declared.second_round.SecondTaken.{SecondTaken}
+use Rattle.read_txn.specs.declared.second_round.SecondTaken.TheVariants as in_second
+use Rattle.read_txn.specs.States.{First, Second, Completed, asked_again}
+use Rattle.read_txn.specs.Taken.{first_taken, second_taken}
+use Rattle.client.specs.declared.kept.Kept.{Kept}
+use Rattle.client.specs.declared.current.Current.{Current}
+use Rattle.client.specs.declared.current.Current.TheVariants as now
+
+-- nothing happens, but that the clock moves
+abbrev pub calmed : ℕ → Kept → Kept
+calmed n k = record k { clock = n }
+
+-- the open operation ends with this outcome
+abbrev pub finished : ℕ → Kept → ℕ → List WriterValue → List WriterValue → Outcome → Kept
+finished n k floor dependencies added o =
+    record k {
+      clock = n;
+      floor = floor;
+      dependencies = dependencies;
+      added = added;
+      current = now.Idle;
+      untaken = Some (k.count, o);
+    }
+
+-- a read completes
+abbrev pub completed : ℕ → Kept → Completed → Kept
+completed n k c = finished n k c.effective k.dependencies c.writers (outcome.Read c.effective c.answer)
+
+-- ## Done
+
+abbrev pub done_if : Bool → ℕ → Kept → ℕ → TxnValue → ℕ → StampValue → Kept
+done_if true n k coordinator t commit stamp =
+    finished n k (max k.floor commit) (record { txn = t; shard = coordinator } ∷ []) [] (outcome.Wrote commit stamp)
+done_if false n k coordinator t commit stamp = calmed n k
+
+abbrev pub done_in : Current → ℕ → Kept → TxnValue → ℕ → StampValue → Kept
+done_in (now.Write coordinator) n k t commit stamp =
+    done_if (is_same_txn t (record { session = k.node; number = k.count })) n k coordinator t commit stamp
+done_in now.Idle n k t commit stamp = calmed n k
+done_in (now.First f) n k t commit stamp = calmed n k
+done_in (now.Second s) n k t commit stamp = calmed n k
+
+-- ## PartAt
+
+abbrev pub after_at : SecondTaken → ℕ → Kept → Kept
+after_at (in_second.More s) n k = record k { clock = n; current = now.Second s }
+after_at (in_second.Done c) n k = completed n k c
+after_at in_second.Collected n k = finished n k k.floor k.dependencies k.added outcome.Collected
+
+abbrev pub at_if : Bool → ℕ → Kept → Second → ℕ → AtTime → Kept
+at_if true n k s from answer = after_at (second_taken s from answer) n k
+at_if false n k s from answer = calmed n k
+
+abbrev pub at_in : Current → ℕ → Kept → ℕ → ℕ → AtTime → Kept
+at_in (now.Second s) n k from number answer = at_if (number == k.count) n k s from answer
+at_in now.Idle n k from number answer = calmed n k
+at_in (now.Write coordinator) n k from number answer = calmed n k
+at_in (now.First f) n k from number answer = calmed n k
+
+-- ## PartNow
+
+abbrev pub after_now : FirstTaken → ℕ → Kept → Kept
+after_now (in_first.More f) n k = record k { clock = n; current = now.First f }
+after_now (in_first.Second s) n k = record k { clock = n; current = now.Second s }
+after_now (in_first.Done c) n k = completed n k c
+
+abbrev pub now_if : Bool → ℕ → Kept → First → ℕ → List RowNow → Kept
+now_if true n k f from rows = after_now (first_taken f from rows) n k
+now_if false n k f from rows = calmed n k
+
+abbrev pub now_in : Current → ℕ → Kept → ℕ → ℕ → List RowNow → Kept
+now_in (now.First f) n k from number rows = now_if (number == k.count) n k f from rows
+now_in now.Idle n k from number rows = calmed n k
+now_in (now.Write coordinator) n k from number rows = calmed n k
+now_in (now.Second s) n k from number rows = calmed n k
+
+-- ReadAt, to a shard with rows that aren't accepted
+abbrev pub read_late : ℕ → Kept → Second → LateShard → Envelope
+read_late n k s late =
+    envelope k.node late.node n (body.ReadAt k.count s.time (record s.read { keys = late.keys }))
+
+abbrev pub sent_now : FirstTaken → ℕ → Kept → List Envelope
+sent_now (in_first.More f) n k = []
+sent_now (in_first.Second s) n k = map (read_late n k s) (asked_again s.asked s.time s.first)
+sent_now (in_first.Done c) n k = []
+
+abbrev pub sent_if : Bool → ℕ → Kept → First → ℕ → List RowNow → List Envelope
+sent_if true n k f from rows = sent_now (first_taken f from rows) n k
+sent_if false n k f from rows = []
+
+abbrev pub sent_in : Current → ℕ → Kept → ℕ → ℕ → List RowNow → List Envelope
+sent_in (now.First f) n k from number rows = sent_if (number == k.count) n k f from rows
+sent_in now.Idle n k from number rows = []
+sent_in (now.Write coordinator) n k from number rows = []
+sent_in (now.Second s) n k from number rows = []
+
+-- ## Each body
+
+abbrev pub heard_kept : ℕ → Kept → ℕ → Body → Kept
+heard_kept n k from (body.Done txn commit stamp) = done_in k.current n k txn commit stamp
+heard_kept n k from (body.PartNow number rows) = now_in k.current n k from number rows
+heard_kept n k from (body.PartAt number time answer) = at_in k.current n k from number answer
+heard_kept n k from b = calmed n k
+
+abbrev pub heard_sends : ℕ → Kept → ℕ → Body → List Envelope
+heard_sends n k from (body.PartNow number rows) = sent_in k.current n k from number rows
+heard_sends n k from b = []

@@ -1,0 +1,53 @@
+//! The open operation of a session.
+ghost use Rattle.std.specs.Prelude.{◌≡◌};
+ghost use Rattle.messages.specs.Session.{is_idle};
+ghost use Rattle.client.specs.Current.{open_of, coordinator_of};
+
+use read_txn::{FirstRound, SecondRound};
+
+/// The open operation. A round of a read must be spent.
+pub(crate) enum Current {
+    /// None.
+    Idle,
+    /// A write, with its coordinator, as the number of a shard within a data centre.
+    Write(u16),
+    /// A read in its first round.
+    First(FirstRound),
+    /// A read in its second round.
+    Second(SecondRound),
+}
+
+impl Current {
+    /// Whether no operation is open.
+    pub(crate) fn is_idle(&self) -> bool
+        ensures { result ≡ is_idle (open_of self.now) }
+    {
+        match self {
+            Current::Idle => true,
+            Current::Write(_) | Current::First(_) | Current::Second(_) => false,
+        }
+    }
+
+    /// The coordinator of the open write, if a write is open.
+    pub(crate) fn coordinator(&self) -> Option<u16>
+        ensures { result ≡ coordinator_of self.now }
+    {
+        match self {
+            Current::Write(coordinator) => Some(*coordinator),
+            Current::Idle | Current::First(_) | Current::Second(_) => None,
+        }
+    }
+
+    /// Gives up what is open: for a session that is closed.
+    pub(crate) fn close(self) {
+        match self {
+            Current::Idle | Current::Write(_) => {}
+            Current::First(round) => {
+                let _read = round.surrender();
+            }
+            Current::Second(round) => {
+                let _read = round.surrender();
+            }
+        }
+    }
+}

@@ -1,0 +1,149 @@
+//! The envelopes of submissions.
+ghost use Rattle.std.specs.Prelude.{◌≡◌, ◌<◌, ◌≤◌, ◌++◌, length, map, IfOk, OnOk, IfErr};
+ghost use Rattle.std.specs.List.{AllByRecursion};
+ghost use Rattle.client.specs.Envelopes.{node_in, prepare_part, batch_envelopes, read_keys};
+
+use crate::home::Home;
+use logical_time::{Fault, Node, Time, TxnId, Writers};
+use messages::{Body, Cohorts, Envelope, Outbox};
+use planner::{BatchPlan, ShardKeys, ShardPart};
+use slice::{Keys, Read};
+use std::alloc::Global;
+
+/// Adds a Prepare for each part of a cohort.
+fn add_prepares(
+    envelopes: &mut Vec<Envelope>,
+    home: Home,
+    node: Node,
+    time: Time,
+    txn: TxnId,
+    coordinator: u16,
+    parts: Vec<ShardPart>,
+) -> Result<(), Fault>
+    requires { AllByRecursion (λ p. p.shard < home.shards) parts.items }
+    ensures ok { OnOk result (envelopes.new.items ≡ envelopes.old.items ++ map (prepare_part home node time txn coordinator) parts.items) }
+    ensures memory { IfErr result (λ e. e ≡ Fault.Memory) }
+{
+    for part in parts {
+        let ShardPart { shard, batch } = part;
+        envelopes.push(Envelope {
+            from: node,
+            to: home.node_of(shard),
+            time,
+            body: Body::Prepare {
+                txn,
+                rows: batch,
+                coordinator,
+            },
+        })?;
+    }
+    Ok(())
+}
+
+fn share_of(read: &Read, keys: Keys) -> Result<Read, Fault>
+    ensures ok { IfOk result (λ share. share ≡ record read.now { keys = keys }) }
+    ensures memory { IfErr result (λ e. e ≡ Fault.Memory) }
+{
+    Ok(Read {
+        family: read.family.clone()?,
+        keys,
+        predicate: read.predicate.clone()?,
+    })
+}
+
+/// A Read for each shard that holds an asked key.
+pub(crate) fn reads(
+    alloc: Global,
+    home: Home,
+    node: Node,
+    time: Time,
+    number: u64,
+    read: &Read,
+    shares: Vec<ShardKeys>,
+) -> Result<Vec<Envelope>, Fault>
+    requires { AllByRecursion (λ s. s.shard < home.shards) shares.items }
+    ensures ok { IfOk result (λ envelopes. envelopes.items ≡ map (read_keys home node time number read.now) shares.items) }
+    ensures memory { IfErr result (λ e. e ≡ Fault.Memory) }
+{
+    let mut envelopes = Vec::new(alloc);
+    for share in shares {
+        let ShardKeys { shard, keys } = share;
+        let own = share_of(read, keys)?;
+        envelopes.push(Envelope {
+            from: node,
+            to: home.node_of(shard),
+            time,
+            body: Body::Read { number, read: own },
+        })?;
+    }
+    Ok(envelopes)
+}
+
+/// The nodes of these shards.
+pub(crate) fn nodes(alloc: Global, home: Home, shares: &[ShardKeys]) -> Result<Vec<Node>, Fault>
+    requires { AllByRecursion (λ s. s.shard < home.shards) shares.now }
+    ensures ok { IfOk result (λ nodes. nodes.items ≡ map (λ s. node_in home s.shard) shares.now) }
+    ensures memory { IfErr result (λ e. e ≡ Fault.Memory) }
+{
+    let mut nodes = Vec::new(alloc);
+    let mut rest = shares;
+    while let [first, others @ ..] = rest {
+        nodes.push(home.node_of(first.shard))?;
+        rest = others;
+    }
+    Ok(nodes)
+}
+
+/// Posts envelopes for which there is room.
+pub(crate) fn post_all(outbox: &mut Outbox, envelopes: Vec<Envelope>)
+    requires { length envelopes.items ≤ outbox.old.room }
+    ensures { outbox.new.sent ≡ outbox.old.sent ++ envelopes.items }
+{
+    for envelope in envelopes {
+        outbox.post(envelope).unwrap();
+    }
+}
+
+/// The shards of these parts.
+fn shards_of(alloc: Global, parts: &[ShardPart]) -> Result<Cohorts, Fault>
+    ensures ok { IfOk result (λ cohorts. cohorts ≡ map (λ p. p.shard) parts.now) }
+    ensures memory { IfErr result (λ e. e ≡ Fault.Memory) }
+{
+    let shards: Vec<u16> = parts.iter().map(|part| part.shard).collect(alloc)?;
+    Ok(Cohorts::from_vec(shards))
+}
+
+/// A Begin for the coordinator and a Prepare for each cohort.
+pub(crate) fn writes(
+    alloc: Global,
+    home: Home,
+    node: Node,
+    time: Time,
+    txn: TxnId,
+    dependencies: &Writers,
+    plan: BatchPlan,
+) -> Result<Vec<Envelope>, Fault>
+    requires coordinator { plan.coordinator.shard < home.shards }
+    requires cohorts { AllByRecursion (λ p. p.shard < home.shards) plan.cohorts.items }
+    ensures ok { IfOk result (λ envelopes. envelopes.items ≡ batch_envelopes home node time txn dependencies.now plan.coordinator plan.cohorts.items) }
+    ensures memory { IfErr result (λ e. e ≡ Fault.Memory) }
+{
+    let BatchPlan {
+        coordinator: ShardPart { shard, batch },
+        cohorts,
+    } = plan;
+    let mut envelopes = Vec::new(alloc);
+    envelopes.push(Envelope {
+        from: node,
+        to: home.node_of(shard),
+        time,
+        body: Body::Begin {
+            txn,
+            rows: batch,
+            cohorts: shards_of(alloc, cohorts.as_slice())?,
+            dependencies: dependencies.clone()?,
+        },
+    })?;
+    add_prepares(&mut envelopes, home, node, time, txn, shard, cohorts)?;
+    Ok(envelopes)
+}

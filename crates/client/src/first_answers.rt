@@ -1,0 +1,170 @@
+//! Answers of the first round of a read.
+ghost use Rattle.std.specs.Prelude.{◌≡◌, ◌<◌, List, [], ◌∷◌, ◌++◌, length, map, IfOk, OnOk, OnErr, IfErr};
+ghost use Rattle.messages.specs.Session.{HeardNow};
+ghost use Rattle.read_txn.specs.States.{asked_again};
+ghost use Rattle.read_txn.specs.Taken.{first_taken};
+ghost use Rattle.client.specs.declared.current.Current.TheVariants.{Idle, First, Second};
+ghost use Rattle.client.specs.Steps as steps;
+
+use crate::current::Current;
+use crate::envelopes::post_all;
+use crate::hearing::{complete, put};
+use crate::kept::Kept;
+use logical_time::{Clock, Fault, Node, Time};
+use messages::{Body, Envelope, Outbox, RowsNow};
+use read_txn::{FirstRound, FirstTaken, LateShard, SecondRound};
+use slice::Read;
+use std::mem;
+
+/// What is asked again of a shard.
+fn late_read(round: &SecondRound, late: &LateShard) -> Result<Read, Fault>
+    ensures ok { IfOk result (λ read. read ≡ record round.now.read { keys = late.now.keys }) }
+    ensures memory { IfErr result (λ e. e ≡ Fault.Memory) }
+{
+    let read = round.read();
+    Ok(Read {
+        family: read.family.clone()?,
+        keys: late.keys.clone()?,
+        predicate: read.predicate.clone()?,
+    })
+}
+
+/// A ReadAt for each shard that the second round asks.
+fn late_reads(kept: &Kept, time: Time, round: &SecondRound) -> Result<Vec<Envelope>, Fault>
+    ensures ok { IfOk result (λ envelopes. envelopes.items ≡ map (steps.read_late time kept.now round.now) (asked_again round.now.asked round.now.time round.now.first)) }
+    ensures memory { IfErr result (λ e. e ≡ Fault.Memory) }
+{
+    let mut envelopes = Vec::new(kept.alloc);
+    let asks = round.asks();
+    let effective = round.time();
+    for late in asks {
+        let read = late_read(round, late)?;
+        envelopes.push(Envelope {
+            from: kept.node,
+            to: late.node,
+            time,
+            body: Body::ReadAt {
+                number: kept.count,
+                time: effective,
+                read,
+            },
+        })?;
+    }
+    Ok(envelopes)
+}
+
+/// Sends what the second round asks.
+fn ask_again(
+    kept: &Kept,
+    time: Time,
+    round: &SecondRound,
+    outbox: &mut Outbox,
+) -> Result<(), Fault>
+    ensures sends { OnOk result (outbox.new.sent ≡ outbox.old.sent ++ map (steps.read_late time kept.now round.now) (asked_again round.now.asked round.now.time round.now.first)) }
+    ensures unsent { OnErr result (outbox.new.sent ≡ outbox.old.sent) }
+    ensures memory { IfErr result (λ e. e ≡ Fault.Memory) }
+{
+    let envelopes = late_reads(kept, time, round)?;
+    outbox.reserve(envelopes.len())?;
+    post_all(outbox, envelopes);
+    Ok(())
+}
+
+/// Opens a second round and sends what it asks. Where that fails, the first round, of this floor, is open again as it was
+/// before its last answer, and the rows of that are handed back.
+fn open_second(
+    kept: &mut Kept,
+    clock: Clock,
+    round: SecondRound,
+    floor: Time,
+    outbox: &mut Outbox,
+) -> Result<(), (Fault, RowsNow)>
+    requires idle { kept.old.current ≡ Idle }
+    requires heard { 0 < length round.first }
+    ensures state { OnOk result (kept.new ≡ record kept.old { clock = clock; current = Second round }) }
+    ensures sends { OnOk result (outbox.new.sent ≡ outbox.old.sent ++ map (steps.read_late clock kept.old round) (asked_again round.asked round.time round.first)) }
+    ensures same { (heard : List HeardNow) (last : HeardNow) → round.first ≡ heard ++ last ∷ []
+        → OnErr result (kept.new ≡ record kept.old { current = First (record { read = round.read; floor = floor; asked = round.asked; heard = heard }) }) }
+    ensures unsent { OnErr result (outbox.new.sent ≡ outbox.old.sent) }
+    ensures memory { IfErr result (λ e. e.0 ≡ Fault.Memory) }
+    ensures back { (heard : List HeardNow) (last : HeardNow) → round.first ≡ heard ++ last ∷ [] → IfErr result (λ e. e.1 ≡ last.rows) }
+{
+    match ask_again(kept, clock.now(), &round, outbox) {
+        Ok(()) => {
+            kept.clock = clock;
+            put(kept, Current::Second(round));
+            Ok(())
+        }
+        Err(fault) => {
+            let (round, rows) = round.back(floor);
+            put(kept, Current::First(round));
+            Err((fault, rows))
+        }
+    }
+}
+
+/// PartNow in a first round, which was taken out: it is heard if it is of the open read.
+#[tactic(auto, using(crate::proofs::Ended::ended_heard, crate::proofs::Ended::ended_some, crate::proofs::Ended::ended_back))]
+fn first(
+    kept: &mut Kept,
+    clock: Clock,
+    round: FirstRound,
+    from: Node,
+    rows: RowsNow,
+    outbox: &mut Outbox,
+) -> Result<(), (Fault, RowsNow)>
+    requires { kept.old.current ≡ Idle }
+    ensures state { OnOk result (kept.new ≡ steps.after_now (first_taken round from rows) clock kept.old) }
+    ensures sends { OnOk result (outbox.new.sent ≡ outbox.old.sent ++ steps.sent_now (first_taken round from rows) clock kept.old) }
+    ensures same { OnErr result (kept.new ≡ record kept.old { current = First round }) }
+    ensures unsent { OnErr result (outbox.new.sent ≡ outbox.old.sent) }
+    ensures memory { IfErr result (λ e. e.0 ≡ Fault.Memory) }
+    ensures back { IfErr result (λ e. e.1 ≡ rows) }
+{
+    let floor = round.floor();
+    match round.take(from, rows) {
+        Ok(FirstTaken::More(round)) => {
+            kept.clock = clock;
+            put(kept, Current::First(round));
+            Ok(())
+        }
+        Ok(FirstTaken::Done(answered)) => {
+            complete(kept, clock, answered);
+            Ok(())
+        }
+        Ok(FirstTaken::Second(round)) => open_second(kept, clock, round, floor, outbox),
+        Err((fault, round, rows)) => {
+            put(kept, Current::First(round));
+            Err((fault, rows))
+        }
+    }
+}
+/// PartNow: heard where it is of the open read in its first round.
+pub(crate) fn part_now(
+    kept: &mut Kept,
+    clock: Clock,
+    from: Node,
+    number: u64,
+    rows: RowsNow,
+    outbox: &mut Outbox,
+) -> Result<(), (Fault, RowsNow)>
+    ensures state { OnOk result (kept.new ≡ steps.now_in kept.old.current clock kept.old from number rows) }
+    ensures sends { OnOk result (outbox.new.sent ≡ outbox.old.sent ++ steps.sent_in kept.old.current clock kept.old from number rows) }
+    ensures same { OnErr result (kept.new ≡ kept.old) }
+    ensures unsent { OnErr result (outbox.new.sent ≡ outbox.old.sent) }
+    ensures memory { IfErr result (λ e. e.0 ≡ Fault.Memory) }
+    ensures back { IfErr result (λ e. e.1 ≡ rows) }
+{
+    if number != kept.count {
+        kept.clock = clock;
+        return Ok(());
+    }
+    match mem::replace(&mut kept.current, Current::Idle) {
+        Current::First(round) => first(kept, clock, round, from, rows, outbox),
+        current => {
+            kept.clock = clock;
+            put(kept, current);
+            Ok(())
+        }
+    }
+}

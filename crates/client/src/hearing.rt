@@ -1,0 +1,194 @@
+//! Answers of shards.
+ghost use Rattle.std.specs.Prelude.{◌≡◌, true, OnOk, OnErr, IfErr};
+ghost use Rattle.messages.specs.Words.{is_same_txn};
+ghost use Rattle.read_txn.specs.Taken.{second_taken};
+ghost use Rattle.client.specs.declared.current.Current.TheVariants.{Idle, Second};
+ghost use Rattle.client.specs.Steps as steps;
+
+use crate::current::Current;
+use crate::kept::Kept;
+use logical_time::{Clock, Fault, Node, Stamp, Time, TxnId, Writer, Writers};
+use messages::{AtTime, Outcome};
+use read_txn::{Answered, SecondRound, SecondTaken};
+use std::mem;
+
+/// Opens what is given, while nothing is open.
+pub(crate) fn put(kept: &mut Kept, current: Current)
+    requires { kept.old.current ≡ Idle }
+    ensures { kept.new ≡ record kept.old { current = current } }
+{
+    mem::replace(&mut kept.current, current).close();
+}
+
+/// Ends the open operation, of which no round is left, with this outcome.
+fn finish(kept: &mut Kept, clock: Clock, floor: Time, writers: (Writers, Writers), outcome: Outcome)
+    ensures { kept.new ≡ steps.finished clock kept.old floor writers.0 writers.1 outcome }
+{
+    let (dependencies, added) = writers;
+    kept.clock = clock;
+    kept.floor = floor;
+    kept.dependencies = dependencies;
+    kept.added = added;
+    kept.untaken = Some((kept.count, outcome));
+    mem::replace(&mut kept.current, Current::Idle).close();
+}
+
+/// Ends the open write.
+fn written(
+    kept: &mut Kept,
+    clock: Clock,
+    coordinator: u16,
+    txn: TxnId,
+    commit: Time,
+    stamp: Stamp,
+) -> Result<(), Fault>
+    ensures state { OnOk result (kept.new ≡ steps.done_if true clock kept.old coordinator txn commit stamp) }
+    ensures same { OnErr result (kept.new ≡ kept.old) }
+    ensures memory { IfErr result (λ e. e ≡ Fault.Memory) }
+{
+    let floor = if kept.floor < commit {
+        commit
+    } else {
+        kept.floor
+    };
+    let own = Writer {
+        txn,
+        shard: coordinator,
+    };
+    let dependencies = Writers::from_vec(vec![in kept.alloc; own]?);
+    let added = Writers::from_vec(Vec::new(kept.alloc));
+    finish(
+        kept,
+        clock,
+        floor,
+        (dependencies, added),
+        Outcome::Wrote { commit, stamp },
+    );
+    Ok(())
+}
+
+/// Whether the transaction is the session's last operation.
+fn is_last(kept: &Kept, txn: TxnId) -> bool
+    ensures { result ≡ is_same_txn txn (record { session = kept.now.node; number = kept.now.count }) }
+{
+    let last = TxnId {
+        session: kept.node,
+        number: kept.count,
+    };
+    txn.cmp(&last).is_eq()
+}
+
+/// Done: ends the open write, if it is of this one.
+pub(crate) fn done(
+    kept: &mut Kept,
+    clock: Clock,
+    txn: TxnId,
+    commit: Time,
+    stamp: Stamp,
+) -> Result<(), Fault>
+    ensures state { OnOk result (kept.new ≡ steps.done_in kept.old.current clock kept.old txn commit stamp) }
+    ensures same { OnErr result (kept.new ≡ kept.old) }
+    ensures memory { IfErr result (λ e. e ≡ Fault.Memory) }
+{
+    let Some(coordinator) = kept.current.coordinator() else {
+        kept.clock = clock;
+        return Ok(());
+    };
+    if is_last(kept, txn) {
+        written(kept, clock, coordinator, txn, commit, stamp)
+    } else {
+        kept.clock = clock;
+        Ok(())
+    }
+}
+
+/// Completes the open read, of which no round is left.
+pub(crate) fn complete(kept: &mut Kept, clock: Clock, answered: Answered)
+    ensures { kept.new ≡ steps.completed clock kept.old answered }
+{
+    let Answered {
+        effective,
+        answer,
+        writers,
+    } = answered;
+    let none = Writers::from_vec(Vec::new(kept.alloc));
+    let dependencies = mem::replace(&mut kept.dependencies, none);
+    finish(
+        kept,
+        clock,
+        effective,
+        (dependencies, Writers::from_vec(writers)),
+        Outcome::Read { effective, answer },
+    );
+}
+
+/// Goes on with what an answer made of the second round, which was taken out.
+fn after_at(kept: &mut Kept, clock: Clock, taken: SecondTaken)
+    requires { kept.old.current ≡ Idle }
+    ensures { kept.new ≡ steps.after_at taken clock kept.old }
+{
+    match taken {
+        SecondTaken::More(round) => {
+            kept.clock = clock;
+            put(kept, Current::Second(round));
+        }
+        SecondTaken::Done(answered) => complete(kept, clock, answered),
+        SecondTaken::Collected => {
+            kept.clock = clock;
+            kept.untaken = Some((kept.count, Outcome::Collected));
+        }
+    }
+}
+
+/// PartAt in a second round, which was taken out: it is heard if it is of the open read.
+fn second(
+    kept: &mut Kept,
+    clock: Clock,
+    round: SecondRound,
+    from: Node,
+    answer: AtTime,
+) -> Result<(), (Fault, AtTime)>
+    requires { kept.old.current ≡ Idle }
+    ensures state { OnOk result (kept.new ≡ steps.after_at (second_taken round from answer) clock kept.old) }
+    ensures same { OnErr result (kept.new ≡ record kept.old { current = Second round }) }
+    ensures memory { IfErr result (λ e. e.0 ≡ Fault.Memory) }
+    ensures back { IfErr result (λ e. e.1 ≡ answer) }
+{
+    match round.take(from, answer) {
+        Ok(taken) => {
+            after_at(kept, clock, taken);
+            Ok(())
+        }
+        Err((fault, round, answer)) => {
+            put(kept, Current::Second(round));
+            Err((fault, answer))
+        }
+    }
+}
+
+/// PartAt: heard where it is of the open read in its second round.
+pub(crate) fn part_at(
+    kept: &mut Kept,
+    clock: Clock,
+    from: Node,
+    number: u64,
+    answer: AtTime,
+) -> Result<(), (Fault, AtTime)>
+    ensures state { OnOk result (kept.new ≡ steps.at_in kept.old.current clock kept.old from number answer) }
+    ensures same { OnErr result (kept.new ≡ kept.old) }
+    ensures memory { IfErr result (λ e. e.0 ≡ Fault.Memory) }
+    ensures back { IfErr result (λ e. e.1 ≡ answer) }
+{
+    if number != kept.count {
+        kept.clock = clock;
+        return Ok(());
+    }
+    match mem::replace(&mut kept.current, Current::Idle) {
+        Current::Second(round) => second(kept, clock, round, from, answer),
+        current => {
+            kept.clock = clock;
+            put(kept, current);
+            Ok(())
+        }
+    }
+}

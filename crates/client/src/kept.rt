@@ -1,0 +1,33 @@
+//! What a session keeps.
+use crate::current::Current;
+use crate::home::Home;
+use column_family::Schema;
+use logical_time::{Clock, Node, Time, Writers};
+use messages::Outcome;
+use std::alloc::Global;
+
+/// What a session keeps. While an operation is open, no writers are to be put in order.
+pub(crate) struct Kept {
+    /// Where growths come from.
+    pub(crate) alloc: Global,
+    /// The session.
+    pub(crate) node: Node,
+    /// Its home.
+    pub(crate) home: Home,
+    /// The column families.
+    pub(crate) schema: Schema,
+    /// Its clock.
+    pub(crate) clock: Clock,
+    /// How many operations were accepted.
+    pub(crate) count: u64,
+    /// The greatest commit or effective time of its completed operations.
+    pub(crate) floor: Time,
+    /// What its next write depends on, in order and each once, but for the writers that are still to be put in order.
+    pub(crate) dependencies: Writers,
+    /// The writers of its last read that are still to be put in order.
+    pub(crate) added: Writers,
+    /// The open operation.
+    pub(crate) current: Current,
+    /// The last outcome with the number of its operation, until it is taken or the next operation is accepted.
+    pub(crate) untaken: Option<(u64, Outcome)>,
+}

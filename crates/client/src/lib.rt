@@ -1,0 +1,20 @@
+//! A session: what it submits, and what it hears from the shards of its home.
+//!
+//! A session does the steps of the protocol's machine and keeps less than it: no outcome that was taken, and the
+//! writers of its last read in no order.
+#![tactic(auto)]
+
+mod accepting;
+mod current;
+mod envelopes;
+mod first_answers;
+mod handling;
+mod hearing;
+mod home;
+mod kept;
+mod ordering;
+mod session;
+#[cfg(test)]
+mod tests;
+
+pub use session::Session;

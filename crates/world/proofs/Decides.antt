@@ -1,0 +1,259 @@
+-- A coordinator decides.
+use Rattle.std.proofs.Common.{◌≡◌, ℕ, ◌+◌, ◌<◌, ◌≤◌, true, not, List, [], ◌∷◌, ◌++◌, map, Option, Some, None, ◌⊎◌, inl, inr, refl, sym, ap, ap₂, ◌∙◌, subst, subst₂, arith, le_refl, le_trans, le_of_lt}
+use Rattle.std.specs.Prelude.{filter}
+use Rattle.logical_time.specs.Stamps.{StampValue}
+use Rattle.column_family.specs.Normal.{IsNormal}
+use Rattle.store.specs.declared.part.Applied.{Applied}
+use Rattle.store.specs.Keeps.{IsNewStamp, AreApart}
+use Rattle.store.proofs.Apart.{apart_more}
+use Rattle.planner.specs.Plan.{coordinator_of, cohorts_of}
+use Rattle.messages.specs.declared.body.Body.TheVariants.{Commit, ReplBegin, DepOk}
+use Rattle.messages.specs.declared.envelope.Envelope.{Envelope}
+use Rattle.messages.specs.Topology.{TopologyValue, dc_of, shard_of, shard_node}
+use Rattle.messages.specs.Words.{is_same_txn, envelope, other_dcs}
+use Rattle.messages.specs.Shard.{ShardState, BegunBallot, KeptBallot, Decision, Asker, WaitingRead}
+use Rattle.messages.specs.Commits.{applied_part, commits, stamp_for, announcements, dep_oks, decide}
+use Rattle.world.specs.Run.{Run}
+use Rattle.world.proofs.Among.{Among, among_append, append_first, among_last, last_or_old, filter_only, map_only}
+use Rattle.world.proofs.Growth.{NewDecision, ShardGrows, Grows}
+use Rattle.world.proofs.Facts.{near, lead, part_on, IsDecided, IsStamp, IsDone, DecidedOnce, PreparedBefore, StampFits, BallotSound, KeptBallotSound, DecisionSound, AppliedSound, Sees, WaitSound}
+use Rattle.world.proofs.Invariant.{home, EnvelopeSound, Inv}
+use Rattle.world.proofs.Able.{Fresh, Able}
+use Rattle.world.proofs.Lasting.{before_grows, ballot_grows}
+use Rattle.world.proofs.LastingAll.{shard_grows}
+use Rattle.world.proofs.Near.{cohort_below, near_dc, lead_number, peer_dc, peer_part, normal_on}
+use Rattle.world.proofs.Ables.{Alike}
+use Rattle.world.proofs.LetGo.{Frees, waits_kept, answers_sound}
+use Rattle.world.proofs.StampsApart.{stamp_is_new, own_stamp_is_new, applied_is_decided, once_more}
+
+-- what is decided anew
+abbrev decision : ℕ → ℕ → BegunBallot → Decision
+decision node n b = record { txn = b.txn; commit = n; stamp = stamp_for node n b.stamp }
+
+-- and applied
+abbrev part : TopologyValue → ℕ → ℕ → BegunBallot → Applied
+part top node n b = applied_part b.txn (shard_of top node) b.rows n (stamp_for node n b.stamp)
+
+decided_new : (node n : ℕ) (a : ShardState) (b : BegunBallot) → a.clock < n → ((d : Decision) → Among d a.decided → d.txn ≡ b.txn → ⊥)
+    → (d : Decision) → Among d (a.decided ++ decision node n b ∷ []) → Among d a.decided ⊎ NewDecision a d
+decided_new node n a b lt none d m =
+    elim (last_or_old d (decision node n b) a.decided m) [ inl o ↦ inl o | inr q ↦ inr (subst (λ z. NewDecision a z) (sym q) (record { above = lt; undecided = none })) ]
+
+decide_grows : (top : TopologyValue) (node n : ℕ) (a : ShardState) (b : BegunBallot) → a.clock < n → ((d : Decision) → Among d a.decided → d.txn ≡ b.txn → ⊥) → ShardGrows a (decide top node n a b).state
+decide_grows top node n a b lt none =
+    record {
+      clock = le_of_lt lt;
+      prepared = λ p m. m;
+      prepared_new = λ p m. inl m;
+      decided = λ d m. append_first d a.decided (decision node n b ∷ []) m;
+      decided_new = decided_new node n a b lt none;
+      applied = λ v m. append_first v a.applied (part top node n b ∷ []) m;
+    }
+
+-- In a run after the decision: what it adds is sound
+module _ (top : TopologyValue) (x : Run) (node n : ℕ) (a : ShardState) (b : BegunBallot)
+    (some : 0 < top.shards)
+    (at : x.shards node ≡ (decide top node n a b).state)
+    (early : (d : Decision) → Among d a.decided → d.commit < n)
+    (none : (d : Decision) → Among d a.decided → d.txn ≡ b.txn → ⊥)
+    (once : DecidedOnce a.decided)
+    (apart : AreApart a.applied)
+    (new : IsNewStamp (stamp_for node n b.stamp) a.applied)
+    (ballot : BallotSound top x node n b)
+    (at_home : dc_of top node ≡ ballot.submission.home → dc_of top node ≡ home top b.txn.session)
+    (votes : (c : ℕ) → Among c b.cohorts → PreparedBefore x (near top node c) b.txn n)
+    (applied : (d : Decision) → Among d a.decided → Sees a.applied d.txn)
+    (waiting : (y : WaitingRead) → Among y a.waiting → WaitSound top x node y)
+    (askers : (k : Asker) → Among k a.askers → dc_of top k.from ≡ dc_of top node) where
+  clock : n ≤ (x.shards node).clock
+  clock = subst (λ z. n ≤ z.clock) (sym at) (le_refl n)
+
+  among_decided : Among (decision node n b) (x.shards node).decided
+  among_decided = subst (λ z. Among (decision node n b) z.decided) (sym at) (among_last (decision node n b) a.decided)
+
+  among_applied : Among (part top node n b) (x.shards node).applied
+  among_applied = subst (λ z. Among (part top node n b) z.applied) (sym at) (among_last (part top node n b) a.applied)
+
+  is_decided : IsDecided x node b.txn n (stamp_for node n b.stamp)
+  is_decided = record { decision = decision node n b; among = among_decided; txn = refl; commit = refl; stamp = refl }
+
+  is_done : IsDone top x (dc_of top node) b.txn (n + 1)
+  is_done = record { node = node; here = refl; decision = decision node n b; among = among_decided; txn = refl; commit = omega arith }
+
+  -- the origin's own stamp, or the one that came
+  stamp_go : (o : Option StampValue) → b.stamp ≡ o → StampFits top x node n ballot.submission ballot.batch o → IsStamp top x ballot.submission ballot.batch (stamp_for node n o) × ((stamp_for node n o).time ≤ n)
+  stamp_go (Some s) e k = k
+  stamp_go None e k =
+      let here : node ≡ lead top ballot.submission.home ballot.batch = ballot.here ∙ ap (λ d. lead top d ballot.batch) k in
+      let dec : IsDecided x node b.txn n (stamp_for node n None) = subst (λ z. IsDecided x node b.txn n (stamp_for node n z)) e is_decided in
+      (record { decided = subst₂ (λ t c. IsDecided x c t n (stamp_for node n None)) (sym ballot.written.txn) here dec; node = here }, le_refl n)
+
+  the_stamp : IsStamp top x ballot.submission ballot.batch (stamp_for node n b.stamp) × ((stamp_for node n b.stamp).time ≤ n)
+  the_stamp = stamp_go b.stamp refl ballot.stamp
+
+  one_go : (e : Decision) → Among e (a.decided ++ decision node n b ∷ []) → e.txn ≡ b.txn → e ≡ decision node n b
+  one_go e m r = elim (last_or_old e (decision node n b) a.decided m) [ inl o ↦ absurd (none e o r) | inr q ↦ q ]
+
+  time_go : (e : Decision) → Among e (a.decided ++ decision node n b ∷ []) → e.commit ≡ n → e ≡ decision node n b
+  time_go e m r = elim (last_or_old e (decision node n b) a.decided m) [ inl o ↦ (let lt = early e o in absurd (omega arith)) | inr q ↦ q ]
+
+  own : shard_of top node ≡ coordinator_of top.shards ballot.batch
+  own = lead_number top node (dc_of top node) ballot.batch some ballot.here
+
+  decision_sound : DecisionSound top x node (decision node n b)
+  decision_sound =
+      record {
+        submission = ballot.submission;
+        batch = ballot.batch;
+        written = ballot.written;
+        here = ballot.here;
+        commit = clock;
+        applied = (part top node n b, among_applied, refl);
+        cohorts = λ c m. votes c (subst (λ l. Among c l) (sym ballot.cohorts) m);
+        one = λ e m q. one_go e (subst (λ z. Among e z.decided) at m) q;
+        one_time = λ e m q. time_go e (subst (λ z. Among e z.decided) at m) q;
+        stamp = the_stamp.0;
+        stamp_time = the_stamp.1;
+        done = ballot.done;
+      }
+
+  part_sound : AppliedSound top x node (part top node n b)
+  part_sound =
+      record {
+        submission = ballot.submission;
+        batch = ballot.batch;
+        written = ballot.written;
+        coordinator = own;
+        rows = ballot.rows;
+        decided = subst (λ c. IsDecided x c b.txn n (stamp_for node n b.stamp)) (ballot.here ∙ sym (ap (shard_node top (dc_of top node)) own)) is_decided;
+        early = clock;
+      }
+
+  sees_new : Sees (a.applied ++ part top node n b ∷ []) b.txn
+  sees_new = (part top node n b, among_last (part top node n b) a.applied, refl)
+
+  all_go : (d : Decision) → Among d (a.decided ++ decision node n b ∷ []) → Sees (a.applied ++ part top node n b ∷ []) d.txn
+  all_go d m =
+      elim (last_or_old d (decision node n b) a.decided m) [
+        | inl o ↦ (let v = applied d o in (v.0, append_first v.0 a.applied (part top node n b ∷ []) v.1, v.2))
+        | inr q ↦ subst (λ t. Sees (a.applied ++ part top node n b ∷ []) t) (sym (ap (λ z. z.txn) q)) sees_new
+      ]
+
+  all_applied : (d : Decision) → Among d (x.shards node).decided → Sees (x.shards node).applied d.txn
+  all_applied d m = subst (λ z. Sees z.applied d.txn) (sym at) (all_go d (subst (λ z. Among d z.decided) at m))
+
+  all_apart : AreApart (a.applied ++ part top node n b ∷ [])
+  all_apart = apart_more a.applied (part top node n b) (subst IsNormal (sym ballot.rows) (normal_on top ballot.batch node)) new apart
+
+  frees : Frees top x node b.txn (λ y. true)
+  frees y g m q e = inl (subst (λ t. Sees (x.shards node).applied t) (sym q) (part top node n b, among_applied, refl))
+
+  -- ## What it sends
+
+  commit_go : (e : Envelope) → Among e (commits top node n b.txn (stamp_for node n b.stamp) b.cohorts) → EnvelopeSound top x e
+  commit_go e m =
+      let q = map_only (λ s. envelope node (shard_node top (dc_of top node) s) n (Commit b.txn n (stamp_for node n b.stamp))) b.cohorts e m in
+      let c = cohort_below top.shards ballot.batch q.0 (subst (λ l. Among q.0 l) ballot.cohorts q.1) in
+      subst (λ z. EnvelopeSound top x z) (sym q.2) (record { decided = is_decided; time = le_refl n }, sym (near_dc top node q.0 c))
+
+  abbrev replicated : StampValue → KeptBallot
+  replicated s = record { txn = b.txn; rows = b.rows; stamp = s; cohorts = b.cohorts; dependencies = b.dependencies }
+
+  replicated_sound : (d : ℕ) (s : StampValue) → IsStamp top x ballot.submission ballot.batch s → s.time ≤ n → KeptBallotSound top x (shard_node top d (shard_of top node)) n (replicated s)
+  replicated_sound d s k le =
+      record {
+        submission = ballot.submission;
+        batch = ballot.batch;
+        written = ballot.written;
+        here = ap₂ (shard_node top) (sym (peer_dc top node d some)) own;
+        rows = ballot.rows ∙ peer_part top ballot.batch node d some;
+        cohorts = ballot.cohorts;
+        dependencies = ballot.dependencies;
+        stamp = k;
+        time = le;
+      }
+
+  announce_go : (o : Option StampValue) → b.stamp ≡ o → StampFits top x node n ballot.submission ballot.batch o → (e : Envelope) → Among e (announcements top node n b o) → EnvelopeSound top x e
+  announce_go (Some s) e k u m = absurd m
+  announce_go None e k u (inl q) =
+      subst (λ z. EnvelopeSound top x z) (sym q)
+      (record { decided = subst (λ z. IsDecided x node b.txn n (stamp_for node n z)) e is_decided; time = le_refl n }, at_home k)
+  announce_go None e k u (inr m) =
+      let q = map_only (λ d. envelope node (shard_node top d (shard_of top node)) n (ReplBegin b.txn b.rows (stamp_for node n None) b.cohorts b.dependencies)) (other_dcs top node) u m in
+      let s = stamp_go None e k in
+      subst (λ z. EnvelopeSound top x z) (sym q.2) (replicated_sound q.0 (stamp_for node n None) s.0 s.1)
+
+  dep_ok_go : (e : Envelope) → Among e (dep_oks node n b.txn a.askers) → EnvelopeSound top x e
+  dep_ok_go e m =
+      let q = map_only (λ k. envelope node k.from n (DepOk b.txn k.waiter n)) (filter (λ k. is_same_txn k.dependency b.txn) a.askers) e m in
+      let p = filter_only (λ k. is_same_txn k.dependency b.txn) a.askers q.0 q.1 in
+      subst (λ z. EnvelopeSound top x z) (sym q.2) (subst (λ d. IsDone top x d b.txn (n + 1)) (sym (askers q.0 p.0)) is_done)
+
+  sends_go : (e : Envelope) → Among e (decide top node n a b).sends → EnvelopeSound top x e
+  sends_go e m =
+      let cs = commits top node n b.txn (stamp_for node n b.stamp) b.cohorts in
+      let ns = announcements top node n b b.stamp in
+      let ks = dep_oks node n b.txn a.askers in
+      elim (among_append e ((cs ++ ns) ++ ks) _ m) [
+        | inl l ↦ elim (among_append e (cs ++ ns) ks l) [
+          | inl d ↦ elim (among_append e cs ns d) [ inl c ↦ commit_go e c | inr k ↦ announce_go b.stamp refl ballot.stamp e k ]
+          | inr k ↦ dep_ok_go e k
+        ]
+        | inr r ↦
+            answers_sound top x node n (record a { decided = a.decided ++ decision node n b ∷ []; applied = a.applied ++ part top node n b ∷ [] }) b.txn (λ y. true) a.waiting
+            (ap (λ z. z.applied) at) all_apart all_applied waiting frees e r
+      ]
+
+  pub decide_fresh : Fresh top x node a (decide top node n a b)
+  decide_fresh =
+      record {
+        prepared = λ e m. inl m;
+        ballots = λ e m. inl m;
+        early = λ e m. inl m;
+        votes = λ e m. inl m;
+        decided = λ d m. elim (last_or_old d (decision node n b) a.decided m) [ inl o ↦ inl o | inr q ↦ inr (subst (λ z. DecisionSound top x node z) (sym q) decision_sound) ];
+        once = once_more a.decided (decision node n b) once none;
+        applied = λ v m. elim (last_or_old v (part top node n b) a.applied m) [ inl o ↦ inl o | inr q ↦ inr (subst (λ z. AppliedSound top x node z) (sym q) part_sound) ];
+        apart = all_apart;
+        kept_parts = λ e m. inl m;
+        kept_ballots = λ e m. inl m;
+        met = λ e m. inl m;
+        askers = λ e m. inl m;
+        waiting = λ y m. inr (waits_kept top x node b.txn (λ y. true) a.waiting waiting frees y m);
+        sends = sends_go;
+      }
+
+-- the stamp of a decision is new on its shard
+new_go : (top : TopologyValue) (w : Run) (node n : ℕ) (b : BegunBallot) → Inv top w → (w.shards node).clock < n → (k : BallotSound top w node n b)
+    → ((d : Decision) → Among d (w.shards node).decided → d.txn ≡ b.txn → ⊥)
+    → (o : Option StampValue) → StampFits top w node n k.submission k.batch o → IsNewStamp (stamp_for node n o) (w.shards node).applied
+new_go top w node n b inv lt k none None fits = own_stamp_is_new top w node n inv lt
+new_go top w node n b inv lt k none (Some s) fits =
+    stamp_is_new top w node k.submission k.batch s inv fits.0
+    (λ v m e. let d = applied_is_decided top w node b.txn k.submission k.batch inv k.written k.here v m (e ∙ k.written.txn) in none d.0 d.1 d.2)
+
+-- A coordinator decides, at a shard that differs in kept inputs alone
+pub decide_able : (top : TopologyValue) (w : Run) (node n : ℕ) (a : ShardState) (b : BegunBallot) → 0 < top.shards → Inv top w → (w.shards node).clock < n → Alike (w.shards node) a
+    → BallotSound top w node n b → ((d : Decision) → Among d (w.shards node).decided → d.txn ≡ b.txn → ⊥) → ((c : ℕ) → Among c b.cohorts → PreparedBefore w (near top node c) b.txn n)
+    → Able top w node a (decide top node n a b)
+unfolding ballot_grows
+decide_able top w node n a b some inv lt like k none votes =
+    let old = inv.shards node in
+    let never : (d : Decision) → Among d a.decided → d.txn ≡ b.txn → ⊥ = λ d m. none d (subst (λ l. Among d l) like.decided m) in
+    record {
+      grows = decide_grows top node n a b (subst (λ c. c < n) (sym like.clock) lt) never;
+      fresh = λ x gr at.
+          let kept = shard_grows gr old in
+          decide_fresh top x node n a b some at
+          (λ d m. let le = (old.decided d (subst (λ l. Among d l) like.decided m)).commit in omega arith)
+          never
+          (subst DecidedOnce (sym like.decided) old.once)
+          (subst AreApart (sym like.applied) old.apart)
+          (subst (λ l. IsNewStamp (stamp_for node n b.stamp) l) (sym like.applied) (new_go top w node n b inv lt k none b.stamp k.stamp))
+          (ballot_grows gr (le_refl n) k)
+          (λ e. e ∙ inv.submitted.home k.submission k.written.among ∙ ap (λ t. home top t.session) k.written.txn)
+          (λ c m. before_grows gr (le_refl n) (votes c m))
+          (λ d m. subst (λ l. Sees l d.txn) (sym like.applied) (old.decided d (subst (λ l. Among d l) like.decided m)).applied)
+          (λ y m. kept.waiting y (subst (λ l. Among y l) like.waiting m))
+          (λ u m. old.askers u (subst (λ l. Among u l) like.askers m));
+    }
