@@ -119,15 +119,15 @@ pub record ShardSound (top : TopologyValue) (w : Run) (node : ℕ) (a : ShardSta
   pub askers : (k : Asker) → Among k a.askers → dc_of top k.from ≡ dc_of top node
   pub waiting : (y : WaitingRead) → Among y a.waiting → WaitSound top w node y
 
--- nothing of the transaction is held or decided here
-pub record Untouched (a : ShardState) (t : TxnValue) : Type 0 where
-  pub ballots : (b : BegunBallot) → Among b a.ballots → b.txn ≡ t → ⊥
-  pub prepared : (p : PreparedPart) → Among p a.prepared → p.txn ≡ t → ⊥
-  pub decided : (d : Decision) → Among d a.decided → d.txn ≡ t → ⊥
+-- none of these is of the transaction
+pub record Untouched (ballots : List BegunBallot) (prepared : List PreparedPart) (decided : List Decision) (t : TxnValue) : Type 0 where
+  pub unbegun : (b : BegunBallot) → Among b ballots → b.txn ≡ t → ⊥
+  pub unprepared : (p : PreparedPart) → Among p prepared → p.txn ≡ t → ⊥
+  pub undecided : (d : Decision) → Among d decided → d.txn ≡ t → ⊥
 
 -- of a kept ballot that misses a notice or an answer nothing is held or decided
 abbrev pub IsPatient : TopologyValue → ℕ → ShardState → Type 0
-IsPatient top node a = (r : KeptBallot) → Among r a.kept_ballots → is_ready top node a r ≡ false → Untouched a r.txn
+IsPatient top node a = (r : KeptBallot) → Among r a.kept_ballots → is_ready top node a r ≡ false → Untouched a.ballots a.prepared a.decided r.txn
 
 -- ## Sessions
 

@@ -12,6 +12,7 @@ pub mod Causal
 pub mod Pasts
 pub mod About
 pub mod Underway
+pub mod LiveGrow
 pub mod SameNewest
 pub mod RowTests
 pub mod NodeNumbers
@@ -33,9 +34,13 @@ pub mod Near
 pub mod Ables
 pub mod PartsKept
 pub mod LetGo
+pub mod ReadsKept
+pub mod Patience
 pub mod StampsApart
 pub mod Decides
+pub mod ReadyKept
+pub mod ReplicasKept
+pub mod PatientSteps
 pub mod Writes
 pub mod CommitsKept
-pub mod ReadsKept
 pub mod Submissions

@@ -15,7 +15,7 @@ use Rattle.world.proofs.Facts.{IsDone, KeptPartSound, KeptBallotSound}
 use Rattle.world.proofs.Invariant.{EnvelopeSound, Inv}
 use Rattle.world.proofs.Able.{Able}
 use Rattle.world.proofs.Near.{lead_number, cohort_other}
-use Rattle.world.proofs.Written.{one_batch}
+use Rattle.world.proofs.StampsApart.{written_at, batch_one}
 use Rattle.world.proofs.Lasting.{kept_part_grows, done_grows}
 use Rattle.world.proofs.Ables.{absent, not_found, sends_able, quiet_able, prepare_able}
 
@@ -54,13 +54,13 @@ repl_part_able top w node n k inv lt sound = repl_part_go top w node n k inv lt 
 pub cohort_undecided : (top : TopologyValue) (w : Run) (node : ℕ) (k : KeptPart) → 0 < top.shards → Inv top w → KeptPartSound top w node k → (d : Decision) → Among d (w.shards node).decided → d.txn ≡ k.txn → ⊥
 cohort_undecided top w node k some inv sound d m q =
     let ds = (inv.shards node).decided d m in
-    let same = one_batch inv.submitted sound.written ds.written (sym q) in
+    let same = batch_one inv.submitted (written_at (sym q) sound.written) ds.written in
     cohort_other top.shards ds.batch (shard_of top node) (subst (λ z. Among (shard_of top node) (cohorts_of top.shards z)) same sound.cohort) (lead_number top node (dc_of top node) ds.batch some ds.here)
 
 -- nor does it keep the ballot
 pub cohort_unkept : (top : TopologyValue) (w : Run) (node n : ℕ) (k : KeptPart) (r : KeptBallot) → 0 < top.shards → Inv top w → KeptPartSound top w node k → KeptBallotSound top w node n r → r.txn ≡ k.txn → ⊥
 cohort_unkept top w node n k r some inv sound rs q =
-    let same = one_batch inv.submitted sound.written rs.written (sym q) in
+    let same = batch_one inv.submitted (written_at (sym q) sound.written) rs.written in
     cohort_other top.shards rs.batch (shard_of top node) (subst (λ z. Among (shard_of top node) (cohorts_of top.shards z)) same sound.cohort) (lead_number top node (dc_of top node) rs.batch some rs.here)
 
 replica_cohort : Replica ≡ Cohort → ⊥
