@@ -44,3 +44,4 @@ pub mod PatientSteps
 pub mod Writes
 pub mod CommitsKept
 pub mod Submissions
+pub mod Settling
