@@ -45,3 +45,4 @@ pub mod Writes
 pub mod CommitsKept
 pub mod Submissions
 pub mod Settling
+pub mod SettledAway
