@@ -46,3 +46,4 @@ pub mod CommitsKept
 pub mod Submissions
 pub mod Settling
 pub mod SettledAway
+pub mod SettledShards
