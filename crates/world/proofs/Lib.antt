@@ -13,6 +13,8 @@ pub mod Pasts
 pub mod About
 pub mod Underway
 pub mod LiveGrow
+pub mod Onwards
+pub mod HandledOnwards
 pub mod SameNewest
 pub mod RowTests
 pub mod NodeNumbers

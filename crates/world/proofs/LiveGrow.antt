@@ -79,8 +79,8 @@ pub prepared_live_on : {top : TopologyValue} {w x : Run} (node : ℕ) (p : Prepa
 prepared_live_on {top = top} node p g k = role_on p.role node (near top node p.coordinator) p.txn g k
 
 pub ballot_live_on : {top : TopologyValue} {w x : Run} (node : ℕ) (b : BegunBallot) → Onward top w x → BallotLive top w node b → BallotLive top x node b
-ballot_live_on node b g (inl e) = inl e
-ballot_live_on node b g (inr k) = inr (away_on g k.0, λ c m. sent_on g (k.1 c m))
+ballot_live_on node b g (p, inl e) = (prepared_on (g.shards node) p, inl e)
+ballot_live_on node b g (p, inr k) = (prepared_on (g.shards node) p, inr (away_on g k.0, λ c m. sent_on g (k.1 c m)))
 
 pub applied_live_on : {top : TopologyValue} {w x : Run} (node : ℕ) (v : Applied) → Onward top w x → AppliedLive top w node v → AppliedLive top x node v
 applied_live_on node v g (inl e) = inl e
@@ -95,7 +95,7 @@ entries_on {top = top} {node = node} g k =
       kept_parts = λ p m. let q = k.kept_parts p m in record { away = away_on g q.away; here = q.here; told = sent_on g q.told };
       kept_ballots = λ r m. let q = k.kept_ballots r m in record { away = away_on g q.away; here = q.here; asked = λ d i. sent_on g (q.asked d i) };
       early = λ v m. origin_on g (k.early v m);
-      votes = λ v m. elim (k.votes v m) [ inl o ↦ inl (origin_on g o) | inr o ↦ inr (known_on (g.shards node) o) ];
+      votes = λ v m. ballot_on (g.shards node) (k.votes v m);
       notices = λ v m. kept_part_on (g.shards v.node) (k.notices v m);
       decided = λ d m.
           let q = k.decided d m in
@@ -135,8 +135,8 @@ open_on top node a (SecondRound read time first heard) g k = record { some = k.s
 pub says_on : (top : TopologyValue) {w x : Run} (from to : ℕ) → Onward top w x → (k : Kind) → SaysLive top w from to k → SaysLive top x from to k
 says_on top from to g (OfBegin t) k = tt
 says_on top from to g (OfPrepare t) k = (aside_on g k.0, origin_on g k.1)
-says_on top from to g (OfYes t) (inl k) = inl (origin_on g k)
-says_on top from to g (OfYes t) (inr k) = inr (known_on (g.shards to) k)
+says_on top from to g (OfYes t) (inl o, aside, leads, dc) = (inl (origin_on g o), aside_on g aside, leads_on g leads, dc)
+says_on top from to g (OfYes t) (inr o, aside, leads, dc) = (inr (known_on (g.shards to) o), aside_on g aside, leads_on g leads, dc)
 says_on top from to g (OfCommit t) k = (prepared_on (g.shards to) k.0, aside_on g k.1)
 says_on top from to g (OfAt t) k = tt
 says_on top from to g (OfNotBy t time) k = tt
@@ -145,7 +145,7 @@ says_on top from to g (OfRead number) k = le_trans k (g.sessions from).count
 says_on top from to g (OfReadAt number time) k = round_on from number time g k
 says_on top from to g (OfReplBegin t) k = (away_on g k.0, k.1)
 says_on top from to g (OfReplPart t) k = (aside_on g k.0, away_on g k.1, k.2)
-says_on top from to g (OfNotify t) k = kept_part_on (g.shards from) k
+says_on top from to g (OfNotify t) k = (kept_part_on (g.shards from) k.0, leads_on g k.1, k.2)
 says_on top from to g (OfPrepareRemote t) k = (kept_part_on (g.shards to) k.0, known_on (g.shards from) k.1, leads_on g k.2, k.3)
 says_on top from to g (OfDepCheck dependency waiter) k = (leads_on g k.0, k.1, awaits_on (g.shards from) k.2)
 says_on top from to g (OfDepOk dependency waiter) k = awaits_on (g.shards to) k
