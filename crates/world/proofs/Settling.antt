@@ -76,7 +76,7 @@ module _ (top : TopologyValue) (w : Run) (some : 0 < top.shards) (inv : Inv top 
   asked : (s : ℕ) (u : BegunBallot) → Among u (w.shards s).ballots → (c : ℕ) → Among c u.cohorts → Known (w.shards (near top s c)) u.txn
   asked s u m c i =
       let bs = (inv.shards s).ballots u m in
-      elim ((live.shards s).entries.ballots u m) [
+      elim ((live.shards s).entries.ballots u m).1 [
         | inl none ↦
             let home : dc_of top s ≡ bs.submission.home = subst (λ z. StampFits top w s (w.shards s).clock bs.submission bs.batch z) none bs.stamp in
             let p = (live.submitted bs.submission bs.batch bs.written.among bs.written.op).prepared c (subst (λ l. Among c l) bs.cohorts i) in
@@ -88,7 +88,7 @@ module _ (top : TopologyValue) (w : Run) (some : 0 < top.shards) (inv : Inv top 
   -- an early vote for a ballot is counted: nobody votes early in another data centre
   early_counted : (s m : ℕ) (u : BegunBallot) → Among u (w.shards s).ballots → Among (vote_of u.txn m) (w.shards s).early → Among (vote_of u.txn m) (w.shards s).votes
   early_counted s m u i v =
-      elim ((live.shards s).entries.ballots u i) [
+      elim ((live.shards s).entries.ballots u i).1 [
         | inl none ↦ (live.shards s).counted u (vote_of u.txn m) i none v refl
         | inr y ↦
             let o = (live.shards s).entries.early (vote_of u.txn m) v in
