@@ -49,3 +49,5 @@ pub mod Submissions
 pub mod Settling
 pub mod SettledAway
 pub mod SettledShards
+pub mod SettledTables
+pub mod Settles
