@@ -15,6 +15,8 @@ pub mod Underway
 pub mod LiveGrow
 pub mod Onwards
 pub mod HandledOnwards
+pub mod LivePlaces
+pub mod LiveDecides
 pub mod SameNewest
 pub mod RowTests
 pub mod NodeNumbers
