@@ -53,3 +53,4 @@ pub mod SettledAway
 pub mod SettledShards
 pub mod SettledTables
 pub mod Settles
+pub mod OpenReads
