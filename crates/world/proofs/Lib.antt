@@ -54,3 +54,4 @@ pub mod SettledShards
 pub mod SettledTables
 pub mod Settles
 pub mod OpenReads
+pub mod LiveSessions
