@@ -55,3 +55,4 @@ pub mod SettledTables
 pub mod Settles
 pub mod OpenReads
 pub mod LiveSessions
+pub mod LiveReads
