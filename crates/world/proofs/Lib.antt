@@ -56,3 +56,4 @@ pub mod Settles
 pub mod OpenReads
 pub mod LiveSessions
 pub mod LiveReads
+pub mod LiveHeard

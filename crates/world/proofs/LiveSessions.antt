@@ -35,6 +35,7 @@ pub record Comes (w x : Run) (node : ℕ) (st : SessionStep) : Type 0 where
   pub sent : (e : Envelope) → Among e w.sent → Among e x.sent
   pub news : (e : Envelope) → Among e st.sends → Among e x.sent
   pub submitted : (b : Submission) → Among b w.submitted → Among b x.submitted
+  pub transcript : (c : Completed) → Among c w.transcript → Among c x.transcript
   pub ended : (c : Completed) → Among c (newly_completed w.submitted node (w.sessions node) st.state) → Among c x.transcript
 
 -- what a session's step at a message leaves in the run after it
