@@ -17,6 +17,8 @@ pub mod Onwards
 pub mod HandledOnwards
 pub mod LivePlaces
 pub mod LiveDecides
+pub mod LiveHeld
+pub mod LiveVotes
 pub mod SameNewest
 pub mod RowTests
 pub mod NodeNumbers
