@@ -19,6 +19,7 @@ pub mod LivePlaces
 pub mod LiveDecides
 pub mod LiveHeld
 pub mod LiveVotes
+pub mod LiveYes
 pub mod SameNewest
 pub mod RowTests
 pub mod NodeNumbers
