@@ -20,6 +20,7 @@ pub mod LiveDecides
 pub mod LiveHeld
 pub mod LiveVotes
 pub mod LiveYes
+pub mod LiveCommits
 pub mod SameNewest
 pub mod RowTests
 pub mod NodeNumbers
