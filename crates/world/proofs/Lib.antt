@@ -21,6 +21,7 @@ pub mod LiveHeld
 pub mod LiveVotes
 pub mod LiveYes
 pub mod LiveCommits
+pub mod LiveReady
 pub mod SameNewest
 pub mod RowTests
 pub mod NodeNumbers

@@ -26,7 +26,7 @@ use Rattle.world.proofs.LiveDecides.{Here, Fine, Left, quiet_left, Rounds, Ballo
 -- ## A ballot is kept
 
 module _ (top : TopologyValue) (x : Run) (node n : ℕ) (a : ShardState) (b : BegunBallot) (counted : List Vote) (sends : List Envelope)
-    (live : ShardLive top x node a)
+    (entries : Entries top x node a) (once : EarlyCounted a)
     (here : Here x node (hold top node n a b counted sends))
     (from : (b.stamp ≡ None) ⊎ (Away top x node b.txn × ((c : ℕ) → Among c b.cohorts → Sent x.sent node (near top node c) (OfPrepareRemote b.txn))))
     (of : (v : Vote) → Among v counted → v.txn ≡ b.txn)
@@ -43,7 +43,7 @@ module _ (top : TopologyValue) (x : Run) (node n : ℕ) (a : ShardState) (b : Be
 
   hold_entries : Entries top x node (hold top node n a b counted sends).state
   hold_entries =
-      let e = live.entries in
+      let e = entries in
       let known = hold_known in
       let ballot = has_ballot in
       record {
@@ -63,7 +63,7 @@ module _ (top : TopologyValue) (x : Run) (node n : ℕ) (a : ShardState) (b : Be
   hold_counted : EarlyCounted (hold top node n a b counted sends).state
   hold_counted u v m s i q =
       elim (last_or_old u b a.ballots m) [
-        | inl o ↦ append_first v a.votes counted (live.counted u v o s i q)
+        | inl o ↦ append_first v a.votes counted (once u v o s i q)
         | inr z ↦ append_second v a.votes counted (early (ap (λ (y : BegunBallot). y.stamp) (sym z) ∙ s) v i (q ∙ ap (λ (y : BegunBallot). y.txn) z))
       ]
 

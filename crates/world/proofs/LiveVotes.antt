@@ -81,13 +81,13 @@ module _ (top : TopologyValue) (w x : Run) (node n : ℕ) (some : 0 < top.shards
         | inl o ↦ absurd (unvoted (vote_of b.txn (near top node c)) o refl)
         | inr o ↦ (filter_only (λ v. is_same_txn v.txn b.txn) (w.shards node).early (vote_of b.txn (near top node c)) o).0
       ])) in (
-        hold_left top x node n (w.shards node) b counted [] kx here (inl none) of early missing
+        hold_left top x node n (w.shards node) b counted [] kx.entries kx.counted here (inl none) of early missing
             (λ u m i. kx.voted u m (λ c j. elim (among_append (vote_of u.txn (near top node c)) (w.shards node).votes counted (i c j)) [
               | inl o ↦ o
               | inr o ↦ absurd (unbegun b.txn (w.shards node) e u m (of (vote_of u.txn (near top node c)) o))
             ]))
             (λ r m i j. inl (kx.ready r m i j)) (λ e m. absurd m),
-        inl (hold_known top x node n (w.shards node) b counted [] kx here (inl none) of early missing),
+        inl (hold_known top x node n (w.shards node) b counted [] kx.entries kx.counted here (inl none) of early missing),
       )
 
   pub begin_left : (b : BegunBallot) → b.stamp ≡ None → BallotAt top x node b
