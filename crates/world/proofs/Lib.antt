@@ -17,6 +17,11 @@ pub mod Onwards
 pub mod HandledOnwards
 pub mod LivePlaces
 pub mod LiveDecides
+pub mod LiveHeld
+pub mod LiveVotes
+pub mod LiveYes
+pub mod LiveCommits
+pub mod LiveReady
 pub mod SameNewest
 pub mod RowTests
 pub mod NodeNumbers

@@ -123,7 +123,7 @@ ballot_at {top = top} {x = x} {node = node} {n = n} {b = b} k =
       origin = fits_origin top x node n k.submission k.batch b.stamp k.stamp;
     }
 
-some_none : (s : StampValue) → Some s ≡ None → ⊥
+pub some_none : (s : StampValue) → Some s ≡ None → ⊥
 some_none s e = cc
 
 pub kept_at : {top : TopologyValue} {x : Run} {node n : ℕ} {r : KeptBallot} → KeptBallotSound top x node n r → BallotAt top x node (ballot_of r)
