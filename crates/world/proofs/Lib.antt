@@ -62,3 +62,4 @@ pub mod OpenReads
 pub mod LiveSessions
 pub mod LiveReads
 pub mod LiveHeard
+pub mod Seats
