@@ -63,3 +63,4 @@ pub mod LiveSessions
 pub mod LiveReads
 pub mod LiveHeard
 pub mod Seats
+pub mod Addresses
