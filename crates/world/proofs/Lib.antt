@@ -64,3 +64,4 @@ pub mod LiveReads
 pub mod LiveHeard
 pub mod Seats
 pub mod Addresses
+pub mod SteppedLive
