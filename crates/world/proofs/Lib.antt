@@ -65,3 +65,4 @@ pub mod LiveHeard
 pub mod Seats
 pub mod Addresses
 pub mod SteppedLive
+pub mod SubmittedLive

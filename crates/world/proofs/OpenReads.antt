@@ -46,6 +46,10 @@ missing_some asked heard e =
     let r = all_false (was_heard heard) asked e in
     (r.0, and_from (list_any (λ s. s == r.0) asked) (not (was_heard heard r.0)) (asks asked r.0 r.1) (ap not r.2))
 
+-- at its begin all of its shards are missing
+pub first_missing : (asked : List ℕ) (node : ℕ) → Among node asked → is_missing asked [] node ≡ true
+first_missing asked node m = and_from (list_any (λ s. s == node) asked) (not (was_heard [] node)) (asks asked node m) refl
+
 -- what is missing after one more answer was missing before
 pub missing_before : (asked : List ℕ) (heard : List HeardNow) (h : HeardNow) (node : ℕ) → is_missing asked (heard ++ h ∷ []) node ≡ true → is_missing asked heard node ≡ true
 missing_before asked heard h node e =
