@@ -22,6 +22,7 @@ pub mod LiveVotes
 pub mod LiveYes
 pub mod LiveCommits
 pub mod LiveReady
+pub mod LiveInputs
 pub mod SameNewest
 pub mod RowTests
 pub mod NodeNumbers
