@@ -23,6 +23,7 @@ pub mod LiveYes
 pub mod LiveCommits
 pub mod LiveReady
 pub mod LiveInputs
+pub mod LiveReplicas
 pub mod SameNewest
 pub mod RowTests
 pub mod NodeNumbers

@@ -44,7 +44,7 @@ module _ (top : TopologyValue) (w x : Run) (node n : ℕ) (some : 0 < top.shards
       lead_beside top x some inv.submitted node t leads (record { submission = s.submission; batch = s.batch; written = written_at k.2 s.written; cohort = s.cohort })
 
   -- what a coordinator knows of a replicated transaction
-  known_replica : (t : TxnValue) → Leads top x node t → is_known t (w.shards node) ≡ true → HasKeptBallot (w.shards node) t ⊎ Known (x.shards node) t
+  pub known_replica : (t : TxnValue) → Leads top x node t → is_known t (w.shards node) ≡ true → HasKeptBallot (w.shards node) t ⊎ Known (x.shards node) t
   unfolding kx
   known_replica t leads e =
       elim (known_cases t (w.shards node) e) [
