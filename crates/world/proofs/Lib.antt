@@ -24,6 +24,7 @@ pub mod LiveCommits
 pub mod LiveReady
 pub mod LiveInputs
 pub mod LiveReplicas
+pub mod LiveHandled
 pub mod SameNewest
 pub mod RowTests
 pub mod NodeNumbers
