@@ -25,6 +25,7 @@ pub mod LiveReady
 pub mod LiveInputs
 pub mod LiveReplicas
 pub mod LiveHandled
+pub mod LiveWaits
 pub mod SameNewest
 pub mod RowTests
 pub mod NodeNumbers
