@@ -22,6 +22,10 @@ pub mod LiveVotes
 pub mod LiveYes
 pub mod LiveCommits
 pub mod LiveReady
+pub mod LiveInputs
+pub mod LiveReplicas
+pub mod LiveHandled
+pub mod LiveWaits
 pub mod SameNewest
 pub mod RowTests
 pub mod NodeNumbers

@@ -22,6 +22,11 @@ use Rattle.world.proofs.Underway.{HasPrepared, HasBallot, HasDecision, HasKeptPa
 
 -- ## Tests
 
+pub not_and : (p q : Bool) → (p && not q) ≡ false → p ≡ true → q ≡ true
+not_and true true e i = refl
+not_and true false e i = absurd (cc)
+not_and false q e i = absurd (false≢true i)
+
 pub same_at : (t u : TxnValue) → t ≡ u → is_same_txn t u ≡ true
 same_at t u e = subst (λ z. is_same_txn t z ≡ true) e (same_txn_self t)
 

@@ -17,14 +17,9 @@ use Rattle.world.proofs.StampsApart.{written_at, batch_one}
 use Rattle.world.proofs.About.{OfYes}
 use Rattle.world.proofs.Underway.{HasPrepared, HasBallot, HasDecision, Known, vote_of, Aside, Away, AtOrigin, Leads, Onward, RoleLive, Entries, EarlyCounted, Voted, ShardLive, Acted}
 use Rattle.world.proofs.LiveGrow.{decision_on, shard_on}
-use Rattle.world.proofs.LivePlaces.{same_at, txn_split, vote_from, all_voted_from, known_cases, lead_beside, away_origin, among_cohorts}
+use Rattle.world.proofs.LivePlaces.{not_and, same_at, txn_split, vote_from, all_voted_from, known_cases, lead_beside, away_origin, among_cohorts}
 use Rattle.world.proofs.LiveDecides.{Here, Left, quiet_left, Rounds, BallotAt, ballot_at, decide_left}
 use Rattle.world.proofs.LiveVotes.{standing_some, standing_none}
-
-not_and : (p q : Bool) → (p && not q) ≡ false → p ≡ true → q ≡ true
-not_and true true e i = refl
-not_and true false e i = absurd (cc)
-not_and false q e i = absurd (false≢true i)
 
 module _ (top : TopologyValue) (w x : Run) (node n : ℕ) (some : 0 < top.shards) (inv : Inv top x) (g : Onward top w x)
     (live : ShardLive top w node (w.shards node)) (rounds : Rounds x (w.shards node).waiting) where
