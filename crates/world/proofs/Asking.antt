@@ -1,9 +1,8 @@
 -- Which shards and which keys a read asks, and whether each asked shard was heard.
-use Rattle.std.proofs.Common.{◌≡◌, ℕ, zero, suc, ◌+◌, ◌<◌, Bool, true, false, ◌&&◌, not, List, [], ◌∷◌, ◌++◌, map, sum, ◌⊎◌, inl, inr, refl, sym, ap, ◌∙◌, subst, arith, eqb-true}
-use Rattle.std.specs.Prelude.{◌==◌, nat_le, nat_lt, flat_map, filter}
-use Rattle.std.specs.List.{list_any, list_all, range_with_len}
+use Rattle.std.proofs.Common.{◌≡◌, ℕ, zero, suc, ◌+◌, ◌<◌, true, not, List, [], ◌∷◌, sum, inl, inr, refl, sym, ap, ◌∙◌, subst, arith, eqb-true}
+use Rattle.std.specs.Prelude.{◌==◌, flat_map}
+use Rattle.std.specs.List.{list_any, range_with_len}
 use Rattle.std.proofs.lemmas.Bool.{and_parts}
-use Rattle.std.proofs.lemmas.Bool.Decides.{nat_tests}
 use Rattle.std.proofs.lemmas.Nat.{mod_below}
 use Rattle.slice.specs.declared.read.Read.{Read}
 use Rattle.planner.specs.Partition.{shard_of as shard_of_key}
@@ -52,18 +51,21 @@ missing_asked asked heard node e =
     let m = any_true (λ s. s == node) asked (and_parts (list_any (λ s. s == node) asked) (not (was_heard heard node)) e).0 in
     subst (λ s. Among s asked) (eqb-true m.0 node m.2) m.1
 
-pub missing_late : (asked : List ℕ) (time : ℕ) (first : List HeardNow) (heard : List HeardAt) (node : ℕ) → is_missing_at asked time first heard node ≡ true → Among node (late_nodes asked time first)
+pub missing_late : (asked : List ℕ) (time : ℕ) (first : List HeardNow) (heard : List HeardAt) (node : ℕ) → is_missing_at asked time first heard node ≡ true
+    → Among node (late_nodes asked time first)
 missing_late asked time first heard node e =
     let late = late_nodes asked time first in
     let m = any_true (λ s. s == node) late (and_parts (list_any (λ s. s == node) late) (not (was_heard_at heard node)) e).0 in
     subst (λ s. Among s late) (eqb-true m.0 node m.2) m.1
 
-pub heard_from : (asked : List ℕ) (heard : List HeardNow) → all_heard asked heard ≡ true → (node : ℕ) → Among node asked → (h : HeardNow) × Among h heard × (h.from ≡ node)
+pub heard_from : (asked : List ℕ) (heard : List HeardNow) → all_heard asked heard ≡ true → (node : ℕ) → Among node asked
+    → (h : HeardNow) × Among h heard × (h.from ≡ node)
 heard_from asked heard all node m =
     let r = any_true (λ h. h.from == node) heard (all_among (was_heard heard) asked all node m) in
     (r.0, r.1, eqb-true r.0.from node r.2)
 
-pub heard_late : (asked : List ℕ) (time : ℕ) (first : List HeardNow) (heard : List HeardAt) → all_heard_at asked time first heard ≡ true → (node : ℕ) → Among node (late_nodes asked time first) → (h : HeardAt) × Among h heard × (h.from ≡ node)
+pub heard_late : (asked : List ℕ) (time : ℕ) (first : List HeardNow) (heard : List HeardAt) → all_heard_at asked time first heard ≡ true → (node : ℕ)
+    → Among node (late_nodes asked time first) → (h : HeardAt) × Among h heard × (h.from ≡ node)
 heard_late asked time first heard all node m =
     let r = any_true (λ h. h.from == node) heard (all_among (was_heard_at heard) (late_nodes asked time first) all node m) in
     (r.0, r.1, eqb-true r.0.from node r.2)
@@ -71,21 +73,24 @@ heard_late asked time first heard all node m =
 -- ## Keys
 
 -- the shard of an asked key is asked
-pub key_asked : (top : TopologyValue) (a : SessionState) (read : Read) (key : List ℕ) → 0 < top.shards → Among key read.keys → Among (home_node top a (shard_of_key top.shards key)) (asked_nodes top a read)
+pub key_asked : (top : TopologyValue) (a : SessionState) (read : Read) (key : List ℕ) → 0 < top.shards → Among key read.keys
+    → Among (home_node top a (shard_of_key top.shards key)) (asked_nodes top a read)
 key_asked top a read key some m =
     let s = shard_of_key top.shards key in
     map_among (home_node top a) (shards_asked top.shards read.keys) s
     (contains_among s (shards_asked top.shards read.keys) (asked_shard top.shards read.keys key some (among_contains key read.keys m)))
 
 -- and it is asked for that key
-pub key_shared : (top : TopologyValue) (read : Read) (dc : ℕ) (key : List ℕ) → 0 < top.shards → Among key read.keys → Among key (keys_for top.shards read.keys (shard_of top (shard_node top dc (shard_of_key top.shards key))))
+pub key_shared : (top : TopologyValue) (read : Read) (dc : ℕ) (key : List ℕ) → 0 < top.shards → Among key read.keys
+    → Among key (keys_for top.shards read.keys (shard_of top (shard_node top dc (shard_of_key top.shards key))))
 key_shared top read dc key some m =
     let s = shard_of_key top.shards key in
     subst (λ i. Among key (keys_for top.shards read.keys i)) (sym (number_of_shard top dc s (key_below top.shards key some)))
     (contains_among key (keys_for top.shards read.keys s) (asked_key top.shards read.keys key (among_contains key read.keys m)))
 
 -- a key that an asked shard is asked for lies there
-pub shared_lies : (top : TopologyValue) (a : SessionState) (read : Read) (node : ℕ) (key : List ℕ) → Among node (asked_nodes top a read) → Among key (keys_for top.shards read.keys (shard_of top node)) → shard_node top a.home (shard_of_key top.shards key) ≡ node
+pub shared_lies : (top : TopologyValue) (a : SessionState) (read : Read) (node : ℕ) (key : List ℕ) → Among node (asked_nodes top a read)
+    → Among key (keys_for top.shards read.keys (shard_of top node)) → shard_node top a.home (shard_of_key top.shards key) ≡ node
 shared_lies top a read node key asked m =
     let q = map_only (home_node top a) (shards_asked top.shards read.keys) node asked in
     let own = (own_key top.shards (shard_of top node) read.keys key (among_contains key (keys_for top.shards read.keys (shard_of top node)) m)).0 in

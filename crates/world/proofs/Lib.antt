@@ -42,7 +42,6 @@ pub mod SessionEnds
 pub mod SessionsKept
 pub mod RowTimes
 pub mod AskedMarks
-pub mod Written
 pub mod Near
 pub mod Ables
 pub mod PartsKept
@@ -70,3 +69,6 @@ pub mod Seats
 pub mod Addresses
 pub mod SteppedLive
 pub mod SubmittedLive
+pub mod HandlesKept
+pub mod Events
+pub mod Runs

@@ -1,5 +1,5 @@
 -- A session's step that ends its operation, and one that leaves it open.
-use Rattle.std.proofs.Common.{◌≡◌, ℕ, ◌+◌, ◌<◌, ◌≤◌, List, [], ◌∷◌, ◌++◌, drop, length, Option, Some, None, inl, inr, refl, sym, ap, ap₂, ◌∙◌, subst, arith, le_refl, le_trans}
+use Rattle.std.proofs.Common.{◌≡◌, ℕ, ◌+◌, ◌<◌, ◌≤◌, List, [], ◌∷◌, Option, Some, None, inl, inr, refl, sym, ap, ap₂, ◌∙◌, subst, le_refl, le_trans}
 use Rattle.std.specs.Prelude.{filter_map, option_map, Contains}
 use Rattle.std.proofs.Math.Seq.{drop-append_seam, drop-length}
 use Rattle.logical_time.specs.Stamps.{TxnValue, WriterValue}
@@ -10,24 +10,16 @@ use Rattle.messages.specs.declared.outcome.Outcome.{Outcome}
 use Rattle.messages.specs.declared.envelope.Envelope.{Envelope}
 use Rattle.messages.specs.Topology.{TopologyValue}
 use Rattle.messages.specs.Words.{is_same_txn}
-use Rattle.messages.specs.Session.{SessionState, SessionStep, Open, Idle, Writing, FirstRound, SecondRound, HeardNow, HeardAt, Finished, calm}
+use Rattle.messages.specs.Session.{SessionState, Open, Idle, Writing, FirstRound, SecondRound, HeardNow, HeardAt, calm}
 use Rattle.messages.specs.SessionEvents.{ended}
-use Rattle.world.specs.Run.{Run, Submission, Completed, submission_of, completed_of, newly_completed}
+use Rattle.world.specs.Run.{Run, Submission, Completed, submission_of, completed_of}
 use Rattle.world.proofs.Among.{Among, among_contains, contains_among, find_some, same_txn}
 use Rattle.world.proofs.Growth.{FirstAsked, SecondAsked, Grows}
 use Rattle.world.proofs.Facts.{txn_of, IsDone}
 use Rattle.world.proofs.Invariant.{EnvelopeSound, IsOpen, HeardNowSound, HeardAtSound, OpenSound, SubmittedSound, EndSound, CompletedSound, Inv}
-use Rattle.world.proofs.Lasting.{same_shard_grows, same_session_grows, answers_now_grow}
+use Rattle.world.proofs.Lasting.{answers_now_grow}
+use Rattle.world.proofs.Ables.{same_run}
 use Rattle.world.proofs.SessionSteps.{SessionAble}
-
-pub same_run_grows : (top : TopologyValue) (w : Run) → Grows top w w
-same_run_grows top w =
-    record {
-      shards = λ m. same_shard_grows (w.shards m);
-      sessions = λ m. same_session_grows top (w.sessions m);
-      submitted = λ b m. m;
-      transcript = λ c m. m;
-    }
 
 -- ## What is newly completed
 
@@ -45,7 +37,8 @@ pub open_txn : {w : Run} {node m dc : ℕ} {o : Op} (k : IsOpen w node m dc o) �
 open_txn k = ap₂ (λ s n. record { session = s; number = n }) k.session k.number
 
 -- what ended is the operation that was open
-open_completed : (top : TopologyValue) (w : Run) (node m dc : ℕ) (o : Op) (out : Outcome) → SubmittedSound top w → IsOpen w node m dc o → EndSound o out top w dc (record { session = node; number = m })
+open_completed : (top : TopologyValue) (w : Run) (node m dc : ℕ) (o : Op) (out : Outcome) → SubmittedSound top w → IsOpen w node m dc o
+    → EndSound o out top w dc (record { session = node; number = m })
     → (s : Submission) → Among s w.submitted → txn_of s ≡ record { session = node; number = m } → CompletedSound top w (record { node = node; number = m; home = s.home; op = s.op; outcome = out })
 open_completed top w node m dc o out k b came s i e =
     let same : s ≡ b.submission = k.one s b.submission i b.among (e ∙ sym (open_txn b)) in
@@ -56,7 +49,8 @@ open_completed top w node m dc o out k b came s i e =
           (subst (λ z. EndSound o out top w z (record { session = node; number = m })) (sym (ap (λ z. z.home) same ∙ b.home)) came);
     }
 
-found_completed : (top : TopologyValue) (w : Run) (node m dc : ℕ) (o : Op) (out : Outcome) → SubmittedSound top w → IsOpen w node m dc o → EndSound o out top w dc (record { session = node; number = m })
+found_completed : (top : TopologyValue) (w : Run) (node m dc : ℕ) (o : Op) (out : Outcome) → SubmittedSound top w → IsOpen w node m dc o
+    → EndSound o out top w dc (record { session = node; number = m })
     → (c : Completed) → completed_of w.submitted node (record { number = m; outcome = out }) ≡ Some c → CompletedSound top w c
 found_completed top w node m dc o out k b came c e = go (submission_of w.submitted t) refl e
   where
@@ -74,12 +68,20 @@ found_completed top w node m dc o out k b came c e = go (submission_of w.submitt
         subst (λ z. CompletedSound top w z) same (open_completed top w node m dc o out k b came s i.0 (same_txn (txn_of s) t i.1))
 
 module _ (top : TopologyValue) (w : Run) (node n : ℕ) (inv : Inv top w) (le : (w.sessions node).clock ≤ n) where
+  -- the session before the message
+  abbrev a : SessionState
+  a = w.sessions node
+
+  -- after it, where its operation is open or another
+  abbrev later : Open → SessionState
+  later o = record (w.sessions node) { clock = n; current = o }
+
   -- the operation ends
-  pub ended_able : (floor : ℕ) (dependencies : List WriterValue) (out : Outcome) (o : Op) → (w.sessions node).floor ≤ floor → floor ≤ n → IsOpen w node (w.sessions node).count (w.sessions node).home o
-      → EndSound o out top w (w.sessions node).home (record { session = node; number = (w.sessions node).count })
-      → ((k : WriterValue) → Among k dependencies → IsDone top w (w.sessions node).home k.txn (floor + 1)) → ((k : WriterValue) → Among k dependencies → k.shard < top.shards) → SessionAble top w node (ended n (w.sessions node) floor dependencies out)
+  pub ended_able : (floor : ℕ) (dependencies : List WriterValue) (out : Outcome) (o : Op) → a.floor ≤ floor → floor ≤ n → IsOpen w node a.count a.home o
+      → EndSound o out top w a.home (record { session = node; number = a.count })
+      → ((k : WriterValue) → Among k dependencies → IsDone top w a.home k.txn (floor + 1))
+      → ((k : WriterValue) → Among k dependencies → k.shard < top.shards) → SessionAble top w node (ended n a floor dependencies out)
   ended_able floor dependencies out o above below b came done placed =
-      let a = w.sessions node in
       record {
         grows =
             record {
@@ -100,12 +102,11 @@ module _ (top : TopologyValue) (w : Run) (node n : ℕ) (inv : Inv top w) (le : 
       }
 
   -- the operation is left open
-  pub waits_able : (o : Open) (sends : List Envelope) → ((m : ℕ) (asked : Read) → FirstAsked top (w.sessions node).current m asked → FirstAsked top o m asked)
-      → ((time m : ℕ) (asked : Read) → SecondAsked (w.sessions node).current time m asked → SecondAsked o time m asked) → OpenSound top w node (record (w.sessions node) { clock = n; current = o }) o
-      → ((x : Run) → Grows top w x → x.sessions node ≡ record (w.sessions node) { clock = n; current = o } → (e : Envelope) → Among e sends → EnvelopeSound top x e)
-      → SessionAble top w node (record { state = record (w.sessions node) { clock = n; current = o }; sends = sends })
+  pub waits_able : (o : Open) (sends : List Envelope) → ((m : ℕ) (asked : Read) → FirstAsked top a.current m asked → FirstAsked top o m asked)
+      → ((time m : ℕ) (asked : Read) → SecondAsked a.current time m asked → SecondAsked o time m asked) → OpenSound top w node (later o) o
+      → ((x : Run) → Grows top w x → x.sessions node ≡ later o → (e : Envelope) → Among e sends → EnvelopeSound top x e)
+      → SessionAble top w node (record { state = later o; sends = sends })
   waits_able o sends asked_first asked_second sound send =
-      let a = w.sessions node in
       record {
         grows =
             record {
@@ -129,13 +130,14 @@ module _ (top : TopologyValue) (w : Run) (node n : ℕ) (inv : Inv top w) (le : 
 
   -- ## What was heard stays so as the clock moves
 
-  pub heard_now_later : (o : Open) (read : Read) (h : HeardNow) → HeardNowSound top w (w.sessions node) read h → HeardNowSound top w (record (w.sessions node) { clock = n; current = o }) read h
-  heard_now_later o read h k = record { asked = k.asked; answers = answers_now_grow (same_run_grows top w) le k.answers }
+  pub heard_now_later : (o : Open) (read : Read) (h : HeardNow) → HeardNowSound top w a read h → HeardNowSound top w (later o) read h
+  heard_now_later o read h k = record { asked = k.asked; answers = answers_now_grow (same_run top w) le k.answers }
 
-  pub heard_at_later : (o : Open) (read : Read) (time : ℕ) (first : List HeardNow) (h : HeardAt) → HeardAtSound top w (w.sessions node) read time first h → HeardAtSound top w (record (w.sessions node) { clock = n; current = o }) read time first h
+  pub heard_at_later : (o : Open) (read : Read) (time : ℕ) (first : List HeardNow) (h : HeardAt) → HeardAtSound top w a read time first h
+      → HeardAtSound top w (later o) read time first h
   heard_at_later o read time first h k = record { asked = k.asked; answers = k.answers }
 
-  open_later : (now o : Open) → OpenSound top w node (w.sessions node) o → OpenSound top w node (record (w.sessions node) { clock = n; current = now }) o
+  open_later : (now o : Open) → OpenSound top w node a o → OpenSound top w node (record a { clock = n; current = now }) o
   open_later now Idle k = tt
   open_later now (Writing coordinator) k = record { batch = k.batch; opened = k.opened; coordinator = k.coordinator }
   open_later now (FirstRound read heard) k = record { opened = k.opened; heard = λ h m. heard_now_later now read h (k.heard h m) }
@@ -150,7 +152,7 @@ module _ (top : TopologyValue) (w : Run) (node n : ℕ) (inv : Inv top w) (le : 
       }
 
   -- only the clock moves
-  pub calm_able : SessionAble top w node (calm n (w.sessions node))
+  pub calm_able : SessionAble top w node (calm n a)
   calm_able =
-      let now = (w.sessions node).current in
+      let now = a.current in
       waits_able now [] (λ m asked k. k) (λ time m asked k. k) (open_later now now (inv.sessions node).current) (λ x g at e m. absurd m)

@@ -1,7 +1,5 @@
 -- A submission keeps all: its messages are sound, and so is the operation that it opens.
-use Rattle.std.proofs.Common.{◌≡◌, ℕ, ◌+◌, ◌<◌, ◌≤◌, Bool, true, false, cond, List, [], ◌∷◌, ◌++◌, map, Option, Some, None, ◌⊎◌, inl, inr, refl, sym, ap, ◌∙◌, subst, arith, eqb-true, eq-eqb, le_refl, le_trans, le_of_lt, Ok}
-use Rattle.std.specs.Prelude.{◌==◌}
-use Rattle.logical_time.specs.Stamps.{TxnValue, WriterValue}
+use Rattle.std.proofs.Common.{◌≡◌, ℕ, ◌+◌, ◌<◌, ◌≤◌, List, [], ◌∷◌, None, ◌⊎◌, inl, inr, refl, sym, ap, ◌∙◌, subst, arith, le_refl, le_trans, le_of_lt, Ok}
 use Rattle.column_family.specs.declared.batch.Change.{Change}
 use Rattle.column_family.specs.Places.{normal_of}
 use Rattle.slice.specs.declared.read.Read.{Read}
@@ -10,16 +8,16 @@ use Rattle.messages.specs.declared.op.Op.{Op}
 use Rattle.messages.specs.declared.op.Op.TheVariants as op
 use Rattle.messages.specs.declared.body.Body.TheVariants as body
 use Rattle.messages.specs.declared.envelope.Envelope.{Envelope}
-use Rattle.messages.specs.Topology.{TopologyValue, dc_of, shard_of}
+use Rattle.messages.specs.Topology.{TopologyValue}
 use Rattle.messages.specs.Words.{envelope}
-use Rattle.messages.specs.Session.{SessionState, SessionStep, Open, FirstRound}
+use Rattle.messages.specs.Session.{SessionState, SessionStep, Open}
 use Rattle.messages.specs.Submitting.{next_txn, home_node, begin_of, prepare_of, write_begun, share_of, read_begun, begun, plan_fault}
 use Rattle.messages.proofs.Numbering.{dc_of_shard, number_of_shard}
 use Rattle.world.specs.Run.{Run, Submission, after_submission}
 use Rattle.world.proofs.Among.{Among, among_append, append_first, among_last, last_or_old, map_only}
-use Rattle.world.proofs.Growth.{FirstAsked, SecondAsked, AskedNow, AskedAt, SessionGrows, Grows}
-use Rattle.world.proofs.Facts.{txn_of, IsWritten, lead, IsDone, BallotSound}
-use Rattle.world.proofs.Invariant.{home, PrepareSound, EnvelopeSound, IsOpen, OpenSound, SessionSound, SubmittedSound, Inv}
+use Rattle.world.proofs.Growth.{AskedNow, SessionGrows, Grows}
+use Rattle.world.proofs.Facts.{txn_of, IsWritten, lead, IsDone}
+use Rattle.world.proofs.Invariant.{home, EnvelopeSound, IsOpen, OpenSound, SessionSound, SubmittedSound, Inv}
 use Rattle.world.proofs.Lasting.{same_shard_grows, done_grows}
 use Rattle.world.proofs.LastingAll.{says_grows, shard_grows, session_grows, completed_grows}
 use Rattle.world.proofs.ShardSteps.{actor_same}
@@ -207,7 +205,8 @@ module _ (top : TopologyValue) (w : Run) (node n : ℕ) (read : Read) (inv : Inv
   abbrev asking : Run
   asking = after_submission (Ok starts) w node (op.Read read)
 
-  read_sound : (s : ℕ) → Among s (shards_asked top.shards read.keys) → AskedNow top (asking.sessions node) starts.state.count (home_node top (w.sessions node) s) (share_of top read s)
+  read_sound : (s : ℕ) → Among s (shards_asked top.shards read.keys)
+      → AskedNow top (asking.sessions node) starts.state.count (home_node top (w.sessions node) s) (share_of top read s)
   read_sound s m =
       let number = number_of_shard top (w.sessions node).home s (asked_below top.shards read.keys s m) in
       subst (λ z. AskedNow top z starts.state.count (home_node top (w.sessions node) s) (share_of top read s)) (sym (actor_same w.sessions node starts.state))
@@ -226,11 +225,13 @@ module _ (top : TopologyValue) (w : Run) (node n : ℕ) (read : Read) (inv : Inv
 
 -- ## Every operation
 
-pub begun_kept : (top : TopologyValue) (w : Run) (node n : ℕ) (o : Op) → 0 < top.shards → Inv top w → (w.sessions node).clock < n → plan_fault top o ≡ None → Inv top (after_submission (Ok (begun top node n (w.sessions node) o)) w node o)
+pub begun_kept : (top : TopologyValue) (w : Run) (node n : ℕ) (o : Op) → 0 < top.shards → Inv top w → (w.sessions node).clock < n → plan_fault top o ≡ None
+    → Inv top (after_submission (Ok (begun top node n (w.sessions node) o)) w node o)
 begun_kept top w node n (op.Batch batch) some inv lt accepted = write_kept top w node n batch some inv lt accepted
 begun_kept top w node n (op.Read read) some inv lt accepted = read_kept top w node n read inv lt accepted
 
-pub begun_grows : (top : TopologyValue) (w : Run) (node n : ℕ) (o : Op) → Inv top w → (w.sessions node).clock < n → Grows top w (after_submission (Ok (begun top node n (w.sessions node) o)) w node o)
+pub begun_grows : (top : TopologyValue) (w : Run) (node n : ℕ) (o : Op) → Inv top w → (w.sessions node).clock < n
+    → Grows top w (after_submission (Ok (begun top node n (w.sessions node) o)) w node o)
 begun_grows top w node n (op.Batch batch) inv lt =
     let st = write_begun top node n (w.sessions node) batch in
     submission_grows top w node n (op.Batch batch) inv lt st.state.current st.sends
