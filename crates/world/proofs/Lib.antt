@@ -26,6 +26,7 @@ pub mod LiveInputs
 pub mod LiveReplicas
 pub mod LiveHandled
 pub mod LiveWaits
+pub mod HandledWaits
 pub mod SameNewest
 pub mod RowTests
 pub mod NodeNumbers
