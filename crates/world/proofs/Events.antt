@@ -29,7 +29,7 @@ same_kept : (top : TopologyValue) (w : Run) → Inv top w → Kept top w w
 same_kept top w inv = (inv, same_run top w)
 
 -- the clock moves above what it showed and above the time of the message
-ticked_above : (c t n : ℕ) → ticked c t ≡ Some n → (c < n) × (t < n)
+pub ticked_above : (c t n : ℕ) → ticked c t ≡ Some n → (c < n) × (t < n)
 ticked_above c t n e = go (nat_lt (max c t + 1) (2 ^ 48)) e
   where
     go : (b : Bool) → cond b (Some (max c t + 1)) None ≡ Some n → (c < n) × (t < n)

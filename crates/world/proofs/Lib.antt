@@ -73,3 +73,4 @@ pub mod SubmittedLive
 pub mod HandlesKept
 pub mod Events
 pub mod Runs
+pub mod LiveEvents
