@@ -6,7 +6,7 @@ use Rattle.logical_time.specs.Stamps.{StampValue, TxnValue, WriterValue, is_olde
 use Rattle.column_family.specs.History.{History}
 use Rattle.slice.specs.declared.read.Read.{Read}
 use Rattle.messages.specs.declared.rows_at.RowAt.{RowAt}
-use Rattle.messages.specs.Topology.{TopologyValue, dc_of, shard_of, shard_node}
+use Rattle.messages.specs.Topology.{TopologyValue, is_topology, dc_of, shard_of, shard_node}
 use Rattle.messages.specs.Shard.{Decision}
 use Rattle.messages.proofs.Numbering.{shard_again}
 use Rattle.world.specs.Run.{Run, Event, Completed, run, opening}
@@ -14,6 +14,8 @@ use Rattle.world.specs.Histories.{decisions_in, IsHistory}
 use Rattle.world.specs.Before.{ReadRestsOn, Past}
 use Rattle.world.specs.Committed.{IsCommittedBy}
 use Rattle.world.specs.Entries.{StampsAgree, WritesAreTold, TellsDecided, AreNamedOnce, CoordinatorsDecide}
+use Rattle.world.specs.Quiet.{IsQuiet}
+use Rattle.world.specs.Settled.{Settled}
 use Rattle.world.specs.Promises.{ReadsShowOneTable, ReadsShowTheirPast, ReadsAreFresh, StampsFollowCauses, TimesNeverFall, OperationsEndOnce, HistoriesGrow, HandledIsHonest}
 use Rattle.world.proofs.Among.{Among, among_contains, contains_among}
 use Rattle.world.proofs.Growth.{Grows}
@@ -32,6 +34,9 @@ use Rattle.world.proofs.Runs.{every_run, run_grows, run_after}
 use Rattle.world.proofs.KeptEntries.{history_kept, stamps_agree, writes_are_told}
 use Rattle.world.proofs.Histories.{history_tells, named_once, coordinators_decide}
 use Rattle.world.proofs.HonestLists.{handled_honest}
+use Rattle.world.proofs.Settles.{settled}
+use Rattle.world.proofs.Addresses.{stands}
+use Rattle.world.proofs.LiveEvents.{run_live}
 use Rattle.world.proofs.FreshReads.{completed_fresh}
 
 pub reads_show_one_table : (top : TopologyValue) (events : List Event) → 0 < top.shards → ReadsShowOneTable top (run top events)
@@ -130,3 +135,10 @@ handled_is_honest top events some node = handled_honest top (run top events) nod
 pub reads_are_fresh : (top : TopologyValue) (events : List Event) → 0 < top.shards → ReadsAreFresh top (run top events)
 reads_are_fresh top events some c has =
     completed_fresh top some (λ xs. every_run top xs some) (λ xs ys. prefix_grows top xs ys some) (λ xs. every_causal top xs some) events c has
+
+-- ## Quiet runs
+
+pub quiet_means_done : (top : TopologyValue) (events : List Event) → is_topology top.dcs top.shards top.homes ≡ true → IsQuiet (run top events) → Settled top (run top events)
+quiet_means_done top events ok quiet =
+    let some = (stands top ok).some in
+    settled top (run top events) some (every_run top events some) (run_live top events ok) (every_causal top events some) quiet

@@ -139,7 +139,7 @@ module _ (top : TopologyValue) (w : Run) (node n : ℕ) (some : 0 < top.shards) 
           (λ t m asked k. absurd (subst (λ z. SecondAsked z t m asked) current k)) (record { opened = opened; heard = sound (FirstRound read hs) }) (λ x g is env m. absurd m) (sym (ap is_idle current))
 
     -- the answers that were kept before, and this one
-    more_heard : (from number time : ℕ) (rows : List RowNow) → time ≤ n → ((h : HeardNow) → Among h old → HeardNowSound top w a read h)
+    pub more_heard : (from number time : ℕ) (rows : List RowNow) → time ≤ n → ((h : HeardNow) → Among h old → HeardNowSound top w a read h)
         → TellsNow top w from node time number rows
         → number ≡ a.count → Among from (asked_nodes top a read)
         → (o : Open) (h : HeardNow) → Among h (old ++ record { from = from; rows = rows } ∷ []) → HeardNowSound top w (later o) read h
@@ -181,7 +181,7 @@ module _ (top : TopologyValue) (w : Run) (node n : ℕ) (some : 0 < top.shards) 
   -- ## PartAt
 
   module _ (read : Read) (time : ℕ) (first : List HeardNow) (old : List HeardAt) (current : a.current ≡ SecondRound read time first old) (k : SecondSound top w node a read time first old) where
-    first_later : (o : Open) (h : HeardNow) → Among h first → HeardNowSound top w (later o) read h
+    pub first_later : (o : Open) (h : HeardNow) → Among h first → HeardNowSound top w (later o) read h
     first_later o h m = heard_now_later top w node n inv le o read h (k.first h m)
 
     above : a.floor ≤ time
@@ -198,7 +198,7 @@ module _ (top : TopologyValue) (w : Run) (node n : ℕ) (some : 0 < top.shards) 
         (record { opened = k.opened; first = first_later o; all = k.all; time = k.time; clock = le_trans k.clock le; heard = sound o }) (λ x g is env m. absurd m) (sym (ap is_idle current))
 
     -- the answers that were kept before, and this one
-    more_heard_at : (from number bound : ℕ) (rows : List RowAt) → TellsAt top w from node number bound rows → number ≡ a.count
+    pub more_heard_at : (from number bound : ℕ) (rows : List RowAt) → TellsAt top w from node number bound rows → number ≡ a.count
         → Among from (late_nodes (asked_nodes top a read) time first)
         → (o : Open) (h : HeardAt) → Among h (old ++ record { from = from; rows = rows } ∷ []) → HeardAtSound top w (later o) read time first h
     more_heard_at from number bound rows tells is asked o h m = by (last_or_old h (record { from = from; rows = rows }) old m)

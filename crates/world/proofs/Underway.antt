@@ -181,10 +181,11 @@ RoleLive Replica w node coordinator t = Sent w.sent node coordinator (OfYes t) �
 abbrev pub PreparedLive : TopologyValue → Run → ℕ → PreparedPart → Type 0
 PreparedLive top w node p = RoleLive p.role w node (near top node p.coordinator) p.txn
 
--- a ballot of another data centre has asked its cohorts
+-- a ballot has its own part prepared, and that of another data centre has asked its cohorts
 abbrev pub BallotLive : TopologyValue → Run → ℕ → BegunBallot → Type 0
 BallotLive top w node b =
-    (b.stamp ≡ None) ⊎ (Away top w node b.txn × ((c : ℕ) → Among c b.cohorts → Sent w.sent node (near top node c) (OfPrepareRemote b.txn)))
+    HasPrepared (w.shards node) b.txn
+    × ((b.stamp ≡ None) ⊎ (Away top w node b.txn × ((c : ℕ) → Among c b.cohorts → Sent w.sent node (near top node c) (OfPrepareRemote b.txn))))
 
 pub record KeptPartLive (top : TopologyValue) (w : Run) (node : ℕ) (k : KeptPart) : Type 0 where
   pub away : Away top w node k.txn
@@ -225,7 +226,8 @@ pub record Entries (top : TopologyValue) (w : Run) (node : ℕ) (b : ShardState)
   pub kept_ballots : (r : KeptBallot) → Among r b.kept_ballots → KeptBallotLive top w node r
   -- nobody votes before the coordinator of another data centre asks
   pub early : (v : Vote) → Among v b.early → AtOrigin top w node v.txn
-  pub votes : (v : Vote) → Among v b.votes → AtOrigin top w node v.txn ⊎ Known (w.shards node) v.txn
+  -- votes are counted for a ballot
+  pub votes : (v : Vote) → Among v b.votes → HasBallot (w.shards node) v.txn
   pub notices : (v : Vote) → Among v b.notices → HasKeptPart (w.shards v.node) v.txn
   pub decided : (d : Decision) → Among d b.decided → DecisionLive top w node d
   pub applied : (v : Applied) → Among v b.applied → AppliedLive top w node v
@@ -259,18 +261,18 @@ pub record ShardLive (top : TopologyValue) (w : Run) (node : ℕ) (b : ShardStat
 -- what a message rests on
 abbrev pub SaysLive : TopologyValue → Run → ℕ → ℕ → Kind → Type 0
 SaysLive top w from to (OfPrepare t) = Aside top w to t × AtOrigin top w to t
-SaysLive top w from to (OfYes t) = AtOrigin top w to t ⊎ Known (w.shards to) t
+SaysLive top w from to (OfYes t) = (AtOrigin top w to t ⊎ Known (w.shards to) t) × Aside top w from t × Leads top w to t × (dc_of top from ≡ dc_of top to)
 SaysLive top w from to (OfCommit t) = HasPrepared (w.shards to) t × Aside top w to t
 SaysLive top w from to (OfDone t) = to ≡ t.session
 SaysLive top w from to (OfReplBegin t) = Away top w to t × (dc_of top to < top.dcs)
 SaysLive top w from to (OfReplPart t) = Aside top w to t × Away top w to t × (dc_of top to < top.dcs)
-SaysLive top w from to (OfNotify t) = HasKeptPart (w.shards from) t
+SaysLive top w from to (OfNotify t) = HasKeptPart (w.shards from) t × Leads top w to t × (dc_of top from ≡ dc_of top to)
 SaysLive top w from to (OfPrepareRemote t) = HasKeptPart (w.shards to) t × Known (w.shards from) t × Leads top w from t × (dc_of top from ≡ dc_of top to)
 SaysLive top w from to (OfDepCheck dependency waiter) = Leads top w to dependency × (dc_of top to < top.dcs) × Awaits (w.shards from) waiter dependency
 SaysLive top w from to (OfDepOk dependency waiter) = Awaits (w.shards to) waiter dependency
-SaysLive top w from to (OfRead number) = number ≤ (w.sessions from).count
+SaysLive top w from to (OfRead number) = (number ≤ (w.sessions from).count) × (dc_of top to < top.dcs)
 SaysLive top w from to (OfPartNow number) = number ≤ (w.sessions to).count
-SaysLive top w from to (OfReadAt number time) = Round (w.sessions from) number time
+SaysLive top w from to (OfReadAt number time) = Round (w.sessions from) number time × (dc_of top to < top.dcs)
 SaysLive top w from to (OfPartAt number time) = Round (w.sessions to) number time
 SaysLive top w from to other = Unit {0}
 

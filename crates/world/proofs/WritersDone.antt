@@ -37,7 +37,7 @@ module _ (top : TopologyValue) (w : Run) (some : 0 < top.shards) (inv : Inv top 
       }
 
   -- a writer of a right row applied a part of its transaction by then
-  writer_applied : (node time : ℕ) (read : Read) (r : RowAt) → RowAtSound top w node time read r → (k : WriterValue) → Among k r.writers
+  pub writer_applied : (node time : ℕ) (read : Read) (r : RowAt) → RowAtSound top w node time read r → (k : WriterValue) → Among k r.writers
       → (v : Applied) × AppliedSound top w node v × (v.commit ≤ time) × (v.part.writer ≡ k)
   writer_applied node time read r s k m = go ((s.shown.writers k).0 (among_contains k r.writers m))
     where
@@ -61,7 +61,7 @@ module _ (top : TopologyValue) (w : Run) (some : 0 < top.shards) (inv : Inv top 
       subst (λ c. c < top.shards) (sym v.1.coordinator ∙ ap (λ u. u.shard) v.3) (coordinator_below top.shards v.1.batch some)
 
   -- what a session depends on after a read: what it depended on, and what the rows rest on
-  cases : (rows : List RowAt) (old : List WriterValue) (k : WriterValue) → Among k (with_writers old rows)
+  pub cases : (rows : List RowAt) (old : List WriterValue) (k : WriterValue) → Among k (with_writers old rows)
       → Among k old ⊎ ((r : RowAt) × Among r rows × Among k r.writers)
   cases rows old k m = elim (among_append k old (flat_map (λ r. r.writers) rows) listed) [ inl o ↦ inl o | inr n ↦ inr (flat_only (λ r. r.writers) rows k n) ]
     where

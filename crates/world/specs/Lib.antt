@@ -8,3 +8,4 @@ pub mod Worked
 pub mod Committed
 pub mod Entries
 pub mod Promises
+pub mod Settled

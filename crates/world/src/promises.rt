@@ -1,10 +1,12 @@
 //! The promises of every run, as laws of the protocol's definitions: over all lists of events, all numbers of data centres,
 //! shards and sessions, with messages repeated, reordered and lost, and with collections.
-ghost use Rattle.std.specs.Prelude.{◌<◌, ℕ, List};
+ghost use Rattle.std.specs.Prelude.{◌≡◌, ◌<◌, ℕ, true, List};
 ghost use Rattle.column_family.specs.History.{History};
-ghost use Rattle.messages.specs.Topology.{TopologyValue};
+ghost use Rattle.messages.specs.Topology.{TopologyValue, is_topology};
 ghost use Rattle.world.specs.Run.{Event, run};
 ghost use Rattle.world.specs.Histories.{IsHistory};
+ghost use Rattle.world.specs.Quiet.{IsQuiet};
+ghost use Rattle.world.specs.Settled.{Settled};
 ghost use Rattle.world.specs.Entries.{TellsDecided, AreNamedOnce, CoordinatorsDecide, StampsAgree, WritesAreTold};
 ghost use Rattle.world.specs.Promises.{ReadsShowOneTable, ReadsShowTheirPast, ReadsAreFresh, StampsFollowCauses, TimesNeverFall, OperationsEndOnce, HistoriesGrow, HandledIsHonest};
 
@@ -75,4 +77,12 @@ pub fn times_of_a_session_never_fall()
 #[tactic(auto, using(crate::proofs::Laws::handled_is_honest))]
 pub fn handled_envelopes_are_honest()
     ensures { (top : TopologyValue) (events : List Event) → 0 < top.shards → HandledIsHonest top (run top events) }
+{}
+
+/// Quiet means done: in every run in which each sent message has been handled at least once, every submitted operation has
+/// its outcome, every submitted batch is committed in every data centre, no mark, prepared part, ballot or waiting check is
+/// left, and the tables of all data centres are equal at every time not below all commit times. Does nothing; its contract
+/// is the law.
+pub fn quiet_means_done()
+    ensures { (top : TopologyValue) (events : List Event) → is_topology top.dcs top.shards top.homes ≡ true → IsQuiet (run top events) → Settled top (run top events) }
 {}
