@@ -65,3 +65,11 @@ pub ended_back : (f : First) (from : ℕ) (rows : List RowNow) (s : Second) → 
 ended_back f from rows s e =
     let h = ended f from rows s e in
     ap (λ r. record f { read = r; asked = s.asked }) h.read ∙ ap (λ nodes. record f { asked = nodes }) h.asked
+
+missing_if : (b : Bool) (f : First) (from : ℕ) (rows : List RowNow) (s : Second) → in_first.Second s ≡ taken.first_taken_if b f from rows → b ≡ true
+missing_if true f from rows s e = refl
+missing_if false f from rows s e = absurd (cc)
+
+pub ended_missing : (f : First) (from : ℕ) (rows : List RowNow) (s : Second) → in_first.Second s ≡ taken.first_taken f from rows
+    → rounds.is_missing f.asked f.heard from ≡ true
+ended_missing f from rows s e = missing_if (rounds.is_missing f.asked f.heard from) f from rows s e

@@ -6,3 +6,5 @@ pub mod HeardNow
 pub mod Opening
 pub mod RightAnswers
 pub mod Ended
+pub mod Ignored
+pub mod SameNode

@@ -1,9 +1,11 @@
 //! Answers of the first round of a read.
-ghost use Rattle.std.specs.Prelude.{◌≡◌, ◌<◌, List, [], ◌∷◌, ◌++◌, length, map, IfOk, OnOk, OnErr, IfErr};
+ghost use Rattle.std.specs.Prelude.{◌≡◌, ◌<◌, false, List, [], ◌∷◌, ◌++◌, length, map, IsOk, IfOk, OnOk, OnErr, IfErr};
 ghost use Rattle.messages.specs.Session.{HeardNow};
+ghost use Rattle.messages.specs.Rounds.{is_missing};
 ghost use Rattle.read_txn.specs.States.{asked_again};
 ghost use Rattle.read_txn.specs.Taken.{first_taken};
 ghost use Rattle.client.specs.declared.current.Current.TheVariants.{Idle, First, Second};
+ghost use Rattle.client.specs.Ignored.{heeds_now};
 ghost use Rattle.client.specs.Steps as steps;
 
 use crate::current::Current;
@@ -54,12 +56,7 @@ fn late_reads(kept: &Kept, time: Time, round: &SecondRound) -> Result<Vec<Envelo
 }
 
 /// Sends what the second round asks.
-fn ask_again(
-    kept: &Kept,
-    time: Time,
-    round: &SecondRound,
-    outbox: &mut Outbox,
-) -> Result<(), Fault>
+fn ask_again(kept: &Kept, time: Time, round: &SecondRound, outbox: &mut Outbox) -> Result<(), Fault>
     ensures sends { OnOk result (outbox.new.sent ≡ outbox.old.sent ++ map (steps.read_late time kept.now round.now) (asked_again round.now.asked round.now.time round.now.first)) }
     ensures unsent { OnErr result (outbox.new.sent ≡ outbox.old.sent) }
     ensures memory { IfErr result (λ e. e ≡ Fault.Memory) }
@@ -104,7 +101,7 @@ fn open_second(
 }
 
 /// PartNow in a first round, which was taken out: it is heard if it is of the open read.
-#[tactic(auto, using(crate::proofs::Ended::ended_heard, crate::proofs::Ended::ended_some, crate::proofs::Ended::ended_back))]
+#[tactic(auto, using(crate::proofs::Ended::ended_heard, crate::proofs::Ended::ended_some, crate::proofs::Ended::ended_back, crate::proofs::Ended::ended_missing))]
 fn first(
     kept: &mut Kept,
     clock: Clock,
@@ -116,6 +113,7 @@ fn first(
     requires { kept.old.current ≡ Idle }
     ensures state { OnOk result (kept.new ≡ steps.after_now (first_taken round from rows) clock kept.old) }
     ensures sends { OnOk result (outbox.new.sent ≡ outbox.old.sent ++ steps.sent_now (first_taken round from rows) clock kept.old) }
+    ensures unasked { is_missing round.asked round.heard from ≡ false → IsOk result }
     ensures same { OnErr result (kept.new ≡ record kept.old { current = First round }) }
     ensures unsent { OnErr result (outbox.new.sent ≡ outbox.old.sent) }
     ensures memory { IfErr result (λ e. e.0 ≡ Fault.Memory) }
@@ -139,6 +137,7 @@ fn first(
         }
     }
 }
+
 /// PartNow: heard where it is of the open read in its first round.
 pub(crate) fn part_now(
     kept: &mut Kept,
@@ -150,6 +149,7 @@ pub(crate) fn part_now(
 ) -> Result<(), (Fault, RowsNow)>
     ensures state { OnOk result (kept.new ≡ steps.now_in kept.old.current clock kept.old from number rows) }
     ensures sends { OnOk result (outbox.new.sent ≡ outbox.old.sent ++ steps.sent_in kept.old.current clock kept.old from number rows) }
+    ensures ignored { heeds_now kept.old.current kept.old from number ≡ false → IsOk result }
     ensures same { OnErr result (kept.new ≡ kept.old) }
     ensures unsent { OnErr result (outbox.new.sent ≡ outbox.old.sent) }
     ensures memory { IfErr result (λ e. e.0 ≡ Fault.Memory) }

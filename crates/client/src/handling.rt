@@ -1,6 +1,7 @@
 //! Envelopes.
-ghost use Rattle.std.specs.Prelude.{◌≡◌, ◌+◌, ◌^◌, ◌<◌, ◌++◌, max, OnOk, OnErr, IfErr};
+ghost use Rattle.std.specs.Prelude.{◌≡◌, ◌+◌, ◌^◌, ◌<◌, ◌++◌, max, false, IsOk, OnOk, OnErr, IfErr};
 ghost use Rattle.messages.specs.Clock.{ticked};
+ghost use Rattle.client.specs.Ignored.{heeds};
 ghost use Rattle.client.specs.Represents.{IsSpentOrMemory};
 ghost use Rattle.client.specs.Steps as steps;
 
@@ -23,6 +24,7 @@ fn hear(
 ) -> Result<(), (Fault, Body)>
     ensures state { OnOk result (kept.new ≡ steps.heard_kept clock kept.old from body) }
     ensures sends { OnOk result (outbox.new.sent ≡ outbox.old.sent ++ steps.heard_sends clock kept.old from body) }
+    ensures ignored { heeds kept.old from body ≡ false → IsOk result }
     ensures same { OnErr result (kept.new ≡ kept.old) }
     ensures unsent { OnErr result (outbox.new.sent ≡ outbox.old.sent) }
     ensures memory { IfErr result (λ e. e.0 ≡ Fault.Memory) }
@@ -70,6 +72,7 @@ pub(crate) fn handle(
     ensures state { OnOk result (kept.new ≡ steps.heard_kept (max kept.old.clock envelope.time + 1) kept.old envelope.from envelope.body) }
     ensures sends { OnOk result (outbox.new.sent ≡ outbox.old.sent ++ steps.heard_sends (max kept.old.clock envelope.time + 1) kept.old envelope.from envelope.body) }
     ensures refused { IfErr result (λ r. IsSpentOrMemory (ticked kept.old.clock envelope.time) r.fault) }
+    ensures ignored { heeds kept.old envelope.from envelope.body ≡ false → IfErr result (λ r. r.fault ≡ Fault.ClockSpent) }
     ensures same { OnErr result (kept.new ≡ kept.old) }
     ensures unsent { OnErr result (outbox.new.sent ≡ outbox.old.sent) }
     ensures back { IfErr result (λ r. r.envelope ≡ envelope) }

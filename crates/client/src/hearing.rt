@@ -1,8 +1,9 @@
 //! Answers of shards.
-ghost use Rattle.std.specs.Prelude.{◌≡◌, true, OnOk, OnErr, IfErr};
+ghost use Rattle.std.specs.Prelude.{◌≡◌, true, false, IsOk, OnOk, OnErr, IfErr};
 ghost use Rattle.messages.specs.Words.{is_same_txn};
-ghost use Rattle.read_txn.specs.Taken.{second_taken};
+ghost use Rattle.read_txn.specs.Taken.{second_taken, is_awaited};
 ghost use Rattle.client.specs.declared.current.Current.TheVariants.{Idle, Second};
+ghost use Rattle.client.specs.Ignored.{heeds_done, heeds_at};
 ghost use Rattle.client.specs.Steps as steps;
 
 use crate::current::Current;
@@ -87,6 +88,7 @@ pub(crate) fn done(
     stamp: Stamp,
 ) -> Result<(), Fault>
     ensures state { OnOk result (kept.new ≡ steps.done_in kept.old.current clock kept.old txn commit stamp) }
+    ensures ignored { heeds_done kept.old.current kept.old txn ≡ false → IsOk result }
     ensures same { OnErr result (kept.new ≡ kept.old) }
     ensures memory { IfErr result (λ e. e ≡ Fault.Memory) }
 {
@@ -150,6 +152,7 @@ fn second(
 ) -> Result<(), (Fault, AtTime)>
     requires { kept.old.current ≡ Idle }
     ensures state { OnOk result (kept.new ≡ steps.after_at (second_taken round from answer) clock kept.old) }
+    ensures unasked { is_awaited round from ≡ false → IsOk result }
     ensures same { OnErr result (kept.new ≡ record kept.old { current = Second round }) }
     ensures memory { IfErr result (λ e. e.0 ≡ Fault.Memory) }
     ensures back { IfErr result (λ e. e.1 ≡ answer) }
@@ -175,6 +178,7 @@ pub(crate) fn part_at(
     answer: AtTime,
 ) -> Result<(), (Fault, AtTime)>
     ensures state { OnOk result (kept.new ≡ steps.at_in kept.old.current clock kept.old from number answer) }
+    ensures ignored { heeds_at kept.old.current kept.old from number ≡ false → IsOk result }
     ensures same { OnErr result (kept.new ≡ kept.old) }
     ensures memory { IfErr result (λ e. e.0 ≡ Fault.Memory) }
     ensures back { IfErr result (λ e. e.1 ≡ answer) }

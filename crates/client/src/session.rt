@@ -4,6 +4,7 @@ ghost use Rattle.messages.specs.Topology.{TopologyValue, home_of};
 ghost use Rattle.messages.specs.Session.{SessionState, new_session};
 ghost use Rattle.messages.specs.Submitting.{session_submit};
 ghost use Rattle.messages.specs.SessionEvents.{session_handle, session_taken};
+ghost use Rattle.client.specs.Ignored.{IsIgnored};
 ghost use Rattle.client.specs.Represents.{Represents, IsStepOf, IsRefusalOf};
 ghost use Rattle.client.specs.Right.{AnswersRight};
 
@@ -88,6 +89,7 @@ impl Session {
             → OnOk result (IsStepOf (session_submit top self.old.node a op) top self.new outbox.old.sent outbox.new.sent) }
         ensures refused { (top : TopologyValue) (a : SessionState) → Represents self.old top a
             → IfErr result (λ e. IsRefusalOf (session_submit top self.old.node a op) e.0) }
+        ensures node { self.new.node ≡ self.old.node }
         ensures same { OnErr result (self.new ≡ self.old) }
         ensures unsent { OnErr result (outbox.new.sent ≡ outbox.old.sent) }
         ensures back { IfErr result (λ e. e.1 ≡ op) }
@@ -100,16 +102,20 @@ impl Session {
 
     /// Handles an envelope: Done of the open write, or a shard's answer to the open read; what else comes moves the clock
     /// alone. A session that completes a write or a read keeps its outcome. In the order of m log m for m rows, with the
-    /// last answer of a round. Refused with `ClockSpent` where the clock would leave its range, and with `Memory`; then
-    /// nothing changes, and the envelope is handed back.
-    #[tactic(auto, using(crate::proofs::HeardNow::handled, crate::proofs::HeardNow::handle_refused, crate::proofs::RightAnswers::answers_right))]
+    /// last answer of a round. Refused with `ClockSpent` where the clock would leave its range, and with `Memory`, but not
+    /// what is ignored; then nothing changes, and the envelope is handed back.
+    #[tactic(auto, using(crate::proofs::HeardNow::handled, crate::proofs::HeardNow::handle_refused, crate::proofs::RightAnswers::answers_right, crate::proofs::SameNode::node_stays))]
     pub fn handle(&mut self, envelope: Envelope, outbox: &mut Outbox) -> Result<(), Refused>
         ensures step { (top : TopologyValue) (a : SessionState) → Represents self.old top a
             → OnOk result (IsStepOf (session_handle top self.old.node a envelope) top self.new outbox.old.sent outbox.new.sent) }
         ensures refused { (top : TopologyValue) (a : SessionState) → Represents self.old top a
             → IfErr result (λ r. IsRefusalOf (session_handle top self.old.node a envelope) r.fault) }
+        // what is ignored needs no memory
+        ensures ignored { (top : TopologyValue) (a : SessionState) → Represents self.old top a → IsIgnored top self.old.node a envelope
+            → IfErr result (λ r. r.fault ≡ Fault.ClockSpent) }
         // a read that completes from right rows is answered right
         ensures right { OnOk result (AnswersRight self.old envelope self.new.untaken) }
+        ensures node { self.new.node ≡ self.old.node }
         ensures same { OnErr result (self.new ≡ self.old) }
         ensures unsent { OnErr result (outbox.new.sent ≡ outbox.old.sent) }
         ensures back { IfErr result (λ r. r.envelope ≡ envelope) }
@@ -124,6 +130,7 @@ impl Session {
     /// accepted since.
     pub fn take_answer(&mut self) -> Option<(u64, Outcome)>
         ensures answer { result ≡ self.old.untaken }
+        ensures node { self.new.node ≡ self.old.node }
         ensures state { self.new ≡ record self.old { untaken = None } }
         ensures taken { (top : TopologyValue) (a : SessionState) → Represents self.old top a → Represents self.new top (session_taken a) }
     {

@@ -1,16 +1,27 @@
-//! Worked cases with two shards.
+//! Worked cases: the rows b and a lie on the shards 0 and 1; b is valid from 3 to 4, a from 0 to 2. The session is node 2.
 use super::*;
 use column_family::{Batch, Change, Family, Key, Mutation, Name, Row, Schema, Value};
-use logical_time::{Fault, Node, Stamp, Time, TxnId};
-use messages::{Body, Envelope, Op, Outbox, Outcome, Topology};
+use logical_time::{Fault, Node, Stamp, Time, TxnId, Writers};
+use messages::{
+    AtTime, Body, Envelope, Op, Outbox, Outcome, RowAt, RowNow, RowsAt, RowsNow, Topology,
+};
+use slice::{Columns, Keys, Names, Predicate, Read};
 use std::alloc::Global;
 use std::test::Fail;
 
+fn time(number: u64) -> Result<Time, Fault> {
+    Time::new(number).ok_or(Fault::ClockSpent)
+}
+
+fn key(alloc: Global, bytes: &[u8]) -> Result<Key, Fault> {
+    Ok(Key::from_slice(alloc, bytes)?)
+}
+
 /// Inserts column x in a row.
-fn insertion(alloc: Global, family: &[u8], key: &[u8]) -> Result<Change, Fault> {
+fn insertion(alloc: Global, family: &[u8], row: &[u8]) -> Result<Change, Fault> {
     let row = Row {
         family: Family::from_slice(alloc, family)?,
-        key: Key::from_slice(alloc, key)?,
+        key: key(alloc, row)?,
     };
     let mutation = Mutation::Insert {
         name: Name::from_slice(alloc, b"x")?,
@@ -19,96 +30,217 @@ fn insertion(alloc: Global, family: &[u8], key: &[u8]) -> Result<Change, Fault> 
     Ok(Change { row, mutation })
 }
 
-/// A batch of two changes.
-fn batch(alloc: Global, first: Change, second: Change) -> Result<Op, Fault> {
+/// A batch that inserts in this row of `f` and then in the row a of a family.
+fn batch(alloc: Global, row: &[u8], family: &[u8]) -> Result<Op, Fault> {
+    let first = insertion(alloc, b"f", row)?;
+    let second = insertion(alloc, family, b"a")?;
     Ok(Op::Batch(Batch::from_changes(vec![in alloc; first, second]?)))
 }
 
-/// Two shards, the family `f`, and a session, which is node 2.
+/// A read of column x in the rows b, a and b.
+fn read(alloc: Global) -> Result<Op, Fault> {
+    let keys = vec![in alloc; key(alloc, b"b")?, key(alloc, b"a")?, key(alloc, b"b")?]?;
+    let names = vec![in alloc; Name::from_slice(alloc, b"x")?]?;
+    Ok(Op::Read(Read {
+        family: Family::from_slice(alloc, b"f")?,
+        keys: Keys::from_vec(keys),
+        predicate: Predicate::Names(Names::from_vec(names)),
+    }))
+}
+
+/// One data centre of two shards with the family `f`.
 fn topology(alloc: Global) -> Result<Topology, Fault> {
     let families = vec![in alloc; Family::from_slice(alloc, b"f")?]?;
-    let schema = Schema::new(families).ok_or(Fault::UnknownFamily)?;
+    let schema = Schema::new(families).ok_or(Fault::Script)?;
     Topology::new(1, 2, schema, vec![in alloc; 0u16]?)
 }
 
-/// Done of the first operation of node 2.
-fn done(time: u64) -> Result<Envelope, Fault> {
-    let time = Time::new(time).ok_or(Fault::ClockSpent)?;
-    Ok(Envelope {
-        from: Node::new(0),
-        to: Node::new(2),
-        time,
-        body: Body::Done {
-            txn: TxnId {
-                session: Node::new(2),
-                number: 1,
-            },
-            commit: time,
-            stamp: Stamp {
-                time,
-                node: Node::new(0),
-            },
-        },
-    })
-}
-
-/// What a session answers to two batches, and how many envelopes it sends.
-fn submitted(
-    alloc: Global,
-    session: &mut Session,
-    outbox: &mut Outbox,
-) -> Result<(bool, bool), Fault> {
-    let first = batch(alloc, insertion(alloc, b"f", b"b")?, insertion(alloc, b"f", b"a")?)?;
-    let accepted = session.submit(first, outbox).is_ok_and(|number| number == 1);
-    let second = batch(alloc, insertion(alloc, b"f", b"b")?, insertion(alloc, b"f", b"a")?)?;
-    let busy = match session.submit(second, outbox) {
-        Ok(_) => false,
-        Err((fault, _)) => fault == Fault::Busy,
-    };
-    Ok((accepted, busy))
-}
-
-/// Whether a batch of a key that is too long and then of an unknown family is refused for the key.
-fn refused_for_key(alloc: Global, session: &mut Session, outbox: &mut Outbox) -> Result<bool, Fault> {
-    let long = insertion(alloc, b"f", &[0u8; 1025])?;
-    let unknown = insertion(alloc, b"g", b"a")?;
-    match session.submit(batch(alloc, long, unknown)?, outbox) {
-        Ok(_) => Ok(false),
-        Err((fault, _)) => Ok(fault == Fault::KeyLength),
+fn new_session(alloc: Global) -> Result<Session, Fault> {
+    let topology = topology(alloc)?;
+    let node = Node::new(2);
+    match topology.home_of(node) {
+        Some(_) => Session::new(alloc, &topology, node),
+        None => Err(Fault::Script),
     }
 }
 
-#[test]
-fn write_is_submitted_once_and_answered_once(rt: HostRuntime) -> Result<(), Fail> {
-    let alloc = rt.alloc();
-    let topology = topology(alloc)?;
-    let mut session = Session::new(alloc, &topology, Node::new(2))?;
-    let mut outbox = Outbox::new(alloc);
-    let answers = submitted(alloc, &mut session, &mut outbox);
-    let handled = match done(3) {
-        Ok(envelope) => session.handle(envelope, &mut outbox).is_ok(),
-        Err(_) => false,
+/// What a shard sends to the session.
+fn from(shard: u16, body: Body) -> Result<Envelope, Fault> {
+    Ok(Envelope {
+        from: Node::new(shard),
+        to: Node::new(2),
+        time: time(4)?,
+        body,
+    })
+}
+
+/// Done of the operation of this number, committed at this time.
+fn done(number: u64, commit: u64) -> Result<Envelope, Fault> {
+    let commit = time(commit)?;
+    let node = Node::new(0);
+    let txn = TxnId {
+        session: Node::new(2),
+        number,
     };
-    let outcome = session.take_answer();
-    let again = session.take_answer();
+    let stamp = Stamp { time: commit, node };
+    from(0, Body::Done { txn, commit, stamp })
+}
+
+/// A shard's answer in the first round of a read: one row, valid between these times.
+fn part_now(
+    alloc: Global,
+    shard: u16,
+    number: u64,
+    row: &[u8],
+    valid: (u64, u64),
+) -> Result<Envelope, Fault> {
+    let row = RowNow {
+        key: key(alloc, row)?,
+        columns: Columns::new(alloc),
+        writers: Writers::from_vec(Vec::new(alloc)),
+        evt: time(valid.0)?,
+        lvt: time(valid.1)?,
+    };
+    let rows = RowsNow::from_vec(vec![in alloc; row]?);
+    from(shard, Body::PartNow { number, rows })
+}
+
+/// The answer of shard 1 in the second round of the first operation.
+fn part_at(alloc: Global) -> Result<Envelope, Fault> {
+    let row = RowAt {
+        key: key(alloc, b"a")?,
+        columns: Columns::new(alloc),
+        writers: Writers::from_vec(Vec::new(alloc)),
+    };
+    let answer = AtTime::Rows(RowsAt::from_vec(vec![in alloc; row]?));
+    let time = time(3)?;
+    from(
+        1,
+        Body::PartAt {
+            number: 1,
+            time,
+            answer,
+        },
+    )
+}
+
+fn submit(session: &mut Session, op: Op, outbox: &mut Outbox) -> Result<u64, Fault> {
+    match session.submit(op, outbox) {
+        Ok(number) => Ok(number),
+        Err((fault, _)) => Err(fault),
+    }
+}
+
+/// Whether the operation is refused with this fault and handed back.
+fn is_refused(session: &mut Session, op: Op, fault: Fault, outbox: &mut Outbox) -> bool {
+    match session.submit(op, outbox) {
+        Ok(_) => false,
+        Err((why, back)) => why == fault && matches!(&back, Op::Batch(_)),
+    }
+}
+
+fn handle(session: &mut Session, envelope: Envelope, outbox: &mut Outbox) -> Result<(), Fault> {
+    match session.handle(envelope, outbox) {
+        Ok(()) => Ok(()),
+        Err(refused) => Err(refused.fault),
+    }
+}
+
+/// The first round of a read, which is the operation of this number.
+fn first_round(
+    alloc: Global,
+    session: &mut Session,
+    number: u64,
+    outbox: &mut Outbox,
+) -> Result<(), Fault> {
+    submit(session, read(alloc)?, outbox)?;
+    let from_b = part_now(alloc, 0, number, b"b", (3, 4))?;
+    handle(session, from_b, outbox)?;
+    let from_a = part_now(alloc, 1, number, b"a", (0, 2))?;
+    handle(session, from_a, outbox)
+}
+
+/// A read at the floor 0 to its end, a write that is committed at 5, and the first round of a read at that floor. Gives
+/// what came of the read and of the write.
+fn worked(
+    alloc: Global,
+    session: &mut Session,
+    outbox: &mut Outbox,
+) -> Result<(Option<(u64, Outcome)>, bool), Fault> {
+    first_round(alloc, session, 1, outbox)?;
+    handle(session, part_at(alloc)?, outbox)?;
+    let answered = session.take_answer();
+    submit(session, batch(alloc, b"b", b"f")?, outbox)?;
+    handle(session, done(2, 5)?, outbox)?;
+    let wrote = matches!(session.take_answer(), Some((2, Outcome::Wrote { .. })));
+    first_round(alloc, session, 3, outbox)?;
+    Ok((answered, wrote))
+}
+
+/// The keys that a read shows.
+fn keys_shown(alloc: Global, outcome: &Option<(u64, Outcome)>) -> Result<Vec<u8>, Fault> {
+    let mut keys = Vec::new(alloc);
+    if let Some((_, Outcome::Read { answer, .. })) = outcome {
+        for row in answer.as_slice() {
+            keys.extend_from_slice(row.key.as_slice())?;
+        }
+    }
+    Ok(keys)
+}
+
+/// Of each ReadAt that was sent the shard and the time.
+fn asked_again(alloc: Global, outbox: &Outbox) -> Result<Vec<(u16, u64)>, Fault> {
+    let mut asked = Vec::new(alloc);
+    for envelope in outbox.as_slice() {
+        if let Body::ReadAt { time, .. } = &envelope.body {
+            asked.push((envelope.to.get(), time.get()))?;
+        }
+    }
+    Ok(asked)
+}
+
+/// What is refused before a write and after it, and the number of the write.
+fn refused(
+    alloc: Global,
+    session: &mut Session,
+    outbox: &mut Outbox,
+) -> Result<(bool, u64, bool), Fault> {
+    // the key is looked at before the family of the next row
+    let long = batch(alloc, &[0u8; 1025], b"g")?;
+    let before = is_refused(session, long, Fault::KeyLength, outbox);
+    let number = submit(session, batch(alloc, b"b", b"f")?, outbox)?;
+    let second = batch(alloc, b"b", b"f")?;
+    let busy = is_refused(session, second, Fault::Busy, outbox);
+    Ok((before, number, busy))
+}
+
+#[test]
+fn late_rows_are_asked_again(rt: HostRuntime) -> Result<(), Fail> {
+    let alloc = rt.alloc();
+    let mut session = new_session(alloc)?;
+    let mut outbox = Outbox::new(alloc);
+    let worked = worked(alloc, &mut session, &mut outbox);
     session.close();
-    assert!(rt; answers? == (true, true));
-    assert!(rt; handled);
-    assert!(rt; outbox.len() == 2);
-    assert!(rt; matches!(&outcome, Some((1, Outcome::Wrote { .. }))));
-    assert!(rt; again.is_none());
+    let (answered, wrote) = worked?;
+    assert_eq!(rt; keys_shown(alloc, &answered)?.as_slice(), b"ba".as_slice());
+    assert!(rt; wrote);
+    assert_eq!(rt;
+        asked_again(alloc, &outbox)?.as_slice(),
+        [(1, 3), (0, 5), (1, 5)].as_slice()
+    );
+    // beside these two reads to each shard, a Begin and a Prepare
+    assert_eq!(rt; outbox.len(), 9);
     Ok(())
 }
 
 #[test]
-fn key_is_looked_at_before_the_next_family(rt: HostRuntime) -> Result<(), Fail> {
+fn refused_batches_are_handed_back(rt: HostRuntime) -> Result<(), Fail> {
     let alloc = rt.alloc();
-    let topology = topology(alloc)?;
-    let mut session = Session::new(alloc, &topology, Node::new(2))?;
+    let mut session = new_session(alloc)?;
     let mut outbox = Outbox::new(alloc);
-    let refused = refused_for_key(alloc, &mut session, &mut outbox);
+    let refused = refused(alloc, &mut session, &mut outbox);
     session.close();
-    assert!(rt; refused?);
-    assert!(rt; outbox.len() == 0);
+    assert!(rt; refused? == (true, 1, true));
+    assert_eq!(rt; outbox.len(), 2);
     Ok(())
 }

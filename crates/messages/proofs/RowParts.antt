@@ -1,6 +1,6 @@
 -- The rows that a shard answers are parts of what it applied, in the words of the store.
-use Rattle.std.proofs.Common.{◌≡◌, ◌∙◌, subst, ap, sym, refl, ℕ, true, List, map}
-use Rattle.std.specs.Prelude.{filter, Contains, ◌↔◌}
+use Rattle.std.proofs.Common.{subst, refl, ℕ, List, map}
+use Rattle.std.specs.Prelude.{filter, Contains}
 use Rattle.logical_time.specs.Stamps.{WriterValue}
 use Rattle.column_family.specs.declared.batch.Row.{Row}
 use Rattle.slice.specs.declared.predicate.Predicate.{Predicate}

@@ -40,6 +40,7 @@ shard_continued top me w (x ∷ xs) = shard_continued top me (after_step (event_
 abbrev pub shard_run : TopologyValue → ℕ → List ShardEvent → ShardRun
 shard_run top me events = shard_continued top me fresh_shard events
 
+-- the envelope of an event, if it handles one
 abbrev pub envelope_in : ShardEvent → Option Envelope
 envelope_in (Handle e) = Some e
 envelope_in (Collect time) = None

@@ -1,5 +1,5 @@
 -- When what one shard sent is right, judged against all that it applied, later events included.
-use Rattle.std.specs.Prelude.{◌≡◌, ℕ, ◌<◌, ◌≤◌, List, [], map, Contains}
+use Rattle.std.specs.Prelude.{◌≡◌, ℕ, ◌<◌, ◌≤◌, List, map, Contains}
 use Rattle.slice.specs.declared.read.Read.{Read}
 use Rattle.store.specs.declared.part.Applied.{Applied}
 use Rattle.store.specs.declared.part.Part.{Part}
@@ -9,7 +9,6 @@ use Rattle.messages.specs.declared.rows_at.RowAt.{RowAt}
 use Rattle.messages.specs.declared.rows_at.AtTime.TheVariants as at
 use Rattle.messages.specs.declared.body.Body.TheVariants as body
 use Rattle.messages.specs.declared.envelope.Envelope.{Envelope}
-use Rattle.messages.specs.Honest.{IsHonest}
 use Rattle.messages.specs.Rows.{row_of}
 use Rattle.shard.specs.Events.{ShardRun, envelopes_handled}
 
@@ -32,20 +31,20 @@ IsRightAt applied read time r = IsRightPart applied (row_of read r.key) read.pre
 
 -- A first-round answer: the shard handled a read that asked for it, and it has one row for each key of that read, in its
 -- order, each right against these parts.
-pub record AnswersNow (applied : List Applied) (handled : List Envelope) (e : Envelope) (number : ℕ) (rows : List RowNow) : Type 0 where
+pub record AnswersNow (applied : List Applied) (envelopes : List Envelope) (e : Envelope) (number : ℕ) (rows : List RowNow) : Type 0 where
   pub asked : Envelope
   pub read : Read
-  pub handled : Contains handled asked
+  pub handled : Contains envelopes asked
   pub from : asked.from ≡ e.to
   pub body : asked.body ≡ body.Read number read
   pub keys : map (λ r. r.key) rows ≡ read.keys
   pub right : (r : RowNow) → Contains rows r → IsRightNow applied read r
 
 -- a second-round answer in the same way: it answers a read at this time
-pub record AnswersAt (applied : List Applied) (handled : List Envelope) (e : Envelope) (number time : ℕ) (rows : List RowAt) : Type 0 where
+pub record AnswersAt (applied : List Applied) (envelopes : List Envelope) (e : Envelope) (number time : ℕ) (rows : List RowAt) : Type 0 where
   pub asked : Envelope
   pub read : Read
-  pub handled : Contains handled asked
+  pub handled : Contains envelopes asked
   pub from : asked.from ≡ e.to
   pub body : asked.body ≡ body.ReadAt number time read
   pub keys : map (λ r. r.key) rows ≡ read.keys

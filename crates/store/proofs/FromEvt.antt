@@ -53,7 +53,7 @@ live_among h r n some = go (value_of (newest h (at r n))) refl some
         among_contained n (columns_changed h r) (subst (Contains (columns_changed h r)) (sym same) g.1)
 
 -- ---- two histories that agree on what is asked
-slices_agree : (h k : History) (r : Row) (p : Predicate) → ((n : List ℕ) → is_asked p n ≡ true → newest h (at r n) ≡ newest k (at r n))
+pub slices_agree : (h k : History) (r : Row) (p : Predicate) → ((n : List ℕ) → is_asked p n ≡ true → newest h (at r n) ≡ newest k (at r n))
     → slice_of p (live_columns h r) ≡ slice_of p (live_columns k r)
 slices_agree h k r p agree =
     slice_alike p (live_column h r) (live_column k r) (live_keeps_names h r) (live_keeps_names k r) (columns_changed h r) (columns_changed k r)
@@ -62,7 +62,7 @@ slices_agree h k r p agree =
     (λ n some. live_among h r n (asked_some p (live_column h r) n some).1)
     (λ n some. live_among k r n (asked_some p (live_column k r) n some).1)
 
-rests_agree : (h k : History) (r : Row) (p : Predicate) (w : StampValue) → slice_of p (live_columns h r) ≡ slice_of p (live_columns k r)
+pub rests_agree : (h k : History) (r : Row) (p : Predicate) (w : StampValue) → slice_of p (live_columns h r) ≡ slice_of p (live_columns k r)
     → ((n : List ℕ) → is_asked p n ≡ true → newest_of (is_column_change (at r n)) h ≡ newest_of (is_column_change (at r n)) k)
     → ((n : List ℕ) → is_asked p n ≡ true → newest h (at r n) ≡ newest k (at r n))
     → newest_of (is_row_deletion r) h ≡ newest_of (is_row_deletion r) k
@@ -86,7 +86,7 @@ stamp_from q applied w e = go (newest_of q (history_of applied)) refl e
     go None f g = absurd (cc)
     go (Some y) f g = let b = newest_from q applied y f in let same : y.stamp ≡ w = cc in (b.0, b.1, b.2 ∙ same)
 
-rested_from : (applied : List Applied) (r : Row) (p : Predicate) (w : StampValue) → RowRestsOn (history_of applied) r p w → (b : Applied) × Contains applied b × (b.stamp ≡ w)
+pub rested_from : (applied : List Applied) (r : Row) (p : Predicate) (w : StampValue) → RowRestsOn (history_of applied) r p w → (b : Applied) × Contains applied b × (b.stamp ≡ w)
 rested_from applied r p w (inr e) = stamp_from (is_row_deletion r) applied w e
 rested_from applied r p w (inl (n, looked, rests)) = elim rests [
   | inl c ↦ stamp_from (touches (at r n)) applied w c.1

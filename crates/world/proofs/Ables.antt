@@ -2,7 +2,7 @@
 use Rattle.std.proofs.Common.{◌≡◌, ℕ, ◌+◌, ◌<◌, ◌≤◌, Bool, true, false, ◌||◌, List, [], ◌∷◌, ◌++◌, Option, Some, None, ◌⊎◌, inl, inr, refl, sym, ap, ◌∙◌, subst, arith, le_refl, le_trans, le_of_lt, lt_of_le_of_lt}
 use Rattle.std.specs.Prelude.{find, is_some}
 use Rattle.std.specs.List.{list_any}
-use Rattle.std.proofs.lemmas.Bool.{false≢true, or_parts}
+use Rattle.std.proofs.lemmas.Bool.{false≢true}
 use Rattle.logical_time.specs.Stamps.{TxnValue}
 use Rattle.column_family.specs.declared.batch.Change.{Change}
 use Rattle.store.specs.Keeps.{AreApart}
@@ -10,11 +10,11 @@ use Rattle.planner.specs.Plan.{coordinator_of}
 use Rattle.messages.specs.declared.envelope.Envelope.{Envelope}
 use Rattle.messages.specs.Topology.{TopologyValue, dc_of, shard_of}
 use Rattle.messages.specs.Words.{is_same_txn}
-use Rattle.messages.specs.Shard.{ShardState, ShardStep, Role, Own, Cohort, Replica, PreparedPart, BegunBallot, Vote, Decision, KeptPart, KeptBallot, quiet}
+use Rattle.messages.specs.Shard.{ShardState, ShardStep, Role, Own, Cohort, PreparedPart, BegunBallot, Vote, Decision, KeptPart, KeptBallot, quiet}
 use Rattle.messages.specs.Known.{decision_of, prepared_part, kept_part, kept_ballot, is_known}
 use Rattle.messages.specs.Commits.{hold, prepare_part}
 use Rattle.world.specs.Run.{Run, Submission}
-use Rattle.world.proofs.Among.{Among, among_append, append_first, append_second, among_last, last_or_old, any_false, find_none, same_txn_self}
+use Rattle.world.proofs.Among.{Among, among_append, append_first, among_last, last_or_old, any_false, find_none, same_txn_self}
 use Rattle.world.proofs.Growth.{NewPrepared, NewDecision, ShardGrows, Grows}
 use Rattle.world.proofs.Facts.{IsWritten, part_on, DecidedOnce, PreparedBefore, RoleFits, PreparedSound, BallotSound}
 use Rattle.world.proofs.Invariant.{EnvelopeSound}
@@ -187,7 +187,8 @@ quiet_able top w node n a lt once apart = sends_able top w node n a [] lt once a
 
 -- ## A new mark
 
-new_prepared : (a : ShardState) (p : PreparedPart) → a.clock < p.time → ((g : PreparedPart) → Among g a.prepared → g.txn ≡ p.txn → ⊥) → (g : PreparedPart) → Among g (a.prepared ++ p ∷ []) → Among g a.prepared ⊎ NewPrepared a g
+new_prepared : (a : ShardState) (p : PreparedPart) → a.clock < p.time → ((g : PreparedPart) → Among g a.prepared → g.txn ≡ p.txn → ⊥)
+    → (g : PreparedPart) → Among g (a.prepared ++ p ∷ []) → Among g a.prepared ⊎ NewPrepared a g
 new_prepared a p lt none g m = elim (last_or_old g p a.prepared m) [ inl o ↦ inl o | inr q ↦ inr (subst (λ z. NewPrepared a z) (sym q) (record { above = lt; unprepared = none })) ]
 
 prepared_one : (ps : List PreparedPart) (p : PreparedPart) → ((g : PreparedPart) → Among g ps → g.txn ≡ p.txn → ⊥) → (g : PreparedPart) → Among g (ps ++ p ∷ []) → g.txn ≡ p.txn → g ≡ p
@@ -202,7 +203,14 @@ pub prepare_able : (top : TopologyValue) (w : Run) (node n : ℕ) (a : ShardStat
 prepare_able top w node n a t rows c role b batch lt once apart none never written coord r fits origin =
     let p : PreparedPart = record { txn = t; rows = rows; coordinator = c; time = n; role = role } in
     record {
-      grows = record { clock = le_of_lt lt; prepared = λ e m. append_first e a.prepared (p ∷ []) m; prepared_new = new_prepared a p lt none; decided = λ d m. m; decided_new = λ d m. inl m; applied = λ v m. m };
+      grows = record {
+        clock = le_of_lt lt;
+        prepared = λ e m. append_first e a.prepared (p ∷ []) m;
+        prepared_new = new_prepared a p lt none;
+        decided = λ d m. m;
+        decided_new = λ d m. inl m;
+        applied = λ v m. m;
+      };
       fresh = λ x gr at.
           let le : n ≤ (x.shards node).clock = subst (λ z. n ≤ z.clock) (sym at) (le_refl n) in
           let ps : PreparedSound top x node p =
@@ -252,7 +260,14 @@ pub hold_able : (top : TopologyValue) (w : Run) (node n : ℕ) (a : ShardState) 
 hold_able top w node n a b counted sends some lt once apart none never k voted f =
     let p : PreparedPart = record { txn = b.txn; rows = b.rows; coordinator = shard_of top node; time = n; role = Own } in
     record {
-      grows = record { clock = le_of_lt lt; prepared = λ e m. append_first e a.prepared (p ∷ []) m; prepared_new = new_prepared a p lt none; decided = λ d m. m; decided_new = λ d m. inl m; applied = λ v m. m };
+      grows = record {
+        clock = le_of_lt lt;
+        prepared = λ e m. append_first e a.prepared (p ∷ []) m;
+        prepared_new = new_prepared a p lt none;
+        decided = λ d m. m;
+        decided_new = λ d m. inl m;
+        applied = λ v m. m;
+      };
       fresh = λ x gr at.
           let le : n ≤ (x.shards node).clock = subst (λ z. n ≤ z.clock) (sym at) (le_refl n) in
           let bs = ballot_grows gr le k in

@@ -1,5 +1,5 @@
 -- The transactions that a read at a time asks for: all with a mark below the time in an asked row.
-use Rattle.std.proofs.Common.{◌≡◌, ℕ, ◌≤◌, Bool, true, false, not, ◌&&◌, List, map, ◌⊎◌, inl, inr, refl, sym, ap, ltb-false}
+use Rattle.std.proofs.Common.{◌≡◌, ℕ, ◌≤◌, Bool, true, false, not, ◌&&◌, List, map, ◌⊎◌, inl, inr, refl, ap, ltb-false}
 use Rattle.std.specs.Prelude.{nat_lt}
 use Rattle.std.specs.List.{list_any}
 use Rattle.std.proofs.lemmas.Bool.{and_from}

@@ -1,13 +1,12 @@
 -- Commit, At, NotBy and Check keep all.
-use Rattle.std.proofs.Common.{◌≡◌, ℕ, ◌<◌, ◌≤◌, Bool, true, false, List, [], ◌∷◌, ◌++◌, Option, Some, None, inl, inr, refl, sym, ap, ◌∙◌, subst, subst₂, leb-true, ap₂, le_refl, le_trans, le_of_lt, lt_of_le_of_lt}
+use Rattle.std.proofs.Common.{◌≡◌, ℕ, ◌<◌, ◌≤◌, Bool, true, false, [], ◌∷◌, ◌++◌, Option, Some, None, inl, inr, refl, sym, ap, ◌∙◌, subst, subst₂, leb-true, le_refl, le_trans, le_of_lt, lt_of_le_of_lt}
 use Rattle.std.specs.Prelude.{nat_le}
 use Rattle.logical_time.specs.Stamps.{StampValue, TxnValue}
-use Rattle.column_family.specs.declared.batch.Change.{Change}
 use Rattle.column_family.specs.Normal.{IsNormal}
 use Rattle.store.specs.declared.part.Applied.{Applied}
 use Rattle.store.specs.Keeps.{IsNewStamp, AreApart}
 use Rattle.store.proofs.Apart.{apart_more}
-use Rattle.planner.specs.Plan.{coordinator_of, cohorts_of}
+use Rattle.planner.specs.Plan.{cohorts_of}
 use Rattle.messages.specs.declared.body.Body.TheVariants.{Commit, At, NotBy, Check, ReplPart}
 use Rattle.messages.specs.declared.envelope.Envelope.{Envelope}
 use Rattle.messages.specs.Topology.{TopologyValue, dc_of, shard_of, shard_node}
@@ -20,13 +19,13 @@ use Rattle.world.specs.Run.{Run}
 use Rattle.world.proofs.Among.{Among, append_first, among_last, last_or_old, find_some, find_none, map_only, same_txn}
 use Rattle.world.proofs.Growth.{ShardGrows, Grows}
 use Rattle.world.proofs.Facts.{near, lead, IsDecided, IsStamp, RoleFits, PreparedSound, KeptPartSound, AppliedSound, Excluded}
-use Rattle.world.proofs.Invariant.{IsLead, TellsDecision, Says, EnvelopeSound, Inv}
-use Rattle.world.proofs.Able.{Fresh, Able}
+use Rattle.world.proofs.Invariant.{IsLead, Says, EnvelopeSound, Inv}
+use Rattle.world.proofs.Able.{Able}
 use Rattle.world.proofs.Lasting.{same_shard_grows, written_grows, decided_grows, excluded_grows}
 use Rattle.world.proofs.LastingAll.{lead_grows}
-use Rattle.world.proofs.Near.{normal_on, peer_dc, peer_number, peer_part}
+use Rattle.world.proofs.Near.{normal_on, peer_number, peer_part}
 use Rattle.world.proofs.Ables.{added, absent, quiet_able, sends_able}
-use Rattle.world.proofs.LetGo.{Frees, let_go_able}
+use Rattle.world.proofs.LetGo.{let_go_able}
 use Rattle.world.proofs.StampsApart.{written_at, batch_one, stamp_is_new}
 
 -- ## A part is applied
@@ -38,7 +37,8 @@ part p commit stamp = applied_part p.txn p.coordinator p.rows commit stamp
 abbrev with_part : ShardState → Applied → ShardState
 with_part a v = record a { applied = a.applied ++ v ∷ [] }
 
-replicated : (top : TopologyValue) (w x : Run) (node d : ℕ) (p : PreparedPart) (k : PreparedSound top w node p) → 0 < top.shards → Grows top w x → Among (shard_of top node) (cohorts_of top.shards k.batch) → (stamp : StampValue)
+replicated : (top : TopologyValue) (w x : Run) (node d : ℕ) (p : PreparedPart) (k : PreparedSound top w node p) → 0 < top.shards → Grows top w x
+    → Among (shard_of top node) (cohorts_of top.shards k.batch) → (stamp : StampValue)
     → KeptPartSound top x (shard_node top d (shard_of top node)) (record { txn = p.txn; rows = p.rows; stamp = stamp; coordinator = p.coordinator })
 replicated top w x node d p k some gr cohort stamp =
     record {
@@ -153,7 +153,8 @@ not_by_able top w node n from time t bound some inv lt late k =
 
 -- ## Check
 
-check_go : (top : TopologyValue) (w : Run) (node n from time : ℕ) (t : TxnValue) (bound : ℕ) → Inv top w → (w.shards node).clock < n → bound ≤ n → dc_of top from ≡ dc_of top node → IsLead top w (dc_of top from) node t
+check_go : (top : TopologyValue) (w : Run) (node n from time : ℕ) (t : TxnValue) (bound : ℕ) → Inv top w → (w.shards node).clock < n → bound ≤ n
+    → dc_of top from ≡ dc_of top node → IsLead top w (dc_of top from) node t
     → (o : Option Decision) → decision_of t (w.shards node) ≡ o → Able top w node (w.shards node) (check_for o node n (w.shards node) from t bound)
 check_go top w node n from time t bound inv lt le here k None e =
     sends_able top w node n (w.shards node) _ lt (inv.shards node).once (inv.shards node).apart

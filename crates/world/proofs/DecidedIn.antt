@@ -22,7 +22,7 @@ use Rattle.world.proofs.NodeNumbers.{coordinator_below, dc_of_node, listed_below
 use Rattle.world.proofs.SameNewest.{OneEach}
 
 -- ---- a transaction has one submission, with one batch
-found : (top : TopologyValue) (w : Run) → SubmittedSound top w → (b : Submission) (t : TxnValue) → Among b w.submitted → txn_of b ≡ t
+pub found : (top : TopologyValue) (w : Run) → SubmittedSound top w → (b : Submission) (t : TxnValue) → Among b w.submitted → txn_of b ≡ t
     → submission_of w.submitted t ≡ Some b
 found top w sound b t m e = go (find is_it w.submitted) refl
   where

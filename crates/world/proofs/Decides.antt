@@ -1,12 +1,12 @@
 -- A coordinator decides.
-use Rattle.std.proofs.Common.{◌≡◌, ℕ, ◌+◌, ◌<◌, ◌≤◌, true, not, List, [], ◌∷◌, ◌++◌, map, Option, Some, None, ◌⊎◌, inl, inr, refl, sym, ap, ap₂, ◌∙◌, subst, subst₂, arith, le_refl, le_trans, le_of_lt}
+use Rattle.std.proofs.Common.{◌≡◌, ℕ, ◌+◌, ◌<◌, ◌≤◌, true, [], ◌∷◌, ◌++◌, Option, Some, None, ◌⊎◌, inl, inr, refl, sym, ap, ap₂, ◌∙◌, subst, subst₂, arith, le_refl, le_of_lt}
 use Rattle.std.specs.Prelude.{filter}
 use Rattle.logical_time.specs.Stamps.{StampValue}
 use Rattle.column_family.specs.Normal.{IsNormal}
 use Rattle.store.specs.declared.part.Applied.{Applied}
 use Rattle.store.specs.Keeps.{IsNewStamp, AreApart}
 use Rattle.store.proofs.Apart.{apart_more}
-use Rattle.planner.specs.Plan.{coordinator_of, cohorts_of}
+use Rattle.planner.specs.Plan.{coordinator_of}
 use Rattle.messages.specs.declared.body.Body.TheVariants.{Commit, ReplBegin, DepOk}
 use Rattle.messages.specs.declared.envelope.Envelope.{Envelope}
 use Rattle.messages.specs.Topology.{TopologyValue, dc_of, shard_of, shard_node}
@@ -15,8 +15,8 @@ use Rattle.messages.specs.Shard.{ShardState, BegunBallot, KeptBallot, Decision, 
 use Rattle.messages.specs.Commits.{applied_part, commits, stamp_for, announcements, dep_oks, decide}
 use Rattle.world.specs.Run.{Run}
 use Rattle.world.proofs.Among.{Among, among_append, append_first, among_last, last_or_old, filter_only, map_only}
-use Rattle.world.proofs.Growth.{NewDecision, ShardGrows, Grows}
-use Rattle.world.proofs.Facts.{near, lead, part_on, IsDecided, IsStamp, IsDone, DecidedOnce, PreparedBefore, StampFits, BallotSound, KeptBallotSound, DecisionSound, AppliedSound, Sees, WaitSound}
+use Rattle.world.proofs.Growth.{NewDecision, ShardGrows}
+use Rattle.world.proofs.Facts.{near, lead, IsDecided, IsStamp, IsDone, DecidedOnce, PreparedBefore, StampFits, BallotSound, KeptBallotSound, DecisionSound, AppliedSound, Sees, WaitSound}
 use Rattle.world.proofs.Invariant.{home, EnvelopeSound, Inv}
 use Rattle.world.proofs.Able.{Fresh, Able}
 use Rattle.world.proofs.Lasting.{before_grows, ballot_grows}
@@ -39,7 +39,8 @@ decided_new : (node n : ℕ) (a : ShardState) (b : BegunBallot) → a.clock < n 
 decided_new node n a b lt none d m =
     elim (last_or_old d (decision node n b) a.decided m) [ inl o ↦ inl o | inr q ↦ inr (subst (λ z. NewDecision a z) (sym q) (record { above = lt; undecided = none })) ]
 
-decide_grows : (top : TopologyValue) (node n : ℕ) (a : ShardState) (b : BegunBallot) → a.clock < n → ((d : Decision) → Among d a.decided → d.txn ≡ b.txn → ⊥) → ShardGrows a (decide top node n a b).state
+decide_grows : (top : TopologyValue) (node n : ℕ) (a : ShardState) (b : BegunBallot) → a.clock < n → ((d : Decision) → Among d a.decided
+    → d.txn ≡ b.txn → ⊥) → ShardGrows a (decide top node n a b).state
 decide_grows top node n a b lt none =
     record {
       clock = le_of_lt lt;

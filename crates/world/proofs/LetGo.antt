@@ -1,17 +1,16 @@
 -- Reads that wait: what they still wait for, and the answers of those that are let go.
-use Rattle.std.proofs.Common.{◌≡◌, ℕ, ◌<◌, ◌≤◌, Bool, true, false, cond, not, List, [], ◌∷◌, ◌++◌, map, ◌⊎◌, inl, inr, refl, sym, ap, ap₂, ◌∙◌, subst, le_of_lt}
+use Rattle.std.proofs.Common.{◌≡◌, ℕ, ◌<◌, ◌≤◌, Bool, true, false, cond, not, List, [], ◌∷◌, map, ◌⊎◌, inl, inr, refl, sym, ap, subst, le_of_lt}
 use Rattle.std.specs.Prelude.{nat_lt, filter}
 use Rattle.std.proofs.lemmas.Bool.{false≢true}
 use Rattle.logical_time.specs.Stamps.{TxnValue}
 use Rattle.slice.specs.declared.read.Read.{Read}
-use Rattle.store.specs.declared.part.Applied.{Applied}
 use Rattle.store.specs.Keeps.{AreApart}
 use Rattle.messages.specs.declared.rows_at.AtTime.TheVariants.{Collected, Rows}
 use Rattle.messages.specs.declared.envelope.Envelope.{Envelope}
 use Rattle.messages.specs.Topology.{TopologyValue}
 use Rattle.messages.specs.Words.{is_same_txn}
 use Rattle.messages.specs.Shard.{ShardState, PreparedPart, Decision, WaitingRead}
-use Rattle.messages.specs.Rows.{row_of, row_at, touches_row}
+use Rattle.messages.specs.Rows.{row_at}
 use Rattle.messages.specs.Reads.{part_at, without, lessened, is_nothing, is_free, let_go}
 use Rattle.messages.proofs.RowParts.{row_at_shown}
 use Rattle.world.specs.Run.{Run}

@@ -62,9 +62,9 @@ module _ (top : TopologyValue) (w x : Run) (node n : ℕ) (some : 0 < top.shards
   body_left from time (NotBy t bound) old says k here = (not_by_left top w x node n some inv g here_live rounds t bound, λ e. tt)
   body_left from time (Check t bound) old says k here = (check_left top w x node n some inv g here_live rounds from t bound, λ e. tt)
   body_left from time (ReadNow number read) old says k here =
-      let r = read_left top w x node n some inv g here_live rounds from number read (le_trans k (g.sessions from).count) here in (r.0, λ e. r.1)
+      let r = read_left top w x node n some inv g here_live rounds from number read (le_trans k.0 (g.sessions from).count) here in (r.0, λ e. r.1)
   body_left from time (ReadAt number bound read) old says k here =
-      let r = read_at_left top w x node n some inv g here_live rounds from number bound read (round_on from number bound g k) here in (r.0, λ e. r.1)
+      let r = read_at_left top w x node n some inv g here_live rounds from number bound read (round_on from number bound g k.0) here in (r.0, λ e. r.1)
   body_left from time (ReplBegin t rows stamp cohorts dependencies) old says k here =
       let r : KeptBallot = record { txn = t; rows = rows; stamp = stamp; cohorts = cohorts; dependencies = dependencies } in
       let z = repl_begin_left top w x node n some was inv g here_live rounds r time old (away_on g k.0) k.1 (placed r time old) here in

@@ -1,16 +1,15 @@
 -- ReplPart, PrepareRemote and DepCheck keep all.
-use Rattle.std.proofs.Common.{◌≡◌, ◌∙◌, ℕ, ◌+◌, ◌<◌, ◌≤◌, Bool, true, false, List, [], ◌∷◌, ◌++◌, Option, Some, None, inl, inr, refl, sym, ap, subst, arith, le_refl, le_trans, le_of_lt}
-use Rattle.std.specs.Prelude.{is_some, find}
+use Rattle.std.proofs.Common.{◌≡◌, ◌∙◌, ℕ, ◌<◌, Bool, true, false, Option, Some, None, inl, inr, refl, sym, ap, subst, arith, le_of_lt}
+use Rattle.std.specs.Prelude.{is_some}
 use Rattle.logical_time.specs.Stamps.{TxnValue}
 use Rattle.planner.specs.Plan.{cohorts_of}
 use Rattle.messages.specs.Topology.{TopologyValue, dc_of, shard_of}
 use Rattle.messages.specs.Words.{is_same_txn}
-use Rattle.messages.specs.Shard.{ShardState, Replica, Cohort, PreparedPart, Decision, KeptPart, KeptBallot, Asker}
+use Rattle.messages.specs.Shard.{Replica, Cohort, Decision, KeptPart, KeptBallot, Asker}
 use Rattle.messages.specs.Known.{decision_of, prepared_part, kept_part, is_known, is_asker}
 use Rattle.messages.specs.Replication.{repl_part_if, on_repl_part, prepare_remote_for, on_prepare_remote, remember_if, dep_check_for, on_dep_check}
 use Rattle.world.specs.Run.{Run}
 use Rattle.world.proofs.Among.{Among, last_or_old, find_some, same_txn}
-use Rattle.world.proofs.Growth.{Grows}
 use Rattle.world.proofs.Facts.{IsDone, KeptPartSound, KeptBallotSound}
 use Rattle.world.proofs.Invariant.{EnvelopeSound, Inv}
 use Rattle.world.proofs.Able.{Able}

@@ -1,22 +1,17 @@
 -- Of a kept ballot that misses something nothing is held or decided: each body keeps this.
-use Rattle.std.proofs.Common.{◌≡◌, ◌∙◌, ℕ, ◌<◌, Bool, true, false, ◌&&◌, List, [], ◌∷◌, ◌++◌, Option, Some, None, ◌⊎◌, inl, inr, refl, sym, ap, subst}
+use Rattle.std.proofs.Common.{◌≡◌, ◌∙◌, ℕ, Bool, true, false, ◌&&◌, List, [], Option, Some, None, ◌⊎◌, inl, inr, refl, sym, ap, subst}
 use Rattle.std.specs.Prelude.{find, filter, is_some, if◌then◌else◌}
-use Rattle.std.specs.List.{list_any, list_all}
-use Rattle.std.proofs.lemmas.Bool.{false≢true, and_parts, and_from}
-use Rattle.logical_time.specs.Stamps.{StampValue, TxnValue, WriterValue}
+use Rattle.logical_time.specs.Stamps.{StampValue, TxnValue}
 use Rattle.column_family.specs.declared.batch.Change.{Change}
-use Rattle.slice.specs.declared.read.Read.{Read}
-use Rattle.messages.specs.declared.body.Body.{Body}
-use Rattle.messages.specs.declared.body.Body.TheVariants.{Begin, Prepare, Yes, Commit, At, NotBy, Check, Read as ReadNow, ReadAt, ReplBegin, ReplPart, Notify, PrepareRemote, DepCheck, DepOk, Done, PartNow, PartAt}
 use Rattle.messages.specs.declared.envelope.Envelope.{Envelope}
-use Rattle.messages.specs.Topology.{TopologyValue, dc_of, shard_node}
+use Rattle.messages.specs.Topology.{TopologyValue}
 use Rattle.messages.specs.Words.{is_same_txn}
-use Rattle.messages.specs.Shard.{ShardState, ShardStep, Role, Own, Cohort, Replica, PreparedPart, BegunBallot, Vote, Decision, KeptPart, KeptBallot, Met, Asker}
-use Rattle.messages.specs.Known.{decision_of, prepared_part, kept_part, kept_ballot, standing_ballot, is_known, is_applied, has_vote, all_voted, is_met, all_met, is_awaited}
+use Rattle.messages.specs.Shard.{ShardState, Role, Own, Cohort, Replica, PreparedPart, BegunBallot, Vote, Decision, KeptBallot, Met}
+use Rattle.messages.specs.Known.{decision_of, standing_ballot, is_known, is_applied, has_vote, all_voted, all_met, is_awaited}
 use Rattle.messages.specs.Commits.{decide, hold, prepare_part, begin_if, prepare_if, counted_if, vote_if, early_if, yes_for, commit_if, commit_for, check_for, with_vote}
-use Rattle.messages.specs.Replication.{ballot_of, remote_prepare, is_ready, ready_if, ready, with_ballot, repl_begin_if, with_notice, notice_if, early_notice_if, notify_for, repl_part_if, prepare_remote_for, remember_if, dep_check_for, with_met, met_if, dep_ok_for}
-use Rattle.world.proofs.Among.{Among, append_first, last_or_old, any_among, any_true, find_some, same_txn}
-use Rattle.world.proofs.Invariant.{Untouched, IsPatient}
+use Rattle.messages.specs.Replication.{is_ready}
+use Rattle.world.proofs.Among.{Among, last_or_old, find_some}
+use Rattle.world.proofs.Invariant.{IsPatient}
 use Rattle.world.proofs.Ables.{unkept_ballot}
 
 -- a shard that differs in what it holds and decides of one transaction alone
@@ -92,9 +87,9 @@ module _ (top : TopologyValue) (me n : ℕ) (a : ShardState) (patient : IsPatien
   prepare_patient t rows c true e = patient
   prepare_patient t rows c false e = patient_touched top me (prepare_touches top me n a t rows c Cohort) (λ r m q i. unkept_ballot t a e r m q) patient
 
-  vote_patient : (b : BegunBallot) (node : ℕ) (awaited voted : Bool) → Among b a.ballots → IsPatient top me (counted_if voted top me n (with_vote a b.txn node) b).state
-  vote_patient b node awaited false m = patient
-  vote_patient b node awaited true m =
+  vote_patient : (b : BegunBallot) (node : ℕ) (voted : Bool) → Among b a.ballots → IsPatient top me (counted_if voted top me n (with_vote a b.txn node) b).state
+  vote_patient b node false m = patient
+  vote_patient b node true m =
       patient_touched top me (decide_touches top me n (with_vote a b.txn node) b) (λ r i q e. (patient r i e).unbegun b m (sym q)) patient
 
   early_patient : (t : TxnValue) (node : ℕ) (known kept : Bool) → IsPatient top me (early_if known kept n a t node).state
@@ -104,7 +99,7 @@ module _ (top : TopologyValue) (me n : ℕ) (a : ShardState) (patient : IsPatien
 
   awaited_patient : (b : BegunBallot) (node : ℕ) (awaited : Bool) → Among b a.ballots → IsPatient top me (vote_if awaited top me n a b node).state
   awaited_patient b node false m = patient
-  awaited_patient b node true m = vote_patient b node true (all_voted top me b.cohorts (with_vote a b.txn node).votes b.txn) m
+  awaited_patient b node true m = vote_patient b node (all_voted top me b.cohorts (with_vote a b.txn node).votes b.txn) m
 
   standing_begun : (t : TxnValue) (b : BegunBallot) (decided : Bool) → (if decided then None else find (λ b. is_same_txn b.txn t) a.ballots) ≡ Some b → Among b a.ballots
   standing_begun t b true e = absurd (cc)

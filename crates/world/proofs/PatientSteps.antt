@@ -1,6 +1,6 @@
 -- Each step of a shard keeps: of a kept ballot that misses something nothing is held or decided.
-use Rattle.std.proofs.Common.{◌≡◌, ◌∙◌, ℕ, ◌<◌, Bool, true, false, ◌&&◌, List, [], ◌∷◌, ◌++◌, Option, Some, None, ◌⊎◌, inl, inr, map, refl, sym, ap, subst, append-nil}
-use Rattle.std.specs.Prelude.{nat_lt, filter, is_some}
+use Rattle.std.proofs.Common.{◌≡◌, ◌∙◌, ℕ, ◌<◌, Bool, true, false, ◌&&◌, List, [], ◌∷◌, ◌++◌, Option, Some, None, inl, inr, map, refl, sym, ap, subst, append-nil}
+use Rattle.std.specs.Prelude.{nat_lt, is_some}
 use Rattle.std.specs.List.{list_any, list_all}
 use Rattle.std.proofs.lemmas.Bool.{false≢true, and_parts, and_from}
 use Rattle.logical_time.specs.Stamps.{TxnValue, WriterValue}
@@ -8,16 +8,15 @@ use Rattle.slice.specs.declared.read.Read.{Read}
 use Rattle.planner.specs.Plan.{cohorts_of}
 use Rattle.messages.specs.declared.body.Body.{Body}
 use Rattle.messages.specs.declared.body.Body.TheVariants.{Begin, Prepare, Yes, Commit, At, NotBy, Check, Read as ReadNow, ReadAt, ReplBegin, ReplPart, Notify, PrepareRemote, DepCheck, DepOk, Done, PartNow, PartAt}
-use Rattle.messages.specs.declared.envelope.Envelope.{Envelope}
 use Rattle.messages.specs.Topology.{TopologyValue, dc_of, shard_node}
 use Rattle.messages.specs.Words.{is_same_txn, envelope}
-use Rattle.messages.specs.Shard.{ShardState, Replica, BegunBallot, Vote, Decision, KeptPart, KeptBallot, Met, Asker}
-use Rattle.messages.specs.Known.{decision_of, prepared_part, kept_part, kept_ballot, standing_ballot, is_known, has_vote, all_voted, is_met, all_met, is_awaited, is_asker}
+use Rattle.messages.specs.Shard.{ShardState, Replica, Vote, Decision, KeptPart, KeptBallot, Met, Asker}
+use Rattle.messages.specs.Known.{decision_of, prepared_part, kept_part, kept_ballot, is_known, has_vote, all_voted, is_met, all_met, is_awaited, is_asker}
 use Rattle.messages.specs.Reads.{asked_below, is_waiting, read_at_of, read_at_if}
 use Rattle.messages.specs.Replication.{ballot_of, remote_prepare, is_ready, ready_if, ready, with_ballot, repl_begin_if, with_notice, notice_if, early_notice_if, notify_for, repl_part_if, prepare_remote_for, remember_if, dep_check_for, is_unmet, with_met, met_if, dep_ok_for}
 use Rattle.messages.specs.ShardEvents.{handled}
 use Rattle.world.specs.Run.{Run}
-use Rattle.world.proofs.Among.{Among, append_first, last_or_old, any_among, any_true, find_some, same_txn}
+use Rattle.world.proofs.Among.{Among, append_first, last_or_old, any_among, any_true, find_some}
 use Rattle.world.proofs.Facts.{KeptBallotSound}
 use Rattle.world.proofs.Invariant.{Untouched, IsPatient, Inv}
 use Rattle.world.proofs.StampsApart.{written_at, submitted_one, batch_one}

@@ -1,30 +1,26 @@
 -- Read and ReadAt keep all.
-use Rattle.std.proofs.Common.{◌≡◌, ◌∙◌, ℕ, ◌<◌, ◌≤◌, Bool, true, false, List, [], ◌∷◌, ◌++◌, map, ◌⊎◌, inl, inr, refl, sym, ap, subst, arith, le_refl, le_trans, le_of_lt}
+use Rattle.std.proofs.Common.{◌≡◌, ℕ, ◌<◌, ◌≤◌, Bool, true, false, List, [], ◌∷◌, map, inl, inr, refl, sym, ap, subst, le_trans, le_of_lt}
 use Rattle.std.specs.Prelude.{nat_lt}
-use Rattle.logical_time.specs.Stamps.{TxnValue, WriterValue}
+use Rattle.logical_time.specs.Stamps.{WriterValue}
 use Rattle.slice.specs.declared.read.Read.{Read}
 use Rattle.store.specs.declared.part.Applied.{Applied}
-use Rattle.store.specs.Keeps.{AreApart}
-use Rattle.messages.specs.declared.rows_now.RowNow.{RowNow}
-use Rattle.messages.specs.declared.body.Body.TheVariants.{Check, PartNow}
-use Rattle.messages.specs.declared.envelope.Envelope.{Envelope}
-use Rattle.messages.specs.Topology.{TopologyValue, dc_of}
-use Rattle.messages.specs.Shard.{ShardState, PreparedPart, Decision, WaitingRead}
-use Rattle.messages.specs.Rows.{row_of, row_now, touches_row, marks_on, least_mark}
+use Rattle.messages.specs.Topology.{TopologyValue}
+use Rattle.messages.specs.Shard.{ShardState, Decision}
+use Rattle.messages.specs.Rows.{row_of, row_now, marks_on, least_mark}
 use Rattle.messages.specs.Reads.{asked_below, check_of, is_waiting, waiting_read, read_at_of, read_at_if, on_read, on_read_at}
 use Rattle.messages.proofs.Greatest.{mark_below_clock}
 use Rattle.messages.proofs.RowParts.{row_now_shown}
 use Rattle.world.specs.Run.{Run}
 use Rattle.world.proofs.Among.{Among, last_or_old, map_only}
 use Rattle.world.proofs.Growth.{AskedNow, AskedAt, Grows}
-use Rattle.world.proofs.Facts.{near, lead, Excluded, Sees, RowNowSound, WaitSound, AnswersNow}
+use Rattle.world.proofs.Facts.{near, Sees, RowNowSound, WaitSound, AnswersNow}
 use Rattle.world.proofs.Invariant.{EnvelopeSound, ShardSound, Inv}
 use Rattle.world.proofs.Able.{Able}
 use Rattle.world.proofs.Near.{near_dc, coordinator_below}
 use Rattle.world.proofs.Lasting.{written_grows}
 use Rattle.world.proofs.LastingAll.{shard_grows}
 use Rattle.world.proofs.RowTimes.{evt_early, mark_seen}
-use Rattle.world.proofs.AskedMarks.{asked_prepared, asked_seen, writer_at}
+use Rattle.world.proofs.AskedMarks.{asked_prepared, asked_seen}
 use Rattle.world.proofs.Ables.{sends_able, quiet_able}
 use Rattle.world.proofs.LetGo.{answer_sound}
 

@@ -1,30 +1,25 @@
 -- A replicated ballot prepares once nothing is missing: ReplBegin, Notify and DepOk keep all.
-use Rattle.std.proofs.Common.{◌≡◌, ◌∙◌, ℕ, ◌<◌, ◌≤◌, Bool, true, false, not, ◌&&◌, List, [], ◌∷◌, ◌++◌, Option, Some, None, ◌⊎◌, inl, inr, refl, sym, ap, subst, eqb-true, le_refl, le_of_lt}
-use Rattle.std.specs.Prelude.{◌==◌, find}
-use Rattle.std.specs.List.{list_any, list_all}
+use Rattle.std.proofs.Common.{◌≡◌, ◌∙◌, ℕ, ◌<◌, Bool, true, false, not, ◌&&◌, List, [], ◌∷◌, inl, inr, refl, sym, ap, subst, eqb-true}
+use Rattle.std.specs.Prelude.{◌==◌}
+use Rattle.std.specs.List.{list_any}
 use Rattle.std.proofs.lemmas.Bool.{false≢true, and_parts}
 use Rattle.logical_time.specs.Stamps.{TxnValue, WriterValue}
-use Rattle.messages.specs.declared.body.Body.TheVariants.{PrepareRemote, DepCheck}
+use Rattle.messages.specs.declared.body.Body.TheVariants.{PrepareRemote}
 use Rattle.messages.specs.declared.envelope.Envelope.{Envelope}
 use Rattle.messages.specs.Topology.{TopologyValue, dc_of, shard_node}
 use Rattle.messages.specs.Words.{is_same_txn, envelope}
-use Rattle.messages.specs.Shard.{ShardState, ShardStep, BegunBallot, PreparedPart, Decision, Vote, KeptBallot, Met}
-use Rattle.messages.specs.Known.{kept_ballot, is_known, has_vote, is_cohort, is_awaited, all_voted, is_met, all_met}
-use Rattle.messages.specs.Replication.{ballot_of, remote_prepare, is_ready, ready_if, ready, dep_checks, with_ballot, sent_before, repl_begin_if, on_repl_begin, with_notice, notice_if, early_notice_if, notify_for, on_notify, is_unmet, with_met, met_if, dep_ok_for, on_dep_ok}
+use Rattle.messages.specs.Shard.{ShardState, ShardStep, KeptBallot, Met}
+use Rattle.messages.specs.Known.{has_vote, is_cohort, is_awaited, all_voted, is_met, all_met}
+use Rattle.messages.specs.Replication.{ballot_of, remote_prepare, is_ready, ready_if, ready, sent_before, is_unmet}
 use Rattle.store.specs.Keeps.{AreApart}
 use Rattle.world.specs.Run.{Run}
-use Rattle.world.proofs.Among.{Among, among_append, last_or_old, any_true, all_among, find_some, map_only, same_txn, same_txn_self}
-use Rattle.world.proofs.Growth.{ShardGrows, Grows}
-use Rattle.world.proofs.Facts.{near, IsDone, DecidedOnce, BallotSound, KeptBallotSound}
+use Rattle.world.proofs.Among.{Among, among_append, any_true, all_among, map_only, same_txn}
+use Rattle.world.proofs.Growth.{Grows}
+use Rattle.world.proofs.Facts.{IsDone, DecidedOnce, BallotSound, KeptBallotSound}
 use Rattle.world.proofs.Invariant.{EnvelopeSound, Untouched, Inv}
-use Rattle.world.proofs.Able.{Fresh, Able}
-use Rattle.world.proofs.Lasting.{same_shard_grows, same_session_grows, done_grows, kept_ballot_grows}
-use Rattle.world.proofs.Near.{near_dc}
-use Rattle.world.proofs.Ables.{added, Alike, alike_self, alike_grows, unbegun, unprepared, undecided, sends_able, quiet_able, hold_able, only}
+use Rattle.world.proofs.Able.{Able}
+use Rattle.world.proofs.Ables.{Alike, quiet_able, hold_able}
 use Rattle.world.proofs.Decides.{decide_able}
-
-pub same_run : (top : TopologyValue) (w : Run) → Grows top w w
-same_run top w = record { shards = λ s. same_shard_grows (w.shards s); sessions = λ i. same_session_grows top (w.sessions i); submitted = λ b m. m; transcript = λ c m. m }
 
 -- these envelopes are sent before
 pub before_able : (top : TopologyValue) (w : Run) (node : ℕ) (a : ShardState) (sends : List Envelope) (st : ShardStep) → ((x : Run) → Grows top w x → (e : Envelope) → Among e sends → EnvelopeSound top x e)

@@ -1,23 +1,22 @@
 -- ReplBegin, Notify and DepOk keep all.
-use Rattle.std.proofs.Common.{◌≡◌, ◌∙◌, ℕ, ◌<◌, ◌≤◌, Bool, true, false, List, [], ◌∷◌, ◌++◌, Option, Some, None, inl, inr, refl, sym, ap, subst, le_of_lt}
-use Rattle.logical_time.specs.Stamps.{TxnValue, WriterValue}
+use Rattle.std.proofs.Common.{◌≡◌, ℕ, ◌<◌, ◌≤◌, Bool, true, false, Option, Some, None, inl, inr, refl, sym, subst, le_of_lt}
+use Rattle.logical_time.specs.Stamps.{TxnValue}
 use Rattle.messages.specs.declared.body.Body.TheVariants.{DepCheck}
 use Rattle.messages.specs.declared.envelope.Envelope.{Envelope}
 use Rattle.messages.specs.Topology.{TopologyValue, dc_of, shard_node}
 use Rattle.messages.specs.Words.{is_same_txn, envelope}
-use Rattle.messages.specs.Shard.{ShardState, KeptBallot, Met}
+use Rattle.messages.specs.Shard.{KeptBallot, Met}
 use Rattle.messages.specs.Known.{kept_ballot, is_known, has_vote, is_awaited}
 use Rattle.messages.specs.Replication.{ready, dep_checks, with_ballot, repl_begin_if, on_repl_begin, with_notice, notice_if, early_notice_if, notify_for, on_notify, is_unmet, with_met, met_if, dep_ok_for, on_dep_ok}
 use Rattle.world.specs.Run.{Run}
 use Rattle.world.proofs.Among.{Among, last_or_old, find_some, map_only, same_txn}
-use Rattle.world.proofs.Growth.{Grows}
-use Rattle.world.proofs.Facts.{near, IsDone, KeptBallotSound}
-use Rattle.world.proofs.Invariant.{EnvelopeSound, Untouched, Inv}
+use Rattle.world.proofs.Facts.{IsDone, KeptBallotSound}
+use Rattle.world.proofs.Invariant.{EnvelopeSound, Inv}
 use Rattle.world.proofs.Able.{Fresh, Able}
 use Rattle.world.proofs.Lasting.{done_grows, kept_ballot_grows}
 use Rattle.world.proofs.Near.{near_dc}
-use Rattle.world.proofs.Ables.{added, Alike, alike_grows, unbegun, unprepared, undecided, quiet_able, only}
-use Rattle.world.proofs.ReadyKept.{same_run, before_able, ready_able, ready_clock, awaited_unready, unmet_unready}
+use Rattle.world.proofs.Ables.{same_run, added, Alike, alike_grows, unbegun, unprepared, undecided, quiet_able, only}
+use Rattle.world.proofs.ReadyKept.{before_able, ready_able, ready_clock, awaited_unready, unmet_unready}
 
 module _ (top : TopologyValue) (w : Run) (node n : ℕ) (some : 0 < top.shards) (inv : Inv top w) (lt : (w.shards node).clock < n) where
   -- each answer that is kept is right at this clock

@@ -270,9 +270,9 @@ SaysLive top w from to (OfNotify t) = HasKeptPart (w.shards from) t × Leads top
 SaysLive top w from to (OfPrepareRemote t) = HasKeptPart (w.shards to) t × Known (w.shards from) t × Leads top w from t × (dc_of top from ≡ dc_of top to)
 SaysLive top w from to (OfDepCheck dependency waiter) = Leads top w to dependency × (dc_of top to < top.dcs) × Awaits (w.shards from) waiter dependency
 SaysLive top w from to (OfDepOk dependency waiter) = Awaits (w.shards to) waiter dependency
-SaysLive top w from to (OfRead number) = number ≤ (w.sessions from).count
+SaysLive top w from to (OfRead number) = (number ≤ (w.sessions from).count) × (dc_of top to < top.dcs)
 SaysLive top w from to (OfPartNow number) = number ≤ (w.sessions to).count
-SaysLive top w from to (OfReadAt number time) = Round (w.sessions from) number time
+SaysLive top w from to (OfReadAt number time) = Round (w.sessions from) number time × (dc_of top to < top.dcs)
 SaysLive top w from to (OfPartAt number time) = Round (w.sessions to) number time
 SaysLive top w from to other = Unit {0}
 

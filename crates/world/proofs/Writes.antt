@@ -1,5 +1,5 @@
 -- Begin, Prepare and Yes keep all.
-use Rattle.std.proofs.Common.{◌≡◌, ℕ, ◌+◌, ◌<◌, ◌≤◌, Bool, true, false, cond, ◌&&◌, List, [], ◌∷◌, ◌++◌, Option, Some, None, inl, inr, refl, sym, ◌∙◌, subst, subst₂, arith, eqb-true, le_refl, le_of_lt}
+use Rattle.std.proofs.Common.{◌≡◌, ℕ, ◌+◌, ◌<◌, ◌≤◌, Bool, true, false, cond, ◌&&◌, List, [], ◌∷◌, ◌++◌, Option, Some, None, inl, inr, refl, sym, subst, subst₂, arith, eqb-true, le_of_lt}
 use Rattle.std.specs.Prelude.{◌==◌, find, filter, is_some}
 use Rattle.std.proofs.lemmas.Bool.{and_parts}
 use Rattle.logical_time.specs.Stamps.{TxnValue, WriterValue}
@@ -7,17 +7,16 @@ use Rattle.column_family.specs.declared.batch.Change.{Change}
 use Rattle.messages.specs.declared.body.Body.TheVariants.{Begin, Prepare, Yes}
 use Rattle.messages.specs.Topology.{TopologyValue, dc_of, shard_node}
 use Rattle.messages.specs.Words.{is_same_txn}
-use Rattle.messages.specs.Shard.{ShardState, ShardStep, Cohort, BegunBallot, Vote, quiet}
-use Rattle.messages.specs.Known.{decision_of, standing_ballot, is_known, has_vote, is_awaited, all_voted}
+use Rattle.messages.specs.Shard.{ShardState, Cohort, BegunBallot, Vote, quiet}
+use Rattle.messages.specs.Known.{decision_of, is_known, has_vote, all_voted}
 use Rattle.messages.specs.Commits.{begin_if, on_begin, prepare_if, on_prepare, with_vote, counted_if, vote_if, early_if, yes_for, on_yes}
 use Rattle.world.specs.Run.{Run}
 use Rattle.world.proofs.Among.{Among, last_or_old, any_true, all_among, find_some, filter_only, same_txn}
-use Rattle.world.proofs.Growth.{ShardGrows, Grows}
 use Rattle.world.proofs.Facts.{near, PreparedBefore, BallotSound}
 use Rattle.world.proofs.Invariant.{PrepareSound, Says, Inv}
-use Rattle.world.proofs.Able.{Fresh, Able}
+use Rattle.world.proofs.Able.{Able}
 use Rattle.world.proofs.Lasting.{before_grows, ballot_grows}
-use Rattle.world.proofs.Ables.{same_run, only, added, Alike, alike_self, alike_grows, unprepared, undecided, undecided_at, quiet_able, prepare_able, hold_able}
+use Rattle.world.proofs.Ables.{same_run, added, alike_self, alike_grows, unprepared, undecided, undecided_at, quiet_able, prepare_able, hold_able}
 use Rattle.world.proofs.Decides.{decide_able}
 
 -- ## Votes

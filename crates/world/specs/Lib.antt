@@ -6,3 +6,4 @@ pub mod Met
 pub mod Fresh
 pub mod Worked
 pub mod Committed
+pub mod Settled

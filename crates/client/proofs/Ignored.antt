@@ -1,0 +1,144 @@
+-- An envelope that a session heeds does more than move the clock.
+use Rattle.std.proofs.Common.{◌≡◌, ◌∙◌, ℕ, Bool, true, false, ap, refl, sym, subst, List, [], ◌∷◌, ◌++◌}
+use Rattle.std.specs.Prelude.{◌==◌, ◌&&◌}
+use Rattle.logical_time.specs.Stamps.{StampValue, TxnValue}
+use Rattle.slice.specs.declared.read.Read.{Read}
+use Rattle.messages.specs.declared.rows_now.RowNow.{RowNow}
+use Rattle.messages.specs.declared.rows_at.AtTime.{AtTime}
+use Rattle.messages.specs.declared.rows_at.AtTime.TheVariants as at
+use Rattle.messages.specs.declared.body.Body.{Body}
+use Rattle.messages.specs.declared.body.Body.TheVariants as body
+use Rattle.messages.specs.declared.envelope.Envelope.{Envelope}
+use Rattle.messages.specs.Topology.{TopologyValue}
+use Rattle.messages.specs.Words.{is_same_txn}
+use Rattle.messages.specs.Session.{SessionState, SessionStep, Finished, HeardNow, HeardAt, calm}
+use Rattle.messages.specs.Session as session
+use Rattle.messages.specs.Rounds as rounds
+use Rattle.messages.specs.SessionEvents as machine
+use Rattle.read_txn.specs.States.{First, Second}
+use Rattle.client.specs.declared.kept.Kept.{Kept}
+use Rattle.client.specs.declared.current.Current.{Current}
+use Rattle.client.specs.declared.current.Current.TheVariants as now
+use Rattle.client.specs.Current.{open_of}
+use Rattle.client.specs.Ignored.{IsIgnored, heeds_done, heeds_now, heeds_at, heeds}
+use Rattle.client.specs.Represents.{FitsIn, Represents}
+use Rattle.client.specs.State.{state_of}
+use Rattle.client.proofs.Heard.{asked_of}
+use Rattle.client.proofs.Submitted.{kept_in}
+
+-- a step only moves the clock to 0
+abbrev Rests : SessionStep → SessionState → Type 0
+Rests step a = step ≡ calm 0 a
+
+-- then the same operation is open
+open_stays : (step : SessionStep) (a : SessionState) → Rests step a → step.state.current ≡ a.current
+open_stays step a e = ap (λ (s : SessionStep). s.state.current) e
+
+longer : {X : Type 0} (xs : List X) (x : X) → xs ++ x ∷ [] ≡ xs → ⊥
+longer [] x e = cc
+longer (y ∷ ys) x e = longer ys x (cc)
+
+-- ## Done
+
+done_if_rests : (b : Bool) (a : SessionState) (coordinator : ℕ) (t : TxnValue) (commit : ℕ) (stamp : StampValue) → a.current ≡ session.Writing coordinator
+    → Rests (machine.done_if b 0 a coordinator t commit stamp) a → b ≡ false
+done_if_rests false a coordinator t commit stamp writing e = refl
+done_if_rests true a coordinator t commit stamp writing e =
+    let idle : session.Idle ≡ a.current = open_stays (machine.done_if true 0 a coordinator t commit stamp) a e in
+    absurd (cc)
+
+done_rests : (c : Current) (k : Kept) (outcomes : List Finished) (t : TxnValue) (commit : ℕ) (stamp : StampValue) → c ≡ k.current
+    → Rests (machine.done_in (open_of c) k.node 0 (state_of k outcomes) t commit stamp) (state_of k outcomes) → heeds_done c k t ≡ false
+done_rests now.Idle k outcomes t commit stamp same e = refl
+done_rests (now.Write coordinator) k outcomes t commit stamp same e =
+    done_if_rests (is_same_txn t (record { session = k.node; number = k.count })) (state_of k outcomes) coordinator t commit stamp (ap open_of (sym same)) e
+done_rests (now.First f) k outcomes t commit stamp same e = refl
+done_rests (now.Second s) k outcomes t commit stamp same e = refl
+
+-- ## PartNow
+
+second_rests : (nodes : List ℕ) (me : ℕ) (a : SessionState) (read : Read) (time : ℕ) (heard before : List HeardNow) → a.current ≡ session.FirstRound read before
+    → Rests (machine.second_if nodes me 0 a read time heard) a → ⊥
+second_rests [] me a read time heard before first e =
+    let idle : session.Idle ≡ a.current = open_stays (machine.second_if [] me 0 a read time heard) a e in
+    cc
+second_rests (s ∷ ss) me a read time heard before first e =
+    let second : session.SecondRound read time heard [] ≡ a.current = open_stays (machine.second_if (s ∷ ss) me 0 a read time heard) a e in
+    cc
+
+heard_rests : (b : Bool) (top : TopologyValue) (me : ℕ) (a : SessionState) (read : Read) (before : List HeardNow) (h : HeardNow) → a.current ≡ session.FirstRound read before
+    → Rests (machine.heard_if b top me 0 a read (before ++ h ∷ [])) a → ⊥
+heard_rests true top me a read before h first e =
+    let heard = before ++ h ∷ [] in
+    let time : ℕ = rounds.effective_time a.floor heard in
+    second_rests (rounds.late_nodes (rounds.asked_nodes top a read) time heard) me a read time heard before first e
+heard_rests false top me a read before h first e =
+    let more : session.FirstRound read (before ++ h ∷ []) ≡ a.current = open_stays (machine.heard_if false top me 0 a read (before ++ h ∷ [])) a e in
+    longer before h (cc)
+
+now_if_rests : (b : Bool) (top : TopologyValue) (me : ℕ) (a : SessionState) (read : Read) (before : List HeardNow) (from : ℕ) (rows : List RowNow)
+    → a.current ≡ session.FirstRound read before → Rests (machine.part_now_if b top me 0 a read before from rows) a → b ≡ false
+now_if_rests false top me a read before from rows first e = refl
+now_if_rests true top me a read before from rows first e =
+    let h : HeardNow = record { from = from; rows = rows } in
+    absurd (heard_rests (rounds.all_heard (rounds.asked_nodes top a read) (before ++ h ∷ [])) top me a read before h first e)
+
+now_rests : (c : Current) (k : Kept) (dcs : ℕ) (homes : List ℕ) (outcomes : List Finished) (from number : ℕ) (rows : List RowNow) → c ≡ k.current → FitsIn k c
+    → Rests (machine.part_now_in (open_of c) (kept_in k dcs homes) k.node 0 (state_of k outcomes) from number rows) (state_of k outcomes) → heeds_now c k from number ≡ false
+now_rests now.Idle k dcs homes outcomes from number rows same fits e = refl
+now_rests (now.Write coordinator) k dcs homes outcomes from number rows same fits e = refl
+now_rests (now.Second s) k dcs homes outcomes from number rows same fits e = refl
+now_rests (now.First f) k dcs homes outcomes from number rows same fits e =
+    subst (λ nodes. ((number == k.count) && rounds.is_missing nodes f.heard from) ≡ false) (sym fits.1)
+    (now_if_rests ((number == k.count) && rounds.is_missing (asked_of k f.read) f.heard from) (kept_in k dcs homes) k.node (state_of k outcomes) f.read f.heard from rows
+    (ap open_of (sym same)) e)
+
+-- ## PartAt
+
+heard_at_rests : (b : Bool) (a : SessionState) (read : Read) (time : ℕ) (first : List HeardNow) (before : List HeardAt) (h : HeardAt)
+    → a.current ≡ session.SecondRound read time first before → Rests (machine.heard_at_if b 0 a read time first (before ++ h ∷ [])) a → ⊥
+heard_at_rests true a read time first before h second e =
+    let idle : session.Idle ≡ a.current = open_stays (machine.heard_at_if true 0 a read time first (before ++ h ∷ [])) a e in
+    cc
+heard_at_rests false a read time first before h second e =
+    let more : session.SecondRound read time first (before ++ h ∷ []) ≡ a.current = open_stays (machine.heard_at_if false 0 a read time first (before ++ h ∷ [])) a e in
+    longer before h (cc)
+
+taken_rests : (answer : AtTime) (top : TopologyValue) (a : SessionState) (read : Read) (time : ℕ) (first : List HeardNow) (before : List HeardAt) (from : ℕ)
+    → a.current ≡ session.SecondRound read time first before → Rests (machine.taken_at answer top 0 a read time first before from) a → ⊥
+taken_rests at.Collected top a read time first before from second e =
+    let idle : session.Idle ≡ a.current = open_stays (machine.taken_at at.Collected top 0 a read time first before from) a e in
+    cc
+taken_rests (at.Rows rows) top a read time first before from second e =
+    let h : HeardAt = record { from = from; rows = rows } in
+    heard_at_rests (rounds.all_heard_at (rounds.asked_nodes top a read) time first (before ++ h ∷ [])) a read time first before h second e
+
+at_if_rests : (b : Bool) (top : TopologyValue) (a : SessionState) (read : Read) (time : ℕ) (first : List HeardNow) (before : List HeardAt) (from : ℕ) (answer : AtTime)
+    → a.current ≡ session.SecondRound read time first before → Rests (machine.part_at_if b top 0 a read time first before from answer) a → b ≡ false
+at_if_rests false top a read time first before from answer second e = refl
+at_if_rests true top a read time first before from answer second e = absurd (taken_rests answer top a read time first before from second e)
+
+at_rests : (c : Current) (k : Kept) (dcs : ℕ) (homes : List ℕ) (outcomes : List Finished) (from number : ℕ) (answer : AtTime) → c ≡ k.current → FitsIn k c
+    → Rests (machine.part_at_in (open_of c) (kept_in k dcs homes) 0 (state_of k outcomes) from number answer) (state_of k outcomes) → heeds_at c k from number ≡ false
+at_rests now.Idle k dcs homes outcomes from number answer same fits e = refl
+at_rests (now.Write coordinator) k dcs homes outcomes from number answer same fits e = refl
+at_rests (now.First f) k dcs homes outcomes from number answer same fits e = refl
+at_rests (now.Second s) k dcs homes outcomes from number answer same fits e =
+    subst (λ nodes. ((number == k.count) && rounds.is_missing_at nodes s.time s.first s.heard from) ≡ false) (sym fits.1)
+    (at_if_rests ((number == k.count) && rounds.is_missing_at (asked_of k s.read) s.time s.first s.heard from) (kept_in k dcs homes) (state_of k outcomes) s.read s.time s.first s.heard from answer
+    (ap open_of (sym same)) e)
+
+-- ## Every envelope
+
+rests : (b : Body) (k : Kept) (dcs : ℕ) (homes : List ℕ) (outcomes : List Finished) (from : ℕ) → FitsIn k k.current
+    → Rests (machine.heard (kept_in k dcs homes) k.node 0 (state_of k outcomes) from b) (state_of k outcomes) → heeds k from b ≡ false
+rests (body.Done txn commit stamp) k dcs homes outcomes from fits e = done_rests k.current k outcomes txn commit stamp refl e
+rests (body.PartNow number rows) k dcs homes outcomes from fits e = now_rests k.current k dcs homes outcomes from number rows refl fits e
+rests (body.PartAt number time answer) k dcs homes outcomes from fits e = at_rests k.current k dcs homes outcomes from number answer refl fits e
+rests b k dcs homes outcomes from fits e = refl
+
+pub ignored_rests : (k : Kept) (e : Envelope) (top : TopologyValue) (a : SessionState) → Represents k top a → IsIgnored top k.node a e → heeds k e.from e.body ≡ false
+ignored_rests k e top a r ignored =
+    rests e.body k top.dcs top.homes a.outcomes e.from r.current
+    (subst (λ t. Rests (machine.heard t k.node 0 (state_of k a.outcomes) e.from e.body) (state_of k a.outcomes)) r.topology
+    (subst (λ b. Rests (machine.heard top k.node 0 b e.from e.body) b) r.state (ignored 0)))

@@ -1,0 +1,14 @@
+pub mod Additions
+pub mod Commits
+pub mod Grow
+pub mod LetGo
+pub mod Lists
+pub mod OneShard
+pub mod ReadSteps
+pub mod Remotes
+pub mod Run
+pub mod Shown
+pub mod Untouched
+pub mod Updates
+pub mod Votes
+pub mod Within

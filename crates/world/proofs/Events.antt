@@ -1,0 +1,117 @@
+-- Each event keeps all, and the run grows by it.
+use Rattle.std.proofs.Common.{◌≡◌, ℕ, ◌+◌, ◌<◌, max, Bool, true, false, cond, Option, Some, None, refl, arith, le_of_lt, slice_get}
+use Rattle.std.specs.Prelude.{nat_lt, ◌^◌}
+use Rattle.logical_time.specs.declared.fault.Fault.{Fault}
+use Rattle.messages.specs.declared.op.Op.{Op}
+use Rattle.messages.specs.declared.envelope.Envelope.{Envelope}
+use Rattle.messages.specs.Topology.{TopologyValue, is_shard, is_session}
+use Rattle.messages.specs.Clock.{ticked, on_clock}
+use Rattle.messages.specs.Session.{is_idle}
+use Rattle.messages.specs.Submitting.{begun, plan_fault, submit_fault, submit_if as session_submit_if}
+use Rattle.messages.specs.SessionEvents.{heard, session_handle}
+use Rattle.messages.specs.ShardEvents.{handled, shard_handle, collected}
+use Rattle.world.specs.Run.{Run, Event, Submit, Deliver, Collect, after_shard, after_session, after_submission, submit_if, deliver_if, deliver_for, collect_if, step}
+use Rattle.world.proofs.Among.{Among, get_among}
+use Rattle.world.proofs.Growth.{Grows}
+use Rattle.world.proofs.Invariant.{EnvelopeSound, Inv}
+use Rattle.world.proofs.ShardSteps.{shard_run_grows}
+use Rattle.world.proofs.HandlesKept.{handle_able, handle_kept, collect_able, collect_kept}
+use Rattle.world.proofs.SessionSteps.{session_run_grows, session_step_kept}
+use Rattle.world.proofs.Ables.{same_run}
+use Rattle.world.proofs.SessionsKept.{heard_able}
+use Rattle.world.proofs.Submissions.{begun_kept, begun_grows}
+
+-- all holds of the run after it, and the run grew
+abbrev pub Kept : TopologyValue → Run → Run → Type 0
+Kept top w x = Inv top x × Grows top w x
+
+same_kept : (top : TopologyValue) (w : Run) → Inv top w → Kept top w w
+same_kept top w inv = (inv, same_run top w)
+
+-- the clock moves above what it showed and above the time of the message
+pub ticked_above : (c t n : ℕ) → ticked c t ≡ Some n → (c < n) × (t < n)
+ticked_above c t n e = go (nat_lt (max c t + 1) (2 ^ 48)) e
+  where
+    go : (b : Bool) → cond b (Some (max c t + 1)) None ≡ Some n → (c < n) × (t < n)
+    go true q = let is : max c t + 1 ≡ n = cc in (omega arith, omega arith)
+    go false q = absurd (cc)
+
+module _ (top : TopologyValue) (w : Run) (some : 0 < top.shards) (inv : Inv top w) where
+  -- ## A message comes
+
+  shard_hears : (e : Envelope) (x : Event) → EnvelopeSound top w e → Kept top w (after_shard (shard_handle top e.to (w.shards e.to) e) w x e.to)
+  shard_hears e x says = go (ticked (w.shards e.to).clock e.time) refl
+    where
+      go : (o : Option ℕ) → ticked (w.shards e.to).clock e.time ≡ o
+          → Kept top w (after_shard (on_clock o (λ n. handled top e.to n (w.shards e.to) e.from e.body)) w x e.to)
+      go None q = same_kept top w inv
+      go (Some n) q =
+          let above = ticked_above (w.shards e.to).clock e.time n q in
+          let st = handled top e.to n (w.shards e.to) e.from e.body in (
+            handle_kept top w e.to n e.from e.time e.body x some inv above.0 above.1 says,
+            shard_run_grows top w e.to st x (handle_able top w e.to n e.from e.time e.body some inv above.0 above.1 says).grows,
+          )
+
+  session_hears : (e : Envelope) (x : Event) → EnvelopeSound top w e → Kept top w (after_session (session_handle top e.to (w.sessions e.to) e) w x e.to)
+  session_hears e x says = go (ticked (w.sessions e.to).clock e.time) refl
+    where
+      go : (o : Option ℕ) → ticked (w.sessions e.to).clock e.time ≡ o
+          → Kept top w (after_session (on_clock o (λ n. heard top e.to n (w.sessions e.to) e.from e.body)) w x e.to)
+      go None q = same_kept top w inv
+      go (Some n) q =
+          let above = ticked_above (w.sessions e.to).clock e.time n q in
+          let st = heard top e.to n (w.sessions e.to) e.from e.body in
+          let able = heard_able top w e.to n some inv (le_of_lt above.0) e.from e.time e.body (le_of_lt above.1) says in
+          (session_step_kept top w e.to st x inv able, session_run_grows top w e.to st x able.grows)
+
+  deliver_go : (shard session : Bool) (e : Envelope) (x : Event) → EnvelopeSound top w e → Kept top w (deliver_if shard session top w x e)
+  deliver_go true session e x says = shard_hears e x says
+  deliver_go false true e x says = session_hears e x says
+  deliver_go false false e x says = same_kept top w inv
+
+  message_go : (o : Option Envelope) (x : Event) → ((e : Envelope) → o ≡ Some e → Among e w.sent) → Kept top w (deliver_for o top w x)
+  message_go None x m = same_kept top w inv
+  message_go (Some e) x m = deliver_go (is_shard top e.to) (is_session top e.to) e x (inv.sent e (m e refl))
+
+  -- ## A collection
+
+  collect_go : (b : Bool) (node time : ℕ) → Kept top w (collect_if b w node time)
+  collect_go false node time = same_kept top w inv
+  collect_go true node time = go (ticked (w.shards node).clock (w.shards node).clock) refl
+    where
+      go : (o : Option ℕ) → ticked (w.shards node).clock (w.shards node).clock ≡ o
+          → Kept top w (after_shard (on_clock o (λ n. collected n (w.shards node) time)) w (Collect node time) node)
+      go None q = same_kept top w inv
+      go (Some n) q =
+          let above = ticked_above (w.shards node).clock (w.shards node).clock n q in
+          let st = collected n (w.shards node) time in
+          (collect_kept top w node n time (Collect node time) inv above.0, shard_run_grows top w node st (Collect node time) (collect_able top w node n time inv above.0).grows)
+
+  -- ## A submission
+
+  accepted : (o : Op) (b : Bool) → submit_fault b top o ≡ None → plan_fault top o ≡ None
+  accepted o true e = e
+  accepted o false e = absurd (cc)
+
+  submit_go : (b : Bool) (node : ℕ) (o : Op) → Kept top w (submit_if b top w node o)
+  submit_go false node o = same_kept top w inv
+  submit_go true node o = by (submit_fault (is_idle (w.sessions node).current) top o) refl
+    where
+      go : plan_fault top o ≡ None → (c : Option ℕ) → ticked (w.sessions node).clock (w.sessions node).clock ≡ c
+          → Kept top w (after_submission (on_clock c (λ n. begun top node n (w.sessions node) o)) w node o)
+      go plan None q = same_kept top w inv
+      go plan (Some n) q =
+          let above = ticked_above (w.sessions node).clock (w.sessions node).clock n q in
+          (begun_kept top w node n o some inv above.0 plan, begun_grows top w node n o inv above.0)
+
+      by : (f : Option Fault) → submit_fault (is_idle (w.sessions node).current) top o ≡ f
+          → Kept top w (after_submission (session_submit_if f top node (w.sessions node) o) w node o)
+      by (Some e) q = same_kept top w inv
+      by None q = go (accepted o (is_idle (w.sessions node).current) q) (ticked (w.sessions node).clock (w.sessions node).clock) refl
+
+  -- ## Every event
+
+  pub event_kept : (x : Event) → Kept top w (step top w x)
+  event_kept (Submit node o) = submit_go (is_session top node) node o
+  event_kept (Deliver k) = message_go (slice_get w.sent k) (Deliver k) (get_among w.sent k)
+  event_kept (Collect node time) = collect_go (is_shard top node) node time

@@ -1,0 +1,158 @@
+-- A session's step that ends its operation, and one that leaves it open.
+use Rattle.std.proofs.Common.{◌≡◌, ℕ, ◌+◌, ◌<◌, ◌≤◌, List, [], ◌∷◌, Option, Some, None, inl, inr, refl, sym, ap, ap₂, ◌∙◌, subst, le_refl, le_trans}
+use Rattle.std.specs.Prelude.{filter_map, option_map, Contains}
+use Rattle.std.proofs.Math.Seq.{drop-append_seam, drop-length}
+use Rattle.logical_time.specs.Stamps.{TxnValue, WriterValue}
+use Rattle.slice.specs.declared.read.Read.{Read}
+use Rattle.store.proofs.Lists.{given_only}
+use Rattle.messages.specs.declared.op.Op.{Op}
+use Rattle.messages.specs.declared.outcome.Outcome.{Outcome}
+use Rattle.messages.specs.declared.envelope.Envelope.{Envelope}
+use Rattle.messages.specs.Topology.{TopologyValue}
+use Rattle.messages.specs.Words.{is_same_txn}
+use Rattle.messages.specs.Session.{SessionState, Open, Idle, Writing, FirstRound, SecondRound, HeardNow, HeardAt, calm}
+use Rattle.messages.specs.SessionEvents.{ended}
+use Rattle.world.specs.Run.{Run, Submission, Completed, submission_of, completed_of}
+use Rattle.world.proofs.Among.{Among, among_contains, contains_among, find_some, same_txn}
+use Rattle.world.proofs.Growth.{FirstAsked, SecondAsked, Grows}
+use Rattle.world.proofs.Facts.{txn_of, IsDone}
+use Rattle.world.proofs.Invariant.{EnvelopeSound, IsOpen, HeardNowSound, HeardAtSound, OpenSound, SubmittedSound, EndSound, CompletedSound, Inv}
+use Rattle.world.proofs.Lasting.{answers_now_grow}
+use Rattle.world.proofs.Ables.{same_run}
+use Rattle.world.proofs.SessionSteps.{SessionAble}
+
+-- ## What is newly completed
+
+one_given : {X Y : Type 0} (g : X → Option Y) (x : X) (y : Y) → Among y (filter_map g (x ∷ [])) → g x ≡ Some y
+one_given {X} {Y} g x y m = go (given_only g (x ∷ []) y (among_contains y (filter_map g (x ∷ [])) m))
+  where
+    by : (z : X) → Among z (x ∷ []) → g z ≡ Some y → g x ≡ Some y
+    by z (inl q) e = ap g (sym q) ∙ e
+    by z (inr n) e = absurd n
+
+    go : (z : X) × Contains (x ∷ []) z × (g z ≡ Some y) → g x ≡ Some y
+    go (z, has, e) = by z (contains_among z (x ∷ []) has) e
+
+pub open_txn : {w : Run} {node m dc : ℕ} {o : Op} (k : IsOpen w node m dc o) → txn_of k.submission ≡ record { session = node; number = m }
+open_txn k = ap₂ (λ s n. record { session = s; number = n }) k.session k.number
+
+-- what ended is the operation that was open
+open_completed : (top : TopologyValue) (w : Run) (node m dc : ℕ) (o : Op) (out : Outcome) → SubmittedSound top w → IsOpen w node m dc o
+    → EndSound o out top w dc (record { session = node; number = m })
+    → (s : Submission) → Among s w.submitted → txn_of s ≡ record { session = node; number = m } → CompletedSound top w (record { node = node; number = m; home = s.home; op = s.op; outcome = out })
+open_completed top w node m dc o out k b came s i e =
+    let same : s ≡ b.submission = k.one s b.submission i b.among (e ∙ sym (open_txn b)) in
+    record {
+      opened = record { submission = s; among = i; session = ap (λ t. t.session) e; number = ap (λ t. t.number) e; home = refl; op = refl };
+      came =
+          subst (λ z. EndSound z out top w s.home (record { session = node; number = m })) (sym (ap (λ z. z.op) same ∙ b.op))
+          (subst (λ z. EndSound o out top w z (record { session = node; number = m })) (sym (ap (λ z. z.home) same ∙ b.home)) came);
+    }
+
+found_completed : (top : TopologyValue) (w : Run) (node m dc : ℕ) (o : Op) (out : Outcome) → SubmittedSound top w → IsOpen w node m dc o
+    → EndSound o out top w dc (record { session = node; number = m })
+    → (c : Completed) → completed_of w.submitted node (record { number = m; outcome = out }) ≡ Some c → CompletedSound top w c
+found_completed top w node m dc o out k b came c e = go (submission_of w.submitted t) refl e
+  where
+    t : TxnValue
+    t = record { session = node; number = m }
+
+    ended_as : Submission → Completed
+    ended_as s = record { node = node; number = m; home = s.home; op = s.op; outcome = out }
+
+    go : (f : Option Submission) → submission_of w.submitted t ≡ f → option_map ended_as f ≡ Some c → CompletedSound top w c
+    go None q r = absurd (cc)
+    go (Some s) q r =
+        let same : ended_as s ≡ c = cc in
+        let i = find_some (λ s. is_same_txn (record { session = s.session; number = s.number }) t) w.submitted s q in
+        subst (λ z. CompletedSound top w z) same (open_completed top w node m dc o out k b came s i.0 (same_txn (txn_of s) t i.1))
+
+module _ (top : TopologyValue) (w : Run) (node n : ℕ) (inv : Inv top w) (le : (w.sessions node).clock ≤ n) where
+  -- the session before the message
+  abbrev a : SessionState
+  a = w.sessions node
+
+  -- after it, where its operation is open or another
+  abbrev later : Open → SessionState
+  later o = record (w.sessions node) { clock = n; current = o }
+
+  -- the operation ends
+  pub ended_able : (floor : ℕ) (dependencies : List WriterValue) (out : Outcome) (o : Op) → a.floor ≤ floor → floor ≤ n → IsOpen w node a.count a.home o
+      → EndSound o out top w a.home (record { session = node; number = a.count })
+      → ((k : WriterValue) → Among k dependencies → IsDone top w a.home k.txn (floor + 1))
+      → ((k : WriterValue) → Among k dependencies → k.shard < top.shards) → SessionAble top w node (ended n a floor dependencies out)
+  ended_able floor dependencies out o above below b came done placed =
+      record {
+        grows =
+            record {
+              clock = le;
+              count = le_refl a.count;
+              home = refl;
+              floor = above;
+              asked_now = λ number m asked k. record { number = k.number; round = λ q. tt };
+              asked_at = λ number time m asked k. record { number = k.number; round = λ q. tt };
+            };
+        session = record { home = (inv.sessions node).home; floor = below; current = tt; dependencies = done; placed = placed };
+        completed = λ c m. found_completed top w node a.count a.home o out inv.submitted b came c (
+            one_given (completed_of w.submitted node) (record { number = a.count; outcome = out }) c (
+            subst (λ fs. Among c (filter_map (completed_of w.submitted node) fs)) (drop-append_seam a.outcomes (record { number = a.count; outcome = out } ∷ [])) m
+            )
+            );
+        sends = λ x g at e m. absurd m;
+      }
+
+  -- the operation is left open
+  pub waits_able : (o : Open) (sends : List Envelope) → ((m : ℕ) (asked : Read) → FirstAsked top a.current m asked → FirstAsked top o m asked)
+      → ((time m : ℕ) (asked : Read) → SecondAsked a.current time m asked → SecondAsked o time m asked) → OpenSound top w node (later o) o
+      → ((x : Run) → Grows top w x → x.sessions node ≡ later o → (e : Envelope) → Among e sends → EnvelopeSound top x e)
+      → SessionAble top w node (record { state = later o; sends = sends })
+  waits_able o sends asked_first asked_second sound send =
+      record {
+        grows =
+            record {
+              clock = le;
+              count = le_refl a.count;
+              home = refl;
+              floor = le_refl a.floor;
+              asked_now = λ number m asked k. record { number = k.number; round = λ q. asked_first m asked (k.round q) };
+              asked_at = λ number time m asked k. record { number = k.number; round = λ q. asked_second time m asked (k.round q) };
+            };
+        session = record {
+          home = (inv.sessions node).home;
+          floor = le_trans (inv.sessions node).floor le;
+          current = sound;
+          dependencies = (inv.sessions node).dependencies;
+          placed = (inv.sessions node).placed;
+        };
+        completed = λ c m. absurd (subst (λ fs. Among c (filter_map (completed_of w.submitted node) fs)) (drop-length a.outcomes) m);
+        sends = send;
+      }
+
+  -- ## What was heard stays so as the clock moves
+
+  pub heard_now_later : (o : Open) (read : Read) (h : HeardNow) → HeardNowSound top w a read h → HeardNowSound top w (later o) read h
+  heard_now_later o read h k = record { asked = k.asked; answers = answers_now_grow (same_run top w) le k.answers }
+
+  pub heard_at_later : (o : Open) (read : Read) (time : ℕ) (first : List HeardNow) (h : HeardAt) → HeardAtSound top w a read time first h
+      → HeardAtSound top w (later o) read time first h
+  heard_at_later o read time first h k = record { asked = k.asked; answers = k.answers }
+
+  open_later : (now o : Open) → OpenSound top w node a o → OpenSound top w node (record a { clock = n; current = now }) o
+  open_later now Idle k = tt
+  open_later now (Writing coordinator) k = record { batch = k.batch; opened = k.opened; coordinator = k.coordinator }
+  open_later now (FirstRound read heard) k = record { opened = k.opened; heard = λ h m. heard_now_later now read h (k.heard h m) }
+  open_later now (SecondRound read time first heard) k =
+      record {
+        opened = k.opened;
+        first = λ h m. heard_now_later now read h (k.first h m);
+        all = k.all;
+        time = k.time;
+        clock = le_trans k.clock le;
+        heard = λ h m. heard_at_later now read time first h (k.heard h m);
+      }
+
+  -- only the clock moves
+  pub calm_able : SessionAble top w node (calm n a)
+  calm_able =
+      let now = a.current in
+      waits_able now [] (λ m asked k. k) (λ time m asked k. k) (open_later now now (inv.sessions node).current) (λ x g at e m. absurd m)

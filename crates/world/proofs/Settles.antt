@@ -1,0 +1,112 @@
+-- A quiet run is settled.
+use Rattle.std.proofs.Common.{◌≡◌, ℕ, ◌<◌, List, ◌⊎◌, inl, inr, refl, sym, ap, ◌∙◌, subst, arith}
+use Rattle.std.specs.Prelude.{true, false, Contains}
+use Rattle.std.proofs.lemmas.Bool.{false≢true}
+use Rattle.logical_time.specs.Stamps.{TxnValue}
+use Rattle.column_family.specs.declared.batch.Change.{Change}
+use Rattle.planner.specs.Plan.{coordinator_of}
+use Rattle.messages.specs.Topology.{TopologyValue}
+use Rattle.messages.specs.Session.{Open, Idle, Writing, FirstRound, SecondRound, is_idle}
+use Rattle.messages.specs.Rounds.{asked_nodes, is_missing, is_missing_at}
+use Rattle.world.specs.Run.{Run, Submission, Completed}
+use Rattle.world.specs.Histories.{decisions_in}
+use Rattle.world.specs.Quiet.{IsQuiet}
+use Rattle.world.specs.Settled.{IsOutcomeOf, IsCommittedIn, Settled}
+use Rattle.world.proofs.Among.{Among, among_contains, contains_among}
+use Rattle.world.proofs.Facts.{txn_of, IsWritten, lead}
+use Rattle.world.proofs.Invariant.{OpenSound, Inv}
+use Rattle.world.proofs.Causal.{txn_ended, Causal}
+use Rattle.world.proofs.DecidedIn.{in_decisions}
+use Rattle.world.proofs.StampsApart.{written_at, submitted_one}
+use Rattle.world.proofs.Near.{coordinator_below, lead_dc}
+use Rattle.world.proofs.About.{OfRead, OfReadAt, OfPartNow, OfPartAt, OfDone}
+use Rattle.world.proofs.Underway.{FirstHas, SecondHas, SecondIs, OpenLive, HasEnded, StillOpen, Live}
+use Rattle.world.proofs.SessionEnds.{open_txn}
+use Rattle.world.proofs.Settling.{act, home_decided}
+use Rattle.world.proofs.SettledShards.{each_decided, no_wait, shard_clear}
+use Rattle.world.proofs.SettledTables.{equal_tables}
+
+module _ (top : TopologyValue) (w : Run) (some : 0 < top.shards) (inv : Inv top w) (live : Live top w) (causal : Causal top w) (quiet : IsQuiet w) where
+  -- ## Writes
+
+  committed_in : (t : TxnValue) (b : Submission) (batch : List Change) → IsWritten w t b batch → (dc : ℕ) → dc < top.dcs → IsCommittedIn top w dc t
+  committed_in t b batch k dc lt =
+      let d = each_decided top w some inv live quiet t b batch k dc lt in
+      (d.0, among_contains d.0 (decisions_in top w dc) (in_decisions top w dc (coordinator_of top.shards batch) d.0 (coordinator_below top.shards batch some) d.1), d.2)
+
+  -- the session was told
+  write_ended : (t : TxnValue) (b : Submission) (batch : List Change) → IsWritten w t b batch → HasEnded w t
+  write_ended t b batch k =
+      let s = lead top b.home batch in
+      let d = home_decided top w some inv live quiet t b batch k in
+      let l = (live.shards s).entries.decided d.0 d.1 in
+      let one = submitted_one inv.submitted (written_at d.2 l.written) k in
+      let r = act top w some inv live quiet s d.0.txn.session (OfDone d.0.txn) (l.done (lead_dc top b.home batch some ∙ ap (λ z. z.home) (sym one))) in
+      subst (λ u. HasEnded w u) d.2 r
+
+  -- ## Sessions
+
+  not_idle : (node : ℕ) (o : Open) → (w.sessions node).current ≡ o → is_idle o ≡ false → (c : Completed) → Among c w.transcript → c.node ≡ node → c.number ≡ (w.sessions node).count → ⊥
+  not_idle node o e busy c m at is =
+      let lt = causal.closed c m (ap (λ i. is_idle (w.sessions i).current) at ∙ ap is_idle e ∙ busy) in
+      let same : (w.sessions c.node).count ≡ (w.sessions node).count = ap (λ i. (w.sessions i).count) at in
+      omega arith
+
+  idle : (node : ℕ) → (w.sessions node).current ≡ Idle
+  idle node = go (w.sessions node).current refl (inv.sessions node).current (live.current node)
+    where
+      go : (o : Open) → (w.sessions node).current ≡ o → OpenSound top w node (w.sessions node) o → OpenLive top w node (w.sessions node) o → o ≡ Idle
+      go Idle e s k = refl
+      go (Writing coordinator) e s k =
+          let t = open_txn s.opened in
+          let c = write_ended (txn_of s.opened.submission) s.opened.submission s.batch (record { among = s.opened.among; txn = refl; op = s.opened.op }) in
+          let u : txn_ended c.0 ≡ record { session = node; number = (w.sessions node).count } = c.2 ∙ t in
+          absurd (not_idle node (Writing coordinator) e refl c.0 c.1 (ap (λ z. z.session) u) (ap (λ z. z.number) u))
+      go (FirstRound read heard) e s k =
+          let shard = k.some.0 in
+          let sent = act top w some inv live quiet node shard (OfRead (w.sessions node).count) (k.asked shard k.some.1) in
+          let heard_it = (act top w some inv live quiet shard node (OfPartNow (w.sessions node).count) sent).round refl in
+          let has : FirstHas top (w.sessions node) (FirstRound read heard) shard = subst (λ z. FirstHas top (w.sessions node) z shard) e heard_it in
+          absurd (false≢true (sym has ∙ k.some.1))
+      go (SecondRound read time first heard) e s k =
+          let shard = k.some.0 in
+          elim (act top w some inv live quiet node shard (OfReadAt (w.sessions node).count time) (k.asked shard k.some.1)) [
+            | inl sent ↦
+                let heard_it = (act top w some inv live quiet shard node (OfPartAt (w.sessions node).count time) sent).round refl in
+                let has : SecondHas top (w.sessions node) (SecondRound read time first heard) shard = subst (λ z. SecondHas top (w.sessions node) z shard) e heard_it in
+                absurd (false≢true (sym has ∙ k.some.1))
+            | inr (inl y) ↦ absurd (no_wait top w some inv live quiet shard y.0 y.1)
+            | inr (inr y) ↦
+                let is : SecondIs (SecondRound read time first heard) y.0 = subst (λ z. SecondIs z y.0) e (y.2.round refl) in
+                absurd (y.1 (sym is))
+          ]
+
+  outcome : (b : Submission) → Among b w.submitted → (c : Completed) × IsOutcomeOf w b c
+  outcome b m = go (live.ends b m)
+    where
+      go : StillOpen w b ⊎ HasEnded w (txn_of b) → (c : Completed) × IsOutcomeOf w b c
+      go (inl o) = absurd (false≢true (sym o.current ∙ ap is_idle (idle b.session)))
+      go (inr (c, i, e)) =
+          let k = (inv.transcript c i).opened in
+          let same = inv.submitted.one k.submission b k.among m (open_txn k ∙ e) in (
+            c,
+            record {
+              ended = among_contains c w.transcript i;
+              node = ap (λ z. z.session) e;
+              number = ap (λ z. z.number) e;
+              home = sym k.home ∙ ap (λ z. z.home) same;
+              op = sym k.op ∙ ap (λ z. z.op) same;
+            },
+          )
+
+  -- ## All
+
+  pub settled : Settled top w
+  settled =
+      record {
+        outcomes = λ b c. outcome b (contains_among b w.submitted c);
+        idle = idle;
+        committed = λ b batch dc c e lt. committed_in (txn_of b) b batch (record { among = contains_among b w.submitted c; txn = refl; op = e }) dc lt;
+        shards = shard_clear top w some inv live quiet;
+        tables = λ dc other lt below. equal_tables top w inv dc other (λ t b batch k. (committed_in t b batch k dc lt, committed_in t b batch k other below));
+      }
