@@ -1,5 +1,5 @@
 -- Where messages go: what is for a shard goes to one, and Done goes to a session.
-use Rattle.std.proofs.Common.{◌≡◌, ℕ, ◌*◌, ◌<◌, ◌≤◌, Bool, true, false, ◌&&◌, List, length, slice_get, Option, Some, None, ◌⊎◌, inl, inr, refl, sym, ap, ◌∙◌, subst, arith, leb-true, ltb-true}
+use Rattle.std.proofs.Common.{◌≡◌, ℕ, ◌<◌, Bool, true, false, ◌&&◌, length, slice_get, Option, Some, None, inl, inr, refl, sym, ap, ◌∙◌, subst, arith, leb-true, ltb-true}
 use Rattle.std.specs.Prelude.{nat_le, nat_lt, option_and_then}
 use Rattle.std.specs.List.{list_all}
 use Rattle.std.specs.Option.{unwrap_or}
@@ -8,15 +8,15 @@ use Rattle.std.proofs.lemmas.Bool.Decides.{nat_tests}
 use Rattle.logical_time.specs.Stamps.{TxnValue}
 use Rattle.messages.specs.declared.body.Body.{Body}
 use Rattle.messages.specs.declared.body.Body.TheVariants.{Begin, Prepare, Yes, Commit, Read as ReadNow, ReadAt, ReplBegin, ReplPart, Notify, PrepareRemote, DepCheck, DepOk, Done}
-use Rattle.messages.specs.Topology.{TopologyValue, is_topology, dc_of, shard_of, shard_node, is_shard, is_session, session_of, home_of}
-use Rattle.messages.specs.Shard.{ShardState, new_shard}
+use Rattle.messages.specs.Topology.{TopologyValue, is_topology, dc_of, shard_of, is_shard, is_session, session_of}
+use Rattle.messages.specs.Shard.{new_shard}
 use Rattle.messages.proofs.Numbering.{shard_again, shard_is_shard}
 use Rattle.world.specs.Run.{Run}
 use Rattle.world.proofs.Among.{Among, get_among, all_among}
 use Rattle.world.proofs.Invariant.{home, Says, Inv}
 use Rattle.world.proofs.Near.{shard_below}
 use Rattle.world.proofs.About.{kind_of}
-use Rattle.world.proofs.Underway.{HasPrepared, Known, AtOrigin, SaysLive, Live}
+use Rattle.world.proofs.Underway.{Known, AtOrigin, SaysLive, Live}
 use Rattle.world.proofs.LiveHeard.{is_for_shard}
 use Rattle.world.proofs.Seats.{Seats}
 

@@ -1,9 +1,8 @@
 -- Which shards and which keys a read asks, and whether each asked shard was heard.
-use Rattle.std.proofs.Common.{◌≡◌, ℕ, zero, suc, ◌+◌, ◌<◌, true, not, List, [], ◌∷◌, sum, inl, inr, refl, sym, ap, ◌∙◌, subst, arith, eqb-true}
+use Rattle.std.proofs.Common.{◌≡◌, ℕ, zero, suc, ◌+◌, ◌<◌, true, not, List, [], ◌∷◌, inl, inr, refl, sym, ap, ◌∙◌, subst, arith, eqb-true}
 use Rattle.std.specs.Prelude.{◌==◌, flat_map}
 use Rattle.std.specs.List.{list_any, range_with_len}
 use Rattle.std.proofs.lemmas.Bool.{and_parts}
-use Rattle.std.proofs.lemmas.Nat.{mod_below}
 use Rattle.slice.specs.declared.read.Read.{Read}
 use Rattle.planner.specs.Partition.{shard_of as shard_of_key}
 use Rattle.planner.specs.Plan.{is_on, keys_for, shards_asked}

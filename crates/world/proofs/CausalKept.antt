@@ -1,11 +1,9 @@
 -- Each event keeps causal order: a shard's step, a session's step, and a submission.
-use Rattle.std.proofs.Common.{◌≡◌, ℕ, ◌+◌, ◌<◌, ◌≤◌, Bool, true, false, cond, List, [], ◌∷◌, ◌++◌, drop, length, Option, Some, None, Ok, ◌⊎◌, inl, inr, refl, sym, ap, ◌∙◌, subst, arith, eqb-true, eq-eqb, le_refl, le_trans}
-use Rattle.std.specs.Prelude.{◌==◌, filter_map, flat_map, option_map, Contains}
+use Rattle.std.proofs.Common.{◌≡◌, ℕ, ◌+◌, ◌<◌, ◌≤◌, Bool, true, false, cond, List, [], ◌∷◌, ◌++◌, drop, length, Option, Some, None, Ok, ◌⊎◌, inl, inr, refl, sym, ap, ◌∙◌, subst, arith, eqb-true, le_refl, le_trans}
+use Rattle.std.specs.Prelude.{◌==◌, filter_map, option_map}
 use Rattle.std.proofs.Math.Seq.{drop-append_seam, drop-length}
 use Rattle.std.proofs.lemmas.Bool.{false≢true}
-use Rattle.logical_time.specs.Stamps.{StampValue, TxnValue, WriterValue}
-use Rattle.column_family.specs.declared.batch.Change.{Change}
-use Rattle.store.proofs.Lists.{given_only}
+use Rattle.logical_time.specs.Stamps.{TxnValue, WriterValue}
 use Rattle.messages.specs.declared.rows_at.RowAt.{RowAt}
 use Rattle.messages.specs.declared.op.Op.{Op}
 use Rattle.messages.specs.declared.op.Op.TheVariants as op
@@ -17,12 +15,12 @@ use Rattle.messages.specs.Words.{is_same_txn}
 use Rattle.messages.specs.Shard.{ShardStep}
 use Rattle.messages.specs.Session.{SessionState, SessionStep, Open, Finished, is_idle}
 use Rattle.messages.specs.Rounds.{with_writers}
-use Rattle.world.specs.Run.{Run, Event, Submission, Completed, submission_of, completed_of, newly_completed, with_actor, after_shard, after_session, after_submission}
+use Rattle.world.specs.Run.{Run, Event, Submission, Completed, submission_of, completed_of, newly_completed, after_shard, after_session, after_submission}
 use Rattle.messages.proofs.WritersInOrder.{writers_stay}
 use Rattle.world.specs.Committed.{time_of, IsNotBelow}
 use Rattle.world.proofs.Among.{Among, among_append, among_contains, append_first, append_second, last_or_old, contains_among, find_some, same_txn}
 use Rattle.world.proofs.Growth.{ShardGrows, Grows}
-use Rattle.world.proofs.Facts.{txn_of, IsDecided, lead}
+use Rattle.world.proofs.Facts.{txn_of, lead}
 use Rattle.world.proofs.Invariant.{IsOpen, AnsweredFrom, EndSound, Inv}
 use Rattle.world.proofs.LastingAll.{from_grows}
 use Rattle.world.proofs.ShardSteps.{actor_same, shard_run_grows}

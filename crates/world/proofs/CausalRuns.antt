@@ -1,25 +1,20 @@
 -- Every run keeps causal order.
-use Rattle.std.proofs.Common.{Ok, List, [], ◌∷◌, map, ◌+◌, ◌≡◌, ℕ, ◌<◌, max, Bool, true, false, cond, Option, Some, None, refl, arith, le_of_lt, slice_get}
-use Rattle.std.specs.Prelude.{nat_lt, ◌^◌}
+use Rattle.std.proofs.Common.{Ok, List, [], ◌∷◌, map, ◌+◌, ◌≡◌, ℕ, ◌<◌, Bool, true, false, Option, Some, None, refl, le_of_lt, slice_get}
 use Rattle.logical_time.specs.declared.fault.Fault.{Fault}
 use Rattle.messages.specs.declared.op.Op.{Op}
 use Rattle.messages.specs.declared.envelope.Envelope.{Envelope}
 use Rattle.messages.specs.Topology.{TopologyValue, is_shard, is_session}
 use Rattle.messages.specs.Clock.{ticked, on_clock}
 use Rattle.messages.specs.Session.{is_idle}
-use Rattle.messages.specs.Submitting.{begun, plan_fault, submit_fault, submit_if as session_submit_if}
+use Rattle.messages.specs.Submitting.{begun, submit_fault, submit_if as session_submit_if}
 use Rattle.messages.specs.SessionEvents.{heard, session_handle}
 use Rattle.messages.specs.ShardEvents.{handled, shard_handle, collected}
 use Rattle.world.specs.Run.{Run, Event, Submit, Deliver, Collect, after_shard, after_session, after_submission, submit_if, deliver_if, deliver_for, collect_if, step}
 use Rattle.world.proofs.Among.{Among, get_among}
-use Rattle.world.proofs.Growth.{Grows}
 use Rattle.world.proofs.Invariant.{EnvelopeSound, Inv}
-use Rattle.world.proofs.ShardSteps.{shard_run_grows}
-use Rattle.world.proofs.HandlesKept.{handle_able, handle_kept, collect_able, collect_kept}
-use Rattle.world.proofs.SessionSteps.{session_run_grows, session_step_kept}
-use Rattle.world.proofs.Ables.{same_run}
+use Rattle.world.proofs.HandlesKept.{handle_able, collect_able}
 use Rattle.world.proofs.SessionsKept.{heard_able}
-use Rattle.world.proofs.Submissions.{begun_kept, begun_grows}
+use Rattle.world.proofs.Submissions.{begun_grows}
 use Rattle.messages.specs.Session.{Writing, FirstRound}
 use Rattle.messages.specs.Submitting.{begin_of, prepare_of, share_of, home_node}
 use Rattle.planner.specs.Plan.{coordinator_of, cohorts_of, shards_asked}

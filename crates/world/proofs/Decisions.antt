@@ -1,17 +1,14 @@
 -- Decisions in a run: by whom they are made, that a data centre makes one of a transaction, and their stamps.
-use Rattle.std.proofs.Common.{◌≡◌, ◌∙◌, ℕ, ◌<◌, List, [], ◌∷◌, sym, ap, subst}
+use Rattle.std.proofs.Common.{◌≡◌, ◌∙◌, ℕ, List, sym, ap, subst}
 use Rattle.logical_time.specs.Stamps.{StampValue, TxnValue}
 use Rattle.column_family.specs.declared.batch.Change.{Change}
-use Rattle.planner.specs.Plan.{coordinator_of}
 use Rattle.messages.specs.declared.op.Op.TheVariants as op
 use Rattle.messages.specs.Topology.{TopologyValue, dc_of}
 use Rattle.messages.specs.Shard.{Decision}
-use Rattle.messages.proofs.Numbering.{dc_of_shard}
 use Rattle.world.specs.Run.{Run, Submission}
 use Rattle.world.proofs.Among.{Among}
 use Rattle.world.proofs.Facts.{txn_of, IsWritten, IsStamp, DecisionSound, lead}
 use Rattle.world.proofs.Invariant.{Inv, SubmittedSound}
-use Rattle.world.proofs.Near.{lead_dc}
 
 -- ## One submission
 

@@ -1,12 +1,11 @@
 -- What holds of each entry and each envelope of every run. Each fact speaks of what only grows, so it is kept once it
 -- holds.
-use Rattle.std.specs.Prelude.{◌≡◌, ℕ, ◌+◌, ◌<◌, ◌≤◌, true, List, [], ◌∷◌, map, Option, Some, None, ◌⊎◌}
+use Rattle.std.specs.Prelude.{◌≡◌, ℕ, ◌<◌, ◌≤◌, true, List, [], ◌∷◌, map, Option, Some, None, ◌⊎◌}
 use Rattle.logical_time.specs.Stamps.{StampValue, TxnValue, WriterValue}
 use Rattle.column_family.specs.declared.batch.Change.{Change}
 use Rattle.column_family.specs.declared.batch.Row.{Row}
 use Rattle.column_family.specs.Places.{normal_of}
 use Rattle.slice.specs.declared.read.Read.{Read}
-use Rattle.slice.specs.declared.read.AnsweredRow.{AnsweredRow}
 use Rattle.store.specs.declared.part.Applied.{Applied}
 use Rattle.store.specs.declared.part.Part.{Part}
 use Rattle.store.specs.Part.{IsRightPart, IsNewestPart}
@@ -16,11 +15,11 @@ use Rattle.messages.specs.declared.rows_now.RowNow.{RowNow}
 use Rattle.messages.specs.declared.rows_at.RowAt.{RowAt}
 use Rattle.messages.specs.declared.op.Op.TheVariants as op
 use Rattle.messages.specs.Topology.{TopologyValue, dc_of, shard_of, shard_node}
-use Rattle.messages.specs.Shard.{ShardState, Role, Own, Cohort, Replica, PreparedPart, BegunBallot, Vote, Decision, KeptPart, KeptBallot, WaitingRead}
+use Rattle.messages.specs.Shard.{Role, Own, Cohort, Replica, PreparedPart, BegunBallot, Decision, KeptPart, KeptBallot, WaitingRead}
 use Rattle.messages.specs.Rows.{row_of, touches_row}
-use Rattle.world.specs.Run.{Run, Submission, Completed}
+use Rattle.world.specs.Run.{Run, Submission}
 use Rattle.world.proofs.Among.{Among}
-use Rattle.world.proofs.Growth.{AskedNow, AskedAt}
+use Rattle.world.proofs.Growth.{AskedAt}
 
 -- ## Submissions and decisions
 

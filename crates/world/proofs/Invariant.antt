@@ -1,5 +1,5 @@
 -- What holds of every run: of each envelope, each shard, each session, and each completed operation.
-use Rattle.std.specs.Prelude.{◌≡◌, ℕ, ◌+◌, ◌<◌, ◌≤◌, true, false, List, [], map, filter, Option, Some, None}
+use Rattle.std.specs.Prelude.{◌≡◌, ℕ, ◌+◌, ◌<◌, ◌≤◌, true, false, List, map, None}
 use Rattle.std.specs.Option.{unwrap_or}
 use Rattle.logical_time.specs.Stamps.{StampValue, TxnValue, WriterValue}
 use Rattle.column_family.specs.declared.batch.Change.{Change}
@@ -29,7 +29,7 @@ use Rattle.messages.specs.Rounds.{asked_nodes, all_heard, effective_time, late_k
 use Rattle.world.specs.Run.{Run, Submission, Completed}
 use Rattle.world.proofs.Among.{Among}
 use Rattle.world.proofs.Growth.{AskedNow, AskedAt}
-use Rattle.world.proofs.Facts.{txn_of, IsWritten, near, lead, part_on, IsDecided, IsDone, DecidedOnce, PreparedBefore, PreparedSound, BallotSound, KeptBallotSound, KeptPartSound, DecisionSound, AppliedSound, Excluded, WaitSound, RowAtSound, AnswersNow, AnswersAt}
+use Rattle.world.proofs.Facts.{txn_of, IsWritten, lead, part_on, IsDecided, IsDone, DecidedOnce, PreparedBefore, PreparedSound, BallotSound, KeptBallotSound, KeptPartSound, DecisionSound, AppliedSound, Excluded, WaitSound, RowAtSound, AnswersNow, AnswersAt}
 
 -- the home of the session with this node
 abbrev pub home : TopologyValue → ℕ → ℕ

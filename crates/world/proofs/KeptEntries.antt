@@ -1,5 +1,5 @@
 -- Histories only grow, stamps agree over data centres, and completed writes stand in histories.
-use Rattle.std.proofs.Common.{◌≡◌, ◌∙◌, ℕ, ◌<◌, List, [], ◌∷◌, ◌++◌, Some, refl, sym, ap, subst}
+use Rattle.std.proofs.Common.{◌≡◌, ◌∙◌, ℕ, ◌<◌, List, Some, refl, sym, ap, subst}
 use Rattle.std.specs.Prelude.{Contains}
 use Rattle.std.proofs.lemmas.List.Sorted.{Contains-permutation, IsPermutation-sym}
 use Rattle.logical_time.specs.Stamps.{StampValue, TxnValue}
@@ -16,7 +16,7 @@ use Rattle.messages.specs.declared.outcome.Outcome.TheVariants as outcome
 use Rattle.messages.specs.Topology.{TopologyValue, shard_node}
 use Rattle.messages.specs.Shard.{Decision}
 use Rattle.messages.proofs.Numbering.{dc_of_shard}
-use Rattle.world.specs.Run.{Run, Event, Submission, opening, step, continued, run}
+use Rattle.world.specs.Run.{Run, Submission}
 use Rattle.world.specs.Histories.{decisions_in, committed_of, history_of, IsHistory}
 use Rattle.world.specs.Entries.{IsKeptIn, IsOf, IsHomeStamp, StampsAgree, WritesAreTold}
 use Rattle.world.proofs.Among.{Among, contains_among}

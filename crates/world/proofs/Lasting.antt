@@ -1,6 +1,6 @@
 -- Each fact that holds goes on holding as the run grows.
-use Rattle.std.proofs.Common.{◌≡◌, ℕ, ◌+◌, ◌<◌, ◌≤◌, true, List, Option, Some, None, ◌⊎◌, inl, inr, refl, sym, arith, le_refl, le_trans, lt_of_lt_of_le}
-use Rattle.logical_time.specs.Stamps.{StampValue, TxnValue, WriterValue}
+use Rattle.std.proofs.Common.{◌≡◌, ℕ, ◌<◌, ◌≤◌, true, List, Option, Some, None, ◌⊎◌, inl, inr, refl, sym, arith, le_refl, le_trans, lt_of_lt_of_le}
+use Rattle.logical_time.specs.Stamps.{StampValue, TxnValue}
 use Rattle.column_family.specs.declared.batch.Change.{Change}
 use Rattle.column_family.specs.declared.batch.Row.{Row}
 use Rattle.slice.specs.declared.read.Read.{Read}
@@ -10,10 +10,10 @@ use Rattle.messages.specs.declared.rows_at.RowAt.{RowAt}
 use Rattle.messages.specs.Topology.{TopologyValue}
 use Rattle.messages.specs.Shard.{ShardState, PreparedPart, BegunBallot, Decision, KeptPart, KeptBallot, WaitingRead}
 use Rattle.messages.specs.Session.{SessionState}
-use Rattle.messages.specs.Rows.{row_of, touches_row}
+use Rattle.messages.specs.Rows.{touches_row}
 use Rattle.world.specs.Run.{Run, Submission}
 use Rattle.world.proofs.Among.{Among}
-use Rattle.world.proofs.Growth.{NewPrepared, NewDecision, ShardGrows, AskedNow, AskedAt, SessionGrows, Grows}
+use Rattle.world.proofs.Growth.{NewPrepared, NewDecision, ShardGrows, SessionGrows, Grows}
 use Rattle.world.proofs.Facts.{IsWritten, near, IsDecided, IsStamp, IsDone, PreparedBefore, PreparedSound, StampFits, BallotSound, KeptBallotSound, KeptPartSound, DecisionSound, AppliedSound, Excluded, Sees, Complete, RowNowSound, RowAtSound, WaitSound, AnswersNow, AnswersAt}
 
 pub same_shard_grows : (a : ShardState) → ShardGrows a a

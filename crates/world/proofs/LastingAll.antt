@@ -1,5 +1,5 @@
 -- What envelopes say, shards, sessions and completed operations go on being sound.
-use Rattle.std.proofs.Common.{ℕ, ◌≤◌, List, Option, Some, None, ◌⊎◌, inl, inr, arith, le_refl, le_trans}
+use Rattle.std.proofs.Common.{ℕ, List, le_refl}
 use Rattle.logical_time.specs.Stamps.{StampValue, TxnValue}
 use Rattle.slice.specs.declared.read.Read.{Read}
 use Rattle.messages.specs.declared.rows_at.RowAt.{RowAt}
@@ -15,7 +15,7 @@ use Rattle.messages.specs.Topology.{TopologyValue}
 use Rattle.messages.specs.Session.{SessionState, Open, Idle, Writing, FirstRound, SecondRound, HeardNow, HeardAt}
 use Rattle.world.specs.Run.{Run, Completed}
 use Rattle.world.proofs.Growth.{Grows}
-use Rattle.world.proofs.Invariant.{IsLead, PrepareSound, TellsDecision, TellsNow, TellsAt, TellsThen, Says, ShardSound, IsOpen, HeardNowSound, HeardAtSound, WritingSound, FirstSound, SecondSound, OpenSound, SessionSound, AnsweredFrom, AnsweredSound, EndSound, CompletedSound}
+use Rattle.world.proofs.Invariant.{IsLead, TellsDecision, TellsThen, Says, ShardSound, IsOpen, HeardNowSound, HeardAtSound, OpenSound, SessionSound, AnsweredFrom, EndSound, CompletedSound}
 use Rattle.world.proofs.Lasting.{written_grows, decided_grows, done_grows, before_grows, prepared_grows, ballot_grows, kept_ballot_grows, kept_part_grows, decision_grows, applied_grows, excluded_grows, row_at_grows, answers_now_grow, answers_at_grow, wait_grows}
 
 pub lead_grows : {top : TopologyValue} {w x : Run} {dc node : ℕ} {t : TxnValue} → Grows top w x → IsLead top w dc node t → IsLead top x dc node t

@@ -1,5 +1,5 @@
 -- The promises of every run, from what holds of it.
-use Rattle.std.proofs.Common.{◌≡◌, ℕ, ◌+◌, ◌<◌, ◌≤◌, true, List, [], ◌++◌, refl, sym, ap, ◌∙◌, subst, arith, le_refl}
+use Rattle.std.proofs.Common.{◌≡◌, ℕ, ◌+◌, ◌<◌, true, List, [], ◌++◌, refl, sym, ap, ◌∙◌, subst, arith, le_refl}
 use Rattle.std.specs.Prelude.{Contains}
 use Rattle.std.proofs.lemmas.Bool.Decides.{nat_tests}
 use Rattle.logical_time.specs.Stamps.{StampValue, TxnValue, WriterValue, is_older}
@@ -7,11 +7,10 @@ use Rattle.column_family.specs.History.{History}
 use Rattle.slice.specs.declared.read.Read.{Read}
 use Rattle.messages.specs.declared.rows_at.RowAt.{RowAt}
 use Rattle.messages.specs.Topology.{TopologyValue, is_topology, dc_of, shard_of, shard_node}
-use Rattle.messages.specs.Shard.{Decision}
 use Rattle.messages.proofs.Numbering.{shard_again}
-use Rattle.world.specs.Run.{Run, Event, Completed, run, opening}
+use Rattle.world.specs.Run.{Run, Event, run, opening}
 use Rattle.world.specs.Histories.{decisions_in, IsHistory}
-use Rattle.world.specs.Before.{ReadRestsOn, Past}
+use Rattle.world.specs.Before.{ReadRestsOn}
 use Rattle.world.specs.Committed.{IsCommittedBy}
 use Rattle.world.specs.Entries.{StampsAgree, WritesAreTold, TellsDecided, AreNamedOnce, CoordinatorsDecide}
 use Rattle.world.specs.Quiet.{IsQuiet}
@@ -26,7 +25,7 @@ use Rattle.world.proofs.DecidedIn.{in_decisions, decided_in}
 use Rattle.world.proofs.ReadTables.{one_table}
 use Rattle.world.proofs.ReadRests.{rests_on_written}
 use Rattle.world.proofs.WritersDone.{writers_done}
-use Rattle.world.proofs.Causal.{Causal, writers_in}
+use Rattle.world.proofs.Causal.{writers_in}
 use Rattle.world.proofs.CausalKept.{new_writers}
 use Rattle.world.proofs.CausalRuns.{every_causal}
 use Rattle.world.proofs.Pasts.{past_reached}

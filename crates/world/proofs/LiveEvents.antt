@@ -1,5 +1,5 @@
 -- Every event keeps what is under way, and so does every run.
-use Rattle.std.proofs.Common.{◌≡◌, ℕ, ◌<◌, Bool, true, false, List, [], ◌∷◌, slice_get, Option, Some, None, Ok, refl, sym, ap, ◌∙◌, subst, le_of_lt}
+use Rattle.std.proofs.Common.{◌≡◌, ℕ, ◌<◌, Bool, true, false, List, [], ◌∷◌, slice_get, Option, Some, None, Ok, refl, sym, ◌∙◌, subst, le_of_lt}
 use Rattle.std.proofs.lemmas.Bool.{false≢true}
 use Rattle.logical_time.specs.declared.fault.Fault.{Fault}
 use Rattle.messages.specs.declared.op.Op.{Op}
@@ -13,7 +13,6 @@ use Rattle.messages.specs.Submitting.{begun, plan_fault, submit_fault, submit_if
 use Rattle.messages.specs.SessionEvents.{heard, session_handle}
 use Rattle.messages.specs.ShardEvents.{handled, shard_handle, collected}
 use Rattle.world.specs.Run.{Run, Event, Submit, Deliver, Collect, opening, after_shard, after_session, after_submission, submit_if, deliver_if, deliver_for, collect_if, step, continued, run}
-use Rattle.world.specs.Quiet.{number_delivered}
 use Rattle.world.proofs.Among.{Among, get_among}
 use Rattle.world.proofs.Invariant.{Says, Inv}
 use Rattle.world.proofs.HandlesKept.{handle_kept}

@@ -4,14 +4,13 @@ use Rattle.std.proofs.lemmas.Bool.{false≢true}
 use Rattle.logical_time.specs.Stamps.{StampValue, TxnValue, WriterValue}
 use Rattle.column_family.specs.declared.batch.Change.{Change}
 use Rattle.slice.specs.declared.read.Read.{Read}
-use Rattle.messages.specs.declared.op.Op.{Op}
 use Rattle.messages.specs.declared.op.Op.TheVariants as op
 use Rattle.messages.specs.declared.outcome.Outcome.TheVariants as outcome
 use Rattle.messages.specs.declared.body.Body.{Body}
 use Rattle.messages.specs.declared.body.Body.TheVariants.{At, NotBy, Check, Done, PartNow, PartAt}
 use Rattle.messages.specs.Topology.{TopologyValue}
 use Rattle.messages.specs.Words.{is_same_txn}
-use Rattle.messages.specs.Session.{SessionState, Open, Idle, Writing, FirstRound, SecondRound, is_idle}
+use Rattle.messages.specs.Session.{Open, Idle, Writing, FirstRound, SecondRound, is_idle}
 use Rattle.messages.specs.SessionEvents.{done_if, done_in, heard}
 use Rattle.world.specs.Run.{Run, Submission}
 use Rattle.world.proofs.Among.{Among, same_txn, same_txn_self}
@@ -19,7 +18,7 @@ use Rattle.world.proofs.Facts.{txn_of, IsWritten, IsDecided}
 use Rattle.world.proofs.Invariant.{Says, IsOpen, OpenSound, Inv}
 use Rattle.world.proofs.SessionEnds.{open_txn}
 use Rattle.world.proofs.About.{Kind, OfBegin, OfPrepare, OfYes, OfCommit, OfAt, OfNotBy, OfCheck, OfRead, OfReadAt, OfReplBegin, OfReplPart, OfNotify, OfPrepareRemote, OfDepCheck, OfDepOk, OfDone, OfPartNow, OfPartAt, kind_of}
-use Rattle.world.proofs.Underway.{Placed, NotMissing, NotAwaited, SaysLive, Acted, HasEnded, StillOpen, OpenLive, Live}
+use Rattle.world.proofs.Underway.{Placed, NotMissing, NotAwaited, SaysLive, Acted, HasEnded, StillOpen, Live}
 use Rattle.world.proofs.LiveSessions.{Comes, Went, calm_went, ended_here, ended_went}
 use Rattle.world.proofs.LiveReads.{part_now_went, part_at_went}
 

@@ -1,30 +1,29 @@
 -- What an answer of a first or a second round leaves under way.
-use Rattle.std.proofs.Common.{◌≡◌, ℕ, ◌<◌, ◌≤◌, Bool, true, false, ◌&&◌, List, [], ◌∷◌, ◌++◌, map, ◌⊎◌, inl, inr, refl, sym, ap, ◌∙◌, subst, eqb-true, eq-eqb, le_refl}
-use Rattle.std.specs.Prelude.{◌==◌, filter}
+use Rattle.std.proofs.Common.{◌≡◌, ℕ, ◌<◌, ◌≤◌, Bool, true, false, ◌&&◌, List, [], ◌∷◌, ◌++◌, map, inl, refl, sym, ap, ◌∙◌, subst, eqb-true, eq-eqb, le_refl}
+use Rattle.std.specs.Prelude.{◌==◌}
 use Rattle.std.specs.List.{list_all}
 use Rattle.std.proofs.lemmas.Bool.{false≢true, and_parts, and_from}
-use Rattle.logical_time.specs.Stamps.{TxnValue, WriterValue}
+use Rattle.logical_time.specs.Stamps.{WriterValue}
 use Rattle.slice.specs.declared.read.Read.{Read}
 use Rattle.planner.specs.Plan.{shards_asked}
 use Rattle.messages.specs.declared.rows_now.RowNow.{RowNow}
-use Rattle.messages.specs.declared.rows_at.RowAt.{RowAt}
 use Rattle.messages.specs.declared.rows_at.AtTime.{AtTime}
 use Rattle.messages.specs.declared.rows_at.AtTime.TheVariants as at
 use Rattle.messages.specs.declared.op.Op.TheVariants as op
 use Rattle.messages.specs.declared.envelope.Envelope.{Envelope}
 use Rattle.messages.specs.Topology.{TopologyValue, dc_of}
-use Rattle.messages.specs.Session.{SessionState, SessionStep, Open, Idle, Writing, FirstRound, SecondRound, HeardNow, HeardAt, calm}
+use Rattle.messages.specs.Session.{SessionStep, Open, Idle, Writing, FirstRound, SecondRound, HeardNow, HeardAt, calm}
 use Rattle.messages.specs.Submitting.{home_node}
 use Rattle.messages.specs.Rounds.{asked_nodes, is_missing, all_heard, effective_time, late_nodes, is_late, was_heard_at, is_missing_at, all_heard_at, rows_taken}
 use Rattle.messages.specs.SessionEvents.{read_at_of, second_if, heard_if, part_now_if, part_now_in, heard_at_if, taken_at, part_at_if, part_at_in}
 use Rattle.messages.proofs.Numbering.{dc_of_shard}
 use Rattle.world.specs.Run.{Run}
 use Rattle.world.proofs.Among.{Among, filter_only, map_only, map_among}
-use Rattle.world.proofs.Invariant.{TellsNow, TellsAt, TellsThen, IsOpen, HeardNowSound, HeardAtSound, SecondSound, OpenSound, Inv}
+use Rattle.world.proofs.Invariant.{TellsNow, TellsThen, IsOpen, HeardNowSound, HeardAtSound, SecondSound, OpenSound, Inv}
 use Rattle.world.proofs.Asking.{missing_asked, missing_late, asked_below}
 use Rattle.world.proofs.TakenRows.{taken_answers}
 use Rattle.world.proofs.SessionsKept.{more_heard, first_later, more_heard_at}
-use Rattle.world.proofs.About.{OfRead, OfReadAt, kind_of, Sent}
+use Rattle.world.proofs.About.{kind_of}
 use Rattle.world.proofs.Underway.{Placed, FirstHas, SecondIs, Round, SecondHas, SaysLive, OpenLive}
 use Rattle.world.proofs.LiveGrow.{sent_in}
 use Rattle.world.proofs.OpenReads.{missing_some, missing_before, heard_after, heard_now_has, missing_at_some, late_missing, missing_at_before, heard_at_after, heard_at_has}

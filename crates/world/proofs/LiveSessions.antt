@@ -1,9 +1,8 @@
 -- What a session's step leaves under way: steps that many messages lead to.
-use Rattle.std.proofs.Common.{◌≡◌, ℕ, ◌<◌, ◌≤◌, false, List, [], ◌∷◌, ◌++◌, drop, length, Option, Some, ◌⊎◌, inl, inr, refl, sym, ap, ◌∙◌, subst}
+use Rattle.std.proofs.Common.{◌≡◌, ℕ, ◌<◌, false, List, [], ◌∷◌, Option, Some, ◌⊎◌, inl, inr, refl, sym, ap, subst}
 use Rattle.std.specs.Prelude.{filter_map, option_map}
 use Rattle.std.proofs.Math.Seq.{drop-append_seam}
 use Rattle.logical_time.specs.Stamps.{TxnValue, WriterValue}
-use Rattle.column_family.specs.declared.batch.Change.{Change}
 use Rattle.slice.specs.declared.read.Read.{Read}
 use Rattle.store.proofs.Lists.{given}
 use Rattle.planner.specs.Partition.{shard_of as shard_of_key}
@@ -14,12 +13,11 @@ use Rattle.messages.specs.declared.outcome.Outcome.{Outcome}
 use Rattle.messages.specs.declared.outcome.Outcome.TheVariants as outcome
 use Rattle.messages.specs.declared.envelope.Envelope.{Envelope}
 use Rattle.messages.specs.Topology.{TopologyValue, shard_node}
-use Rattle.messages.specs.Session.{SessionState, SessionStep, Open, Idle, Writing, FirstRound, SecondRound, Finished, calm, is_idle}
+use Rattle.messages.specs.Session.{SessionStep, Open, Idle, Writing, FirstRound, SecondRound, Finished, calm, is_idle}
 use Rattle.messages.specs.Rounds.{with_writers, answer_of}
 use Rattle.messages.specs.SessionEvents.{ended, answered, given_up}
-use Rattle.world.specs.Run.{Run, Submission, Completed, submission_of, completed_of, newly_completed}
+use Rattle.world.specs.Run.{Run, Submission, Completed, completed_of, newly_completed}
 use Rattle.world.proofs.Among.{Among, among_contains, contains_among}
-use Rattle.world.proofs.Facts.{IsWritten}
 use Rattle.world.proofs.Invariant.{IsOpen, AnsweredFrom, Inv}
 use Rattle.world.proofs.DecidedIn.{found}
 use Rattle.world.proofs.SessionEnds.{open_txn}

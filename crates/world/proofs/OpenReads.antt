@@ -10,7 +10,7 @@ use Rattle.messages.specs.Topology.{TopologyValue, shard_node}
 use Rattle.messages.specs.Session.{SessionState, Open, Idle, Writing, FirstRound, SecondRound, HeardNow, HeardAt}
 use Rattle.messages.specs.Rounds.{was_heard, asked_nodes, is_missing, all_heard, late_nodes, was_heard_at, is_missing_at, all_heard_at}
 use Rattle.world.proofs.Among.{Among, any_among, among_last}
-use Rattle.world.proofs.Underway.{FirstHas, NotMissing, SecondIs, Round, SecondHas, NotAwaited, SessionOnward}
+use Rattle.world.proofs.Underway.{FirstHas, SecondIs, SecondHas, SessionOnward}
 
 -- ## Tests
 

@@ -1,6 +1,6 @@
 -- What is before an operation is committed before it: the past of a read stands in its table.
-use Rattle.std.proofs.Common.{◌≡◌, ℕ, ◌+◌, ◌<◌, ◌≤◌, true, false, List, [], ◌∷◌, Some, None, Option, ◌⊎◌, inl, inr, refl, sym, ap, ◌∙◌, subst, arith, le_refl}
-use Rattle.std.specs.Prelude.{Contains, option_and_then}
+use Rattle.std.proofs.Common.{◌≡◌, ℕ, ◌+◌, ◌<◌, true, List, [], ◌∷◌, Some, None, Option, ◌⊎◌, inl, inr, refl, sym, ap, ◌∙◌, subst, arith}
+use Rattle.std.specs.Prelude.{option_and_then}
 use Rattle.logical_time.specs.Stamps.{TxnValue, WriterValue}
 use Rattle.column_family.specs.declared.batch.Change.{Change}
 use Rattle.slice.specs.declared.read.Read.{Read}
@@ -15,11 +15,11 @@ use Rattle.messages.specs.Words.{is_same_txn}
 use Rattle.messages.specs.Shard.{Decision}
 use Rattle.world.specs.Run.{Run, Submission, Completed, submission_of}
 use Rattle.world.specs.Committed.{time_of, IsNotBelow}
-use Rattle.world.specs.Histories.{batch_in, batch_submitted}
-use Rattle.world.specs.Before.{IsSubmitted, IsWrite, completes, IsEndOf, IsCompleted, IsEarlier, ReadRestsOn, EndRestsOn, RestsOn, IsJustBefore, IsBeforeOver, Before, Past}
+use Rattle.world.specs.Histories.{batch_in}
+use Rattle.world.specs.Before.{IsSubmitted, IsWrite, completes, IsCompleted, ReadRestsOn, EndRestsOn, RestsOn, IsJustBefore, IsBeforeOver, Past}
 use Rattle.world.proofs.Among.{Among, contains_among, find_some, same_txn}
-use Rattle.world.proofs.Facts.{txn_of, IsWritten, IsDone, IsDecided, lead}
-use Rattle.world.proofs.Invariant.{home, IsOpen, AnsweredFrom, EndSound, Inv}
+use Rattle.world.proofs.Facts.{txn_of, IsWritten, IsDone, lead}
+use Rattle.world.proofs.Invariant.{home, AnsweredFrom, EndSound, Inv}
 use Rattle.world.proofs.Lasting.{done_later}
 use Rattle.world.proofs.Near.{lead_dc}
 use Rattle.world.proofs.Causal.{txn_ended, Covered, direct, via, LaterCovered, writers_in, EndCausal, Causal}

@@ -1,6 +1,6 @@
 -- Which actors have anything: what isn't a shard keeps nothing, what isn't a session submits nothing; and what was handled
 -- was sent.
-use Rattle.std.proofs.Common.{◌≡◌, ℕ, zero, suc, ◌+◌, ◌<◌, ◌≤◌, Bool, true, false, cond, List, [], ◌∷◌, ◌++◌, length, slice_get, Option, Some, None, Result, Ok, Err, ◌⊎◌, inl, inr, refl, sym, ap, ◌∙◌, subst, arith, eqb-true, le_trans}
+use Rattle.std.proofs.Common.{◌≡◌, ℕ, zero, suc, ◌<◌, ◌≤◌, Bool, true, false, cond, List, [], ◌∷◌, ◌++◌, length, slice_get, Option, Some, None, Result, Ok, Err, ◌⊎◌, inl, inr, refl, sym, ap, ◌∙◌, subst, arith, eqb-true}
 use Rattle.std.specs.Prelude.{◌==◌, filter_map}
 use Rattle.std.proofs.lemmas.Bool.{false≢true}
 use Rattle.std.proofs.lemmas.List.{length-append}
@@ -10,12 +10,12 @@ use Rattle.logical_time.specs.declared.fault.Fault.{Fault}
 use Rattle.messages.specs.declared.op.Op.{Op}
 use Rattle.messages.specs.declared.envelope.Envelope.{Envelope}
 use Rattle.messages.specs.Topology.{TopologyValue, is_shard, is_session}
-use Rattle.messages.specs.Shard.{ShardState, ShardStep, new_shard}
+use Rattle.messages.specs.Shard.{ShardStep, new_shard}
 use Rattle.messages.specs.Session.{SessionState, SessionStep, Idle}
 use Rattle.messages.specs.Submitting.{session_submit}
 use Rattle.messages.specs.ShardEvents.{shard_handle, shard_collect}
 use Rattle.messages.specs.SessionEvents.{session_handle}
-use Rattle.world.specs.Run.{Run, Event, Submit, Deliver, Collect, Submission, opening, with_actor, after_shard, after_session, after_submission, submit_if, deliver_if, deliver_for, collect_if, step}
+use Rattle.world.specs.Run.{Run, Event, Submit, Deliver, Collect, Submission, opening, after_shard, after_session, after_submission, submit_if, deliver_if, deliver_for, collect_if, step}
 use Rattle.world.specs.Quiet.{number_delivered, handled}
 use Rattle.world.proofs.Among.{Among, among_append, last_or_old}
 

@@ -7,7 +7,6 @@ use Rattle.logical_time.specs.Stamps.{TxnValue, WriterValue}
 use Rattle.column_family.specs.declared.batch.Change.{Change}
 use Rattle.planner.specs.Plan.{coordinator_of, cohorts_of}
 use Rattle.planner.proofs.Members.{contains_below}
-use Rattle.messages.specs.declared.op.Op.TheVariants as op
 use Rattle.messages.specs.Topology.{TopologyValue, dc_of, shard_of, shard_node}
 use Rattle.messages.specs.Words.{other_dcs}
 use Rattle.messages.specs.Shard.{Role, Own, Cohort, Replica, KeptBallot}

@@ -1,11 +1,10 @@
 -- In a quiet run every batch is decided in every data centre, and no shard keeps anything waiting.
 use Rattle.std.proofs.Common.{◌≡◌, ◌≢◌, ℕ, ◌<◌, List, [], ◌∷◌, ◌++◌, Option, Some, None, ◌⊎◌, inl, inr, refl, sym, ap, ◌∙◌, subst, subst₂}
-use Rattle.std.specs.Prelude.{true, find, is_some}
-use Rattle.std.specs.List.{list_any}
+use Rattle.std.specs.Prelude.{true, is_some}
 use Rattle.std.proofs.lemmas.Bool.{cases_eq, false≢true}
 use Rattle.logical_time.specs.Stamps.{TxnValue, WriterValue}
 use Rattle.column_family.specs.declared.batch.Change.{Change}
-use Rattle.planner.specs.Plan.{coordinator_of, cohorts_of}
+use Rattle.planner.specs.Plan.{cohorts_of}
 use Rattle.messages.specs.declared.body.Body.{Body}
 use Rattle.messages.specs.declared.body.Body.TheVariants.{DepOk}
 use Rattle.messages.specs.declared.op.Op.TheVariants as op
@@ -17,13 +16,12 @@ use Rattle.messages.proofs.Numbering.{shard_again}
 use Rattle.world.specs.Run.{Run, Submission}
 use Rattle.world.specs.Quiet.{IsQuiet}
 use Rattle.world.specs.Settled.{WasAnswered, IsClear}
-use Rattle.world.proofs.Among.{Among, among_contains, contains_among, among_append, last_or_old, any_among, any_false, find_none, same_txn_self}
+use Rattle.world.proofs.Among.{Among, among_contains, contains_among, last_or_old, any_among, any_false, find_none, same_txn_self}
 use Rattle.world.proofs.Facts.{txn_of, IsWritten, near, lead, RoleFits, Sees}
 use Rattle.world.proofs.Invariant.{Inv}
-use Rattle.world.proofs.StampsApart.{written_at, submitted_one, batch_one}
 use Rattle.world.proofs.Near.{lead_dc}
-use Rattle.world.proofs.About.{OfDepOk, kind_of, Sent}
-use Rattle.world.proofs.Underway.{HasDecision, Leads, Aside, RoleLive, Earlier, Live}
+use Rattle.world.proofs.About.{OfDepOk, kind_of}
+use Rattle.world.proofs.Underway.{HasDecision, Leads, RoleLive, Earlier, Live}
 use Rattle.world.proofs.Settling.{ballot_decided, home_decided, cohort_applied}
 use Rattle.world.proofs.SettledAway.{decided_here}
 

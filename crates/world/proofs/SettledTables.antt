@@ -8,17 +8,17 @@ use Rattle.column_family.specs.declared.batch.Change.{Change}
 use Rattle.column_family.specs.declared.batch.Committed.{Committed}
 use Rattle.column_family.specs.declared.batch.Mutation.{Mutation}
 use Rattle.column_family.specs.Location.{Location, touches}
-use Rattle.column_family.specs.History.{History, Stamped, up_to, last_of, newest_of, table_at}
+use Rattle.column_family.specs.History.{History, Stamped, up_to, last_of, newest_of}
 use Rattle.messages.specs.Topology.{TopologyValue}
 use Rattle.messages.specs.Shard.{Decision}
 use Rattle.world.specs.Run.{Run, Submission}
 use Rattle.world.specs.Histories.{decisions_in, history_of, IsHistory}
 use Rattle.world.specs.Settled.{IsCommittedIn, AreEqualTables}
 use Rattle.world.proofs.Among.{Among, among_contains, contains_among, filter_only, filter_among}
-use Rattle.world.proofs.Facts.{txn_of, IsWritten, lead, IsStamp}
+use Rattle.world.proofs.Facts.{IsWritten, lead, IsStamp}
 use Rattle.world.proofs.Invariant.{Inv}
 use Rattle.world.proofs.StampsApart.{written_at, submitted_one, batch_one}
-use Rattle.world.proofs.DecidedIn.{DecidedIn, decided_in, entry, entry_among, entry_is, one_each}
+use Rattle.world.proofs.DecidedIn.{decided_in, entry, entry_among, entry_is, one_each}
 use Rattle.world.proofs.SameNewest.{OneEach, IsNewest, neither_older, newest_none, newest_some}
 
 -- ## Two histories with the same batches and stamps

@@ -1,13 +1,11 @@
 -- In a quiet run each coordinator that knows a transaction has decided it, and its cohorts have applied it.
-use Rattle.std.proofs.Common.{◌≡◌, ℕ, zero, suc, ◌+◌, ◌<◌, List, [], ◌∷◌, length, slice_get, Option, Some, None, ◌⊎◌, inl, inr, refl, sym, ap, ◌∙◌, subst, subst₂, arith}
+use Rattle.std.proofs.Common.{◌≡◌, ℕ, zero, suc, ◌<◌, List, [], ◌∷◌, length, slice_get, Some, ◌⊎◌, inl, inr, refl, sym, ap, ◌∙◌, subst, subst₂, arith}
 use Rattle.logical_time.specs.Stamps.{TxnValue}
 use Rattle.column_family.specs.declared.batch.Change.{Change}
 use Rattle.planner.specs.Plan.{coordinator_of, cohorts_of}
-use Rattle.messages.specs.declared.op.Op.TheVariants as op
-use Rattle.messages.specs.declared.envelope.Envelope.{Envelope}
 use Rattle.messages.specs.Topology.{TopologyValue, dc_of, shard_of, shard_node}
-use Rattle.messages.specs.Shard.{Role, Own, Cohort, Replica, PreparedPart, BegunBallot, Vote, Decision}
-use Rattle.messages.proofs.Numbering.{number_of_shard, shard_again}
+use Rattle.messages.specs.Shard.{Role, Own, Cohort, Replica, BegunBallot}
+use Rattle.messages.proofs.Numbering.{number_of_shard}
 use Rattle.world.specs.Run.{Run, Submission}
 use Rattle.world.specs.Quiet.{IsQuiet}
 use Rattle.world.proofs.Among.{Among, contains_among}
@@ -16,7 +14,7 @@ use Rattle.world.proofs.Invariant.{Inv}
 use Rattle.world.proofs.StampsApart.{written_at, submitted_one, batch_one}
 use Rattle.world.proofs.Near.{cohort_below, cohort_other, near_dc, lead_dc, lead_number}
 use Rattle.world.proofs.About.{Kind, OfBegin, OfPrepare, OfYes, OfCommit, OfPrepareRemote, kind_of, Sent}
-use Rattle.world.proofs.Underway.{HasPrepared, HasDecision, Known, vote_of, Leads, RoleLive, Acted, Live}
+use Rattle.world.proofs.Underway.{HasDecision, Known, vote_of, Leads, RoleLive, Acted, Live}
 
 -- ## Lists
 

@@ -1,13 +1,12 @@
 -- One shard's step keeps all, if what it adds is sound.
-use Rattle.std.proofs.Common.{◌≡◌, ℕ, ◌≤◌, Bool, true, false, cond, List, [], ◌∷◌, ◌++◌, ◌⊎◌, inl, inr, refl, sym, ap, subst, arith, eqb-true, eq-eqb, Ok}
+use Rattle.std.proofs.Common.{◌≡◌, ℕ, Bool, true, false, cond, inl, inr, refl, sym, ap, subst, eqb-true, eq-eqb, Ok}
 use Rattle.std.specs.Prelude.{◌==◌}
-use Rattle.messages.specs.declared.envelope.Envelope.{Envelope}
 use Rattle.messages.specs.Topology.{TopologyValue}
 use Rattle.messages.specs.Shard.{ShardState, ShardStep}
 use Rattle.world.specs.Run.{Run, Event, with_actor, after_shard}
-use Rattle.world.proofs.Among.{Among, among_append}
+use Rattle.world.proofs.Among.{among_append}
 use Rattle.world.proofs.Growth.{ShardGrows, Grows}
-use Rattle.world.proofs.Invariant.{EnvelopeSound, ShardSound, IsPatient, Inv}
+use Rattle.world.proofs.Invariant.{ShardSound, IsPatient, Inv}
 use Rattle.world.proofs.Able.{Fresh, Able}
 use Rattle.world.proofs.Lasting.{same_shard_grows, same_session_grows}
 use Rattle.world.proofs.LastingAll.{says_grows, shard_grows, session_grows, completed_grows}

@@ -1,5 +1,5 @@
 -- One actor's step at a message keeps what is under way.
-use Rattle.std.proofs.Common.{◌≡◌, ℕ, ◌<◌, Bool, true, false, cond, List, [], ◌∷◌, ◌++◌, length, slice_get, Option, Some, None, Ok, ◌⊎◌, inl, inr, refl, sym, ap, ap₂, ◌∙◌, subst, subst₂, eqb-true}
+use Rattle.std.proofs.Common.{◌≡◌, ℕ, ◌<◌, Bool, true, false, cond, List, [], ◌∷◌, ◌++◌, length, slice_get, Some, Ok, ◌⊎◌, inl, inr, refl, sym, ap, ap₂, ◌∙◌, subst, subst₂, eqb-true}
 use Rattle.std.specs.Prelude.{◌==◌, filter_map}
 use Rattle.std.proofs.lemmas.Option.{slice_get_within}
 use Rattle.logical_time.specs.Stamps.{TxnValue, WriterValue}
@@ -7,13 +7,13 @@ use Rattle.messages.specs.declared.envelope.Envelope.{Envelope}
 use Rattle.messages.specs.Topology.{TopologyValue}
 use Rattle.messages.specs.Shard.{ShardState, ShardStep, WaitingRead}
 use Rattle.messages.specs.Session.{SessionState, SessionStep, is_idle}
-use Rattle.world.specs.Run.{Run, Event, Submission, Completed, with_actor, newly_completed, after_shard, after_session}
+use Rattle.world.specs.Run.{Run, Event, Submission, with_actor, newly_completed, after_shard, after_session}
 use Rattle.world.specs.Quiet.{number_delivered, handled}
 use Rattle.world.proofs.Among.{Among, among_append, append_first, append_second}
 use Rattle.world.proofs.Facts.{txn_of}
 use Rattle.world.proofs.ShardSteps.{actor_same}
 use Rattle.world.proofs.About.{Kind, OfReadAt, OfPartAt, kind_of, Sent}
-use Rattle.world.proofs.Underway.{Placed, ShardOnward, SessionOnward, Round, HasWait, Waiting, WaitStep, Onward, ShardLive, SaysLive, Acted, HasEnded, OpenLive, StillOpen, Live}
+use Rattle.world.proofs.Underway.{Placed, ShardOnward, SessionOnward, Round, HasWait, Waiting, WaitStep, Onward, ShardLive, Acted, HasEnded, OpenLive, StillOpen, Live}
 use Rattle.world.proofs.LiveGrow.{sent_in, placed_on, shard_on, round_on, ended_on, open_on, says_on, acted_on, submission_on, same_shard_on, same_session_on}
 use Rattle.world.proofs.LiveSteps.{Here, Left}
 use Rattle.world.proofs.LiveSessions.{Comes, Went}

@@ -1,36 +1,36 @@
 -- A submission keeps what is under way: its messages are sent, and what it depends on was submitted before it.
-use Rattle.std.proofs.Common.{◌≡◌, ℕ, ◌+◌, ◌<◌, ◌≤◌, Bool, true, false, cond, List, [], ◌∷◌, ◌++◌, map, length, slice_get, Option, Some, None, Ok, ◌⊎◌, inl, inr, refl, sym, ap, ap₂, ◌∙◌, subst, arith, eqb-true, le_refl}
+use Rattle.std.proofs.Common.{◌≡◌, ℕ, ◌+◌, ◌<◌, ◌≤◌, Bool, true, false, cond, List, [], ◌∷◌, ◌++◌, length, Option, None, Ok, ◌⊎◌, inl, inr, refl, sym, ap, ◌∙◌, subst, eqb-true, le_refl}
 use Rattle.std.specs.Prelude.{◌==◌, nat_lt}
 use Rattle.std.specs.Option.{option_or}
 use Rattle.std.proofs.lemmas.Bool.{false≢true}
 use Rattle.logical_time.specs.declared.fault.Fault.{Fault}
 use Rattle.logical_time.specs.declared.fault.Fault.TheVariants.{EmptyRead}
-use Rattle.logical_time.specs.Stamps.{TxnValue, WriterValue}
+use Rattle.logical_time.specs.Stamps.{WriterValue}
 use Rattle.column_family.specs.declared.batch.Change.{Change}
 use Rattle.slice.specs.declared.read.Read.{Read}
 use Rattle.planner.specs.Checks.{unless, read_fault}
 use Rattle.planner.specs.Partition.{shard_of as shard_of_key}
-use Rattle.planner.specs.Plan.{coordinator_of, cohorts_of, shards_asked}
+use Rattle.planner.specs.Plan.{cohorts_of, shards_asked}
 use Rattle.planner.proofs.Asked.{asked_shard}
 use Rattle.messages.specs.declared.op.Op.{Op}
 use Rattle.messages.specs.declared.op.Op.TheVariants as op
 use Rattle.messages.specs.declared.body.Body.TheVariants as body
 use Rattle.messages.specs.declared.envelope.Envelope.{Envelope}
-use Rattle.messages.specs.Topology.{TopologyValue, dc_of, shard_of}
+use Rattle.messages.specs.Topology.{TopologyValue}
 use Rattle.messages.specs.Words.{envelope}
-use Rattle.messages.specs.Session.{SessionState, SessionStep, Open, Writing, FirstRound, is_idle}
+use Rattle.messages.specs.Session.{SessionState, SessionStep, Open, FirstRound, is_idle}
 use Rattle.messages.specs.Submitting.{next_txn, home_node, begin_of, prepare_of, write_begun, share_of, read_begun, begun, plan_fault}
-use Rattle.messages.specs.Rounds.{asked_nodes, is_missing}
+use Rattle.messages.specs.Rounds.{asked_nodes}
 use Rattle.messages.proofs.Numbering.{dc_of_shard, number_of_shard}
-use Rattle.world.specs.Run.{Run, Event, Submit, Submission, after_submission}
+use Rattle.world.specs.Run.{Run, Submit, Submission, after_submission}
 use Rattle.world.specs.Quiet.{handled}
-use Rattle.world.proofs.Among.{Among, among_append, append_first, append_second, among_last, last_or_old, map_only, map_among, any_among, among_contains, contains_among}
+use Rattle.world.proofs.Among.{Among, among_append, append_first, append_second, among_last, last_or_old, map_only, map_among, among_contains, contains_among}
 use Rattle.world.proofs.Facts.{txn_of, IsWritten}
 use Rattle.world.proofs.Near.{cohort_below}
 use Rattle.world.proofs.Asking.{asked_below, missing_asked}
 use Rattle.world.proofs.ShardSteps.{actor_same}
 use Rattle.world.proofs.About.{OfRead, kind_of, Sent}
-use Rattle.world.proofs.Underway.{Placed, Aside, AtOrigin, Onward, SaysLive, HasEnded, SubmissionLive, Earlier, OpenLive, StillOpen, Live}
+use Rattle.world.proofs.Underway.{Placed, Aside, AtOrigin, Onward, SaysLive, SubmissionLive, Earlier, OpenLive, StillOpen, Live}
 use Rattle.world.proofs.LiveGrow.{placed_on, shard_on, round_on, ended_on, open_on, says_on, submission_on, same_shard_on}
 use Rattle.world.proofs.OpenReads.{next_onward, first_missing}
 use Rattle.world.proofs.SteppedLive.{session_actor_on, acted_after}
