@@ -1,5 +1,5 @@
 -- A first round that ends with a second one had its last answer added.
-use Rattle.std.proofs.Common.{◌≡◌, ◌∙◌, ℕ, zero, suc, ◌<◌, Bool, true, false, ap, refl, sym, subst, List, [], ◌∷◌, ◌++◌, length, arith}
+use Rattle.std.proofs.Common.{◌≡◌, ◌∙◌, ℕ, ◌<◌, Bool, true, false, ap, refl, sym, subst, List, [], ◌∷◌, ◌++◌, length, arith}
 use Rattle.messages.specs.declared.rows_now.RowNow.{RowNow}
 use Rattle.messages.specs.Session.{HeardNow}
 use Rattle.messages.specs.Rounds as rounds

@@ -1,21 +1,17 @@
 -- What a session hears is the machine's step.
-use Rattle.std.proofs.Common.{◌≡◌, ◌∙◌, ℕ, ◌+◌, ◌^◌, ◌<◌, max, Bool, true, false, ap, refl, sym, subst, List, [], ◌∷◌, ◌++◌, map, Option, Some, None, append-nil, arith}
+use Rattle.std.proofs.Common.{◌≡◌, ◌∙◌, ℕ, Bool, true, false, ap, refl, sym, subst, List, [], ◌∷◌, ◌++◌, append-nil}
 use Rattle.std.specs.Prelude.{◌==◌, ◌&&◌, flat_map}
-use Rattle.logical_time.specs.Stamps.{StampValue, TxnValue, WriterValue}
+use Rattle.logical_time.specs.Stamps.{StampValue, TxnValue}
 use Rattle.slice.specs.declared.read.Read.{Read}
-use Rattle.messages.specs.declared.rows_now.RowNow.{RowNow}
 use Rattle.messages.specs.declared.rows_at.RowAt.{RowAt}
 use Rattle.messages.specs.declared.rows_at.AtTime.{AtTime}
 use Rattle.messages.specs.declared.rows_at.AtTime.TheVariants as at
-use Rattle.messages.specs.declared.body.Body.{Body}
-use Rattle.messages.specs.declared.body.Body.TheVariants as body
 use Rattle.messages.specs.declared.envelope.Envelope.{Envelope}
 use Rattle.messages.specs.Words.{in_writer_order, is_same_txn}
-use Rattle.messages.specs.Topology.{TopologyValue}
-use Rattle.messages.specs.Session.{SessionState, SessionStep, Finished, HeardNow, HeardAt, calm}
+use Rattle.messages.specs.Session.{SessionStep, Finished, calm}
 use Rattle.messages.specs.Rounds as rounds
 use Rattle.messages.specs.SessionEvents as machine
-use Rattle.read_txn.specs.States.{First, Second, late_shard, asked_again}
+use Rattle.read_txn.specs.States.{Second}
 use Rattle.read_txn.specs.Completed.{answered}
 use Rattle.read_txn.specs.Taken as taken
 use Rattle.client.specs.declared.kept.Kept.{Kept}

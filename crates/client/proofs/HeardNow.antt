@@ -2,7 +2,6 @@
 use Rattle.std.proofs.Common.{◌≡◌, ◌∙◌, ℕ, ◌+◌, ◌^◌, ◌<◌, max, Bool, true, false, ap, refl, sym, subst, List, [], ◌∷◌, ◌++◌, map, Option, Some, None}
 use Rattle.std.specs.Prelude.{◌==◌, ◌&&◌}
 use Rattle.logical_time.specs.declared.fault.Fault.{Fault}
-use Rattle.slice.specs.declared.read.Read.{Read}
 use Rattle.messages.specs.declared.rows_now.RowNow.{RowNow}
 use Rattle.messages.specs.declared.body.Body.{Body}
 use Rattle.messages.specs.declared.body.Body.TheVariants as body

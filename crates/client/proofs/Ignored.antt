@@ -1,5 +1,5 @@
 -- An envelope that a session heeds does more than move the clock.
-use Rattle.std.proofs.Common.{◌≡◌, ◌∙◌, ℕ, Bool, true, false, ap, refl, sym, subst, List, [], ◌∷◌, ◌++◌}
+use Rattle.std.proofs.Common.{◌≡◌, ℕ, Bool, true, false, ap, refl, sym, subst, List, [], ◌∷◌, ◌++◌}
 use Rattle.std.specs.Prelude.{◌==◌, ◌&&◌}
 use Rattle.logical_time.specs.Stamps.{StampValue, TxnValue}
 use Rattle.slice.specs.declared.read.Read.{Read}
@@ -15,7 +15,6 @@ use Rattle.messages.specs.Session.{SessionState, SessionStep, Finished, HeardNow
 use Rattle.messages.specs.Session as session
 use Rattle.messages.specs.Rounds as rounds
 use Rattle.messages.specs.SessionEvents as machine
-use Rattle.read_txn.specs.States.{First, Second}
 use Rattle.client.specs.declared.kept.Kept.{Kept}
 use Rattle.client.specs.declared.current.Current.{Current}
 use Rattle.client.specs.declared.current.Current.TheVariants as now

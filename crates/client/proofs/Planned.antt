@@ -1,6 +1,6 @@
 -- The shards of a plan are shards of the home, and the envelopes made from a plan are those of the machine.
 use Rattle.std.proofs.Math.Nat.{mod-lt}
-use Rattle.std.proofs.Common.{◌≡◌, ◌∙◌, ℕ, suc, zero, ◌+◌, ◌<◌, ◌≤◌, ◌%◌, cond, Bool, true, false, ap, refl, sym, subst, arith, List, [], ◌∷◌, ◌++◌, map, sum}
+use Rattle.std.proofs.Common.{◌≡◌, ◌∙◌, ℕ, suc, zero, ◌+◌, ◌<◌, ◌≤◌, cond, Bool, true, false, ap, refl, sym, subst, arith, List, [], ◌∷◌, map, sum}
 use Rattle.std.specs.Prelude.{filter}
 use Rattle.std.specs.List.{AllByRecursion, range_with_len}
 use Rattle.column_family.specs.declared.batch.Change.{Change}
@@ -9,9 +9,8 @@ use Rattle.logical_time.specs.Stamps.{TxnValue}
 use Rattle.slice.specs.declared.read.Read.{Read}
 use Rattle.planner.specs.declared.batches.ShardPart.{ShardPart}
 use Rattle.planner.specs.declared.reads.ShardKeys.{ShardKeys}
-use Rattle.planner.specs.Plan.{coordinator_of, cohorts_of, keys_for, shards_asked}
+use Rattle.planner.specs.Plan.{coordinator_of, cohorts_of, shards_asked}
 use Rattle.planner.specs.Planned.{part_on, keys_on}
-use Rattle.messages.specs.declared.envelope.Envelope.{Envelope}
 use Rattle.messages.specs.declared.op.Op.TheVariants as op
 use Rattle.messages.specs.Rounds.{asked_nodes}
 use Rattle.client.specs.declared.kept.Kept.{Kept}

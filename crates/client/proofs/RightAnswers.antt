@@ -1,5 +1,5 @@
 -- A read that completes from right rows is answered right.
-use Rattle.std.proofs.Common.{◌≡◌, ◌∙◌, ℕ, ◌+◌, max, ap, refl, Some, map}
+use Rattle.std.proofs.Common.{◌≡◌, ◌∙◌, ◌+◌, max, ap, refl, Some, map}
 use Rattle.messages.specs.declared.envelope.Envelope.{Envelope}
 use Rattle.messages.specs.declared.outcome.Outcome.TheVariants as outcome
 use Rattle.messages.specs.Rounds.{answer_of}

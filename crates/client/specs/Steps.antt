@@ -1,7 +1,6 @@
 -- What an envelope makes of what a session keeps. Each definition takes the clock of the event first.
 use Rattle.std.specs.Prelude.{ℕ, max, Bool, true, false, ◌==◌, List, [], ◌∷◌, map, Some}
 use Rattle.logical_time.specs.Stamps.{StampValue, TxnValue, WriterValue}
-use Rattle.slice.specs.declared.read.Read.{Read}
 use Rattle.messages.specs.declared.rows_now.RowNow.{RowNow}
 use Rattle.messages.specs.declared.rows_at.AtTime.{AtTime}
 use Rattle.messages.specs.declared.outcome.Outcome.{Outcome}

@@ -17,16 +17,22 @@ fn key(alloc: Global, bytes: &[u8]) -> Result<Key, Fault> {
     Ok(Key::from_slice(alloc, bytes)?)
 }
 
+fn row(alloc: Global, family: &[u8], row: &[u8]) -> Result<Row, Fault> {
+    let family = Family::from_slice(alloc, family)?;
+    let key = key(alloc, row)?;
+    Ok(Row { family, key })
+}
+
+fn insert(alloc: Global) -> Result<Mutation, Fault> {
+    let name = Name::from_slice(alloc, b"x")?;
+    let value = Value::from_slice(alloc, b"1")?;
+    Ok(Mutation::Insert { name, value })
+}
+
 /// Inserts column x in a row.
-fn insertion(alloc: Global, family: &[u8], row: &[u8]) -> Result<Change, Fault> {
-    let row = Row {
-        family: Family::from_slice(alloc, family)?,
-        key: key(alloc, row)?,
-    };
-    let mutation = Mutation::Insert {
-        name: Name::from_slice(alloc, b"x")?,
-        value: Value::from_slice(alloc, b"1")?,
-    };
+fn insertion(alloc: Global, family: &[u8], key: &[u8]) -> Result<Change, Fault> {
+    let mutation = insert(alloc)?;
+    let row = row(alloc, family, key)?;
     Ok(Change { row, mutation })
 }
 
@@ -37,14 +43,29 @@ fn batch(alloc: Global, row: &[u8], family: &[u8]) -> Result<Op, Fault> {
     Ok(Op::Batch(Batch::from_changes(vec![in alloc; first, second]?)))
 }
 
+/// The keys b, a and b.
+fn keys(alloc: Global) -> Result<Keys, Fault> {
+    let mut keys = Vec::new(alloc);
+    for byte in b"bab" {
+        keys.push(key(alloc, &[*byte])?)?;
+    }
+    Ok(Keys::from_vec(keys))
+}
+
+fn names(alloc: Global) -> Result<Names, Fault> {
+    let name = Name::from_slice(alloc, b"x")?;
+    Ok(Names::from_vec(vec![in alloc; name]?))
+}
+
 /// A read of column x in the rows b, a and b.
 fn read(alloc: Global) -> Result<Op, Fault> {
-    let keys = vec![in alloc; key(alloc, b"b")?, key(alloc, b"a")?, key(alloc, b"b")?]?;
-    let names = vec![in alloc; Name::from_slice(alloc, b"x")?]?;
+    let family = Family::from_slice(alloc, b"f")?;
+    let keys = keys(alloc)?;
+    let predicate = Predicate::Names(names(alloc)?);
     Ok(Op::Read(Read {
-        family: Family::from_slice(alloc, b"f")?,
-        keys: Keys::from_vec(keys),
-        predicate: Predicate::Names(Names::from_vec(names)),
+        family,
+        keys,
+        predicate,
     }))
 }
 
@@ -86,38 +107,45 @@ fn done(number: u64, commit: u64) -> Result<Envelope, Fault> {
     from(0, Body::Done { txn, commit, stamp })
 }
 
-/// A shard's answer in the first round of a read: one row, valid between these times.
-fn part_now(
-    alloc: Global,
-    shard: u16,
-    number: u64,
-    row: &[u8],
-    valid: (u64, u64),
-) -> Result<Envelope, Fault> {
-    let row = RowNow {
-        key: key(alloc, row)?,
+/// One row, valid between these times.
+fn row_now(alloc: Global, row: &[u8], evt: u64, lvt: u64) -> Result<RowNow, Fault> {
+    let evt = time(evt)?;
+    let lvt = time(lvt)?;
+    let key = key(alloc, row)?;
+    Ok(RowNow {
+        key,
         columns: Columns::new(alloc),
         writers: Writers::from_vec(Vec::new(alloc)),
-        evt: time(valid.0)?,
-        lvt: time(valid.1)?,
-    };
+        evt,
+        lvt,
+    })
+}
+
+/// A shard's answer in the first round of a read.
+fn part_now(alloc: Global, shard: u16, number: u64, row: RowNow) -> Result<Envelope, Fault> {
     let rows = RowsNow::from_vec(vec![in alloc; row]?);
     from(shard, Body::PartNow { number, rows })
 }
 
-/// The answer of shard 1 in the second round of the first operation.
-fn part_at(alloc: Global) -> Result<Envelope, Fault> {
-    let row = RowAt {
-        key: key(alloc, b"a")?,
+/// The row a at a time.
+fn row_at(alloc: Global) -> Result<RowAt, Fault> {
+    let key = key(alloc, b"a")?;
+    Ok(RowAt {
+        key,
         columns: Columns::new(alloc),
         writers: Writers::from_vec(Vec::new(alloc)),
-    };
-    let answer = AtTime::Rows(RowsAt::from_vec(vec![in alloc; row]?));
+    })
+}
+
+/// The answer of shard 1 in the second round of the first operation.
+fn part_at(alloc: Global) -> Result<Envelope, Fault> {
+    let number = 1;
     let time = time(3)?;
+    let answer = AtTime::Rows(RowsAt::from_vec(vec![in alloc; row_at(alloc)?]?));
     from(
         1,
         Body::PartAt {
-            number: 1,
+            number,
             time,
             answer,
         },
@@ -146,35 +174,41 @@ fn handle(session: &mut Session, envelope: Envelope, outbox: &mut Outbox) -> Res
     }
 }
 
-/// The first round of a read, which is the operation of this number.
-fn first_round(
+/// The answers of both shards to the read of this number.
+fn answer(
     alloc: Global,
     session: &mut Session,
     number: u64,
     outbox: &mut Outbox,
 ) -> Result<(), Fault> {
-    submit(session, read(alloc)?, outbox)?;
-    let from_b = part_now(alloc, 0, number, b"b", (3, 4))?;
+    let from_b = part_now(alloc, 0, number, row_now(alloc, b"b", 3, 4)?)?;
     handle(session, from_b, outbox)?;
-    let from_a = part_now(alloc, 1, number, b"a", (0, 2))?;
+    let from_a = part_now(alloc, 1, number, row_now(alloc, b"a", 0, 2)?)?;
     handle(session, from_a, outbox)
 }
 
-/// A read at the floor 0 to its end, a write that is committed at 5, and the first round of a read at that floor. Gives
-/// what came of the read and of the write.
-fn worked(
-    alloc: Global,
-    session: &mut Session,
-    outbox: &mut Outbox,
-) -> Result<(Option<(u64, Outcome)>, bool), Fault> {
-    first_round(alloc, session, 1, outbox)?;
-    handle(session, part_at(alloc)?, outbox)?;
-    let answered = session.take_answer();
-    submit(session, batch(alloc, b"b", b"f")?, outbox)?;
-    handle(session, done(2, 5)?, outbox)?;
-    let wrote = matches!(session.take_answer(), Some((2, Outcome::Wrote { .. })));
-    first_round(alloc, session, 3, outbox)?;
-    Ok((answered, wrote))
+fn open_read(alloc: Global, session: &mut Session, outbox: &mut Outbox) -> Result<u64, Fault> {
+    let read = read(alloc)?;
+    submit(session, read, outbox)
+}
+
+/// The first round of a read.
+fn first_round(alloc: Global, session: &mut Session, outbox: &mut Outbox) -> Result<(), Fault> {
+    let number = open_read(alloc, session, outbox)?;
+    answer(alloc, session, number, outbox)
+}
+
+/// A read at the floor 0, to its end.
+fn read_at_zero(alloc: Global, session: &mut Session, outbox: &mut Outbox) -> Result<(), Fault> {
+    first_round(alloc, session, outbox)?;
+    handle(session, part_at(alloc)?, outbox)
+}
+
+/// A write that is committed at 5, and then the first round of a read.
+fn read_at_five(alloc: Global, session: &mut Session, outbox: &mut Outbox) -> Result<(), Fault> {
+    let number = submit(session, batch(alloc, b"b", b"f")?, outbox)?;
+    handle(session, done(number, 5)?, outbox)?;
+    first_round(alloc, session, outbox)
 }
 
 /// The keys that a read shows.
@@ -199,19 +233,28 @@ fn asked_again(alloc: Global, outbox: &Outbox) -> Result<Vec<(u16, u64)>, Fault>
     Ok(asked)
 }
 
-/// What is refused before a write and after it, and the number of the write.
-fn refused(
+/// Whether the read shows b and then a.
+fn shows_both(alloc: Global, outcome: &Option<(u64, Outcome)>) -> Result<bool, Fault> {
+    let keys = keys_shown(alloc, outcome)?;
+    Ok(keys.as_slice() == b"ba".as_slice())
+}
+
+/// Whether a alone is asked again at 3, and then both at 5.
+fn is_asked_again(alloc: Global, outbox: &Outbox) -> Result<bool, Fault> {
+    let asked = asked_again(alloc, outbox)?;
+    Ok(asked.as_slice() == [(1, 3), (0, 5), (1, 5)].as_slice())
+}
+
+/// Whether a batch is refused with this fault and handed back.
+fn is_refused_batch(
     alloc: Global,
     session: &mut Session,
+    row: &[u8],
+    fault: Fault,
     outbox: &mut Outbox,
-) -> Result<(bool, u64, bool), Fault> {
-    // the key is looked at before the family of the next row
-    let long = batch(alloc, &[0u8; 1025], b"g")?;
-    let before = is_refused(session, long, Fault::KeyLength, outbox);
-    let number = submit(session, batch(alloc, b"b", b"f")?, outbox)?;
-    let second = batch(alloc, b"b", b"f")?;
-    let busy = is_refused(session, second, Fault::Busy, outbox);
-    Ok((before, number, busy))
+) -> Result<bool, Fault> {
+    let batch = batch(alloc, row, b"g")?;
+    Ok(is_refused(session, batch, fault, outbox))
 }
 
 #[test]
@@ -219,17 +262,14 @@ fn late_rows_are_asked_again(rt: HostRuntime) -> Result<(), Fail> {
     let alloc = rt.alloc();
     let mut session = new_session(alloc)?;
     let mut outbox = Outbox::new(alloc);
-    let worked = worked(alloc, &mut session, &mut outbox);
+    let at_zero = read_at_zero(alloc, &mut session, &mut outbox);
+    let answered = session.take_answer();
+    let at_five = read_at_five(alloc, &mut session, &mut outbox);
     session.close();
-    let (answered, wrote) = worked?;
-    assert_eq!(rt; keys_shown(alloc, &answered)?.as_slice(), b"ba".as_slice());
-    assert!(rt; wrote);
-    assert_eq!(rt;
-        asked_again(alloc, &outbox)?.as_slice(),
-        [(1, 3), (0, 5), (1, 5)].as_slice()
-    );
+    at_zero.and(at_five)?;
+    assert!(rt; shows_both(alloc, &answered)? && is_asked_again(alloc, &outbox)?);
     // beside these two reads to each shard, a Begin and a Prepare
-    assert_eq!(rt; outbox.len(), 9);
+    assert!(rt; outbox.len() == 9);
     Ok(())
 }
 
@@ -238,9 +278,18 @@ fn refused_batches_are_handed_back(rt: HostRuntime) -> Result<(), Fail> {
     let alloc = rt.alloc();
     let mut session = new_session(alloc)?;
     let mut outbox = Outbox::new(alloc);
-    let refused = refused(alloc, &mut session, &mut outbox);
+    // the key is looked at before the family of the next row
+    let key = is_refused_batch(
+        alloc,
+        &mut session,
+        &[0u8; 1025],
+        Fault::KeyLength,
+        &mut outbox,
+    );
+    let number = open_read(alloc, &mut session, &mut outbox);
+    let busy = is_refused_batch(alloc, &mut session, b"b", Fault::Busy, &mut outbox);
     session.close();
-    assert!(rt; refused? == (true, 1, true));
-    assert_eq!(rt; outbox.len(), 2);
+    assert!(rt; key? && busy?);
+    assert!(rt; number? == 1 && outbox.len() == 2);
     Ok(())
 }

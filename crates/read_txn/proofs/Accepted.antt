@@ -1,5 +1,5 @@
 -- The first round accepts only rows that are valid at the effective time.
-use Rattle.std.proofs.Common.{◌≡◌, ◌∙◌, ℕ, ap, sym, subst, refl, inl, inr, Bool, true, false, List, [], ◌∷◌, ◌++◌, map, filter, ◌≤◌, arith}
+use Rattle.std.proofs.Common.{◌≡◌, ℕ, subst, refl, inl, inr, Bool, true, false, List, [], ◌∷◌, ◌++◌, filter, ◌≤◌, arith}
 use Rattle.std.specs.Prelude.{nat_lt, Contains, ◌⊎◌}
 use Rattle.std.proofs.lemmas.Bool.Decides.{nat_tests}
 use Rattle.planner.proofs.Members.{none_in, contains_any, contains_filter, contains_map}

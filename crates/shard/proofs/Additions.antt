@@ -15,6 +15,7 @@ use Rattle.messages.specs.Shard.{ShardState, Own, PreparedPart, BegunBallot, Dec
 use Rattle.messages.specs.Known.{is_applied}
 use Rattle.messages.specs.Replication.{is_ready}
 use Rattle.messages.specs.Honest.{IsHonest, StampedTxn, stamps_met}
+use Rattle.shard.specs.Right.{IsAppliedAsDecided}
 use Rattle.shard.specs.Sound.{IsDecided, IsCohorts, IsLed, IsFollowed, Holds, Onward}
 use Rattle.shard.proofs.Lists.{any_has, any_none, same_if_equal, same_stamp, no_truth}
 use Rattle.shard.proofs.Grow.{grows_beside, with_prepared, grows_prepared, with_applied, IsLate, grows_applied, wait_grows}
@@ -53,6 +54,7 @@ prepare_one {es = es} a p late normal side h =
         kept_ballots = h.kept_ballots;
         stamped_apart = h.stamped_apart;
         met = h.met;
+        decided_so = h.decided_so;
         waiting = λ x has. wait_grows g (h.waiting x has);
       };
     }
@@ -98,6 +100,7 @@ begin_one a b normal unfollowed ready h =
         kept_ballots = h.kept_ballots;
         stamped_apart = h.stamped_apart;
         met = h.met;
+        decided_so = h.decided_so;
         waiting = λ x has. wait_grows g (h.waiting x has);
       };
     }
@@ -138,6 +141,7 @@ decide_one a d unfollowed ready h =
         kept_ballots = h.kept_ballots;
         stamped_apart = h.stamped_apart;
         met = h.met;
+        decided_so = h.decided_so;
         waiting = λ x has. wait_grows g (h.waiting x has);
       };
     }
@@ -161,8 +165,8 @@ new_stamp a x honest h met new =
 
 pub apply_one : {top : TopologyValue} {me : ℕ} {last : ShardState} {es : List Envelope} (a : ShardState) (x : Applied) → IsHonest last es → IsNormal x.part.batch
     → Contains (stamps_met last es) (stamped_txn x) → IsDecided a x.part.writer.txn ⊎ IsCohorts a x.part.writer.txn
-    → is_applied x.part.writer.txn a ≡ false → IsLate es a x → Holds top me last es a → Onward top me last es a (with_applied a x)
-apply_one {last = last} {es = es} a x honest normal met origin new late h =
+    → IsAppliedAsDecided last es x → is_applied x.part.writer.txn a ≡ false → IsLate es a x → Holds top me last es a → Onward top me last es a (with_applied a x)
+apply_one {last = last} {es = es} a x honest normal met origin source new late h =
     let g = grows_applied {es = es} a x new late in
     record {
       grows = g;
@@ -182,6 +186,10 @@ apply_one {last = last} {es = es} a x honest normal met origin new late h =
         met = λ y has. elim (Contains-push_cases a.applied x y has) [
           | inl old ↦ h.met y old
           | inr own ↦ subst (λ (z : Applied). Contains (stamps_met last es) (stamped_txn z)) own met
+        ];
+        decided_so = λ y has. elim (Contains-push_cases a.applied x y has) [
+          | inl old ↦ h.decided_so y old
+          | inr own ↦ subst (λ (z : Applied). IsAppliedAsDecided last es z) own source
         ];
         waiting = λ y has. wait_grows g (h.waiting y has);
       };

@@ -103,7 +103,7 @@ decide_able {top = top} {me = me} {last = last} {es = es} a n b honest lt normal
     (λ h1. able_after
     (apply_one (with_decision a d) x honest normal
     (Contains-append_right (map (λ (z : Told). let s : StampedTxn = record { txn = z.txn; stamp = z.stamp } in s) (all_told es)) _ (stamped_txn x) own)
-    (inl (d, Contains-push a.decided d, refl)) new (inl lt) h1)
+    (inl (d, Contains-push a.decided d, refl)) (inr (d, within.decided d (Contains-push a.decided d), refl, refl, refl)) new (inl lt) h1)
     (λ h2. let_go_able (with_applied (with_decision a d) x) n b.txn (λ y. true) sends (omega (arith, lt))
     (λ y has is. inl (is_applied_now (with_decision a d) x)) plain h2))
 

@@ -188,6 +188,7 @@ fresh_ran top me last es =
         kept_ballots = λ r has. absurd (none_in_empty r has);
         stamped_apart = tt;
         met = λ x has. absurd (none_in_empty x has);
+        decided_so = λ x has. absurd (none_in_empty x has);
         waiting = λ x has. absurd (none_in_empty x has);
       };
       sends = tt;

@@ -38,6 +38,7 @@ aside a n low early votes askers clock lower h =
         kept_ballots = h.kept_ballots;
         stamped_apart = h.stamped_apart;
         met = h.met;
+        decided_so = h.decided_so;
         waiting = λ x has. wait_grows g (h.waiting x has);
       };
     }
@@ -84,6 +85,7 @@ more_known {top = top} {me = me} a notices met votes answers h =
         kept_ballots = h.kept_ballots;
         stamped_apart = h.stamped_apart;
         met = h.met;
+        decided_so = h.decided_so;
         waiting = λ x has. wait_grows g (h.waiting x has);
       };
     }
@@ -127,6 +129,7 @@ keep_part a k normal unled h =
         kept_ballots = h.kept_ballots;
         stamped_apart = h.stamped_apart;
         met = h.met;
+        decided_so = h.decided_so;
         waiting = λ x has. wait_grows g (h.waiting x has);
       };
     }
@@ -176,6 +179,7 @@ keep_ballot a r normal unfollowed unled h =
         ];
         stamped_apart = h.stamped_apart;
         met = h.met;
+        decided_so = h.decided_so;
         waiting = λ x has. wait_grows g (h.waiting x has);
       };
     }
@@ -199,6 +203,7 @@ now_waiting a ws sound h =
         kept_ballots = h.kept_ballots;
         stamped_apart = h.stamped_apart;
         met = h.met;
+        decided_so = h.decided_so;
         waiting = λ x has. wait_grows g (sound x has);
       };
     }

@@ -91,7 +91,7 @@ apply_able {top = top} {me = me} {last = last} {es = es} a n p commit stamp hone
     let met = contains_map (λ (z : Told). let s : StampedTxn = record { txn = z.txn; stamp = z.stamp } in s) (all_told es) t told.1 in
     let own = map (λ (d : Decision). let s : StampedTxn = record { txn = d.txn; stamp = d.stamp } in s) last.decided in
     able_after
-    (apply_one a x honest (h.prepared p has) (Contains-append_left _ own (stamped_txn x) met) (inr (p, has, refl, not_own)) new
+    (apply_one a x honest (h.prepared p has) (Contains-append_left _ own (stamped_txn x) met) (inr (p, has, refl, not_own)) (inl (t, told.1, refl, refl, refl)) new
     (inr (p, has, refl, refl, honest.prepared t p told.1 (within.prepared p has) refl, (t, told.1, refl, refl))) h)
     (λ h1. let_go_able (with_applied a x) n p.txn (λ y. true) (repl_parts p.role top me n p stamp) (omega (arith, lt))
     (λ y waits is. inl (is_applied_now a x)) (repl_parts_plain es p.role top me n p stamp) h1)

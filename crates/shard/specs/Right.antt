@@ -1,5 +1,5 @@
 -- When what one shard sent is right, judged against all that it applied, later events included.
-use Rattle.std.specs.Prelude.{◌≡◌, ℕ, ◌<◌, ◌≤◌, List, map, Contains}
+use Rattle.std.specs.Prelude.{◌≡◌, ℕ, ◌<◌, ◌≤◌, List, map, Contains, ◌⊎◌}
 use Rattle.slice.specs.declared.read.Read.{Read}
 use Rattle.store.specs.declared.part.Applied.{Applied}
 use Rattle.store.specs.declared.part.Part.{Part}
@@ -9,6 +9,8 @@ use Rattle.messages.specs.declared.rows_at.RowAt.{RowAt}
 use Rattle.messages.specs.declared.rows_at.AtTime.TheVariants as at
 use Rattle.messages.specs.declared.body.Body.TheVariants as body
 use Rattle.messages.specs.declared.envelope.Envelope.{Envelope}
+use Rattle.messages.specs.Shard.{ShardState, Decision}
+use Rattle.messages.specs.Honest.{Told, all_told}
 use Rattle.messages.specs.Rows.{row_of}
 use Rattle.shard.specs.Events.{ShardRun, envelopes_handled}
 
@@ -50,10 +52,18 @@ pub record AnswersAt (applied : List Applied) (envelopes : List Envelope) (e : E
   pub keys : map (λ r. r.key) rows ≡ read.keys
   pub right : (r : RowAt) → Contains rows r → IsRightAt applied read time r
 
+-- an applied part has the commit time and the stamp that one of these envelopes told of its transaction, or that the shard
+-- itself decided
+abbrev pub IsAppliedAsDecided : ShardState → List Envelope → Applied → Type 0
+IsAppliedAsDecided a envelopes x =
+    ((y : Told) × Contains (all_told envelopes) y × (y.txn ≡ x.part.writer.txn) × (y.commit ≡ x.commit) × (y.stamp ≡ x.stamp))
+    ⊎ ((d : Decision) × Contains a.decided d × (d.txn ≡ x.part.writer.txn) × (d.commit ≡ x.commit) × (d.stamp ≡ x.stamp))
+
 -- The shard is right: of all that it sent, each answer of a first round is right at each time for which it says so, each
--- answer at a time is right at that time, both against all that it ever applied; and a read is given up only below the
--- horizon.
+-- answer at a time is right at that time, both against all that it ever applied; a read is given up only below the
+-- horizon; and parts are applied as they were decided.
 pub record IsRightShard (w : ShardRun) : Type 0 where
+  pub applied : (x : Applied) → Contains w.state.applied x → IsAppliedAsDecided w.state (envelopes_handled w) x
   pub now : (e : Envelope) (number : ℕ) (rows : List RowNow) → Contains w.sent e → e.body ≡ body.PartNow number rows
       → AnswersNow w.state.applied (envelopes_handled w) e number rows
   pub then : (e : Envelope) (number time : ℕ) (rows : List RowAt) → Contains w.sent e → e.body ≡ body.PartAt number time (at.Rows rows)

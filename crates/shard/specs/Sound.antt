@@ -23,7 +23,7 @@ use Rattle.messages.specs.Known.{is_applied}
 use Rattle.messages.specs.Rows.{row_of, touches_row}
 use Rattle.messages.specs.Replication.{is_ready}
 use Rattle.messages.specs.Honest.{Told, all_told, stamps_met}
-use Rattle.shard.specs.Right.{part_now, part_then}
+use Rattle.shard.specs.Right.{part_now, part_then, IsAppliedAsDecided}
 
 -- ## What is complete
 
@@ -145,7 +145,7 @@ IsFollowed a t = IsCohorts a t ⊎ IsKeptPart a t
 
 -- Where this is the last state and these are all handled envelopes: no transaction is led and followed, each has one kept
 -- ballot, and one that is begun or decided has all notices and answers; what is applied was decided here or is a
--- cohort's part; all parts are in normal form; parts that are applied have stamps that were met, no two the same; and
+-- cohort's part; all parts are in normal form; parts that are applied have stamps that were met, no two the same, and are applied as they were decided; and
 -- the waiting reads are sound.
 pub record Holds (top : TopologyValue) (me : ℕ) (last : ShardState) (es : List Envelope) (a : ShardState) : Type 0 where
   pub sides : (t : TxnValue) → IsLed a t → IsFollowed a t → ⊥
@@ -158,6 +158,7 @@ pub record Holds (top : TopologyValue) (me : ℕ) (last : ShardState) (es : List
   pub kept_ballots : (r : KeptBallot) → Contains a.kept_ballots r → IsNormal r.rows
   pub stamped_apart : AreApart a.applied
   pub met : (x : Applied) → Contains a.applied x → Contains (stamps_met last es) (record { txn = x.part.writer.txn; stamp = x.stamp })
+  pub decided_so : (x : Applied) → Contains a.applied x → IsAppliedAsDecided last es x
   pub waiting : (x : WaitingRead) → Contains a.waiting x → WaitSound es a x
 
 -- the state that comes of this one: it holds all of this, and what was complete stays so

@@ -46,7 +46,7 @@ some_or None false m = refl
 some_or (Some n) true m = refl
 some_or (Some n) false m = refl
 
-some_last : (p : Change → Bool) (cs : List Change) → is_some (last_of p cs) ≡ list_any p cs
+pub some_last : (p : Change → Bool) (cs : List Change) → is_some (last_of p cs) ≡ list_any p cs
 some_last p [] = refl
 some_last p (c ∷ cs) = some_or (last_of p cs) (p c) c.mutation ∙ ap (λ b. p c || b) (some_last p cs)
 

@@ -111,7 +111,7 @@ change_agrees all r p t le n asked =
         let own : column_evt (history_of all) r p n ≡ commit_of (newest_of (is_column_change (at r n)) (history_of all)) = rw asked refl in
         omega (arith, le, below, own)
 
-touch_agrees : (all : List Applied) (r : Row) (p : Predicate) (t : ℕ) → AreApart all → evt_of (history_of all) r p ≤ t → (n : List ℕ) → is_asked p n ≡ true
+pub touch_agrees : (all : List Applied) (r : Row) (p : Predicate) (t : ℕ) → AreApart all → evt_of (history_of all) r p ≤ t → (n : List ℕ) → is_asked p n ≡ true
     → newest (history_of all) (at r n) ≡ newest (history_of (applied_by t all)) (at r n)
 touch_agrees all r p t apart le n asked =
     newest_touch all apart (at r n)

@@ -17,7 +17,7 @@ use Rattle.store.specs.Part.{committed_of, history_of, applied_by, commit_of}
 pub not_older_itself : (s : StampValue) → is_older s s ≡ false
 not_older_itself s = grind (arith, nat_tests)
 
-not_older_trans : (s t u : StampValue) → is_older s t ≡ false → is_older t u ≡ false → is_older s u ≡ false
+pub not_older_trans : (s t u : StampValue) → is_older s t ≡ false → is_older t u ≡ false → is_older s u ≡ false
 not_older_trans s t u h k = grind (arith, nat_tests)
 
 not_older_back : (s t : StampValue) → is_older s t ≡ true → is_older t s ≡ false

@@ -13,6 +13,7 @@ use Rattle.messages.specs.Session.{SessionState, HeardNow, HeardAt}
 use Rattle.messages.specs.Submitting.{home_node}
 use Rattle.messages.specs.Rounds.{was_heard, asked_nodes, is_missing, all_heard, late_nodes, was_heard_at, is_missing_at, all_heard_at}
 use Rattle.messages.proofs.Numbering.{number_of_shard}
+use Rattle.world.proofs.Near.{key_below}
 use Rattle.world.proofs.Among.{Among, among_append, append_first, append_second, among_contains, contains_among, any_true, all_among, filter_only, map_only, map_among}
 
 -- ## Lists
@@ -35,9 +36,6 @@ range_below a (suc n) s (inl e) = omega arith
 range_below a (suc n) s (inr m) = let lt = range_below (a + 1) n s m in omega arith
 
 -- ## Shards
-
-pub key_below : (shards : ℕ) (key : List ℕ) → 0 < shards → shard_of_key shards key < shards
-key_below shards key some = mod_below (sum key) shards some
 
 pub asked_below : (shards : ℕ) (keys : List (List ℕ)) (s : ℕ) → Among s (shards_asked shards keys) → s < shards
 asked_below shards keys s m =

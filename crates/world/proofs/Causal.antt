@@ -9,7 +9,7 @@ use Rattle.messages.specs.declared.outcome.Outcome.TheVariants as outcome
 use Rattle.messages.specs.Topology.{TopologyValue}
 use Rattle.messages.specs.Session.{is_idle}
 use Rattle.world.specs.Run.{Run, Submission, Completed}
-use Rattle.world.specs.Committed.{time_of}
+use Rattle.world.specs.Committed.{time_of, IsNotBelow}
 use Rattle.world.proofs.Among.{Among}
 use Rattle.world.proofs.Facts.{txn_of}
 use Rattle.world.proofs.Invariant.{AnsweredFrom}
@@ -42,20 +42,16 @@ EndCausal (op.Batch batch) outcome.Collected top w c = Unit {0}
 EndCausal (op.Read read) (outcome.Wrote commit stamp) top w c = Unit {0}
 EndCausal (op.Read read) outcome.Collected top w c = Unit {0}
 
--- the time isn't above what this outcome names
-abbrev pub IsAbove : Outcome → ℕ → Type 0
-IsAbove (outcome.Wrote commit stamp) n = n ≤ commit
-IsAbove (outcome.Read time answer) n = n ≤ time
-IsAbove outcome.Collected n = Unit {0}
-
 pub record Causal (top : TopologyValue) (w : Run) : Type 0 where
   pub ended : (c : Completed) → Among c w.transcript → EndCausal c.op c.outcome top w c
   -- the floor is above all times so far
   pub floor : (c : Completed) → Among c w.transcript → time_of c.outcome ≤ (w.sessions c.node).floor
   -- a session's times never fall
-  pub ordered : (c e : Completed) → Among c w.transcript → Among e w.transcript → c.node ≡ e.node → c.number < e.number → IsAbove e.outcome (time_of c.outcome)
+  pub ordered : (c e : Completed) → Among c w.transcript → Among e w.transcript → c.node ≡ e.node → c.number < e.number → IsNotBelow e.outcome (time_of c.outcome)
   -- what ended is no longer open
   pub number : (c : Completed) → Among c w.transcript → c.number ≤ (w.sessions c.node).count
   pub closed : (c : Completed) → Among c w.transcript → is_idle (w.sessions c.node).current ≡ false → c.number < (w.sessions c.node).count
+  -- what is submitted later has a greater time
+  pub begun : (b : Submission) (c : Completed) → Among b w.submitted → Among c w.transcript → c.node ≡ b.session → c.number < b.number → time_of c.outcome ≤ b.time
   -- each operation ends once
   pub one : (c e : Completed) → Among c w.transcript → Among e w.transcript → txn_ended c ≡ txn_ended e → c ≡ e

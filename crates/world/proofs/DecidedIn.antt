@@ -15,10 +15,11 @@ use Rattle.messages.specs.Words.{is_same_txn}
 use Rattle.messages.specs.Shard.{Decision}
 use Rattle.world.specs.Run.{Run, Submission, submission_of}
 use Rattle.world.specs.Histories.{batch_in, batch_submitted, decisions_in, committed_of, history_of}
+use Rattle.messages.proofs.Numbering.{dc_of_shard}
+use Rattle.world.proofs.Near.{coordinator_below, listed_below}
 use Rattle.world.proofs.Among.{Among, among_contains, contains_among, find_some, find_none, any_false, same_txn, same_txn_self}
 use Rattle.world.proofs.Facts.{txn_of, IsWritten, lead, part_on, IsStamp, DecisionSound, AppliedSound}
 use Rattle.world.proofs.Invariant.{SubmittedSound, Inv}
-use Rattle.world.proofs.NodeNumbers.{coordinator_below, dc_of_node, listed_below}
 use Rattle.world.proofs.SameNewest.{OneEach}
 
 -- ---- a transaction has one submission, with one batch
@@ -76,7 +77,7 @@ decided_in top w inv dc d m =
       node = node;
       among = has;
       sound = (inv.shards node).decided d has;
-      here = dc_of_node top dc r.0 (listed_below top.shards r.0 (contains_among r.0 (range_with_len 0 top.shards) r.1));
+      here = dc_of_shard top dc r.0 (listed_below top.shards r.0 (contains_among r.0 (range_with_len 0 top.shards) r.1));
     }
 
 pub in_decisions : (top : TopologyValue) (w : Run) (dc shard : ℕ) (d : Decision) → shard < top.shards

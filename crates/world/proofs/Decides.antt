@@ -115,6 +115,7 @@ module _ (top : TopologyValue) (x : Run) (node n : ℕ) (a : ShardState) (b : Be
         one_time = λ e m q. time_go e (subst (λ z. Among e z.decided) at m) q;
         stamp = the_stamp.0;
         stamp_time = the_stamp.1;
+        begun = ballot.begun;
         done = ballot.done;
       }
 
@@ -172,6 +173,7 @@ module _ (top : TopologyValue) (x : Run) (node n : ℕ) (a : ShardState) (b : Be
         dependencies = ballot.dependencies;
         stamp = k;
         time = le;
+        begun = ballot.begun;
       }
 
   announce_go : (o : Option StampValue) → b.stamp ≡ o → StampFits top x node n ballot.submission ballot.batch o → (e : Envelope) → Among e (announcements top node n b o) → EnvelopeSound top x e

@@ -115,6 +115,7 @@ pub record BallotSound (top : TopologyValue) (w : Run) (node n : ℕ) (b : Begun
   pub cohorts : b.cohorts ≡ cohorts_of top.shards batch
   pub dependencies : b.dependencies ≡ submission.dependencies
   pub done : (k : WriterValue) → Among k submission.dependencies → IsDone top w (dc_of top node) k.txn n
+  pub begun : submission.time ≤ n
   pub stamp : StampFits top w node n submission batch b.stamp
 
 -- a replicated ballot, whose stamp is not above this time
@@ -128,6 +129,7 @@ pub record KeptBallotSound (top : TopologyValue) (w : Run) (node n : ℕ) (r : K
   pub dependencies : r.dependencies ≡ submission.dependencies
   pub stamp : IsStamp top w submission batch r.stamp
   pub time : r.stamp.time ≤ n
+  pub begun : submission.time ≤ n
 
 pub record KeptPartSound (top : TopologyValue) (w : Run) (node : ℕ) (k : KeptPart) : Type 0 where
   pub submission : Submission
@@ -149,6 +151,7 @@ pub record DecisionSound (top : TopologyValue) (w : Run) (node : ℕ) (d : Decis
   pub one_time : (e : Decision) → Among e (w.shards node).decided → e.commit ≡ d.commit → e ≡ d
   pub stamp : IsStamp top w submission batch d.stamp
   pub stamp_time : d.stamp.time ≤ d.commit
+  pub begun : submission.time ≤ d.commit
   -- what it depends on was decided here before
   pub done : (k : WriterValue) → Among k submission.dependencies → IsDone top w (dc_of top node) k.txn d.commit
 

@@ -58,6 +58,10 @@ done_grows g le k =
       commit = lt_of_lt_of_le k.commit le;
     }
 
+-- done below a time is done below each later one
+pub done_later : {top : TopologyValue} {w : Run} {dc n m : ℕ} {t : TxnValue} → n ≤ m → IsDone top w dc t n → IsDone top w dc t m
+done_later le k = record { node = k.node; here = k.here; decision = k.decision; among = k.among; txn = k.txn; commit = lt_of_lt_of_le k.commit le }
+
 pub before_grows : {top : TopologyValue} {w x : Run} {node : ℕ} {t : TxnValue} {n m : ℕ} → Grows top w x → n ≤ m → PreparedBefore w node t n → PreparedBefore x node t m
 before_grows {node = node} g le k = record { part = k.part; among = (g.shards node).prepared k.part k.among; txn = k.txn; time = lt_of_lt_of_le k.time le }
 
@@ -101,6 +105,7 @@ ballot_grows {top = top} {node = node} {b = b} g le k =
       cohorts = k.cohorts;
       dependencies = k.dependencies;
       done = λ e m. done_grows g le (k.done e m);
+      begun = le_trans k.begun le;
       stamp = fits_grows top node k.submission k.batch g le b.stamp k.stamp;
     }
 
@@ -116,6 +121,7 @@ kept_ballot_grows g le k =
       dependencies = k.dependencies;
       stamp = stamp_grows g k.stamp;
       time = le_trans k.time le;
+      begun = le_trans k.begun le;
     }
 
 pub kept_part_grows : {top : TopologyValue} {w x : Run} {node : ℕ} {p : KeptPart} → Grows top w x → KeptPartSound top w node p → KeptPartSound top x node p
@@ -151,6 +157,7 @@ decision_grows {node = node} g m k =
       one_time = λ e j q. one_at_time k e ((g.shards node).decided_new e j) q;
       stamp = stamp_grows g k.stamp;
       stamp_time = k.stamp_time;
+      begun = k.begun;
       done = λ e j. done_grows g (le_refl _) (k.done e j);
     }
 

@@ -118,7 +118,7 @@ session_grows {top = top} {node = node} {a = a} g k =
       placed = k.placed;
     }
 
-from_grows : {top : TopologyValue} {w x : Run} {dc time : ℕ} {read : Read} {rows : List RowAt} → Grows top w x → AnsweredFrom top w dc read time rows → AnsweredFrom top x dc read time rows
+pub from_grows : {top : TopologyValue} {w x : Run} {dc time : ℕ} {read : Read} {rows : List RowAt} → Grows top w x → AnsweredFrom top w dc read time rows → AnsweredFrom top x dc read time rows
 from_grows g k = record { given = k.given; right = λ r m. row_at_grows g (k.right r m) }
 
 pub end_grows : (o : Op) (e : Outcome) (top : TopologyValue) {w x : Run} (dc : ℕ) (t : TxnValue) → Grows top w x → EndSound o e top w dc t → EndSound o e top x dc t

@@ -12,6 +12,7 @@ use Rattle.planner.specs.Plan.{part_for, is_touched, coordinator_of, cohorts_of}
 use Rattle.planner.proofs.Parts.{normal_part}
 use Rattle.messages.specs.Topology.{TopologyValue, dc_of, shard_of, shard_node}
 use Rattle.messages.proofs.Numbering.{dc_of_shard, number_of_shard}
+use Rattle.planner.specs.Partition.{shard_of as shard_of_key}
 use Rattle.world.proofs.Among.{Among, filter_only}
 use Rattle.world.proofs.Facts.{near, lead, part_on}
 
@@ -22,9 +23,12 @@ range_below a (suc n) c (inr m) = let lt = range_below (a + 1) n c m in omega ar
 
 -- ## Numbers within a data centre
 
+pub key_below : (shards : ℕ) (key : List ℕ) → 0 < shards → shard_of_key shards key < shards
+key_below shards key some = mod_below (sum key) shards some
+
 pub coordinator_below : (shards : ℕ) (batch : List Change) → 0 < shards → coordinator_of shards batch < shards
 coordinator_below shards [] some = some
-coordinator_below shards (c ∷ cs) some = mod_below (sum c.row.key) shards some
+coordinator_below shards (c ∷ cs) some = key_below shards c.row.key some
 
 pub cohort_below : (shards : ℕ) (batch : List Change) (c : ℕ) → Among c (cohorts_of shards batch) → c < shards
 cohort_below shards batch c m =
@@ -66,3 +70,8 @@ peer_part top batch node dc some = sym (ap (part_for top.shards (normal_of batch
 -- each part of a batch is in normal form
 pub normal_on : (top : TopologyValue) (batch : List Change) (node : ℕ) → IsNormal (part_on top batch node)
 normal_on top batch node = normal_part top.shards (shard_of top node) (normal_of batch) (normal_form batch)
+
+-- ## Numbers of shards in order
+
+pub listed_below : (n s : ℕ) → Among s (range_with_len 0 n) → s < n
+listed_below n s m = let lt = range_below 0 n s m in omega arith

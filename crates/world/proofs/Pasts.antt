@@ -1,6 +1,6 @@
 -- What is before an operation is committed before it: the past of a read stands in its table.
-use Rattle.std.proofs.Common.{◌≡◌, ℕ, ◌+◌, ◌<◌, ◌≤◌, true, false, List, [], ◌∷◌, Some, None, Option, ◌⊎◌, inl, inr, refl, sym, ap, ◌∙◌, subst, arith, le_refl, le_trans, mod-lt}
-use Rattle.std.specs.Prelude.{Contains, option_and_then, sum}
+use Rattle.std.proofs.Common.{◌≡◌, ℕ, ◌+◌, ◌<◌, ◌≤◌, true, false, List, [], ◌∷◌, Some, None, Option, ◌⊎◌, inl, inr, refl, sym, ap, ◌∙◌, subst, arith, le_refl}
+use Rattle.std.specs.Prelude.{Contains, option_and_then}
 use Rattle.logical_time.specs.Stamps.{TxnValue, WriterValue}
 use Rattle.column_family.specs.declared.batch.Change.{Change}
 use Rattle.slice.specs.declared.read.Read.{Read}
@@ -10,22 +10,19 @@ use Rattle.messages.specs.declared.op.Op.{Op}
 use Rattle.messages.specs.declared.op.Op.TheVariants as op
 use Rattle.messages.specs.declared.outcome.Outcome.{Outcome}
 use Rattle.messages.specs.declared.outcome.Outcome.TheVariants as outcome
-use Rattle.planner.specs.Plan.{coordinator_of}
 use Rattle.messages.specs.Topology.{TopologyValue, dc_of}
-use Rattle.messages.proofs.Numbering.{dc_of_shard}
 use Rattle.messages.specs.Words.{is_same_txn}
 use Rattle.messages.specs.Shard.{Decision}
 use Rattle.world.specs.Run.{Run, Submission, Completed, submission_of}
-use Rattle.world.specs.Committed.{time_of}
+use Rattle.world.specs.Committed.{time_of, IsNotBelow}
 use Rattle.world.specs.Histories.{batch_in, batch_submitted}
 use Rattle.world.specs.Before.{IsSubmitted, IsWrite, completes, IsEndOf, IsCompleted, IsEarlier, ReadRestsOn, EndRestsOn, RestsOn, IsJustBefore, IsBeforeOver, Before, Past}
 use Rattle.world.proofs.Among.{Among, contains_among, find_some, same_txn}
 use Rattle.world.proofs.Facts.{txn_of, IsWritten, IsDone, IsDecided, lead}
 use Rattle.world.proofs.Invariant.{home, IsOpen, AnsweredFrom, EndSound, Inv}
-use Rattle.world.proofs.Causal.{txn_ended, Covered, direct, via, LaterCovered, writers_in, EndCausal, IsAbove, Causal}
-
-done_later : {top : TopologyValue} {w : Run} {dc n m : ℕ} {t : TxnValue} → n ≤ m → IsDone top w dc t n → IsDone top w dc t m
-done_later le k = record { node = k.node; here = k.here; decision = k.decision; among = k.among; txn = k.txn; commit = let lt = k.commit in omega arith }
+use Rattle.world.proofs.Lasting.{done_later}
+use Rattle.world.proofs.Near.{lead_dc}
+use Rattle.world.proofs.Causal.{txn_ended, Covered, direct, via, LaterCovered, writers_in, EndCausal, Causal}
 
 -- the submission of a write, of its batch
 pub written_at : (w : Run) (t : TxnValue) → IsWrite w t → (b : Submission) × (batch : List Change) × IsWritten w t b batch
@@ -40,14 +37,6 @@ written_at w t k = go (submission_of w.submitted t) refl k.1
     go (Some b) e q =
         let f = find_some (λ s. is_same_txn (record { session = s.session; number = s.number }) t) w.submitted b e in
         (b, k.0, record { among = f.0; txn = same_txn (txn_of b) t f.1; op = op_go b b.op refl q })
-
-coordinator_below : (shards : ℕ) (batch : List Change) → 0 < shards → coordinator_of shards batch < shards
-coordinator_below shards [] lt = lt
-coordinator_below shards (c ∷ cs) lt = mod-lt (sum c.row.key) lt
-
--- the coordinator of a batch in a data centre is a shard of it
-pub lead_dc : (top : TopologyValue) (dc : ℕ) (batch : List Change) → 0 < top.shards → dc_of top (lead top dc batch) ≡ dc
-lead_dc top dc batch lt = dc_of_shard top dc (coordinator_of top.shards batch) (coordinator_below top.shards batch lt)
 
 module _ (top : TopologyValue) (w : Run) (some : 0 < top.shards) (inv : Inv top w) (causal : Causal top w)
     (rests : (dc time : ℕ) (read : Read) (rows : List RowAt) → AnsweredFrom top w dc read time rows → (u : TxnValue) → ReadRestsOn top w dc read time u → (k : WriterValue) × Among k (writers_in rows) × (k.txn ≡ u))
@@ -97,7 +86,7 @@ module _ (top : TopologyValue) (w : Run) (some : 0 < top.shards) (inv : Inv top 
   later_read : (c e : Completed) → Among c w.transcript → Among e w.transcript → c.node ≡ e.node → c.number < e.number → (n : ℕ) → time_of c.outcome ≡ n → (u : TxnValue) → IsDone top w c.home u (n + 1)
       → (time : ℕ) (answer : List AnsweredRow) → e.outcome ≡ outcome.Read time answer → IsDone top w e.home u (time + 1)
   later_read c e m k node number n q u done time answer o =
-      let le = subst (λ z. IsAbove z (time_of c.outcome)) o (causal.ordered c e m k node number) in
+      let le = subst (λ z. IsNotBelow z (time_of c.outcome)) o (causal.ordered c e m k node number) in
       subst (λ z. IsDone top w z u (time + 1)) (same_home c e m k node) (done_later (omega arith) done)
 
   -- ## A write that its session completed
@@ -199,55 +188,49 @@ module _ (top : TopologyValue) (w : Run) (some : 0 < top.shards) (inv : Inv top 
       let z : op.Batch s.batch ≡ op.Read r = sym s.written.op ∙ ap (λ v. v.op) same ∙ o.op ∙ e in
       absurd (cc)
 
-  rests_carries : (u z y : TxnValue) → Carries u z → RestsOn top w y z → Carries u y
-  rests_carries u z y k (c, (m, q), r) =
+  rests_reached : (u z y : TxnValue) → Carries u z → RestsOn top w y z → Reached u y
+  rests_reached u z y k (c, (m, q), r) =
+      let among = contains_among c w.transcript m in
+      let e = read_end c among z r in
+      let done : IsDone top w c.home u (e.time + 1) = through u z k c.home (e.time + 1) e.done in
+      record {
+        write = λ x d i p. absurd (no_decision c among e.read e.op x d i (p ∙ sym q));
+        read = λ f i p r time answer o a.
+            let same : f ≡ c = causal.one f c i among (p ∙ sym q) in
+            let t : e.time ≡ time = sym e.is ∙ ap (λ v. time_of v.outcome) (sym same) ∙ ap time_of a in
+            subst (λ v. IsDone top w v.home u (time + 1)) (sym same) (subst (λ v. IsDone top w c.home u (v + 1)) t done);
+      }
+
+  rests_later : (u z y : TxnValue) → Carries u z → RestsOn top w y z → (v : TxnValue) → y.session ≡ v.session → y.number < v.number → Reached u v
+  rests_later u z y k (c, (m, q), r) v es lt =
       let among = contains_among c w.transcript m in
       let e = read_end c among z r in
       let node : c.node ≡ y.session = ap (λ v. v.session) q in
       let number : c.number ≡ y.number = ap (λ v. v.number) q in
       let done : IsDone top w c.home u (e.time + 1) = through u z k c.home (e.time + 1) e.done in
       record {
-        here =
-            inr
-            (record {
-              write = λ x d i p. absurd (no_decision c among e.read e.op x d i (p ∙ sym q));
-              read = λ f i p r time answer o a.
-                  let same : f ≡ c = causal.one f c i among (p ∙ sym q) in
-                  let t : e.time ≡ time = sym e.is ∙ ap (λ v. time_of v.outcome) (sym same) ∙ ap time_of a in
-                  subst (λ v. IsDone top w v.home u (time + 1)) (sym same) (subst (λ v. IsDone top w c.home u (v + 1)) t done);
-            });
-        later = λ ended v sub es lt.
-            record {
-              write = λ x d i p. through u z k (dc_of top x) d.commit (later_write c.node c.number z e.later v (sym (node ∙ es)) (omega arith) x d i p);
-              read = λ f i p r time answer o a.
-                  let f_node : f.node ≡ v.session = ap (λ v. v.session) p in
-                  let f_number : f.number ≡ v.number = ap (λ v. v.number) p in
-                  later_read c f among i (node ∙ es ∙ sym f_node) (omega arith) e.time e.is u done time answer a;
-            };
+        write = λ x d i p. through u z k (dc_of top x) d.commit (later_write c.node c.number z e.later v (sym (node ∙ es)) (omega arith) x d i p);
+        read = λ f i p r time answer o a.
+            let f_node : f.node ≡ v.session = ap (λ v. v.session) p in
+            let f_number : f.number ≡ v.number = ap (λ v. v.number) p in
+            later_read c f among i (node ∙ es ∙ sym f_node) (omega arith) e.time e.is u done time answer a;
       }
 
-  earlier_carries : (u z y : TxnValue) → Carries u z → IsEarlier w z y → Carries u y
-  earlier_carries u z y k (ended, sub, es, lt) =
-      record { here = inr (k.later ended y sub es lt); later = λ done v more same lv. k.later ended v more (es ∙ same) (omega arith) }
+  -- ## Chains
 
-  link_carries : (u z y : TxnValue) → Carries u z → IsJustBefore top w z y → Carries u y
-  link_carries u z y k (inl e) = earlier_carries u z y k e
-  link_carries u z y k (inr r) = rests_carries u z y k r
+  link_reached : (u z y : TxnValue) → Carries u z → IsJustBefore top w z y → Reached u y
+  link_reached u z y k (inl (ended, sub, es, lt)) = k.later ended y sub es lt
+  link_reached u z y k (inr r) = rests_reached u z y k r
 
-  chain_carries : (u z : TxnValue) (xs : List TxnValue) (v : TxnValue) → Carries u z → IsBeforeOver top w z xs v → Carries u v
-  chain_carries u z [] v k b = link_carries u z v k b
-  chain_carries u z (x ∷ xs) v k b = chain_carries u x xs v (link_carries u z x k b.0) b.1
+  link_later : (u z y : TxnValue) → Carries u z → IsJustBefore top w z y → (v : TxnValue) → IsSubmitted w v → y.session ≡ v.session → y.number < v.number → Reached u v
+  link_later u z y k (inl (ended, sub, es, lt)) v more same lv = k.later ended v more (es ∙ same) (omega arith)
+  link_later u z y k (inr r) v more same lv = rests_later u z y k r v same lv
 
-  pub past_carries : (u v : TxnValue) → Past top w v u → Carries u v
-  past_carries u v p = chain_carries u u p.1.0 v (own_carries u p.0) p.1.1
+  chain_reached : (u z : TxnValue) (xs : List TxnValue) (v : TxnValue) → Carries u z → IsBeforeOver top w z xs v → Reached u v
+  chain_reached u z [] v k b = link_reached u z v k b
+  chain_reached u z (x ∷ xs) v k b =
+      chain_reached u x xs v (record { here = inr (link_reached u z x k b.0); later = λ ended y sub es lt. link_later u z x k b.0 y sub es lt }) b.1
 
-  -- a write in the past of a completed read is committed in its home, not above its effective time
-  pub past_read : (c : Completed) → Among c w.transcript → (r : Read) (time : ℕ) (answer : List AnsweredRow) → c.op ≡ op.Read r → c.outcome ≡ outcome.Read time answer → (u : TxnValue) → Past top w (txn_ended c) u → IsDone top w c.home u (time + 1)
-  past_read c m r time answer o a u p =
-      elim ((past_carries u (txn_ended c) p).here) [
-        | inr k ↦ k.read c m refl r time answer o a
-        | inl q ↦ let x = written_at w u p.0 in let s = (inv.transcript c m).opened in
-            let same : x.0 ≡ s.submission = inv.submitted.one x.0 s.submission x.2.among s.among (x.2.txn ∙ sym q ∙ λ i. record { session = sym s.session i; number = sym s.number i }) in
-            let z : op.Batch x.1 ≡ op.Read r = sym x.2.op ∙ ap (λ v. v.op) same ∙ s.op ∙ o in
-            absurd (cc)
-      ]
+  -- what is in the past of an operation is committed before it
+  pub past_reached : (u v : TxnValue) → Past top w v u → Reached u v
+  past_reached u v p = chain_reached u u p.1.0 v (own_carries u p.0) p.1.1

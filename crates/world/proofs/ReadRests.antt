@@ -23,10 +23,11 @@ use Rattle.messages.specs.Shard.{Decision}
 use Rattle.world.specs.Run.{Run}
 use Rattle.world.specs.Histories.{decisions_in, history_of}
 use Rattle.world.specs.Before.{ReadRestsOn}
+use Rattle.messages.proofs.Numbering.{dc_of_shard}
+use Rattle.world.proofs.Near.{key_below}
 use Rattle.world.proofs.Among.{Among, among_contains, contains_among}
 use Rattle.world.proofs.Facts.{RowAtSound}
 use Rattle.world.proofs.Invariant.{AnsweredFrom, Inv}
-use Rattle.world.proofs.NodeNumbers.{key_below, dc_of_node}
 use Rattle.world.proofs.DecidedIn.{DecidedIn, decided_in, stamp_decision, IsAppliedIn, applied_in}
 use Rattle.world.proofs.RowAlike.{AreAlike, alike_back, alike_rests}
 use Rattle.world.proofs.ReadTables.{node_of, right_alike}
@@ -65,7 +66,7 @@ module _ (top : TopologyValue) (w : Run) (inv : Inv top w) (some : 0 < top.shard
       (sound.complete.applied a (contains_among a sound.seen (kept_only (λ (b : Applied). nat_le b.commit time) sound.seen a has).0)))
 
   home_is : dc_of top (node_of top dc r.key) ≡ dc
-  home_is = dc_of_node top dc _ (key_below top.shards r.key some)
+  home_is = dc_of_shard top dc _ (key_below top.shards r.key some)
 
   -- what the read rests on in the row is the transaction of one of the row's writers
   pub writer_of_row : (d : Decision) → Among d (decisions_in top w dc)

@@ -21,10 +21,11 @@ use Rattle.messages.specs.declared.outcome.Outcome.TheVariants as outcome
 use Rattle.messages.specs.Topology.{TopologyValue, shard_node}
 use Rattle.world.specs.Run.{Run, Completed}
 use Rattle.world.specs.Histories.{IsHistory}
+use Rattle.messages.proofs.Numbering.{dc_of_shard, number_of_shard}
+use Rattle.world.proofs.Near.{key_below}
 use Rattle.world.proofs.Among.{among_contains, contains_among}
 use Rattle.world.proofs.Facts.{RowAtSound}
 use Rattle.world.proofs.Invariant.{AnsweredFrom, AnsweredSound, EndSound, Inv}
-use Rattle.world.proofs.NodeNumbers.{key_below, dc_of_node, shard_of_node}
 use Rattle.world.proofs.RowAlike.{AreAlike, alike_live, complete_alike}
 
 -- the shard of a key in a data centre
@@ -49,8 +50,8 @@ pub right_alike : (top : TopologyValue) (w : Run) → Inv top w → 0 < top.shar
     → (h : History) → IsHistory top w dc h → AreAlike (row_of read r.key) (up_to time h) (parts_of (applied_by time sound.seen))
 right_alike top w inv some dc time read r sound h is =
     let below = key_below top.shards r.key some in
-    complete_alike top w inv some (node_of top dc r.key) (row_of read r.key) (sym (shard_of_node top dc (shard_of_key top.shards r.key) below)) time sound.seen sound.complete h
-    (subst (λ d. IsHistory top w d h) (sym (dc_of_node top dc (shard_of_key top.shards r.key) below)) is)
+    complete_alike top w inv some (node_of top dc r.key) (row_of read r.key) (sym (number_of_shard top dc (shard_of_key top.shards r.key) below)) time sound.seen sound.complete h
+    (subst (λ d. IsHistory top w d h) (sym (dc_of_shard top dc (shard_of_key top.shards r.key) below)) is)
 
 pub right_columns : (top : TopologyValue) (w : Run) → Inv top w → 0 < top.shards → (dc time : ℕ) (read : Read) (r : RowAt)
     → RowAtSound top w (node_of top dc r.key) time read r

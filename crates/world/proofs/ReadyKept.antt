@@ -79,6 +79,7 @@ module _ (top : TopologyValue) (w : Run) (node n : ℕ) (a : ShardState) (some :
         cohorts = k.cohorts;
         dependencies = k.dependencies;
         done = λ d m. done_all r e d (subst (λ l. Among d l) (sym k.dependencies) m);
+        begun = k.begun;
         stamp = (k.stamp, k.time);
       }
 

@@ -12,7 +12,7 @@ use Rattle.messages.specs.Submitting.{session_submit}
 use Rattle.world.specs.Run.{Run, Event, Submit, Deliver, Collect, opening, after_shard, after_session, after_submission, submit_if, deliver_if, deliver_for, collect_if, step, continued, run}
 
 -- an event changes nothing, or it is added to those that happened
-abbrev Happens : Run → Event → Run → Type 0
+abbrev pub Happens : Run → Event → Run → Type 0
 Happens w x v = (v ≡ w) ⊎ (v.events ≡ w.events ++ x ∷ [])
 
 shard_happens : (r : Result ShardStep Fault) (w : Run) (x : Event) (node : ℕ) → Happens w x (after_shard r w x node)
@@ -44,12 +44,12 @@ collect_happens : (b : Bool) (w : Run) (node time : ℕ) → Happens w (Collect 
 collect_happens true w node time = shard_happens (shard_collect (w.shards node) time) w (Collect node time) node
 collect_happens false w node time = inl refl
 
-happens : (top : TopologyValue) (w : Run) (x : Event) → Happens w x (step top w x)
+pub happens : (top : TopologyValue) (w : Run) (x : Event) → Happens w x (step top w x)
 happens top w (Submit node o) = submit_happens (is_session top node) top w node o
 happens top w (Deliver k) = message_happens (slice_get w.sent k) top w (Deliver k)
 happens top w (Collect node time) = collect_happens (is_shard top node) w node time
 
-continued_push : (top : TopologyValue) (w : Run) (xs : List Event) (x : Event) → continued top w (xs ++ x ∷ []) ≡ step top (continued top w xs) x
+pub continued_push : (top : TopologyValue) (w : Run) (xs : List Event) (x : Event) → continued top w (xs ++ x ∷ []) ≡ step top (continued top w xs) x
 continued_push top w [] x = refl
 continued_push top w (y ∷ ys) x = continued_push top (step top w y) ys x
 

@@ -1,5 +1,5 @@
 -- A session's step that ends its operation, and one that leaves it open.
-use Rattle.std.proofs.Common.{◌≡◌, ℕ, ◌+◌, ◌<◌, ◌≤◌, List, [], ◌∷◌, Option, Some, None, inl, inr, refl, sym, ap, ap₂, ◌∙◌, subst, le_refl, le_trans}
+use Rattle.std.proofs.Common.{◌≡◌, ℕ, ◌+◌, ◌<◌, ◌≤◌, false, List, [], ◌∷◌, Option, Some, None, inl, inr, refl, sym, ap, ap₂, ◌∙◌, subst, le_refl, le_trans}
 use Rattle.std.specs.Prelude.{filter_map, option_map, Contains}
 use Rattle.std.proofs.Math.Seq.{drop-append_seam, drop-length}
 use Rattle.logical_time.specs.Stamps.{TxnValue, WriterValue}
@@ -10,7 +10,7 @@ use Rattle.messages.specs.declared.outcome.Outcome.{Outcome}
 use Rattle.messages.specs.declared.envelope.Envelope.{Envelope}
 use Rattle.messages.specs.Topology.{TopologyValue}
 use Rattle.messages.specs.Words.{is_same_txn}
-use Rattle.messages.specs.Session.{SessionState, Open, Idle, Writing, FirstRound, SecondRound, HeardNow, HeardAt, calm}
+use Rattle.messages.specs.Session.{SessionState, Open, Idle, Writing, FirstRound, SecondRound, HeardNow, HeardAt, calm, is_idle}
 use Rattle.messages.specs.SessionEvents.{ended}
 use Rattle.world.specs.Run.{Run, Submission, Completed, submission_of, completed_of}
 use Rattle.world.proofs.Among.{Among, among_contains, contains_among, find_some, same_txn}
@@ -19,11 +19,11 @@ use Rattle.world.proofs.Facts.{txn_of, IsDone}
 use Rattle.world.proofs.Invariant.{EnvelopeSound, IsOpen, HeardNowSound, HeardAtSound, OpenSound, SubmittedSound, EndSound, CompletedSound, Inv}
 use Rattle.world.proofs.Lasting.{answers_now_grow}
 use Rattle.world.proofs.Ables.{same_run}
-use Rattle.world.proofs.SessionSteps.{SessionAble}
+use Rattle.world.proofs.SessionSteps.{EndLeaves, SessionAble}
 
 -- ## What is newly completed
 
-one_given : {X Y : Type 0} (g : X → Option Y) (x : X) (y : Y) → Among y (filter_map g (x ∷ [])) → g x ≡ Some y
+pub one_given : {X Y : Type 0} (g : X → Option Y) (x : X) (y : Y) → Among y (filter_map g (x ∷ [])) → g x ≡ Some y
 one_given {X} {Y} g x y m = go (given_only g (x ∷ []) y (among_contains y (filter_map g (x ∷ [])) m))
   where
     by : (z : X) → Among z (x ∷ []) → g z ≡ Some y → g x ≡ Some y
@@ -80,8 +80,9 @@ module _ (top : TopologyValue) (w : Run) (node n : ℕ) (inv : Inv top w) (le : 
   pub ended_able : (floor : ℕ) (dependencies : List WriterValue) (out : Outcome) (o : Op) → a.floor ≤ floor → floor ≤ n → IsOpen w node a.count a.home o
       → EndSound o out top w a.home (record { session = node; number = a.count })
       → ((k : WriterValue) → Among k dependencies → IsDone top w a.home k.txn (floor + 1))
-      → ((k : WriterValue) → Among k dependencies → k.shard < top.shards) → SessionAble top w node (ended n a floor dependencies out)
-  ended_able floor dependencies out o above below b came done placed =
+      → ((k : WriterValue) → Among k dependencies → k.shard < top.shards) → is_idle a.current ≡ false → EndLeaves o out top w node floor dependencies
+      → SessionAble top w node (ended n a floor dependencies out)
+  ended_able floor dependencies out o above below b came done placed busy leaves =
       record {
         grows =
             record {
@@ -99,14 +100,27 @@ module _ (top : TopologyValue) (w : Run) (node n : ℕ) (inv : Inv top w) (le : 
             )
             );
         sends = λ x g at e m. absurd m;
+        turn =
+            inr
+            (record {
+              what = o;
+              came = out;
+              opened = b;
+              busy = busy;
+              idle = refl;
+              count = refl;
+              floor = above;
+              outcomes = refl;
+              leaves = leaves;
+            });
       }
 
   -- the operation is left open
   pub waits_able : (o : Open) (sends : List Envelope) → ((m : ℕ) (asked : Read) → FirstAsked top a.current m asked → FirstAsked top o m asked)
       → ((time m : ℕ) (asked : Read) → SecondAsked a.current time m asked → SecondAsked o time m asked) → OpenSound top w node (later o) o
       → ((x : Run) → Grows top w x → x.sessions node ≡ later o → (e : Envelope) → Among e sends → EnvelopeSound top x e)
-      → SessionAble top w node (record { state = later o; sends = sends })
-  waits_able o sends asked_first asked_second sound send =
+      → is_idle o ≡ is_idle a.current → SessionAble top w node (record { state = later o; sends = sends })
+  waits_able o sends asked_first asked_second sound send idle =
       record {
         grows =
             record {
@@ -126,6 +140,7 @@ module _ (top : TopologyValue) (w : Run) (node n : ℕ) (inv : Inv top w) (le : 
         };
         completed = λ c m. absurd (subst (λ fs. Among c (filter_map (completed_of w.submitted node) fs)) (drop-length a.outcomes) m);
         sends = send;
+        turn = inl (record { count = refl; floor = refl; dependencies = refl; outcomes = refl; idle = idle });
       }
 
   -- ## What was heard stays so as the clock moves
@@ -155,4 +170,4 @@ module _ (top : TopologyValue) (w : Run) (node n : ℕ) (inv : Inv top w) (le : 
   pub calm_able : SessionAble top w node (calm n a)
   calm_able =
       let now = a.current in
-      waits_able now [] (λ m asked k. k) (λ time m asked k. k) (open_later now now (inv.sessions node).current) (λ x g at e m. absurd m)
+      waits_able now [] (λ m asked k. k) (λ time m asked k. k) (open_later now now (inv.sessions node).current) (λ x g at e m. absurd m) refl

@@ -1,16 +1,54 @@
 -- One session's step keeps all, if what it adds is sound.
-use Rattle.std.proofs.Common.{◌≡◌, ℕ, Bool, true, false, cond, inl, inr, refl, sym, subst, eqb-true, le_trans, Ok}
+use Rattle.std.proofs.Common.{◌≡◌, ℕ, ◌≤◌, Bool, true, false, cond, List, [], ◌∷◌, ◌++◌, ◌⊎◌, inl, inr, refl, sym, subst, eqb-true, le_trans, Ok}
 use Rattle.std.specs.Prelude.{◌==◌}
+use Rattle.logical_time.specs.Stamps.{WriterValue}
+use Rattle.messages.specs.declared.rows_at.RowAt.{RowAt}
+use Rattle.messages.specs.declared.op.Op.{Op}
+use Rattle.messages.specs.declared.op.Op.TheVariants as op
+use Rattle.messages.specs.declared.outcome.Outcome.{Outcome}
+use Rattle.messages.specs.declared.outcome.Outcome.TheVariants as outcome
+use Rattle.messages.specs.Rounds.{with_writers}
 use Rattle.messages.specs.declared.envelope.Envelope.{Envelope}
 use Rattle.messages.specs.Topology.{TopologyValue}
-use Rattle.messages.specs.Session.{SessionState, SessionStep}
+use Rattle.messages.specs.Session.{SessionState, SessionStep, is_idle}
 use Rattle.world.specs.Run.{Run, Event, Completed, with_actor, newly_completed, after_session}
 use Rattle.world.proofs.Among.{Among, among_append, append_first}
 use Rattle.world.proofs.Growth.{SessionGrows, Grows}
-use Rattle.world.proofs.Invariant.{EnvelopeSound, SessionSound, CompletedSound, Inv}
+use Rattle.world.proofs.Invariant.{EnvelopeSound, IsOpen, SessionSound, AnsweredFrom, CompletedSound, Inv}
 use Rattle.world.proofs.Lasting.{same_shard_grows, same_session_grows}
 use Rattle.world.proofs.LastingAll.{says_grows, shard_grows, session_grows, completed_grows}
 use Rattle.world.proofs.ShardSteps.{actor_same}
+
+-- the step leaves open what is open, and what the session told and depends on as they are
+pub record Stays (a b : SessionState) : Type 0 where
+  pub count : b.count ≡ a.count
+  pub floor : b.floor ≡ a.floor
+  pub dependencies : b.dependencies ≡ a.dependencies
+  pub outcomes : b.outcomes ≡ a.outcomes
+  pub idle : is_idle b.current ≡ is_idle a.current
+
+-- what an ended operation leaves: the session depends on its write alone, or on what its read rests on besides
+abbrev pub EndLeaves : Op → Outcome → TopologyValue → Run → ℕ → ℕ → List WriterValue → Type 0
+EndLeaves (op.Batch batch) (outcome.Wrote commit stamp) top w node floor dependencies =
+    (commit ≤ floor) × ((c : ℕ) × (dependencies ≡ record { txn = record { session = node; number = (w.sessions node).count }; shard = c } ∷ []))
+EndLeaves (op.Read read) (outcome.Read time answer) top w node floor dependencies =
+    (time ≡ floor) × ((rows : List RowAt) × AnsweredFrom top w (w.sessions node).home read time rows × (dependencies ≡ with_writers (w.sessions node).dependencies rows))
+EndLeaves (op.Read read) outcome.Collected top w node floor dependencies = dependencies ≡ (w.sessions node).dependencies
+EndLeaves (op.Batch batch) (outcome.Read time answer) top w node floor dependencies = ⊥
+EndLeaves (op.Batch batch) outcome.Collected top w node floor dependencies = ⊥
+EndLeaves (op.Read read) (outcome.Wrote commit stamp) top w node floor dependencies = ⊥
+
+-- the step ends the open operation
+pub record Ends (top : TopologyValue) (w : Run) (node : ℕ) (b : SessionState) : Type 0 where
+  pub what : Op
+  pub came : Outcome
+  pub opened : IsOpen w node (w.sessions node).count (w.sessions node).home what
+  pub busy : is_idle (w.sessions node).current ≡ false
+  pub idle : is_idle b.current ≡ true
+  pub count : b.count ≡ (w.sessions node).count
+  pub floor : (w.sessions node).floor ≤ b.floor
+  pub outcomes : b.outcomes ≡ (w.sessions node).outcomes ++ record { number = (w.sessions node).count; outcome = came } ∷ []
+  pub leaves : EndLeaves what came top w node b.floor b.dependencies
 
 -- a session's step at a message that keeps all in every later run where the session is as it leaves it
 pub record SessionAble (top : TopologyValue) (w : Run) (node : ℕ) (st : SessionStep) : Type 0 where
@@ -18,6 +56,7 @@ pub record SessionAble (top : TopologyValue) (w : Run) (node : ℕ) (st : Sessio
   pub session : SessionSound top w node st.state
   pub completed : (c : Completed) → Among c (newly_completed w.submitted node (w.sessions node) st.state) → CompletedSound top w c
   pub sends : (x : Run) → Grows top w x → x.sessions node ≡ st.state → (e : Envelope) → Among e st.sends → EnvelopeSound top x e
+  pub turn : Stays (w.sessions node) st.state ⊎ Ends top w node st.state
 
 pub session_actor_grows : (top : TopologyValue) (f : ℕ → SessionState) (node : ℕ) (b : SessionState) → SessionGrows top (f node) b → (m : ℕ)
     → SessionGrows top (f m) (with_actor f node b m)

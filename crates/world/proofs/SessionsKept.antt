@@ -3,7 +3,7 @@ use Rattle.std.proofs.Common.{◌≡◌, ℕ, ◌+◌, ◌<◌, ◌≤◌, max, 
 use Rattle.std.specs.Prelude.{◌==◌}
 use Rattle.std.specs.List.{list_all}
 use Rattle.std.proofs.lemmas.Bool.{and_parts}
-use Rattle.logical_time.specs.Stamps.{StampValue, TxnValue}
+use Rattle.logical_time.specs.Stamps.{StampValue, TxnValue, WriterValue}
 use Rattle.slice.specs.declared.read.Read.{Read}
 use Rattle.messages.specs.declared.rows_now.RowNow.{RowNow}
 use Rattle.messages.specs.declared.rows_at.RowAt.{RowAt}
@@ -15,7 +15,7 @@ use Rattle.messages.specs.declared.body.Body.{Body}
 use Rattle.messages.specs.declared.body.Body.TheVariants.{Done, PartNow, PartAt}
 use Rattle.messages.specs.Topology.{TopologyValue, dc_of, shard_of}
 use Rattle.messages.specs.Words.{is_same_txn}
-use Rattle.messages.specs.Session.{SessionState, Open, Idle, Writing, FirstRound, SecondRound, HeardNow, HeardAt}
+use Rattle.messages.specs.Session.{SessionState, Open, Idle, Writing, FirstRound, SecondRound, HeardNow, HeardAt, is_idle}
 use Rattle.messages.specs.Submitting.{share_of}
 use Rattle.messages.specs.Rounds.{asked_nodes, is_missing, all_heard, effective_time, late_keys, late_nodes, was_heard_at, is_missing_at, all_heard_at, rows_taken, answer_of, with_writers}
 use Rattle.messages.specs.SessionEvents.{answered, written, done_if, done_in, read_at_of, second_if, heard_if, part_now_if, part_now_in, heard_at_if, taken_at, part_at_if, part_at_in, heard}
@@ -55,10 +55,10 @@ module _ (top : TopologyValue) (w : Run) (node n : ℕ) (some : 0 < top.shards) 
       let opened : IsWritten w (record { session = node; number = a.count }) k.opened.submission k.batch = record { among = k.opened.among; txn = open_txn k.opened; op = k.opened.op } in
       s.here ∙ ap₂ (λ dc b. lead top dc b) (here ∙ sym (inv.sessions node).home) (batch_one inv.submitted (written_at (d.txn ∙ is) s.written) opened)
 
-  written_able : (c from : ℕ) (t : TxnValue) (commit : ℕ) (stamp : StampValue) → WritingSound top w node a c → commit ≤ n → IsDecided w from t commit stamp
+  written_able : (c from : ℕ) (t : TxnValue) (commit : ℕ) (stamp : StampValue) → a.current ≡ Writing c → WritingSound top w node a c → commit ≤ n → IsDecided w from t commit stamp
       → dc_of top from ≡ home top node
       → t ≡ record { session = node; number = a.count } → SessionAble top w node (written n a c t commit stamp)
-  written_able c from t commit stamp k early d here is =
+  written_able c from t commit stamp current k early d here is =
       let floor = (inv.sessions node).floor in
       let same = d.commit in
       let done : IsDone top w a.home t (max a.floor commit + 1) =
@@ -78,31 +78,34 @@ module _ (top : TopologyValue) (w : Run) (node n : ℕ) (some : 0 < top.shards) 
         | inl q ↦ subst (λ s. s < top.shards) (sym (ap (λ z. z.shard) q ∙ k.coordinator)) (coordinator_below top.shards k.batch some)
         | inr o ↦ absurd o
       ])
+      (ap is_idle current)
+      (omega arith, (c, ap (λ (u : TxnValue). let z : WriterValue = record { txn = u; shard = c } in z ∷ []) is))
 
-  done_go : (o : Open) → OpenSound top w node a o → (from : ℕ) (t : TxnValue) (commit : ℕ) (stamp : StampValue) → commit ≤ n → IsDecided w from t commit stamp
+  done_go : (o : Open) → a.current ≡ o → OpenSound top w node a o → (from : ℕ) (t : TxnValue) (commit : ℕ) (stamp : StampValue) → commit ≤ n → IsDecided w from t commit stamp
       → dc_of top from ≡ home top node
       → SessionAble top w node (done_in o node n a t commit stamp)
-  done_go Idle k from t commit stamp early d here = calm_able top w node n inv le
-  done_go (FirstRound read heard) k from t commit stamp early d here = calm_able top w node n inv le
-  done_go (SecondRound read time first heard) k from t commit stamp early d here = calm_able top w node n inv le
-  done_go (Writing c) k from t commit stamp early d here = go (is_same_txn t u) refl
+  done_go Idle current k from t commit stamp early d here = calm_able top w node n inv le
+  done_go (FirstRound read heard) current k from t commit stamp early d here = calm_able top w node n inv le
+  done_go (SecondRound read time first heard) current k from t commit stamp early d here = calm_able top w node n inv le
+  done_go (Writing c) current k from t commit stamp early d here = go (is_same_txn t u) refl
     where
       u : TxnValue
       u = record { session = node; number = a.count }
 
       go : (b : Bool) → is_same_txn t u ≡ b → SessionAble top w node (done_if b n a c t commit stamp)
-      go true e = written_able c from t commit stamp k early d here (same_txn t u e)
+      go true e = written_able c from t commit stamp current k early d here (same_txn t u e)
       go false e = calm_able top w node n inv le
 
   -- ## The end of a read
 
   answered_able : (read : Read) (time : ℕ) (rows : List RowAt) → a.floor ≤ time → time ≤ n → IsOpen w node a.count a.home (op.Read read)
-      → AnsweredFrom top w a.home read time rows → SessionAble top w node (answered n a read time rows)
-  answered_able read time rows above below opened from =
+      → AnsweredFrom top w a.home read time rows → is_idle a.current ≡ false → SessionAble top w node (answered n a read time rows)
+  answered_able read time rows above below opened from busy =
       ended_able top w node n inv le time (with_writers a.dependencies rows) (outcome.Read time (answer_of read rows)) (op.Read read) above below opened
       (record { rows = rows; answer = refl; from = from })
       (writers_done top w some inv a.home a.floor time read rows a.dependencies from above (inv.sessions node).dependencies)
       (writers_placed top w some inv a.home time read rows a.dependencies from (inv.sessions node).placed)
+      busy (refl, (rows, from, refl))
 
   -- ## PartNow
 
@@ -116,7 +119,7 @@ module _ (top : TopologyValue) (w : Run) (node n : ℕ) (some : 0 < top.shards) 
       second_go all [] e =
           let time = effective_time a.floor hs in
           answered_able read time (rows_taken time hs []) (effective_above_floor a.floor hs) effective_early opened
-          (taken_answers top w (later Idle) read hs some (sound Idle) time [] refl (λ h m. absurd m) all (ap (list_all (was_heard_at [])) e))
+          (taken_answers top w (later Idle) read hs some (sound Idle) time [] refl (λ h m. absurd m) all (ap (list_all (was_heard_at [])) e)) (ap is_idle current)
       second_go all (s ∷ ss) e =
           let time = effective_time a.floor hs in
           let o = SecondRound read time hs [] in
@@ -127,12 +130,13 @@ module _ (top : TopologyValue) (w : Run) (node n : ℕ) (some : 0 < top.shards) 
           let q = map_only (read_at_of node n a read time hs) (s ∷ ss) env m in
           subst (λ z. EnvelopeSound top x z) (sym q.2)
           (effective_early, subst (λ z. AskedAt z a.count time q.0 (record read { keys = late_keys time hs q.0 })) (sym is) (record { number = le_refl a.count; round = λ r. (refl, refl) })))
+          (sym (ap is_idle current))
 
       heard_now_go : (b : Bool) → all_heard (asked_nodes top a read) hs ≡ b → SessionAble top w node (heard_if b top node n a read hs)
       heard_now_go true all = second_go all (late_nodes (asked_nodes top a read) (effective_time a.floor hs) hs) refl
       heard_now_go false all =
           waits_able top w node n inv le (FirstRound read hs) [] (λ m asked k. subst (λ z. FirstAsked top z m asked) current k)
-          (λ t m asked k. absurd (subst (λ z. SecondAsked z t m asked) current k)) (record { opened = opened; heard = sound (FirstRound read hs) }) (λ x g is env m. absurd m)
+          (λ t m asked k. absurd (subst (λ z. SecondAsked z t m asked) current k)) (record { opened = opened; heard = sound (FirstRound read hs) }) (λ x g is env m. absurd m) (sym (ap is_idle current))
 
     -- the answers that were kept before, and this one
     pub more_heard : (from number time : ℕ) (rows : List RowNow) → time ≤ n → ((h : HeardNow) → Among h old → HeardNowSound top w a read h)
@@ -187,11 +191,11 @@ module _ (top : TopologyValue) (w : Run) (node n : ℕ) (some : 0 < top.shards) 
         → (b : Bool) → all_heard_at (asked_nodes top a read) time first hs ≡ b → SessionAble top w node (heard_at_if b n a read time first hs)
     heard_at_go hs sound true all =
         answered_able read time (rows_taken time first hs) above (le_trans k.clock le) k.opened
-        (taken_answers top w (later Idle) read first some (first_later Idle) time hs k.time (sound Idle) k.all all)
+        (taken_answers top w (later Idle) read first some (first_later Idle) time hs k.time (sound Idle) k.all all) (ap is_idle current)
     heard_at_go hs sound false all =
         let o = SecondRound read time first hs in
         waits_able top w node n inv le o [] (λ m asked q. tt) (λ t m asked q. subst (λ z. SecondAsked z t m asked) current q)
-        (record { opened = k.opened; first = first_later o; all = k.all; time = k.time; clock = le_trans k.clock le; heard = sound o }) (λ x g is env m. absurd m)
+        (record { opened = k.opened; first = first_later o; all = k.all; time = k.time; clock = le_trans k.clock le; heard = sound o }) (λ x g is env m. absurd m) (sym (ap is_idle current))
 
     -- the answers that were kept before, and this one
     pub more_heard_at : (from number bound : ℕ) (rows : List RowAt) → TellsAt top w from node number bound rows → number ≡ a.count
@@ -219,7 +223,7 @@ module _ (top : TopologyValue) (w : Run) (node n : ℕ) (some : 0 < top.shards) 
         → SessionAble top w node (taken_at answer top n a read time first old from)
     taken_go at.Collected from number bound tells is asked =
         ended_able top w node n inv le a.floor a.dependencies outcome.Collected (op.Read read) (le_refl a.floor)
-        (le_trans (inv.sessions node).floor le) k.opened tt (inv.sessions node).dependencies (inv.sessions node).placed
+        (le_trans (inv.sessions node).floor le) k.opened tt (inv.sessions node).dependencies (inv.sessions node).placed (ap is_idle current) refl
     taken_go (at.Rows rows) from number bound tells is asked =
         let hs = old ++ record { from = from; rows = rows } ∷ [] in
         heard_at_go hs (more_heard_at from number bound rows tells is asked) (all_heard_at (asked_nodes top a read) time first hs) refl
@@ -243,7 +247,7 @@ module _ (top : TopologyValue) (w : Run) (node n : ℕ) (some : 0 < top.shards) 
   -- ## Every message
 
   pub heard_able : (from time : ℕ) (b : Body) → time ≤ n → Says top w from node time b → SessionAble top w node (heard top node n a from b)
-  heard_able from time (Done t commit stamp) early k = done_go _ (inv.sessions node).current from t commit stamp (le_trans k.0.time early) k.0.decided k.1
+  heard_able from time (Done t commit stamp) early k = done_go _ refl (inv.sessions node).current from t commit stamp (le_trans k.0.time early) k.0.decided k.1
   heard_able from time (PartNow number rows) early k = part_now_go _ refl (inv.sessions node).current from number time rows early k
   heard_able from time (PartAt number bound answer) early k = part_at_go _ refl (inv.sessions node).current from number bound answer k
   heard_able from time _ early k = calm_able top w node n inv le

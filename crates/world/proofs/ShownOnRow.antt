@@ -16,10 +16,11 @@ use Rattle.messages.specs.Shard.{Decision}
 use Rattle.messages.specs.Rows.{touches_row}
 use Rattle.world.specs.Run.{Run}
 use Rattle.world.specs.Histories.{history_of, IsHistory}
+use Rattle.messages.proofs.Numbering.{shard_again}
+use Rattle.world.proofs.Near.{shard_below}
 use Rattle.world.proofs.Among.{Among, among_contains, contains_among, filter_only, filter_among, map_only, map_among}
 use Rattle.world.proofs.Facts.{near, part_on, PreparedBefore, Sees, Complete}
 use Rattle.world.proofs.Invariant.{Inv}
-use Rattle.world.proofs.NodeNumbers.{shard_below, own_node}
 use Rattle.world.proofs.SameNewest.{HasEach, OneEach, same_newest}
 use Rattle.world.proofs.RowTests.{IsRowTest, last_in_part, has_row, leads_or_follows}
 use Rattle.world.proofs.DecidedIn.{DecidedIn, one_batch, one_decision, on_lead, IsAppliedIn, applied_in, entry, entry_among, entry_is, one_each}
@@ -92,13 +93,13 @@ module _ (top : TopologyValue) (w : Run) (inv : Inv top w) (some : 0 < top.shard
   sees_it d is m e le =
       elim (leads_or_follows top.shards (shard_of top node) row q test here (shard_below top node some) is.sound.batch m e) [
         | inl leads ↦
-            let same : is.node ≡ node = on_lead top w (dc_of top node) d is ∙ ap (shard_node top (dc_of top node)) (sym leads) ∙ own_node top node in
+            let same : is.node ≡ node = on_lead top w (dc_of top node) d is ∙ ap (shard_node top (dc_of top node)) (sym leads) ∙ shard_again top node in
             elim (complete.decided d (subst (λ n. Among d (w.shards n).decided) same is.among)) [
               | inl sees ↦ sees
               | inr lt ↦ absurd (omega arith)
             ]
         | inr follows ↦
-            let at : near top is.node (shard_of top node) ≡ node = ap (λ (dc : ℕ). shard_node top dc (shard_of top node)) is.here ∙ own_node top node in
+            let at : near top is.node (shard_of top node) ≡ node = ap (λ (dc : ℕ). shard_node top dc (shard_of top node)) is.here ∙ shard_again top node in
             sees_prepared d is m e le (subst (λ n. PreparedBefore w n d.txn d.commit) at (is.sound.cohorts (shard_of top node) follows))
       ]
 

@@ -52,6 +52,7 @@ module _ (top : TopologyValue) (w : Run) (node n : ℕ) (o : Op) (inv : Inv top 
         session = node;
         number = (w.sessions node).count + 1;
         home = (w.sessions node).home;
+        time = n;
         op = o;
         dependencies = (w.sessions node).dependencies;
       }
@@ -167,6 +168,7 @@ module _ (top : TopologyValue) (w : Run) (node n : ℕ) (batch : List Change) (s
         done = λ k m.
             subst (λ d. IsDone top written d k.txn n) (sym here)
             (done_grows write_grows (let le = (inv.sessions node).floor in omega arith) ((inv.sessions node).dependencies k m));
+        begun = le_refl n;
         stamp = here;
       }
 

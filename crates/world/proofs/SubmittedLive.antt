@@ -69,6 +69,7 @@ module _ (top : TopologyValue) (w : Run) (node n : ℕ) (o : Op) (live : Live to
         home = (w.sessions node).home;
         op = o;
         dependencies = (w.sessions node).dependencies;
+        time = n;
       }
 
   abbrev after : Run

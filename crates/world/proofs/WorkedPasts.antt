@@ -28,7 +28,7 @@ abbrev first_write : Completed
 first_write = record { node = 2; number = 1; home = 0; op = op.Batch (insert key_b name_x 1 ∷ []); outcome = wrote 2 0 }
 
 abbrev second_write : Submission
-second_write = record { session = 2; number = 2; home = 0; op = op.Batch (insert key_b name_y 2 ∷ []); dependencies = record { txn = operation 2 1; shard = 0 } ∷ [] }
+second_write = record { session = 2; number = 2; home = 0; time = 4; op = op.Batch (insert key_b name_y 2 ∷ []); dependencies = record { txn = operation 2 1; shard = 0 } ∷ [] }
 
 pub own_write : Past two_centres dependency_holds_back (operation 2 2) (operation 2 1)
 own_write = (
@@ -70,7 +70,7 @@ second_read =
     }
 
 abbrev last_write : Submission
-last_write = record { session = 4; number = 3; home = 0; op = op.Batch (insert key_d name_z 1 ∷ []); dependencies = record { txn = operation 2 1; shard = 0 } ∷ record { txn = operation 3 1; shard = 0 } ∷ [] }
+last_write = record { session = 4; number = 3; home = 0; time = 9; op = op.Batch (insert key_d name_z 1 ∷ []); dependencies = record { txn = operation 2 1; shard = 0 } ∷ record { txn = operation 3 1; shard = 0 } ∷ [] }
 
 -- what wrote what a session reads
 abbrev decided : ℕ → ℕ → Decision

@@ -18,8 +18,8 @@ use Rattle.world.proofs.Facts.{IsDone, RowAtSound, AppliedSound, near}
 use Rattle.world.proofs.Invariant.{AnsweredFrom, Inv}
 use Rattle.world.proofs.Lasting.{done_grows}
 use Rattle.world.proofs.Ables.{same_run}
-use Rattle.world.proofs.Asking.{flat_only, key_below}
-use Rattle.world.proofs.Near.{coordinator_below}
+use Rattle.world.proofs.Asking.{flat_only}
+use Rattle.world.proofs.Near.{coordinator_below, key_below}
 
 module _ (top : TopologyValue) (w : Run) (some : 0 < top.shards) (inv : Inv top w) where
   -- a part that is applied by a time is decided in its data centre by then

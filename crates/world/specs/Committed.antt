@@ -17,3 +17,9 @@ abbrev pub time_of : Outcome → ℕ
 time_of (outcome.Wrote commit stamp) = commit
 time_of (outcome.Read time answer) = time
 time_of outcome.Collected = 0
+
+-- the outcome's time isn't below this one; a read that was given up has none
+abbrev pub IsNotBelow : Outcome → ℕ → Type 0
+IsNotBelow (outcome.Wrote commit stamp) n = n ≤ commit
+IsNotBelow (outcome.Read time answer) n = n ≤ time
+IsNotBelow outcome.Collected n = Unit {0}

@@ -7,3 +7,5 @@ pub mod Fresh
 pub mod Worked
 pub mod Committed
 pub mod Settled
+pub mod Entries
+pub mod Promises

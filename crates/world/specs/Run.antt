@@ -24,11 +24,13 @@ pub data Event : Type 0 where
   Deliver : (number : ℕ) → Event
   Collect : (shard time : ℕ) → Event
 
--- an operation that its session accepted, with its number there, the session's home, and what a write then depends on
+-- an operation that its session accepted, with its number there, the session's home and its clock, and what a write then
+-- depends on
 pub record Submission : Type 0 where
   pub session : ℕ
   pub number : ℕ
   pub home : ℕ
+  pub time : ℕ
   pub op : Op
   pub dependencies : List WriterValue
 
@@ -118,7 +120,7 @@ after_submission (Ok s) w node op =
       events = w.events ++ Submit node op ∷ [];
       sessions = with_actor w.sessions node s.state;
       sent = w.sent ++ s.sends;
-      submitted = w.submitted ++ record { session = node; number = s.state.count; home = (w.sessions node).home; op = op; dependencies = (w.sessions node).dependencies } ∷ [];
+      submitted = w.submitted ++ record { session = node; number = s.state.count; home = (w.sessions node).home; time = s.state.clock; op = op; dependencies = (w.sessions node).dependencies } ∷ [];
     }
 
 -- a submission, by whether the node is a session

@@ -1,11 +1,18 @@
-//! Runs of all actors, as definitions: which events there are, what each makes of a run, and what is said of runs.
+//! Runs of all actors, as definitions: which events there are, what each makes of a run, and what is said of runs. What is
+//! promised of every run is proved as laws.
 //!
-//! No program runs them yet. The worked runs are laws: each computes to the outcomes, clocks and times that are stated.
+//! No program runs them yet. The worked runs are laws too: each computes to the outcomes, clocks and times that are stated.
 #![tactic(auto)]
 
 mod law;
+mod promises;
 
 pub use law::{
     refused_events_are_left_out, worked_collections, worked_dependencies, worked_inserts_that_meet,
     worked_pasts, worked_reads, worked_replication, worked_writes,
+};
+pub use promises::{
+    completed_writes_are_in_the_history, handled_envelopes_are_honest, histories_only_grow,
+    histories_tell_what_is_decided, reads_are_fresh, reads_show_one_table, reads_show_their_past,
+    stamps_agree_everywhere, stamps_follow_causal_order, times_of_a_session_never_fall,
 };

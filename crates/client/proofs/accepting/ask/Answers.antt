@@ -1,8 +1,6 @@
-use Rattle.std.proofs.Common.{◌≡◌, ◌∙◌, ◌<◌, sym, ap, subst, rules, map}
+use Rattle.std.proofs.Common.{◌≡◌, ◌∙◌, ◌<◌, sym, subst, rules, map}
 use Rattle.std.specs.List.{AllByRecursion}
 use Rattle.planner.specs.declared.reads.ShardKeys.{ShardKeys}
-use Rattle.planner.specs.Plan.{shards_asked}
-use Rattle.planner.specs.Planned.{keys_on}
 use Rattle.client.specs.Envelopes.{node_in}
 use Rattle.client.proofs.Planned.{planned_shares, asked_read}
 use Rattle.client.proofs.accepting.ask.Goals as goal

@@ -1,4 +1,4 @@
-use Rattle.std.proofs.Common.{◌≡◌, ◌∙◌, ◌<◌, true, sym, ap, rules, arith, Some}
+use Rattle.std.proofs.Common.{◌≡◌, ◌∙◌, true, sym, ap, rules, arith, Some}
 use Rattle.std.specs.Prelude.{nat_lt}
 use Rattle.std.specs.List.{list_all}
 use Rattle.messages.specs.Topology.{home_of}

@@ -1,0 +1,204 @@
+-- What a session heard of a shard in the first round of a read stays with it: the effective time isn't below the earliest
+-- valid time of any row that was heard.
+use Rattle.std.proofs.Common.{◌≡◌, ◌∙◌, ℕ, ◌≤◌, ap, sym, subst, arith, Bool, true, false, ◌&&◌, inl, inr, List, [], ◌∷◌, ◌++◌, length, drop, eq-eqb}
+use Rattle.std.specs.Prelude.{◌==◌}
+use Rattle.std.proofs.Math.Seq.{drop-length, drop-append_seam}
+use Rattle.logical_time.specs.Stamps.{StampValue, TxnValue, WriterValue}
+use Rattle.planner.proofs.Members.{contains_flat}
+use Rattle.slice.specs.declared.read.Read.{Read}
+use Rattle.messages.specs.declared.rows_now.RowNow.{RowNow}
+use Rattle.messages.specs.declared.rows_at.AtTime.{AtTime}
+use Rattle.messages.specs.declared.rows_at.AtTime.TheVariants as at
+use Rattle.messages.specs.declared.op.Op.{Op}
+use Rattle.messages.specs.declared.op.Op.TheVariants as op
+use Rattle.messages.specs.declared.outcome.Outcome.{Outcome}
+use Rattle.messages.specs.declared.outcome.Outcome.TheVariants as outcome
+use Rattle.messages.specs.declared.body.Body.{Body}
+use Rattle.messages.specs.declared.body.Body.TheVariants.{Begin, Prepare, Yes, Commit, At, NotBy, Check, Read as ReadNow, ReadAt, ReplBegin, ReplPart, Notify, PrepareRemote, DepCheck, DepOk, Done, PartNow, PartAt}
+use Rattle.messages.specs.Topology.{TopologyValue}
+use Rattle.messages.specs.Words.{is_same_txn}
+use Rattle.messages.specs.Session.{SessionState, Open, Idle, Writing, FirstRound, SecondRound, HeardNow, HeardAt, Finished, calm}
+use Rattle.messages.specs.Submitting.{begun}
+use Rattle.messages.specs.Rounds.{asked_nodes, is_missing, all_heard, effective_time, late_nodes, is_missing_at, all_heard_at}
+use Rattle.messages.specs.SessionEvents.{ended, done_if, done_in, second_if, heard_if, heard_now, part_now_if, part_now_in, heard_at_if, taken_at, part_at_if, part_at_in, heard}
+use Rattle.messages.proofs.Greatest.{effective_above_each}
+use Rattle.world.proofs.Among.{Among, append_first, among_last, among_contains}
+
+-- the time isn't below the earliest valid time of any row that was heard
+abbrev pub IsTimely : HeardNow → ℕ → Type 0
+IsTimely h time = (r : RowNow) → Among r h.rows → r.evt ≤ time
+
+-- the open read has heard this in its first round
+abbrev pub HasHeard : Open → HeardNow → Type 0
+HasHeard Idle h = Unit {0}
+HasHeard (Writing coordinator) h = Unit {0}
+HasHeard (FirstRound read heard) h = Among h heard
+HasHeard (SecondRound read time first heard) h = IsTimely h time
+
+-- a read that heard this is answered so
+abbrev pub EndsTimely : Outcome → HeardNow → Type 0
+EndsTimely (outcome.Wrote commit stamp) h = Unit {0}
+EndsTimely (outcome.Read time answer) h = IsTimely h time
+EndsTimely outcome.Collected h = Unit {0}
+
+-- the session's operation of this number has heard this
+pub record Heard (a : SessionState) (number : ℕ) (h : HeardNow) : Type 0 where
+  pub count : number ≤ a.count
+  pub current : number ≡ a.count → HasHeard a.current h
+
+-- after a step it still has, or it ended so
+pub record StillHeard (a b : SessionState) (number : ℕ) (h : HeardNow) : Type 0 where
+  pub kept : Heard b number h
+  pub ended : (f : Finished) → Among f (drop (length a.outcomes) b.outcomes) → f.number ≡ number → EndsTimely f.outcome h
+
+-- ## A step that ends nothing, and one that ends the operation
+
+none_ended : (fs : List Finished) (f : Finished) → Among f (drop (length fs) fs) → ⊥
+none_ended fs f m = subst (λ (l : List Finished). Among f l) (drop-length fs) m
+
+one_ended : (fs : List Finished) (e f : Finished) → Among f (drop (length fs) (fs ++ e ∷ [])) → f ≡ e
+one_ended fs e f m = elim (subst (λ (l : List Finished). Among f l) (drop-append_seam fs (e ∷ [])) m) [ inl q ↦ q | inr n ↦ absurd n ]
+
+still_calm : (n : ℕ) (a : SessionState) (number : ℕ) (h : HeardNow) → Heard a number h → StillHeard a (calm n a).state number h
+still_calm n a number h k =
+    record {
+      kept = record { count = k.count; current = k.current };
+      ended = λ f m q. absurd (none_ended a.outcomes f m);
+    }
+
+-- it stays open in this way
+still_open : (n : ℕ) (a : SessionState) (o : Open) (number : ℕ) (h : HeardNow) → number ≤ a.count → (number ≡ a.count → HasHeard o h)
+    → StillHeard a (record a { clock = n; current = o }) number h
+still_open n a o number h le k =
+    record {
+      kept = record { count = le; current = k };
+      ended = λ f m q. absurd (none_ended a.outcomes f m);
+    }
+
+still_ended : (n : ℕ) (a : SessionState) (floor : ℕ) (deps : List WriterValue) (o : Outcome) (number : ℕ) (h : HeardNow) → number ≤ a.count
+    → (number ≡ a.count → EndsTimely o h) → StillHeard a (ended n a floor deps o).state number h
+still_ended n a floor deps o number h le k =
+    record {
+      kept = record { count = le; current = λ q. tt };
+      ended =
+          λ f m q.
+          let same = one_ended a.outcomes (record { number = a.count; outcome = o }) f m in
+          subst (λ (z : Finished). EndsTimely z.outcome h) (sym same) (k (sym q ∙ ap (λ (z : Finished). z.number) same));
+    }
+
+-- ## Done
+
+done_still : (o : Open) (me n : ℕ) (a : SessionState) (t : TxnValue) (commit : ℕ) (stamp : StampValue) (number : ℕ) (h : HeardNow) → Heard a number h
+    → StillHeard a (done_in o me n a t commit stamp).state number h
+done_still (Writing coordinator) me n a t commit stamp number h k = by (is_same_txn t (record { session = me; number = a.count }))
+  where
+    by : (b : Bool) → StillHeard a (done_if b n a coordinator t commit stamp).state number h
+    by true = still_ended n a _ _ (outcome.Wrote commit stamp) number h k.count (λ q. tt)
+    by false = still_calm n a number h k
+done_still Idle me n a t commit stamp number h k = still_calm n a number h k
+done_still (FirstRound read heard) me n a t commit stamp number h k = still_calm n a number h k
+done_still (SecondRound read time first heard) me n a t commit stamp number h k = still_calm n a number h k
+
+-- ## PartNow
+
+-- the effective time is timely for all that was heard
+timely : (floor : ℕ) (hs : List HeardNow) (h : HeardNow) → Among h hs → IsTimely h (effective_time floor hs)
+timely floor hs h m r i =
+    effective_above_each floor hs r (contains_flat (λ (z : HeardNow). z.rows) hs h r (among_contains h hs m) (among_contains r h.rows i))
+
+second_still : (nodes : List ℕ) (me n : ℕ) (a : SessionState) (read : Read) (time : ℕ) (hs : List HeardNow) (number : ℕ) (h : HeardNow)
+    → number ≤ a.count
+    → (number ≡ a.count → IsTimely h time) → StillHeard a (second_if nodes me n a read time hs).state number h
+second_still [] me n a read time hs number h le k = still_ended n a _ _ (outcome.Read time _) number h le k
+second_still (s ∷ ss) me n a read time hs number h le k = still_open n a (SecondRound read time hs []) number h le k
+
+heard_still : (top : TopologyValue) (me n : ℕ) (a : SessionState) (read : Read) (hs : List HeardNow) (number : ℕ) (h : HeardNow) → number ≤ a.count
+    → (number ≡ a.count → Among h hs) → StillHeard a (heard_now top me n a read hs).state number h
+heard_still top me n a read hs number h le k = by (all_heard (asked_nodes top a read) hs)
+  where
+    by : (b : Bool) → StillHeard a (heard_if b top me n a read hs).state number h
+    by true =
+        second_still (late_nodes (asked_nodes top a read) (effective_time a.floor hs) hs) me n a read (effective_time a.floor hs) hs number h le
+        (λ q. timely a.floor hs h (k q))
+    by false = still_open n a (FirstRound read hs) number h le k
+
+part_now_still : (o : Open) (top : TopologyValue) (me n : ℕ) (a : SessionState) (from m : ℕ) (rows : List RowNow) (number : ℕ) (h : HeardNow)
+    → Heard a number h
+    → (number ≡ a.count → HasHeard o h) → StillHeard a (part_now_in o top me n a from m rows).state number h
+part_now_still (FirstRound read hs) top me n a from m rows number h k old = by ((m == a.count) && is_missing (asked_nodes top a read) hs from)
+  where
+    by : (b : Bool) → StillHeard a (part_now_if b top me n a read hs from rows).state number h
+    by true = heard_still top me n a read (hs ++ record { from = from; rows = rows } ∷ []) number h k.count (λ q. append_first h hs _ (old q))
+    by false = still_calm n a number h k
+part_now_still Idle top me n a from m rows number h k old = still_calm n a number h k
+part_now_still (Writing coordinator) top me n a from m rows number h k old = still_calm n a number h k
+part_now_still (SecondRound read time first hs) top me n a from m rows number h k old = still_calm n a number h k
+
+-- what is kept now has been heard
+pub part_now_heard : (top : TopologyValue) (me n : ℕ) (a : SessionState) (from number : ℕ) (rows : List RowNow) (read : Read) (hs : List HeardNow)
+    → a.count ≡ number
+    → a.current ≡ FirstRound read hs → is_missing (asked_nodes top a read) hs from ≡ true
+    → StillHeard a (heard top me n a from (PartNow number rows)).state number (record { from = from; rows = rows })
+part_now_heard top me n a from number rows read hs count current missing =
+    let h : HeardNow = record { from = from; rows = rows } in
+    let test : ((number == a.count) && is_missing (asked_nodes top a read) hs from) ≡ true =
+    ap (λ b. b && is_missing (asked_nodes top a read) hs from) (eq-eqb number a.count (sym count)) ∙ missing in
+    subst (λ o. StillHeard a (part_now_in o top me n a from number rows).state number h) (sym current)
+    (subst (λ b. StillHeard a (part_now_if b top me n a read hs from rows).state number h) (sym test)
+    (heard_still top me n a read (hs ++ h ∷ []) number h (omega arith) (λ q. among_last h hs)))
+
+-- ## PartAt
+
+taken_still : (answer : AtTime) (top : TopologyValue) (n : ℕ) (a : SessionState) (read : Read) (time : ℕ) (first : List HeardNow) (hs : List HeardAt)
+    (from number : ℕ) (h : HeardNow) → number ≤ a.count
+    → (number ≡ a.count → IsTimely h time) → StillHeard a (taken_at answer top n a read time first hs from).state number h
+taken_still at.Collected top n a read time first hs from number h le k = still_ended n a _ _ outcome.Collected number h le (λ q. tt)
+taken_still (at.Rows rows) top n a read time first hs from number h le k =
+    by (all_heard_at (asked_nodes top a read) time first (hs ++ record { from = from; rows = rows } ∷ []))
+  where
+    by : (b : Bool) → StillHeard a (heard_at_if b n a read time first (hs ++ record { from = from; rows = rows } ∷ [])).state number h
+    by true = still_ended n a _ _ (outcome.Read time _) number h le k
+    by false = still_open n a (SecondRound read time first (hs ++ record { from = from; rows = rows } ∷ [])) number h le k
+
+part_at_still : (o : Open) (top : TopologyValue) (n : ℕ) (a : SessionState) (from m : ℕ) (answer : AtTime) (number : ℕ) (h : HeardNow)
+    → Heard a number h
+    → (number ≡ a.count → HasHeard o h) → StillHeard a (part_at_in o top n a from m answer).state number h
+part_at_still (SecondRound read time first hs) top n a from m answer number h k old =
+    by ((m == a.count) && is_missing_at (asked_nodes top a read) time first hs from)
+  where
+    by : (b : Bool) → StillHeard a (part_at_if b top n a read time first hs from answer).state number h
+    by true = taken_still answer top n a read time first hs from number h k.count old
+    by false = still_calm n a number h k
+part_at_still Idle top n a from m answer number h k old = still_calm n a number h k
+part_at_still (Writing coordinator) top n a from m answer number h k old = still_calm n a number h k
+part_at_still (FirstRound read hs) top n a from m answer number h k old = still_calm n a number h k
+
+-- ## Events
+
+-- whatever comes to the session
+pub message_still : (top : TopologyValue) (me n : ℕ) (a : SessionState) (from : ℕ) (b : Body) (number : ℕ) (h : HeardNow) → Heard a number h
+    → StillHeard a (heard top me n a from b).state number h
+message_still top me n a from (Done t commit stamp) number h k = done_still a.current me n a t commit stamp number h k
+message_still top me n a from (PartNow m rows) number h k = part_now_still a.current top me n a from m rows number h k k.current
+message_still top me n a from (PartAt m time answer) number h k = part_at_still a.current top n a from m answer number h k k.current
+message_still top me n a from (Begin t rows cohorts dependencies) number h k = still_calm n a number h k
+message_still top me n a from (Prepare t rows coordinator) number h k = still_calm n a number h k
+message_still top me n a from (Yes t) number h k = still_calm n a number h k
+message_still top me n a from (Commit t commit stamp) number h k = still_calm n a number h k
+message_still top me n a from (At t commit stamp) number h k = still_calm n a number h k
+message_still top me n a from (NotBy t time) number h k = still_calm n a number h k
+message_still top me n a from (Check t time) number h k = still_calm n a number h k
+message_still top me n a from (ReadNow m read) number h k = still_calm n a number h k
+message_still top me n a from (ReadAt m time read) number h k = still_calm n a number h k
+message_still top me n a from (ReplBegin t rows stamp cohorts dependencies) number h k = still_calm n a number h k
+message_still top me n a from (ReplPart t rows stamp coordinator) number h k = still_calm n a number h k
+message_still top me n a from (Notify t) number h k = still_calm n a number h k
+message_still top me n a from (PrepareRemote t) number h k = still_calm n a number h k
+message_still top me n a from (DepCheck dependency waiter) number h k = still_calm n a number h k
+message_still top me n a from (DepOk dependency waiter commit) number h k = still_calm n a number h k
+
+-- what the session submits is its next operation
+pub begun_still : (top : TopologyValue) (me n : ℕ) (a : SessionState) (o : Op) (number : ℕ) (h : HeardNow) → Heard a number h
+    → Heard (begun top me n a o).state number h
+begun_still top me n a (op.Batch batch) number h k = let le = k.count in record { count = omega arith; current = λ q. absurd (omega arith) }
+begun_still top me n a (op.Read read) number h k = let le = k.count in record { count = omega arith; current = λ q. absurd (omega arith) }

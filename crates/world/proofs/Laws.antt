@@ -1,0 +1,132 @@
+-- The promises of every run, from what holds of it.
+use Rattle.std.proofs.Common.{◌≡◌, ℕ, ◌+◌, ◌<◌, ◌≤◌, true, List, [], ◌++◌, refl, sym, ap, ◌∙◌, subst, arith, le_refl}
+use Rattle.std.specs.Prelude.{Contains}
+use Rattle.std.proofs.lemmas.Bool.Decides.{nat_tests}
+use Rattle.logical_time.specs.Stamps.{StampValue, TxnValue, WriterValue, is_older}
+use Rattle.column_family.specs.History.{History}
+use Rattle.slice.specs.declared.read.Read.{Read}
+use Rattle.messages.specs.declared.rows_at.RowAt.{RowAt}
+use Rattle.messages.specs.Topology.{TopologyValue, dc_of, shard_of, shard_node}
+use Rattle.messages.specs.Shard.{Decision}
+use Rattle.messages.proofs.Numbering.{shard_again}
+use Rattle.world.specs.Run.{Run, Event, Completed, run, opening}
+use Rattle.world.specs.Histories.{decisions_in, IsHistory}
+use Rattle.world.specs.Before.{ReadRestsOn, Past}
+use Rattle.world.specs.Committed.{IsCommittedBy}
+use Rattle.world.specs.Entries.{StampsAgree, WritesAreTold, TellsDecided, AreNamedOnce, CoordinatorsDecide}
+use Rattle.world.specs.Promises.{ReadsShowOneTable, ReadsShowTheirPast, ReadsAreFresh, StampsFollowCauses, TimesNeverFall, OperationsEndOnce, HistoriesGrow, HandledIsHonest}
+use Rattle.world.proofs.Among.{Among, among_contains, contains_among}
+use Rattle.world.proofs.Growth.{Grows}
+use Rattle.world.proofs.Facts.{lead, IsDone}
+use Rattle.world.proofs.Invariant.{AnsweredFrom, Inv}
+use Rattle.world.proofs.Near.{shard_below}
+use Rattle.world.proofs.DecidedIn.{in_decisions, decided_in}
+use Rattle.world.proofs.ReadTables.{one_table}
+use Rattle.world.proofs.ReadRests.{rests_on_written}
+use Rattle.world.proofs.WritersDone.{writers_done}
+use Rattle.world.proofs.Causal.{Causal, writers_in}
+use Rattle.world.proofs.CausalKept.{new_writers}
+use Rattle.world.proofs.CausalRuns.{every_causal}
+use Rattle.world.proofs.Pasts.{past_reached}
+use Rattle.world.proofs.Runs.{every_run, run_grows, run_after}
+use Rattle.world.proofs.KeptEntries.{history_kept, stamps_agree, writes_are_told}
+use Rattle.world.proofs.Histories.{history_tells, named_once, coordinators_decide}
+use Rattle.world.proofs.HonestLists.{handled_honest}
+use Rattle.world.proofs.FreshReads.{completed_fresh}
+
+pub reads_show_one_table : (top : TopologyValue) (events : List Event) → 0 < top.shards → ReadsShowOneTable top (run top events)
+reads_show_one_table top events some c read time answer h is history =
+    one_table top (run top events) (every_run top events some) some c read time answer is.completed is.op is.outcome h history
+
+-- ## Causal order
+
+module _ (top : TopologyValue) (some : 0 < top.shards) (w : Run) (inv : Inv top w) where
+  rests : (dc time : ℕ) (read : Read) (rows : List RowAt) → AnsweredFrom top w dc read time rows → (u : TxnValue) → ReadRestsOn top w dc read time u → (k : WriterValue) × Among k (writers_in rows) × (k.txn ≡ u)
+  rests dc time read rows from u r =
+      let k = rests_on_written top w inv some dc time read rows from u r in
+      (k.0, contains_among k.0 (writers_in rows) k.1, k.2)
+
+  committed : (dc time : ℕ) (read : Read) (rows : List RowAt) → AnsweredFrom top w dc read time rows → (k : WriterValue) → Among k (writers_in rows) → IsDone top w dc k.txn (time + 1)
+  committed dc time read rows from k m =
+      writers_done top w some inv dc time time read rows [] from (le_refl time) (λ k m. absurd m) k (new_writers rows [] k m)
+
+  done_here : (dc time : ℕ) (u : TxnValue) (d : IsDone top w dc u time) → Contains (decisions_in top w dc) d.decision
+  done_here dc time u d =
+      let at : Among d.decision (w.shards (shard_node top dc (shard_of top d.node))).decided =
+      subst (λ z. Among d.decision (w.shards (shard_node top z (shard_of top d.node))).decided) d.here
+      (subst (λ z. Among d.decision (w.shards z).decided) (sym (shard_again top d.node)) d.among) in
+      among_contains d.decision (decisions_in top w dc) (in_decisions top w dc (shard_of top d.node) d.decision (shard_below top d.node some) at)
+
+  done_committed : (dc time : ℕ) (u : TxnValue) → IsDone top w dc u (time + 1) → IsCommittedBy top w dc u time
+  done_committed dc time u d = let lt = d.commit in (d.decision, done_here dc (time + 1) u d, d.txn, omega arith)
+
+older_by_time : (s t : StampValue) → s.time < t.time → is_older s t ≡ true
+older_by_time s t lt = grind (arith, nat_tests)
+
+pub reads_show_their_past : (top : TopologyValue) (events : List Event) → 0 < top.shards → ReadsShowTheirPast top (run top events)
+reads_show_their_past top events some c read time answer u is past =
+    let w = run top events in
+    let inv = every_run top events some in
+    let r = past_reached top w some inv (every_causal top events some) (rests top some w inv) (committed top some w inv) u (record { session = c.node; number = c.number }) past in
+    done_committed top some w inv c.home time u (r.read c (contains_among c w.transcript is.completed) refl read time answer is.op is.outcome)
+
+pub stamps_follow_causes : (top : TopologyValue) (events : List Event) → 0 < top.shards → StampsFollowCauses top (run top events)
+stamps_follow_causes top events some u v dc ec d e past hd qd he qe =
+    let w = run top events in
+    let inv = every_run top events some in
+    let r = past_reached top w some inv (every_causal top events some) (rests top some w inv) (committed top some w inv) u v past in
+    let at = decided_in top w inv ec e (contains_among e (decisions_in top w ec) he) in
+    let home = at.sound.stamp.decided in
+    let done = r.write (lead top at.sound.submission.home at.sound.batch) home.decision home.among (home.txn ∙ at.sound.written.txn ∙ qe) in
+    let first = (inv.shards done.node).decided done.decision done.among in
+    let its = dc_of top (lead top at.sound.submission.home at.sound.batch) in
+    let same : d.stamp ≡ done.decision.stamp = (stamps_agree top w inv).one dc its d done.decision hd (done_here top some w inv its home.decision.commit u done) (qd ∙ sym done.txn) in
+    let time : d.stamp.time ≡ done.decision.stamp.time = ap (λ s. s.time) same in
+    let low = first.stamp_time in
+    let lt = done.commit in
+    let commit = home.commit in
+    older_by_time d.stamp e.stamp (omega arith)
+
+pub times_never_fall : (top : TopologyValue) (events : List Event) → 0 < top.shards → TimesNeverFall (run top events)
+times_never_fall top events some c e hc he node number =
+    let w = run top events in
+    (every_causal top events some).ordered c e (contains_among c w.transcript hc) (contains_among e w.transcript he) node number
+
+pub operations_end_once : (top : TopologyValue) (events : List Event) → 0 < top.shards → OperationsEndOnce (run top events)
+operations_end_once top events some c e hc he same =
+    let w = run top events in
+    (every_causal top events some).one c e (contains_among c w.transcript hc) (contains_among e w.transcript he) same
+
+-- ## Histories
+
+pub histories_tell : (top : TopologyValue) (events : List Event) (dc : ℕ) (h : History) → 0 < top.shards → IsHistory top (run top events) dc h → TellsDecided top (run top events) dc h
+histories_tell top events dc h some is = history_tells top (run top events) dc h (every_run top events some) is
+
+pub named_in_runs : (top : TopologyValue) (events : List Event) → 0 < top.shards → AreNamedOnce (run top events)
+named_in_runs top events some = named_once top (run top events) (every_run top events some)
+
+pub coordinators_in_runs : (top : TopologyValue) (events : List Event) → 0 < top.shards → CoordinatorsDecide top (run top events)
+coordinators_in_runs top events some = coordinators_decide top (run top events) (every_run top events some)
+
+prefix_grows : (top : TopologyValue) (before after : List Event) → 0 < top.shards → Grows top (run top before) (run top (before ++ after))
+prefix_grows top before after some =
+    subst (λ z. Grows top (run top before) z) (sym (run_after top (opening top) before after)) (run_grows top (run top before) after some (every_run top before some))
+
+pub histories_grow : (top : TopologyValue) (before after : List Event) → 0 < top.shards → HistoriesGrow top before after
+histories_grow top before after some dc g h is was =
+    history_kept top (run top before) (run top (before ++ after)) dc g h (every_run top before some) (every_run top (before ++ after) some) (prefix_grows top before after some) is was
+
+pub stamps_in_runs : (top : TopologyValue) (events : List Event) → 0 < top.shards → StampsAgree top (run top events)
+stamps_in_runs top events some = stamps_agree top (run top events) (every_run top events some)
+
+pub writes_in_runs : (top : TopologyValue) (events : List Event) → 0 < top.shards → WritesAreTold top (run top events)
+writes_in_runs top events some = writes_are_told top (run top events) some (every_run top events some)
+
+-- ## What was handled, and what is fresh
+
+pub handled_is_honest : (top : TopologyValue) (events : List Event) → 0 < top.shards → HandledIsHonest top (run top events)
+handled_is_honest top events some node = handled_honest top (run top events) node (every_run top events some)
+
+pub reads_are_fresh : (top : TopologyValue) (events : List Event) → 0 < top.shards → ReadsAreFresh top (run top events)
+reads_are_fresh top events some c has =
+    completed_fresh top some (λ xs. every_run top xs some) (λ xs ys. prefix_grows top xs ys some) (λ xs. every_causal top xs some) events c has

@@ -1,0 +1,8 @@
+use Rattle.world.proofs.Laws.{times_never_fall, operations_end_once}
+use Rattle.world.proofs.promises.times_of_a_session_never_fall.Goals as goal
+
+pub returns-clause-times : goal.returns-clause-times
+returns-clause-times c = times_never_fall
+
+pub returns-clause-once : goal.returns-clause-once
+returns-clause-once c = operations_end_once

@@ -1,0 +1,70 @@
+-- What is promised of every run, in a customer's words: one set of whole transactions for each data centre, and one number.
+use Rattle.std.specs.Prelude.{◌≡◌, ℕ, ◌<◌, true, List, ◌++◌, Contains}
+use Rattle.logical_time.specs.Stamps.{TxnValue, is_older}
+use Rattle.column_family.specs.History.{History}
+use Rattle.slice.specs.declared.read.Read.{Read}
+use Rattle.slice.specs.declared.read.AnsweredRow.{AnsweredRow}
+use Rattle.table.specs.Meaning.{meaning}
+use Rattle.messages.specs.declared.op.Op.TheVariants as op
+use Rattle.messages.specs.declared.outcome.Outcome.TheVariants as outcome
+use Rattle.messages.specs.Topology.{TopologyValue}
+use Rattle.messages.specs.Honest.{IsHonest}
+use Rattle.messages.specs.Shard.{Decision}
+use Rattle.world.specs.Run.{Run, Event, Completed, run}
+use Rattle.world.specs.Histories.{decisions_in, IsHistory}
+use Rattle.world.specs.Before.{Past}
+use Rattle.world.specs.Fresh.{IsFresh}
+use Rattle.world.specs.Met.{envelopes_to}
+use Rattle.world.specs.Committed.{IsCommittedBy, time_of, IsNotBelow}
+use Rattle.world.specs.Entries.{IsKeptIn}
+
+-- the number of an operation that ended
+abbrev pub number_of : Completed → TxnValue
+number_of c = record { session = c.node; number = c.number }
+
+-- what completed is a read, with this effective time and this answer
+pub record IsAnswered (w : Run) (c : Completed) (read : Read) (time : ℕ) (answer : List AnsweredRow) : Type 0 where
+  pub completed : Contains w.transcript c
+  pub op : c.op ≡ op.Read read
+  pub outcome : c.outcome ≡ outcome.Read time answer
+
+-- One table: the answer of each completed read is the meaning of its request on the history of its home, in whatever
+-- order, at its effective time. It is the whole answer: the asked keys in order, each with its slice.
+abbrev pub ReadsShowOneTable : TopologyValue → Run → Type 0
+ReadsShowOneTable top w =
+    (c : Completed) (read : Read) (time : ℕ) (answer : List AnsweredRow) (h : History)
+    → IsAnswered w c read time answer → IsHistory top w c.home h → answer ≡ meaning read h time
+
+-- Past: each write before a completed read is committed in its home, with a commit time not above its effective time
+abbrev pub ReadsShowTheirPast : TopologyValue → Run → Type 0
+ReadsShowTheirPast top w =
+    (c : Completed) (read : Read) (time : ℕ) (answer : List AnsweredRow) (u : TxnValue)
+    → IsAnswered w c read time answer → Past top w (number_of c) u → IsCommittedBy top w c.home u time
+
+-- each completed read shows nothing older than the asked shards had applied when they sent what its session kept
+abbrev pub ReadsAreFresh : TopologyValue → Run → Type 0
+ReadsAreFresh top w = (c : Completed) → Contains w.transcript c → IsFresh top w c
+
+-- if one write is before another, its stamp is less, wherever they are decided
+abbrev pub StampsFollowCauses : TopologyValue → Run → Type 0
+StampsFollowCauses top w =
+    (u v : TxnValue) (dc ec : ℕ) (d e : Decision) → Past top w v u
+    → Contains (decisions_in top w dc) d → d.txn ≡ u → Contains (decisions_in top w ec) e → e.txn ≡ v → is_older d.stamp e.stamp ≡ true
+
+-- the commit and effective times of a session never fall
+abbrev pub TimesNeverFall : Run → Type 0
+TimesNeverFall w =
+    (c e : Completed) → Contains w.transcript c → Contains w.transcript e → c.node ≡ e.node → c.number < e.number → IsNotBelow e.outcome (time_of c.outcome)
+
+-- an operation ends once
+abbrev pub OperationsEndOnce : Run → Type 0
+OperationsEndOnce w = (c e : Completed) → Contains w.transcript c → Contains w.transcript e → number_of c ≡ number_of e → c ≡ e
+
+-- histories only grow: what further events add changes no entry
+abbrev pub HistoriesGrow : TopologyValue → List Event → List Event → Type 0
+HistoriesGrow top before after =
+    (dc : ℕ) (g h : History) → IsHistory top (run top before) dc g → IsHistory top (run top (before ++ after)) dc h → IsKeptIn g h
+
+-- what each shard handled is honest
+abbrev pub HandledIsHonest : TopologyValue → Run → Type 0
+HandledIsHonest top w = (node : ℕ) → IsHonest (w.shards node) (envelopes_to w node)

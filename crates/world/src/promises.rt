@@ -1,0 +1,78 @@
+//! The promises of every run, as laws of the protocol's definitions: over all lists of events, all numbers of data centres,
+//! shards and sessions, with messages repeated, reordered and lost, and with collections.
+ghost use Rattle.std.specs.Prelude.{◌<◌, ℕ, List};
+ghost use Rattle.column_family.specs.History.{History};
+ghost use Rattle.messages.specs.Topology.{TopologyValue};
+ghost use Rattle.world.specs.Run.{Event, run};
+ghost use Rattle.world.specs.Histories.{IsHistory};
+ghost use Rattle.world.specs.Entries.{TellsDecided, AreNamedOnce, CoordinatorsDecide, StampsAgree, WritesAreTold};
+ghost use Rattle.world.specs.Promises.{ReadsShowOneTable, ReadsShowTheirPast, ReadsAreFresh, StampsFollowCauses, TimesNeverFall, OperationsEndOnce, HistoriesGrow, HandledIsHonest};
+
+/// In every run each completed read is answered with the meaning of its request on one table: the history of its home at
+/// its effective time, as far as the run has come and however the history is ordered. Does nothing; its contract is the
+/// law.
+pub fn reads_show_one_table()
+    ensures { (top : TopologyValue) (events : List Event) → 0 < top.shards → ReadsShowOneTable top (run top events) }
+{}
+
+/// In every run each write before a completed read, by sessions and by reads, is committed in the read's home, with a
+/// commit time not above its effective time: so it stands in the table that the read shows. Does nothing; its contract is
+/// the law.
+pub fn reads_show_their_past()
+    ensures { (top : TopologyValue) (events : List Event) → 0 < top.shards → ReadsShowTheirPast top (run top events) }
+{}
+
+/// In every run each completed read shows, at each asked location, nothing older than what the asked shard had applied
+/// there before it sent the answer that the session kept. Does nothing; its contract is the law.
+#[tactic(auto, using(crate::proofs::Laws::reads_are_fresh))]
+pub fn reads_are_fresh()
+    ensures { (top : TopologyValue) (events : List Event) → 0 < top.shards → ReadsAreFresh top (run top events) }
+{}
+
+/// In every run the history of a data centre has one entry for each transaction that was decided there, with its batch as
+/// submitted, its stamp and its commit time there; only a batch's coordinator decides it, once; and an operation is
+/// submitted once under its number. Does nothing; its contract is the law.
+pub fn histories_tell_what_is_decided()
+    ensures entries { (top : TopologyValue) (events : List Event) (dc : ℕ) (h : History) → 0 < top.shards → IsHistory top (run top events) dc h → TellsDecided top (run top events) dc h }
+    ensures submissions { (top : TopologyValue) (events : List Event) → 0 < top.shards → AreNamedOnce (run top events) }
+    ensures coordinators { (top : TopologyValue) (events : List Event) → 0 < top.shards → CoordinatorsDecide top (run top events) }
+{}
+
+/// Histories only grow: what further events add changes no entry. Does nothing; its contract is the law.
+pub fn histories_only_grow()
+    ensures { (top : TopologyValue) (before after : List Event) → 0 < top.shards → HistoriesGrow top before after }
+{}
+
+/// In every run a transaction has one stamp in all data centres, and no other has it; where it was submitted, its time is
+/// the commit time and its node the coordinator. Does nothing; its contract is the law.
+#[tactic(auto, using(crate::proofs::Laws::stamps_in_runs))]
+pub fn stamps_agree_everywhere()
+    ensures { (top : TopologyValue) (events : List Event) → 0 < top.shards → StampsAgree top (run top events) }
+{}
+
+/// In every run the stamp of a write is less than the stamp of each write that it is before. Does nothing; its contract is
+/// the law.
+pub fn stamps_follow_causal_order()
+    ensures { (top : TopologyValue) (events : List Event) → 0 < top.shards → StampsFollowCauses top (run top events) }
+{}
+
+/// In every run each completed write stands in the history of its session's home, with the commit time and the stamp that
+/// the session was told. Does nothing; its contract is the law.
+#[tactic(auto, using(crate::proofs::Laws::writes_in_runs))]
+pub fn completed_writes_are_in_the_history()
+    ensures { (top : TopologyValue) (events : List Event) → 0 < top.shards → WritesAreTold top (run top events) }
+{}
+
+/// In every run the commit and effective times of a session never fall, and each of its operations ends once. Does nothing;
+/// its contract is the law.
+pub fn times_of_a_session_never_fall()
+    ensures times { (top : TopologyValue) (events : List Event) → 0 < top.shards → TimesNeverFall (run top events) }
+    ensures once { (top : TopologyValue) (events : List Event) → 0 < top.shards → OperationsEndOnce (run top events) }
+{}
+
+/// In every run the envelopes that a shard handled are honest, which is the condition under which one shard is right. Does
+/// nothing; its contract is the law.
+#[tactic(auto, using(crate::proofs::Laws::handled_is_honest))]
+pub fn handled_envelopes_are_honest()
+    ensures { (top : TopologyValue) (events : List Event) → 0 < top.shards → HandledIsHonest top (run top events) }
+{}
