@@ -1,6 +1,6 @@
 -- What waits goes on waiting, or is answered: each body.
-use Rattle.std.proofs.Common.{◌≡◌, ℕ, Bool, true, false, not, ◌&&◌, List, [], ◌∷◌, ◌++◌, map, Option, Some, None, ◌⊎◌, inl, inr, refl, sym, ap, ◌∙◌, subst}
-use Rattle.std.specs.Prelude.{max, filter, nat_le, nat_lt, is_some}
+use Rattle.std.proofs.Common.{◌≡◌, ℕ, Bool, true, false, not, ◌&&◌, List, [], ◌∷◌, ◌++◌, map, Option, Some, None, inl, inr, refl, sym, ap, ◌∙◌, subst}
+use Rattle.std.specs.Prelude.{filter, nat_le, nat_lt, is_some}
 use Rattle.std.specs.List.{list_any}
 use Rattle.std.proofs.lemmas.Bool.{false≢true, and_parts, not-true}
 use Rattle.logical_time.specs.Stamps.{StampValue, TxnValue, WriterValue}
@@ -14,19 +14,19 @@ use Rattle.messages.specs.Words.{is_same_txn}
 use Rattle.messages.specs.Shard.{ShardState, ShardStep, Role, Own, Cohort, Replica, PreparedPart, BegunBallot, Vote, Decision, KeptPart, KeptBallot, Asker, WaitingRead, quiet}
 use Rattle.messages.specs.Known.{decision_of, prepared_part, kept_part, kept_ballot, standing_ballot, is_known, is_applied, has_vote, is_awaited, all_voted, is_asker}
 use Rattle.messages.specs.Rows.{row_of, touches_row}
-use Rattle.messages.specs.Reads.{answer, marks_below, asked_below, is_waiting, waiting_read, read_at_of, read_at_if, let_go}
+use Rattle.messages.specs.Reads.{answer, marks_below, asked_below, is_waiting, waiting_read, read_at_of, read_at_if}
 use Rattle.messages.specs.Commits.{applied_part, commits, stamp_for, announcements, dep_oks, decide, hold, prepare_part, repl_parts, apply_part, begin_if, prepare_if, with_vote, counted_if, vote_if, early_if, yes_for, commit_if, commit_for, check_for}
 use Rattle.messages.specs.Replication.{ballot_of, remote_prepare, is_ready, ready_if, ready, dep_checks, with_ballot, sent_before, repl_begin_if, with_notice, notice_if, early_notice_if, notify_for, repl_part_if, prepare_remote_for, remember_if, dep_check_for, is_unmet, with_met, met_if, dep_ok_for}
 use Rattle.messages.specs.ShardEvents.{handled, collected}
 use Rattle.messages.proofs.WritersInOrder.{writers_stay}
 use Rattle.world.proofs.Among.{Among, among_contains, contains_among, append_first, append_second, last_or_old, any_false, filter_only, map_only}
 use Rattle.world.proofs.Facts.{Sees}
-use Rattle.world.proofs.About.{Kind, OfBegin, OfPrepare, OfYes, OfCommit, OfAt, OfNotBy, OfCheck, OfRead, OfReadAt, OfReplBegin, OfReplPart, OfNotify, OfPrepareRemote, OfDepCheck, OfDepOk, OfDone, OfPartNow, OfPartAt, kind_of, Sent}
-use Rattle.world.proofs.Underway.{HasPrepared, HasWait, Waiting, WaitStep}
+use Rattle.world.proofs.About.{Kind, OfBegin, OfPrepare, OfYes, OfCommit, OfAt, OfNotBy, OfCheck, OfRead, OfReadAt, OfReplBegin, OfReplPart, OfNotify, OfPrepareRemote, OfDepCheck, OfDepOk, OfDone, OfPartNow, OfPartAt, kind_of}
+use Rattle.world.proofs.Underway.{HasPrepared, WaitStep}
 use Rattle.world.proofs.AskedMarks.{writer_at}
 use Rattle.world.proofs.LiveGrow.{sent_in}
 use Rattle.world.proofs.LivePlaces.{same_at}
-use Rattle.world.proofs.LiveWaits.{WaitsOf, Calm, calm_wait, input_wait, Loosed, let_go_wait, loosed_same, sees_more}
+use Rattle.world.proofs.LiveWaits.{WaitsOf, calm_wait, input_wait, let_go_wait, loosed_same, sees_more}
 
 -- ## What many messages lead to
 

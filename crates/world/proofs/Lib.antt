@@ -16,6 +16,7 @@ pub mod LiveGrow
 pub mod Onwards
 pub mod HandledOnwards
 pub mod LivePlaces
+pub mod LiveSteps
 pub mod LiveDecides
 pub mod LiveHeld
 pub mod LiveVotes

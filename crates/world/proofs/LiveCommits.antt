@@ -1,18 +1,18 @@
 -- What Commit, At, NotBy, Check and the messages of reads leave under way.
-use Rattle.std.proofs.Common.{◌≡◌, ℕ, ◌<◌, ◌≤◌, Bool, true, false, ◌&&◌, List, [], ◌∷◌, ◌++◌, map, Option, Some, None, ◌⊎◌, inl, inr, refl, sym, ap, ◌∙◌, subst, subst₂, eqb-true}
-use Rattle.std.specs.Prelude.{◌==◌, find, nat_le, nat_lt}
-use Rattle.std.proofs.lemmas.Bool.{false≢true, and_parts, cases_eq}
+use Rattle.std.proofs.Common.{◌≡◌, ℕ, ◌<◌, ◌≤◌, Bool, true, false, ◌&&◌, List, [], ◌∷◌, ◌++◌, Option, Some, None, inl, inr, refl, sym, ◌∙◌, subst, subst₂, eqb-true}
+use Rattle.std.specs.Prelude.{◌==◌, nat_le}
+use Rattle.std.proofs.lemmas.Bool.{and_parts, cases_eq}
 use Rattle.logical_time.specs.Stamps.{StampValue, TxnValue, WriterValue}
 use Rattle.slice.specs.declared.read.Read.{Read}
 use Rattle.store.specs.declared.part.Applied.{Applied}
 use Rattle.planner.specs.Plan.{cohorts_of}
 use Rattle.messages.specs.declared.body.Body.TheVariants.{ReplPart}
 use Rattle.messages.specs.declared.envelope.Envelope.{Envelope}
-use Rattle.messages.specs.Topology.{TopologyValue, dc_of, shard_of, shard_node}
+use Rattle.messages.specs.Topology.{TopologyValue, shard_of, shard_node}
 use Rattle.messages.specs.Words.{is_same_txn, envelope, other_dcs}
-use Rattle.messages.specs.Shard.{ShardState, ShardStep, Role, Own, Cohort, Replica, PreparedPart, Decision, WaitingRead}
-use Rattle.messages.specs.Known.{decision_of, prepared_part, is_applied}
-use Rattle.messages.specs.Reads.{part_at, check_of, is_waiting, on_read, read_at_of, read_at_if, on_read_at, asked_below, let_go}
+use Rattle.messages.specs.Shard.{Role, Own, Cohort, Replica, PreparedPart, Decision}
+use Rattle.messages.specs.Known.{prepared_part, is_applied}
+use Rattle.messages.specs.Reads.{check_of, is_waiting, on_read, read_at_of, read_at_if, on_read_at, asked_below}
 use Rattle.messages.specs.Commits.{applied_part, repl_parts, apply_part, commit_if, commit_for, on_commit, on_not_by, check_for, on_check}
 use Rattle.world.specs.Run.{Run}
 use Rattle.world.proofs.Among.{Among, among_append, append_first, among_last, last_or_old, any_true, find_some, find_none, map_only, map_among, same_txn}
@@ -26,7 +26,7 @@ use Rattle.world.proofs.About.{OfReplPart, OfReadAt, OfPartNow, OfPartAt, Sent}
 use Rattle.world.proofs.Underway.{HasPrepared, HasKeptPart, Aside, Away, Onward, HasWait, Round, RoleLive, AppliedLive, ShardLive, Acted}
 use Rattle.world.proofs.LiveGrow.{sees_on, shard_on}
 use Rattle.world.proofs.LivePlaces.{other_dc}
-use Rattle.world.proofs.LiveDecides.{Here, Fine, Left, clock_live, quiet_left, answer_left, Rounds, let_go_sends}
+use Rattle.world.proofs.LiveSteps.{Here, Fine, Left, clock_live, quiet_left, answer_left, Rounds, let_go_sends}
 
 module _ (top : TopologyValue) (w x : Run) (node n : ℕ) (some : 0 < top.shards) (inv : Inv top x) (g : Onward top w x)
     (live : ShardLive top w node (w.shards node)) (rounds : Rounds x (w.shards node).waiting) where

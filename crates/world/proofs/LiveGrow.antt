@@ -1,17 +1,17 @@
 -- What is under way stays so while all grows.
-use Rattle.std.proofs.Common.{◌≡◌, ℕ, List, ◌⊎◌, inl, inr, ◌∙◌, subst, subst₂, le_refl, le_trans}
+use Rattle.std.proofs.Common.{ℕ, List, inl, inr, ◌∙◌, subst, subst₂, le_refl, le_trans}
 use Rattle.logical_time.specs.Stamps.{TxnValue, WriterValue}
 use Rattle.column_family.specs.declared.batch.Change.{Change}
 use Rattle.store.specs.declared.part.Applied.{Applied}
 use Rattle.messages.specs.declared.envelope.Envelope.{Envelope}
-use Rattle.messages.specs.Topology.{TopologyValue, dc_of}
-use Rattle.messages.specs.Shard.{ShardState, Role, Own, Cohort, Replica, PreparedPart, BegunBallot, WaitingRead}
+use Rattle.messages.specs.Topology.{TopologyValue}
+use Rattle.messages.specs.Shard.{ShardState, Role, Own, Cohort, Replica, PreparedPart, BegunBallot}
 use Rattle.messages.specs.Session.{SessionState, Open, Idle, Writing, FirstRound, SecondRound}
 use Rattle.world.specs.Run.{Run, Submission}
 use Rattle.world.proofs.Among.{Among}
 use Rattle.world.proofs.Facts.{IsWritten, near, Sees}
 use Rattle.world.proofs.About.{Kind, OfBegin, OfPrepare, OfYes, OfCommit, OfAt, OfNotBy, OfCheck, OfRead, OfReadAt, OfReplBegin, OfReplPart, OfNotify, OfPrepareRemote, OfDepCheck, OfDepOk, OfDone, OfPartNow, OfPartAt, Sent}
-use Rattle.world.proofs.Underway.{HasPrepared, HasBallot, HasDecision, HasKeptPart, HasKeptBallot, Known, Awaits, Aside, Away, AtOrigin, Leads, Placed, ShardOnward, NotMissing, Round, NotAwaited, SessionOnward, HasWait, Waiting, Onward, RoleLive, PreparedLive, BallotLive, KeptPartLive, KeptBallotLive, DecisionLive, AppliedLive, AskerLive, Entries, ShardLive, SaysLive, HasEnded, Acted, SubmissionLive, FirstLive, OpenLive}
+use Rattle.world.proofs.Underway.{HasPrepared, HasBallot, HasDecision, HasKeptPart, HasKeptBallot, Known, Awaits, Aside, Away, AtOrigin, Leads, Placed, ShardOnward, Round, SessionOnward, Onward, RoleLive, PreparedLive, BallotLive, AppliedLive, Entries, ShardLive, SaysLive, HasEnded, Acted, SubmissionLive, OpenLive}
 
 -- ## Messages
 

@@ -1,21 +1,21 @@
 -- What every message leaves under way at a shard.
-use Rattle.std.proofs.Common.{◌≡◌, ℕ, ◌<◌, Bool, true, false, List, None, ◌⊎◌, inl, inr, refl, sym, ◌∙◌, subst, le_trans}
+use Rattle.std.proofs.Common.{◌≡◌, ℕ, ◌<◌, Bool, true, false, None, inl, inr, refl, sym, subst, le_trans}
 use Rattle.std.proofs.lemmas.Bool.{false≢true}
 use Rattle.logical_time.specs.Stamps.{WriterValue}
 use Rattle.messages.specs.declared.body.Body.{Body}
 use Rattle.messages.specs.declared.body.Body.TheVariants.{Begin, Prepare, Yes, Commit, At, NotBy, Check, Read as ReadNow, ReadAt, ReplBegin, ReplPart, Notify, PrepareRemote, DepCheck, DepOk, Done, PartNow, PartAt}
 use Rattle.messages.specs.declared.envelope.Envelope.{Envelope}
 use Rattle.messages.specs.Topology.{TopologyValue}
-use Rattle.messages.specs.Shard.{ShardState, ShardStep, KeptBallot}
+use Rattle.messages.specs.Shard.{KeptBallot}
 use Rattle.messages.specs.ShardEvents.{handled, collected}
 use Rattle.world.specs.Run.{Run}
 use Rattle.world.proofs.Among.{Among}
 use Rattle.world.proofs.Facts.{KeptBallotSound}
 use Rattle.world.proofs.Invariant.{Says, Inv}
-use Rattle.world.proofs.About.{Kind, OfBegin, OfPrepare, OfYes, OfCommit, OfAt, OfNotBy, OfCheck, OfRead, OfReadAt, OfReplBegin, OfReplPart, OfNotify, OfPrepareRemote, OfDepCheck, OfDepOk, OfDone, OfPartNow, OfPartAt, kind_of}
+use Rattle.world.proofs.About.{Kind, OfDone, OfPartNow, OfPartAt, kind_of}
 use Rattle.world.proofs.Underway.{Placed, Onward, ShardLive, SaysLive, Acted, Live}
 use Rattle.world.proofs.LiveGrow.{known_on, kept_part_on, awaits_on, aside_on, away_on, origin_on, leads_on, placed_on, round_on, shard_on}
-use Rattle.world.proofs.LiveDecides.{Here, Left, clock_live, quiet_left, Rounds, ballot_at}
+use Rattle.world.proofs.LiveSteps.{Here, Left, clock_live, quiet_left, Rounds, ballot_at}
 use Rattle.world.proofs.LiveVotes.{begin_left, prepared_left}
 use Rattle.world.proofs.LiveYes.{yes_left}
 use Rattle.world.proofs.LiveCommits.{commit_left, not_by_left, check_left, read_left, read_at_left}

@@ -1,27 +1,17 @@
 -- What a ballot that is kept and a part that is prepared leave under way.
-use Rattle.std.proofs.Common.{◌≡◌, ℕ, ◌<◌, Bool, true, false, not, ◌&&◌, List, [], ◌∷◌, ◌++◌, Option, Some, None, ◌⊎◌, inl, inr, refl, sym, ap, ◌∙◌, subst, subst₂}
-use Rattle.std.specs.Prelude.{filter, find, is_some, if◌then◌else◌}
-use Rattle.std.proofs.lemmas.Bool.{false≢true, and_from}
+use Rattle.std.proofs.Common.{◌≡◌, ℕ, List, ◌++◌, None, ◌⊎◌, inl, inr, refl, sym, ap, ◌∙◌, subst}
 use Rattle.logical_time.specs.Stamps.{TxnValue, WriterValue}
 use Rattle.column_family.specs.declared.batch.Change.{Change}
-use Rattle.planner.specs.Plan.{coordinator_of, cohorts_of}
 use Rattle.messages.specs.declared.envelope.Envelope.{Envelope}
-use Rattle.messages.specs.Topology.{TopologyValue, dc_of, shard_of}
-use Rattle.messages.specs.Words.{is_same_txn}
-use Rattle.messages.specs.Shard.{ShardState, ShardStep, Role, Own, Cohort, Replica, PreparedPart, BegunBallot, Vote, Decision, KeptBallot, quiet}
-use Rattle.messages.specs.Known.{decision_of, standing_ballot, is_known, has_vote, is_cohort, is_awaited, all_voted}
-use Rattle.messages.specs.Commits.{hold, begin_if, prepare_part, prepare_if, with_vote, counted_if, vote_if, early_if, yes_for, on_yes}
-use Rattle.world.specs.Run.{Run, Submission}
-use Rattle.world.proofs.Among.{Among, among_append, append_first, append_second, among_last, last_or_old, any_false, filter_only, filter_among, find_some, find_none, same_txn}
-use Rattle.world.proofs.Facts.{IsWritten, near, BallotSound}
-use Rattle.world.proofs.Invariant.{Inv}
-use Rattle.world.proofs.Ables.{absent, unbegun}
-use Rattle.world.proofs.StampsApart.{written_at, batch_one}
+use Rattle.messages.specs.Topology.{TopologyValue, shard_of}
+use Rattle.messages.specs.Shard.{ShardState, Role, Own, PreparedPart, BegunBallot, Vote, KeptBallot}
+use Rattle.messages.specs.Commits.{hold, prepare_part}
+use Rattle.world.specs.Run.{Run}
+use Rattle.world.proofs.Among.{Among, among_append, append_first, append_second, among_last, last_or_old}
+use Rattle.world.proofs.Facts.{near}
 use Rattle.world.proofs.About.{OfYes, OfPrepareRemote, Sent}
-use Rattle.world.proofs.Underway.{HasPrepared, HasBallot, HasDecision, HasKeptPart, Known, vote_of, met_of, Aside, Away, AtOrigin, Leads, ShardOnward, Onward, RoleLive, PreparedLive, BallotLive, Entries, EarlyCounted, Voted, Ready, ShardLive, SaysLive, Acted}
-use Rattle.world.proofs.LiveGrow.{prepared_on, decision_on, shard_on}
-use Rattle.world.proofs.LivePlaces.{same_at, txn_split, vote_from, all_voted_from, known_cases, decision_found, lead_beside, away_home, away_origin, among_cohorts}
-use Rattle.world.proofs.LiveDecides.{Here, Fine, Left, quiet_left, Rounds, BallotAt, ballot_at, decide_left, decide_known}
+use Rattle.world.proofs.Underway.{HasPrepared, HasBallot, HasDecision, Known, vote_of, met_of, Away, RoleLive, PreparedLive, BallotLive, Entries, EarlyCounted, Voted, ShardLive, SaysLive}
+use Rattle.world.proofs.LiveSteps.{Here, Fine, Left}
 
 -- ## A ballot is kept
 

@@ -1,31 +1,26 @@
 -- What ReplBegin, Notify and DepOk leave under way.
-use Rattle.std.proofs.Common.{◌≡◌, ℕ, ◌<◌, Bool, true, false, not, ◌&&◌, List, [], ◌∷◌, ◌++◌, Option, Some, None, ◌⊎◌, inl, inr, refl, sym, ap, ◌∙◌, subst}
-use Rattle.std.specs.Prelude.{find}
+use Rattle.std.proofs.Common.{◌≡◌, ℕ, ◌<◌, Bool, true, false, List, [], ◌∷◌, ◌++◌, Option, Some, None, ◌⊎◌, inl, inr, refl, sym, ap, ◌∙◌, subst}
 use Rattle.std.specs.List.{list_any}
-use Rattle.std.proofs.lemmas.Bool.{false≢true}
-use Rattle.logical_time.specs.Stamps.{TxnValue, WriterValue}
-use Rattle.planner.specs.Plan.{coordinator_of, cohorts_of}
-use Rattle.messages.specs.declared.body.Body.TheVariants.{DepCheck}
-use Rattle.messages.specs.declared.envelope.Envelope.{Envelope}
-use Rattle.messages.specs.Topology.{TopologyValue, dc_of, shard_of, shard_node}
-use Rattle.messages.specs.Words.{is_same_txn, envelope}
-use Rattle.messages.specs.Shard.{ShardState, ShardStep, BegunBallot, Vote, KeptPart, KeptBallot, Met, quiet}
+use Rattle.logical_time.specs.Stamps.{TxnValue}
+use Rattle.planner.specs.Plan.{cohorts_of}
+use Rattle.messages.specs.Topology.{TopologyValue, dc_of, shard_of}
+use Rattle.messages.specs.Words.{is_same_txn}
+use Rattle.messages.specs.Shard.{Vote, KeptBallot, Met}
 use Rattle.messages.specs.Known.{kept_ballot, is_known, has_vote, is_cohort, is_awaited, is_met}
-use Rattle.messages.specs.Replication.{ballot_of, is_ready, ready, dep_checks, with_ballot, sent_before, repl_begin_if, on_repl_begin, with_notice, notice_if, early_notice_if, notify_for, on_notify, is_unmet, with_met, met_if, dep_ok_for, on_dep_ok}
+use Rattle.messages.specs.Replication.{is_ready, with_notice, notice_if, early_notice_if, notify_for, on_notify, is_unmet, with_met, met_if, dep_ok_for, on_dep_ok}
 use Rattle.world.specs.Run.{Run}
-use Rattle.world.proofs.Among.{Among, among_append, append_first, append_second, among_last, last_or_old, any_among, find_some, find_none, map_only, map_among, same_txn}
-use Rattle.world.proofs.Facts.{near, lead, KeptBallotSound}
+use Rattle.world.proofs.Among.{Among, among_last, last_or_old, any_among, find_some, find_none, same_txn}
+use Rattle.world.proofs.Facts.{near}
 use Rattle.world.proofs.Invariant.{Inv}
-use Rattle.world.proofs.Ables.{absent, unbegun, unkept_ballot}
-use Rattle.world.proofs.Near.{near_dc, coordinator_below}
+use Rattle.world.proofs.Ables.{absent}
 use Rattle.world.proofs.ReadyKept.{awaited_unready, unmet_unready}
 use Rattle.world.proofs.StampsApart.{written_at, submitted_one, batch_one}
-use Rattle.world.proofs.About.{OfReplBegin, OfNotify, OfDepCheck, OfDepOk, Sent}
-use Rattle.world.proofs.Underway.{HasPrepared, HasKeptPart, HasKeptBallot, Known, Awaits, vote_of, met_of, Away, Leads, Placed, Onward, KeptBallotLive, Entries, EarlyCounted, Voted, Ready, ShardLive, Acted}
-use Rattle.world.proofs.LiveGrow.{prepared_on, decision_on, kept_part_on, kept_ballot_on, shard_on}
+use Rattle.world.proofs.About.{OfNotify}
+use Rattle.world.proofs.Underway.{HasPrepared, HasKeptPart, HasKeptBallot, Known, Awaits, vote_of, met_of, Leads, Onward, Entries, ShardLive, Acted}
+use Rattle.world.proofs.LiveGrow.{prepared_on, decision_on, shard_on}
 use Rattle.world.proofs.HandledOnwards.{ready_on}
-use Rattle.world.proofs.LivePlaces.{not_and, same_at, txn_split, vote_from, met_from, known_cases, lead_beside, among_cohorts, near_leads}
-use Rattle.world.proofs.LiveDecides.{Here, Fine, Left, quiet_left, Rounds, BallotAt, kept_at, ballot_leads}
+use Rattle.world.proofs.LivePlaces.{not_and, same_at, vote_from, met_from, known_cases, lead_beside, among_cohorts}
+use Rattle.world.proofs.LiveSteps.{Here, Left, quiet_left, Rounds}
 use Rattle.world.proofs.LiveReady.{ready_left}
 
 module _ (top : TopologyValue) (w x : Run) (node n : ℕ) (some : 0 < top.shards) (was : Inv top w) (inv : Inv top x) (g : Onward top w x)

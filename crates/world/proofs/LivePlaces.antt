@@ -2,13 +2,13 @@
 use Rattle.std.proofs.Common.{◌≡◌, ℕ, ◌<◌, Bool, true, false, not, ◌&&◌, ◌||◌, List, [], ◌∷◌, Option, Some, None, ◌⊎◌, inl, inr, refl, sym, ap, ◌∙◌, subst, eqb-true, eq-eqb}
 use Rattle.std.specs.Prelude.{◌==◌, find, is_some}
 use Rattle.std.specs.List.{list_any, list_all, range_with_len}
-use Rattle.std.proofs.lemmas.Bool.{false≢true, and_parts, and_from, or_cases}
+use Rattle.std.proofs.lemmas.Bool.{false≢true, and_parts, and_from}
 use Rattle.logical_time.specs.Stamps.{TxnValue, WriterValue}
 use Rattle.column_family.specs.declared.batch.Change.{Change}
 use Rattle.planner.specs.Plan.{coordinator_of, cohorts_of}
 use Rattle.messages.specs.Topology.{TopologyValue, dc_of, shard_of, shard_node}
 use Rattle.messages.specs.Words.{is_same_txn, other_dcs}
-use Rattle.messages.specs.Shard.{ShardState, BegunBallot, Vote, Decision, Met}
+use Rattle.messages.specs.Shard.{ShardState, Vote, Met}
 use Rattle.messages.specs.Known.{decision_of, prepared_part, kept_part, kept_ballot, is_known, has_vote, is_cohort, all_voted, is_met, all_met}
 use Rattle.messages.proofs.Numbering.{number_of_shard, shard_again}
 use Rattle.world.specs.Run.{Run, Submission}

@@ -1,13 +1,13 @@
 -- What a replicated ballot leaves under way once its last missing thing is there.
-use Rattle.std.proofs.Common.{◌≡◌, ℕ, ◌<◌, Bool, true, false, ◌&&◌, List, [], ◌∷◌, ◌++◌, map, Option, Some, None, ◌⊎◌, inl, inr, refl, sym, ap, ◌∙◌, subst}
+use Rattle.std.proofs.Common.{◌≡◌, ℕ, ◌<◌, Bool, true, false, List, [], ◌∷◌, ◌++◌, map, None, ◌⊎◌, inl, inr, refl, sym, ap, ◌∙◌, subst}
 use Rattle.std.proofs.lemmas.Bool.{false≢true, and_parts, and_from}
-use Rattle.logical_time.specs.Stamps.{StampValue, TxnValue, WriterValue}
+use Rattle.logical_time.specs.Stamps.{TxnValue, WriterValue}
 use Rattle.planner.specs.Plan.{cohorts_of}
 use Rattle.messages.specs.declared.body.Body.TheVariants.{PrepareRemote}
 use Rattle.messages.specs.declared.envelope.Envelope.{Envelope}
-use Rattle.messages.specs.Topology.{TopologyValue, dc_of, shard_of, shard_node}
+use Rattle.messages.specs.Topology.{TopologyValue, dc_of, shard_node}
 use Rattle.messages.specs.Words.{envelope}
-use Rattle.messages.specs.Shard.{ShardState, BegunBallot, Vote, KeptBallot}
+use Rattle.messages.specs.Shard.{ShardState, Vote, KeptBallot}
 use Rattle.messages.specs.Known.{has_vote, all_voted, all_met}
 use Rattle.messages.specs.Replication.{ballot_of, remote_prepare, is_ready, ready_if, ready}
 use Rattle.world.specs.Run.{Run}
@@ -17,10 +17,11 @@ use Rattle.world.proofs.Invariant.{Inv}
 use Rattle.world.proofs.Near.{near_dc, cohort_below}
 use Rattle.world.proofs.StampsApart.{written_at, submitted_one, batch_one}
 use Rattle.world.proofs.About.{OfPrepareRemote, Sent}
-use Rattle.world.proofs.Underway.{HasDecision, Known, vote_of, met_of, Away, ShardOnward, Entries, EarlyCounted, Voted, Ready, ShardLive}
+use Rattle.world.proofs.Underway.{Known, vote_of, met_of, Away, Entries, EarlyCounted, Voted}
 use Rattle.world.proofs.HandledOnwards.{ready_on}
 use Rattle.world.proofs.LivePlaces.{txn_split, vote_from, all_voted_from, all_met_from}
-use Rattle.world.proofs.LiveDecides.{Here, Fine, Left, quiet_left, Rounds, BallotAt, kept_at, ballot_leads, some_none, decide_left}
+use Rattle.world.proofs.LiveSteps.{Here, Fine, Left, quiet_left, Rounds, BallotAt, kept_at, ballot_leads, some_none}
+use Rattle.world.proofs.LiveDecides.{decide_left}
 use Rattle.world.proofs.LiveHeld.{hold_left, hold_known}
 
 -- At a shard with all its inputs stored

@@ -1,29 +1,28 @@
 -- What ReplBegin, ReplPart, PrepareRemote and DepCheck leave under way.
-use Rattle.std.proofs.Common.{◌≡◌, ℕ, ◌<◌, Bool, true, false, ◌&&◌, List, [], ◌∷◌, ◌++◌, Option, Some, None, ◌⊎◌, inl, inr, refl, sym, ap, ◌∙◌, subst, subst₂, eqb-true}
-use Rattle.std.specs.Prelude.{◌==◌, find, is_some}
-use Rattle.std.proofs.lemmas.Bool.{false≢true, and_parts}
+use Rattle.std.proofs.Common.{◌≡◌, ℕ, ◌<◌, Bool, true, false, ◌&&◌, Option, Some, None, ◌⊎◌, inl, inr, refl, sym, ap, ◌∙◌, subst, subst₂, eqb-true}
+use Rattle.std.specs.Prelude.{◌==◌, is_some}
+use Rattle.std.proofs.lemmas.Bool.{and_parts}
 use Rattle.logical_time.specs.Stamps.{TxnValue, WriterValue}
-use Rattle.planner.specs.Plan.{coordinator_of, cohorts_of}
 use Rattle.messages.specs.declared.body.Body.TheVariants.{DepCheck}
 use Rattle.messages.specs.declared.envelope.Envelope.{Envelope}
-use Rattle.messages.specs.Topology.{TopologyValue, dc_of, shard_of, shard_node}
+use Rattle.messages.specs.Topology.{TopologyValue, dc_of, shard_node}
 use Rattle.messages.specs.Words.{is_same_txn, envelope}
-use Rattle.messages.specs.Shard.{ShardState, ShardStep, Replica, Vote, Decision, KeptPart, KeptBallot, Asker}
+use Rattle.messages.specs.Shard.{Replica, Decision, KeptPart, KeptBallot, Asker}
 use Rattle.messages.specs.Known.{decision_of, prepared_part, kept_part, is_known, is_asker}
-use Rattle.messages.specs.Replication.{ready, dep_checks, with_ballot, sent_before, repl_begin_if, on_repl_begin, repl_part_if, on_repl_part, prepare_remote_for, on_prepare_remote, remember_if, dep_check_for, on_dep_check}
+use Rattle.messages.specs.Replication.{ready, dep_checks, with_ballot, repl_begin_if, on_repl_begin, repl_part_if, on_repl_part, prepare_remote_for, on_prepare_remote, remember_if, dep_check_for, on_dep_check}
 use Rattle.world.specs.Run.{Run}
 use Rattle.world.proofs.Among.{Among, among_append, append_first, append_second, among_last, last_or_old, any_true, find_some, find_none, map_only, map_among, same_txn}
 use Rattle.world.proofs.Facts.{near, lead, KeptBallotSound, KeptPartSound}
 use Rattle.world.proofs.Invariant.{Inv}
-use Rattle.world.proofs.Ables.{absent, unbegun, unkept_ballot}
+use Rattle.world.proofs.Ables.{absent, unbegun}
 use Rattle.world.proofs.Near.{near_dc, coordinator_below}
 use Rattle.world.proofs.StampsApart.{written_at, batch_one}
-use Rattle.world.proofs.About.{OfNotify, OfDepCheck, OfDepOk, Sent}
-use Rattle.world.proofs.Underway.{HasPrepared, HasKeptPart, HasKeptBallot, Known, Awaits, Aside, Away, Leads, Placed, Onward, KeptPartLive, KeptBallotLive, AskerLive, Entries, ShardLive, Acted}
+use Rattle.world.proofs.About.{OfDepCheck}
+use Rattle.world.proofs.Underway.{HasPrepared, HasKeptPart, HasKeptBallot, Known, Awaits, Away, Leads, Placed, Onward, KeptPartLive, KeptBallotLive, AskerLive, Entries, ShardLive, Acted}
 use Rattle.world.proofs.LiveGrow.{written_on, prepared_on, decision_on, kept_part_on, kept_ballot_on, shard_on}
 use Rattle.world.proofs.HandledOnwards.{ready_on}
 use Rattle.world.proofs.LivePlaces.{known_cases, prepared_found, near_leads}
-use Rattle.world.proofs.LiveDecides.{Here, Fine, Left, quiet_left, answer_left, Rounds}
+use Rattle.world.proofs.LiveSteps.{Here, Fine, Left, quiet_left, answer_left, Rounds}
 use Rattle.world.proofs.LiveHeld.{prepare_left}
 use Rattle.world.proofs.LiveReady.{ready_left}
 use Rattle.world.proofs.LiveInputs.{known_replica}

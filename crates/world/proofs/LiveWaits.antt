@@ -1,9 +1,8 @@
 -- What waits goes on waiting, or is answered: the steps that many messages lead to.
-use Rattle.std.proofs.Common.{◌≡◌, ℕ, Bool, true, false, cond, not, ◌&&◌, List, [], ◌∷◌, ◌++◌, map, ◌⊎◌, inl, inr, refl, sym, ap, ◌∙◌, subst}
-use Rattle.std.specs.Prelude.{filter, nat_lt}
-use Rattle.std.specs.List.{list_any}
-use Rattle.std.proofs.lemmas.Bool.{false≢true, and_parts}
-use Rattle.logical_time.specs.Stamps.{TxnValue, WriterValue}
+use Rattle.std.proofs.Common.{◌≡◌, ℕ, Bool, true, false, cond, not, List, [], ◌∷◌, ◌++◌, ◌⊎◌, inl, inr, refl, sym, ap, ◌∙◌, subst}
+use Rattle.std.specs.Prelude.{filter}
+use Rattle.std.proofs.lemmas.Bool.{false≢true}
+use Rattle.logical_time.specs.Stamps.{TxnValue}
 use Rattle.store.specs.declared.part.Applied.{Applied}
 use Rattle.messages.specs.declared.envelope.Envelope.{Envelope}
 use Rattle.messages.specs.Words.{is_same_txn}
@@ -11,10 +10,10 @@ use Rattle.messages.specs.Shard.{ShardState, ShardStep, WaitingRead}
 use Rattle.messages.specs.Reads.{part_at, without, lessened, is_nothing, is_free, let_go}
 use Rattle.world.proofs.Among.{Among, append_second, last_or_old, filter_only, filter_among, map_only, map_among}
 use Rattle.world.proofs.Facts.{Sees}
-use Rattle.world.proofs.About.{Kind, OfReadAt, OfPartAt, kind_of, Sent}
+use Rattle.world.proofs.About.{Kind, OfReadAt, OfPartAt, Sent}
 use Rattle.world.proofs.Underway.{HasPrepared, HasWait, Waiting, WaitStep}
 use Rattle.world.proofs.LivePlaces.{same_at}
-use Rattle.world.proofs.LiveDecides.{less, less_from}
+use Rattle.world.proofs.LiveSteps.{less, less_from, less_equal}
 
 abbrev pub WaitsOf : ℕ → ShardState → ShardStep → ℕ → Kind → Type 0
 WaitsOf me a st from k = WaitStep me a st.state st.sends from k
@@ -89,8 +88,8 @@ module _ (me n : ℕ) (a b : ShardState) (t : TxnValue) (p : WaitingRead → Boo
   loosed_old : (y : WaitingRead) → Among y (filter (λ x. not (is_free x)) (lessened t p b.waiting)) → HasWait a y.session y.number y.time ⊎ ((y.session ≡ from) × (k ≡ OfReadAt y.number y.time))
   loosed_old y m =
       let q = from_rest y m in
-      let r = less_from t p q.0 in
-      inl (q.0, q.1, sym (ap (λ (z : WaitingRead). z.session) q.2 ∙ r.0), sym (ap (λ (z : WaitingRead). z.number) q.2 ∙ r.1), sym (ap (λ (z : WaitingRead). z.time) q.2 ∙ r.2))
+      let r = less_equal t p q.0 y q.2 in
+      inl (q.0, q.1, sym r.0, sym r.1, sym r.2)
 
   loosed_kept : (y : WaitingRead) → Among y a.waiting → HasWait (let_go me n b t p sends).state y.session y.number y.time ⊎ Sent (let_go me n b t p sends).sends me y.session (OfPartAt y.number y.time)
   loosed_kept y m = go (is_nothing (less t p y).left) refl

@@ -1,11 +1,10 @@
 -- What Yes leaves under way.
-use Rattle.std.proofs.Common.{◌≡◌, ℕ, ◌<◌, Bool, true, false, not, ◌&&◌, List, [], ◌∷◌, ◌++◌, Option, Some, None, ◌⊎◌, inl, inr, refl, sym, ap, ◌∙◌, subst}
-use Rattle.std.proofs.lemmas.Bool.{false≢true, and_from}
+use Rattle.std.proofs.Common.{◌≡◌, ℕ, ◌<◌, Bool, true, false, Option, Some, None, ◌⊎◌, inl, inr, refl, sym, ap, ◌∙◌, subst}
+use Rattle.std.proofs.lemmas.Bool.{false≢true}
 use Rattle.logical_time.specs.Stamps.{TxnValue}
 use Rattle.planner.specs.Plan.{cohorts_of}
-use Rattle.messages.specs.declared.envelope.Envelope.{Envelope}
 use Rattle.messages.specs.Topology.{TopologyValue, dc_of, shard_of}
-use Rattle.messages.specs.Shard.{ShardState, ShardStep, Role, Own, Cohort, Replica, PreparedPart, BegunBallot, Vote, quiet}
+use Rattle.messages.specs.Shard.{Role, Own, Cohort, Replica, PreparedPart, BegunBallot, Vote}
 use Rattle.messages.specs.Known.{standing_ballot, is_known, has_vote, is_cohort, is_awaited, all_voted}
 use Rattle.messages.specs.Commits.{with_vote, counted_if, vote_if, early_if, yes_for, on_yes}
 use Rattle.world.specs.Run.{Run}
@@ -15,10 +14,11 @@ use Rattle.world.proofs.Invariant.{Inv}
 use Rattle.world.proofs.Ables.{unbegun, unprepared, undecided}
 use Rattle.world.proofs.StampsApart.{written_at, batch_one}
 use Rattle.world.proofs.About.{OfYes}
-use Rattle.world.proofs.Underway.{HasPrepared, HasBallot, HasDecision, Known, vote_of, Aside, Away, AtOrigin, Leads, Onward, RoleLive, Entries, EarlyCounted, Voted, ShardLive, Acted}
+use Rattle.world.proofs.Underway.{HasBallot, HasDecision, Known, vote_of, Aside, Away, AtOrigin, Leads, Onward, RoleLive, Entries, EarlyCounted, ShardLive, Acted}
 use Rattle.world.proofs.LiveGrow.{decision_on, shard_on}
-use Rattle.world.proofs.LivePlaces.{not_and, same_at, txn_split, vote_from, all_voted_from, known_cases, lead_beside, away_origin, among_cohorts}
-use Rattle.world.proofs.LiveDecides.{Here, Left, quiet_left, Rounds, BallotAt, ballot_at, decide_left}
+use Rattle.world.proofs.LivePlaces.{not_and, txn_split, vote_from, all_voted_from, known_cases, lead_beside, away_origin, among_cohorts}
+use Rattle.world.proofs.LiveSteps.{Here, Left, quiet_left, Rounds, BallotAt, ballot_at}
+use Rattle.world.proofs.LiveDecides.{decide_left}
 use Rattle.world.proofs.LiveVotes.{standing_some, standing_none}
 
 module _ (top : TopologyValue) (w x : Run) (node n : ℕ) (some : 0 < top.shards) (inv : Inv top x) (g : Onward top w x)

@@ -15,7 +15,7 @@ use Rattle.world.proofs.ShardSteps.{actor_same}
 use Rattle.world.proofs.About.{Kind, OfReadAt, OfPartAt, kind_of, Sent}
 use Rattle.world.proofs.Underway.{Placed, ShardOnward, SessionOnward, Round, HasWait, Waiting, WaitStep, Onward, ShardLive, SaysLive, Acted, HasEnded, OpenLive, StillOpen, Live}
 use Rattle.world.proofs.LiveGrow.{sent_in, placed_on, shard_on, round_on, ended_on, open_on, says_on, acted_on, submission_on, same_shard_on, same_session_on}
-use Rattle.world.proofs.LiveDecides.{Here, Left}
+use Rattle.world.proofs.LiveSteps.{Here, Left}
 use Rattle.world.proofs.LiveSessions.{Comes, Went}
 use Rattle.world.proofs.Seats.{handled_more, get_front}
 
