@@ -91,7 +91,7 @@ module _ (top : TopologyValue) (w : Run) (some : 0 < top.shards) (inv : Inv top 
       elim ((live.shards s).entries.ballots u i).1 [
         | inl none ↦ (live.shards s).counted u (vote_of u.txn m) i none v refl
         | inr y ↦
-            let o = (live.shards s).entries.early (vote_of u.txn m) v in
+            let o = ((live.shards s).entries.early (vote_of u.txn m) v).0 in
             absurd (y.0.away (o.here ∙ ap (λ z. z.home) (submitted_one inv.submitted o.written y.0.written)))
       ]
 
