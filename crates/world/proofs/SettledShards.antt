@@ -11,7 +11,7 @@ use Rattle.messages.specs.declared.body.Body.TheVariants.{DepOk}
 use Rattle.messages.specs.declared.op.Op.TheVariants as op
 use Rattle.messages.specs.Topology.{TopologyValue, dc_of, shard_of, shard_node}
 use Rattle.messages.specs.Words.{is_same_txn}
-use Rattle.messages.specs.Shard.{ShardState, Role, Own, Cohort, Replica, PreparedPart, KeptPart, KeptBallot, Asker, WaitingRead}
+use Rattle.messages.specs.Shard.{Vote, ShardState, Role, Own, Cohort, Replica, PreparedPart, KeptPart, KeptBallot, Asker, WaitingRead}
 use Rattle.messages.specs.Known.{decision_of, is_applied}
 use Rattle.messages.proofs.Numbering.{shard_again}
 use Rattle.world.specs.Run.{Run, Submission}
@@ -139,6 +139,23 @@ module _ (top : TopologyValue) (w : Run) (some : 0 < top.shards) (inv : Inv top 
       let a = (live.shards node).entries.askers k m in
       leader_decided node k.dependency a.leads a.here
 
+  early_decided : (node : ℕ) (v : Vote) → Among v (w.shards node).early → HasDecision (w.shards node) v.txn
+  early_decided node v m =
+      let e = (live.shards node).entries.early v m in
+      let o = e.0 in
+      leader_decided node v.txn e.1 (subst (λ d. d < top.dcs) (sym o.here) (live.submitted o.submission o.batch o.written.among o.written.op).home)
+
+  voted_decided : (node : ℕ) (v : Vote) → Among v (w.shards node).votes → HasDecision (w.shards node) v.txn
+  voted_decided node v m =
+      let u = (live.shards node).entries.votes v m in
+      let d = ballot_decided top w some inv live quiet node u.0 u.1 in
+      (d.0, d.1, d.2 ∙ u.2)
+
+  noticed_decided : (node : ℕ) (v : Vote) → Among v (w.shards node).notices → HasDecision (w.shards node) v.txn
+  noticed_decided node v m =
+      let e = (live.shards node).entries.notices v m in
+      leader_decided node v.txn e.1 (subst (λ d. d < top.dcs) e.2 ((live.shards v.node).entries.kept_parts e.0.0 e.0.1).here)
+
   was_answered : (node : ℕ) (k : Asker) → Among k (w.shards node).askers → WasAnswered w node k
   was_answered node k m =
       let d = asked_decided node k m in
@@ -154,6 +171,9 @@ module _ (top : TopologyValue) (w : Run) (some : 0 < top.shards) (inv : Inv top 
         ballots = λ u c. has_decided a u.txn (ballot_decided top w some inv live quiet node u (contains_among u a.ballots c));
         kept_parts = λ p c. sees_applied a p.txn (kept_applied node p (contains_among p a.kept_parts c));
         kept_ballots = λ r c. has_decided a r.txn (kept_decided node r (contains_among r a.kept_ballots c));
+        early = λ v c. has_decided a v.txn (early_decided node v (contains_among v a.early c));
+        votes = λ v c. has_decided a v.txn (voted_decided node v (contains_among v a.votes c));
+        notices = λ v c. has_decided a v.txn (noticed_decided node v (contains_among v a.notices c));
         askers = λ k c. has_decided a k.dependency (asked_decided node k (contains_among k a.askers c));
         answered = λ k c. was_answered node k (contains_among k a.askers c);
         waiting = nothing a.waiting (no_wait node);
