@@ -1,5 +1,5 @@
 -- Where messages go: what is for a shard goes to one, and Done goes to a session.
-use Rattle.std.proofs.Common.{◌≡◌, ℕ, ◌*◌, ◌<◌, ◌≤◌, Bool, true, false, ◌&&◌, List, length, slice_get, Option, Some, None, ◌⊎◌, inl, inr, refl, sym, ap, ◌∙◌, subst, arith, leb-true, ltb-true}
+use Rattle.std.proofs.Common.{◌≡◌, ℕ, ◌<◌, Bool, true, false, ◌&&◌, length, slice_get, Option, Some, None, inl, inr, refl, sym, ap, ◌∙◌, subst, arith, leb-true, ltb-true}
 use Rattle.std.specs.Prelude.{nat_le, nat_lt, option_and_then}
 use Rattle.std.specs.List.{list_all}
 use Rattle.std.specs.Option.{unwrap_or}
@@ -8,15 +8,15 @@ use Rattle.std.proofs.lemmas.Bool.Decides.{nat_tests}
 use Rattle.logical_time.specs.Stamps.{TxnValue}
 use Rattle.messages.specs.declared.body.Body.{Body}
 use Rattle.messages.specs.declared.body.Body.TheVariants.{Begin, Prepare, Yes, Commit, Read as ReadNow, ReadAt, ReplBegin, ReplPart, Notify, PrepareRemote, DepCheck, DepOk, Done}
-use Rattle.messages.specs.Topology.{TopologyValue, is_topology, dc_of, shard_of, shard_node, is_shard, is_session, session_of, home_of}
-use Rattle.messages.specs.Shard.{ShardState, new_shard}
+use Rattle.messages.specs.Topology.{TopologyValue, is_topology, dc_of, shard_of, is_shard, is_session, session_of}
+use Rattle.messages.specs.Shard.{new_shard}
 use Rattle.messages.proofs.Numbering.{shard_again, shard_is_shard}
 use Rattle.world.specs.Run.{Run}
 use Rattle.world.proofs.Among.{Among, get_among, all_among}
 use Rattle.world.proofs.Invariant.{home, Says, Inv}
 use Rattle.world.proofs.Near.{shard_below}
 use Rattle.world.proofs.About.{kind_of}
-use Rattle.world.proofs.Underway.{HasPrepared, Known, AtOrigin, SaysLive, Live}
+use Rattle.world.proofs.Underway.{Known, AtOrigin, SaysLive, Live}
 use Rattle.world.proofs.LiveHeard.{is_for_shard}
 use Rattle.world.proofs.Seats.{Seats}
 
@@ -50,11 +50,13 @@ stands top e =
     above : (n : ℕ) → nat_le 1 n ≡ true → 0 < n
     above n q = leb-true 1 n q
 
-    of : 0 < top.dcs → list_all (λ d. nat_lt d top.dcs) top.homes ≡ true → (o : Option ℕ) → ((d : ℕ) → o ≡ Some d → Among d top.homes) → unwrap_or o 0 < top.dcs
+    of : 0 < top.dcs → list_all (λ d. nat_lt d top.dcs) top.homes ≡ true → (o : Option ℕ) → ((d : ℕ) → o ≡ Some d → Among d top.homes)
+        → unwrap_or o 0 < top.dcs
     of lt all None f = lt
     of lt all (Some d) f = let t = all_among (λ d. nat_lt d top.dcs) top.homes all d (f d refl) in ltb-true d top.dcs t
 
-    by : 0 < top.dcs → list_all (λ d. nat_lt d top.dcs) top.homes ≡ true → (o : Option ℕ) → unwrap_or (option_and_then (λ i. slice_get top.homes i) o) 0 < top.dcs
+    by : 0 < top.dcs → list_all (λ d. nat_lt d top.dcs) top.homes ≡ true → (o : Option ℕ)
+        → unwrap_or (option_and_then (λ i. slice_get top.homes i) o) 0 < top.dcs
     by lt all None = lt
     by lt all (Some i) = of lt all (slice_get top.homes i) (get_among top.homes i)
 
@@ -76,7 +78,8 @@ module _ (top : TopologyValue) (w : Run) (some : 0 < top.shards) (inv : Inv top 
       go false e = absurd (none (subst (λ a. Known a t) (seats.shards node e) k))
 
   -- what is for a shard goes to one
-  pub to_shard : (from to time : ℕ) (b : Body) → Says top w from to time b → SaysLive top w from to (kind_of b) → is_for_shard (kind_of b) ≡ true → is_shard top to ≡ true
+  pub to_shard : (from to time : ℕ) (b : Body) → Says top w from to time b → SaysLive top w from to (kind_of b) → is_for_shard (kind_of b) ≡ true
+      → is_shard top to ≡ true
   to_shard from to time (Begin t rows cohorts dependencies) s k e =
       dc_shard top to some (subst (λ d. d < top.dcs) (sym s.stamp) (live.submitted s.submission s.batch s.written.among s.written.op).home)
   to_shard from to time (Prepare t rows coordinator) s k e = origin_shard to t k.1
@@ -94,7 +97,8 @@ module _ (top : TopologyValue) (w : Run) (some : 0 < top.shards) (inv : Inv top 
   to_shard from to time _ s k e = absurd (false≢true e)
 
   -- a session that submitted is told
-  pub done_session : (from to time : ℕ) (t : TxnValue) (commit : ℕ) (stamp : _) → Says top w from to time (Done t commit stamp) → to ≡ t.session → is_session top to ≡ true
+  pub done_session : (from to time : ℕ) (t : TxnValue) (commit : ℕ) (stamp : _) → Says top w from to time (Done t commit stamp) → to ≡ t.session
+      → is_session top to ≡ true
   done_session from to time t commit stamp s e =
       let d = s.0.decided in
       let ds = (inv.shards from).decided d.decision d.among in

@@ -4,14 +4,13 @@ use Rattle.std.proofs.lemmas.Bool.{false≢true}
 use Rattle.logical_time.specs.Stamps.{StampValue, TxnValue, WriterValue}
 use Rattle.column_family.specs.declared.batch.Change.{Change}
 use Rattle.slice.specs.declared.read.Read.{Read}
-use Rattle.messages.specs.declared.op.Op.{Op}
 use Rattle.messages.specs.declared.op.Op.TheVariants as op
 use Rattle.messages.specs.declared.outcome.Outcome.TheVariants as outcome
 use Rattle.messages.specs.declared.body.Body.{Body}
 use Rattle.messages.specs.declared.body.Body.TheVariants.{At, NotBy, Check, Done, PartNow, PartAt}
 use Rattle.messages.specs.Topology.{TopologyValue}
 use Rattle.messages.specs.Words.{is_same_txn}
-use Rattle.messages.specs.Session.{SessionState, Open, Idle, Writing, FirstRound, SecondRound, is_idle}
+use Rattle.messages.specs.Session.{Open, Idle, Writing, FirstRound, SecondRound, is_idle}
 use Rattle.messages.specs.SessionEvents.{done_if, done_in, heard}
 use Rattle.world.specs.Run.{Run, Submission}
 use Rattle.world.proofs.Among.{Among, same_txn, same_txn_self}
@@ -19,7 +18,7 @@ use Rattle.world.proofs.Facts.{txn_of, IsWritten, IsDecided}
 use Rattle.world.proofs.Invariant.{Says, IsOpen, OpenSound, Inv}
 use Rattle.world.proofs.SessionEnds.{open_txn}
 use Rattle.world.proofs.About.{Kind, OfBegin, OfPrepare, OfYes, OfCommit, OfAt, OfNotBy, OfCheck, OfRead, OfReadAt, OfReplBegin, OfReplPart, OfNotify, OfPrepareRemote, OfDepCheck, OfDepOk, OfDone, OfPartNow, OfPartAt, kind_of}
-use Rattle.world.proofs.Underway.{Placed, NotMissing, NotAwaited, SaysLive, Acted, HasEnded, StillOpen, OpenLive, Live}
+use Rattle.world.proofs.Underway.{Placed, NotMissing, NotAwaited, SaysLive, Acted, HasEnded, StillOpen, Live}
 use Rattle.world.proofs.LiveSessions.{Comes, Went, calm_went, ended_here, ended_went}
 use Rattle.world.proofs.LiveReads.{part_now_went, part_at_went}
 
@@ -54,13 +53,15 @@ module _ (top : TopologyValue) (w x : Run) (node n : ℕ) (some : 0 < top.shards
   -- ## Done
 
   -- an open read is no write
-  no_read : (t : TxnValue) (b : Submission) (batch : List Change) → IsWritten w t b batch → t ≡ now → (dc : ℕ) (read : Read) → IsOpen w node (w.sessions node).count dc (op.Read read) → ⊥
+  no_read : (t : TxnValue) (b : Submission) (batch : List Change) → IsWritten w t b batch → t ≡ now → (dc : ℕ) (read : Read)
+      → IsOpen w node (w.sessions node).count dc (op.Read read) → ⊥
   no_read t b batch k e dc read o =
       let same = inv.submitted.one o.submission b o.among k.among (open_txn o ∙ sym e ∙ sym k.txn) in
       let q : op.Read read ≡ op.Batch batch = sym o.op ∙ ap (λ z. z.op) same ∙ k.op in
       absurd (cc)
 
-  done_went : (t : TxnValue) (commit : ℕ) (stamp : StampValue) (b : Submission) (batch : List Change) → IsWritten w t b batch → (o : Open) → (w.sessions node).current ≡ o → OpenSound top w node (w.sessions node) o
+  done_went : (t : TxnValue) (commit : ℕ) (stamp : StampValue) (b : Submission) (batch : List Change) → IsWritten w t b batch → (o : Open)
+      → (w.sessions node).current ≡ o → OpenSound top w node (w.sessions node) o
       → Comes w x node (done_in o node n (w.sessions node) t commit stamp)
       → Went top w x node (done_in o node n (w.sessions node) t commit stamp) × (t ≡ now → is_idle o ≡ false → HasEnded x t)
   done_went t commit stamp b batch k Idle e s c = (calm_went top w x node n some inv placed (live.current node) c, λ q i. absurd (false≢true (sym i)))
@@ -93,11 +94,12 @@ module _ (top : TopologyValue) (w x : Run) (node n : ℕ) (some : 0 < top.shards
             coordinator = s.coordinator;
           } in (
             ended_went top w x node n some inv placed (live.current node) floor (this ∷ []) out a.home (op.Batch s.batch) s.opened
-            (λ d m. elim (m) [ inl z ↦ subst (λ y. Placed top x y) (sym z) is | inr z ↦ absurd z ]) c,
+                (λ d m. elim (m) [ inl z ↦ subst (λ y. Placed top x y) (sym z) is | inr z ↦ absurd z ]) c,
             λ r i. subst (λ z. HasEnded x z) (sym r) (ended_here top w x node n some inv placed (live.current node) floor (this ∷ []) out a.home (op.Batch s.batch) s.opened c),
           )
 
-  done_left : (from : ℕ) (t : TxnValue) (commit : ℕ) (stamp : StampValue) → IsDecided w from t commit stamp → node ≡ t.session → Comes w x node (heard top node n (w.sessions node) from (Done t commit stamp))
+  done_left : (from : ℕ) (t : TxnValue) (commit : ℕ) (stamp : StampValue) → IsDecided w from t commit stamp → node ≡ t.session
+      → Comes w x node (heard top node n (w.sessions node) from (Done t commit stamp))
       → Went top w x node (heard top node n (w.sessions node) from (Done t commit stamp)) × HasEnded x t
   done_left from t commit stamp d to c =
       let ds = (inv.shards from).decided d.decision d.among in
@@ -105,7 +107,8 @@ module _ (top : TopologyValue) (w x : Run) (node n : ℕ) (some : 0 < top.shards
       let r = done_went t commit stamp ds.submission ds.batch k (w.sessions node).current refl (inv.sessions node).current c in
       (r.0, ends ds.submission ds.batch k r.1 (live.ends ds.submission ds.written.among))
     where
-      ends : (b : Submission) (batch : List Change) → IsWritten w t b batch → (t ≡ now → is_idle (w.sessions node).current ≡ false → HasEnded x t) → StillOpen w b ⊎ HasEnded w (txn_of b) → HasEnded x t
+      ends : (b : Submission) (batch : List Change) → IsWritten w t b batch → (t ≡ now → is_idle (w.sessions node).current ≡ false → HasEnded x t)
+          → StillOpen w b ⊎ HasEnded w (txn_of b) → HasEnded x t
       ends b batch k f (inr h) = (h.0, c.transcript h.0 h.1, h.2 ∙ k.txn)
       ends b batch k f (inl o) =
           let here : b.session ≡ node = ap (λ z. z.session) k.txn ∙ sym to in
@@ -114,8 +117,10 @@ module _ (top : TopologyValue) (w x : Run) (node n : ℕ) (some : 0 < top.shards
 
   -- ## Every message
 
-  pub heard_left : (from sent : ℕ) (b : Body) → is_for_shard (kind_of b) ≡ false → sent ≤ n → Says top w from node sent b → SaysLive top w from node (kind_of b)
-      → Comes w x node (heard top node n (w.sessions node) from b) → Went top w x node (heard top node n (w.sessions node) from b) × Acted top x from node (kind_of b)
+  pub heard_left : (from sent : ℕ) (b : Body) → is_for_shard (kind_of b) ≡ false → sent ≤ n → Says top w from node sent b
+      → SaysLive top w from node (kind_of b)
+      → Comes w x node (heard top node n (w.sessions node) from b)
+      → Went top w x node (heard top node n (w.sessions node) from b) × Acted top x from node (kind_of b)
   heard_left from sent (At t commit stamp) e early s k c = (calm_went top w x node n some inv placed (live.current node) c, tt)
   heard_left from sent (NotBy t time) e early s k c = (calm_went top w x node n some inv placed (live.current node) c, tt)
   heard_left from sent (Check t time) e early s k c = (calm_went top w x node n some inv placed (live.current node) c, tt)

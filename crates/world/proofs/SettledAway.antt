@@ -7,7 +7,6 @@ use Rattle.logical_time.specs.Stamps.{TxnValue, WriterValue}
 use Rattle.column_family.specs.declared.batch.Change.{Change}
 use Rattle.planner.specs.Plan.{coordinator_of, cohorts_of}
 use Rattle.planner.proofs.Members.{contains_below}
-use Rattle.messages.specs.declared.op.Op.TheVariants as op
 use Rattle.messages.specs.Topology.{TopologyValue, dc_of, shard_of, shard_node}
 use Rattle.messages.specs.Words.{other_dcs}
 use Rattle.messages.specs.Shard.{Role, Own, Cohort, Replica, KeptBallot}
@@ -144,7 +143,8 @@ module _ (top : TopologyValue) (w : Run) (some : 0 < top.shards) (inv : Inv top 
 
   -- ## Each dependency's answer
 
-  met : (r : KeptBallot) → Among r (w.shards s).kept_ballots → (u : WriterValue) → Among u r.dependencies → Among u b.dependencies → Among (met_of r.txn u.txn) (w.shards s).met
+  met : (r : KeptBallot) → Among r (w.shards s).kept_ballots → (u : WriterValue) → Among u r.dependencies → Among u b.dependencies
+      → Among (met_of r.txn u.txn) (w.shards s).met
   met r m u i j =
       let p = (live.submitted b batch k.among k.op).dependencies u j in
       let s' = near top s u.shard in

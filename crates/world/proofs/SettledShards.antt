@@ -1,11 +1,10 @@
 -- In a quiet run every batch is decided in every data centre, and no shard keeps anything waiting.
 use Rattle.std.proofs.Common.{◌≡◌, ◌≢◌, ℕ, ◌<◌, List, [], ◌∷◌, ◌++◌, Option, Some, None, ◌⊎◌, inl, inr, refl, sym, ap, ◌∙◌, subst, subst₂}
-use Rattle.std.specs.Prelude.{true, find, is_some}
-use Rattle.std.specs.List.{list_any}
+use Rattle.std.specs.Prelude.{true, is_some}
 use Rattle.std.proofs.lemmas.Bool.{cases_eq, false≢true}
 use Rattle.logical_time.specs.Stamps.{TxnValue, WriterValue}
 use Rattle.column_family.specs.declared.batch.Change.{Change}
-use Rattle.planner.specs.Plan.{coordinator_of, cohorts_of}
+use Rattle.planner.specs.Plan.{cohorts_of}
 use Rattle.messages.specs.declared.body.Body.{Body}
 use Rattle.messages.specs.declared.body.Body.TheVariants.{DepOk}
 use Rattle.messages.specs.declared.op.Op.TheVariants as op
@@ -17,13 +16,12 @@ use Rattle.messages.proofs.Numbering.{shard_again}
 use Rattle.world.specs.Run.{Run, Submission}
 use Rattle.world.specs.Quiet.{IsQuiet}
 use Rattle.world.specs.Settled.{WasAnswered, IsClear}
-use Rattle.world.proofs.Among.{Among, among_contains, contains_among, among_append, last_or_old, any_among, any_false, find_none, same_txn_self}
+use Rattle.world.proofs.Among.{Among, among_contains, contains_among, last_or_old, any_among, any_false, find_none, same_txn_self}
 use Rattle.world.proofs.Facts.{txn_of, IsWritten, near, lead, RoleFits, Sees}
 use Rattle.world.proofs.Invariant.{Inv}
-use Rattle.world.proofs.StampsApart.{written_at, submitted_one, batch_one}
 use Rattle.world.proofs.Near.{lead_dc}
-use Rattle.world.proofs.About.{OfDepOk, kind_of, Sent}
-use Rattle.world.proofs.Underway.{HasDecision, Leads, Aside, RoleLive, Earlier, Live}
+use Rattle.world.proofs.About.{OfDepOk, kind_of}
+use Rattle.world.proofs.Underway.{HasDecision, Leads, RoleLive, Earlier, Live}
 use Rattle.world.proofs.Settling.{ballot_decided, home_decided, cohort_applied}
 use Rattle.world.proofs.SettledAway.{decided_here}
 
@@ -56,14 +54,17 @@ module _ (top : TopologyValue) (w : Run) (some : 0 < top.shards) (inv : Inv top 
     abbrev DecidedHere : Submission → Type 0
     DecidedHere b = (batch : List Change) → b.op ≡ op.Batch batch → HasDecision (w.shards (lead top dc batch)) (txn_of b)
 
-    one_decided : (before : List Submission) → ((c : Submission) → Among c before → Among c w.submitted) → ((c : Submission) → Among c before → DecidedHere c)
-        → (b : Submission) → Among b w.submitted → ((k : WriterValue) → Among k b.dependencies → (c : Submission) × Among c before × (txn_of c ≡ k.txn)) → DecidedHere b
+    one_decided : (before : List Submission) → ((c : Submission) → Among c before → Among c w.submitted)
+        → ((c : Submission) → Among c before → DecidedHere c)
+        → (b : Submission) → Among b w.submitted
+        → ((k : WriterValue) → Among k b.dependencies → (c : Submission) × Among c before × (txn_of c ≡ k.txn)) → DecidedHere b
     one_decided before old done b m earlier batch e = go (cases_eq dc b.home)
       where
         k : IsWritten w (txn_of b) b batch
         k = record { among = m; txn = refl; op = e }
 
-        depends : (u : WriterValue) → Among u b.dependencies → (c : Submission) (other : List Change) → IsWritten w u.txn c other → HasDecision (w.shards (lead top dc other)) u.txn
+        depends : (u : WriterValue) → Among u b.dependencies → (c : Submission) (other : List Change) → IsWritten w u.txn c other
+            → HasDecision (w.shards (lead top dc other)) u.txn
         depends u i c other j =
             let r = earlier u i in
             let same : c ≡ r.0 = inv.submitted.one c r.0 j.among (old r.0 r.1) (j.txn ∙ sym r.2) in
@@ -73,7 +74,8 @@ module _ (top : TopologyValue) (w : Run) (some : 0 < top.shards) (inv : Inv top 
         go (inl q) = subst (λ d. HasDecision (w.shards (lead top d batch)) (txn_of b)) (sym q) (home_decided top w some inv live quiet (txn_of b) b batch k)
         go (inr ne) = decided_here top w some inv live quiet b batch k dc lt ne depends
 
-    all_decided : (before rest : List Submission) → ((c : Submission) → Among c before → Among c w.submitted) → ((c : Submission) → Among c rest → Among c w.submitted)
+    all_decided : (before rest : List Submission) → ((c : Submission) → Among c before → Among c w.submitted)
+        → ((c : Submission) → Among c rest → Among c w.submitted)
         → ((c : Submission) → Among c before → DecidedHere c) → Earlier before rest → (b : Submission) → Among b rest → DecidedHere b
     all_decided before [] old new done e b m = absurd m
     all_decided before (c ∷ cs) old new done e b (inl q) = subst DecidedHere (sym q) (one_decided before old done c (new c (inl refl)) e.0)
@@ -84,7 +86,8 @@ module _ (top : TopologyValue) (w : Run) (some : 0 < top.shards) (inv : Inv top 
         (λ u i. elim (last_or_old u c before i) [ inl o ↦ done u o | inr q ↦ subst DecidedHere (sym q) (one_decided before old done c (new c (inl refl)) e.0) ])
         e.1 b n
 
-  pub each_decided : (t : TxnValue) (b : Submission) (batch : List Change) → IsWritten w t b batch → (dc : ℕ) → dc < top.dcs → HasDecision (w.shards (lead top dc batch)) t
+  pub each_decided : (t : TxnValue) (b : Submission) (batch : List Change) → IsWritten w t b batch → (dc : ℕ) → dc < top.dcs
+      → HasDecision (w.shards (lead top dc batch)) t
   each_decided t b batch k dc lt =
       subst (λ u. HasDecision (w.shards (lead top dc batch)) u) k.txn
       (all_decided dc lt [] w.submitted (λ c m. absurd m) (λ c m. m) (λ c m. absurd m) live.earlier b k.among batch k.op)
@@ -93,7 +96,8 @@ module _ (top : TopologyValue) (w : Run) (some : 0 < top.shards) (inv : Inv top 
   leader_decided node t l lt = subst (λ z. HasDecision (w.shards z) t) (sym l.here) (each_decided t l.submission l.batch l.written (dc_of top node) lt)
 
   -- each cohort in each data centre has applied its part
-  pub aside_applied : (node : ℕ) (t : TxnValue) (b : Submission) (batch : List Change) → IsWritten w t b batch → Among (shard_of top node) (cohorts_of top.shards batch) → dc_of top node < top.dcs → Sees (w.shards node).applied t
+  pub aside_applied : (node : ℕ) (t : TxnValue) (b : Submission) (batch : List Change) → IsWritten w t b batch
+      → Among (shard_of top node) (cohorts_of top.shards batch) → dc_of top node < top.dcs → Sees (w.shards node).applied t
   aside_applied node t b batch k m lt =
       let l = lead top (dc_of top node) batch in
       let to : near top l (shard_of top node) ≡ node = ap (λ d. shard_node top d (shard_of top node)) (lead_dc top (dc_of top node) batch some) ∙ shard_again top node in
@@ -102,7 +106,8 @@ module _ (top : TopologyValue) (w : Run) (some : 0 < top.shards) (inv : Inv top 
 
   -- ## What a shard kept
 
-  prepared_go : (r : Role) (node c : ℕ) (t : TxnValue) (b : Submission) (batch : List Change) → IsWritten w t b batch → RoleFits r top batch node → RoleLive r w node c t → (r ≡ Cohort → dc_of top node ≡ b.home) → Sees (w.shards node).applied t
+  prepared_go : (r : Role) (node c : ℕ) (t : TxnValue) (b : Submission) (batch : List Change) → IsWritten w t b batch → RoleFits r top batch node
+      → RoleLive r w node c t → (r ≡ Cohort → dc_of top node ≡ b.home) → Sees (w.shards node).applied t
   prepared_go Own node c t b batch k fits (u, i, e) home =
       let d = ballot_decided top w some inv live quiet node u i in
       let v = ((inv.shards node).decided d.0 d.1).applied in

@@ -8,17 +8,17 @@ use Rattle.column_family.specs.declared.batch.Change.{Change}
 use Rattle.column_family.specs.declared.batch.Committed.{Committed}
 use Rattle.column_family.specs.declared.batch.Mutation.{Mutation}
 use Rattle.column_family.specs.Location.{Location, touches}
-use Rattle.column_family.specs.History.{History, Stamped, up_to, last_of, newest_of, table_at}
+use Rattle.column_family.specs.History.{History, Stamped, up_to, last_of, newest_of}
 use Rattle.messages.specs.Topology.{TopologyValue}
 use Rattle.messages.specs.Shard.{Decision}
 use Rattle.world.specs.Run.{Run, Submission}
 use Rattle.world.specs.Histories.{decisions_in, history_of, IsHistory}
 use Rattle.world.specs.Settled.{IsCommittedIn, AreEqualTables}
 use Rattle.world.proofs.Among.{Among, among_contains, contains_among, filter_only, filter_among}
-use Rattle.world.proofs.Facts.{txn_of, IsWritten, lead, IsStamp}
+use Rattle.world.proofs.Facts.{IsWritten, lead, IsStamp}
 use Rattle.world.proofs.Invariant.{Inv}
 use Rattle.world.proofs.StampsApart.{written_at, submitted_one, batch_one}
-use Rattle.world.proofs.DecidedIn.{DecidedIn, decided_in, entry, entry_among, entry_is, one_each}
+use Rattle.world.proofs.DecidedIn.{decided_in, entry, entry_among, entry_is, one_each}
 use Rattle.world.proofs.SameNewest.{OneEach, IsNewest, neither_older, newest_none, newest_some}
 
 -- ## Two histories with the same batches and stamps
@@ -36,7 +36,8 @@ none_both q h g x into e n =
     let some = d.3 in
     cc
 
-one_newest : (q : Change → Bool) (h g : History) (x y : Stamped) → HasStamped q h g → HasStamped q g h → OneEach h → IsNewest q h x → IsNewest q g y → x.mutation ≡ y.mutation
+one_newest : (q : Change → Bool) (h g : History) (x y : Stamped) → HasStamped q h g → HasStamped q g h → OneEach h → IsNewest q h x → IsNewest q g y
+    → x.mutation ≡ y.mutation
 one_newest q h g x y into back one n k =
     let d = into n.entry x.mutation n.among n.mutation in
     let c = back k.entry y.mutation k.among k.mutation in
@@ -51,7 +52,8 @@ same_mutation : (q : Change → Bool) (h g : History) → HasStamped q h g → H
     → option_map (λ (s : Stamped). s.mutation) (newest_of q h) ≡ option_map (λ (s : Stamped). s.mutation) (newest_of q g)
 same_mutation q h g into back one = go (newest_of q h) (newest_of q g) refl refl
   where
-    go : (a b : Option Stamped) → newest_of q h ≡ a → newest_of q g ≡ b → option_map (λ (s : Stamped). s.mutation) a ≡ option_map (λ (s : Stamped). s.mutation) b
+    go : (a b : Option Stamped) → newest_of q h ≡ a → newest_of q g ≡ b
+        → option_map (λ (s : Stamped). s.mutation) a ≡ option_map (λ (s : Stamped). s.mutation) b
     go None None e f = refl
     go (Some x) None e f = absurd (none_both q h g x into f (newest_some q h x e))
     go None (Some y) e f = absurd (none_both q g h y back e (newest_some q g y f))
@@ -59,10 +61,12 @@ same_mutation q h g into back one = go (newest_of q h) (newest_of q g) refl refl
 
 -- ## A transaction has one stamp, in all data centres
 
-stamp_at : {top : TopologyValue} {w : Run} {b c : Submission} {batch other : List Change} {s : StampValue} → b ≡ c → batch ≡ other → IsStamp top w b batch s → IsStamp top w c other s
+stamp_at : {top : TopologyValue} {w : Run} {b c : Submission} {batch other : List Change} {s : StampValue} → b ≡ c → batch ≡ other
+    → IsStamp top w b batch s → IsStamp top w c other s
 stamp_at {top} {w} {b} {c} {batch} {other} {s} p q k = subst (λ z. IsStamp top w z other s) p (subst (λ z. IsStamp top w b z s) q k)
 
-one_stamp_of : (top : TopologyValue) (w : Run) → Inv top w → (b : Submission) (batch : List Change) (s u : StampValue) → IsStamp top w b batch s → IsStamp top w b batch u → s ≡ u
+one_stamp_of : (top : TopologyValue) (w : Run) → Inv top w → (b : Submission) (batch : List Change) (s u : StampValue) → IsStamp top w b batch s
+    → IsStamp top w b batch u → s ≡ u
 one_stamp_of top w inv b batch s u k h =
     let sound = (inv.shards (lead top b.home batch)).decided h.decided.decision h.decided.among in
     let same = sound.one k.decided.decision k.decided.among (k.decided.txn ∙ sym h.decided.txn) in

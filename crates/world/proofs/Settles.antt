@@ -1,13 +1,12 @@
 -- A quiet run is settled.
 use Rattle.std.proofs.Common.{◌≡◌, ℕ, ◌<◌, List, ◌⊎◌, inl, inr, refl, sym, ap, ◌∙◌, subst, arith}
-use Rattle.std.specs.Prelude.{true, false, Contains}
+use Rattle.std.specs.Prelude.{false}
 use Rattle.std.proofs.lemmas.Bool.{false≢true}
 use Rattle.logical_time.specs.Stamps.{TxnValue}
 use Rattle.column_family.specs.declared.batch.Change.{Change}
 use Rattle.planner.specs.Plan.{coordinator_of}
 use Rattle.messages.specs.Topology.{TopologyValue}
 use Rattle.messages.specs.Session.{Open, Idle, Writing, FirstRound, SecondRound, is_idle}
-use Rattle.messages.specs.Rounds.{asked_nodes, is_missing, is_missing_at}
 use Rattle.world.specs.Run.{Run, Submission, Completed}
 use Rattle.world.specs.Histories.{decisions_in}
 use Rattle.world.specs.Quiet.{IsQuiet}
@@ -46,7 +45,8 @@ module _ (top : TopologyValue) (w : Run) (some : 0 < top.shards) (inv : Inv top 
 
   -- ## Sessions
 
-  not_idle : (node : ℕ) (o : Open) → (w.sessions node).current ≡ o → is_idle o ≡ false → (c : Completed) → Among c w.transcript → c.node ≡ node → c.number ≡ (w.sessions node).count → ⊥
+  not_idle : (node : ℕ) (o : Open) → (w.sessions node).current ≡ o → is_idle o ≡ false → (c : Completed) → Among c w.transcript → c.node ≡ node
+      → c.number ≡ (w.sessions node).count → ⊥
   not_idle node o e busy c m at is =
       let lt = causal.closed c m (ap (λ i. is_idle (w.sessions i).current) at ∙ ap is_idle e ∙ busy) in
       let same : (w.sessions c.node).count ≡ (w.sessions node).count = ap (λ i. (w.sessions i).count) at in

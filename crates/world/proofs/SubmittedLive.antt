@@ -1,55 +1,57 @@
 -- A submission keeps what is under way: its messages are sent, and what it depends on was submitted before it.
-use Rattle.std.proofs.Common.{◌≡◌, ℕ, ◌+◌, ◌<◌, ◌≤◌, Bool, true, false, cond, List, [], ◌∷◌, ◌++◌, map, length, slice_get, Option, Some, None, Ok, ◌⊎◌, inl, inr, refl, sym, ap, ap₂, ◌∙◌, subst, arith, eqb-true, le_refl}
+use Rattle.std.proofs.Common.{◌≡◌, ℕ, ◌+◌, ◌<◌, ◌≤◌, Bool, true, false, cond, List, [], ◌∷◌, ◌++◌, length, Option, None, Ok, ◌⊎◌, inl, inr, refl, sym, ap, ◌∙◌, subst, eqb-true, le_refl}
 use Rattle.std.specs.Prelude.{◌==◌, nat_lt}
 use Rattle.std.specs.Option.{option_or}
 use Rattle.std.proofs.lemmas.Bool.{false≢true}
 use Rattle.logical_time.specs.declared.fault.Fault.{Fault}
 use Rattle.logical_time.specs.declared.fault.Fault.TheVariants.{EmptyRead}
-use Rattle.logical_time.specs.Stamps.{TxnValue, WriterValue}
+use Rattle.logical_time.specs.Stamps.{WriterValue}
 use Rattle.column_family.specs.declared.batch.Change.{Change}
 use Rattle.slice.specs.declared.read.Read.{Read}
 use Rattle.planner.specs.Checks.{unless, read_fault}
 use Rattle.planner.specs.Partition.{shard_of as shard_of_key}
-use Rattle.planner.specs.Plan.{coordinator_of, cohorts_of, shards_asked}
+use Rattle.planner.specs.Plan.{cohorts_of, shards_asked}
 use Rattle.planner.proofs.Asked.{asked_shard}
 use Rattle.messages.specs.declared.op.Op.{Op}
 use Rattle.messages.specs.declared.op.Op.TheVariants as op
 use Rattle.messages.specs.declared.body.Body.TheVariants as body
 use Rattle.messages.specs.declared.envelope.Envelope.{Envelope}
-use Rattle.messages.specs.Topology.{TopologyValue, dc_of, shard_of}
+use Rattle.messages.specs.Topology.{TopologyValue}
 use Rattle.messages.specs.Words.{envelope}
-use Rattle.messages.specs.Session.{SessionState, SessionStep, Open, Writing, FirstRound, is_idle}
+use Rattle.messages.specs.Session.{SessionState, SessionStep, Open, FirstRound, is_idle}
 use Rattle.messages.specs.Submitting.{next_txn, home_node, begin_of, prepare_of, write_begun, share_of, read_begun, begun, plan_fault}
-use Rattle.messages.specs.Rounds.{asked_nodes, is_missing}
+use Rattle.messages.specs.Rounds.{asked_nodes}
 use Rattle.messages.proofs.Numbering.{dc_of_shard, number_of_shard}
-use Rattle.world.specs.Run.{Run, Event, Submit, Submission, after_submission}
+use Rattle.world.specs.Run.{Run, Submit, Submission, after_submission}
 use Rattle.world.specs.Quiet.{handled}
-use Rattle.world.proofs.Among.{Among, among_append, append_first, append_second, among_last, last_or_old, map_only, map_among, any_among, among_contains, contains_among}
+use Rattle.world.proofs.Among.{Among, among_append, append_first, append_second, among_last, last_or_old, map_only, map_among, among_contains, contains_among}
 use Rattle.world.proofs.Facts.{txn_of, IsWritten}
 use Rattle.world.proofs.Near.{cohort_below}
 use Rattle.world.proofs.Asking.{asked_below, missing_asked}
 use Rattle.world.proofs.ShardSteps.{actor_same}
 use Rattle.world.proofs.About.{OfRead, kind_of, Sent}
-use Rattle.world.proofs.Underway.{Placed, Aside, AtOrigin, Onward, SaysLive, HasEnded, SubmissionLive, Earlier, OpenLive, StillOpen, Live}
+use Rattle.world.proofs.Underway.{Placed, Aside, AtOrigin, Onward, SaysLive, SubmissionLive, Earlier, OpenLive, StillOpen, Live}
 use Rattle.world.proofs.LiveGrow.{placed_on, shard_on, round_on, ended_on, open_on, says_on, submission_on, same_shard_on}
 use Rattle.world.proofs.OpenReads.{next_onward, first_missing}
 use Rattle.world.proofs.SteppedLive.{session_actor_on, acted_after}
 
 -- one more submission, whose dependencies were submitted before it
-earlier_more : (before bs : List Submission) (b : Submission) → Earlier before bs → ((k : WriterValue) → Among k b.dependencies → (c : Submission) × (Among c before ⊎ Among c bs) × (txn_of c ≡ k.txn)) → Earlier before (bs ++ b ∷ [])
+earlier_more : (before bs : List Submission) (b : Submission) → Earlier before bs
+    → ((k : WriterValue) → Among k b.dependencies → (c : Submission) × (Among c before ⊎ Among c bs) × (txn_of c ≡ k.txn))
+    → Earlier before (bs ++ b ∷ [])
 earlier_more before [] b e f = (λ k m. let r = f k m in (r.0, elim (r.1) [ inl i ↦ i | inr i ↦ absurd i ], r.2), tt)
 earlier_more before (c ∷ cs) b e f = (
   e.0,
   earlier_more (before ++ c ∷ []) cs b e.1
-  (λ k m. let r = f k m in (
-    r.0,
-    elim (r.1) [
-      | inl i ↦ inl (append_first r.0 before (c ∷ []) i)
-      | inr (inl q) ↦ inl (append_second r.0 before (c ∷ []) (inl q))
-      | inr (inr i) ↦ inr i
-    ],
-    r.2,
-  )),
+      (λ k m. let r = f k m in (
+        r.0,
+        elim (r.1) [
+          | inl i ↦ inl (append_first r.0 before (c ∷ []) i)
+          | inr (inl q) ↦ inl (append_second r.0 before (c ∷ []) (inl q))
+          | inr (inr i) ↦ inr i
+        ],
+        r.2,
+      )),
 )
 
 module _ (top : TopologyValue) (w : Run) (node n : ℕ) (o : Op) (live : Live top w) (idle : is_idle (w.sessions node).current ≡ true) (below : (k : ℕ) → Among k (handled w) → k < length w.sent) (current : Open) (sends : List Envelope) where
@@ -86,11 +88,13 @@ module _ (top : TopologyValue) (w : Run) (node n : ℕ) (o : Op) (live : Live to
         transcript = λ c m. m;
       }
 
-  dependencies_go : (m : ℕ) (t : Bool) → (m == node) ≡ t → (k : WriterValue) → Among k (cond t opens.state (w.sessions m)).dependencies → Placed top after k
+  dependencies_go : (m : ℕ) (t : Bool) → (m == node) ≡ t → (k : WriterValue) → Among k (cond t opens.state (w.sessions m)).dependencies
+      → Placed top after k
   dependencies_go m true e k i = placed_on submission_onward (live.dependencies node k i)
   dependencies_go m false e k i = placed_on submission_onward (live.dependencies m k i)
 
-  current_go : OpenLive top after node opens.state current → (m : ℕ) (t : Bool) → (m == node) ≡ t → OpenLive top after m (cond t opens.state (w.sessions m)) (cond t opens.state (w.sessions m)).current
+  current_go : OpenLive top after node opens.state current → (m : ℕ) (t : Bool) → (m == node) ≡ t
+      → OpenLive top after m (cond t opens.state (w.sessions m)) (cond t opens.state (w.sessions m)).current
   current_go f m true e = subst (λ z. OpenLive top after z opens.state current) (sym (eqb-true m node e)) f
   current_go f m false e = open_on top m (w.sessions m) (w.sessions m).current submission_onward (live.current m)
 
@@ -109,7 +113,8 @@ module _ (top : TopologyValue) (w : Run) (node n : ℕ) (o : Op) (live : Live to
   depends_before : (k : WriterValue) → Among k sub.dependencies → (c : Submission) × (Among c [] ⊎ Among c w.submitted) × (txn_of c ≡ k.txn)
   depends_before k m = let p = live.dependencies node k m in (p.submission, inr p.written.among, p.written.txn)
 
-  pub opens_live : is_idle current ≡ false → OpenLive top after node opens.state current → ((e : Envelope) → Among e sends → SaysLive top after e.from e.to (kind_of e.body))
+  pub opens_live : is_idle current ≡ false → OpenLive top after node opens.state current
+      → ((e : Envelope) → Among e sends → SaysLive top after e.from e.to (kind_of e.body))
       → ((batch : List Change) → o ≡ op.Batch batch → SubmissionLive top after sub batch) → Live top after
   opens_live busy f fine write =
       let g = submission_onward in

@@ -1,6 +1,6 @@
 -- What is under way in every run: what was sent for each entry, what each handled message left, and that nothing stands
 -- still.
-use Rattle.std.specs.Prelude.{◌≡◌, ℕ, ◌<◌, ◌≤◌, true, false, List, [], ◌∷◌, ◌++◌, Option, None, Some, ◌⊎◌, slice_get}
+use Rattle.std.specs.Prelude.{◌≡◌, ℕ, ◌<◌, ◌≤◌, true, false, List, [], ◌∷◌, ◌++◌, None, Some, ◌⊎◌, slice_get}
 use Rattle.logical_time.specs.Stamps.{TxnValue, WriterValue}
 use Rattle.column_family.specs.declared.batch.Change.{Change}
 use Rattle.store.specs.declared.part.Applied.{Applied}
@@ -18,7 +18,7 @@ use Rattle.world.proofs.Among.{Among}
 use Rattle.world.proofs.Facts.{txn_of, IsWritten, near, lead, Sees}
 use Rattle.world.proofs.Invariant.{IsLead}
 use Rattle.world.proofs.Causal.{txn_ended}
-use Rattle.world.proofs.About.{Kind, OfBegin, OfPrepare, OfYes, OfCommit, OfAt, OfNotBy, OfCheck, OfRead, OfReadAt, OfReplBegin, OfReplPart, OfNotify, OfPrepareRemote, OfDepCheck, OfDepOk, OfDone, OfPartNow, OfPartAt, kind_of, Sent}
+use Rattle.world.proofs.About.{Kind, OfBegin, OfPrepare, OfYes, OfCommit, OfRead, OfReadAt, OfReplBegin, OfReplPart, OfNotify, OfPrepareRemote, OfDepCheck, OfDepOk, OfDone, OfPartNow, OfPartAt, kind_of, Sent}
 
 -- ## What a shard has of a transaction
 
