@@ -71,7 +71,8 @@ module _ (top : TopologyValue) (ok : Stands top) (w : Run) (inv : Inv top w) (li
           let later = handle_kept top w e.to n e.from e.time e.body ev ok.some inv above.0 above.1 (inv.sent e m) in
           let l = handled_left top w x n ok.some inv later g live e m (shard_here top w e.to e.from (kind_of e.body) st ev on ws) in
           let acted = by (is_for_session (kind_of e.body)) refl x (λ f. l.1 f) (λ a. acted_on top e.from e.to g (kind_of e.body) a) m in
-          shard_step_live top w e.to e.from (kind_of e.body) st ev on ws live (λ number time r. (subst (λ z. SaysLive top w e.from e.to z) r (live.sent e m)).0) l.0 seats.handled
+          shard_step_live top w e.to e.from (kind_of e.body) st ev on ws live (λ number time r. (subst (λ z. SaysLive top w e.from e.to z) r
+          (live.sent e m)).0) l.0 seats.handled
           (delivers_it top w x j e found acted)
         where
           by : (b : Bool) → is_for_session (kind_of e.body) ≡ b → (x : Run)
@@ -100,7 +101,8 @@ module _ (top : TopologyValue) (ok : Stands top) (w : Run) (inv : Inv top w) (li
           let st = heard top e.to n (w.sessions e.to) e.from e.body in
           let ev = Deliver j in
           let x = after_session (Ok st) w ev e.to in
-          let r = heard_left top w x e.to n ok.some inv (le_of_lt above.0) (homed e.to) live e.from e.time e.body (no_shard _ refl) (le_of_lt above.1) (inv.sent e m) (live.sent e m) (session_comes top w e.to st ev) in
+          let r = heard_left top w x e.to n ok.some inv (le_of_lt above.0) (homed e.to) live e.from e.time e.body (no_shard _ refl)
+          (le_of_lt above.1) (inv.sent e m) (live.sent e m) (session_comes top w e.to st ev) in
           session_step_live top w e.to st ev live r.0 seats.handled (delivers_it top w x j e found r.1)
 
   deliver_go : (shard session : Bool) (j : ℕ) (e : Envelope) → is_shard top e.to ≡ shard → slice_get w.sent j ≡ Some e
@@ -128,7 +130,8 @@ module _ (top : TopologyValue) (ok : Stands top) (w : Run) (inv : Inv top w) (li
           let on = collected_onward n (w.shards node) time in
           let ws = collected_wait node n 0 (OfRead 0) (w.shards node) time in
           let g = shard_onward top w node 0 (OfRead 0) st ev on ws in
-          shard_step_live top w node 0 (OfRead 0) st ev on ws live (λ number bound r. absurd (cc)) (collected_left top w x node n time g live) seats.handled (λ i e. absurd (cc))
+          shard_step_live top w node 0 (OfRead 0) st ev on ws live (λ number bound r. absurd (cc))
+          (collected_left top w x node n time g live) seats.handled (λ i e. absurd (cc))
 
   -- ## A submission
 

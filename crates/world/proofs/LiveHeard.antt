@@ -43,7 +43,8 @@ is_for_shard (OfDone t) = false
 is_for_shard (OfPartNow number) = false
 is_for_shard (OfPartAt number time) = false
 
-module _ (top : TopologyValue) (w x : Run) (node n : ℕ) (some : 0 < top.shards) (inv : Inv top w) (le : (w.sessions node).clock ≤ n) (homed : (w.sessions node).home < top.dcs) (live : Live top w) where
+module _ (top : TopologyValue) (w x : Run) (node n : ℕ) (some : 0 < top.shards) (inv : Inv top w) (le : (w.sessions node).clock ≤ n)
+    (homed : (w.sessions node).home < top.dcs) (live : Live top w) where
   abbrev placed : (k : WriterValue) → Among k (w.sessions node).dependencies → Placed top w k
   placed = λ k m. live.dependencies node k m
 
@@ -95,7 +96,8 @@ module _ (top : TopologyValue) (w x : Run) (node n : ℕ) (some : 0 < top.shards
           } in (
             ended_went top w x node n some inv placed (live.current node) floor (this ∷ []) out a.home (op.Batch s.batch) s.opened
                 (λ d m. elim (m) [ inl z ↦ subst (λ y. Placed top x y) (sym z) is | inr z ↦ absurd z ]) c,
-            λ r i. subst (λ z. HasEnded x z) (sym r) (ended_here top w x node n some inv placed (live.current node) floor (this ∷ []) out a.home (op.Batch s.batch) s.opened c),
+            λ r i. subst (λ z. HasEnded x z) (sym r) (ended_here top w x node n some inv placed (live.current node) floor (this ∷ []) out a.home
+                (op.Batch s.batch) s.opened c),
           )
 
   done_left : (from : ℕ) (t : TxnValue) (commit : ℕ) (stamp : StampValue) → IsDecided w from t commit stamp → node ≡ t.session
@@ -112,7 +114,8 @@ module _ (top : TopologyValue) (w x : Run) (node n : ℕ) (some : 0 < top.shards
       ends b batch k f (inr h) = (h.0, c.transcript h.0 h.1, h.2 ∙ k.txn)
       ends b batch k f (inl o) =
           let here : b.session ≡ node = ap (λ z. z.session) k.txn ∙ sym to in
-          let is : t ≡ now = sym k.txn ∙ ap₂ (λ i m. let z : TxnValue = record { session = i; number = m } in z) here (o.number ∙ ap (λ i. (w.sessions i).count) here) in
+          let is : t ≡ now = sym k.txn ∙ ap₂ (λ i m. let z : TxnValue = record { session = i; number = m } in z) here
+          (o.number ∙ ap (λ i. (w.sessions i).count) here) in
           f is (ap (λ i. is_idle (w.sessions i).current) (sym here) ∙ o.current)
 
   -- ## Every message
@@ -126,12 +129,14 @@ module _ (top : TopologyValue) (w x : Run) (node n : ℕ) (some : 0 < top.shards
   heard_left from sent (Check t time) e early s k c = (calm_went top w x node n some inv placed (live.current node) c, tt)
   heard_left from sent (Done t commit stamp) e early s k c = done_left from t commit stamp s.0.decided k c
   heard_left from sent (PartNow number rows) e early s k c =
-      let r = part_now_went top w x node n some inv le homed placed (live.current node) (w.sessions node).current refl (inv.sessions node).current from number sent rows early s c in
+      let r = part_now_went top w x node n some inv le homed placed (live.current node) (w.sessions node).current refl
+      (inv.sessions node).current from number sent rows early s c in
       let st = heard top node n (w.sessions node) from (PartNow number rows) in
       let has : NotMissing top st.state number from = record { number = subst (λ m. number ≤ m) (sym r.0.count) k; round = λ q. r.1 (q ∙ r.0.count) } in
       (r.0, subst (λ z. NotMissing top z number from) (sym c.state) has)
   heard_left from sent (PartAt number bound answer) e early s k c =
-      let r = part_at_went top w x node n some inv le homed placed (live.current node) (w.sessions node).current refl (inv.sessions node).current from number bound answer s k c in
+      let r = part_at_went top w x node n some inv le homed placed (live.current node) (w.sessions node).current refl
+      (inv.sessions node).current from number bound answer s k c in
       let st = heard top node n (w.sessions node) from (PartAt number bound answer) in
       let has : NotAwaited top st.state number from = record { number = subst (λ m. number ≤ m) (sym r.0.count) k.number; round = λ q. r.1 (q ∙ r.0.count) } in
       (r.0, subst (λ z. NotAwaited top z number from) (sym c.state) has)

@@ -44,7 +44,8 @@ pub record Went (top : TopologyValue) (w x : Run) (node : ℕ) (st : SessionStep
   pub dependencies : (k : WriterValue) → Among k st.state.dependencies → Placed top x k
   pub current : OpenLive top x node st.state st.state.current
   -- the open operation goes on or ends
-  pub ends : (is_idle (w.sessions node).current ≡ false → is_idle st.state.current ≡ false) ⊎ HasEnded x (record { session = node; number = (w.sessions node).count })
+  pub ends : (is_idle (w.sessions node).current ≡ false → is_idle st.state.current ≡ false) ⊎ HasEnded x
+      (record { session = node; number = (w.sessions node).count })
 
 pub placed_later : {top : TopologyValue} {w x : Run} {k : WriterValue} → ((b : Submission) → Among b w.submitted → Among b x.submitted)
     → Placed top w k → Placed top x k
@@ -75,7 +76,8 @@ module _ (top : TopologyValue) (w x : Run) (node n : ℕ) (some : 0 < top.shards
       → SessionOnward top (w.sessions node) (record (w.sessions node) { clock = n; current = o })
       → ((e : Envelope) → Among e sends → SaysLive top x e.from e.to (kind_of e.body))
       → OpenLive top x node (record (w.sessions node) { clock = n; current = o }) o
-      → (is_idle (w.sessions node).current ≡ false → is_idle o ≡ false) → Went top w x node (record { state = record (w.sessions node) { clock = n; current = o }; sends = sends })
+      → (is_idle (w.sessions node).current ≡ false → is_idle o ≡ false) → Went top w x node
+      (record { state = record (w.sessions node) { clock = n; current = o }; sends = sends })
   waits_went o sends c onward f k busy =
       record {
         onward = onward;
@@ -112,7 +114,8 @@ module _ (top : TopologyValue) (w x : Run) (node n : ℕ) (some : 0 < top.shards
       let f : Finished = record { number = a.count; outcome = out } in
       let done : Completed = record { node = node; number = a.count; home = s.home; op = s.op; outcome = out } in
       let is : completed_of w.submitted node f ≡ Some done =
-      ap (λ (z : Option Submission). option_map (λ s. record { node = node; number = f.number; home = s.home; op = s.op; outcome = f.outcome }) z) (found top w inv.submitted s t k.among (open_txn k)) in
+      ap (λ (z : Option Submission). option_map (λ s. record { node = node; number = f.number; home = s.home; op = s.op; outcome = f.outcome }) z)
+      (found top w inv.submitted s t k.among (open_txn k)) in
       let new : Among done (filter_map (completed_of w.submitted node) (f ∷ [])) =
       contains_among done _ (given (completed_of w.submitted node) (f ∷ []) f done (among_contains f (f ∷ []) (inl refl)) is) in
       (done, c.ended done (subst (λ fs. Among done (filter_map (completed_of w.submitted node) fs)) (sym (drop-append_seam a.outcomes (f ∷ []))) new), refl)
@@ -151,4 +154,5 @@ module _ (top : TopologyValue) (w x : Run) (node n : ℕ) (some : 0 < top.shards
   pub given_up_went : (read : Read) → IsOpen w node (w.sessions node).count (w.sessions node).home (op.Read read)
       → Comes w x node (given_up n (w.sessions node)) → Went top w x node (given_up n (w.sessions node))
   given_up_went read opened c =
-      ended_went (w.sessions node).floor (w.sessions node).dependencies outcome.Collected (w.sessions node).home (op.Read read) opened (λ k m. placed_later c.submitted (placed k m)) c
+      ended_went (w.sessions node).floor (w.sessions node).dependencies outcome.Collected (w.sessions node).home (op.Read read) opened
+      (λ k m. placed_later c.submitted (placed k m)) c

@@ -38,7 +38,8 @@ one_number (Collect shard time) k n e m = absurd m
 pub handled_more : (events : List Event) (x : Event) (k : ℕ) → Among k (filter_map number_delivered (events ++ x ∷ []))
     → Among k (filter_map number_delivered events) ⊎ (number_delivered x ≡ Some k)
 handled_more events x k m =
-    elim (among_append k (filter_map number_delivered events) (filter_map number_delivered (x ∷ [])) (subst (λ l. Among k l) (filter_map-append number_delivered events (x ∷ [])) m)) [
+    elim (among_append k (filter_map number_delivered events) (filter_map number_delivered (x ∷ []))
+    (subst (λ l. Among k l) (filter_map-append number_delivered events (x ∷ [])) m)) [
       | inl o ↦ inl o
       | inr n ↦ inr (one_number x k _ refl n)
     ]

@@ -35,11 +35,16 @@ has_decided a t d = go (decision_of t a) refl
   where
     go : (o : Option _) → decision_of t a ≡ o → is_some o ≡ true
     go (Some e) q = refl
-    go None q = absurd (false≢true (sym (any_false (λ e. is_same_txn e.txn t) a.decided (find_none (λ e. is_same_txn e.txn t) a.decided q) d.0 d.1) ∙ ap (λ u. is_same_txn u t) d.2 ∙ same_txn_self t))
+    go None q = absurd (false≢true (sym (any_false (λ e. is_same_txn e.txn t) a.decided
+        (find_none (λ e. is_same_txn e.txn t) a.decided q) d.0 d.1) ∙ ap (λ u. is_same_txn u t) d.2 ∙ same_txn_self t))
 
 -- a message about an answered dependency is that answer
 dep_ok_is : (b : Body) (dependency waiter : TxnValue) → kind_of b ≡ OfDepOk dependency waiter → (commit : ℕ) × (b ≡ DepOk dependency waiter commit)
-dep_ok_is (DepOk t u commit) dependency waiter e = let a : t ≡ dependency = cc in let c : u ≡ waiter = cc in (commit, subst₂ (λ x y. DepOk t u commit ≡ DepOk x y commit) a c refl)
+dep_ok_is (DepOk t u commit) dependency waiter e = let a : t ≡ dependency = cc in let c : u ≡ waiter = cc in (
+  commit,
+  subst₂
+      (λ x y. DepOk t u commit ≡ DepOk x y commit) a c refl,
+)
 dep_ok_is _ dependency waiter e = absurd (cc)
 
 nothing : {X : Type 0} (xs : List X) → ((x : X) → Among x xs → ⊥) → xs ≡ []
@@ -100,7 +105,8 @@ module _ (top : TopologyValue) (w : Run) (some : 0 < top.shards) (inv : Inv top 
       → Among (shard_of top node) (cohorts_of top.shards batch) → dc_of top node < top.dcs → Sees (w.shards node).applied t
   aside_applied node t b batch k m lt =
       let l = lead top (dc_of top node) batch in
-      let to : near top l (shard_of top node) ≡ node = ap (λ d. shard_node top d (shard_of top node)) (lead_dc top (dc_of top node) batch some) ∙ shard_again top node in
+      let to : near top l (shard_of top node) ≡ node = ap (λ d. shard_node top d (shard_of top node))
+      (lead_dc top (dc_of top node) batch some) ∙ shard_again top node in
       subst (λ z. Sees (w.shards z).applied t) to
       (cohort_applied top w some inv live quiet l t b batch k (each_decided t b batch k (dc_of top node) lt) (shard_of top node) m)
 
@@ -137,7 +143,8 @@ module _ (top : TopologyValue) (w : Run) (some : 0 < top.shards) (inv : Inv top 
   kept_decided : (node : ℕ) (r : KeptBallot) → Among r (w.shards node).kept_ballots → HasDecision (w.shards node) r.txn
   kept_decided node r m =
       let rs = (inv.shards node).kept_ballots r m in
-      leader_decided node r.txn (record { submission = rs.submission; batch = rs.batch; written = rs.written; here = rs.here }) ((live.shards node).entries.kept_ballots r m).here
+      leader_decided node r.txn (record { submission = rs.submission; batch = rs.batch; written = rs.written; here = rs.here })
+      ((live.shards node).entries.kept_ballots r m).here
 
   asked_decided : (node : ℕ) (k : Asker) → Among k (w.shards node).askers → HasDecision (w.shards node) k.dependency
   asked_decided node k m =

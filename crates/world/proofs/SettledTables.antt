@@ -92,7 +92,8 @@ module _ (top : TopologyValue) (w : Run) (inv : Inv top w) (time : ℕ) (l : Loc
       let stamp = one_stamp_of top w inv from.submission from.batch d.0.stamp k.decision.stamp (stamp_at b batch to.sound.stamp) from.stamp in
       let r = entry d.0 to.sound.batch in
       let in_there = entry_among top w inv other d.0 there to in
-      let in_g : Among r g = contains_among r g (Contains-permutation (history_of top w other) g r (IsPermutation-sym g (history_of top w other) was) (among_contains r (history_of top w other) in_there)) in
+      let in_g : Among r g = contains_among r g (Contains-permutation (history_of top w other) g r (IsPermutation-sym g (history_of top w other) was)
+      (among_contains r (history_of top w other) in_there)) in
       let le = early r in_g in
       let low : nat_le r.commit time ≡ true = grind (arith, nat_tests) in (
         r,
@@ -103,7 +104,8 @@ module _ (top : TopologyValue) (w : Run) (inv : Inv top w) (time : ℕ) (l : Loc
 
   one_by : (dc : ℕ) (h : History) → IsHistory top w dc h → OneEach (up_to time h)
   one_by dc h is c d mc md =
-      let from = λ (e : Committed) (m : Among e (up_to time h)). contains_among e (history_of top w dc) (Contains-permutation h (history_of top w dc) e is (among_contains e h (filter_only (λ a. nat_le a.commit time) h e m).0)) in
+      let from = λ (e : Committed) (m : Among e (up_to time h)). contains_among e (history_of top w dc)
+      (Contains-permutation h (history_of top w dc) e is (among_contains e h (filter_only (λ a. nat_le a.commit time) h e m).0)) in
       one_each top w inv dc c d (from c mc) (from d md)
 
 pub equal_tables : (top : TopologyValue) (w : Run) → Inv top w → (dc other : ℕ)

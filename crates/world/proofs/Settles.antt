@@ -30,8 +30,12 @@ module _ (top : TopologyValue) (w : Run) (some : 0 < top.shards) (inv : Inv top 
 
   committed_in : (t : TxnValue) (b : Submission) (batch : List Change) → IsWritten w t b batch → (dc : ℕ) → dc < top.dcs → IsCommittedIn top w dc t
   committed_in t b batch k dc lt =
-      let d = each_decided top w some inv live quiet t b batch k dc lt in
-      (d.0, among_contains d.0 (decisions_in top w dc) (in_decisions top w dc (coordinator_of top.shards batch) d.0 (coordinator_below top.shards batch some) d.1), d.2)
+      let d = each_decided top w some inv live quiet t b batch k dc lt in (
+        d.0,
+        among_contains d.0 (decisions_in top w dc) (in_decisions top w dc (coordinator_of top.shards batch) d.0
+            (coordinator_below top.shards batch some) d.1),
+        d.2,
+      )
 
   -- the session was told
   write_ended : (t : TxnValue) (b : Submission) (batch : List Change) → IsWritten w t b batch → HasEnded w t
@@ -73,7 +77,8 @@ module _ (top : TopologyValue) (w : Run) (some : 0 < top.shards) (inv : Inv top 
           elim (act top w some inv live quiet node shard (OfReadAt (w.sessions node).count time) (k.asked shard k.some.1)) [
             | inl sent ↦
                 let heard_it = (act top w some inv live quiet shard node (OfPartAt (w.sessions node).count time) sent).round refl in
-                let has : SecondHas top (w.sessions node) (SecondRound read time first heard) shard = subst (λ z. SecondHas top (w.sessions node) z shard) e heard_it in
+                let has : SecondHas top (w.sessions node) (SecondRound read time first heard) shard = subst
+                (λ z. SecondHas top (w.sessions node) z shard) e heard_it in
                 absurd (false≢true (sym has ∙ k.some.1))
             | inr (inl y) ↦ absurd (no_wait top w some inv live quiet shard y.0 y.1)
             | inr (inr y) ↦

@@ -59,7 +59,8 @@ still_so e k = record { number = k.number ∙ ap (λ a. a.count) (sym e); curren
 
 -- ## A shard's step
 
-module _ (top : TopologyValue) (w : Run) (node from : ℕ) (kind : Kind) (st : ShardStep) (ev : Event) (on : ShardOnward (w.shards node) st.state) (ws : WaitStep node (w.shards node) st.state st.sends from kind) where
+module _ (top : TopologyValue) (w : Run) (node from : ℕ) (kind : Kind) (st : ShardStep) (ev : Event) (on : ShardOnward (w.shards node) st.state)
+    (ws : WaitStep node (w.shards node) st.state st.sends from kind) where
   abbrev x : Run
   x = after_shard (Ok st) w ev node
 
@@ -80,7 +81,8 @@ module _ (top : TopologyValue) (w : Run) (node from : ℕ) (kind : Kind) (st : S
       go m y true e i =
           elim (ws.kept y (subst (λ z. Among y (w.shards z).waiting) (eqb-true m node e) i)) [
             | inl z ↦ inl z
-            | inr z ↦ inr (subst (λ u. Sent (w.sent ++ st.sends) u y.session (OfPartAt y.number y.time)) (sym (eqb-true m node e)) (sent_in (λ e m. append_second e w.sent st.sends m) z))
+            | inr z ↦ inr (subst (λ u. Sent (w.sent ++ st.sends) u y.session (OfPartAt y.number y.time)) (sym (eqb-true m node e))
+                (sent_in (λ e m. append_second e w.sent st.sends m) z))
           ]
 
   pub shard_here : Here x node st

@@ -54,7 +54,8 @@ earlier_more before (c ∷ cs) b e f = (
       )),
 )
 
-module _ (top : TopologyValue) (w : Run) (node n : ℕ) (o : Op) (live : Live top w) (idle : is_idle (w.sessions node).current ≡ true) (below : (k : ℕ) → Among k (handled w) → k < length w.sent) (current : Open) (sends : List Envelope) where
+module _ (top : TopologyValue) (w : Run) (node n : ℕ) (o : Op) (live : Live top w) (idle : is_idle (w.sessions node).current ≡ true)
+    (below : (k : ℕ) → Among k (handled w) → k < length w.sent) (current : Open) (sends : List Envelope) where
   -- the session's step, and the run after it
   abbrev opens : SessionStep
   opens =
@@ -108,7 +109,11 @@ module _ (top : TopologyValue) (w : Run) (node n : ℕ) (o : Op) (live : Live to
   new_open : is_idle current ≡ false → (b : Submission) → b ≡ sub → StillOpen after b
   new_open busy b q =
       subst (λ z. StillOpen after z) (sym q)
-      (record { number = ap (λ a. a.count) (sym (actor_same w.sessions node opens.state)); current = ap (λ a. is_idle a.current) (actor_same w.sessions node opens.state) ∙ busy })
+      (record {
+        number = ap (λ a. a.count) (sym (actor_same w.sessions node opens.state));
+        current = ap (λ a. is_idle a.current)
+            (actor_same w.sessions node opens.state) ∙ busy;
+      })
 
   depends_before : (k : WriterValue) → Among k sub.dependencies → (c : Submission) × (Among c [] ⊎ Among c w.submitted) × (txn_of c ≡ k.txn)
   depends_before k m = let p = live.dependencies node k m in (p.submission, inr p.written.among, p.written.txn)
@@ -137,7 +142,8 @@ module _ (top : TopologyValue) (w : Run) (node n : ℕ) (o : Op) (live : Live to
         ];
       }
 
-module _ (top : TopologyValue) (w : Run) (node n : ℕ) (some : 0 < top.shards) (live : Live top w) (homed : (w.sessions node).home < top.dcs) (idle : is_idle (w.sessions node).current ≡ true) (below : (k : ℕ) → Among k (handled w) → k < length w.sent) where
+module _ (top : TopologyValue) (w : Run) (node n : ℕ) (some : 0 < top.shards) (live : Live top w) (homed : (w.sessions node).home < top.dcs)
+    (idle : is_idle (w.sessions node).current ≡ true) (below : (k : ℕ) → Among k (handled w) → k < length w.sent) where
   abbrev state : SessionState
   state = w.sessions node
 
@@ -185,7 +191,8 @@ module _ (top : TopologyValue) (w : Run) (node n : ℕ) (some : 0 < top.shards) 
                 for = refl;
                 is = refl;
               };
-          dependencies = λ k m. placed_on (submission_onward top w node n (op.Batch batch) live idle below began.state.current began.sends) (live.dependencies node k m);
+          dependencies = λ k m. placed_on (submission_onward top w node n (op.Batch batch) live idle below began.state.current began.sends)
+              (live.dependencies node k m);
         }
 
     write_live : Live top written
@@ -209,8 +216,11 @@ module _ (top : TopologyValue) (w : Run) (node n : ℕ) (some : 0 < top.shards) 
     ask_fine e m =
         let q = map_only asks (shards_asked top.shards read.keys) e m in
         let here = dc_of_shard top state.home q.0 (asked_below top.shards read.keys q.0 q.1) in
-        subst (λ z. SaysLive top asking z.from z.to (kind_of z.body)) (sym q.2)
-        (subst (λ a. state.count + 1 ≤ a.count) (sym (actor_same w.sessions node starts.state)) (le_refl (state.count + 1)), subst (λ d. d < top.dcs) (sym here) homed)
+        subst (λ z. SaysLive top asking z.from z.to (kind_of z.body)) (sym q.2) (
+          subst (λ a. state.count + 1 ≤ a.count) (sym (actor_same w.sessions node starts.state)) (le_refl (state.count + 1)),
+          subst (λ d. d < top.dcs)
+              (sym here) homed,
+        )
 
     -- it asks some shard
     asks_one : (keys : List (List ℕ)) → read.keys ≡ keys → read_fault top.schema read ≡ None → (s : ℕ) × Among s (shards_asked top.shards read.keys)
@@ -223,19 +233,33 @@ module _ (top : TopologyValue) (w : Run) (node n : ℕ) (some : 0 < top.shards) 
         empty : nat_lt 0 (length read.keys) ≡ false → read_fault top.schema read ≡ None → ⊥
         empty e q = by (nat_lt 0 (length read.keys)) e _ q
     asks_one (key ∷ keys) e f =
-        let s = shard_of_key top.shards key in
-        (s, contains_among s (shards_asked top.shards read.keys) (asked_shard top.shards read.keys key some (among_contains key read.keys (subst (λ l. Among key l) (sym e) (inl refl)))))
+        let s = shard_of_key top.shards key in (
+          s,
+          contains_among s (shards_asked top.shards read.keys) (asked_shard top.shards read.keys key some
+              (among_contains key read.keys (subst (λ l. Among key l) (sym e) (inl refl)))),
+        )
 
     read_live : read_fault top.schema read ≡ None → Live top asking
     read_live f =
         let one = asks_one read.keys refl f in
         let open_it : OpenLive top asking node starts.state (FirstRound read []) =
         record {
-          some = (home_node top state one.0, first_missing (asked_nodes top state read) (home_node top state one.0) (map_among (home_node top state) (shards_asked top.shards read.keys) one.0 one.1));
+          some = (
+            home_node top state one.0,
+            first_missing (asked_nodes top state read) (home_node top state one.0)
+                (map_among (home_node top state) (shards_asked top.shards read.keys) one.0 one.1),
+          );
           asked = λ m i.
               let q = map_only (home_node top state) (shards_asked top.shards read.keys) m (missing_asked (asked_nodes top state read) [] m i) in
               subst (λ z. Sent asking.sent node z (OfRead (state.count + 1))) (sym q.2)
-              (record { message = asks q.0; among = append_second _ w.sent starts.sends (map_among asks (shards_asked top.shards read.keys) q.0 q.1); by = refl; for = refl; is = refl });
+              (record {
+                message = asks q.0;
+                among = append_second _ w.sent starts.sends
+                    (map_among asks (shards_asked top.shards read.keys) q.0 q.1);
+                by = refl;
+                for = refl;
+                is = refl;
+              });
         } in
         opens_live top w node n (op.Read read) live idle below starts.state.current starts.sends refl open_it ask_fine (λ batch e. absurd (cc))
 
