@@ -1,22 +1,25 @@
 -- A quiet run is settled.
 use Rattle.std.proofs.Common.{◌≡◌, ℕ, ◌<◌, List, ◌⊎◌, inl, inr, refl, sym, ap, ◌∙◌, subst, arith}
-use Rattle.std.specs.Prelude.{false}
+use Rattle.std.specs.Prelude.{false, Contains}
 use Rattle.std.proofs.lemmas.Bool.{false≢true}
 use Rattle.logical_time.specs.Stamps.{TxnValue}
+use Rattle.std.proofs.lemmas.List.Sorted.{Contains-permutation, IsPermutation-sym}
 use Rattle.column_family.specs.declared.batch.Change.{Change}
+use Rattle.column_family.specs.declared.batch.Committed.{Committed}
+use Rattle.column_family.specs.History.{History}
 use Rattle.planner.specs.Plan.{coordinator_of}
 use Rattle.messages.specs.Topology.{TopologyValue}
 use Rattle.messages.specs.Session.{Open, Idle, Writing, FirstRound, SecondRound, is_idle}
 use Rattle.world.specs.Run.{Run, Submission, Completed}
-use Rattle.world.specs.Histories.{decisions_in}
+use Rattle.world.specs.Histories.{decisions_in, history_of, IsHistory}
 use Rattle.world.specs.Quiet.{IsQuiet}
 use Rattle.world.specs.Settled.{IsOutcomeOf, IsCommittedIn, Settled}
 use Rattle.world.proofs.Among.{Among, among_contains, contains_among}
 use Rattle.world.proofs.Facts.{txn_of, IsWritten, lead}
 use Rattle.world.proofs.Invariant.{OpenSound, Inv}
 use Rattle.world.proofs.Causal.{txn_ended, Causal}
-use Rattle.world.proofs.DecidedIn.{in_decisions}
-use Rattle.world.proofs.StampsApart.{written_at, submitted_one}
+use Rattle.world.proofs.DecidedIn.{decided_in, in_decisions, entry, entry_among}
+use Rattle.world.proofs.StampsApart.{written_at, submitted_one, batch_one}
 use Rattle.world.proofs.Near.{coordinator_below, lead_dc}
 use Rattle.world.proofs.About.{OfRead, OfReadAt, OfPartNow, OfPartAt, OfDone}
 use Rattle.world.proofs.Underway.{FirstHas, SecondHas, SecondIs, OpenLive, HasEnded, StillOpen, Live}
@@ -35,6 +38,21 @@ module _ (top : TopologyValue) (w : Run) (some : 0 < top.shards) (inv : Inv top 
         among_contains d.0 (decisions_in top w dc) (in_decisions top w dc (coordinator_of top.shards batch) d.0
             (coordinator_below top.shards batch some) d.1),
         d.2,
+      )
+
+  -- it stands in the history
+  stands_in : (t : TxnValue) (b : Submission) (batch : List Change) → IsWritten w t b batch → (dc : ℕ) → dc < top.dcs
+      → (h : History) → IsHistory top w dc h → (c : Committed) × Contains h c × (c.batch ≡ batch)
+  stands_in t b batch k dc lt h is =
+      let d = committed_in t b batch k dc lt in
+      let m = contains_among d.0 (decisions_in top w dc) d.1 in
+      let to = decided_in top w inv dc d.0 m in
+      let c = entry d.0 to.sound.batch in
+      let has = among_contains c (history_of top w dc) (entry_among top w inv dc d.0 m to) in (
+        c,
+        Contains-permutation (history_of top w dc) h c (IsPermutation-sym h (history_of top w dc) is) has,
+        batch_one inv.submitted
+            (written_at d.2 to.sound.written) k,
       )
 
   -- the session was told
@@ -112,6 +130,8 @@ module _ (top : TopologyValue) (w : Run) (some : 0 < top.shards) (inv : Inv top 
         outcomes = λ b c. outcome b (contains_among b w.submitted c);
         idle = idle;
         committed = λ b batch dc c e lt. committed_in (txn_of b) b batch (record { among = contains_among b w.submitted c; txn = refl; op = e }) dc lt;
+        histories = λ b batch dc h c e lt is.
+            stands_in (txn_of b) b batch (record { among = contains_among b w.submitted c; txn = refl; op = e }) dc lt h is;
         shards = shard_clear top w some inv live quiet;
         tables = λ dc other lt below. equal_tables top w inv dc other (λ t b batch k. (committed_in t b batch k dc lt, committed_in t b batch k other below));
       }

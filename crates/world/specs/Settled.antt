@@ -74,6 +74,9 @@ pub record Settled (top : TopologyValue) (w : Run) : Type 0 where
   -- every submitted batch is committed in every data centre
   pub committed : (s : Submission) (batch : List Change) (dc : ℕ) → Contains w.submitted s → s.op ≡ op.Batch batch → dc < top.dcs
       → IsCommittedIn top w dc (record { session = s.session; number = s.number })
+  -- and stands in every history of each, as it was submitted
+  pub histories : (s : Submission) (batch : List Change) (dc : ℕ) (h : History)
+      → Contains w.submitted s → s.op ≡ op.Batch batch → dc < top.dcs → IsHistory top w dc h → (c : Committed) × Contains h c × (c.batch ≡ batch)
   -- nothing waits on any shard
   pub shards : (node : ℕ) → IsClear w node (w.shards node)
   -- all data centres have one table
