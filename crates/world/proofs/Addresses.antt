@@ -39,8 +39,10 @@ pub record Stands (top : TopologyValue) : Type 0 where
 
 pub stands : (top : TopologyValue) → is_topology top.dcs top.shards top.homes ≡ true → Stands top
 stands top e =
-    let p = and_parts (nat_le 1 top.dcs && nat_le top.dcs 4 && nat_le 1 top.shards && nat_le top.shards 8 && nat_le 1 (length top.homes) && nat_le (length top.homes) 16) (list_all (λ d. nat_lt d top.dcs) top.homes) e in
-    let a = and_parts (nat_le 1 top.dcs && nat_le top.dcs 4 && nat_le 1 top.shards && nat_le top.shards 8 && nat_le 1 (length top.homes)) (nat_le (length top.homes) 16) p.0 in
+    let p = and_parts (nat_le 1 top.dcs && nat_le top.dcs 4 && nat_le 1 top.shards && nat_le top.shards 8 && nat_le 1 (length top.homes) && nat_le
+    (length top.homes) 16) (list_all (λ d. nat_lt d top.dcs) top.homes) e in
+    let a = and_parts (nat_le 1 top.dcs && nat_le top.dcs 4 && nat_le 1 top.shards && nat_le top.shards 8 && nat_le 1 (length top.homes))
+    (nat_le (length top.homes) 16) p.0 in
     let b = and_parts (nat_le 1 top.dcs && nat_le top.dcs 4 && nat_le 1 top.shards && nat_le top.shards 8) (nat_le 1 (length top.homes)) a.0 in
     let c = and_parts (nat_le 1 top.dcs && nat_le top.dcs 4 && nat_le 1 top.shards) (nat_le top.shards 8) b.0 in
     let d = and_parts (nat_le 1 top.dcs && nat_le top.dcs 4) (nat_le 1 top.shards) c.0 in
@@ -50,11 +52,13 @@ stands top e =
     above : (n : ℕ) → nat_le 1 n ≡ true → 0 < n
     above n q = leb-true 1 n q
 
-    of : 0 < top.dcs → list_all (λ d. nat_lt d top.dcs) top.homes ≡ true → (o : Option ℕ) → ((d : ℕ) → o ≡ Some d → Among d top.homes) → unwrap_or o 0 < top.dcs
+    of : 0 < top.dcs → list_all (λ d. nat_lt d top.dcs) top.homes ≡ true → (o : Option ℕ) → ((d : ℕ) → o ≡ Some d → Among d top.homes)
+        → unwrap_or o 0 < top.dcs
     of lt all None f = lt
     of lt all (Some d) f = let t = all_among (λ d. nat_lt d top.dcs) top.homes all d (f d refl) in ltb-true d top.dcs t
 
-    by : 0 < top.dcs → list_all (λ d. nat_lt d top.dcs) top.homes ≡ true → (o : Option ℕ) → unwrap_or (option_and_then (λ i. slice_get top.homes i) o) 0 < top.dcs
+    by : 0 < top.dcs → list_all (λ d. nat_lt d top.dcs) top.homes ≡ true → (o : Option ℕ)
+        → unwrap_or (option_and_then (λ i. slice_get top.homes i) o) 0 < top.dcs
     by lt all None = lt
     by lt all (Some i) = of lt all (slice_get top.homes i) (get_among top.homes i)
 
@@ -76,7 +80,8 @@ module _ (top : TopologyValue) (w : Run) (some : 0 < top.shards) (inv : Inv top 
       go false e = absurd (none (subst (λ a. Known a t) (seats.shards node e) k))
 
   -- what is for a shard goes to one
-  pub to_shard : (from to time : ℕ) (b : Body) → Says top w from to time b → SaysLive top w from to (kind_of b) → is_for_shard (kind_of b) ≡ true → is_shard top to ≡ true
+  pub to_shard : (from to time : ℕ) (b : Body) → Says top w from to time b → SaysLive top w from to (kind_of b) → is_for_shard (kind_of b) ≡ true
+      → is_shard top to ≡ true
   to_shard from to time (Begin t rows cohorts dependencies) s k e =
       dc_shard top to some (subst (λ d. d < top.dcs) (sym s.stamp) (live.submitted s.submission s.batch s.written.among s.written.op).home)
   to_shard from to time (Prepare t rows coordinator) s k e = origin_shard to t k.1
@@ -94,7 +99,8 @@ module _ (top : TopologyValue) (w : Run) (some : 0 < top.shards) (inv : Inv top 
   to_shard from to time _ s k e = absurd (false≢true e)
 
   -- a session that submitted is told
-  pub done_session : (from to time : ℕ) (t : TxnValue) (commit : ℕ) (stamp : _) → Says top w from to time (Done t commit stamp) → to ≡ t.session → is_session top to ≡ true
+  pub done_session : (from to time : ℕ) (t : TxnValue) (commit : ℕ) (stamp : _) → Says top w from to time (Done t commit stamp) → to ≡ t.session
+      → is_session top to ≡ true
   done_session from to time t commit stamp s e =
       let d = s.0.decided in
       let ds = (inv.shards from).decided d.decision d.among in

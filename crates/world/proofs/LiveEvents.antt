@@ -31,7 +31,8 @@ use Rattle.world.proofs.SteppedLive.{Delivers, shard_onward, shard_here, shard_s
 use Rattle.world.proofs.SubmittedLive.{begun_live}
 
 -- a delivery is of the message of its number
-delivers_it : (top : TopologyValue) (w x : Run) (j : ℕ) (e : Envelope) → slice_get w.sent j ≡ Some e → Acted top x e.from e.to (kind_of e.body) → Delivers top w x (Deliver j)
+delivers_it : (top : TopologyValue) (w x : Run) (j : ℕ) (e : Envelope) → slice_get w.sent j ≡ Some e → Acted top x e.from e.to (kind_of e.body)
+    → Delivers top w x (Deliver j)
 delivers_it top w x j e is a i q = let same : j ≡ i = cc in (e, subst (λ z. slice_get w.sent z ≡ Some e) same is, a)
 
 module _ (top : TopologyValue) (ok : Stands top) (w : Run) (inv : Inv top w) (live : Live top w) (seats : Seats top w) where
@@ -41,7 +42,8 @@ module _ (top : TopologyValue) (ok : Stands top) (w : Run) (inv : Inv top w) (li
   -- ## A message comes
 
   -- of what is for a session, nothing but an answer comes to a shard, which has no read open
-  at_shard : (from to time : ℕ) (b : Body) → is_for_session (kind_of b) ≡ true → is_shard top to ≡ true → Says top w from to time b → SaysLive top w from to (kind_of b) → Acted top w from to (kind_of b)
+  at_shard : (from to time : ℕ) (b : Body) → is_for_session (kind_of b) ≡ true → is_shard top to ≡ true → Says top w from to time b
+      → SaysLive top w from to (kind_of b) → Acted top w from to (kind_of b)
   at_shard from to time (Done t commit stamp) e is s k =
       absurd (false≢true (sym (shard_no_session top to is) ∙ done_session top w ok.some inv live seats from to time t commit stamp s k))
   at_shard from to time (PartNow number rows) e is s k =
@@ -50,10 +52,12 @@ module _ (top : TopologyValue) (ok : Stands top) (w : Run) (inv : Inv top w) (li
       record { number = k.number; round = λ q. subst (λ o. SecondHas top (w.sessions to) o from) (sym (seats.sessions to (shard_no_session top to is))) tt }
   at_shard from to time _ e is s k = absurd (false≢true e)
 
-  shard_hears : (j : ℕ) (e : Envelope) → slice_get w.sent j ≡ Some e → is_shard top e.to ≡ true → Live top (after_shard (shard_handle top e.to (w.shards e.to) e) w (Deliver j) e.to)
+  shard_hears : (j : ℕ) (e : Envelope) → slice_get w.sent j ≡ Some e → is_shard top e.to ≡ true
+      → Live top (after_shard (shard_handle top e.to (w.shards e.to) e) w (Deliver j) e.to)
   shard_hears j e found is = go (ticked (w.shards e.to).clock e.time) refl
     where
-      go : (o : Option ℕ) → ticked (w.shards e.to).clock e.time ≡ o → Live top (after_shard (on_clock o (λ n. handled top e.to n (w.shards e.to) e.from e.body)) w (Deliver j) e.to)
+      go : (o : Option ℕ) → ticked (w.shards e.to).clock e.time ≡ o
+          → Live top (after_shard (on_clock o (λ n. handled top e.to n (w.shards e.to) e.from e.body)) w (Deliver j) e.to)
       go None q = live
       go (Some n) q =
           let m = get_among w.sent j e found in
@@ -67,15 +71,19 @@ module _ (top : TopologyValue) (ok : Stands top) (w : Run) (inv : Inv top w) (li
           let later = handle_kept top w e.to n e.from e.time e.body ev ok.some inv above.0 above.1 (inv.sent e m) in
           let l = handled_left top w x n ok.some inv later g live e m (shard_here top w e.to e.from (kind_of e.body) st ev on ws) in
           let acted = by (is_for_session (kind_of e.body)) refl x (λ f. l.1 f) (λ a. acted_on top e.from e.to g (kind_of e.body) a) m in
-          shard_step_live top w e.to e.from (kind_of e.body) st ev on ws live (λ number time r. (subst (λ z. SaysLive top w e.from e.to z) r (live.sent e m)).0) l.0 seats.handled
+          shard_step_live top w e.to e.from (kind_of e.body) st ev on ws live (λ number time r. (subst (λ z. SaysLive top w e.from e.to z) r
+          (live.sent e m)).0) l.0 seats.handled
           (delivers_it top w x j e found acted)
         where
-          by : (b : Bool) → is_for_session (kind_of e.body) ≡ b → (x : Run) → (is_for_session (kind_of e.body) ≡ false → Acted top x e.from e.to (kind_of e.body))
-              → (Acted top w e.from e.to (kind_of e.body) → Acted top x e.from e.to (kind_of e.body)) → Among e w.sent → Acted top x e.from e.to (kind_of e.body)
+          by : (b : Bool) → is_for_session (kind_of e.body) ≡ b → (x : Run)
+              → (is_for_session (kind_of e.body) ≡ false → Acted top x e.from e.to (kind_of e.body))
+              → (Acted top w e.from e.to (kind_of e.body) → Acted top x e.from e.to (kind_of e.body)) → Among e w.sent
+              → Acted top x e.from e.to (kind_of e.body)
           by false f x one other m = one f
           by true f x one other m = other (at_shard e.from e.to e.time e.body f is (inv.sent e m) (live.sent e m))
 
-  session_hears : (j : ℕ) (e : Envelope) → slice_get w.sent j ≡ Some e → is_shard top e.to ≡ false → Live top (after_session (session_handle top e.to (w.sessions e.to) e) w (Deliver j) e.to)
+  session_hears : (j : ℕ) (e : Envelope) → slice_get w.sent j ≡ Some e → is_shard top e.to ≡ false
+      → Live top (after_session (session_handle top e.to (w.sessions e.to) e) w (Deliver j) e.to)
   session_hears j e found is = go (ticked (w.sessions e.to).clock e.time) refl
     where
       no_shard : (b : Bool) → is_for_shard (kind_of e.body) ≡ b → is_for_shard (kind_of e.body) ≡ false
@@ -84,7 +92,8 @@ module _ (top : TopologyValue) (ok : Stands top) (w : Run) (inv : Inv top w) (li
           let m = get_among w.sent j e found in
           absurd (false≢true (sym is ∙ to_shard top w ok.some inv live seats e.from e.to e.time e.body (inv.sent e m) (live.sent e m) f))
 
-      go : (o : Option ℕ) → ticked (w.sessions e.to).clock e.time ≡ o → Live top (after_session (on_clock o (λ n. heard top e.to n (w.sessions e.to) e.from e.body)) w (Deliver j) e.to)
+      go : (o : Option ℕ) → ticked (w.sessions e.to).clock e.time ≡ o
+          → Live top (after_session (on_clock o (λ n. heard top e.to n (w.sessions e.to) e.from e.body)) w (Deliver j) e.to)
       go None q = live
       go (Some n) q =
           let m = get_among w.sent j e found in
@@ -92,10 +101,12 @@ module _ (top : TopologyValue) (ok : Stands top) (w : Run) (inv : Inv top w) (li
           let st = heard top e.to n (w.sessions e.to) e.from e.body in
           let ev = Deliver j in
           let x = after_session (Ok st) w ev e.to in
-          let r = heard_left top w x e.to n ok.some inv (le_of_lt above.0) (homed e.to) live e.from e.time e.body (no_shard _ refl) (le_of_lt above.1) (inv.sent e m) (live.sent e m) (session_comes top w e.to st ev) in
+          let r = heard_left top w x e.to n ok.some inv (le_of_lt above.0) (homed e.to) live e.from e.time e.body (no_shard _ refl)
+          (le_of_lt above.1) (inv.sent e m) (live.sent e m) (session_comes top w e.to st ev) in
           session_step_live top w e.to st ev live r.0 seats.handled (delivers_it top w x j e found r.1)
 
-  deliver_go : (shard session : Bool) (j : ℕ) (e : Envelope) → is_shard top e.to ≡ shard → slice_get w.sent j ≡ Some e → Live top (deliver_if shard session top w (Deliver j) e)
+  deliver_go : (shard session : Bool) (j : ℕ) (e : Envelope) → is_shard top e.to ≡ shard → slice_get w.sent j ≡ Some e
+      → Live top (deliver_if shard session top w (Deliver j) e)
   deliver_go true session j e is found = shard_hears j e found is
   deliver_go false true j e is found = session_hears j e found is
   deliver_go false false j e is found = live
@@ -119,7 +130,8 @@ module _ (top : TopologyValue) (ok : Stands top) (w : Run) (inv : Inv top w) (li
           let on = collected_onward n (w.shards node) time in
           let ws = collected_wait node n 0 (OfRead 0) (w.shards node) time in
           let g = shard_onward top w node 0 (OfRead 0) st ev on ws in
-          shard_step_live top w node 0 (OfRead 0) st ev on ws live (λ number bound r. absurd (cc)) (collected_left top w x node n time g live) seats.handled (λ i e. absurd (cc))
+          shard_step_live top w node 0 (OfRead 0) st ev on ws live (λ number bound r. absurd (cc))
+          (collected_left top w x node n time g live) seats.handled (λ i e. absurd (cc))
 
   -- ## A submission
 
@@ -131,11 +143,13 @@ module _ (top : TopologyValue) (ok : Stands top) (w : Run) (inv : Inv top w) (li
   submit_go false node o = live
   submit_go true node o = by (submit_fault (is_idle (w.sessions node).current) top o) refl
     where
-      go : (is_idle (w.sessions node).current ≡ true) × (plan_fault top o ≡ None) → (c : Option ℕ) → Live top (after_submission (on_clock c (λ n. begun top node n (w.sessions node) o)) w node o)
+      go : (is_idle (w.sessions node).current ≡ true) × (plan_fault top o ≡ None) → (c : Option ℕ)
+          → Live top (after_submission (on_clock c (λ n. begun top node n (w.sessions node) o)) w node o)
       go plan None = live
       go plan (Some n) = begun_live top w node n ok.some live (homed node) plan.0 seats.handled o plan.1
 
-      by : (f : Option Fault) → submit_fault (is_idle (w.sessions node).current) top o ≡ f → Live top (after_submission (session_submit_if f top node (w.sessions node) o) w node o)
+      by : (f : Option Fault) → submit_fault (is_idle (w.sessions node).current) top o ≡ f
+          → Live top (after_submission (session_submit_if f top node (w.sessions node) o) w node o)
       by (Some e) q = live
       by None q = go (accepted o (is_idle (w.sessions node).current) q) (ticked (w.sessions node).clock (w.sessions node).clock)
 
@@ -182,7 +196,8 @@ opening_live top =
       ends = λ b m. absurd m;
     }
 
-continued_live : (top : TopologyValue) → Stands top → (events : List Event) (w : Run) → Inv top w → Live top w → Seats top w → Live top (continued top w events)
+continued_live : (top : TopologyValue) → Stands top → (events : List Event) (w : Run) → Inv top w → Live top w → Seats top w
+    → Live top (continued top w events)
 continued_live top ok [] w inv live seats = live
 continued_live top ok (x ∷ xs) w inv live seats =
     continued_live top ok xs (step top w x) (step_kept top w x ok.some inv) (step_live top ok w inv live seats x) (step_seats top w seats x)

@@ -94,9 +94,9 @@ entries_on {top = top} {node = node} g k =
       ballots = λ u m. ballot_live_on node u g (k.ballots u m);
       kept_parts = λ p m. let q = k.kept_parts p m in record { away = away_on g q.away; here = q.here; told = sent_on g q.told };
       kept_ballots = λ r m. let q = k.kept_ballots r m in record { away = away_on g q.away; here = q.here; asked = λ d i. sent_on g (q.asked d i) };
-      early = λ v m. origin_on g (k.early v m);
+      early = λ v m. let q = k.early v m in (origin_on g q.0, leads_on g q.1);
       votes = λ v m. ballot_on (g.shards node) (k.votes v m);
-      notices = λ v m. kept_part_on (g.shards v.node) (k.notices v m);
+      notices = λ v m. let q = k.notices v m in (kept_part_on (g.shards v.node) q.0, leads_on g q.1, q.2);
       decided = λ d m.
           let q = k.decided d m in
           record {

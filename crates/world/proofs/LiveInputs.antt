@@ -16,7 +16,7 @@ use Rattle.world.proofs.Ables.{absent}
 use Rattle.world.proofs.ReadyKept.{awaited_unready, unmet_unready}
 use Rattle.world.proofs.StampsApart.{written_at, submitted_one, batch_one}
 use Rattle.world.proofs.About.{OfNotify}
-use Rattle.world.proofs.Underway.{HasPrepared, HasKeptPart, HasKeptBallot, Known, Awaits, vote_of, met_of, Leads, Onward, Entries, ShardLive, Acted}
+use Rattle.world.proofs.Underway.{NoticeLive, HasPrepared, HasKeptPart, HasKeptBallot, Known, Awaits, vote_of, met_of, Leads, Onward, Entries, ShardLive, Acted}
 use Rattle.world.proofs.LiveGrow.{prepared_on, decision_on, shard_on}
 use Rattle.world.proofs.HandledOnwards.{ready_on}
 use Rattle.world.proofs.LivePlaces.{not_and, same_at, vote_from, met_from, known_cases, lead_beside, among_cohorts}
@@ -52,7 +52,7 @@ module _ (top : TopologyValue) (w x : Run) (node n : ℕ) (some : 0 < top.shards
 
   -- ## Notify
 
-  notice_entries : (t : TxnValue) (from : ℕ) → HasKeptPart (x.shards from) t → Entries top x node (with_notice (w.shards node) t from)
+  notice_entries : (t : TxnValue) (from : ℕ) → NoticeLive top x node (vote_of t from) → Entries top x node (with_notice (w.shards node) t from)
   unfolding kx
   notice_entries t from k =
       let e = kx.entries in
@@ -63,7 +63,7 @@ module _ (top : TopologyValue) (w x : Run) (node n : ℕ) (some : 0 < top.shards
         kept_ballots = e.kept_ballots;
         early = e.early;
         votes = e.votes;
-        notices = λ v m. elim (last_or_old v (vote_of t from) (w.shards node).notices m) [ inl o ↦ e.notices v o | inr q ↦ subst (λ z. HasKeptPart (x.shards z.node) z.txn) (sym q) k ];
+        notices = λ v m. elim (last_or_old v (vote_of t from) (w.shards node).notices m) [ inl o ↦ e.notices v o | inr q ↦ subst (λ z. NoticeLive top x node z) (sym q) k ];
         decided = e.decided;
         applied = e.applied;
         askers = e.askers;
@@ -74,11 +74,11 @@ module _ (top : TopologyValue) (w x : Run) (node n : ℕ) (some : 0 < top.shards
   old_notices : (t u : TxnValue) (from node : ℕ) (vs : List Vote) → (u ≡ t → ⊥) → Among (vote_of u node) (vs ++ vote_of t from ∷ []) → Among (vote_of u node) vs
   old_notices t u from node vs ne m = elim (last_or_old (vote_of u node) (vote_of t from) vs m) [ inl o ↦ o | inr q ↦ absurd (ne (ap (λ (z : Vote). z.txn) q)) ]
 
-  notice_go : (t : TxnValue) (from : ℕ) → HasKeptPart (x.shards from) t → dc_of top from ≡ dc_of top node → (r : KeptBallot) → Among r (w.shards node).kept_ballots → r.txn ≡ t
+  notice_go : (t : TxnValue) (from : ℕ) → HasKeptPart (x.shards from) t → Leads top x node t → dc_of top from ≡ dc_of top node → (r : KeptBallot) → Among r (w.shards node).kept_ballots → r.txn ≡ t
       → (awaited : Bool) → is_awaited top node r.cohorts (w.shards node).notices t from ≡ awaited → Here x node (notice_if awaited top node n (w.shards node) r from)
       → Left top x node (notice_if awaited top node n (w.shards node) r from) × Among (vote_of t from) (x.shards node).notices
   unfolding kx
-  notice_go t from k dc r m q false e here =
+  notice_go t from k leads dc r m q false e here =
       let s = (inv.shards from).kept_parts k.0 k.1 in
       let b = (inv.shards node).kept_ballots r ((g.shards node).kept_ballots r m) in
       let cohort = subst (λ l. Among (shard_of top from) l) (ap (cohorts_of top.shards) (batch_one inv.submitted (written_at k.2 s.written) (written_at q b.written)) ∙ sym b.cohorts) s.cohort in (
@@ -86,26 +86,26 @@ module _ (top : TopologyValue) (w x : Run) (node n : ℕ) (some : 0 < top.shards
         (g.shards node).notices (vote_of t from) (vote_from (w.shards node).notices t from
             (not_and (is_cohort top node r.cohorts from) (has_vote (w.shards node).notices t from) e (among_cohorts top node from r.cohorts cohort dc))),
       )
-  notice_go t from k dc r m q true e here =
+  notice_go t from k leads dc r m q true e here =
       let a = with_notice (w.shards node) r.txn from in (
-        ready_left top x node n some inv a r rounds (notice_entries r.txn from (subst (λ z. HasKeptPart (x.shards from) z) (sym q) k)) kx.counted kx.voted m here
+        ready_left top x node n some inv a r rounds (notice_entries r.txn from (subst (λ z. NoticeLive top x node (vote_of z from)) (sym q) (k, leads, dc))) kx.counted kx.voted m here
             (λ u i ne f d. kx.ready u i (λ c j. old_notices r.txn u.txn from (near top node c) (w.shards node).notices ne (f c j)) d)
             (unvoted r m (awaited_unready top node (w.shards node) r t from q e)),
         subst (λ z. Among (vote_of t from) z.notices) (sym here.state)
             ((ready_on top node n a r).notices (vote_of t from) (subst (λ z. Among (vote_of z from) a.notices) q (among_last (vote_of r.txn from) (w.shards node).notices))),
       )
 
-  early_notice_go : (t : TxnValue) (from : ℕ) → HasKeptPart (x.shards from) t → Leads top x node t → ((r : KeptBallot) → Among r (w.shards node).kept_ballots → r.txn ≡ t → ⊥)
+  early_notice_go : (t : TxnValue) (from : ℕ) → HasKeptPart (x.shards from) t → Leads top x node t → dc_of top from ≡ dc_of top node → ((r : KeptBallot) → Among r (w.shards node).kept_ballots → r.txn ≡ t → ⊥)
       → (known kept : Bool) → is_known t (w.shards node) ≡ known → has_vote (w.shards node).notices t from ≡ kept → Here x node (early_notice_if known kept n (w.shards node) t from)
       → Left top x node (early_notice_if known kept n (w.shards node) t from) × Acted top x from node (OfNotify t)
   unfolding kx
-  early_notice_go t from k leads none true kept e f here =
+  early_notice_go t from k leads dc none true kept e f here =
       (quiet_left n kx, elim (known_replica t leads e) [ inl r ↦ absurd (none r.0 r.1 r.2) | inr y ↦ inr y ])
-  early_notice_go t from k leads none false true e f here = (quiet_left n kx, inl ((g.shards node).notices (vote_of t from) (vote_from (w.shards node).notices t from f)))
-  early_notice_go t from k leads none false false e f here = (
+  early_notice_go t from k leads dc none false true e f here = (quiet_left n kx, inl ((g.shards node).notices (vote_of t from) (vote_from (w.shards node).notices t from f)))
+  early_notice_go t from k leads dc none false false e f here = (
     quiet_left n
         (record {
-          entries = notice_entries t from k;
+          entries = notice_entries t from (k, leads, dc);
           counted = kx.counted;
           voted = kx.voted;
           ready = λ u m i d. kx.ready u m (λ c j. old_notices t u.txn from (near top node c) (w.shards node).notices (none u m) (i c j)) d;
@@ -117,10 +117,10 @@ module _ (top : TopologyValue) (w x : Run) (node n : ℕ) (some : 0 < top.shards
       → Here x node (notify_for o top node n (w.shards node) t from)
       → Left top x node (notify_for o top node n (w.shards node) t from) × Acted top x from node (OfNotify t)
   notify_go t from k leads dc None e here =
-      early_notice_go t from k leads (absent (λ r. r.txn) t (w.shards node).kept_ballots (find_none (λ r. is_same_txn r.txn t) (w.shards node).kept_ballots e)) _ _ refl refl here
+      early_notice_go t from k leads dc (absent (λ r. r.txn) t (w.shards node).kept_ballots (find_none (λ r. is_same_txn r.txn t) (w.shards node).kept_ballots e)) _ _ refl refl here
   notify_go t from k leads dc (Some r) e here =
       let p = find_some (λ r. is_same_txn r.txn t) (w.shards node).kept_ballots r e in
-      let z = notice_go t from k dc r p.0 (same_txn r.txn t p.1) _ refl here in
+      let z = notice_go t from k leads dc r p.0 (same_txn r.txn t p.1) _ refl here in
       (z.0, inl z.1)
 
   pub notify_left : (t : TxnValue) (from : ℕ) → HasKeptPart (x.shards from) t → Leads top x node t → dc_of top from ≡ dc_of top node → Here x node (on_notify top node n (w.shards node) from t)

@@ -15,7 +15,7 @@ use Rattle.world.specs.Run.{Run, Submission}
 use Rattle.world.proofs.Among.{Among, any_among, any_true, find_some, filter_only, same_txn, same_txn_self}
 use Rattle.world.proofs.Facts.{IsWritten, near, lead}
 use Rattle.world.proofs.Invariant.{SubmittedSound}
-use Rattle.world.proofs.Near.{cohort_below, cohort_other, lead_number, near_dc, listed_below}
+use Rattle.world.proofs.Near.{listed_below, cohort_below, cohort_other, lead_number, near_dc}
 use Rattle.world.proofs.StampsApart.{submitted_one, batch_one}
 use Rattle.world.proofs.Underway.{HasPrepared, HasBallot, HasDecision, HasKeptPart, HasKeptBallot, vote_of, met_of, Aside, Away, AtOrigin, Leads}
 

@@ -65,7 +65,7 @@ module _ (top : TopologyValue) (x : Run) (node n : ℕ) (some : 0 < top.shards) 
       let k = sound r kept in
       let v = vote_from a.notices r.txn (near top node p.0) (all_among (λ s. has_vote a.notices r.txn (shard_node top (dc_of top node) s)) r.cohorts all p.0 c) in
       subst (λ z. Fine top x z) (sym p.2) (
-        entries.notices (vote_of r.txn (near top node p.0)) v,
+        (entries.notices (vote_of r.txn (near top node p.0)) v).0,
         known,
         ballot_leads kept_ballot_at,
         sym (near_dc top node p.0 (cohort_below top.shards k.batch p.0 (subst (λ l. Among p.0 l) k.cohorts c))),

@@ -44,9 +44,11 @@ pub record Went (top : TopologyValue) (w x : Run) (node : ℕ) (st : SessionStep
   pub dependencies : (k : WriterValue) → Among k st.state.dependencies → Placed top x k
   pub current : OpenLive top x node st.state st.state.current
   -- the open operation goes on or ends
-  pub ends : (is_idle (w.sessions node).current ≡ false → is_idle st.state.current ≡ false) ⊎ HasEnded x (record { session = node; number = (w.sessions node).count })
+  pub ends : (is_idle (w.sessions node).current ≡ false → is_idle st.state.current ≡ false) ⊎ HasEnded x
+      (record { session = node; number = (w.sessions node).count })
 
-pub placed_later : {top : TopologyValue} {w x : Run} {k : WriterValue} → ((b : Submission) → Among b w.submitted → Among b x.submitted) → Placed top w k → Placed top x k
+pub placed_later : {top : TopologyValue} {w x : Run} {k : WriterValue} → ((b : Submission) → Among b w.submitted → Among b x.submitted)
+    → Placed top w k → Placed top x k
 placed_later f p =
     record {
       submission = p.submission;
@@ -60,17 +62,22 @@ module _ (top : TopologyValue) (w x : Run) (node n : ℕ) (some : 0 < top.shards
     (live : OpenLive top w node (w.sessions node) (w.sessions node).current) where
   -- ## The operation goes on
 
-  pub waits_onward : (o : Open) → ((m : ℕ) → FirstHas top (w.sessions node) (w.sessions node).current m → FirstHas top (w.sessions node) o m) → ((time : ℕ) → SecondIs (w.sessions node).current time → SecondIs o time)
-      → ((m : ℕ) → SecondHas top (w.sessions node) (w.sessions node).current m → SecondHas top (w.sessions node) o m) → SessionOnward top (w.sessions node) (record (w.sessions node) { clock = n; current = o })
+  pub waits_onward : (o : Open) → ((m : ℕ) → FirstHas top (w.sessions node) (w.sessions node).current m → FirstHas top (w.sessions node) o m)
+      → ((time : ℕ) → SecondIs (w.sessions node).current time → SecondIs o time)
+      → ((m : ℕ) → SecondHas top (w.sessions node) (w.sessions node).current m → SecondHas top (w.sessions node) o m)
+      → SessionOnward top (w.sessions node) (record (w.sessions node) { clock = n; current = o })
   waits_onward o first time second =
       let a = w.sessions node in
       let b = record a { clock = n; current = o } in
       goes_on top a b refl (λ m k. first_home top a b refl o m (first m k)) time (λ m k. second_home top a b refl o m (second m k))
 
-  pub waits_went : (o : Open) (sends : List Envelope) → Comes w x node (record { state = record (w.sessions node) { clock = n; current = o }; sends = sends })
+  pub waits_went : (o : Open) (sends : List Envelope)
+      → Comes w x node (record { state = record (w.sessions node) { clock = n; current = o }; sends = sends })
       → SessionOnward top (w.sessions node) (record (w.sessions node) { clock = n; current = o })
-      → ((e : Envelope) → Among e sends → SaysLive top x e.from e.to (kind_of e.body)) → OpenLive top x node (record (w.sessions node) { clock = n; current = o }) o
-      → (is_idle (w.sessions node).current ≡ false → is_idle o ≡ false) → Went top w x node (record { state = record (w.sessions node) { clock = n; current = o }; sends = sends })
+      → ((e : Envelope) → Among e sends → SaysLive top x e.from e.to (kind_of e.body))
+      → OpenLive top x node (record (w.sessions node) { clock = n; current = o }) o
+      → (is_idle (w.sessions node).current ≡ false → is_idle o ≡ false) → Went top w x node
+      (record { state = record (w.sessions node) { clock = n; current = o }; sends = sends })
   waits_went o sends c onward f k busy =
       record {
         onward = onward;
@@ -82,7 +89,8 @@ module _ (top : TopologyValue) (w x : Run) (node n : ℕ) (some : 0 < top.shards
       }
 
   -- what is open goes on so
-  open_later : (now o : Open) → ((e : Envelope) → Among e w.sent → Among e x.sent) → OpenLive top w node (w.sessions node) o → OpenLive top x node (record (w.sessions node) { clock = n; current = now }) o
+  open_later : (now o : Open) → ((e : Envelope) → Among e w.sent → Among e x.sent) → OpenLive top w node (w.sessions node) o
+      → OpenLive top x node (record (w.sessions node) { clock = n; current = now }) o
   open_later now Idle f k = tt
   open_later now (Writing coordinator) f k = tt
   open_later now (FirstRound read heard) f k = record { some = k.some; asked = λ shard m. sent_in f (k.asked shard m) }
@@ -96,7 +104,8 @@ module _ (top : TopologyValue) (w x : Run) (node n : ℕ) (some : 0 < top.shards
   -- ## The operation ends
 
   -- it stands in the transcript
-  pub ended_here : (floor : ℕ) (dependencies : List WriterValue) (out : Outcome) (dc : ℕ) (o : Op) → IsOpen w node (w.sessions node).count dc o → Comes w x node (ended n (w.sessions node) floor dependencies out)
+  pub ended_here : (floor : ℕ) (dependencies : List WriterValue) (out : Outcome) (dc : ℕ) (o : Op) → IsOpen w node (w.sessions node).count dc o
+      → Comes w x node (ended n (w.sessions node) floor dependencies out)
       → HasEnded x (record { session = node; number = (w.sessions node).count })
   ended_here floor dependencies out dc o k c =
       let a = w.sessions node in
@@ -105,12 +114,14 @@ module _ (top : TopologyValue) (w x : Run) (node n : ℕ) (some : 0 < top.shards
       let f : Finished = record { number = a.count; outcome = out } in
       let done : Completed = record { node = node; number = a.count; home = s.home; op = s.op; outcome = out } in
       let is : completed_of w.submitted node f ≡ Some done =
-      ap (λ (z : Option Submission). option_map (λ s. record { node = node; number = f.number; home = s.home; op = s.op; outcome = f.outcome }) z) (found top w inv.submitted s t k.among (open_txn k)) in
+      ap (λ (z : Option Submission). option_map (λ s. record { node = node; number = f.number; home = s.home; op = s.op; outcome = f.outcome }) z)
+      (found top w inv.submitted s t k.among (open_txn k)) in
       let new : Among done (filter_map (completed_of w.submitted node) (f ∷ [])) =
       contains_among done _ (given (completed_of w.submitted node) (f ∷ []) f done (among_contains f (f ∷ []) (inl refl)) is) in
       (done, c.ended done (subst (λ fs. Among done (filter_map (completed_of w.submitted node) fs)) (sym (drop-append_seam a.outcomes (f ∷ []))) new), refl)
 
-  pub ended_went : (floor : ℕ) (dependencies : List WriterValue) (out : Outcome) (dc : ℕ) (o : Op) → IsOpen w node (w.sessions node).count dc o → ((k : WriterValue) → Among k dependencies → Placed top x k)
+  pub ended_went : (floor : ℕ) (dependencies : List WriterValue) (out : Outcome) (dc : ℕ) (o : Op) → IsOpen w node (w.sessions node).count dc o
+      → ((k : WriterValue) → Among k dependencies → Placed top x k)
       → Comes w x node (ended n (w.sessions node) floor dependencies out) → Went top w x node (ended n (w.sessions node) floor dependencies out)
   ended_went floor dependencies out dc o k f c =
       record {
@@ -123,7 +134,8 @@ module _ (top : TopologyValue) (w x : Run) (node n : ℕ) (some : 0 < top.shards
       }
 
   -- each writer that a read rests on is named with its coordinator
-  writers_named : (dc time : ℕ) (read : Read) (rows : List RowAt) → AnsweredFrom top w dc read time rows → (k : WriterValue) → Among k (with_writers (w.sessions node).dependencies rows) → Placed top w k
+  writers_named : (dc time : ℕ) (read : Read) (rows : List RowAt) → AnsweredFrom top w dc read time rows → (k : WriterValue)
+      → Among k (with_writers (w.sessions node).dependencies rows) → Placed top w k
   writers_named dc time read rows from k m = go (cases top w some inv rows (w.sessions node).dependencies k m)
     where
       go : Among k (w.sessions node).dependencies ⊎ ((r : RowAt) × Among r rows × Among k r.writers) → Placed top w k
@@ -132,12 +144,15 @@ module _ (top : TopologyValue) (w x : Run) (node n : ℕ) (some : 0 < top.shards
           let v = writer_applied top w some inv (shard_node top dc (shard_of_key top.shards r.key)) time read r (from.right r i) k j in
           subst (λ z. Placed top w z) v.3 (record { submission = v.1.submission; batch = v.1.batch; written = v.1.written; coordinator = v.1.coordinator })
 
-  pub answered_went : (read : Read) (time : ℕ) (rows : List RowAt) → IsOpen w node (w.sessions node).count (w.sessions node).home (op.Read read) → AnsweredFrom top w (w.sessions node).home read time rows
+  pub answered_went : (read : Read) (time : ℕ) (rows : List RowAt) → IsOpen w node (w.sessions node).count (w.sessions node).home (op.Read read)
+      → AnsweredFrom top w (w.sessions node).home read time rows
       → Comes w x node (answered n (w.sessions node) read time rows) → Went top w x node (answered n (w.sessions node) read time rows)
   answered_went read time rows opened from c =
       ended_went time (with_writers (w.sessions node).dependencies rows) (outcome.Read time (answer_of read rows)) (w.sessions node).home (op.Read read) opened
       (λ k m. placed_later c.submitted (writers_named (w.sessions node).home time read rows from k m)) c
 
-  pub given_up_went : (read : Read) → IsOpen w node (w.sessions node).count (w.sessions node).home (op.Read read) → Comes w x node (given_up n (w.sessions node)) → Went top w x node (given_up n (w.sessions node))
+  pub given_up_went : (read : Read) → IsOpen w node (w.sessions node).count (w.sessions node).home (op.Read read)
+      → Comes w x node (given_up n (w.sessions node)) → Went top w x node (given_up n (w.sessions node))
   given_up_went read opened c =
-      ended_went (w.sessions node).floor (w.sessions node).dependencies outcome.Collected (w.sessions node).home (op.Read read) opened (λ k m. placed_later c.submitted (placed k m)) c
+      ended_went (w.sessions node).floor (w.sessions node).dependencies outcome.Collected (w.sessions node).home (op.Read read) opened
+      (λ k m. placed_later c.submitted (placed k m)) c

@@ -14,7 +14,7 @@ use Rattle.world.proofs.Invariant.{Inv}
 use Rattle.world.proofs.Ables.{unbegun, unprepared, undecided}
 use Rattle.world.proofs.StampsApart.{written_at, batch_one}
 use Rattle.world.proofs.About.{OfYes}
-use Rattle.world.proofs.Underway.{HasBallot, HasDecision, Known, vote_of, Aside, Away, AtOrigin, Leads, Onward, RoleLive, Entries, EarlyCounted, ShardLive, Acted}
+use Rattle.world.proofs.Underway.{EarlyLive, HasBallot, HasDecision, Known, vote_of, Aside, Away, AtOrigin, Leads, Onward, RoleLive, Entries, EarlyCounted, ShardLive, Acted}
 use Rattle.world.proofs.LiveGrow.{decision_on, shard_on}
 use Rattle.world.proofs.LivePlaces.{not_and, txn_split, vote_from, all_voted_from, known_cases, lead_beside, away_origin, among_cohorts}
 use Rattle.world.proofs.LiveSteps.{Here, Left, quiet_left, Rounds, BallotAt, ballot_at}
@@ -176,7 +176,7 @@ module _ (top : TopologyValue) (w x : Run) (node n : ℕ) (some : 0 < top.shards
                         ballots = k.ballots;
                         kept_parts = k.kept_parts;
                         kept_ballots = k.kept_ballots;
-                        early = λ v m. elim (last_or_old v (vote_of t from) (w.shards node).early m) [ inl o ↦ k.early v o | inr q ↦ subst (λ z. AtOrigin top x node z.txn) (sym q) origin ];
+                        early = λ v m. elim (last_or_old v (vote_of t from) (w.shards node).early m) [ inl o ↦ k.early v o | inr q ↦ subst (λ z. EarlyLive top x node z) (sym q) (origin, leads) ];
                         votes = k.votes;
                         notices = k.notices;
                         decided = k.decided;

@@ -18,7 +18,8 @@ all_false : {X : Type 0} (p : X → Bool) (xs : List X) → list_all p xs ≡ fa
 all_false p [] e = absurd (false≢true (sym e))
 all_false {X} p (y ∷ ys) e = go (p y) refl e (all_false p ys)
   where
-    go : (b : Bool) → p y ≡ b → (b && list_all p ys) ≡ false → (list_all p ys ≡ false → (x : X) × Among x ys × (p x ≡ false)) → (x : X) × ((x ≡ y) ⊎ Among x ys) × (p x ≡ false)
+    go : (b : Bool) → p y ≡ b → (b && list_all p ys) ≡ false → (list_all p ys ≡ false → (x : X) × Among x ys × (p x ≡ false))
+        → (x : X) × ((x ≡ y) ⊎ Among x ys) × (p x ≡ false)
     go false q h ih = (y, inl refl, q)
     go true q h ih = let r = ih h in (r.0, inr r.1, r.2)
 
@@ -51,46 +52,54 @@ pub first_missing : (asked : List ℕ) (node : ℕ) → Among node asked → is_
 first_missing asked node m = and_from (list_any (λ s. s == node) asked) (not (was_heard [] node)) (asks asked node m) refl
 
 -- what is missing after one more answer was missing before
-pub missing_before : (asked : List ℕ) (heard : List HeardNow) (h : HeardNow) (node : ℕ) → is_missing asked (heard ++ h ∷ []) node ≡ true → is_missing asked heard node ≡ true
+pub missing_before : (asked : List ℕ) (heard : List HeardNow) (h : HeardNow) (node : ℕ) → is_missing asked (heard ++ h ∷ []) node ≡ true
+    → is_missing asked heard node ≡ true
 missing_before asked heard h node e =
     let p = and_parts (list_any (λ s. s == node) asked) (not (was_heard (heard ++ h ∷ []) node)) e in
     and_from (list_any (λ s. s == node) asked) (not (was_heard heard node)) p.0
     (not_either (was_heard heard node) (was_heard (h ∷ []) node) (ap not (sym (list_any-append (λ h. h.from == node) heard (h ∷ []))) ∙ p.1))
 
-pub heard_after : (asked : List ℕ) (heard : List HeardNow) (h : HeardNow) (node : ℕ) → is_missing asked heard node ≡ false → is_missing asked (heard ++ h ∷ []) node ≡ false
+pub heard_after : (asked : List ℕ) (heard : List HeardNow) (h : HeardNow) (node : ℕ) → is_missing asked heard node ≡ false
+    → is_missing asked (heard ++ h ∷ []) node ≡ false
 heard_after asked heard h node e = unless (is_missing asked heard node) (is_missing asked (heard ++ h ∷ []) node) (missing_before asked heard h node) e
 
 -- the one that answers is no longer missing
-pub heard_now_has : (asked : List ℕ) (heard : List HeardNow) (h : HeardNow) (node : ℕ) → h.from ≡ node → is_missing asked (heard ++ h ∷ []) node ≡ false
+pub heard_now_has : (asked : List ℕ) (heard : List HeardNow) (h : HeardNow) (node : ℕ) → h.from ≡ node
+    → is_missing asked (heard ++ h ∷ []) node ≡ false
 heard_now_has asked heard h node e =
     let q : was_heard (heard ++ h ∷ []) node ≡ true = any_among (λ h. h.from == node) (heard ++ h ∷ []) h (among_last h heard) (eq-eqb h.from node e) in
     ap (λ b. list_any (λ s. s == node) asked && not b) q ∙ and_false (list_any (λ s. s == node) asked)
 
 -- ## The second round
 
-pub missing_at_some : (asked : List ℕ) (time : ℕ) (first : List HeardNow) (heard : List HeardAt) → all_heard_at asked time first heard ≡ false → (node : ℕ) × (is_missing_at asked time first heard node ≡ true)
+pub missing_at_some : (asked : List ℕ) (time : ℕ) (first : List HeardNow) (heard : List HeardAt) → all_heard_at asked time first heard ≡ false
+    → (node : ℕ) × (is_missing_at asked time first heard node ≡ true)
 missing_at_some asked time first heard e =
     let late = late_nodes asked time first in
     let r = all_false (was_heard_at heard) late e in
     (r.0, and_from (list_any (λ s. s == r.0) late) (not (was_heard_at heard r.0)) (asks late r.0 r.1) (ap not r.2))
 
 -- at its begin all of its shards are missing
-pub late_missing : (asked : List ℕ) (time : ℕ) (first : List HeardNow) (node : ℕ) → Among node (late_nodes asked time first) → is_missing_at asked time first [] node ≡ true
+pub late_missing : (asked : List ℕ) (time : ℕ) (first : List HeardNow) (node : ℕ) → Among node (late_nodes asked time first)
+    → is_missing_at asked time first [] node ≡ true
 late_missing asked time first node m =
     and_from (list_any (λ s. s == node) (late_nodes asked time first)) (not (was_heard_at [] node)) (asks (late_nodes asked time first) node m) refl
 
-pub missing_at_before : (asked : List ℕ) (time : ℕ) (first : List HeardNow) (heard : List HeardAt) (h : HeardAt) (node : ℕ) → is_missing_at asked time first (heard ++ h ∷ []) node ≡ true → is_missing_at asked time first heard node ≡ true
+pub missing_at_before : (asked : List ℕ) (time : ℕ) (first : List HeardNow) (heard : List HeardAt) (h : HeardAt) (node : ℕ)
+    → is_missing_at asked time first (heard ++ h ∷ []) node ≡ true → is_missing_at asked time first heard node ≡ true
 missing_at_before asked time first heard h node e =
     let late = late_nodes asked time first in
     let p = and_parts (list_any (λ s. s == node) late) (not (was_heard_at (heard ++ h ∷ []) node)) e in
     and_from (list_any (λ s. s == node) late) (not (was_heard_at heard node)) p.0
     (not_either (was_heard_at heard node) (was_heard_at (h ∷ []) node) (ap not (sym (list_any-append (λ h. h.from == node) heard (h ∷ []))) ∙ p.1))
 
-pub heard_at_after : (asked : List ℕ) (time : ℕ) (first : List HeardNow) (heard : List HeardAt) (h : HeardAt) (node : ℕ) → is_missing_at asked time first heard node ≡ false → is_missing_at asked time first (heard ++ h ∷ []) node ≡ false
+pub heard_at_after : (asked : List ℕ) (time : ℕ) (first : List HeardNow) (heard : List HeardAt) (h : HeardAt) (node : ℕ)
+    → is_missing_at asked time first heard node ≡ false → is_missing_at asked time first (heard ++ h ∷ []) node ≡ false
 heard_at_after asked time first heard h node e =
     unless (is_missing_at asked time first heard node) (is_missing_at asked time first (heard ++ h ∷ []) node) (missing_at_before asked time first heard h node) e
 
-pub heard_at_has : (asked : List ℕ) (time : ℕ) (first : List HeardNow) (heard : List HeardAt) (h : HeardAt) (node : ℕ) → h.from ≡ node → is_missing_at asked time first (heard ++ h ∷ []) node ≡ false
+pub heard_at_has : (asked : List ℕ) (time : ℕ) (first : List HeardNow) (heard : List HeardAt) (h : HeardAt) (node : ℕ) → h.from ≡ node
+    → is_missing_at asked time first (heard ++ h ∷ []) node ≡ false
 heard_at_has asked time first heard h node e =
     let late = late_nodes asked time first in
     let q : was_heard_at (heard ++ h ∷ []) node ≡ true = any_among (λ h. h.from == node) (heard ++ h ∷ []) h (among_last h heard) (eq-eqb h.from node e) in
@@ -107,7 +116,8 @@ first_home top a b e (Writing coordinator) node k = tt
 first_home top a b e (FirstRound read heard) node k = subst (λ asked. is_missing asked heard node ≡ false) (asked_home top a b read e) k
 first_home top a b e (SecondRound read time first heard) node k = tt
 
-pub second_home : (top : TopologyValue) (a b : SessionState) → b.home ≡ a.home → (o : Open) (node : ℕ) → SecondHas top a o node → SecondHas top b o node
+pub second_home : (top : TopologyValue) (a b : SessionState) → b.home ≡ a.home → (o : Open) (node : ℕ) → SecondHas top a o node
+    → SecondHas top b o node
 second_home top a b e Idle node k = tt
 second_home top a b e (Writing coordinator) node k = tt
 second_home top a b e (FirstRound read heard) node k = k
@@ -115,8 +125,10 @@ second_home top a b e (SecondRound read time first heard) node k =
     subst (λ asked. is_missing_at asked time first heard node ≡ false) (asked_home top a b read e) k
 
 -- the same operation goes on, or has ended
-pub goes_on : (top : TopologyValue) (a b : SessionState) → b.count ≡ a.count → ((node : ℕ) → FirstHas top a a.current node → FirstHas top b b.current node)
-    → ((time : ℕ) → SecondIs a.current time → SecondIs b.current time) → ((node : ℕ) → SecondHas top a a.current node → SecondHas top b b.current node) → SessionOnward top a b
+pub goes_on : (top : TopologyValue) (a b : SessionState) → b.count ≡ a.count
+    → ((node : ℕ) → FirstHas top a a.current node → FirstHas top b b.current node)
+    → ((time : ℕ) → SecondIs a.current time → SecondIs b.current time)
+    → ((node : ℕ) → SecondHas top a a.current node → SecondHas top b b.current node) → SessionOnward top a b
 goes_on top a b e first time second =
     record {
       count = subst (λ c. a.count ≤ c) (sym e) (le_refl a.count);

@@ -27,16 +27,19 @@ pub record Seats (top : TopologyValue) (w : Run) : Type 0 where
 
 -- ## What was handled
 
-one_number : (x : Event) (k : ℕ) (o : Option ℕ) → number_delivered x ≡ o → Among k (filter_map number_delivered (x ∷ [])) → number_delivered x ≡ Some k
+one_number : (x : Event) (k : ℕ) (o : Option ℕ) → number_delivered x ≡ o → Among k (filter_map number_delivered (x ∷ []))
+    → number_delivered x ≡ Some k
 one_number (Submit session o) k n e m = absurd m
 one_number (Deliver j) k n e (inl q) = ap Some (sym q)
 one_number (Deliver j) k n e (inr m) = absurd m
 one_number (Collect shard time) k n e m = absurd m
 
 -- after one more event: what was handled before, and what it delivers
-pub handled_more : (events : List Event) (x : Event) (k : ℕ) → Among k (filter_map number_delivered (events ++ x ∷ [])) → Among k (filter_map number_delivered events) ⊎ (number_delivered x ≡ Some k)
+pub handled_more : (events : List Event) (x : Event) (k : ℕ) → Among k (filter_map number_delivered (events ++ x ∷ []))
+    → Among k (filter_map number_delivered events) ⊎ (number_delivered x ≡ Some k)
 handled_more events x k m =
-    elim (among_append k (filter_map number_delivered events) (filter_map number_delivered (x ∷ [])) (subst (λ l. Among k l) (filter_map-append number_delivered events (x ∷ [])) m)) [
+    elim (among_append k (filter_map number_delivered events) (filter_map number_delivered (x ∷ []))
+    (subst (λ l. Among k l) (filter_map-append number_delivered events (x ∷ [])) m)) [
       | inl o ↦ inl o
       | inr n ↦ inr (one_number x k _ refl n)
     ]
@@ -50,7 +53,8 @@ get_front [] ys k x lt e = absurd (omega arith)
 get_front (z ∷ xs) ys zero x lt e = e
 get_front (z ∷ xs) ys (suc k) x lt e = get_front xs ys k x (omega arith) e
 
-handled_go : (w : Run) (x : Event) (sends : List Envelope) → ((k : ℕ) → Among k (handled w) → k < length w.sent) → ((k : ℕ) → number_delivered x ≡ Some k → k < length w.sent)
+handled_go : (w : Run) (x : Event) (sends : List Envelope) → ((k : ℕ) → Among k (handled w) → k < length w.sent)
+    → ((k : ℕ) → number_delivered x ≡ Some k → k < length w.sent)
     → (k : ℕ) → Among k (filter_map number_delivered (w.events ++ x ∷ [])) → k < length (w.sent ++ sends)
 handled_go w x sends old new k m =
     let le = more_sent w.sent sends in
@@ -62,7 +66,8 @@ handled_go w x sends old new k m =
 -- ## Steps
 
 module _ (top : TopologyValue) (w : Run) (k : Seats top w) where
-  shard_seats : (s : Result ShardStep Fault) (x : Event) (node : ℕ) → is_shard top node ≡ true → ((j : ℕ) → number_delivered x ≡ Some j → j < length w.sent) → Seats top (after_shard s w x node)
+  shard_seats : (s : Result ShardStep Fault) (x : Event) (node : ℕ) → is_shard top node ≡ true
+      → ((j : ℕ) → number_delivered x ≡ Some j → j < length w.sent) → Seats top (after_shard s w x node)
   shard_seats (Err e) x node is sent = k
   shard_seats (Ok s) x node is sent =
       record {
@@ -76,11 +81,13 @@ module _ (top : TopologyValue) (w : Run) (k : Seats top w) where
       go m false q e = k.shards m e
       go m true q e = absurd (false≢true (sym e ∙ ap (is_shard top) (eqb-true m node q) ∙ is))
 
-  session_go : (a : SessionState) (node m : ℕ) → is_session top node ≡ true → (b : Bool) → (m == node) ≡ b → is_session top m ≡ false → (cond b a (w.sessions m)).current ≡ Idle
+  session_go : (a : SessionState) (node m : ℕ) → is_session top node ≡ true → (b : Bool) → (m == node) ≡ b → is_session top m ≡ false
+      → (cond b a (w.sessions m)).current ≡ Idle
   session_go a node m is false q e = k.sessions m e
   session_go a node m is true q e = absurd (false≢true (sym e ∙ ap (is_session top) (eqb-true m node q) ∙ is))
 
-  session_seats : (s : Result SessionStep Fault) (x : Event) (node : ℕ) → is_session top node ≡ true → ((j : ℕ) → number_delivered x ≡ Some j → j < length w.sent) → Seats top (after_session s w x node)
+  session_seats : (s : Result SessionStep Fault) (x : Event) (node : ℕ) → is_session top node ≡ true
+      → ((j : ℕ) → number_delivered x ≡ Some j → j < length w.sent) → Seats top (after_session s w x node)
   session_seats (Err e) x node is sent = k
   session_seats (Ok s) x node is sent =
       record {
@@ -100,7 +107,8 @@ module _ (top : TopologyValue) (w : Run) (k : Seats top w) where
         submitted = λ b m. elim (last_or_old b _ w.submitted m) [ inl i ↦ k.submitted b i | inr q ↦ ap (λ z. is_session top z.session) q ∙ is ];
       }
 
-  deliver_seats : (shard session : Bool) (j : ℕ) (e : Envelope) → is_shard top e.to ≡ shard → is_session top e.to ≡ session → slice_get w.sent j ≡ Some e → Seats top (deliver_if shard session top w (Deliver j) e)
+  deliver_seats : (shard session : Bool) (j : ℕ) (e : Envelope) → is_shard top e.to ≡ shard → is_session top e.to ≡ session
+      → slice_get w.sent j ≡ Some e → Seats top (deliver_if shard session top w (Deliver j) e)
   deliver_seats false false j e q r is = k
   deliver_seats false true j e q r is =
       session_seats (session_handle top e.to (w.sessions e.to) e) (Deliver j) e.to r

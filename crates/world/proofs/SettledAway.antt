@@ -25,7 +25,8 @@ use Rattle.world.proofs.Settling.{each_or, act, cohort_undecided, known_decided,
 module _ (top : TopologyValue) (w : Run) (some : 0 < top.shards) (inv : Inv top w) (live : Live top w) (quiet : IsQuiet w)
     (b : Submission) (batch : List Change) (k : IsWritten w (txn_of b) b batch) (dc : ℕ) (lt : dc < top.dcs) (ne : dc ≡ b.home → ⊥)
     -- what it depends on is decided in this data centre
-    (before : (u : WriterValue) → Among u b.dependencies → (c : Submission) (other : List Change) → IsWritten w u.txn c other → HasDecision (w.shards (lead top dc other)) u.txn) where
+    (before : (u : WriterValue) → Among u b.dependencies → (c : Submission) (other : List Change) → IsWritten w u.txn c other → HasDecision
+    (w.shards (lead top dc other)) u.txn) where
   abbrev t : TxnValue
   t = txn_of b
 
@@ -60,7 +61,8 @@ module _ (top : TopologyValue) (w : Run) (some : 0 < top.shards) (inv : Inv top 
       let l = (live.shards s0).entries.decided d.0 d.1 in
       let one = submitted_one inv.submitted (written_at d.2 l.written) k in
       let sent = l.copies (dc_home ∙ ap (λ z. z.home) (sym one)) dc (other s0 dc_home) in
-      let number : shard_of top s0 ≡ coordinator_of top.shards batch = number_of_shard top b.home (coordinator_of top.shards batch) (coordinator_below top.shards batch some) in
+      let number : shard_of top s0 ≡ coordinator_of top.shards batch = number_of_shard top b.home (coordinator_of top.shards batch)
+      (coordinator_below top.shards batch some) in
       act top w some inv live quiet s0 s (OfReplBegin t) (subst₂ (λ n u. Sent w.sent s0 (shard_node top dc n) (OfReplBegin u)) number d.2 sent)
 
   -- ## Each cohort's notice
@@ -115,7 +117,8 @@ module _ (top : TopologyValue) (w : Run) (some : 0 < top.shards) (inv : Inv top 
     part_notice (inr (inl (r, i, e))) =
         let rs = (inv.shards c1).kept_ballots r i in
         let same = batch_one inv.submitted (written_at e rs.written) k in
-        absurd (cohort_other top.shards batch (shard_of top c1) cohort_here (lead_number top c1 (dc_of top c1) rs.batch some rs.here ∙ ap (coordinator_of top.shards) same))
+        absurd (cohort_other top.shards batch (shard_of top c1) cohort_here (lead_number top c1 (dc_of top c1) rs.batch some rs.here ∙ ap
+        (coordinator_of top.shards) same))
     part_notice (inr (inr (inr d))) = absurd (cohort_undecided top w some inv live quiet c1 t b batch k cohort_here d)
     part_notice (inr (inr (inl (p, i, e)))) =
         let ps = (inv.shards c1).prepared p i in
@@ -143,7 +146,8 @@ module _ (top : TopologyValue) (w : Run) (some : 0 < top.shards) (inv : Inv top 
 
   -- ## Each dependency's answer
 
-  met : (r : KeptBallot) → Among r (w.shards s).kept_ballots → (u : WriterValue) → Among u r.dependencies → Among u b.dependencies → Among (met_of r.txn u.txn) (w.shards s).met
+  met : (r : KeptBallot) → Among r (w.shards s).kept_ballots → (u : WriterValue) → Among u r.dependencies → Among u b.dependencies
+      → Among (met_of r.txn u.txn) (w.shards s).met
   met r m u i j =
       let p = (live.submitted b batch k.among k.op).dependencies u j in
       let s' = near top s u.shard in
@@ -168,7 +172,8 @@ module _ (top : TopologyValue) (w : Run) (some : 0 < top.shards) (inv : Inv top 
       elim (each_or r.cohorts (λ c m. notice c (subst (λ l. Among c l) cs m))) [
         | inl all ↦
             subst (λ u. Known (w.shards s) u) e
-            ((live.shards s).ready r i (λ c m. subst (λ u. Among (vote_of u (near top s c)) (w.shards s).notices) (sym e) (all c m)) (λ u m. met r i u m (subst (λ l. Among u l) ds m)))
+            ((live.shards s).ready r i (λ c m. subst (λ u. Among (vote_of u (near top s c)) (w.shards s).notices) (sym e) (all c m))
+            (λ u m. met r i u m (subst (λ l. Among u l) ds m)))
         | inr y ↦ y
       ]
 

@@ -10,7 +10,7 @@ use Rattle.messages.specs.declared.body.Body.TheVariants.{DepOk}
 use Rattle.messages.specs.declared.op.Op.TheVariants as op
 use Rattle.messages.specs.Topology.{TopologyValue, dc_of, shard_of, shard_node}
 use Rattle.messages.specs.Words.{is_same_txn}
-use Rattle.messages.specs.Shard.{ShardState, Role, Own, Cohort, Replica, PreparedPart, KeptPart, KeptBallot, Asker, WaitingRead}
+use Rattle.messages.specs.Shard.{Vote, ShardState, Role, Own, Cohort, Replica, PreparedPart, KeptPart, KeptBallot, Asker, WaitingRead}
 use Rattle.messages.specs.Known.{decision_of, is_applied}
 use Rattle.messages.proofs.Numbering.{shard_again}
 use Rattle.world.specs.Run.{Run, Submission}
@@ -35,11 +35,16 @@ has_decided a t d = go (decision_of t a) refl
   where
     go : (o : Option _) → decision_of t a ≡ o → is_some o ≡ true
     go (Some e) q = refl
-    go None q = absurd (false≢true (sym (any_false (λ e. is_same_txn e.txn t) a.decided (find_none (λ e. is_same_txn e.txn t) a.decided q) d.0 d.1) ∙ ap (λ u. is_same_txn u t) d.2 ∙ same_txn_self t))
+    go None q = absurd (false≢true (sym (any_false (λ e. is_same_txn e.txn t) a.decided
+        (find_none (λ e. is_same_txn e.txn t) a.decided q) d.0 d.1) ∙ ap (λ u. is_same_txn u t) d.2 ∙ same_txn_self t))
 
 -- a message about an answered dependency is that answer
 dep_ok_is : (b : Body) (dependency waiter : TxnValue) → kind_of b ≡ OfDepOk dependency waiter → (commit : ℕ) × (b ≡ DepOk dependency waiter commit)
-dep_ok_is (DepOk t u commit) dependency waiter e = let a : t ≡ dependency = cc in let c : u ≡ waiter = cc in (commit, subst₂ (λ x y. DepOk t u commit ≡ DepOk x y commit) a c refl)
+dep_ok_is (DepOk t u commit) dependency waiter e = let a : t ≡ dependency = cc in let c : u ≡ waiter = cc in (
+  commit,
+  subst₂
+      (λ x y. DepOk t u commit ≡ DepOk x y commit) a c refl,
+)
 dep_ok_is _ dependency waiter e = absurd (cc)
 
 nothing : {X : Type 0} (xs : List X) → ((x : X) → Among x xs → ⊥) → xs ≡ []
@@ -54,14 +59,17 @@ module _ (top : TopologyValue) (w : Run) (some : 0 < top.shards) (inv : Inv top 
     abbrev DecidedHere : Submission → Type 0
     DecidedHere b = (batch : List Change) → b.op ≡ op.Batch batch → HasDecision (w.shards (lead top dc batch)) (txn_of b)
 
-    one_decided : (before : List Submission) → ((c : Submission) → Among c before → Among c w.submitted) → ((c : Submission) → Among c before → DecidedHere c)
-        → (b : Submission) → Among b w.submitted → ((k : WriterValue) → Among k b.dependencies → (c : Submission) × Among c before × (txn_of c ≡ k.txn)) → DecidedHere b
+    one_decided : (before : List Submission) → ((c : Submission) → Among c before → Among c w.submitted)
+        → ((c : Submission) → Among c before → DecidedHere c)
+        → (b : Submission) → Among b w.submitted
+        → ((k : WriterValue) → Among k b.dependencies → (c : Submission) × Among c before × (txn_of c ≡ k.txn)) → DecidedHere b
     one_decided before old done b m earlier batch e = go (cases_eq dc b.home)
       where
         k : IsWritten w (txn_of b) b batch
         k = record { among = m; txn = refl; op = e }
 
-        depends : (u : WriterValue) → Among u b.dependencies → (c : Submission) (other : List Change) → IsWritten w u.txn c other → HasDecision (w.shards (lead top dc other)) u.txn
+        depends : (u : WriterValue) → Among u b.dependencies → (c : Submission) (other : List Change) → IsWritten w u.txn c other
+            → HasDecision (w.shards (lead top dc other)) u.txn
         depends u i c other j =
             let r = earlier u i in
             let same : c ≡ r.0 = inv.submitted.one c r.0 j.among (old r.0 r.1) (j.txn ∙ sym r.2) in
@@ -71,7 +79,8 @@ module _ (top : TopologyValue) (w : Run) (some : 0 < top.shards) (inv : Inv top 
         go (inl q) = subst (λ d. HasDecision (w.shards (lead top d batch)) (txn_of b)) (sym q) (home_decided top w some inv live quiet (txn_of b) b batch k)
         go (inr ne) = decided_here top w some inv live quiet b batch k dc lt ne depends
 
-    all_decided : (before rest : List Submission) → ((c : Submission) → Among c before → Among c w.submitted) → ((c : Submission) → Among c rest → Among c w.submitted)
+    all_decided : (before rest : List Submission) → ((c : Submission) → Among c before → Among c w.submitted)
+        → ((c : Submission) → Among c rest → Among c w.submitted)
         → ((c : Submission) → Among c before → DecidedHere c) → Earlier before rest → (b : Submission) → Among b rest → DecidedHere b
     all_decided before [] old new done e b m = absurd m
     all_decided before (c ∷ cs) old new done e b (inl q) = subst DecidedHere (sym q) (one_decided before old done c (new c (inl refl)) e.0)
@@ -82,7 +91,8 @@ module _ (top : TopologyValue) (w : Run) (some : 0 < top.shards) (inv : Inv top 
         (λ u i. elim (last_or_old u c before i) [ inl o ↦ done u o | inr q ↦ subst DecidedHere (sym q) (one_decided before old done c (new c (inl refl)) e.0) ])
         e.1 b n
 
-  pub each_decided : (t : TxnValue) (b : Submission) (batch : List Change) → IsWritten w t b batch → (dc : ℕ) → dc < top.dcs → HasDecision (w.shards (lead top dc batch)) t
+  pub each_decided : (t : TxnValue) (b : Submission) (batch : List Change) → IsWritten w t b batch → (dc : ℕ) → dc < top.dcs
+      → HasDecision (w.shards (lead top dc batch)) t
   each_decided t b batch k dc lt =
       subst (λ u. HasDecision (w.shards (lead top dc batch)) u) k.txn
       (all_decided dc lt [] w.submitted (λ c m. absurd m) (λ c m. m) (λ c m. absurd m) live.earlier b k.among batch k.op)
@@ -91,16 +101,19 @@ module _ (top : TopologyValue) (w : Run) (some : 0 < top.shards) (inv : Inv top 
   leader_decided node t l lt = subst (λ z. HasDecision (w.shards z) t) (sym l.here) (each_decided t l.submission l.batch l.written (dc_of top node) lt)
 
   -- each cohort in each data centre has applied its part
-  pub aside_applied : (node : ℕ) (t : TxnValue) (b : Submission) (batch : List Change) → IsWritten w t b batch → Among (shard_of top node) (cohorts_of top.shards batch) → dc_of top node < top.dcs → Sees (w.shards node).applied t
+  pub aside_applied : (node : ℕ) (t : TxnValue) (b : Submission) (batch : List Change) → IsWritten w t b batch
+      → Among (shard_of top node) (cohorts_of top.shards batch) → dc_of top node < top.dcs → Sees (w.shards node).applied t
   aside_applied node t b batch k m lt =
       let l = lead top (dc_of top node) batch in
-      let to : near top l (shard_of top node) ≡ node = ap (λ d. shard_node top d (shard_of top node)) (lead_dc top (dc_of top node) batch some) ∙ shard_again top node in
+      let to : near top l (shard_of top node) ≡ node = ap (λ d. shard_node top d (shard_of top node))
+      (lead_dc top (dc_of top node) batch some) ∙ shard_again top node in
       subst (λ z. Sees (w.shards z).applied t) to
       (cohort_applied top w some inv live quiet l t b batch k (each_decided t b batch k (dc_of top node) lt) (shard_of top node) m)
 
   -- ## What a shard kept
 
-  prepared_go : (r : Role) (node c : ℕ) (t : TxnValue) (b : Submission) (batch : List Change) → IsWritten w t b batch → RoleFits r top batch node → RoleLive r w node c t → (r ≡ Cohort → dc_of top node ≡ b.home) → Sees (w.shards node).applied t
+  prepared_go : (r : Role) (node c : ℕ) (t : TxnValue) (b : Submission) (batch : List Change) → IsWritten w t b batch → RoleFits r top batch node
+      → RoleLive r w node c t → (r ≡ Cohort → dc_of top node ≡ b.home) → Sees (w.shards node).applied t
   prepared_go Own node c t b batch k fits (u, i, e) home =
       let d = ballot_decided top w some inv live quiet node u i in
       let v = ((inv.shards node).decided d.0 d.1).applied in
@@ -130,12 +143,30 @@ module _ (top : TopologyValue) (w : Run) (some : 0 < top.shards) (inv : Inv top 
   kept_decided : (node : ℕ) (r : KeptBallot) → Among r (w.shards node).kept_ballots → HasDecision (w.shards node) r.txn
   kept_decided node r m =
       let rs = (inv.shards node).kept_ballots r m in
-      leader_decided node r.txn (record { submission = rs.submission; batch = rs.batch; written = rs.written; here = rs.here }) ((live.shards node).entries.kept_ballots r m).here
+      leader_decided node r.txn (record { submission = rs.submission; batch = rs.batch; written = rs.written; here = rs.here })
+      ((live.shards node).entries.kept_ballots r m).here
 
   asked_decided : (node : ℕ) (k : Asker) → Among k (w.shards node).askers → HasDecision (w.shards node) k.dependency
   asked_decided node k m =
       let a = (live.shards node).entries.askers k m in
       leader_decided node k.dependency a.leads a.here
+
+  early_decided : (node : ℕ) (v : Vote) → Among v (w.shards node).early → HasDecision (w.shards node) v.txn
+  early_decided node v m =
+      let e = (live.shards node).entries.early v m in
+      let o = e.0 in
+      leader_decided node v.txn e.1 (subst (λ d. d < top.dcs) (sym o.here) (live.submitted o.submission o.batch o.written.among o.written.op).home)
+
+  voted_decided : (node : ℕ) (v : Vote) → Among v (w.shards node).votes → HasDecision (w.shards node) v.txn
+  voted_decided node v m =
+      let u = (live.shards node).entries.votes v m in
+      let d = ballot_decided top w some inv live quiet node u.0 u.1 in
+      (d.0, d.1, d.2 ∙ u.2)
+
+  noticed_decided : (node : ℕ) (v : Vote) → Among v (w.shards node).notices → HasDecision (w.shards node) v.txn
+  noticed_decided node v m =
+      let e = (live.shards node).entries.notices v m in
+      leader_decided node v.txn e.1 (subst (λ d. d < top.dcs) e.2 ((live.shards v.node).entries.kept_parts e.0.0 e.0.1).here)
 
   was_answered : (node : ℕ) (k : Asker) → Among k (w.shards node).askers → WasAnswered w node k
   was_answered node k m =
@@ -152,6 +183,9 @@ module _ (top : TopologyValue) (w : Run) (some : 0 < top.shards) (inv : Inv top 
         ballots = λ u c. has_decided a u.txn (ballot_decided top w some inv live quiet node u (contains_among u a.ballots c));
         kept_parts = λ p c. sees_applied a p.txn (kept_applied node p (contains_among p a.kept_parts c));
         kept_ballots = λ r c. has_decided a r.txn (kept_decided node r (contains_among r a.kept_ballots c));
+        early = λ v c. has_decided a v.txn (early_decided node v (contains_among v a.early c));
+        votes = λ v c. has_decided a v.txn (voted_decided node v (contains_among v a.votes c));
+        notices = λ v c. has_decided a v.txn (noticed_decided node v (contains_among v a.notices c));
         askers = λ k c. has_decided a k.dependency (asked_decided node k (contains_among k a.askers c));
         answered = λ k c. was_answered node k (contains_among k a.askers c);
         waiting = nothing a.waiting (no_wait node);

@@ -36,7 +36,8 @@ none_both q h g x into e n =
     let some = d.3 in
     cc
 
-one_newest : (q : Change → Bool) (h g : History) (x y : Stamped) → HasStamped q h g → HasStamped q g h → OneEach h → IsNewest q h x → IsNewest q g y → x.mutation ≡ y.mutation
+one_newest : (q : Change → Bool) (h g : History) (x y : Stamped) → HasStamped q h g → HasStamped q g h → OneEach h → IsNewest q h x → IsNewest q g y
+    → x.mutation ≡ y.mutation
 one_newest q h g x y into back one n k =
     let d = into n.entry x.mutation n.among n.mutation in
     let c = back k.entry y.mutation k.among k.mutation in
@@ -51,7 +52,8 @@ same_mutation : (q : Change → Bool) (h g : History) → HasStamped q h g → H
     → option_map (λ (s : Stamped). s.mutation) (newest_of q h) ≡ option_map (λ (s : Stamped). s.mutation) (newest_of q g)
 same_mutation q h g into back one = go (newest_of q h) (newest_of q g) refl refl
   where
-    go : (a b : Option Stamped) → newest_of q h ≡ a → newest_of q g ≡ b → option_map (λ (s : Stamped). s.mutation) a ≡ option_map (λ (s : Stamped). s.mutation) b
+    go : (a b : Option Stamped) → newest_of q h ≡ a → newest_of q g ≡ b
+        → option_map (λ (s : Stamped). s.mutation) a ≡ option_map (λ (s : Stamped). s.mutation) b
     go None None e f = refl
     go (Some x) None e f = absurd (none_both q h g x into f (newest_some q h x e))
     go None (Some y) e f = absurd (none_both q g h y back e (newest_some q g y f))
@@ -59,10 +61,12 @@ same_mutation q h g into back one = go (newest_of q h) (newest_of q g) refl refl
 
 -- ## A transaction has one stamp, in all data centres
 
-stamp_at : {top : TopologyValue} {w : Run} {b c : Submission} {batch other : List Change} {s : StampValue} → b ≡ c → batch ≡ other → IsStamp top w b batch s → IsStamp top w c other s
+stamp_at : {top : TopologyValue} {w : Run} {b c : Submission} {batch other : List Change} {s : StampValue} → b ≡ c → batch ≡ other
+    → IsStamp top w b batch s → IsStamp top w c other s
 stamp_at {top} {w} {b} {c} {batch} {other} {s} p q k = subst (λ z. IsStamp top w z other s) p (subst (λ z. IsStamp top w b z s) q k)
 
-one_stamp_of : (top : TopologyValue) (w : Run) → Inv top w → (b : Submission) (batch : List Change) (s u : StampValue) → IsStamp top w b batch s → IsStamp top w b batch u → s ≡ u
+one_stamp_of : (top : TopologyValue) (w : Run) → Inv top w → (b : Submission) (batch : List Change) (s u : StampValue) → IsStamp top w b batch s
+    → IsStamp top w b batch u → s ≡ u
 one_stamp_of top w inv b batch s u k h =
     let sound = (inv.shards (lead top b.home batch)).decided h.decided.decision h.decided.among in
     let same = sound.one k.decided.decision k.decided.among (k.decided.txn ∙ sym h.decided.txn) in
@@ -88,7 +92,8 @@ module _ (top : TopologyValue) (w : Run) (inv : Inv top w) (time : ℕ) (l : Loc
       let stamp = one_stamp_of top w inv from.submission from.batch d.0.stamp k.decision.stamp (stamp_at b batch to.sound.stamp) from.stamp in
       let r = entry d.0 to.sound.batch in
       let in_there = entry_among top w inv other d.0 there to in
-      let in_g : Among r g = contains_among r g (Contains-permutation (history_of top w other) g r (IsPermutation-sym g (history_of top w other) was) (among_contains r (history_of top w other) in_there)) in
+      let in_g : Among r g = contains_among r g (Contains-permutation (history_of top w other) g r (IsPermutation-sym g (history_of top w other) was)
+      (among_contains r (history_of top w other) in_there)) in
       let le = early r in_g in
       let low : nat_le r.commit time ≡ true = grind (arith, nat_tests) in (
         r,
@@ -99,7 +104,8 @@ module _ (top : TopologyValue) (w : Run) (inv : Inv top w) (time : ℕ) (l : Loc
 
   one_by : (dc : ℕ) (h : History) → IsHistory top w dc h → OneEach (up_to time h)
   one_by dc h is c d mc md =
-      let from = λ (e : Committed) (m : Among e (up_to time h)). contains_among e (history_of top w dc) (Contains-permutation h (history_of top w dc) e is (among_contains e h (filter_only (λ a. nat_le a.commit time) h e m).0)) in
+      let from = λ (e : Committed) (m : Among e (up_to time h)). contains_among e (history_of top w dc)
+      (Contains-permutation h (history_of top w dc) e is (among_contains e h (filter_only (λ a. nat_le a.commit time) h e m).0)) in
       one_each top w inv dc c d (from c mc) (from d md)
 
 pub equal_tables : (top : TopologyValue) (w : Run) → Inv top w → (dc other : ℕ)

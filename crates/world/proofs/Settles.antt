@@ -1,22 +1,25 @@
 -- A quiet run is settled.
 use Rattle.std.proofs.Common.{◌≡◌, ℕ, ◌<◌, List, ◌⊎◌, inl, inr, refl, sym, ap, ◌∙◌, subst, arith}
-use Rattle.std.specs.Prelude.{false}
+use Rattle.std.specs.Prelude.{false, Contains}
 use Rattle.std.proofs.lemmas.Bool.{false≢true}
 use Rattle.logical_time.specs.Stamps.{TxnValue}
+use Rattle.std.proofs.lemmas.List.Sorted.{Contains-permutation, IsPermutation-sym}
 use Rattle.column_family.specs.declared.batch.Change.{Change}
+use Rattle.column_family.specs.declared.batch.Committed.{Committed}
+use Rattle.column_family.specs.History.{History}
 use Rattle.planner.specs.Plan.{coordinator_of}
 use Rattle.messages.specs.Topology.{TopologyValue}
 use Rattle.messages.specs.Session.{Open, Idle, Writing, FirstRound, SecondRound, is_idle}
 use Rattle.world.specs.Run.{Run, Submission, Completed}
-use Rattle.world.specs.Histories.{decisions_in}
+use Rattle.world.specs.Histories.{decisions_in, history_of, IsHistory}
 use Rattle.world.specs.Quiet.{IsQuiet}
 use Rattle.world.specs.Settled.{IsOutcomeOf, IsCommittedIn, Settled}
 use Rattle.world.proofs.Among.{Among, among_contains, contains_among}
 use Rattle.world.proofs.Facts.{txn_of, IsWritten, lead}
 use Rattle.world.proofs.Invariant.{OpenSound, Inv}
 use Rattle.world.proofs.Causal.{txn_ended, Causal}
-use Rattle.world.proofs.DecidedIn.{in_decisions}
-use Rattle.world.proofs.StampsApart.{written_at, submitted_one}
+use Rattle.world.proofs.DecidedIn.{decided_in, in_decisions, entry, entry_among}
+use Rattle.world.proofs.StampsApart.{written_at, submitted_one, batch_one}
 use Rattle.world.proofs.Near.{coordinator_below, lead_dc}
 use Rattle.world.proofs.About.{OfRead, OfReadAt, OfPartNow, OfPartAt, OfDone}
 use Rattle.world.proofs.Underway.{FirstHas, SecondHas, SecondIs, OpenLive, HasEnded, StillOpen, Live}
@@ -30,8 +33,27 @@ module _ (top : TopologyValue) (w : Run) (some : 0 < top.shards) (inv : Inv top 
 
   committed_in : (t : TxnValue) (b : Submission) (batch : List Change) → IsWritten w t b batch → (dc : ℕ) → dc < top.dcs → IsCommittedIn top w dc t
   committed_in t b batch k dc lt =
-      let d = each_decided top w some inv live quiet t b batch k dc lt in
-      (d.0, among_contains d.0 (decisions_in top w dc) (in_decisions top w dc (coordinator_of top.shards batch) d.0 (coordinator_below top.shards batch some) d.1), d.2)
+      let d = each_decided top w some inv live quiet t b batch k dc lt in (
+        d.0,
+        among_contains d.0 (decisions_in top w dc) (in_decisions top w dc (coordinator_of top.shards batch) d.0
+            (coordinator_below top.shards batch some) d.1),
+        d.2,
+      )
+
+  -- it stands in the history
+  stands_in : (t : TxnValue) (b : Submission) (batch : List Change) → IsWritten w t b batch → (dc : ℕ) → dc < top.dcs
+      → (h : History) → IsHistory top w dc h → (c : Committed) × Contains h c × (c.batch ≡ batch)
+  stands_in t b batch k dc lt h is =
+      let d = committed_in t b batch k dc lt in
+      let m = contains_among d.0 (decisions_in top w dc) d.1 in
+      let to = decided_in top w inv dc d.0 m in
+      let c = entry d.0 to.sound.batch in
+      let has = among_contains c (history_of top w dc) (entry_among top w inv dc d.0 m to) in (
+        c,
+        Contains-permutation (history_of top w dc) h c (IsPermutation-sym h (history_of top w dc) is) has,
+        batch_one inv.submitted
+            (written_at d.2 to.sound.written) k,
+      )
 
   -- the session was told
   write_ended : (t : TxnValue) (b : Submission) (batch : List Change) → IsWritten w t b batch → HasEnded w t
@@ -45,7 +67,8 @@ module _ (top : TopologyValue) (w : Run) (some : 0 < top.shards) (inv : Inv top 
 
   -- ## Sessions
 
-  not_idle : (node : ℕ) (o : Open) → (w.sessions node).current ≡ o → is_idle o ≡ false → (c : Completed) → Among c w.transcript → c.node ≡ node → c.number ≡ (w.sessions node).count → ⊥
+  not_idle : (node : ℕ) (o : Open) → (w.sessions node).current ≡ o → is_idle o ≡ false → (c : Completed) → Among c w.transcript → c.node ≡ node
+      → c.number ≡ (w.sessions node).count → ⊥
   not_idle node o e busy c m at is =
       let lt = causal.closed c m (ap (λ i. is_idle (w.sessions i).current) at ∙ ap is_idle e ∙ busy) in
       let same : (w.sessions c.node).count ≡ (w.sessions node).count = ap (λ i. (w.sessions i).count) at in
@@ -72,7 +95,8 @@ module _ (top : TopologyValue) (w : Run) (some : 0 < top.shards) (inv : Inv top 
           elim (act top w some inv live quiet node shard (OfReadAt (w.sessions node).count time) (k.asked shard k.some.1)) [
             | inl sent ↦
                 let heard_it = (act top w some inv live quiet shard node (OfPartAt (w.sessions node).count time) sent).round refl in
-                let has : SecondHas top (w.sessions node) (SecondRound read time first heard) shard = subst (λ z. SecondHas top (w.sessions node) z shard) e heard_it in
+                let has : SecondHas top (w.sessions node) (SecondRound read time first heard) shard = subst
+                (λ z. SecondHas top (w.sessions node) z shard) e heard_it in
                 absurd (false≢true (sym has ∙ k.some.1))
             | inr (inl y) ↦ absurd (no_wait top w some inv live quiet shard y.0 y.1)
             | inr (inr y) ↦
@@ -106,6 +130,8 @@ module _ (top : TopologyValue) (w : Run) (some : 0 < top.shards) (inv : Inv top 
         outcomes = λ b c. outcome b (contains_among b w.submitted c);
         idle = idle;
         committed = λ b batch dc c e lt. committed_in (txn_of b) b batch (record { among = contains_among b w.submitted c; txn = refl; op = e }) dc lt;
+        histories = λ b batch dc h c e lt is.
+            stands_in (txn_of b) b batch (record { among = contains_among b w.submitted c; txn = refl; op = e }) dc lt h is;
         shards = shard_clear top w some inv live quiet;
         tables = λ dc other lt below. equal_tables top w inv dc other (λ t b batch k. (committed_in t b batch k dc lt, committed_in t b batch k other below));
       }

@@ -45,7 +45,8 @@ module _ (top : TopologyValue) (w : Run) (some : 0 < top.shards) (inv : Inv top 
   -- ## Cohorts aren't coordinators
 
   -- a cohort decides nothing
-  pub cohort_undecided : (node : ℕ) (t : TxnValue) (b : Submission) (batch : List Change) → IsWritten w t b batch → Among (shard_of top node) (cohorts_of top.shards batch) → HasDecision (w.shards node) t → ⊥
+  pub cohort_undecided : (node : ℕ) (t : TxnValue) (b : Submission) (batch : List Change) → IsWritten w t b batch
+      → Among (shard_of top node) (cohorts_of top.shards batch) → HasDecision (w.shards node) t → ⊥
   cohort_undecided node t b batch k m d =
       let ds = (inv.shards node).decided d.0 d.1 in
       let same = batch_one inv.submitted (written_at d.2 ds.written) k in
@@ -54,13 +55,15 @@ module _ (top : TopologyValue) (w : Run) (some : 0 < top.shards) (inv : Inv top 
   -- ## A coordinator that knows its transaction has decided it
 
   -- a part that a cohort prepared has its vote, unless it is decided
-  role_vote : (r : Role) (c s : ℕ) (t : TxnValue) (batch : List Change) → Among (shard_of top c) (cohorts_of top.shards batch) → RoleFits r top batch c → RoleLive r w c s t
+  role_vote : (r : Role) (c s : ℕ) (t : TxnValue) (batch : List Change) → Among (shard_of top c) (cohorts_of top.shards batch)
+      → RoleFits r top batch c → RoleLive r w c s t
       → Acted top w c s (OfYes t)
   role_vote Own c s t batch m fits k = absurd (cohort_other top.shards batch (shard_of top c) m fits)
   role_vote Cohort c s t batch m fits k = act c s (OfYes t) k
   role_vote Replica c s t batch m fits k = act c s (OfYes t) k.0
 
-  cohort_vote : (c s : ℕ) (t : TxnValue) (b : Submission) (batch : List Change) → IsWritten w t b batch → s ≡ lead top (dc_of top c) batch → Among (shard_of top c) (cohorts_of top.shards batch) → Known (w.shards c) t
+  cohort_vote : (c s : ℕ) (t : TxnValue) (b : Submission) (batch : List Change) → IsWritten w t b batch → s ≡ lead top (dc_of top c) batch
+      → Among (shard_of top c) (cohorts_of top.shards batch) → Known (w.shards c) t
       → Acted top w c s (OfYes t)
   cohort_vote c s t b batch k here m (inr d) = absurd (cohort_undecided c t b batch k m d)
   cohort_vote c s t b batch k here m (inl (p, i, e)) =
@@ -84,12 +87,13 @@ module _ (top : TopologyValue) (w : Run) (some : 0 < top.shards) (inv : Inv top 
       ]
 
   -- an early vote for a ballot is counted: nobody votes early in another data centre
-  early_counted : (s m : ℕ) (u : BegunBallot) → Among u (w.shards s).ballots → Among (vote_of u.txn m) (w.shards s).early → Among (vote_of u.txn m) (w.shards s).votes
+  early_counted : (s m : ℕ) (u : BegunBallot) → Among u (w.shards s).ballots → Among (vote_of u.txn m) (w.shards s).early
+      → Among (vote_of u.txn m) (w.shards s).votes
   early_counted s m u i v =
       elim ((live.shards s).entries.ballots u i).1 [
         | inl none ↦ (live.shards s).counted u (vote_of u.txn m) i none v refl
         | inr y ↦
-            let o = (live.shards s).entries.early (vote_of u.txn m) v in
+            let o = ((live.shards s).entries.early (vote_of u.txn m) v).0 in
             absurd (y.0.away (o.here ∙ ap (λ z. z.home) (submitted_one inv.submitted o.written y.0.written)))
       ]
 
@@ -117,7 +121,8 @@ module _ (top : TopologyValue) (w : Run) (some : 0 < top.shards) (inv : Inv top 
           (asked s u i c j))
 
   -- what a coordinator prepared has its ballot
-  own_decided : (r : Role) (s c : ℕ) (t : TxnValue) (batch : List Change) → shard_of top s ≡ coordinator_of top.shards batch → RoleFits r top batch s → RoleLive r w s c t → HasDecision (w.shards s) t
+  own_decided : (r : Role) (s c : ℕ) (t : TxnValue) (batch : List Change) → shard_of top s ≡ coordinator_of top.shards batch → RoleFits r top batch s
+      → RoleLive r w s c t → HasDecision (w.shards s) t
   own_decided Own s c t batch e fits k = let d = ballot_decided s k.0 k.1 in (d.0, d.1, d.2 ∙ k.2)
   own_decided Cohort s c t batch e fits k = absurd (cohort_other top.shards batch (shard_of top s) fits e)
   own_decided Replica s c t batch e fits k = absurd (cohort_other top.shards batch (shard_of top s) fits e)
@@ -143,7 +148,8 @@ module _ (top : TopologyValue) (w : Run) (some : 0 < top.shards) (inv : Inv top 
       (subst (λ u. Known (w.shards s) u) k.txn (act b.session s (OfBegin (txn_of b)) (live.submitted b batch k.among k.op).begun))
 
   -- the cohorts of what is decided have applied it
-  pub cohort_applied : (s : ℕ) (t : TxnValue) (b : Submission) (batch : List Change) → IsWritten w t b batch → HasDecision (w.shards s) t → (c : ℕ) → Among c (cohorts_of top.shards batch) → Sees (w.shards (near top s c)).applied t
+  pub cohort_applied : (s : ℕ) (t : TxnValue) (b : Submission) (batch : List Change) → IsWritten w t b batch → HasDecision (w.shards s) t → (c : ℕ)
+      → Among c (cohorts_of top.shards batch) → Sees (w.shards (near top s c)).applied t
   cohort_applied s t b batch k (d, i, e) c m =
       let l = (live.shards s).entries.decided d i in
       let same = batch_one inv.submitted (written_at e l.written) k in

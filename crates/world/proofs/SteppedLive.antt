@@ -26,7 +26,8 @@ shard_actor_on f node b g m = go (m == node) refl
     go true e = subst (λ k. ShardOnward (f k) b) (sym (eqb-true m node e)) g
     go false e = same_shard_on (f m)
 
-pub session_actor_on : (top : TopologyValue) (f : ℕ → SessionState) (node : ℕ) (b : SessionState) → SessionOnward top (f node) b → (m : ℕ) → SessionOnward top (f m) (with_actor f node b m)
+pub session_actor_on : (top : TopologyValue) (f : ℕ → SessionState) (node : ℕ) (b : SessionState) → SessionOnward top (f node) b → (m : ℕ)
+    → SessionOnward top (f m) (with_actor f node b m)
 session_actor_on top f node b g m = go (m == node) refl
   where
     go : (t : Bool) → (m == node) ≡ t → SessionOnward top (f m) (cond t b (f m))
@@ -39,7 +40,8 @@ Delivers top w x ev =
     (j : ℕ) → number_delivered ev ≡ Some j → (e : Envelope) × (slice_get w.sent j ≡ Some e) × Acted top x e.from e.to (kind_of e.body)
 
 -- what was handled in the run after an event
-pub acted_after : (top : TopologyValue) (w x : Run) (ev : Event) (sends : List Envelope) → x.events ≡ w.events ++ ev ∷ [] → x.sent ≡ w.sent ++ sends → Onward top w x → Live top w → ((k : ℕ) → Among k (handled w) → k < length w.sent)
+pub acted_after : (top : TopologyValue) (w x : Run) (ev : Event) (sends : List Envelope) → x.events ≡ w.events ++ ev ∷ [] → x.sent ≡ w.sent ++ sends
+    → Onward top w x → Live top w → ((k : ℕ) → Among k (handled w) → k < length w.sent)
     → Delivers top w x ev → (k : ℕ) (e : Envelope) → Among k (handled x) → slice_get x.sent k ≡ Some e → Acted top x e.from e.to (kind_of e.body)
 acted_after top w x ev sends events sent g live below delivers k e m is =
     let here = subst (λ l. slice_get l k ≡ Some e) sent is in
@@ -57,7 +59,8 @@ still_so e k = record { number = k.number ∙ ap (λ a. a.count) (sym e); curren
 
 -- ## A shard's step
 
-module _ (top : TopologyValue) (w : Run) (node from : ℕ) (kind : Kind) (st : ShardStep) (ev : Event) (on : ShardOnward (w.shards node) st.state) (ws : WaitStep node (w.shards node) st.state st.sends from kind) where
+module _ (top : TopologyValue) (w : Run) (node from : ℕ) (kind : Kind) (st : ShardStep) (ev : Event) (on : ShardOnward (w.shards node) st.state)
+    (ws : WaitStep node (w.shards node) st.state st.sends from kind) where
   abbrev x : Run
   x = after_shard (Ok st) w ev node
 
@@ -72,12 +75,14 @@ module _ (top : TopologyValue) (w : Run) (node from : ℕ) (kind : Kind) (st : S
         transcript = λ c m. m;
       }
     where
-      go : (m : ℕ) (y : WaitingRead) (t : Bool) → (m == node) ≡ t → Among y (w.shards m).waiting → HasWait (cond t st.state (w.shards m)) y.session y.number y.time ⊎ Sent (w.sent ++ st.sends) m y.session (OfPartAt y.number y.time)
+      go : (m : ℕ) (y : WaitingRead) (t : Bool) → (m == node) ≡ t → Among y (w.shards m).waiting
+          → HasWait (cond t st.state (w.shards m)) y.session y.number y.time ⊎ Sent (w.sent ++ st.sends) m y.session (OfPartAt y.number y.time)
       go m y false e i = inl (y, i, refl, refl, refl)
       go m y true e i =
           elim (ws.kept y (subst (λ z. Among y (w.shards z).waiting) (eqb-true m node e) i)) [
             | inl z ↦ inl z
-            | inr z ↦ inr (subst (λ u. Sent (w.sent ++ st.sends) u y.session (OfPartAt y.number y.time)) (sym (eqb-true m node e)) (sent_in (λ e m. append_second e w.sent st.sends m) z))
+            | inr z ↦ inr (subst (λ u. Sent (w.sent ++ st.sends) u y.session (OfPartAt y.number y.time)) (sym (eqb-true m node e))
+                (sent_in (λ e m. append_second e w.sent st.sends m) z))
           ]
 
   pub shard_here : Here x node st
@@ -88,7 +93,8 @@ module _ (top : TopologyValue) (w : Run) (node from : ℕ) (kind : Kind) (st : S
     waiting_go m true e = ws.waiting (live.waiting node)
     waiting_go m false e = live.waiting m
 
-    round_go : (m : ℕ) (t : Bool) → (m == node) ≡ t → (y : WaitingRead) → Among y (cond t st.state (w.shards m)).waiting → Round (w.sessions y.session) y.number y.time
+    round_go : (m : ℕ) (t : Bool) → (m == node) ≡ t → (y : WaitingRead) → Among y (cond t st.state (w.shards m)).waiting
+        → Round (w.sessions y.session) y.number y.time
     round_go m false e y i = live.rounds m y i
     round_go m true e y i =
         elim (ws.old y i) [
@@ -145,7 +151,8 @@ module _ (top : TopologyValue) (w : Run) (node : ℕ) (st : SessionStep) (ev : E
           transcript = λ c m. append_first c w.transcript (newly_completed w.submitted node (w.sessions node) st.state) m;
         }
 
-    dependencies_go : (m : ℕ) (t : Bool) → (m == node) ≡ t → (k : WriterValue) → Among k (cond t st.state (w.sessions m)).dependencies → Placed top xs k
+    dependencies_go : (m : ℕ) (t : Bool) → (m == node) ≡ t → (k : WriterValue) → Among k (cond t st.state (w.sessions m)).dependencies
+        → Placed top xs k
     dependencies_go m true e k i = went.dependencies k i
     dependencies_go m false e k i = placed_on session_onward (live.dependencies m k i)
 

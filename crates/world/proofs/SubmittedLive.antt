@@ -36,7 +36,9 @@ use Rattle.world.proofs.OpenReads.{next_onward, first_missing}
 use Rattle.world.proofs.SteppedLive.{session_actor_on, acted_after}
 
 -- one more submission, whose dependencies were submitted before it
-earlier_more : (before bs : List Submission) (b : Submission) → Earlier before bs → ((k : WriterValue) → Among k b.dependencies → (c : Submission) × (Among c before ⊎ Among c bs) × (txn_of c ≡ k.txn)) → Earlier before (bs ++ b ∷ [])
+earlier_more : (before bs : List Submission) (b : Submission) → Earlier before bs
+    → ((k : WriterValue) → Among k b.dependencies → (c : Submission) × (Among c before ⊎ Among c bs) × (txn_of c ≡ k.txn))
+    → Earlier before (bs ++ b ∷ [])
 earlier_more before [] b e f = (λ k m. let r = f k m in (r.0, elim (r.1) [ inl i ↦ i | inr i ↦ absurd i ], r.2), tt)
 earlier_more before (c ∷ cs) b e f = (
   e.0,
@@ -52,7 +54,8 @@ earlier_more before (c ∷ cs) b e f = (
       )),
 )
 
-module _ (top : TopologyValue) (w : Run) (node n : ℕ) (o : Op) (live : Live top w) (idle : is_idle (w.sessions node).current ≡ true) (below : (k : ℕ) → Among k (handled w) → k < length w.sent) (current : Open) (sends : List Envelope) where
+module _ (top : TopologyValue) (w : Run) (node n : ℕ) (o : Op) (live : Live top w) (idle : is_idle (w.sessions node).current ≡ true)
+    (below : (k : ℕ) → Among k (handled w) → k < length w.sent) (current : Open) (sends : List Envelope) where
   -- the session's step, and the run after it
   abbrev opens : SessionStep
   opens =
@@ -86,11 +89,13 @@ module _ (top : TopologyValue) (w : Run) (node n : ℕ) (o : Op) (live : Live to
         transcript = λ c m. m;
       }
 
-  dependencies_go : (m : ℕ) (t : Bool) → (m == node) ≡ t → (k : WriterValue) → Among k (cond t opens.state (w.sessions m)).dependencies → Placed top after k
+  dependencies_go : (m : ℕ) (t : Bool) → (m == node) ≡ t → (k : WriterValue) → Among k (cond t opens.state (w.sessions m)).dependencies
+      → Placed top after k
   dependencies_go m true e k i = placed_on submission_onward (live.dependencies node k i)
   dependencies_go m false e k i = placed_on submission_onward (live.dependencies m k i)
 
-  current_go : OpenLive top after node opens.state current → (m : ℕ) (t : Bool) → (m == node) ≡ t → OpenLive top after m (cond t opens.state (w.sessions m)) (cond t opens.state (w.sessions m)).current
+  current_go : OpenLive top after node opens.state current → (m : ℕ) (t : Bool) → (m == node) ≡ t
+      → OpenLive top after m (cond t opens.state (w.sessions m)) (cond t opens.state (w.sessions m)).current
   current_go f m true e = subst (λ z. OpenLive top after z opens.state current) (sym (eqb-true m node e)) f
   current_go f m false e = open_on top m (w.sessions m) (w.sessions m).current submission_onward (live.current m)
 
@@ -104,12 +109,17 @@ module _ (top : TopologyValue) (w : Run) (node n : ℕ) (o : Op) (live : Live to
   new_open : is_idle current ≡ false → (b : Submission) → b ≡ sub → StillOpen after b
   new_open busy b q =
       subst (λ z. StillOpen after z) (sym q)
-      (record { number = ap (λ a. a.count) (sym (actor_same w.sessions node opens.state)); current = ap (λ a. is_idle a.current) (actor_same w.sessions node opens.state) ∙ busy })
+      (record {
+        number = ap (λ a. a.count) (sym (actor_same w.sessions node opens.state));
+        current = ap (λ a. is_idle a.current)
+            (actor_same w.sessions node opens.state) ∙ busy;
+      })
 
   depends_before : (k : WriterValue) → Among k sub.dependencies → (c : Submission) × (Among c [] ⊎ Among c w.submitted) × (txn_of c ≡ k.txn)
   depends_before k m = let p = live.dependencies node k m in (p.submission, inr p.written.among, p.written.txn)
 
-  pub opens_live : is_idle current ≡ false → OpenLive top after node opens.state current → ((e : Envelope) → Among e sends → SaysLive top after e.from e.to (kind_of e.body))
+  pub opens_live : is_idle current ≡ false → OpenLive top after node opens.state current
+      → ((e : Envelope) → Among e sends → SaysLive top after e.from e.to (kind_of e.body))
       → ((batch : List Change) → o ≡ op.Batch batch → SubmissionLive top after sub batch) → Live top after
   opens_live busy f fine write =
       let g = submission_onward in
@@ -132,7 +142,8 @@ module _ (top : TopologyValue) (w : Run) (node n : ℕ) (o : Op) (live : Live to
         ];
       }
 
-module _ (top : TopologyValue) (w : Run) (node n : ℕ) (some : 0 < top.shards) (live : Live top w) (homed : (w.sessions node).home < top.dcs) (idle : is_idle (w.sessions node).current ≡ true) (below : (k : ℕ) → Among k (handled w) → k < length w.sent) where
+module _ (top : TopologyValue) (w : Run) (node n : ℕ) (some : 0 < top.shards) (live : Live top w) (homed : (w.sessions node).home < top.dcs)
+    (idle : is_idle (w.sessions node).current ≡ true) (below : (k : ℕ) → Among k (handled w) → k < length w.sent) where
   abbrev state : SessionState
   state = w.sessions node
 
@@ -180,7 +191,8 @@ module _ (top : TopologyValue) (w : Run) (node n : ℕ) (some : 0 < top.shards) 
                 for = refl;
                 is = refl;
               };
-          dependencies = λ k m. placed_on (submission_onward top w node n (op.Batch batch) live idle below began.state.current began.sends) (live.dependencies node k m);
+          dependencies = λ k m. placed_on (submission_onward top w node n (op.Batch batch) live idle below began.state.current began.sends)
+              (live.dependencies node k m);
         }
 
     write_live : Live top written
@@ -204,8 +216,11 @@ module _ (top : TopologyValue) (w : Run) (node n : ℕ) (some : 0 < top.shards) 
     ask_fine e m =
         let q = map_only asks (shards_asked top.shards read.keys) e m in
         let here = dc_of_shard top state.home q.0 (asked_below top.shards read.keys q.0 q.1) in
-        subst (λ z. SaysLive top asking z.from z.to (kind_of z.body)) (sym q.2)
-        (subst (λ a. state.count + 1 ≤ a.count) (sym (actor_same w.sessions node starts.state)) (le_refl (state.count + 1)), subst (λ d. d < top.dcs) (sym here) homed)
+        subst (λ z. SaysLive top asking z.from z.to (kind_of z.body)) (sym q.2) (
+          subst (λ a. state.count + 1 ≤ a.count) (sym (actor_same w.sessions node starts.state)) (le_refl (state.count + 1)),
+          subst (λ d. d < top.dcs)
+              (sym here) homed,
+        )
 
     -- it asks some shard
     asks_one : (keys : List (List ℕ)) → read.keys ≡ keys → read_fault top.schema read ≡ None → (s : ℕ) × Among s (shards_asked top.shards read.keys)
@@ -218,19 +233,33 @@ module _ (top : TopologyValue) (w : Run) (node n : ℕ) (some : 0 < top.shards) 
         empty : nat_lt 0 (length read.keys) ≡ false → read_fault top.schema read ≡ None → ⊥
         empty e q = by (nat_lt 0 (length read.keys)) e _ q
     asks_one (key ∷ keys) e f =
-        let s = shard_of_key top.shards key in
-        (s, contains_among s (shards_asked top.shards read.keys) (asked_shard top.shards read.keys key some (among_contains key read.keys (subst (λ l. Among key l) (sym e) (inl refl)))))
+        let s = shard_of_key top.shards key in (
+          s,
+          contains_among s (shards_asked top.shards read.keys) (asked_shard top.shards read.keys key some
+              (among_contains key read.keys (subst (λ l. Among key l) (sym e) (inl refl)))),
+        )
 
     read_live : read_fault top.schema read ≡ None → Live top asking
     read_live f =
         let one = asks_one read.keys refl f in
         let open_it : OpenLive top asking node starts.state (FirstRound read []) =
         record {
-          some = (home_node top state one.0, first_missing (asked_nodes top state read) (home_node top state one.0) (map_among (home_node top state) (shards_asked top.shards read.keys) one.0 one.1));
+          some = (
+            home_node top state one.0,
+            first_missing (asked_nodes top state read) (home_node top state one.0)
+                (map_among (home_node top state) (shards_asked top.shards read.keys) one.0 one.1),
+          );
           asked = λ m i.
               let q = map_only (home_node top state) (shards_asked top.shards read.keys) m (missing_asked (asked_nodes top state read) [] m i) in
               subst (λ z. Sent asking.sent node z (OfRead (state.count + 1))) (sym q.2)
-              (record { message = asks q.0; among = append_second _ w.sent starts.sends (map_among asks (shards_asked top.shards read.keys) q.0 q.1); by = refl; for = refl; is = refl });
+              (record {
+                message = asks q.0;
+                among = append_second _ w.sent starts.sends
+                    (map_among asks (shards_asked top.shards read.keys) q.0 q.1);
+                by = refl;
+                for = refl;
+                is = refl;
+              });
         } in
         opens_live top w node n (op.Read read) live idle below starts.state.current starts.sends refl open_it ask_fine (λ batch e. absurd (cc))
 

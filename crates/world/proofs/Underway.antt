@@ -216,6 +216,14 @@ pub record AskerLive (top : TopologyValue) (w : Run) (node : ℕ) (k : Asker) : 
   pub here : dc_of top node < top.dcs
   pub awaits : Awaits (w.shards k.from) k.waiter k.dependency
 
+-- a vote that came before Begin is for the coordinator, where the write was submitted
+abbrev pub EarlyLive : TopologyValue → Run → ℕ → Vote → Type 0
+EarlyLive top w node v = AtOrigin top w node v.txn × Leads top w node v.txn
+
+-- a notice is of a part that is kept in the same data centre, and for the coordinator
+abbrev pub NoticeLive : TopologyValue → Run → ℕ → Vote → Type 0
+NoticeLive top w node v = HasKeptPart (w.shards v.node) v.txn × Leads top w node v.txn × (dc_of top v.node ≡ dc_of top node)
+
 -- ## A shard
 
 -- what each entry of the shard b has, in the run
@@ -225,10 +233,10 @@ pub record Entries (top : TopologyValue) (w : Run) (node : ℕ) (b : ShardState)
   pub kept_parts : (k : KeptPart) → Among k b.kept_parts → KeptPartLive top w node k
   pub kept_ballots : (r : KeptBallot) → Among r b.kept_ballots → KeptBallotLive top w node r
   -- nobody votes before the coordinator of another data centre asks
-  pub early : (v : Vote) → Among v b.early → AtOrigin top w node v.txn
+  pub early : (v : Vote) → Among v b.early → EarlyLive top w node v
   -- votes are counted for a ballot
   pub votes : (v : Vote) → Among v b.votes → HasBallot (w.shards node) v.txn
-  pub notices : (v : Vote) → Among v b.notices → HasKeptPart (w.shards v.node) v.txn
+  pub notices : (v : Vote) → Among v b.notices → NoticeLive top w node v
   pub decided : (d : Decision) → Among d b.decided → DecisionLive top w node d
   pub applied : (v : Applied) → Among v b.applied → AppliedLive top w node v
   pub askers : (k : Asker) → Among k b.askers → AskerLive top w node k

@@ -10,7 +10,7 @@ use Rattle.messages.specs.declared.body.Body.TheVariants as body
 use Rattle.messages.specs.declared.envelope.Envelope.{Envelope}
 use Rattle.messages.specs.declared.op.Op.TheVariants as op
 use Rattle.messages.specs.Topology.{TopologyValue}
-use Rattle.messages.specs.Shard.{ShardState, PreparedPart, BegunBallot, Decision, KeptPart, KeptBallot, Asker}
+use Rattle.messages.specs.Shard.{ShardState, PreparedPart, BegunBallot, Vote, Decision, KeptPart, KeptBallot, Asker}
 use Rattle.messages.specs.Session.{Idle}
 use Rattle.messages.specs.Known.{decision_of, is_applied}
 use Rattle.world.specs.Run.{Run, Submission, Completed}
@@ -47,6 +47,10 @@ pub record IsClear (w : Run) (node : ℕ) (a : ShardState) : Type 0 where
   pub kept_parts : (k : KeptPart) → Contains a.kept_parts k → is_applied k.txn a ≡ true
   -- no replicated ballot: each that was kept is decided
   pub kept_ballots : (r : KeptBallot) → Contains a.kept_ballots r → is_some (decision_of r.txn a) ≡ true
+  -- no vote and no notice of a transaction that isn't known: each is of one that is decided
+  pub early : (v : Vote) → Contains a.early v → is_some (decision_of v.txn a) ≡ true
+  pub votes : (v : Vote) → Contains a.votes v → is_some (decision_of v.txn a) ≡ true
+  pub notices : (v : Vote) → Contains a.notices v → is_some (decision_of v.txn a) ≡ true
   -- no check of a dependency: its transaction is decided, and each that asked is answered
   pub askers : (k : Asker) → Contains a.askers k → is_some (decision_of k.dependency a) ≡ true
   pub answered : (k : Asker) → Contains a.askers k → WasAnswered w node k
@@ -70,6 +74,9 @@ pub record Settled (top : TopologyValue) (w : Run) : Type 0 where
   -- every submitted batch is committed in every data centre
   pub committed : (s : Submission) (batch : List Change) (dc : ℕ) → Contains w.submitted s → s.op ≡ op.Batch batch → dc < top.dcs
       → IsCommittedIn top w dc (record { session = s.session; number = s.number })
+  -- and stands in every history of each, as it was submitted
+  pub histories : (s : Submission) (batch : List Change) (dc : ℕ) (h : History)
+      → Contains w.submitted s → s.op ≡ op.Batch batch → dc < top.dcs → IsHistory top w dc h → (c : Committed) × Contains h c × (c.batch ≡ batch)
   -- nothing waits on any shard
   pub shards : (node : ℕ) → IsClear w node (w.shards node)
   -- all data centres have one table
