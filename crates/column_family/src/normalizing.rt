@@ -124,59 +124,70 @@ mod tests {
     use crate::byte_strings::{Family, Key, Value};
     use std::test::Fail;
 
-    fn change(alloc: Global, key: &[u8], mutation: Mutation) -> Result<Change, AllocError> {
-        let row = Row {
-            family: Family::from_slice(alloc, b"family")?,
-            key: Key::from_slice(alloc, key)?,
-        };
+    fn insertion(alloc: Global, name: &[u8]) -> Result<Mutation, AllocError> {
+        let name = Name::from_slice(alloc, name)?;
+        let value = Value::from_slice(alloc, b"value")?;
+        Ok(Mutation::Insert { name, value })
+    }
+
+    /// `+x` inserts column x, `-x` deletes it, and an empty text deletes the row.
+    fn mutation(alloc: Global, text: &str) -> Result<Mutation, AllocError> {
+        match text.as_bytes() {
+            [b'+', name @ ..] => insertion(alloc, name),
+            [_, name @ ..] => {
+                let name = Name::from_slice(alloc, name)?;
+                Ok(Mutation::DeleteColumn { name })
+            }
+            [] => Ok(Mutation::DeleteRow),
+        }
+    }
+
+    fn row(alloc: Global, key: &str) -> Result<Row, AllocError> {
+        let family = Family::from_slice(alloc, b"family")?;
+        let key = Key::from_slice(alloc, key.as_bytes())?;
+        Ok(Row { family, key })
+    }
+
+    fn change(alloc: Global, key: &str, text: &str) -> Result<Change, AllocError> {
+        let row = row(alloc, key)?;
+        let mutation = mutation(alloc, text)?;
         Ok(Change { row, mutation })
     }
 
-    fn insert(alloc: Global, key: &[u8], name: &[u8]) -> Result<Change, AllocError> {
-        let name = Name::from_slice(alloc, name)?;
-        let value = Value::from_slice(alloc, b"value")?;
-        change(alloc, key, Mutation::Insert { name, value })
+    /// The batch of these changes, each a key and what is done to its row.
+    fn batch(alloc: Global, changes: &[(&str, &str)]) -> Result<Batch, Fault> {
+        let mut batch = Batch::new(alloc);
+        for (key, text) in changes {
+            batch.push(change(alloc, key, text)?)?;
+        }
+        Ok(batch)
     }
 
-    fn delete_column(alloc: Global, key: &[u8], name: &[u8]) -> Result<Change, AllocError> {
-        let name = Name::from_slice(alloc, name)?;
-        change(alloc, key, Mutation::DeleteColumn { name })
-    }
-
-    fn delete_row(alloc: Global, key: &[u8]) -> Result<Change, AllocError> {
-        change(alloc, key, Mutation::DeleteRow)
+    /// Whether the first batch has the second as its normal form.
+    fn has_normal(
+        alloc: Global,
+        given: &[(&str, &str)],
+        wanted: &[(&str, &str)],
+    ) -> Result<bool, Fault> {
+        let given = batch(alloc, given)?;
+        let kept = normal(alloc, &given)?;
+        let wanted = batch(alloc, wanted)?;
+        Ok(kept.as_slice() == wanted.as_slice())
     }
 
     #[test]
     fn deletion_of_row_drops_older_columns(rt: HostRuntime) -> Result<(), Fail> {
-        let alloc = rt.alloc();
-        let given = Batch::from_changes(vec![in alloc;
-            insert(alloc, b"a", b"x")?,
-            delete_row(alloc, b"a")?,
-            insert(alloc, b"a", b"y")?,
-        ]?);
-        let wanted = vec![in alloc; delete_row(alloc, b"a")?, insert(alloc, b"a", b"y")?]?;
-        let kept = normal(alloc, &given)?;
-        assert_eq!(rt; kept.as_slice(), wanted.as_slice());
+        let given = [("a", "+x"), ("a", ""), ("a", "+y")];
+        let wanted = [("a", ""), ("a", "+y")];
+        assert!(rt; has_normal(rt.alloc(), &given, &wanted)?);
         Ok(())
     }
 
     #[test]
     fn rows_keep_their_order_and_columns_stand_by_name(rt: HostRuntime) -> Result<(), Fail> {
-        let alloc = rt.alloc();
-        let given = Batch::from_changes(vec![in alloc;
-            insert(alloc, b"b", b"y")?,
-            insert(alloc, b"a", b"x")?,
-            insert(alloc, b"b", b"x")?,
-            delete_column(alloc, b"b", b"y")?,
-        ]?);
-        let wanted = vec![in alloc;
-            insert(alloc, b"b", b"x")?,
-            delete_column(alloc, b"b", b"y")?,
-            insert(alloc, b"a", b"x")?,
-        ]?;
-        let kept = normal(alloc, &given)?;
-        assert_eq!(rt; kept.as_slice(), wanted.as_slice());
+        let given = [("b", "+y"), ("a", "+x"), ("b", "+x"), ("b", "-y")];
+        let wanted = [("b", "+x"), ("b", "-y"), ("a", "+x")];
+        assert!(rt; has_normal(rt.alloc(), &given, &wanted)?);
         Ok(())
     }
 }

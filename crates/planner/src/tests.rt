@@ -15,44 +15,140 @@ fn key(alloc: Global, bytes: &[u8]) -> Result<Key, Fault> {
 
 /// The schema of one family, `f`.
 fn schema(alloc: Global) -> Result<Schema, Fault> {
-    let families = vec![in alloc; Family::from_slice(alloc, b"f")?]?;
+    let mut families = Vec::new(alloc);
+    families.push(Family::from_slice(alloc, b"f")?)?;
     Schema::new(families).ok_or(Fault::UnknownFamily)
 }
 
-/// Inserts column x with value 1 in a row.
-fn insertion(alloc: Global, family: &[u8], row: &[u8]) -> Result<Change, Fault> {
-    let row = Row {
-        family: Family::from_slice(alloc, family)?,
-        key: key(alloc, row)?,
-    };
-    let mutation = Mutation::Insert {
-        name: Name::from_slice(alloc, b"x")?,
-        value: Value::from_slice(alloc, b"1")?,
-    };
+fn row(alloc: Global, family: &[u8], key: &[u8]) -> Result<Row, Fault> {
+    let family = Family::from_slice(alloc, family)?;
+    let key = Key::from_slice(alloc, key)?;
+    Ok(Row { family, key })
+}
+
+/// Inserts column x with value 1.
+fn insertion(alloc: Global) -> Result<Mutation, Fault> {
+    let name = Name::from_slice(alloc, b"x")?;
+    let value = Value::from_slice(alloc, b"1")?;
+    Ok(Mutation::Insert { name, value })
+}
+
+fn change(alloc: Global, family: &[u8], key: &[u8]) -> Result<Change, Fault> {
+    let row = row(alloc, family, key)?;
+    let mutation = insertion(alloc)?;
     Ok(Change { row, mutation })
+}
+
+/// The batch that inserts column x with value 1 in these rows, each a family and a key.
+fn batch(alloc: Global, rows: &[(&[u8], &[u8])]) -> Result<Batch, Fault> {
+    let mut batch = Batch::new(alloc);
+    for (family, key) in rows {
+        batch.push(change(alloc, family, key)?)?;
+    }
+    Ok(batch)
+}
+
+/// These rows of the family `f`, one byte each.
+fn keys(alloc: Global, rows: &[u8]) -> Result<Keys, Fault> {
+    let mut keys = Vec::new(alloc);
+    for row in rows {
+        keys.push(key(alloc, &[*row])?)?;
+    }
+    Ok(Keys::from_vec(keys))
+}
+
+/// Column x.
+fn column_x(alloc: Global) -> Result<Predicate, Fault> {
+    let mut names = Vec::new(alloc);
+    names.push(Name::from_slice(alloc, b"x")?)?;
+    Ok(Predicate::Names(Names::from_vec(names)))
 }
 
 /// A read of column x in rows b, a, b.
 fn read(alloc: Global) -> Result<Read, Fault> {
-    let keys = vec![in alloc; key(alloc, b"b")?, key(alloc, b"a")?, key(alloc, b"b")?]?;
-    let names = vec![in alloc; Name::from_slice(alloc, b"x")?]?;
+    let family = Family::from_slice(alloc, b"f")?;
+    let keys = keys(alloc, b"bab")?;
+    let predicate = column_x(alloc)?;
     Ok(Read {
-        family: Family::from_slice(alloc, b"f")?,
-        keys: Keys::from_vec(keys),
-        predicate: Predicate::Names(Names::from_vec(names)),
+        family,
+        keys,
+        predicate,
     })
 }
 
-/// The row that a shard answers, with column x of this value.
-fn answered(alloc: Global, row: &[u8], value: &[u8]) -> Result<AnsweredRow, Fault> {
-    let column = Column {
-        name: Name::from_slice(alloc, b"x")?,
-        value: Value::from_slice(alloc, value)?,
-    };
-    Ok(AnsweredRow {
-        key: key(alloc, row)?,
-        columns: Columns::from_vec(vec![in alloc; column]?),
-    })
+/// Column x of this value.
+fn columns(alloc: Global, value: &[u8]) -> Result<Columns, Fault> {
+    let name = Name::from_slice(alloc, b"x")?;
+    let value = Value::from_slice(alloc, value)?;
+    let mut columns = Columns::new(alloc);
+    columns.push(Column { name, value })?;
+    Ok(columns)
+}
+
+/// The rows that the shards answer: a with value 2, and b with value 1.
+fn answered(alloc: Global) -> Result<Vec<AnsweredRow>, Fault> {
+    let mut rows = Vec::new(alloc);
+    for (row, value) in [(b"a", b"2"), (b"b", b"1")] {
+        let key = key(alloc, row)?;
+        let columns = columns(alloc, value)?;
+        rows.push(AnsweredRow { key, columns })?;
+    }
+    Ok(rows)
+}
+
+/// Whether the part is for this shard and inserts in this row of `f` alone.
+fn is_part(alloc: Global, part: &ShardPart, shard: u16, key: &[u8]) -> Result<bool, Fault> {
+    let wanted = batch(alloc, &[(b"f", key)])?;
+    Ok(part.shard == shard && part.batch.as_slice() == wanted.as_slice())
+}
+
+/// The plan of the batch of these rows.
+fn plan(alloc: Global, rows: &[(&[u8], &[u8])]) -> Result<BatchPlan, Fault> {
+    let schema = schema(alloc)?;
+    let batch = batch(alloc, rows)?;
+    plan_batch(alloc, &batch, &schema, SHARDS)
+}
+
+/// Adds the shard, as a digit, and the keys that it is asked.
+fn add_asked(asked: &mut Vec<u8>, part: &ShardKeys) -> Result<(), Fault> {
+    for key in part.keys.as_slice() {
+        asked.push(if part.shard == 0 { b'0' } else { b'1' })?;
+        asked.extend_from_slice(key.as_slice())?;
+    }
+    Ok(())
+}
+
+/// What the plan of the read asks: of each key the shard and then the bytes.
+fn asked(alloc: Global) -> Result<Vec<u8>, Fault> {
+    let schema = schema(alloc)?;
+    let read = read(alloc)?;
+    let plan = plan_read(alloc, &read, &schema, SHARDS)?;
+    let mut asked = Vec::new(alloc);
+    for part in &plan.asked {
+        add_asked(&mut asked, part)?;
+    }
+    Ok(asked)
+}
+
+/// Adds the row and its values.
+fn add_row(shown: &mut Vec<u8>, row: &AnsweredRow) -> Result<(), Fault> {
+    shown.extend_from_slice(row.key.as_slice())?;
+    for column in row.columns.as_slice() {
+        shown.extend_from_slice(column.value.as_slice())?;
+    }
+    Ok(())
+}
+
+/// The rows and values of the answers of both shards, joined.
+fn joined(alloc: Global) -> Result<Vec<u8>, Fault> {
+    let read = read(alloc)?;
+    let rows = answered(alloc)?;
+    let answer = join_answers(alloc, &read, &rows)?;
+    let mut shown = Vec::new(alloc);
+    for row in answer.as_slice() {
+        add_row(&mut shown, row)?;
+    }
+    Ok(shown)
 }
 
 #[test]
@@ -71,37 +167,19 @@ fn key_is_on_the_shard_of_its_byte_sum(rt: HostRuntime) -> Result<(), Fail> {
 #[test]
 fn batch_has_a_coordinator_and_a_cohort(rt: HostRuntime) -> Result<(), Fail> {
     let alloc = rt.alloc();
-    let changes = vec![in alloc;
-        insertion(alloc, b"f", b"b")?,
-        insertion(alloc, b"f", b"a")?,
-    ]?;
-    let plan = plan_batch(
-        alloc,
-        &Batch::from_changes(changes),
-        &schema(alloc)?,
-        SHARDS,
-    )?;
-    assert_eq!(rt; plan.coordinator.shard, 0);
-    let own = vec![in alloc; insertion(alloc, b"f", b"b")?]?;
-    assert_eq!(rt; plan.coordinator.batch.as_slice(), own.as_slice());
-    assert_eq!(rt; plan.cohorts.len(), 1);
-    let other = vec![in alloc; insertion(alloc, b"f", b"a")?]?;
-    for cohort in &plan.cohorts {
-        assert_eq!(rt; cohort.shard, 1);
-        assert_eq!(rt; cohort.batch.as_slice(), other.as_slice());
-    }
+    let plan = plan(alloc, &[(b"f", b"b"), (b"f", b"a")])?;
+    assert!(rt; is_part(alloc, &plan.coordinator, 0, b"b")?);
+    let is_cohort = match plan.cohorts.as_slice() {
+        [cohort] => is_part(alloc, cohort, 1, b"a")?,
+        _ => false,
+    };
+    assert!(rt; is_cohort);
     Ok(())
 }
 
 #[test]
 fn each_mutation_is_checked_before_the_next(rt: HostRuntime) -> Result<(), Fail> {
-    let alloc = rt.alloc();
-    let changes = vec![in alloc;
-        insertion(alloc, b"f", &[98; 1025])?,
-        insertion(alloc, b"g", b"a")?,
-    ]?;
-    let batch = Batch::from_changes(changes);
-    let refused = plan_batch(alloc, &batch, &schema(alloc)?, SHARDS).err();
+    let refused = plan(rt.alloc(), &[(b"f", &[98; 1025]), (b"g", b"a")]).err();
     assert_eq!(rt; refused, Some(Fault::KeyLength));
     Ok(())
 }
@@ -109,26 +187,9 @@ fn each_mutation_is_checked_before_the_next(rt: HostRuntime) -> Result<(), Fail>
 #[test]
 fn read_is_cut_and_joined_in_the_order_of_asking(rt: HostRuntime) -> Result<(), Fail> {
     let alloc = rt.alloc();
-    let read = read(alloc)?;
-    let plan = plan_read(alloc, &read, &schema(alloc)?, SHARDS)?;
-    let mut asked = Vec::new(alloc);
-    for part in &plan.asked {
-        for key in part.keys.as_slice() {
-            asked.push((part.shard, key.clone()?))?;
-        }
-    }
-    let wanted = vec![in alloc; (0, key(alloc, b"b")?), (1, key(alloc, b"a")?)]?;
-    assert_eq!(rt; asked.as_slice(), wanted.as_slice());
-
-    let rows = vec![in alloc; answered(alloc, b"a", b"2")?, answered(alloc, b"b", b"1")?]?;
-    let answer = join_answers(alloc, &read, &rows)?;
-    let mut shown = Vec::new(alloc);
-    for row in answer.as_slice() {
-        shown.extend_from_slice(row.key.as_slice())?;
-        for column in row.columns.as_slice() {
-            shown.extend_from_slice(column.value.as_slice())?;
-        }
-    }
+    let asked = asked(alloc)?;
+    assert_eq!(rt; asked.as_slice(), b"0b1a".as_slice());
+    let shown = joined(alloc)?;
     assert_eq!(rt; shown.as_slice(), b"b1a2".as_slice());
     Ok(())
 }

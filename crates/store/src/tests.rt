@@ -13,10 +13,34 @@ fn time(number: u64) -> Time {
 }
 
 fn row(alloc: Global) -> Result<Row, AllocError> {
-    Ok(Row {
-        family: Family::from_slice(alloc, b"f")?,
-        key: Key::from_slice(alloc, b"b")?,
-    })
+    let family = Family::from_slice(alloc, b"f")?;
+    let key = Key::from_slice(alloc, b"b")?;
+    Ok(Row { family, key })
+}
+
+// Inserts column x.
+fn insertion(alloc: Global, value: &[u8]) -> Result<Mutation, AllocError> {
+    let name = Name::from_slice(alloc, b"x")?;
+    let value = Value::from_slice(alloc, value)?;
+    Ok(Mutation::Insert { name, value })
+}
+
+// The batch of an insertion of column x.
+fn batch(alloc: Global, value: &[u8]) -> Result<Batch, Fault> {
+    let row = row(alloc)?;
+    let mutation = insertion(alloc, value)?;
+    let mut batch = Batch::new(alloc);
+    batch.push(Change { row, mutation })?;
+    Ok(batch)
+}
+
+// The transaction of this stamp, which one of the node's own number began.
+fn writer(stamp: Stamp) -> Writer {
+    let txn = TxnId {
+        session: stamp.node,
+        number: stamp.time.get(),
+    };
+    Writer { txn, shard: 0 }
 }
 
 // Applies an insertion of column x with this stamp and commit time.
@@ -27,47 +51,61 @@ fn insert(
     commit: u64,
     value: &[u8],
 ) -> Result<(), Fault> {
-    let node = Node::new(stamp.1);
-    let txn = TxnId {
-        session: node,
-        number: stamp.0,
-    };
-    let mut batch = Batch::new(alloc);
-    batch.push(Change {
-        row: row(alloc)?,
-        mutation: Mutation::Insert {
-            name: Name::from_slice(alloc, b"x")?,
-            value: Value::from_slice(alloc, value)?,
-        },
-    })?;
-    let part = WritePart {
-        writer: Writer { txn, shard: 0 },
-        batch,
-    };
     let stamp = Stamp {
         time: time(stamp.0),
-        node,
+        node: Node::new(stamp.1),
     };
-    store
-        .apply(part, time(commit), stamp)
-        .map_err(|refused| refused.0)
-}
-
-fn column_x(alloc: Global) -> Result<Predicate, AllocError> {
-    let name = Name::from_slice(alloc, b"x")?;
-    Ok(Predicate::Names(Names::from_vec(vec![in alloc; name]?)))
-}
-
-// Whether the part is column x with this value.
-fn shows(part: &Part, value: &[u8]) -> bool {
-    match part.columns.as_slice() {
-        [column] => column.name.as_slice() == b"x".as_slice() && column.value.as_slice() == value,
-        _ => false,
+    let part = WritePart {
+        writer: writer(stamp),
+        batch: batch(alloc, value)?,
+    };
+    match store.apply(part, time(commit), stamp) {
+        Ok(()) => Ok(()),
+        Err((fault, _)) => Err(fault),
     }
 }
 
-fn at(alloc: Global, store: &Store, number: u64) -> Result<Part, Fault> {
-    store.read_at(&row(alloc)?, &column_x(alloc)?, time(number))
+fn column_x(alloc: Global) -> Result<Predicate, Fault> {
+    let mut names = Vec::new(alloc);
+    names.push(Name::from_slice(alloc, b"x")?)?;
+    Ok(Predicate::Names(Names::from_vec(names)))
+}
+
+// The value of column x, or `-` where the part has no column.
+fn shown(part: &Part) -> u8 {
+    match part.columns.as_slice() {
+        [] => b'-',
+        [column] if column.name.as_slice() == b"x".as_slice() => {
+            column.value.as_slice().first().copied().unwrap_or(b'?')
+        }
+        _ => b'?',
+    }
+}
+
+// What is shown now, and its earliest valid time.
+fn now(alloc: Global, store: &Store) -> Result<(u8, u64), Fault> {
+    let row = row(alloc)?;
+    let part = store.read_now(&row, &column_x(alloc)?)?;
+    Ok((shown(&part), part.evt.get()))
+}
+
+// What is shown at a time, or `c` where it is collected.
+fn at(alloc: Global, store: &Store, number: u64) -> Result<u8, Fault> {
+    let row = row(alloc)?;
+    match store.read_at(&row, &column_x(alloc)?, time(number)) {
+        Ok(part) => Ok(shown(&part)),
+        Err(Fault::Collected) => Ok(b'c'),
+        Err(fault) => Err(fault),
+    }
+}
+
+// What is shown at each of the times.
+fn at_each(alloc: Global, store: &Store, times: &[u64]) -> Result<Vec<u8>, Fault> {
+    let mut all = Vec::new(alloc);
+    for number in times {
+        all.push(at(alloc, store, *number)?)?;
+    }
+    Ok(all)
 }
 
 #[test]
@@ -76,12 +114,9 @@ fn older_stamp_arrives_late(rt: HostRuntime) -> Result<(), Fail> {
     let mut store = Store::new(alloc);
     insert(alloc, &mut store, (2, 1), 2, b"2")?;
     insert(alloc, &mut store, (2, 0), 3, b"1")?;
-    let now = store.read_now(&row(alloc)?, &column_x(alloc)?)?;
-    assert!(rt; shows(&now, b"2"));
-    assert_eq!(rt; now.evt, time(2));
-    assert!(rt; at(alloc, &store, 1)?.columns.as_slice().is_empty());
-    assert!(rt; shows(&at(alloc, &store, 2)?, b"2"));
-    assert!(rt; shows(&at(alloc, &store, 3)?, b"2"));
+    assert_eq!(rt; now(alloc, &store)?, (b'2', 2));
+    let seen = at_each(alloc, &store, &[1, 2, 3])?;
+    assert_eq!(rt; seen.as_slice(), b"-22".as_slice());
     Ok(())
 }
 
@@ -91,11 +126,9 @@ fn newer_stamp_arrives_late(rt: HostRuntime) -> Result<(), Fail> {
     let mut store = Store::new(alloc);
     insert(alloc, &mut store, (2, 0), 2, b"1")?;
     insert(alloc, &mut store, (2, 1), 3, b"2")?;
-    let now = store.read_now(&row(alloc)?, &column_x(alloc)?)?;
-    assert!(rt; shows(&now, b"2"));
-    assert_eq!(rt; now.evt, time(3));
-    assert!(rt; shows(&at(alloc, &store, 2)?, b"1"));
-    assert!(rt; shows(&at(alloc, &store, 3)?, b"2"));
+    assert_eq!(rt; now(alloc, &store)?, (b'2', 3));
+    let seen = at_each(alloc, &store, &[2, 3])?;
+    assert_eq!(rt; seen.as_slice(), b"12".as_slice());
     Ok(())
 }
 
@@ -106,13 +139,11 @@ fn collection_keeps_visible(rt: HostRuntime) -> Result<(), Fail> {
     insert(alloc, &mut store, (2, 0), 2, b"1")?;
     insert(alloc, &mut store, (8, 0), 8, b"2")?;
     store.collect(time(5));
-    assert!(rt; shows(&at(alloc, &store, 5)?, b"1"));
+    let first = at(alloc, &store, 5)?;
     store.collect(time(10));
-    match at(alloc, &store, 9) {
-        Err(fault) => assert_eq!(rt; fault, Fault::Collected),
-        Ok(_) => assert!(rt; false),
-    }
-    assert!(rt; shows(&at(alloc, &store, 10)?, b"2"));
+    let seen = at_each(alloc, &store, &[9, 10])?;
     store.close();
+    assert_eq!(rt; first, b'1');
+    assert_eq!(rt; seen.as_slice(), b"c2".as_slice());
     Ok(())
 }
