@@ -176,27 +176,43 @@ mod tests {
         Some((first.get(), last.get()))
     }
 
+    // The stamps of what is seen at each of the times.
+    fn stamps(
+        alloc: Global,
+        chain: &Chain,
+        times: &[u64],
+    ) -> Result<Vec<Option<(u64, u16)>>, Fault> {
+        let mut stamps = Vec::new(alloc);
+        for number in times {
+            stamps.push(stamp(chain.at(time(*number)?)))?;
+        }
+        Ok(stamps)
+    }
+
+    // Removes the version of this place, and gives its stamp.
+    fn removed(chain: &mut Chain, place: usize) -> Option<(u64, u16)> {
+        stamp(chain.remove(place).as_ref())
+    }
+
     #[test]
     fn newest_goes_by_stamp(rt: HostRuntime) -> Result<(), Fail> {
         let chain = four(rt.alloc())?;
-        assert_eq!(rt; chain.len(), 4);
-        assert_eq!(rt; stamp(chain.newest()), Some((9, 0)));
-        assert_eq!(rt; stamp(chain.at(time(3)?)), None);
-        assert_eq!(rt; stamp(chain.at(time(9)?)), Some((4, 0)));
-        assert_eq!(rt; stamp(chain.at(time(11)?)), Some((7, 1)));
-        assert_eq!(rt; stamp(chain.at(time(12)?)), Some((9, 0)));
-        assert_eq!(rt; stamp(chain.at(time(20)?)), Some((9, 0)));
+        let seen = stamps(rt.alloc(), &chain, &[3, 9, 11, 12, 20])?;
+        assert_eq!(rt; (chain.len(), stamp(chain.newest())), (4, Some((9, 0))));
+        assert_eq!(rt;
+            seen.as_slice(),
+            [None, Some((4, 0)), Some((7, 1)), Some((9, 0)), Some((9, 0))].as_slice()
+        );
         Ok(())
     }
 
     #[test]
     fn intervals_by_place(rt: HostRuntime) -> Result<(), Fail> {
         let chain = four(rt.alloc())?;
-        assert_eq!(rt; times(&chain, 0), Some((12, 0xffff_ffff_ffff)));
-        assert_eq!(rt; times(&chain, 1), None);
-        assert_eq!(rt; times(&chain, 2), Some((10, 11)));
-        assert_eq!(rt; times(&chain, 3), Some((4, 9)));
-        assert_eq!(rt; times(&chain, 4), None);
+        let newer = [times(&chain, 0), times(&chain, 1)];
+        let older = [times(&chain, 2), times(&chain, 3), times(&chain, 4)];
+        assert_eq!(rt; newer, [Some((12, 0xffff_ffff_ffff)), None]);
+        assert_eq!(rt; older, [Some((10, 11)), Some((4, 9)), None]);
         Ok(())
     }
 
@@ -204,19 +220,17 @@ mod tests {
     fn held_stamps_change_nothing(rt: HostRuntime) -> Result<(), Fail> {
         let mut chain = four(rt.alloc())?;
         put(&mut chain, (7, 1), 2)?;
-        assert_eq!(rt; chain.len(), 4);
-        assert_eq!(rt; stamp(chain.at(time(3)?)), None);
+        let seen = stamp(chain.at(time(3)?));
+        assert_eq!(rt; (chain.len(), seen), (4, None));
         Ok(())
     }
 
     #[test]
     fn removal_takes_one_version(rt: HostRuntime) -> Result<(), Fail> {
         let mut chain = four(rt.alloc())?;
-        let removed = chain.remove(2);
-        assert_eq!(rt; stamp(removed.as_ref()), Some((7, 1)));
-        assert_eq!(rt; chain.len(), 3);
-        assert_eq!(rt; times(&chain, 2), Some((4, 11)));
-        assert_eq!(rt; stamp(chain.remove(3).as_ref()), None);
+        let stamps = [removed(&mut chain, 2), removed(&mut chain, 3)];
+        assert_eq!(rt; stamps, [Some((7, 1)), None]);
+        assert_eq!(rt; (chain.len(), times(&chain, 2)), (3, Some((4, 11))));
         Ok(())
     }
 }

@@ -1,7 +1,6 @@
 //! Whole runs, and the transcripts that they must write.
 use crate::{Task, perform};
 use std::alloc::{AllocError, Global};
-use std::str;
 use std::test::Fail;
 
 /// What a script has before its events.
@@ -45,72 +44,81 @@ const RUNS: [(&str, &str, &str); 6] = [
     ("no_events", "", ""),
 ];
 
-/// What is written for these events, and what is told of faults.
-fn run(alloc: Global, events: &str) -> Result<(Vec<u8>, Vec<u8>), AllocError> {
+/// Whether a script of these events writes the transcript, and tells of no fault.
+fn writes(alloc: Global, events: &str, transcript: &str) -> Result<bool, AllocError> {
     let text = format!(in alloc; "{TOPOLOGY}{events}]}}")?;
     let mut input = text.as_str().as_bytes();
     let mut out: Vec<u8> = Vec::new(alloc);
     let mut errors: Vec<u8> = Vec::new(alloc);
-    let _ = perform(alloc, &Task::Sim, &mut input, &mut out, &mut errors);
-    Ok((out, errors))
-}
-
-/// The bytes as text.
-fn shown(bytes: &[u8]) -> &str {
-    str::from_utf8(bytes).unwrap_or("not UTF-8")
+    let status = perform(alloc, &Task::Sim, &mut input, &mut out, &mut errors);
+    Ok(status == 0 && errors.is_empty() && out.as_slice() == transcript.as_bytes())
 }
 
 #[test]
 fn whole_runs(rt: HostRuntime) -> Result<(), Fail> {
-    for (name, events, transcript) in RUNS {
-        let (out, errors) = run(rt.alloc(), events)?;
-        assert_eq!(rt; shown(&errors), "", "at {name}");
-        assert_eq!(rt; shown(&out), transcript, "at {name}");
+    for (name, events, transcript) in &RUNS {
+        let is_right = writes(rt.alloc(), events, transcript)?;
+        assert!(rt; is_right, "at {name}");
     }
     Ok(())
 }
 
-/// The submission of a batch of this many insertions.
-fn batch_of(alloc: Global, count: usize) -> Result<String, AllocError> {
-    let mut text = String::from_str(alloc, "[\"submit\",0,{\"batch\":[")?;
+/// Adds the submission of a batch of this many insertions.
+fn add_batch(text: &mut String, count: usize) -> Result<(), AllocError> {
+    text.push_str("[\"submit\",0,{\"batch\":[")?;
     for number in 0..count {
         if 0 < number {
             text.push_str(",")?;
         }
         write!(text, "[\"f\",\"b\",[\"insert\",\"x{number}\",\"\"]]")?;
     }
-    text.push_str("]}]")?;
-    Ok(text)
+    text.push_str("]}],")
 }
 
-/// The submission of the deletion of a row whose key has this many bytes.
-fn deletion_at(alloc: Global, length: usize) -> Result<String, AllocError> {
-    let mut text = String::from_str(alloc, "[\"submit\",0,{\"batch\":[[\"f\",\"")?;
+/// Adds the submission of the deletion of a row whose key has this many bytes.
+fn add_deletion(text: &mut String, length: usize) -> Result<(), AllocError> {
+    text.push_str("[\"submit\",0,{\"batch\":[[\"f\",\"")?;
     for _ in 0..length {
         text.push_str("k")?;
     }
-    text.push_str("\",[\"delete_row\"]]]}]")?;
+    text.push_str("\",[\"delete_row\"]]]}],")
+}
+
+/// Adds what is refused: a batch of too many changes, keys that are too long and empty, an empty batch, a read of no key.
+fn add_refused(text: &mut String) -> Result<(), AllocError> {
+    add_batch(text, 4097)?;
+    add_deletion(text, 1025)?;
+    add_deletion(text, 0)?;
+    add_batch(text, 0)?;
+    text.push_str("[\"submit\",0,{\"read\":[\"f\",[],{\"names\":[]}]}],")
+}
+
+/// Submissions beyond the limits, and then the greatest within them; the session is busy at one of these.
+fn at_limits(alloc: Global) -> Result<String, AllocError> {
+    let mut text = String::new(alloc);
+    add_refused(&mut text)?;
+    add_batch(&mut text, 4096)?;
+    add_batch(&mut text, 0)?;
+    text.push_str("[\"drain\"],")?;
+    add_deletion(&mut text, 1024)?;
+    text.push_str("[\"drain\"]")?;
     Ok(text)
 }
 
+/// What a script of these submissions writes.
+const LIMITS: &str = "node 1 refused 6
+node 1 refused 3
+node 1 refused 3
+node 1 refused 1
+node 1 refused 8
+node 1 refused 20
+node 1 op 1 wrote commit 2 stamp 2.0
+node 1 op 2 wrote commit 5 stamp 5.0
+";
+
 #[test]
 fn limits(rt: HostRuntime) -> Result<(), Fail> {
-    let alloc = rt.alloc();
-    let (most, more) = (batch_of(alloc, 4096)?, batch_of(alloc, 4097)?);
-    let (empty, longest, longer) = (
-        deletion_at(alloc, 0)?,
-        deletion_at(alloc, 1024)?,
-        deletion_at(alloc, 1025)?,
-    );
-    let none = batch_of(alloc, 0)?;
-    let no_key = "[\"submit\",0,{\"read\":[\"f\",[],{\"names\":[]}]}]";
-    let refused = format!(in alloc; "{more},{longer},{empty},{none},{no_key}")?;
-    let events = format!(in alloc; "{refused},{most},{none},[\"drain\"],{longest},[\"drain\"]")?;
-    let (out, errors) = run(alloc, events.as_str())?;
-    assert_eq!(rt; shown(&errors), "");
-    assert_eq!(rt;
-        shown(&out),
-        "node 1 refused 6\nnode 1 refused 3\nnode 1 refused 3\nnode 1 refused 1\nnode 1 refused 8\nnode 1 refused 20\nnode 1 op 1 wrote commit 2 stamp 2.0\nnode 1 op 2 wrote commit 5 stamp 5.0\n"
-    );
+    let events = at_limits(rt.alloc())?;
+    assert!(rt; writes(rt.alloc(), events.as_str(), LIMITS)?);
     Ok(())
 }

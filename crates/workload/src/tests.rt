@@ -2,9 +2,9 @@
 use crate::{Task, perform, read_script};
 use logical_time::Fault;
 use std::alloc::{AllocError, Global};
+use std::io;
 use std::io::Read;
 use std::test::Fail;
-use std::{io, str};
 
 /// Texts that aren't scripts as a whole.
 const BAD_SCRIPTS: [&str; 35] = [
@@ -134,44 +134,74 @@ const GOOD_EVENTS: [&str; 11] = [
     r#"["submit",0,{"read":["f",["b"],{"range":{"reversed":true,"reversed":false}}]}]"#,
 ];
 
-/// A script of these events.
-fn script(alloc: Global, events: &str) -> Result<String, AllocError> {
-    format!(in alloc;
-        "{{\"dcs\":1,\"shards\":1,\"families\":[\"f\"],\"homes\":[0],\"events\":[{events}]}}"
-    )
+/// What stands before the events of a script, and after them.
+const BEFORE: &str = r#"{"dcs":1,"shards":1,"families":["f"],"homes":[0],"events":["#;
+
+const AFTER: &str = "]}";
+
+/// The fault for which a text between these two is refused, if it is.
+fn refusal(
+    alloc: Global,
+    before: &str,
+    text: &str,
+    after: &str,
+) -> Result<Option<Fault>, AllocError> {
+    let script = format!(in alloc; "{before}{text}{after}")?;
+    Ok(read_script(alloc, script.as_str()).err())
 }
+
+/// The first of the texts for which that fault is another one, or which is refused where none is wanted.
+fn first_other<'a>(
+    alloc: Global,
+    (before, after): (&str, &str),
+    texts: &[&'a str],
+    wanted: Option<Fault>,
+) -> Result<Option<&'a str>, AllocError> {
+    for text in texts {
+        if refusal(alloc, before, text, after)? != wanted {
+            return Ok(Some(text));
+        }
+    }
+    Ok(None)
+}
+
+/// What stands before a change of a batch in a script, and after it.
+const ROUND_CHANGE: (&str, &str) = (
+    r#"{"dcs":1,"shards":1,"families":["f"],"homes":[0],"events":[["submit",0,{"batch":["#,
+    "]}]]}",
+);
+
+/// What stands before the predicate of a read in a script, and after it.
+const ROUND_PREDICATE: (&str, &str) = (
+    r#"{"dcs":1,"shards":1,"families":["f"],"homes":[0],"events":[["submit",0,{"read":["f",["b"],"#,
+    "]}]]}",
+);
 
 #[test]
 fn scripts_are_strict(rt: HostRuntime) -> Result<(), Fail> {
-    let alloc = rt.alloc();
-    for text in BAD_SCRIPTS {
-        let refused = read_script(alloc, text).err();
-        assert_eq!(rt; refused, Some(Fault::Script), "at {text}");
-    }
-    for event in BAD_EVENTS {
-        let refused = read_script(alloc, script(alloc, event)?.as_str()).err();
-        assert_eq!(rt; refused, Some(Fault::Script), "at {event}");
-    }
-    for change in BAD_CHANGES {
-        let event = format!(in alloc; "[\"submit\",0,{{\"batch\":[{change}]}}]")?;
-        let refused = read_script(alloc, script(alloc, event.as_str())?.as_str()).err();
-        assert_eq!(rt; refused, Some(Fault::Script), "at {change}");
-    }
-    for predicate in BAD_PREDICATES {
-        let event = format!(in alloc; "[\"submit\",0,{{\"read\":[\"f\",[\"b\"],{predicate}]}}]")?;
-        let refused = read_script(alloc, script(alloc, event.as_str())?.as_str()).err();
-        assert_eq!(rt; refused, Some(Fault::Script), "at {predicate}");
-    }
-    for events in GOOD_EVENTS {
-        let refused = read_script(alloc, script(alloc, events)?.as_str()).err();
-        assert_eq!(rt; refused, None, "at {events}");
-    }
+    let refused = Some(Fault::Script);
+    let text = first_other(rt.alloc(), ("", ""), &BAD_SCRIPTS, refused)?;
+    assert_eq!(rt; text, None);
+    let event = first_other(rt.alloc(), (BEFORE, AFTER), &BAD_EVENTS, refused)?;
+    assert_eq!(rt; event, None);
     Ok(())
 }
 
-/// The bytes as text.
-fn shown(bytes: &[u8]) -> &str {
-    str::from_utf8(bytes).unwrap_or("not UTF-8")
+#[test]
+fn changes_and_predicates_are_strict(rt: HostRuntime) -> Result<(), Fail> {
+    let refused = Some(Fault::Script);
+    let change = first_other(rt.alloc(), ROUND_CHANGE, &BAD_CHANGES, refused)?;
+    assert_eq!(rt; change, None);
+    let predicate = first_other(rt.alloc(), ROUND_PREDICATE, &BAD_PREDICATES, refused)?;
+    assert_eq!(rt; predicate, None);
+    Ok(())
+}
+
+#[test]
+fn good_events_are_read(rt: HostRuntime) -> Result<(), Fail> {
+    let refused = first_other(rt.alloc(), (BEFORE, AFTER), &GOOD_EVENTS, None)?;
+    assert_eq!(rt; refused, None);
+    Ok(())
 }
 
 /// Reads nothing.
@@ -184,46 +214,53 @@ impl Read for Failing {
     }
 }
 
-/// The events of a script whose transcript has 17 bytes.
-const REFUSED: &str = r#"["submit",0,{"batch":[]}]"#;
+/// A script whose transcript has 17 bytes.
+const REFUSED: &[u8] =
+    br#"{"dcs":1,"shards":1,"families":["f"],"homes":[0],"events":[["submit",0,{"batch":[]}]]}"#;
 
-#[test]
-fn failing_readers_and_writers(rt: HostRuntime) -> Result<(), Fail> {
-    let alloc = rt.alloc();
-    let text = script(alloc, REFUSED)?;
-    let bytes = text.as_str().as_bytes();
-
+/// Whether reading the script ends with this status, this transcript, and this told of faults.
+fn ends_with<R: Read>(
+    alloc: Global,
+    reader: &mut R,
+    status: u8,
+    transcript: &str,
+    told: &str,
+) -> bool {
     let mut out: Vec<u8> = Vec::new(alloc);
     let mut errors: Vec<u8> = Vec::new(alloc);
-    let mut whole = bytes;
-    let status = perform(alloc, &Task::Sim, &mut whole, &mut out, &mut errors);
-    assert_eq!(rt; status, 0);
-    assert_eq!(rt; shown(&out), "node 1 refused 1\n");
-    assert_eq!(rt; shown(&errors), "");
+    let ended = perform(alloc, &Task::Sim, reader, &mut out, &mut errors);
+    ended == status
+        && out.as_slice() == transcript.as_bytes()
+        && errors.as_slice() == told.as_bytes()
+}
 
-    out.clear();
-    let mut broken = bytes.chain(Failing);
-    let status = perform(alloc, &Task::Sim, &mut broken, &mut out, &mut errors);
-    assert_eq!(rt; status, 1);
-    assert_eq!(rt; shown(&out), "");
-    assert_eq!(rt; shown(&errors), "eiger: fault 36 ReadFailed\n");
-
-    errors.clear();
+/// What a writer with room for eight bytes gets of the transcript, with the status and what is told of faults.
+fn written_in_eight(alloc: Global) -> (u8, [u8; 8], Vec<u8>) {
     let mut room = [0u8; 8];
     let mut full = &mut room[..];
-    let mut again = bytes;
-    let status = perform(alloc, &Task::Sim, &mut again, &mut full, &mut errors);
-    assert_eq!(rt; status, 1);
-    assert_eq!(rt; shown(&errors), "eiger: fault 37 WriteFailed\n");
-    assert_eq!(rt; shown(&room), "node 1 r");
+    let mut errors: Vec<u8> = Vec::new(alloc);
+    let mut script = REFUSED;
+    let status = perform(alloc, &Task::Sim, &mut script, &mut full, &mut errors);
+    (status, room, errors)
+}
 
-    errors.clear();
+#[test]
+fn failing_readers(rt: HostRuntime) {
+    let alloc = rt.alloc();
+    let mut whole = REFUSED;
+    assert!(rt; ends_with(alloc, &mut whole, 0, "node 1 refused 1\n", ""));
+    let mut broken = REFUSED.chain(Failing);
+    assert!(rt; ends_with(alloc, &mut broken, 1, "", "eiger: fault 36 ReadFailed\n"));
     let mut mangled: &[u8] = b"\xff";
-    let status = perform(alloc, &Task::Sim, &mut mangled, &mut out, &mut errors);
+    assert!(rt; ends_with(alloc, &mut mangled, 1, "", "eiger: fault 35 Script\n"));
+}
+
+#[test]
+fn failing_writer(rt: HostRuntime) {
+    let (status, written, errors) = written_in_eight(rt.alloc());
     assert_eq!(rt; status, 1);
-    assert_eq!(rt; shown(&out), "");
-    assert_eq!(rt; shown(&errors), "eiger: fault 35 Script\n");
-    Ok(())
+    assert!(rt; written == *b"node 1 r");
+    assert!(rt; errors.as_slice() == b"eiger: fault 37 WriteFailed\n".as_slice());
 }
 
 /// Each refusal, as it is told.
@@ -257,9 +294,9 @@ const REFUSALS: [(Fault, &str); 25] = [
 
 #[test]
 fn refusals_are_told(rt: HostRuntime) -> Result<(), Fail> {
-    for (fault, told) in REFUSALS {
+    for (fault, told) in &REFUSALS {
         let text = format!(in rt.alloc(); "{fault}")?;
-        assert_eq!(rt; text.as_str(), told);
+        assert_eq!(rt; text.as_str(), *told);
     }
     Ok(())
 }
