@@ -1,5 +1,5 @@
 -- What keeps causal order in every run: what a session's dependencies cover, and the times of its operations.
-use Rattle.std.specs.Prelude.{◌≡◌, ℕ, ◌<◌, ◌≤◌, false, List, flat_map}
+use Rattle.std.specs.Prelude.{◌≡◌, ℕ, ◌<◌, ◌≤◌, false, List, flat_map, [], ◌∷◌}
 use Rattle.logical_time.specs.Stamps.{TxnValue, WriterValue}
 use Rattle.messages.specs.declared.rows_at.RowAt.{RowAt}
 use Rattle.messages.specs.declared.op.Op.{Op}
@@ -42,6 +42,11 @@ EndCausal (op.Batch batch) outcome.Collected top w c = Unit {0}
 EndCausal (op.Read read) (outcome.Wrote commit stamp) top w c = Unit {0}
 EndCausal (op.Read read) outcome.Collected top w c = Unit {0}
 
+-- no two of these are of one operation
+abbrev pub EndedOnce : List Completed → Type 0
+EndedOnce [] = Unit {0}
+EndedOnce (c ∷ cs) = ((e : Completed) → Among e cs → txn_ended e ≡ txn_ended c → ⊥) × EndedOnce cs
+
 pub record Causal (top : TopologyValue) (w : Run) : Type 0 where
   pub ended : (c : Completed) → Among c w.transcript → EndCausal c.op c.outcome top w c
   -- the floor is above all times so far
@@ -54,4 +59,5 @@ pub record Causal (top : TopologyValue) (w : Run) : Type 0 where
   -- what is submitted later has a greater time
   pub begun : (b : Submission) (c : Completed) → Among b w.submitted → Among c w.transcript → c.node ≡ b.session → c.number < b.number → time_of c.outcome ≤ b.time
   -- each operation ends once
+  pub once : EndedOnce w.transcript
   pub one : (c e : Completed) → Among c w.transcript → Among e w.transcript → txn_ended c ≡ txn_ended e → c ≡ e

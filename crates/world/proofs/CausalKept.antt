@@ -1,5 +1,6 @@
 -- Each event keeps causal order: a shard's step, a session's step, and a submission.
 use Rattle.std.proofs.Common.{◌≡◌, ℕ, ◌+◌, ◌<◌, ◌≤◌, Bool, true, false, cond, List, [], ◌∷◌, ◌++◌, drop, length, Option, Some, None, Ok, ◌⊎◌, inl, inr, refl, sym, ap, ◌∙◌, subst, arith, eqb-true, le_refl, le_trans}
+use Rattle.std.specs.List.{cons_option}
 use Rattle.std.specs.Prelude.{◌==◌, filter_map, option_map}
 use Rattle.std.proofs.Math.Seq.{drop-append_seam, drop-length}
 use Rattle.std.proofs.lemmas.Bool.{false≢true}
@@ -26,7 +27,7 @@ use Rattle.world.proofs.LastingAll.{from_grows}
 use Rattle.world.proofs.ShardSteps.{actor_same, shard_run_grows}
 use Rattle.world.proofs.SessionEnds.{one_given}
 use Rattle.world.proofs.SessionSteps.{Stays, EndLeaves, Ends, SessionAble, session_run_grows}
-use Rattle.world.proofs.Causal.{txn_ended, Covered, direct, via, LaterCovered, writers_in, EndCausal, Causal}
+use Rattle.world.proofs.Causal.{txn_ended, Covered, direct, via, LaterCovered, writers_in, EndCausal, EndedOnce, Causal}
 
 -- ## What is covered stays so
 
@@ -63,6 +64,7 @@ shard_causal top w node st ev g k =
       number = k.number;
       closed = k.closed;
       begun = k.begun;
+      once = k.once;
       one = k.one;
     }
 
@@ -345,6 +347,34 @@ module _ (top : TopologyValue) (w : Run) (node : ℕ) (st : SessionStep) (ev : E
       absurd (omega arith)
   one_go c d (inr m) (inr n) q = added_same c d m n
 
+  -- nothing that ended before is of the operation that ends
+  once_after : (cs : List Completed) → ((c : Completed) → Among c cs → Among c w.transcript) → EndedOnce cs → (es : List Completed) → ((e : Completed) → Among e es → Among e added) → EndedOnce es → EndedOnce (cs ++ es)
+  once_after [] f o es g n = n
+  once_after (c ∷ cs) f o es g n = (
+    λ e m q. elim (among_append e cs es m) [
+      | inl old ↦ o.0 e old q
+      | inr new ↦ let a = added_new e (g e new) in let lt = old_number c (f c (inl refl)) a.0 (ap (λ z. z.session) (sym q) ∙ a.1.node_is) in let same = ap (λ z. z.number) (sym q) ∙ a.1.number in omega arith
+    ],
+    once_after cs (λ d m. f d (inr m)) o.1 es g n,
+  )
+
+  -- and it ends once
+  single_once : (es : List Completed) → (f : Finished) → es ≡ filter_map (completed_of w.submitted node) (f ∷ []) → EndedOnce es
+  single_once es f q = subst EndedOnce (sym q) (go (completed_of w.submitted node f))
+    where
+      go : (o : Option Completed) → EndedOnce (cons_option o [])
+      go None = tt
+      go (Some c) = ((λ e m same. m), tt)
+
+  added_once : EndedOnce added
+  added_once = go able.turn
+    where
+      go : Stays (w.sessions node) st.state ⊎ Ends top w node st.state → EndedOnce added
+      go (inl s) = subst (λ fs. EndedOnce (filter_map (completed_of w.submitted node) fs)) (sym (ap (drop (length (w.sessions node).outcomes)) s.outcomes ∙ drop-length (w.sessions node).outcomes)) tt
+      go (inr e) =
+          let f : Finished = record { number = (w.sessions node).count; outcome = e.came } in
+          single_once added f (ap (filter_map (completed_of w.submitted node)) (ap (drop (length (w.sessions node).outcomes)) e.outcomes ∙ drop-append_seam (w.sessions node).outcomes (f ∷ [])))
+
   pub session_causal : Causal top x
   session_causal =
       record {
@@ -354,6 +384,7 @@ module _ (top : TopologyValue) (w : Run) (node : ℕ) (st : SessionStep) (ev : E
         number = λ c m. number_go c (among_append c w.transcript added m);
         closed = λ c m busy. closed_go c (among_append c w.transcript added m) busy;
         begun = λ b c i m q lt. begun_go b c i (among_append c w.transcript added m) q lt;
+        once = once_after w.transcript (λ c m. m) k.once added (λ c m. m) added_once;
         one = λ c d m n q. one_go c d (among_append c w.transcript added m) (among_append d w.transcript added n) q;
       }
 
@@ -430,5 +461,6 @@ module _ (top : TopologyValue) (w : Run) (node n : ℕ) (o : Op) (inv : Inv top 
         number = λ c m. le_trans (k.number c m) (count_go c.node (c.node == node) refl);
         closed = λ c m busy. closed_then c m (c.node == node) refl busy;
         begun = λ b c i m q less. begun_then b c (last_or_old b its w.submitted i) m q less;
+        once = k.once;
         one = k.one;
       }

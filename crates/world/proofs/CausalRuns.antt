@@ -101,6 +101,7 @@ opening_causal top =
       number = λ c m. absurd m;
       closed = λ c m. absurd m;
       begun = λ b c m. absurd m;
+      once = tt;
       one = λ c d m. absurd m;
     }
 

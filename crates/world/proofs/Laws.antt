@@ -1,6 +1,6 @@
 -- The promises of every run, from what holds of it.
-use Rattle.std.proofs.Common.{◌≡◌, ℕ, ◌+◌, ◌<◌, true, List, [], ◌++◌, refl, sym, ap, ◌∙◌, subst, arith, le_refl}
-use Rattle.std.specs.Prelude.{Contains}
+use Rattle.std.proofs.Common.{◌≡◌, ℕ, ◌+◌, ◌<◌, true, List, [], ◌∷◌, ◌++◌, refl, sym, ap, ◌∙◌, subst, arith, le_refl}
+use Rattle.std.specs.Prelude.{◌≢◌, Contains, AllPairs}
 use Rattle.std.proofs.lemmas.Bool.Decides.{nat_tests}
 use Rattle.logical_time.specs.Stamps.{StampValue, TxnValue, WriterValue, is_older}
 use Rattle.column_family.specs.History.{History}
@@ -8,14 +8,14 @@ use Rattle.slice.specs.declared.read.Read.{Read}
 use Rattle.messages.specs.declared.rows_at.RowAt.{RowAt}
 use Rattle.messages.specs.Topology.{TopologyValue, is_topology, dc_of, shard_of, shard_node}
 use Rattle.messages.proofs.Numbering.{shard_again}
-use Rattle.world.specs.Run.{Run, Event, run, opening}
+use Rattle.world.specs.Run.{Run, Event, Completed, run, opening}
 use Rattle.world.specs.Histories.{decisions_in, IsHistory}
 use Rattle.world.specs.Before.{ReadRestsOn}
 use Rattle.world.specs.Committed.{IsCommittedBy}
 use Rattle.world.specs.Entries.{StampsAgree, WritesAreTold, TellsDecided, AreNamedOnce, CoordinatorsDecide}
 use Rattle.world.specs.Quiet.{IsQuiet}
 use Rattle.world.specs.Settled.{Settled}
-use Rattle.world.specs.Promises.{ReadsShowOneTable, ReadsShowTheirPast, ReadsAreFresh, StampsFollowCauses, TimesNeverFall, OperationsEndOnce, HistoriesGrow, HandledIsHonest}
+use Rattle.world.specs.Promises.{number_of, ReadsShowOneTable, ReadsShowTheirPast, ReadsAreFresh, StampsFollowCauses, TimesNeverFall, OperationsEndOnce, HistoriesGrow, HandledIsHonest}
 use Rattle.world.proofs.Among.{Among, among_contains, contains_among}
 use Rattle.world.proofs.Growth.{Grows}
 use Rattle.world.proofs.Facts.{lead, IsDone}
@@ -25,7 +25,8 @@ use Rattle.world.proofs.DecidedIn.{in_decisions, decided_in}
 use Rattle.world.proofs.ReadTables.{one_table}
 use Rattle.world.proofs.ReadRests.{rests_on_written}
 use Rattle.world.proofs.WritersDone.{writers_done}
-use Rattle.world.proofs.Causal.{writers_in}
+use Rattle.world.proofs.Pairs.{no_pairs, more_pairs}
+use Rattle.world.proofs.Causal.{EndedOnce, writers_in}
 use Rattle.world.proofs.CausalKept.{new_writers}
 use Rattle.world.proofs.CausalRuns.{every_causal}
 use Rattle.world.proofs.Pasts.{past_reached}
@@ -96,10 +97,12 @@ times_never_fall top events some c e hc he node number =
     let w = run top events in
     (every_causal top events some).ordered c e (contains_among c w.transcript hc) (contains_among e w.transcript he) node number
 
+ended_apart : (cs : List Completed) → EndedOnce cs → AllPairs (λ c e. number_of c ≢ number_of e) cs
+ended_apart [] k = no_pairs (λ c e. number_of c ≢ number_of e)
+ended_apart (c ∷ cs) k = more_pairs (λ c e. number_of c ≢ number_of e) c cs (λ e m same. k.0 e m (sym same)) (ended_apart cs k.1)
+
 pub operations_end_once : (top : TopologyValue) (events : List Event) → 0 < top.shards → OperationsEndOnce (run top events)
-operations_end_once top events some c e hc he same =
-    let w = run top events in
-    (every_causal top events some).one c e (contains_among c w.transcript hc) (contains_among e w.transcript he) same
+operations_end_once top events some = ended_apart (run top events).transcript (every_causal top events some).once
 
 -- ## Histories
 

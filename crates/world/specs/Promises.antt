@@ -1,5 +1,5 @@
 -- What is promised of every run, in a customer's words: one set of whole transactions for each data centre, and one number.
-use Rattle.std.specs.Prelude.{◌≡◌, ℕ, ◌<◌, true, List, ◌++◌, Contains}
+use Rattle.std.specs.Prelude.{◌≡◌, ◌≢◌, ℕ, ◌<◌, true, List, ◌++◌, Contains, AllPairs}
 use Rattle.logical_time.specs.Stamps.{TxnValue, is_older}
 use Rattle.column_family.specs.History.{History}
 use Rattle.slice.specs.declared.read.Read.{Read}
@@ -56,9 +56,9 @@ abbrev pub TimesNeverFall : Run → Type 0
 TimesNeverFall w =
     (c e : Completed) → Contains w.transcript c → Contains w.transcript e → c.node ≡ e.node → c.number < e.number → IsNotBelow e.outcome (time_of c.outcome)
 
--- an operation ends once
+-- an operation ends once: no two entries of the transcript have one number
 abbrev pub OperationsEndOnce : Run → Type 0
-OperationsEndOnce w = (c e : Completed) → Contains w.transcript c → Contains w.transcript e → number_of c ≡ number_of e → c ≡ e
+OperationsEndOnce w = AllPairs (λ c e. number_of c ≢ number_of e) w.transcript
 
 -- histories only grow: what further events add changes no entry
 abbrev pub HistoriesGrow : TopologyValue → List Event → List Event → Type 0
