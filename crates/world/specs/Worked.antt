@@ -4,7 +4,7 @@ use Rattle.std.specs.Prelude.{ℕ, ◌+◌, false, List, [], ◌∷◌, ◌++◌
 use Rattle.std.specs.List.{range_with_len}
 use Rattle.logical_time.specs.Stamps.{TxnValue}
 use Rattle.column_family.specs.declared.batch.Change.{Change}
-use Rattle.column_family.specs.declared.batch.Mutation.TheVariants.{Insert}
+use Rattle.column_family.specs.declared.batch.Mutation.TheVariants.{Insert, DeleteColumn}
 use Rattle.column_family.specs.History.{History, table_at, live_value}
 use Rattle.slice.specs.declared.column.Column.{Column}
 use Rattle.slice.specs.declared.predicate.Predicate.TheVariants.{Names, Range}
@@ -64,6 +64,10 @@ actors dcs shards homes = record { dcs = dcs; shards = shards; schema = family_f
 -- a column of a row gets this digit
 abbrev pub insert : List ℕ → List ℕ → ℕ → Change
 insert key name n = record { row = record { family = family_f; key = key }; mutation = Insert name (digit n) }
+
+-- a column is deleted
+abbrev pub delete : List ℕ → List ℕ → Change
+delete key name = record { row = record { family = family_f; key = key }; mutation = DeleteColumn name }
 
 -- a session submits a batch of these changes
 abbrev pub write : ℕ → List Change → Event
@@ -150,6 +154,10 @@ abbrev pub insert_and_read_back : Run
 insert_and_read_back =
     run one_shard
     (write 1 (insert key_b name_x 1 ∷ []) ∷ deliver (0 ∷ 1 ∷ []) ++ read 1 (key_b ∷ []) (name_x ∷ []) ∷ deliver (2 ∷ 3 ∷ []))
+
+-- every message of a write comes twice
+abbrev pub messages_come_again : Run
+messages_come_again = run one_shard (write 1 (insert key_b name_x 1 ∷ []) ∷ deliver (0 ∷ 0 ∷ 1 ∷ 1 ∷ []))
 
 -- ## Two shards of one data centre: nodes 0 and 1, and the sessions 2 and 3
 
@@ -257,6 +265,11 @@ dependency_through_a_read =
     (write 2 (insert key_b name_x 1 ∷ []) ∷ Deliver 0 ∷ write 3 (insert key_c name_y 1 ∷ []) ∷ Deliver 3
     ∷ read 4 (key_b ∷ []) (name_x ∷ []) ∷ deliver (6 ∷ 7 ∷ []) ++ read 4 (key_c ∷ []) (name_y ∷ []) ∷ deliver (8 ∷ 9 ∷ [])
     ++ write 4 (insert key_d name_z 1 ∷ []) ∷ deliver (10 ∷ 12 ∷ 13 ∷ 14 ∷ 5 ∷ 15 ∷ 2 ∷ 16 ∷ []))
+
+-- a session deletes a column, and another reads that there is none: so it depends on the deletion
+abbrev pub deletion_is_read : Run
+deletion_is_read =
+    run three_at_home (write 2 (delete key_b name_x ∷ []) ∷ deliver (0 ∷ 1 ∷ []) ++ read 4 (key_b ∷ []) (name_x ∷ []) ∷ deliver (3 ∷ 4 ∷ []))
 
 -- ## Two data centres of two shards: nodes 0 to 3, and the session 4
 

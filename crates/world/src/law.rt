@@ -7,8 +7,8 @@ ghost use Rattle.world.specs.Histories.{history_of};
 ghost use Rattle.world.specs.Quiet.{IsQuiet};
 ghost use Rattle.world.specs.Met.{horizon};
 ghost use Rattle.world.specs.Before.{Past};
-ghost use Rattle.world.specs.Worked.{operation, outcomes_of, shard_clocks, times_sent, valid_in, commit_times, prepare_times, times_applied, x_at, wrote, column, row, digit, key_a, key_b, key_c, name_c, name_d, name_x, name_y, both_rows, two_shards, two_centres, three_at_home, two_by_two};
-ghost use Rattle.world.specs.Worked.{insert_and_read_back, two_shard_write, read_asks_coordinator, second_round_collected, collected_while_waiting, horizon_at_effective_time, late_repeats, undecided_is_excluded, unseen_column_under_mark, concurrent_inserts_meet, older_stamp_arrives_late, dependency_holds_back, read_before_dependency, dependency_through_a_read, write_is_replicated};
+ghost use Rattle.world.specs.Worked.{operation, outcomes_of, shard_clocks, times_sent, valid_in, commit_times, prepare_times, times_applied, x_at, wrote, column, row, digit, key_a, key_b, key_c, name_c, name_d, name_x, name_y, both_rows, one_shard, two_shards, two_centres, three_at_home, two_by_two};
+ghost use Rattle.world.specs.Worked.{insert_and_read_back, messages_come_again, deletion_is_read, two_shard_write, read_asks_coordinator, second_round_collected, collected_while_waiting, horizon_at_effective_time, late_repeats, undecided_is_excluded, unseen_column_under_mark, concurrent_inserts_meet, older_stamp_arrives_late, dependency_holds_back, read_before_dependency, dependency_through_a_read, write_is_replicated};
 
 /// The events that a run keeps, which are those that weren't refused, lead to the same run. Does nothing; its contract is
 /// the law.
@@ -17,7 +17,8 @@ pub fn refused_events_are_left_out()
     ensures { (top : TopologyValue) (events : List Event) → run top (run top events).events ≡ run top events }
 {}
 
-/// A column is inserted and read back; a batch is committed on both of its shards. Does nothing; its contract is the law.
+/// A column is inserted and read back; messages that come again change nothing; a batch is committed on both of its shards.
+/// Does nothing; its contract is the law.
 pub fn worked_writes()
     ensures read_back { outcomes_of insert_and_read_back 1 ≡ wrote 2 0 ∷ outcome.Read 2 (row key_b (column name_x 1 ∷ []) ∷ []) ∷ [] }
     ensures read_back_times { times_sent insert_and_read_back ≡ 1 ∷ 2 ∷ 4 ∷ 5 ∷ [] }
@@ -28,6 +29,8 @@ pub fn worked_writes()
     ensures cohort_prepares { prepare_times two_shard_write 1 ≡ 2 ∷ [] }
     ensures coordinator_applies { times_applied two_shard_write 0 ≡ 3 ∷ [] }
     ensures cohort_applies { times_applied two_shard_write 1 ≡ 3 ∷ [] }
+    ensures again { outcomes_of messages_come_again 1 ≡ wrote 2 0 ∷ [] }
+    ensures again_commits { commit_times one_shard messages_come_again 0 ≡ 2 ∷ [] }
     ensures two_shards_clocks { shard_clocks two_shards two_shard_write ≡ 3 ∷ 4 ∷ [] }
 {}
 
@@ -82,6 +85,7 @@ pub fn worked_inserts_that_meet()
 {}
 
 /// A write waits in another data centre for what its session did before: for a write, or for writes of others that it read.
+/// Who reads that a column was deleted depends on the deletion.
 /// Does nothing; its contract is the law.
 pub fn worked_dependencies()
     ensures held_back { outcomes_of dependency_holds_back 3 ≡ outcome.Read 9 (row key_b (column name_x 1 ∷ column name_y 2 ∷ []) ∷ []) ∷ [] }
@@ -90,6 +94,8 @@ pub fn worked_dependencies()
     ensures held_back_valid { valid_in dependency_holds_back 9 ≡ 9 ∷ 10 ∷ [] }
     ensures too_early { outcomes_of read_before_dependency 3 ≡ outcome.Read 0 (row key_b [] ∷ []) ∷ [] }
     ensures too_early_valid { valid_in read_before_dependency 8 ≡ 0 ∷ 8 ∷ [] }
+    ensures deletion { outcomes_of deletion_is_read 4 ≡ outcome.Read 2 (row key_b [] ∷ []) ∷ [] }
+    ensures deletion_depends { (deletion_is_read.sessions 4).dependencies ≡ record { txn = operation 2 1; shard = 0 } ∷ [] }
     ensures through_reads { outcomes_of dependency_through_a_read 4 ≡ outcome.Read 2 (row key_b (column name_x 1 ∷ []) ∷ []) ∷ outcome.Read 3 (row key_c (column name_y 1 ∷ []) ∷ []) ∷ [] }
     ensures through_reads_times { times_sent dependency_through_a_read ≡ 1 ∷ 2 ∷ 2 ∷ 1 ∷ 3 ∷ 3 ∷ 1 ∷ 4 ∷ 6 ∷ 7 ∷ 9 ∷ 10 ∷ 10 ∷ 11 ∷ 11 ∷ 14 ∷ 16 ∷ [] }
     ensures through_reads_commits { commit_times three_at_home dependency_through_a_read 0 ≡ 2 ∷ 3 ∷ 10 ∷ [] }
