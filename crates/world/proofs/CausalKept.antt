@@ -27,7 +27,8 @@ use Rattle.world.proofs.LastingAll.{from_grows}
 use Rattle.world.proofs.ShardSteps.{actor_same, shard_run_grows}
 use Rattle.world.proofs.SessionEnds.{one_given}
 use Rattle.world.proofs.SessionSteps.{Stays, EndLeaves, Ends, SessionAble, session_run_grows}
-use Rattle.world.proofs.Causal.{txn_ended, Covered, direct, via, LaterCovered, writers_in, EndCausal, EndedOnce, Causal}
+use Rattle.world.proofs.Entries.{submission_found}
+use Rattle.world.proofs.Causal.{txn_ended, Covered, direct, via, LaterCovered, writers_in, EndCausal, EndedOnce, NamedOnce, IsToldOf, Causal}
 
 -- ## What is covered stays so
 
@@ -65,6 +66,8 @@ shard_causal top w node st ev g k =
       closed = k.closed;
       begun = k.begun;
       once = k.once;
+      named = k.named;
+      told = λ i f m. let t = k.told i f m in record { entry = t.entry; among = t.among; node = t.node; number = t.number; outcome = t.outcome };
       one = k.one;
     }
 
@@ -375,6 +378,41 @@ module _ (top : TopologyValue) (w : Run) (node : ℕ) (st : SessionStep) (ev : E
           let f : Finished = record { number = (w.sessions node).count; outcome = e.came } in
           single_once added f (ap (filter_map (completed_of w.submitted node)) (ap (drop (length (w.sessions node).outcomes)) e.outcomes ∙ drop-append_seam (w.sessions node).outcomes (f ∷ [])))
 
+  -- what the session finished stands in the transcript
+  still_told : (i : ℕ) (f : Finished) → IsToldOf w i f → IsToldOf x i f
+  still_told i f t = record { entry = t.entry; among = append_first t.entry w.transcript added t.among; node = t.node; number = t.number; outcome = t.outcome }
+
+  new_told : (e : Ends top w node st.state) (f : Finished) → f ≡ record { number = (w.sessions node).count; outcome = e.came } → IsToldOf x node f
+  new_told e f q =
+      let s = e.opened.submission in
+      let own : Finished = record { number = (w.sessions node).count; outcome = e.came } in
+      let c : Completed = record { node = node; number = (w.sessions node).count; home = s.home; op = s.op; outcome = e.came } in
+      let txn : txn_of s ≡ record { session = node; number = (w.sessions node).count } = λ j. record { session = e.opened.session j; number = e.opened.number j } in
+      let found = submission_found top w s (record { session = node; number = (w.sessions node).count }) inv.submitted e.opened.among txn in
+      let is : completed_of w.submitted node own ≡ Some c =
+      ap (option_map (λ (z : Submission). let r : Completed = record { node = node; number = (w.sessions node).count; home = z.home; op = z.op; outcome = e.came } in r)) found in
+      let here : added ≡ cons_option (completed_of w.submitted node own) [] =
+      ap (filter_map (completed_of w.submitted node)) (ap (drop (length (w.sessions node).outcomes)) e.outcomes ∙ drop-append_seam (w.sessions node).outcomes (own ∷ [])) in
+      record {
+        entry = c;
+        among = append_second c w.transcript added (subst (λ l. Among c l) (sym (here ∙ ap (λ o. cons_option o []) is)) (inl refl));
+        node = refl;
+        number = sym (ap (λ z. z.number) q);
+        outcome = sym (ap (λ z. z.outcome) q);
+      }
+
+  told_turn : (f : Finished) → Among f st.state.outcomes → Stays (w.sessions node) st.state ⊎ Ends top w node st.state → IsToldOf x node f
+  told_turn f m (inl s) = still_told node f (k.told node f (subst (λ l. Among f l) s.outcomes m))
+  told_turn f m (inr e) =
+      elim (last_or_old f (record { number = (w.sessions node).count; outcome = e.came }) (w.sessions node).outcomes (subst (λ l. Among f l) e.outcomes m)) [
+        | inl old ↦ still_told node f (k.told node f old)
+        | inr new ↦ new_told e f new
+      ]
+
+  told_go : (i : ℕ) (f : Finished) (b : Bool) → (i == node) ≡ b → Among f (cond b st.state (w.sessions i)).outcomes → IsToldOf x i f
+  told_go i f true e m = subst (λ z. IsToldOf x z f) (sym (eqb-true i node e)) (told_turn f m able.turn)
+  told_go i f false e m = still_told i f (k.told i f m)
+
   pub session_causal : Causal top x
   session_causal =
       record {
@@ -385,6 +423,8 @@ module _ (top : TopologyValue) (w : Run) (node : ℕ) (st : SessionStep) (ev : E
         closed = λ c m busy. closed_go c (among_append c w.transcript added m) busy;
         begun = λ b c i m q lt. begun_go b c i (among_append c w.transcript added m) q lt;
         once = once_after w.transcript (λ c m. m) k.once added (λ c m. m) added_once;
+        named = k.named;
+        told = λ i f m. told_go i f (i == node) refl m;
         one = λ c d m n q. one_go c d (among_append c w.transcript added m) (among_append d w.transcript added n) q;
       }
 
@@ -452,6 +492,24 @@ module _ (top : TopologyValue) (w : Run) (node n : ℕ) (o : Op) (inv : Inv top 
       let time = ap (λ z. z.time) p in
       omega arith
 
+  named_after : (bs : List Submission) → ((b : Submission) → Among b bs → Among b w.submitted) → NamedOnce bs → NamedOnce (bs ++ its ∷ [])
+  named_after [] f o = ((λ c m q. m), tt)
+  named_after (b ∷ bs) f o = (
+    λ c m q. elim (last_or_old c its bs m) [
+      | inl old ↦ o.0 c old q
+      | inr new ↦ let le = inv.submitted.number b (f b (inl refl)) in
+          let number = ap (λ z. z.number) (sym q ∙ ap txn_of new) in
+          let count = ap (λ z. (w.sessions z.session).count) (sym q ∙ ap txn_of new) in
+          omega arith
+    ],
+    named_after bs (λ c m. f c (inr m)) o.1,
+  )
+
+  then_told : (i : ℕ) (f : Finished) (b : Bool) → (i == node) ≡ b → Among f (cond b opened.state (w.sessions i)).outcomes → IsToldOf then i f
+  then_told i f b e m =
+      let t = k.told i f (subst (λ l. Among f l) (state_go (λ s. s.outcomes) refl i b e) m) in
+      record { entry = t.entry; among = t.among; node = t.node; number = t.number; outcome = t.outcome }
+
   pub submission_causal : Grows top w then → Causal top then
   submission_causal g =
       record {
@@ -462,5 +520,7 @@ module _ (top : TopologyValue) (w : Run) (node n : ℕ) (o : Op) (inv : Inv top 
         closed = λ c m busy. closed_then c m (c.node == node) refl busy;
         begun = λ b c i m q less. begun_then b c (last_or_old b its w.submitted i) m q less;
         once = k.once;
+        named = named_after w.submitted (λ b m. m) k.named;
+        told = λ i f m. then_told i f (i == node) refl m;
         one = k.one;
       }

@@ -102,6 +102,8 @@ opening_causal top =
       closed = λ c m. absurd m;
       begun = λ b c m. absurd m;
       once = tt;
+      named = tt;
+      told = λ i f m. absurd m;
       one = λ c d m. absurd m;
     }
 

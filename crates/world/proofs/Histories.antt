@@ -14,7 +14,7 @@ use Rattle.messages.specs.Topology.{TopologyValue, shard_node}
 use Rattle.messages.specs.Shard.{Decision}
 use Rattle.world.specs.Run.{Run}
 use Rattle.world.specs.Histories.{decisions_in, committed_of, history_of, IsHistory}
-use Rattle.world.specs.Entries.{AreNamedOnce, CoordinatorsDecide, HaveOwnStamps, IsEntryOf, TellsDecided}
+use Rattle.world.specs.Entries.{CoordinatorsDecide, HaveOwnStamps, IsEntryOf, TellsDecided}
 use Rattle.world.proofs.Among.{among_contains, contains_among}
 use Rattle.world.proofs.Pairs.{among_pairs, given_pairs}
 use Rattle.world.proofs.Invariant.{Inv}
@@ -102,10 +102,6 @@ history_tells top w dc h inv p = record {
     back (c, has, is) = (c, Contains-permutation (history_of top w dc) h c turn has, is)
 
 -- ## Submissions and coordinators
-
-pub named_once : (top : TopologyValue) (w : Run) → Inv top w → AreNamedOnce w
-named_once top w inv s t m n sessions numbers =
-    inv.submitted.one s t (contains_among s w.submitted m) (contains_among t w.submitted n) (λ i. record { session = sessions i; number = numbers i })
 
 pub coordinators_decide : (top : TopologyValue) (w : Run) → Inv top w → CoordinatorsDecide top w
 coordinators_decide top w inv node d has =

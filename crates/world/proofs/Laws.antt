@@ -6,33 +6,38 @@ use Rattle.logical_time.specs.Stamps.{StampValue, TxnValue, WriterValue, is_olde
 use Rattle.column_family.specs.History.{History}
 use Rattle.slice.specs.declared.read.Read.{Read}
 use Rattle.messages.specs.declared.rows_at.RowAt.{RowAt}
+use Rattle.messages.specs.declared.op.Op.{Op}
+use Rattle.messages.specs.declared.op.Op.TheVariants as op
+use Rattle.messages.specs.declared.outcome.Outcome.{Outcome}
+use Rattle.messages.specs.declared.outcome.Outcome.TheVariants as outcome
+use Rattle.messages.specs.Session.{Finished}
 use Rattle.messages.specs.Topology.{TopologyValue, is_topology, dc_of, shard_of, shard_node}
 use Rattle.messages.proofs.Numbering.{shard_again}
-use Rattle.world.specs.Run.{Run, Event, Completed, run, opening}
+use Rattle.world.specs.Run.{Run, Event, Submission, Completed, run, opening}
 use Rattle.world.specs.Histories.{decisions_in, IsHistory}
 use Rattle.world.specs.Before.{ReadRestsOn}
 use Rattle.world.specs.Committed.{IsCommittedBy}
-use Rattle.world.specs.Entries.{StampsAgree, WritesAreTold, TellsDecided, AreNamedOnce, CoordinatorsDecide}
+use Rattle.world.specs.Entries.{named_by, StampsAgree, WritesAreTold, TellsDecided, AreNamedOnce, CoordinatorsDecide}
 use Rattle.world.specs.Quiet.{IsQuiet}
 use Rattle.world.specs.Settled.{Settled}
-use Rattle.world.specs.Promises.{number_of, ReadsShowOneTable, ReadsShowTheirPast, ReadsAreFresh, StampsFollowCauses, TimesNeverFall, OperationsEndOnce, HistoriesGrow, HandledIsHonest}
+use Rattle.world.specs.Promises.{number_of, Fits, EntriesAreOfSubmissions, OutcomesAreListed, ReadsShowOneTable, ReadsShowTheirPast, ReadsAreFresh, StampsFollowCauses, TimesNeverFall, OperationsEndOnce, HistoriesGrow, HandledIsHonest}
 use Rattle.world.proofs.Among.{Among, among_contains, contains_among}
 use Rattle.world.proofs.Growth.{Grows}
 use Rattle.world.proofs.Facts.{lead, IsDone}
-use Rattle.world.proofs.Invariant.{AnsweredFrom, Inv}
+use Rattle.world.proofs.Invariant.{AnsweredFrom, EndSound, Inv}
 use Rattle.world.proofs.Near.{shard_below}
 use Rattle.world.proofs.DecidedIn.{in_decisions, decided_in}
 use Rattle.world.proofs.ReadTables.{one_table}
 use Rattle.world.proofs.ReadRests.{rests_on_written}
 use Rattle.world.proofs.WritersDone.{writers_done}
 use Rattle.world.proofs.Pairs.{no_pairs, more_pairs}
-use Rattle.world.proofs.Causal.{EndedOnce, writers_in}
+use Rattle.world.proofs.Causal.{EndedOnce, NamedOnce, writers_in}
 use Rattle.world.proofs.CausalKept.{new_writers}
 use Rattle.world.proofs.CausalRuns.{every_causal}
 use Rattle.world.proofs.Pasts.{past_reached}
 use Rattle.world.proofs.Runs.{every_run, run_grows, run_after}
 use Rattle.world.proofs.KeptEntries.{history_kept, stamps_agree, writes_are_told}
-use Rattle.world.proofs.Histories.{history_tells, named_once, coordinators_decide}
+use Rattle.world.proofs.Histories.{history_tells, coordinators_decide}
 use Rattle.world.proofs.HonestLists.{handled_honest}
 use Rattle.world.proofs.Settles.{settled}
 use Rattle.world.proofs.Addresses.{stands}
@@ -104,13 +109,45 @@ ended_apart (c ∷ cs) k = more_pairs (λ c e. number_of c ≢ number_of e) c cs
 pub operations_end_once : (top : TopologyValue) (events : List Event) → 0 < top.shards → OperationsEndOnce (run top events)
 operations_end_once top events some = ended_apart (run top events).transcript (every_causal top events some).once
 
+fits_go : (o : Op) (r : Outcome) (top : TopologyValue) (w : Run) (dc : ℕ) (t : TxnValue) → EndSound o r top w dc t → Fits o r
+fits_go (op.Batch batch) (outcome.Wrote commit stamp) top w dc t k = tt
+fits_go (op.Batch batch) (outcome.Read time answer) top w dc t k = absurd k
+fits_go (op.Batch batch) outcome.Collected top w dc t k = absurd k
+fits_go (op.Read read) (outcome.Wrote commit stamp) top w dc t k = absurd k
+fits_go (op.Read read) (outcome.Read time answer) top w dc t k = tt
+fits_go (op.Read read) outcome.Collected top w dc t k = tt
+
+pub entries_are_of_submissions : (top : TopologyValue) (events : List Event) → 0 < top.shards → EntriesAreOfSubmissions (run top events)
+entries_are_of_submissions top events some c has =
+    let w = run top events in
+    let k = (every_run top events some).transcript c (contains_among c w.transcript has) in
+    record {
+      submission = k.opened.submission;
+      submitted = among_contains k.opened.submission w.submitted k.opened.among;
+      session = k.opened.session;
+      number = k.opened.number;
+      home = k.opened.home;
+      op = k.opened.op;
+      fits = fits_go c.op c.outcome top w c.home (record { session = c.node; number = c.number }) k.came;
+    }
+
+pub outcomes_are_listed : (top : TopologyValue) (events : List Event) → 0 < top.shards → OutcomesAreListed (run top events)
+outcomes_are_listed top events some session f has =
+    let w = run top events in
+    let t = (every_causal top events some).told session f (contains_among f (w.sessions session).outcomes has) in
+    (t.entry, record { completed = among_contains t.entry w.transcript t.among; node = t.node; number = t.number; outcome = t.outcome })
+
 -- ## Histories
 
 pub histories_tell : (top : TopologyValue) (events : List Event) (dc : ℕ) (h : History) → 0 < top.shards → IsHistory top (run top events) dc h → TellsDecided top (run top events) dc h
 histories_tell top events dc h some is = history_tells top (run top events) dc h (every_run top events some) is
 
+named_apart : (bs : List Submission) → NamedOnce bs → AllPairs (λ s t. named_by s ≢ named_by t) bs
+named_apart [] k = no_pairs (λ s t. named_by s ≢ named_by t)
+named_apart (b ∷ bs) k = more_pairs (λ s t. named_by s ≢ named_by t) b bs (λ c m same. k.0 c m (sym same)) (named_apart bs k.1)
+
 pub named_in_runs : (top : TopologyValue) (events : List Event) → 0 < top.shards → AreNamedOnce (run top events)
-named_in_runs top events some = named_once top (run top events) (every_run top events some)
+named_in_runs top events some = named_apart (run top events).submitted (every_causal top events some).named
 
 pub coordinators_in_runs : (top : TopologyValue) (events : List Event) → 0 < top.shards → CoordinatorsDecide top (run top events)
 coordinators_in_runs top events some = coordinators_decide top (run top events) (every_run top events some)

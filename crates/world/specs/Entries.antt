@@ -7,7 +7,7 @@ use Rattle.column_family.specs.Normal.{committed}
 use Rattle.planner.specs.Plan.{coordinator_of}
 use Rattle.messages.specs.declared.op.Op.TheVariants as op
 use Rattle.messages.specs.declared.outcome.Outcome.TheVariants as outcome
-use Rattle.logical_time.specs.Stamps.{StampValue}
+use Rattle.logical_time.specs.Stamps.{StampValue, TxnValue}
 use Rattle.messages.specs.Topology.{TopologyValue, dc_of, shard_node}
 use Rattle.messages.specs.Shard.{Decision}
 use Rattle.world.specs.Run.{Run, Submission, Completed}
@@ -15,10 +15,13 @@ use Rattle.world.specs.Histories.{batch_submitted, decisions_in, IsHistory}
 
 -- ## Submissions and decisions
 
--- an operation is submitted once: its session and its number name one submission
+-- the number of an operation
+abbrev pub named_by : Submission → TxnValue
+named_by s = record { session = s.session; number = s.number }
+
+-- an operation is submitted once: no two submissions have one number
 abbrev pub AreNamedOnce : Run → Type 0
-AreNamedOnce w =
-    (s t : Submission) → Contains w.submitted s → Contains w.submitted t → s.session ≡ t.session → s.number ≡ t.number → s ≡ t
+AreNamedOnce w = AllPairs (λ s t. named_by s ≢ named_by t) w.submitted
 
 -- whatever a shard decided was submitted as a batch, and the shard is the batch's coordinator in its data centre
 abbrev pub CoordinatorsDecide : TopologyValue → Run → Type 0

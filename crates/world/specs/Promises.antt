@@ -5,12 +5,15 @@ use Rattle.column_family.specs.History.{History}
 use Rattle.slice.specs.declared.read.Read.{Read}
 use Rattle.slice.specs.declared.read.AnsweredRow.{AnsweredRow}
 use Rattle.table.specs.Meaning.{meaning}
+use Rattle.messages.specs.declared.op.Op.{Op}
 use Rattle.messages.specs.declared.op.Op.TheVariants as op
+use Rattle.messages.specs.declared.outcome.Outcome.{Outcome}
 use Rattle.messages.specs.declared.outcome.Outcome.TheVariants as outcome
 use Rattle.messages.specs.Topology.{TopologyValue}
 use Rattle.messages.specs.Honest.{IsHonest}
 use Rattle.messages.specs.Shard.{Decision}
-use Rattle.world.specs.Run.{Run, Event, Completed, run}
+use Rattle.messages.specs.Session.{Finished}
+use Rattle.world.specs.Run.{Run, Event, Submission, Completed, run}
 use Rattle.world.specs.Histories.{decisions_in, IsHistory}
 use Rattle.world.specs.Before.{Past}
 use Rattle.world.specs.Fresh.{IsFresh}
@@ -27,6 +30,38 @@ pub record IsAnswered (w : Run) (c : Completed) (read : Read) (time : ℕ) (answ
   pub completed : Contains w.transcript c
   pub op : c.op ≡ op.Read read
   pub outcome : c.outcome ≡ outcome.Read time answer
+
+-- what came of an operation fits it: a write is committed, a read is answered or given up
+abbrev pub Fits : Op → Outcome → Type 0
+Fits (op.Batch batch) (outcome.Wrote commit stamp) = Unit {0}
+Fits (op.Read read) (outcome.Read time answer) = Unit {0}
+Fits (op.Read read) outcome.Collected = Unit {0}
+Fits o r = ⊥
+
+-- what completed is a submitted operation of that session, number and home, and its outcome fits it
+pub record IsEndOfSubmitted (w : Run) (c : Completed) : Type 0 where
+  pub submission : Submission
+  pub submitted : Contains w.submitted submission
+  pub session : submission.session ≡ c.node
+  pub number : submission.number ≡ c.number
+  pub home : submission.home ≡ c.home
+  pub op : submission.op ≡ c.op
+  pub fits : Fits c.op c.outcome
+
+-- each entry of the transcript is of an operation that was submitted
+abbrev pub EntriesAreOfSubmissions : Run → Type 0
+EntriesAreOfSubmissions w = (c : Completed) → Contains w.transcript c → IsEndOfSubmitted w c
+
+-- the entry is what the session finished
+pub record IsEntryOfFinished (w : Run) (session : ℕ) (f : Finished) (c : Completed) : Type 0 where
+  pub completed : Contains w.transcript c
+  pub node : c.node ≡ session
+  pub number : c.number ≡ f.number
+  pub outcome : c.outcome ≡ f.outcome
+
+-- whatever a session finished stands in the transcript
+abbrev pub OutcomesAreListed : Run → Type 0
+OutcomesAreListed w = (session : ℕ) (f : Finished) → Contains (w.sessions session).outcomes f → (c : Completed) × IsEntryOfFinished w session f c
 
 -- One table: the answer of each completed read is the meaning of its request on the history of its home, in whatever
 -- order, at its effective time. It is the whole answer: the asked keys in order, each with its slice.

@@ -8,7 +8,7 @@ ghost use Rattle.world.specs.Histories.{IsHistory};
 ghost use Rattle.world.specs.Quiet.{IsQuiet};
 ghost use Rattle.world.specs.Settled.{Settled};
 ghost use Rattle.world.specs.Entries.{TellsDecided, AreNamedOnce, CoordinatorsDecide, StampsAgree, WritesAreTold};
-ghost use Rattle.world.specs.Promises.{ReadsShowOneTable, ReadsShowTheirPast, ReadsAreFresh, StampsFollowCauses, TimesNeverFall, OperationsEndOnce, HistoriesGrow, HandledIsHonest};
+ghost use Rattle.world.specs.Promises.{EntriesAreOfSubmissions, OutcomesAreListed, ReadsShowOneTable, ReadsShowTheirPast, ReadsAreFresh, StampsFollowCauses, TimesNeverFall, OperationsEndOnce, HistoriesGrow, HandledIsHonest};
 
 /// In every run each completed read is answered with the meaning of its request on one table: the history of its home at
 /// its effective time, as far as the run has come and however the history is ordered. Does nothing; its contract is the
@@ -63,6 +63,14 @@ pub fn stamps_follow_causal_order()
 #[tactic(auto, using(crate::proofs::Laws::writes_in_runs))]
 pub fn completed_writes_are_in_the_history()
     ensures { (top : TopologyValue) (events : List Event) → 0 < top.shards → WritesAreTold top (run top events) }
+{}
+
+/// In every run each entry of the transcript is of an operation that its session submitted, with an outcome that fits it:
+/// a write is committed, a read is answered or given up; and whatever a session finished stands there. Does nothing; its
+/// contract is the law.
+pub fn transcript_tells_what_ended()
+    ensures entries { (top : TopologyValue) (events : List Event) → 0 < top.shards → EntriesAreOfSubmissions (run top events) }
+    ensures outcomes { (top : TopologyValue) (events : List Event) → 0 < top.shards → OutcomesAreListed (run top events) }
 {}
 
 /// In every run the commit and effective times of a session never fall, and each of its operations ends once. Does nothing;
