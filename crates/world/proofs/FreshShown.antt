@@ -31,7 +31,7 @@ use Rattle.world.proofs.RowTests.{last_in_part, touches_test}
 use Rattle.world.proofs.DecidedIn.{applied_in, entry, entry_among}
 
 -- a batch with a change of the location has a last one there
-last_there : (q : Change → Bool) (cs : List Change) → list_any q cs ≡ true → (m : Mutation) × (last_of q cs ≡ Some m)
+pub last_there : (q : Change → Bool) (cs : List Change) → list_any q cs ≡ true → (m : Mutation) × (last_of q cs ≡ Some m)
 last_there q cs e = go (last_of q cs) refl
   where
     go : (o : Option Mutation) → last_of q cs ≡ o → (m : Mutation) × (last_of q cs ≡ Some m)

@@ -20,14 +20,15 @@ use Rattle.world.specs.Committed.{IsCommittedBy}
 use Rattle.world.specs.Entries.{named_by, StampsAgree, WritesAreTold, TellsDecided, AreNamedOnce, CoordinatorsDecide}
 use Rattle.world.specs.Quiet.{IsQuiet}
 use Rattle.world.specs.Settled.{Settled}
-use Rattle.world.specs.Promises.{number_of, Fits, EntriesAreOfSubmissions, OutcomesAreListed, ReadsShowOneTable, ReadsShowTheirPast, ReadsAreFresh, StampsFollowCauses, TimesNeverFall, OperationsEndOnce, HistoriesGrow, HandledIsHonest}
+use Rattle.world.specs.Promises.{number_of, LaterCommitsAreAbove, Fits, EntriesAreOfSubmissions, OutcomesAreListed, ReadsShowOneTable, ReadsShowTheirPast, ReadsAreFresh, StampsFollowCauses, TimesNeverFall, OperationsEndOnce, HistoriesGrow, HandledIsHonest}
 use Rattle.world.proofs.Among.{Among, among_contains, contains_among}
 use Rattle.world.proofs.Growth.{Grows}
 use Rattle.world.proofs.Facts.{lead, IsDone}
 use Rattle.world.proofs.Invariant.{AnsweredFrom, EndSound, Inv}
 use Rattle.world.proofs.Near.{shard_below}
 use Rattle.world.proofs.DecidedIn.{in_decisions, decided_in}
-use Rattle.world.proofs.ReadTables.{one_table}
+use Rattle.world.proofs.ReadTables.{answered, one_table}
+use Rattle.world.proofs.LaterCommits.{commits_above}
 use Rattle.world.proofs.ReadRests.{rests_on_written}
 use Rattle.world.proofs.WritersDone.{writers_done}
 use Rattle.world.proofs.Pairs.{no_pairs, more_pairs}
@@ -159,6 +160,13 @@ prefix_grows top before after some =
 pub histories_grow : (top : TopologyValue) (before after : List Event) → 0 < top.shards → HistoriesGrow top before after
 histories_grow top before after some dc g h is was =
     history_kept top (run top before) (run top (before ++ after)) dc g h (every_run top before some) (every_run top (before ++ after) some) (prefix_grows top before after some) is was
+
+pub later_commits_are_above : (top : TopologyValue) (before after : List Event) → 0 < top.shards → LaterCommitsAreAbove top before after
+later_commits_are_above top before after some c read time answer d is m fresh touched =
+    let inv = every_run top before some in
+    let sound = answered top (run top before) inv c read time answer is.completed is.op is.outcome in
+    commits_above top some (run top before) (run top (before ++ after)) inv (every_run top (before ++ after) some) (prefix_grows top before after some) c.home time read sound.rows sound.from d m fresh
+    touched.batch touched.submitted touched.key touched.asked touched.name touched.touches
 
 pub stamps_in_runs : (top : TopologyValue) (events : List Event) → 0 < top.shards → StampsAgree top (run top events)
 stamps_in_runs top events some = stamps_agree top (run top events) (every_run top events some)

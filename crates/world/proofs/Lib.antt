@@ -91,4 +91,5 @@ pub mod Addresses
 pub mod SteppedLive
 pub mod SubmittedLive
 pub mod LiveEvents
+pub mod LaterCommits
 pub mod Laws

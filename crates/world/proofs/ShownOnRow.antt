@@ -88,7 +88,7 @@ module _ (top : TopologyValue) (w : Run) (inv : Inv top w) (some : 0 < top.shard
       ]
 
   -- what is decided in the data centre up to the time is seen
-  sees_it : (d : Decision) (is : DecidedIn top w (dc_of top node) d) (m : Mutation) → last_of q is.sound.batch ≡ Some m → d.commit ≤ time
+  pub sees_it : (d : Decision) (is : DecidedIn top w (dc_of top node) d) (m : Mutation) → last_of q is.sound.batch ≡ Some m → d.commit ≤ time
       → Sees seen d.txn
   sees_it d is m e le =
       elim (leads_or_follows top.shards (shard_of top node) row q test here (shard_below top node some) is.sound.batch m e) [

@@ -1,10 +1,13 @@
 -- What is promised of every run, in a customer's words: one set of whole transactions for each data centre, and one number.
-use Rattle.std.specs.Prelude.{◌≡◌, ◌≢◌, ℕ, ◌<◌, true, List, ◌++◌, Contains, AllPairs}
+use Rattle.std.specs.Prelude.{◌≡◌, ◌≢◌, ℕ, ◌<◌, true, List, ◌++◌, Some, Contains, AllPairs}
 use Rattle.logical_time.specs.Stamps.{TxnValue, is_older}
+use Rattle.std.specs.List.{list_any}
+use Rattle.column_family.specs.declared.batch.Change.{Change}
+use Rattle.column_family.specs.Location.{touches}
 use Rattle.column_family.specs.History.{History}
 use Rattle.slice.specs.declared.read.Read.{Read}
 use Rattle.slice.specs.declared.read.AnsweredRow.{AnsweredRow}
-use Rattle.table.specs.Meaning.{meaning}
+use Rattle.table.specs.Meaning.{meaning, row_of}
 use Rattle.messages.specs.declared.op.Op.{Op}
 use Rattle.messages.specs.declared.op.Op.TheVariants as op
 use Rattle.messages.specs.declared.outcome.Outcome.{Outcome}
@@ -14,7 +17,7 @@ use Rattle.messages.specs.Honest.{IsHonest}
 use Rattle.messages.specs.Shard.{Decision}
 use Rattle.messages.specs.Session.{Finished}
 use Rattle.world.specs.Run.{Run, Event, Submission, Completed, run}
-use Rattle.world.specs.Histories.{decisions_in, IsHistory}
+use Rattle.world.specs.Histories.{batch_submitted, decisions_in, IsHistory}
 use Rattle.world.specs.Before.{Past}
 use Rattle.world.specs.Fresh.{IsFresh}
 use Rattle.world.specs.Met.{envelopes_to}
@@ -69,6 +72,24 @@ abbrev pub ReadsShowOneTable : TopologyValue → Run → Type 0
 ReadsShowOneTable top w =
     (c : Completed) (read : Read) (time : ℕ) (answer : List AnsweredRow) (h : History)
     → IsAnswered w c read time answer → IsHistory top w c.home h → answer ≡ meaning read h time
+
+-- the transaction's batch, as submitted, touches a location of a row that the read asks for
+pub record TouchesAsked (w : Run) (t : TxnValue) (read : Read) : Type 0 where
+  pub batch : List Change
+  pub submitted : batch_submitted w t ≡ Some batch
+  pub key : List ℕ
+  pub asked : Contains read.keys key
+  pub name : List ℕ
+  pub touches : list_any (touches (record { row = row_of read key; name = name })) batch ≡ true
+
+-- What is committed in the home of a completed read after it was answered, and touches an asked row, has a commit time above
+-- its effective time.
+abbrev pub LaterCommitsAreAbove : TopologyValue → List Event → List Event → Type 0
+LaterCommitsAreAbove top before after =
+    (c : Completed) (read : Read) (time : ℕ) (answer : List AnsweredRow) (d : Decision)
+    → IsAnswered (run top before) c read time answer
+    → Contains (decisions_in top (run top (before ++ after)) c.home) d → (Contains (decisions_in top (run top before) c.home) d → ⊥)
+    → TouchesAsked (run top (before ++ after)) d.txn read → time < d.commit
 
 -- Past: each write before a completed read is committed in its home, with a commit time not above its effective time
 abbrev pub ReadsShowTheirPast : TopologyValue → Run → Type 0

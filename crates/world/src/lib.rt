@@ -13,7 +13,7 @@ pub use law::{
 };
 pub use promises::{
     completed_writes_are_in_the_history, handled_envelopes_are_honest, histories_only_grow,
-    histories_tell_what_is_decided, quiet_means_done, reads_are_fresh, reads_show_one_table,
-    reads_show_their_past, stamps_agree_everywhere, stamps_follow_causal_order,
-    times_of_a_session_never_fall, transcript_tells_what_ended,
+    histories_tell_what_is_decided, later_commits_are_above_reads, quiet_means_done,
+    reads_are_fresh, reads_show_one_table, reads_show_their_past, stamps_agree_everywhere,
+    stamps_follow_causal_order, times_of_a_session_never_fall, transcript_tells_what_ended,
 };

@@ -8,7 +8,7 @@ ghost use Rattle.world.specs.Histories.{IsHistory};
 ghost use Rattle.world.specs.Quiet.{IsQuiet};
 ghost use Rattle.world.specs.Settled.{Settled};
 ghost use Rattle.world.specs.Entries.{TellsDecided, AreNamedOnce, CoordinatorsDecide, StampsAgree, WritesAreTold};
-ghost use Rattle.world.specs.Promises.{EntriesAreOfSubmissions, OutcomesAreListed, ReadsShowOneTable, ReadsShowTheirPast, ReadsAreFresh, StampsFollowCauses, TimesNeverFall, OperationsEndOnce, HistoriesGrow, HandledIsHonest};
+ghost use Rattle.world.specs.Promises.{EntriesAreOfSubmissions, LaterCommitsAreAbove, OutcomesAreListed, ReadsShowOneTable, ReadsShowTheirPast, ReadsAreFresh, StampsFollowCauses, TimesNeverFall, OperationsEndOnce, HistoriesGrow, HandledIsHonest};
 
 /// In every run each completed read is answered with the meaning of its request on one table: the history of its home at
 /// its effective time, as far as the run has come and however the history is ordered. Does nothing; its contract is the
@@ -43,6 +43,12 @@ pub fn histories_tell_what_is_decided()
 /// Histories only grow: what further events add changes no entry. Does nothing; its contract is the law.
 pub fn histories_only_grow()
     ensures { (top : TopologyValue) (before after : List Event) → 0 < top.shards → HistoriesGrow top before after }
+{}
+
+/// What is committed in the home of a completed read after it was answered, and touches a row that it asked for, has a commit
+/// time above its effective time: so the table that it showed stays as it was. Does nothing; its contract is the law.
+pub fn later_commits_are_above_reads()
+    ensures { (top : TopologyValue) (before after : List Event) → 0 < top.shards → LaterCommitsAreAbove top before after }
 {}
 
 /// In every run a transaction has one stamp in all data centres, and no other has it; where it was submitted, its time is
