@@ -20,6 +20,7 @@ use Rattle.world.specs.Committed.{IsCommittedBy}
 use Rattle.world.specs.Entries.{named_by, StampsAgree, WritesAreTold, TellsDecided, AreNamedOnce, CoordinatorsDecide}
 use Rattle.world.specs.Quiet.{IsQuiet}
 use Rattle.world.specs.Settled.{Settled}
+use Rattle.world.specs.Each.{EachShardIsRight}
 use Rattle.world.specs.Promises.{number_of, LaterCommitsAreAbove, Fits, EntriesAreOfSubmissions, OutcomesAreListed, ReadsShowOneTable, ReadsShowTheirPast, ReadsAreFresh, StampsFollowCauses, TimesNeverFall, OperationsEndOnce, HistoriesGrow, HandledIsHonest}
 use Rattle.world.proofs.Among.{Among, among_contains, contains_among}
 use Rattle.world.proofs.Growth.{Grows}
@@ -43,6 +44,7 @@ use Rattle.world.proofs.HonestLists.{handled_honest}
 use Rattle.world.proofs.Settles.{settled}
 use Rattle.world.proofs.Addresses.{stands}
 use Rattle.world.proofs.LiveEvents.{run_live}
+use Rattle.world.proofs.EachShard.{each_is_right}
 use Rattle.world.proofs.FreshReads.{completed_fresh}
 
 pub reads_show_one_table : (top : TopologyValue) (events : List Event) → 0 < top.shards → ReadsShowOneTable top (run top events)
@@ -178,6 +180,9 @@ writes_in_runs top events some = writes_are_told top (run top events) some (ever
 
 pub handled_is_honest : (top : TopologyValue) (events : List Event) → 0 < top.shards → HandledIsHonest top (run top events)
 handled_is_honest top events some node = handled_honest top (run top events) node (every_run top events some)
+
+pub each_shard_is_right : (top : TopologyValue) (events : List Event) → 0 < top.shards → EachShardIsRight top (run top events)
+each_shard_is_right top events some node here = each_is_right top events node here (handled_is_honest top events some node)
 
 pub reads_are_fresh : (top : TopologyValue) (events : List Event) → 0 < top.shards → ReadsAreFresh top (run top events)
 reads_are_fresh top events some c has =

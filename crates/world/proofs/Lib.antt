@@ -92,4 +92,5 @@ pub mod SteppedLive
 pub mod SubmittedLive
 pub mod LiveEvents
 pub mod LaterCommits
+pub mod EachShard
 pub mod Laws

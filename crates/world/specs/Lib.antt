@@ -9,3 +9,4 @@ pub mod Committed
 pub mod Entries
 pub mod Promises
 pub mod Settled
+pub mod Each

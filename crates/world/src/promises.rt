@@ -7,6 +7,7 @@ ghost use Rattle.world.specs.Run.{Event, run};
 ghost use Rattle.world.specs.Histories.{IsHistory};
 ghost use Rattle.world.specs.Quiet.{IsQuiet};
 ghost use Rattle.world.specs.Settled.{Settled};
+ghost use Rattle.world.specs.Each.{EachShardIsRight};
 ghost use Rattle.world.specs.Entries.{TellsDecided, AreNamedOnce, CoordinatorsDecide, StampsAgree, WritesAreTold};
 ghost use Rattle.world.specs.Promises.{EntriesAreOfSubmissions, LaterCommitsAreAbove, OutcomesAreListed, ReadsShowOneTable, ReadsShowTheirPast, ReadsAreFresh, StampsFollowCauses, TimesNeverFall, OperationsEndOnce, HistoriesGrow, HandledIsHonest};
 
@@ -91,6 +92,13 @@ pub fn times_of_a_session_never_fall()
 #[tactic(auto, using(crate::proofs::Laws::handled_is_honest))]
 pub fn handled_envelopes_are_honest()
     ensures { (top : TopologyValue) (events : List Event) → 0 < top.shards → HandledIsHonest top (run top events) }
+{}
+
+/// In every run each shard is what its own events make of a shard, and it is right: its answers are right at all times for
+/// which they say so, by all that it ever applied, and a read is given up only below its horizon. Does nothing; its contract
+/// is the law.
+pub fn each_shard_of_a_run_is_right()
+    ensures { (top : TopologyValue) (events : List Event) → 0 < top.shards → EachShardIsRight top (run top events) }
 {}
 
 /// Quiet means done: in every run in which each sent message has been handled at least once, every submitted operation has
