@@ -7,7 +7,6 @@ use Rattle.column_family.specs.declared.batch.Row.{Row}
 use Rattle.column_family.specs.Places.{normal_of}
 use Rattle.slice.specs.declared.read.Read.{Read}
 use Rattle.store.specs.declared.part.Applied.{Applied}
-use Rattle.store.specs.declared.part.Part.{Part}
 use Rattle.store.specs.Part.{IsRightPart, IsNewestPart}
 use Rattle.store.specs.Keeps.{AreApart}
 use Rattle.planner.specs.Plan.{part_for, coordinator_of, cohorts_of}
@@ -17,6 +16,7 @@ use Rattle.messages.specs.declared.op.Op.TheVariants as op
 use Rattle.messages.specs.Topology.{TopologyValue, dc_of, shard_of, shard_node}
 use Rattle.messages.specs.Shard.{Role, Own, Cohort, Replica, PreparedPart, BegunBallot, Decision, KeptPart, KeptBallot, WaitingRead}
 use Rattle.messages.specs.Rows.{row_of, touches_row}
+use Rattle.shard.specs.Right.{part_now, part_then}
 use Rattle.world.specs.Run.{Run, Submission}
 use Rattle.world.proofs.Among.{Among}
 use Rattle.world.proofs.Growth.{AskedAt}
@@ -181,14 +181,6 @@ pub record Complete (top : TopologyValue) (w : Run) (node : ℕ) (r : Row) (time
   pub prepared : (p : PreparedPart) → Among p (w.shards node).prepared → touches_row r p ≡ true
       → Sees seen p.txn ⊎ (time ≤ p.time) ⊎ Excluded w (near top node p.coordinator) p.txn time
   pub decided : (d : Decision) → Among d (w.shards node).decided → Sees seen d.txn ⊎ (time < d.commit)
-
--- a row of a first round, as a part
-abbrev pub part_now : RowNow → Part
-part_now r = record { columns = r.columns; writers = r.writers; evt = r.evt }
-
--- a row of a second round in the same way; it names no earliest valid time
-abbrev pub part_then : RowAt → Part
-part_then r = record { columns = r.columns; writers = r.writers; evt = 0 }
 
 -- a row of a first round shows the newest of what was complete at its latest valid time
 pub record RowNowSound (top : TopologyValue) (w : Run) (node time : ℕ) (read : Read) (r : RowNow) : Type 0 where

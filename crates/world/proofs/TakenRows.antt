@@ -18,7 +18,8 @@ use Rattle.messages.specs.Rounds.{asked_nodes, all_heard, rows_heard, effective_
 use Rattle.messages.proofs.Greatest.{effective_above_each, effective_no_greater}
 use Rattle.world.specs.Run.{Run}
 use Rattle.world.proofs.Among.{Among, among_append, append_first, append_second, among_contains, contains_among, any_among, filter_only, filter_among, map_only, map_among}
-use Rattle.world.proofs.Facts.{Complete, RowNowSound, RowAtSound, part_now}
+use Rattle.shard.specs.Right.{part_now}
+use Rattle.world.proofs.Facts.{Complete, RowNowSound, RowAtSound}
 use Rattle.world.proofs.Invariant.{HeardNowSound, HeardAtSound, AnsweredFrom}
 use Rattle.world.proofs.CommitsKept.{excluded_below}
 use Rattle.world.proofs.Asking.{flat_only, flat_among, key_asked, key_shared, shared_lies, heard_from, heard_late}
