@@ -1,10 +1,12 @@
 pub mod Additions
+pub mod Closed
 pub mod Commits
 pub mod Grow
 pub mod LetGo
 pub mod Lists
 pub mod OneShard
 pub mod ReadSteps
+mod Refuted
 pub mod Remotes
 pub mod Run
 pub mod Shown
@@ -12,3 +14,4 @@ pub mod Untouched
 pub mod Updates
 pub mod Votes
 pub mod Within
+mod WorkedHonest

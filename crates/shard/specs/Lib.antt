@@ -1,3 +1,5 @@
 pub mod Events
 pub mod Right
 pub mod Sound
+pub mod Worked
+pub mod Lookalikes

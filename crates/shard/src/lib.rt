@@ -4,5 +4,7 @@
 #![tactic(auto)]
 
 mod law;
+mod lookalikes;
 
 pub use law::one_shard_is_right;
+pub use lookalikes::{lookalikes_of_right_shards_are_false, shards_need_honest_envelopes};

@@ -1,0 +1,92 @@
+-- Forms that resemble what is promised of one shard and are false: each has one bound changed by one. Worked runs with
+-- honest envelopes refute them.
+use Rattle.std.specs.Prelude.{◌≡◌, ℕ, ◌+◌, ◌-◌, ◌<◌, ◌≤◌, List, map, Contains, ◌⊎◌}
+use Rattle.slice.specs.declared.read.Read.{Read}
+use Rattle.store.specs.declared.part.Applied.{Applied}
+use Rattle.store.specs.Part.{IsRightPart}
+use Rattle.messages.specs.declared.rows_now.RowNow.{RowNow}
+use Rattle.messages.specs.declared.rows_at.RowAt.{RowAt}
+use Rattle.messages.specs.declared.rows_at.AtTime.TheVariants as at
+use Rattle.messages.specs.declared.body.Body.TheVariants as body
+use Rattle.messages.specs.declared.envelope.Envelope.{Envelope}
+use Rattle.messages.specs.Shard.{Decision}
+use Rattle.messages.specs.Honest.{Told, all_told, IsHonest}
+use Rattle.messages.specs.Rows.{row_of}
+use Rattle.shard.specs.Events.{ShardRun, envelopes_handled}
+use Rattle.shard.specs.Right.{part_now, IsRightAt}
+
+-- ## Rows of a first round
+
+-- a first-round answer, with each row right in this sense
+pub record AnswersNowBy (right : Read → RowNow → Type 0) (envelopes : List Envelope) (e : Envelope) (number : ℕ) (rows : List RowNow) : Type 0 where
+  pub asked : Envelope
+  pub read : Read
+  pub handled : Contains envelopes asked
+  pub from : asked.from ≡ e.to
+  pub body : asked.body ≡ body.Read number read
+  pub keys : map (λ r. r.key) rows ≡ read.keys
+  pub each : (r : RowNow) → Contains rows r → right read r
+
+-- each is so
+abbrev pub RowsAre : (List Applied → Read → RowNow → Type 0) → ShardRun → Type 0
+RowsAre right w =
+    IsHonest w.state (envelopes_handled w) → (e : Envelope) (number : ℕ) (rows : List RowNow)
+    → Contains w.sent e → e.body ≡ body.PartNow number rows → AnswersNowBy (right w.state.applied) (envelopes_handled w) e number rows
+
+-- from one before its earliest valid time on
+abbrev pub IsRightEarlier : List Applied → Read → RowNow → Type 0
+IsRightEarlier applied read r =
+    (time : ℕ) → r.evt ≤ time + 1 → time ≤ r.lvt → IsRightPart applied (row_of read r.key) read.predicate time (part_now r)
+
+-- up to one after its latest valid time
+abbrev pub IsRightLater : List Applied → Read → RowNow → Type 0
+IsRightLater applied read r =
+    (time : ℕ) → r.evt ≤ time → time ≤ r.lvt + 1 → IsRightPart applied (row_of read r.key) read.predicate time (part_now r)
+
+abbrev pub RowsAreRightEarlier : ShardRun → Type 0
+RowsAreRightEarlier w = RowsAre IsRightEarlier w
+
+abbrev pub RowsAreRightLater : ShardRun → Type 0
+RowsAreRightLater w = RowsAre IsRightLater w
+
+-- ## Rows at a time
+
+-- a second-round answer, with each row right in this sense
+pub record AnswersAtBy (right : Read → RowAt → Type 0) (envelopes : List Envelope) (e : Envelope) (number time : ℕ) (rows : List RowAt) : Type 0 where
+  pub asked : Envelope
+  pub read : Read
+  pub handled : Contains envelopes asked
+  pub from : asked.from ≡ e.to
+  pub body : asked.body ≡ body.ReadAt number time read
+  pub keys : map (λ r. r.key) rows ≡ read.keys
+  pub each : (r : RowAt) → Contains rows r → right read r
+
+-- each is right at a time that the read's time gives
+abbrev pub RowsAreRightAt : (ℕ → ℕ) → ShardRun → Type 0
+RowsAreRightAt other w =
+    IsHonest w.state (envelopes_handled w) → (e : Envelope) (number time : ℕ) (rows : List RowAt)
+    → Contains w.sent e → e.body ≡ body.PartAt number time (at.Rows rows)
+    → AnswersAtBy (λ read r. IsRightAt w.state.applied read (other time) r) (envelopes_handled w) e number time rows
+
+-- one time earlier
+abbrev pub RowsAtATimeAreRightEarlier : ShardRun → Type 0
+RowsAtATimeAreRightEarlier w = RowsAreRightAt (λ time. time - 1) w
+
+-- one time later
+abbrev pub RowsAtATimeAreRightLater : ShardRun → Type 0
+RowsAtATimeAreRightLater w = RowsAreRightAt (λ time. time + 1) w
+
+-- ## Parts, and reads that are given up
+
+-- a part is applied above the commit time that was told of it, not at it
+abbrev pub PartsAreAppliedAbove : ShardRun → Type 0
+PartsAreAppliedAbove w =
+    IsHonest w.state (envelopes_handled w) → (x : Applied) → Contains w.state.applied x
+    → ((y : Told) × Contains (all_told (envelopes_handled w)) y × (y.txn ≡ x.part.writer.txn) × (y.commit < x.commit) × (y.stamp ≡ x.stamp))
+    ⊎ ((d : Decision) × Contains w.state.decided d × (d.txn ≡ x.part.writer.txn) × (d.commit ≡ x.commit) × (d.stamp ≡ x.stamp))
+
+-- a read is given up only where its time is below the horizon by more than one
+abbrev pub GivenUpFarBelow : ShardRun → Type 0
+GivenUpFarBelow w =
+    IsHonest w.state (envelopes_handled w) → (e : Envelope) (number time : ℕ) → Contains w.sent e
+    → e.body ≡ body.PartAt number time at.Collected → time + 1 < w.state.low
