@@ -1,5 +1,12 @@
 mod Replayed
+mod Closed
+mod WorkedEntries
 mod WorkedPasts
+mod RefutedReads
+mod RefutedFreshness
+mod RefutedHistories
+mod RefutedOutcomes
+mod RefutedShards
 pub mod Among
 pub mod Growth
 pub mod Facts

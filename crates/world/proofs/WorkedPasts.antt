@@ -1,26 +1,17 @@
 -- The pasts of operations in worked runs, and a worked run that is quiet.
-use Rattle.std.proofs.Common.{◌≡◌, sym, subst, refl, ℕ, ◌<◌, inl, inr, zero, suc, Bool, true, false, nat_lt, List, [], ◌∷◌, length, slice_index_or, Contains, arith}
-use Rattle.std.proofs.lemmas.Bool.Decides.{nat_tests}
-use Rattle.std.proofs.lemmas.List.Folds.{Any-from_list_any}
-use Rattle.std.specs.Prelude.{◌&&◌, ◌==◌}
-use Rattle.std.specs.List.{list_any}
+use Rattle.std.proofs.Common.{◌≡◌, refl, ℕ, inl, inr, true, nat_lt, List, [], ◌∷◌, length, slice_index_or}
 use Rattle.slice.specs.declared.predicate.Predicate.TheVariants.{Names}
 use Rattle.slice.specs.declared.read.Read.{Read}
 use Rattle.messages.specs.declared.op.Op.TheVariants as op
 use Rattle.messages.specs.declared.outcome.Outcome.TheVariants as outcome
 use Rattle.messages.specs.Shard.{Decision}
+use Rattle.shard.proofs.Closed.{below, at}
 use Rattle.world.specs.Run.{Completed, Submission}
 use Rattle.world.specs.Histories.{decisions_in}
 use Rattle.world.specs.Quiet.{handled, IsQuiet}
 use Rattle.world.specs.Before.{completes, IsEarlier, RestsOn, Past}
+use Rattle.world.proofs.Closed.{each_found, own_past}
 use Rattle.world.specs.Worked.{operation, column, row, wrote, insert, family_f, key_b, key_c, key_d, name_x, name_y, name_z, two_centres, three_at_home, dependency_holds_back, dependency_through_a_read, write_is_replicated}
-
-below : (k n : ℕ) → nat_lt k n ≡ true → k < n
-below k n is = grind (arith, nat_tests)
-
--- the element at a place of a list is in it
-at : {X : Type 0} (xs : List X) (x : X) (k : ℕ) → nat_lt k (length xs) ≡ true → slice_index_or xs k x ≡ x → Contains xs x
-at xs x k is_place is = (k, below k (length xs) is_place, is)
 
 -- ## A session's own write
 
@@ -31,18 +22,7 @@ abbrev second_write : Submission
 second_write = record { session = 2; number = 2; home = 0; time = 4; op = op.Batch (insert key_b name_y 2 ∷ []); dependencies = record { txn = operation 2 1; shard = 0 } ∷ [] }
 
 pub own_write : Past two_centres dependency_holds_back (operation 2 2) (operation 2 1)
-own_write = (
-  (insert key_b name_x 1 ∷ [], refl),
-  (
-    [],
-    inl (
-      (first_write, (at dependency_holds_back.transcript first_write 0 refl refl, refl), refl),
-      (second_write, at dependency_holds_back.submitted second_write 1 refl refl, refl),
-      refl,
-      below 1 2 refl,
-    ),
-  ),
-)
+own_write = own_past two_centres dependency_holds_back first_write second_write (insert key_b name_x 1 ∷ []) 0 1 refl refl refl refl refl refl refl refl
 
 -- ## Writes that a session read
 
@@ -126,31 +106,6 @@ read_second = (
 )
 
 -- ## A quiet run
-
-equal : (j n : ℕ) → (j == n) ≡ true → j ≡ n
-equal j n same = grind (arith, nat_tests)
-
-smaller : (k n : ℕ) → k < suc n → (k == n) ≡ false → k < n
-smaller k n lt other = grind (arith, nat_tests)
-
-found : (xs : List ℕ) (n : ℕ) → list_any (λ j. j == n) xs ≡ true → Contains xs n
-found xs n is =
-    let a = Any-from_list_any (λ j. j == n) xs is in subst (λ j. Contains xs j) (equal a.1 n a.4) (a.0, a.2, a.3)
-
--- whether each number below this one is in the list
-abbrev are_found : List ℕ → ℕ → Bool
-are_found xs zero = true
-are_found xs (suc n) = list_any (λ j. j == n) xs && are_found xs n
-
-each_found : (xs : List ℕ) (n : ℕ) → are_found xs n ≡ true → (k : ℕ) → k < n → Contains xs k
-each_found xs zero is k lt = absurd (omega arith)
-each_found xs (suc n) is k lt =
-    split (list_any (λ j. j == n) xs) refl is (k == n) refl (λ others less. each_found xs n others k less)
-  where
-    split : (b : Bool) → list_any (λ j. j == n) xs ≡ b → (b && are_found xs n) ≡ true → (same : Bool) → (k == n) ≡ same → (are_found xs n ≡ true → k < n → Contains xs k) → Contains xs k
-    split true here others true same rest = subst (λ j. Contains xs j) (sym (equal k n same)) (found xs n here)
-    split true here others false other rest = rest others (smaller k n lt other)
-    split false here others same is rest = absurd (cc)
 
 pub quiet : IsQuiet write_is_replicated
 quiet = each_found (handled write_is_replicated) (length write_is_replicated.sent) refl

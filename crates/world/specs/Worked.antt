@@ -150,14 +150,28 @@ abbrev pub one_shard : TopologyValue
 one_shard = actors 1 1 (0 ∷ [])
 
 -- a column is inserted, and then read back
+abbrev pub insert_then_read : List Event
+insert_then_read =
+    write 1 (insert key_b name_x 1 ∷ []) ∷ deliver (0 ∷ 1 ∷ []) ++ read 1 (key_b ∷ []) (name_x ∷ []) ∷ deliver (2 ∷ 3 ∷ [])
+
 abbrev pub insert_and_read_back : Run
-insert_and_read_back =
-    run one_shard
-    (write 1 (insert key_b name_x 1 ∷ []) ∷ deliver (0 ∷ 1 ∷ []) ++ read 1 (key_b ∷ []) (name_x ∷ []) ∷ deliver (2 ∷ 3 ∷ []))
+insert_and_read_back = run one_shard insert_then_read
+
+-- a write is submitted, and its one message isn't handled
+abbrev pub only_submitted : Run
+only_submitted = run one_shard (write 1 (insert key_b name_x 1 ∷ []) ∷ [])
 
 -- every message of a write comes twice
 abbrev pub messages_come_again : Run
 messages_come_again = run one_shard (write 1 (insert key_b name_x 1 ∷ []) ∷ deliver (0 ∷ 0 ∷ 1 ∷ 1 ∷ []))
+
+-- A session at home in a data centre that isn't there: what it sends comes back to itself
+abbrev pub home_is_nowhere : TopologyValue
+home_is_nowhere = actors 1 1 (1 ∷ [])
+
+-- it handles what it sent
+abbrev pub sent_to_itself : Run
+sent_to_itself = run home_is_nowhere (write 1 (insert key_b name_x 1 ∷ []) ∷ Deliver 0 ∷ [])
 
 -- ## Two shards of one data centre: nodes 0 and 1, and the sessions 2 and 3
 
@@ -215,6 +229,50 @@ unseen_column_under_mark =
     run two_shards
     (write 2 (insert key_a name_c 0 ∷ []) ∷ deliver (0 ∷ 1 ∷ []) ++ write 2 (insert key_b name_x 1 ∷ insert key_a name_d 2 ∷ []) ∷ deliver (2 ∷ 3 ∷ 4 ∷ [])
     ++ read_whole 3 (key_a ∷ key_b ∷ []) ∷ deliver (7 ∷ 8 ∷ 9 ∷ 10 ∷ 11 ∷ 12 ∷ 13 ∷ 14 ∷ []))
+
+-- A batch gives the row b the column y, and the row d the column x. Then another session reads the column x of b, which
+-- nobody wrote: at time 0
+abbrev pub read_beside_a_write : Run
+read_beside_a_write =
+    run two_shards
+    (write 2 (insert key_b name_y 1 ∷ insert key_d name_x 2 ∷ []) ∷ deliver (0 ∷ 1 ∷ []) ++ read 3 (key_b ∷ []) (name_x ∷ []) ∷ deliver (2 ∷ 3 ∷ []))
+
+-- a shard answers a read, and then commits a write of the same column before its answer comes to the session
+abbrev pub write_after_the_answer : Run
+write_after_the_answer =
+    run two_shards
+    (read 3 (key_b ∷ []) (name_x ∷ []) ∷ Deliver 0 ∷ write 2 (insert key_b name_x 1 ∷ []) ∷ deliver (2 ∷ 1 ∷ []))
+
+-- the batch is decided and its session knows it, and the cohort doesn't yet
+abbrev pub told_before_the_cohort : List Event
+told_before_the_cohort = b_and_a ∷ deliver (0 ∷ 1 ∷ 2 ∷ 4 ∷ [])
+
+-- then another session reads the cohort's row
+abbrev pub cohort_is_read : List Event
+cohort_is_read = read 3 (key_a ∷ []) (name_x ∷ []) ∷ deliver (5 ∷ 6 ∷ [])
+
+-- ## The same shards with three sessions: 2, 3 and 4
+
+abbrev pub three_sessions : TopologyValue
+three_sessions = actors 1 2 (0 ∷ 0 ∷ 0 ∷ [])
+
+-- b is written, and another session reads it at its commit time
+abbrev pub b_is_read : List Event
+b_is_read =
+    write 2 (insert key_b name_x 1 ∷ []) ∷ Deliver 0 ∷ read 3 (key_b ∷ []) (name_x ∷ []) ∷ deliver (2 ∷ 3 ∷ [])
+
+-- then a is written, on the other shard and at the same time
+abbrev pub a_is_written : List Event
+a_is_written = write 4 (insert key_a name_x 2 ∷ []) ∷ Deliver 4 ∷ []
+
+-- b is written, and another session reads both rows at its commit time
+abbrev pub both_are_read : List Event
+both_are_read =
+    write 2 (insert key_b name_x 1 ∷ []) ∷ Deliver 0 ∷ read 3 (key_b ∷ key_a ∷ []) (name_x ∷ []) ∷ deliver (2 ∷ 3 ∷ 4 ∷ 5 ∷ [])
+
+-- then a is written, one above that time
+abbrev pub a_is_written_next : List Event
+a_is_written_next = write 4 (insert key_a name_x 2 ∷ []) ∷ Deliver 6 ∷ []
 
 -- ## Two data centres of one shard: nodes 0 and 1, and sessions from 2 on
 

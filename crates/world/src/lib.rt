@@ -5,11 +5,19 @@
 #![tactic(auto)]
 
 mod law;
+mod lookalikes;
 mod promises;
 
 pub use law::{
     refused_events_are_left_out, worked_collections, worked_dependencies, worked_inserts_that_meet,
     worked_pasts, worked_reads, worked_replication, worked_writes,
+};
+pub use lookalikes::{
+    lookalikes_of_fresh_reads_are_false, lookalikes_of_histories_are_false,
+    lookalikes_of_later_commits_are_false, lookalikes_of_quiet_runs_are_false,
+    lookalikes_of_sessions_are_false, lookalikes_of_shards_are_false,
+    lookalikes_of_stamps_are_false, lookalikes_of_tables_are_false,
+    lookalikes_of_transcripts_are_false,
 };
 pub use promises::{
     completed_writes_are_in_the_history, each_shard_of_a_run_is_right,

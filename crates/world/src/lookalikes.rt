@@ -1,0 +1,93 @@
+//! Forms that resemble the promises of every run and are false: each is refuted by a worked run.
+ghost use Rattle.std.specs.Prelude.{[], ◌++◌};
+ghost use Rattle.world.specs.Run.{run};
+ghost use Rattle.world.specs.Worked.{one_shard, home_is_nowhere, two_shards, three_sessions, two_centres, two_by_two, insert_then_read, told_before_the_cohort, cohort_is_read, b_is_read, a_is_written, both_are_read, a_is_written_next};
+ghost use Rattle.world.specs.Worked.{insert_and_read_back, only_submitted, sent_to_itself, two_shard_write, second_round_collected, read_beside_a_write, write_after_the_answer, concurrent_inserts_meet, older_stamp_arrives_late, dependency_holds_back, write_is_replicated};
+ghost use Rattle.world.specs.Lookalikes.{ReadsShowEarlierTable, ReadsShowLaterTable, ReadsShowFirstCentre, PastIsBelow, PastIsInFirstCentre, CommitsAreAbove, LaterCommitsOfAnyRowAreAbove, LaterCommitsAreFarAbove, ReadsAreAboveTheirHome, CompletedWritesAreShown};
+ghost use Rattle.world.specs.Lookalikes.{ReadsAreNewer, OtherRowsAreFresh, OtherColumnsAreFresh, ReadsAreFreshAtDelivery, HistoriesNeverGrow, SubmittedBatchesHaveEntries, EntriesHaveOwnTimes, FirstCentreDecides, CommitTimesAgree, StampsAreCommitTimes, StampsAreBelowCommitTimes, CommitTimesFollowCauses, StampsTellCauses};
+ghost use Rattle.world.specs.Lookalikes.{WritesAreToldInFirstCentre, TimesRise, TimesOfACentreNeverFall, SessionsEndOnce, SessionsSubmitOnce, NothingIsGivenUp, AllEndAsWrites, SubmissionsEnd, OutcomesAreListedNext, SentIsHonest, EnvelopesMakeShards, EachNodeIsRight, NearlyQuietMeansDone, QuietMeansDoneAnywhere, TablesAreEqualOnceOneIsDone, TablesAreEqualOneBefore};
+
+/// A read shows the table of no other time and of no other data centre, and its past is committed by its effective time,
+/// not below it, and at home. Does nothing; its contract is the law.
+pub fn lookalikes_of_tables_are_false()
+    ensures earlier_table { ¬ (ReadsShowEarlierTable one_shard insert_and_read_back) }
+    ensures later_table { ¬ (ReadsShowLaterTable three_sessions (run three_sessions (both_are_read ++ a_is_written_next))) }
+    ensures first_centre { ¬ (ReadsShowFirstCentre two_centres older_stamp_arrives_late) }
+    ensures past_below { ¬ (PastIsBelow one_shard insert_and_read_back) }
+    ensures past_in_first_centre { ¬ (PastIsInFirstCentre two_centres older_stamp_arrives_late) }
+{}
+
+/// Above the effective time of a read is what is committed later and in an asked row, by one at least; what was committed
+/// elsewhere, or completed before, needn't be below it. Does nothing; its contract is the law.
+pub fn lookalikes_of_later_commits_are_false()
+    ensures all_commits { ¬ (CommitsAreAbove one_shard insert_then_read []) }
+    ensures any_row { ¬ (LaterCommitsOfAnyRowAreAbove three_sessions b_is_read a_is_written) }
+    ensures far_above { ¬ (LaterCommitsAreFarAbove three_sessions both_are_read a_is_written_next) }
+    ensures above_its_home { ¬ (ReadsAreAboveTheirHome two_shards read_beside_a_write) }
+    ensures completed_before { ¬ (CompletedWritesAreShown two_shards told_before_the_cohort cohort_is_read) }
+{}
+
+/// A read is as fresh as its shards' answers were when they were sent, not newer, and only where it asked. Does nothing; its
+/// contract is the law.
+pub fn lookalikes_of_fresh_reads_are_false()
+    ensures newer { ¬ (ReadsAreNewer one_shard insert_and_read_back) }
+    ensures other_rows { ¬ (OtherRowsAreFresh two_shards read_beside_a_write) }
+    ensures other_columns { ¬ (OtherColumnsAreFresh two_shards read_beside_a_write) }
+    ensures at_delivery { ¬ (ReadsAreFreshAtDelivery two_shards write_after_the_answer) }
+{}
+
+/// Histories grow, by what is decided and not by what is submitted; two entries can have one commit time; each data
+/// centre decides for itself. Does nothing; its contract is the law.
+pub fn lookalikes_of_histories_are_false()
+    ensures never_grow { ¬ (HistoriesNeverGrow one_shard [] insert_then_read) }
+    ensures submitted { ¬ (SubmittedBatchesHaveEntries one_shard only_submitted) }
+    ensures own_times { ¬ (EntriesHaveOwnTimes three_sessions (run three_sessions (b_is_read ++ a_is_written))) }
+    ensures first_centre { ¬ (FirstCentreDecides two_by_two write_is_replicated) }
+{}
+
+/// A transaction's commit times differ between data centres, and follow causal order only within one; a stamp is the commit
+/// time where the write was submitted, and of two writes the smaller stamp tells no causal order. Does nothing; its contract
+/// is the law.
+pub fn lookalikes_of_stamps_are_false()
+    ensures commit_times_agree { ¬ (CommitTimesAgree two_by_two write_is_replicated) }
+    ensures commit_times { ¬ (StampsAreCommitTimes two_by_two write_is_replicated) }
+    ensures below { ¬ (StampsAreBelowCommitTimes two_shards two_shard_write) }
+    ensures causes { ¬ (CommitTimesFollowCauses two_centres dependency_holds_back) }
+    ensures converse { ¬ (StampsTellCauses two_centres concurrent_inserts_meet) }
+{}
+
+/// A write is told as it is committed at home; a session's times needn't rise, and those of several can fall; sessions end
+/// and submit more than one operation. Does nothing; its contract is the law.
+pub fn lookalikes_of_sessions_are_false()
+    ensures told_in_first_centre { ¬ (WritesAreToldInFirstCentre two_centres concurrent_inserts_meet) }
+    ensures times_rise { ¬ (TimesRise insert_and_read_back) }
+    ensures times_of_a_centre { ¬ (TimesOfACentreNeverFall read_beside_a_write) }
+    ensures ends_once { ¬ (SessionsEndOnce insert_and_read_back) }
+    ensures submits_once { ¬ (SessionsSubmitOnce insert_and_read_back) }
+{}
+
+/// A read can be given up, and doesn't end as a write does; an operation needn't end; what ended is listed under its own
+/// number. Does nothing; its contract is the law.
+pub fn lookalikes_of_transcripts_are_false()
+    ensures given_up { ¬ (NothingIsGivenUp second_round_collected) }
+    ensures all_writes { ¬ (AllEndAsWrites insert_and_read_back) }
+    ensures submissions_end { ¬ (SubmissionsEnd only_submitted) }
+    ensures next_number { ¬ (OutcomesAreListedNext insert_and_read_back) }
+{}
+
+/// What other shards handled isn't honest towards a shard; collections are among its events; and the node of a session is
+/// no shard. Does nothing; its contract is the law.
+pub fn lookalikes_of_shards_are_false()
+    ensures all_that_was_sent { ¬ (SentIsHonest two_by_two write_is_replicated) }
+    ensures without_collections { ¬ (EnvelopesMakeShards two_shards second_round_collected) }
+    ensures each_node { ¬ (EachNodeIsRight one_shard insert_and_read_back) }
+{}
+
+/// One message that isn't handled, or a topology that isn't one, can leave a write undone; tables are equal at no time that
+/// is below some commit time of either data centre. Does nothing; its contract is the law.
+pub fn lookalikes_of_quiet_runs_are_false()
+    ensures nearly_quiet { ¬ (NearlyQuietMeansDone one_shard only_submitted) }
+    ensures anywhere { ¬ (QuietMeansDoneAnywhere home_is_nowhere sent_to_itself) }
+    ensures one_is_done { ¬ (TablesAreEqualOnceOneIsDone two_by_two write_is_replicated) }
+    ensures one_before { ¬ (TablesAreEqualOneBefore two_by_two write_is_replicated) }
+{}
