@@ -1,5 +1,5 @@
 -- Worked runs against forms that resemble what is promised of what sessions are told.
-use Rattle.std.proofs.Common.{refl, ℕ, [], ◌∷◌}
+use Rattle.std.proofs.Common.{List, length, refl, ℕ, [], ◌∷◌}
 use Rattle.std.specs.Prelude.{◌&&◌, ◌==◌}
 use Rattle.std.proofs.lemmas.List.Sorted.{IsPermutation-refl}
 use Rattle.column_family.specs.Normal.{committed}
@@ -10,10 +10,10 @@ use Rattle.messages.specs.declared.outcome.Outcome.TheVariants as outcome
 use Rattle.messages.specs.Session.{Finished}
 use Rattle.shard.proofs.Lists.{no_truth}
 use Rattle.shard.proofs.Closed.{below, not_above, are_equal, differ, at, none}
-use Rattle.world.specs.Run.{Submission, Completed}
+use Rattle.world.specs.Run.{Event, Submission, Completed, run}
 use Rattle.world.specs.Histories.{history_of}
-use Rattle.world.specs.Worked.{column, row, wrote, insert, key_a, key_b, name_x, two_centres, insert_and_read_back, only_submitted, second_round_collected, read_beside_a_write, concurrent_inserts_meet}
-use Rattle.world.specs.Lookalikes.{WritesAreToldInFirstCentre, TimesRise, TimesOfACentreNeverFall, SessionsEndOnce, SessionsSubmitOnce, NothingIsGivenUp, AllEndAsWrites, SubmissionsEnd, OutcomesAreListedNext}
+use Rattle.world.specs.Worked.{delete, one_shard, three_at_home, submitted_twice, deletion_is_read, column, row, wrote, insert, key_a, key_b, name_x, two_centres, insert_and_read_back, only_submitted, second_round_collected, read_beside_a_write, concurrent_inserts_meet}
+use Rattle.world.specs.Lookalikes.{RunsKeepAllEvents, WritesAreToldInFirstCentre, CompletedWritesAreEverywhere, TimesRise, TimesOfACentreNeverFall, SessionsEndOnce, SessionsSubmitOnce, NothingIsGivenUp, AllEndAsWrites, SubmissionsEnd, OutcomesAreListedNext}
 use Rattle.world.proofs.WorkedEntries.{x_of, stamp, accepted, ended}
 use Rattle.world.proofs.RefutedReads.{back}
 
@@ -29,6 +29,15 @@ told_in_first_centre all =
     none (λ c. (c.commit == 2) && (c.stamp.node == 1)) h (committed (insert key_b name_x 2 ∷ []) (stamp 2 1) 2) refl
     (all of_second 2 (stamp 2 1) (insert key_b name_x 2 ∷ []) h (at concurrent_inserts_meet.transcript of_second 1 refl refl) refl refl (IsPermutation-refl h))
     refl
+
+-- a deletion that hasn't come to the second data centre
+abbrev deletion : Completed
+deletion = ended 2 1 0 (op.Batch (delete key_b name_x ∷ [])) (wrote 2 0)
+
+pub everywhere : ¬ (CompletedWritesAreEverywhere three_at_home deletion_is_read)
+everywhere all =
+    let r = all deletion 2 (stamp 2 0) 1 (at deletion_is_read.transcript deletion 0 refl refl) refl (below 1 2 refl) in
+    none_in_empty r.0 r.1
 
 abbrev first : Completed
 first = ended 1 1 0 (op.Batch (insert key_b name_x 1 ∷ [])) (wrote 2 0)
@@ -80,3 +89,6 @@ next_number all =
     let r = all 1 finished (at (insert_and_read_back.sessions 1).outcomes finished 1 refl refl) in
     let c = r.0 in
     none (λ e. e.number == 3) insert_and_read_back.transcript c refl r.1 (are_equal c.number 3 r.3)
+
+pub refused_events : ¬ (RunsKeepAllEvents one_shard submitted_twice)
+refused_events all = differ (λ (xs : List Event). length xs) (run one_shard submitted_twice).events submitted_twice refl all

@@ -1,6 +1,8 @@
 -- Worked runs against forms that resemble what is promised of the tables that reads show, and of what is committed later.
-use Rattle.std.proofs.Common.{refl, [], ◌∷◌, ◌++◌}
+use Rattle.std.proofs.Common.{ap, ◌∙◌, refl, ℕ, [], ◌∷◌, ◌++◌, Option, Some, None}
 use Rattle.std.proofs.lemmas.List.Sorted.{IsPermutation-refl}
+use Rattle.logical_time.specs.Stamps.{StampValue}
+use Rattle.column_family.specs.History.{Stamped}
 use Rattle.table.specs.Meaning.{meaning}
 use Rattle.messages.specs.declared.op.Op.TheVariants as op
 use Rattle.messages.specs.declared.outcome.Outcome.TheVariants as outcome
@@ -13,7 +15,7 @@ use Rattle.world.specs.Before.{IsSubmitted, Past}
 use Rattle.world.specs.Entries.{named_by}
 use Rattle.world.specs.Promises.{IsAnswered}
 use Rattle.world.specs.Worked.{operation, column, row, wrote, insert, key_a, key_b, name_x, one_shard, two_shards, three_sessions, two_centres, insert_then_read, insert_and_read_back, both_are_read, a_is_written_next, b_is_read, a_is_written, older_stamp_arrives_late, read_beside_a_write, told_before_the_cohort, cohort_is_read}
-use Rattle.world.specs.Lookalikes.{ReadsShowEarlierTable, ReadsShowLaterTable, ReadsShowFirstCentre, PastIsBelow, PastIsInFirstCentre, CommitsAreAbove, LaterCommitsOfAnyRowAreAbove, LaterCommitsAreFarAbove, ReadsAreAboveTheirHome, CompletedWritesAreShown}
+use Rattle.world.specs.Lookalikes.{ReadsShowEarlierTable, ReadsShowLaterTable, ReadsShowFirstCentre, PastIsBelow, PastIsInFirstCentre, PastIsShown, CommitsAreAbove, LaterCommitsOfAnyRowAreAbove, LaterCommitsAreFarAbove, ReadsAreAboveTheirHome, CompletedWritesAreShown}
 use Rattle.world.proofs.Closed.{bytes_shown, not_committed_by, not_committed_below, own_past}
 use Rattle.world.proofs.WorkedEntries.{x_of, stamp, ended, decided}
 
@@ -84,6 +86,30 @@ pub past_in_first_centre : ¬ (PastIsInFirstCentre two_centres older_stamp_arriv
 past_in_first_centre all =
     not_committed_by two_centres older_stamp_arrives_late 0 (operation 3 1) 2 refl
     (all of_second (x_of (key_b ∷ [])) 2 (row key_b (column name_x 2 ∷ []) ∷ []) (operation 3 1) second_answered before_second)
+
+-- at home the first session's write is hidden by that of the other data centre, which has the greater stamp
+abbrev at_home : Completed
+at_home = ended 2 2 0 (op.Read (x_of (key_b ∷ []))) (outcome.Read 3 (row key_b (column name_x 2 ∷ []) ∷ []))
+
+before_home : Past two_centres older_stamp_arrives_late (operation 2 2) (operation 2 1)
+before_home =
+    own_past two_centres older_stamp_arrives_late (ended 2 1 0 (op.Batch (insert key_b name_x 1 ∷ [])) (wrote 2 0))
+    (record { session = 2; number = 2; home = 0; time = 4; op = op.Read (x_of (key_b ∷ [])); dependencies = record { txn = operation 2 1; shard = 0 } ∷ [] })
+    (insert key_b name_x 1 ∷ []) 0 3 refl refl refl refl refl refl refl refl
+
+abbrev node_shown : Option Stamped → ℕ
+node_shown None = 0
+node_shown (Some n) = n.stamp.node
+
+pub past_shown : ¬ (PastIsShown two_centres older_stamp_arrives_late)
+past_shown all =
+    let r =
+    all at_home (x_of (key_b ∷ [])) 3 (row key_b (column name_x 2 ∷ []) ∷ []) (operation 2 1) (decided 2 2 (stamp 2 0)) (insert key_b name_x 1 ∷ []) key_b name_x
+    (record { completed = at older_stamp_arrives_late.transcript at_home 3 refl refl; op = refl; outcome = refl }) before_home
+    (at (decisions_in two_centres older_stamp_arrives_late 0) (decided 2 2 (stamp 2 0)) 0 refl refl) refl refl
+    (at (key_b ∷ []) key_b 0 refl refl) refl refl
+    in
+    differ (λ n. n) 1 0 refl (ap node_shown r.1 ∙ ap (λ (s : StampValue). s.node) r.2)
 
 -- ## Later commits
 

@@ -7,19 +7,21 @@ use Rattle.column_family.specs.Location.{Location}
 use Rattle.column_family.specs.History.{table_at}
 use Rattle.store.proofs.Lists.{none_in_empty}
 use Rattle.messages.specs.declared.op.Op.TheVariants as op
+use Rattle.messages.specs.declared.outcome.Outcome.TheVariants as outcome
 use Rattle.messages.specs.Shard.{new_shard}
 use Rattle.messages.specs.Honest.{Told, all_told}
 use Rattle.shard.specs.Events.{Handle, shard_run}
+use Rattle.shard.proofs.Lists.{no_truth}
 use Rattle.shard.proofs.Closed.{below, differ, at, no_more}
-use Rattle.world.specs.Run.{Submission}
+use Rattle.world.specs.Run.{Submission, Completed}
 use Rattle.world.specs.Histories.{history_of}
 use Rattle.world.specs.Quiet.{handled, IsQuiet}
 use Rattle.world.specs.Met.{envelopes_to}
 use Rattle.world.specs.Each.{events_for}
-use Rattle.world.specs.Worked.{operation, family_f, insert, key_b, name_x, one_shard, home_is_nowhere, two_shards, two_by_two, insert_and_read_back, only_submitted, sent_to_itself, second_round_collected, write_is_replicated}
-use Rattle.world.specs.Lookalikes.{SentIsHonest, EnvelopesMakeShards, EachNodeIsRight, IsNearlyQuiet, NearlyQuietMeansDone, QuietMeansDoneAnywhere, TablesAreEqualOnceOneIsDone, TablesAreEqualOneBefore}
+use Rattle.world.specs.Worked.{key_a, collected_and_quiet, operation, family_f, insert, key_b, name_x, one_shard, home_is_nowhere, two_shards, two_by_two, insert_and_read_back, only_submitted, sent_to_itself, second_round_collected, write_is_replicated}
+use Rattle.world.specs.Lookalikes.{SentIsHonest, EnvelopesMakeShards, EachNodeIsRight, IsNearlyQuiet, NearlyQuietMeansDone, QuietMeansDoneAnywhere, TablesAreEqualOnceOneIsDone, TablesAreEqualOneBefore, QuietMeansCompleted}
 use Rattle.world.proofs.Closed.{each_found}
-use Rattle.world.proofs.WorkedEntries.{stamp, accepted}
+use Rattle.world.proofs.WorkedEntries.{x_of, stamp, accepted, ended}
 use Rattle.world.proofs.WorkedPasts.{quiet}
 
 -- ## Shards
@@ -88,3 +90,13 @@ one_before all =
     differ present (table_at h 7 x_of_b) (table_at g 7 x_of_b) refl
     (all 0 1 7 h g x_of_b quiet (below 0 2 refl) (below 1 2 refl) (IsPermutation-refl h) (IsPermutation-refl g)
     (no_more (λ c. c.commit) 8 h refl) (no_more (λ c. c.commit) 8 g refl))
+
+-- the read that was given up in a quiet run
+abbrev abandoned : Completed
+abandoned = ended 3 1 0 (op.Read (x_of (key_b ∷ key_a ∷ []))) outcome.Collected
+
+collected_quiet : IsQuiet collected_and_quiet
+collected_quiet = each_found (handled collected_and_quiet) (length collected_and_quiet.sent) refl
+
+pub completed : ¬ (QuietMeansCompleted collected_and_quiet)
+completed all = no_truth _ (all collected_quiet abandoned (at collected_and_quiet.transcript abandoned 0 refl refl)) refl

@@ -31,7 +31,7 @@ use Rattle.world.specs.Fresh.{IsKept, WasApplied, IsNoOlder}
 use Rattle.world.specs.Committed.{IsCommittedBy, time_of, IsNotBelow}
 use Rattle.world.specs.Entries.{named_by, IsOf, IsKeptIn}
 use Rattle.world.specs.Promises.{number_of, IsAnswered, TouchesAsked}
-use Rattle.world.specs.Settled.{Settled}
+use Rattle.world.specs.Settled.{IsCommittedIn, Settled}
 use Rattle.world.specs.Each.{IsRightInRun}
 
 -- ## One table, and the past
@@ -66,6 +66,17 @@ abbrev pub PastIsInFirstCentre : TopologyValue → Run → Type 0
 PastIsInFirstCentre top w =
     (c : Completed) (read : Read) (time : ℕ) (answer : List AnsweredRow) (u : TxnValue)
     → IsAnswered w c read time answer → Past top w (number_of c) u → IsCommittedBy top w 0 u time
+
+-- what a read shows at an asked location is of each write of its past that touches it, so no newer one hides it
+abbrev pub PastIsShown : TopologyValue → Run → Type 0
+PastIsShown top w =
+    (c : Completed) (read : Read) (time : ℕ) (answer : List AnsweredRow) (u : TxnValue) (d : Decision) (batch : List Change) (key name : List ℕ)
+    → IsAnswered w c read time answer → Past top w (number_of c) u
+    → Contains (decisions_in top w c.home) d → d.txn ≡ u → batch_submitted w u ≡ Some batch
+    → Contains read.keys key → is_asked read.predicate name ≡ true
+    → list_any (touches (record { row = row_of read key; name = name })) batch ≡ true
+    → (n : Stamped) × (newest_at (history_of top w c.home) time (record { row = row_of read key; name = name }) ≡ Some n)
+    × (n.stamp ≡ d.stamp)
 
 -- ## What is committed in the home of a read
 
@@ -209,6 +220,12 @@ WritesAreToldInFirstCentre top w =
     → Contains w.transcript c → c.op ≡ op.Batch batch → c.outcome ≡ outcome.Wrote commit stamp
     → IsHistory top w 0 h → Contains h (committed batch stamp commit)
 
+-- a completed write is committed in every data centre
+abbrev pub CompletedWritesAreEverywhere : TopologyValue → Run → Type 0
+CompletedWritesAreEverywhere top w =
+    (c : Completed) (commit : ℕ) (stamp : StampValue) (dc : ℕ)
+    → Contains w.transcript c → c.outcome ≡ outcome.Wrote commit stamp → dc < top.dcs → IsCommittedIn top w dc (number_of c)
+
 -- the times of a session rise
 abbrev pub TimesRise : Run → Type 0
 TimesRise w =
@@ -246,6 +263,10 @@ abbrev pub OutcomesAreListedNext : Run → Type 0
 OutcomesAreListedNext w =
     (session : ℕ) (f : Finished) → Contains (w.sessions session).outcomes f
     → (c : Completed) × Contains w.transcript c × (c.node ≡ session) × (c.number ≡ f.number + 1)
+
+-- a run keeps all events, also those that are refused
+abbrev pub RunsKeepAllEvents : TopologyValue → List Event → Type 0
+RunsKeepAllEvents top events = (run top events).events ≡ events
 
 -- ## Shards
 
@@ -291,3 +312,7 @@ TablesAreEqualOneBefore top w =
     → IsQuiet w → dc < top.dcs → other < top.dcs → IsHistory top w dc h → IsHistory top w other g
     → ((c : Committed) → Contains h c → c.commit ≤ time + 1) → ((c : Committed) → Contains g c → c.commit ≤ time + 1)
     → table_at h time l ≡ table_at g time l
+
+-- each operation is completed, so no read is given up
+abbrev pub QuietMeansCompleted : Run → Type 0
+QuietMeansCompleted w = IsQuiet w → (c : Completed) → Contains w.transcript c → completes c.outcome ≡ true

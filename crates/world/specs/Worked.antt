@@ -165,6 +165,10 @@ only_submitted = run one_shard (write 1 (insert key_b name_x 1 ∷ []) ∷ [])
 abbrev pub messages_come_again : Run
 messages_come_again = run one_shard (write 1 (insert key_b name_x 1 ∷ []) ∷ deliver (0 ∷ 0 ∷ 1 ∷ 1 ∷ []))
 
+-- a second write is submitted while the first is open
+abbrev pub submitted_twice : List Event
+submitted_twice = write 1 (insert key_b name_x 1 ∷ []) ∷ write 1 (insert key_b name_y 2 ∷ []) ∷ []
+
 -- A session at home in a data centre that isn't there: what it sends comes back to itself
 abbrev pub home_is_nowhere : TopologyValue
 home_is_nowhere = actors 1 1 (1 ∷ [])
@@ -201,6 +205,10 @@ read_asks_coordinator = run two_shards (second_round ++ deliver (9 ∷ 10 ∷ 11
 -- the cohort has collected past the time of the second round before it is asked
 abbrev pub second_round_collected : Run
 second_round_collected = run two_shards (second_round ++ Collect 1 10 ∷ deliver (9 ∷ 10 ∷ []))
+
+-- the same, and every other message is handled too
+abbrev pub collected_and_quiet : Run
+collected_and_quiet = run two_shards (second_round ++ Collect 1 10 ∷ deliver (9 ∷ 10 ∷ 3 ∷ 4 ∷ []))
 
 -- the cohort collects past that time while it waits for the coordinator's answer
 abbrev pub collected_while_waiting : Run

@@ -1,20 +1,21 @@
 //! Forms that resemble the promises of every run and are false: each is refuted by a worked run.
 ghost use Rattle.std.specs.Prelude.{[], ◌++◌};
 ghost use Rattle.world.specs.Run.{run};
-ghost use Rattle.world.specs.Worked.{one_shard, home_is_nowhere, two_shards, three_sessions, two_centres, two_by_two, insert_then_read, told_before_the_cohort, cohort_is_read, b_is_read, a_is_written, both_are_read, a_is_written_next};
-ghost use Rattle.world.specs.Worked.{insert_and_read_back, only_submitted, sent_to_itself, two_shard_write, second_round_collected, read_beside_a_write, write_after_the_answer, concurrent_inserts_meet, older_stamp_arrives_late, dependency_holds_back, write_is_replicated};
-ghost use Rattle.world.specs.Lookalikes.{ReadsShowEarlierTable, ReadsShowLaterTable, ReadsShowFirstCentre, PastIsBelow, PastIsInFirstCentre, CommitsAreAbove, LaterCommitsOfAnyRowAreAbove, LaterCommitsAreFarAbove, ReadsAreAboveTheirHome, CompletedWritesAreShown};
+ghost use Rattle.world.specs.Worked.{one_shard, home_is_nowhere, two_shards, three_sessions, two_centres, two_by_two, three_at_home, insert_then_read, submitted_twice, told_before_the_cohort, cohort_is_read, b_is_read, a_is_written, both_are_read, a_is_written_next};
+ghost use Rattle.world.specs.Worked.{insert_and_read_back, only_submitted, sent_to_itself, two_shard_write, second_round_collected, read_beside_a_write, write_after_the_answer, concurrent_inserts_meet, older_stamp_arrives_late, dependency_holds_back, deletion_is_read, write_is_replicated, collected_and_quiet};
+ghost use Rattle.world.specs.Lookalikes.{ReadsShowEarlierTable, ReadsShowLaterTable, ReadsShowFirstCentre, PastIsBelow, PastIsInFirstCentre, PastIsShown, CommitsAreAbove, LaterCommitsOfAnyRowAreAbove, LaterCommitsAreFarAbove, ReadsAreAboveTheirHome, CompletedWritesAreShown};
 ghost use Rattle.world.specs.Lookalikes.{ReadsAreNewer, OtherRowsAreFresh, OtherColumnsAreFresh, ReadsAreFreshAtDelivery, HistoriesNeverGrow, SubmittedBatchesHaveEntries, EntriesHaveOwnTimes, FirstCentreDecides, CommitTimesAgree, StampsAreCommitTimes, StampsAreBelowCommitTimes, CommitTimesFollowCauses, StampsTellCauses};
-ghost use Rattle.world.specs.Lookalikes.{WritesAreToldInFirstCentre, TimesRise, TimesOfACentreNeverFall, SessionsEndOnce, SessionsSubmitOnce, NothingIsGivenUp, AllEndAsWrites, SubmissionsEnd, OutcomesAreListedNext, SentIsHonest, EnvelopesMakeShards, EachNodeIsRight, NearlyQuietMeansDone, QuietMeansDoneAnywhere, TablesAreEqualOnceOneIsDone, TablesAreEqualOneBefore};
+ghost use Rattle.world.specs.Lookalikes.{WritesAreToldInFirstCentre, CompletedWritesAreEverywhere, TimesRise, TimesOfACentreNeverFall, SessionsEndOnce, SessionsSubmitOnce, NothingIsGivenUp, AllEndAsWrites, SubmissionsEnd, OutcomesAreListedNext, RunsKeepAllEvents, SentIsHonest, EnvelopesMakeShards, EachNodeIsRight, NearlyQuietMeansDone, QuietMeansDoneAnywhere, TablesAreEqualOnceOneIsDone, TablesAreEqualOneBefore, QuietMeansCompleted};
 
-/// A read shows the table of no other time and of no other data centre, and its past is committed by its effective time,
-/// not below it, and at home. Does nothing; its contract is the law.
+/// A read shows the table of no other time and of no other data centre; its past is committed by its effective time, not
+/// below it, and at home, and what is newer can hide it. Does nothing; its contract is the law.
 pub fn lookalikes_of_tables_are_false()
     ensures earlier_table { ¬ (ReadsShowEarlierTable one_shard insert_and_read_back) }
     ensures later_table { ¬ (ReadsShowLaterTable three_sessions (run three_sessions (both_are_read ++ a_is_written_next))) }
     ensures first_centre { ¬ (ReadsShowFirstCentre two_centres older_stamp_arrives_late) }
     ensures past_below { ¬ (PastIsBelow one_shard insert_and_read_back) }
     ensures past_in_first_centre { ¬ (PastIsInFirstCentre two_centres older_stamp_arrives_late) }
+    ensures past_shown { ¬ (PastIsShown two_centres older_stamp_arrives_late) }
 {}
 
 /// Above the effective time of a read is what is committed later and in an asked row, by one at least; what was committed
@@ -56,10 +57,11 @@ pub fn lookalikes_of_stamps_are_false()
     ensures converse { ¬ (StampsTellCauses two_centres concurrent_inserts_meet) }
 {}
 
-/// A write is told as it is committed at home; a session's times needn't rise, and those of several can fall; sessions end
-/// and submit more than one operation. Does nothing; its contract is the law.
+/// A write is told as it is committed at home, before it is elsewhere; a session's times needn't rise, and those of several
+/// can fall; sessions end and submit more than one operation. Does nothing; its contract is the law.
 pub fn lookalikes_of_sessions_are_false()
     ensures told_in_first_centre { ¬ (WritesAreToldInFirstCentre two_centres concurrent_inserts_meet) }
+    ensures everywhere { ¬ (CompletedWritesAreEverywhere three_at_home deletion_is_read) }
     ensures times_rise { ¬ (TimesRise insert_and_read_back) }
     ensures times_of_a_centre { ¬ (TimesOfACentreNeverFall read_beside_a_write) }
     ensures ends_once { ¬ (SessionsEndOnce insert_and_read_back) }
@@ -67,12 +69,13 @@ pub fn lookalikes_of_sessions_are_false()
 {}
 
 /// A read can be given up, and doesn't end as a write does; an operation needn't end; what ended is listed under its own
-/// number. Does nothing; its contract is the law.
+/// number; and an event that was refused isn't in the run. Does nothing; its contract is the law.
 pub fn lookalikes_of_transcripts_are_false()
     ensures given_up { ¬ (NothingIsGivenUp second_round_collected) }
     ensures all_writes { ¬ (AllEndAsWrites insert_and_read_back) }
     ensures submissions_end { ¬ (SubmissionsEnd only_submitted) }
     ensures next_number { ¬ (OutcomesAreListedNext insert_and_read_back) }
+    ensures refused_events { ¬ (RunsKeepAllEvents one_shard submitted_twice) }
 {}
 
 /// What other shards handled isn't honest towards a shard; collections are among its events; and the node of a session is
@@ -83,11 +86,12 @@ pub fn lookalikes_of_shards_are_false()
     ensures each_node { ¬ (EachNodeIsRight one_shard insert_and_read_back) }
 {}
 
-/// One message that isn't handled, or a topology that isn't one, can leave a write undone; tables are equal at no time that
-/// is below some commit time of either data centre. Does nothing; its contract is the law.
+/// One message that isn't handled, or a topology that isn't one, can leave a write undone; below a commit time of either
+/// data centre tables can differ; and a read of a quiet run can have been given up. Does nothing; its contract is the law.
 pub fn lookalikes_of_quiet_runs_are_false()
     ensures nearly_quiet { ¬ (NearlyQuietMeansDone one_shard only_submitted) }
     ensures anywhere { ¬ (QuietMeansDoneAnywhere home_is_nowhere sent_to_itself) }
     ensures one_is_done { ¬ (TablesAreEqualOnceOneIsDone two_by_two write_is_replicated) }
     ensures one_before { ¬ (TablesAreEqualOneBefore two_by_two write_is_replicated) }
+    ensures completed { ¬ (QuietMeansCompleted collected_and_quiet) }
 {}

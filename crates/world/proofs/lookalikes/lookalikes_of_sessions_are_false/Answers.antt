@@ -1,4 +1,4 @@
-use Rattle.world.proofs.RefutedOutcomes.{told_in_first_centre, times_rise, times_of_a_centre, ends_once, submits_once}
+use Rattle.world.proofs.RefutedOutcomes.{everywhere, told_in_first_centre, times_rise, times_of_a_centre, ends_once, submits_once}
 use Rattle.world.proofs.lookalikes.lookalikes_of_sessions_are_false.Goals as goal
 
 pub returns-clause-told_in_first_centre : goal.returns-clause-told_in_first_centre
@@ -15,3 +15,6 @@ returns-clause-ends_once c = ends_once
 
 pub returns-clause-submits_once : goal.returns-clause-submits_once
 returns-clause-submits_once c = submits_once
+
+pub returns-clause-everywhere : goal.returns-clause-everywhere
+returns-clause-everywhere c = everywhere

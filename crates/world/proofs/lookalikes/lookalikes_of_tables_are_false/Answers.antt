@@ -1,4 +1,4 @@
-use Rattle.world.proofs.RefutedReads.{earlier_table, later_table, first_centre, past_below, past_in_first_centre}
+use Rattle.world.proofs.RefutedReads.{past_shown, earlier_table, later_table, first_centre, past_below, past_in_first_centre}
 use Rattle.world.proofs.lookalikes.lookalikes_of_tables_are_false.Goals as goal
 
 pub returns-clause-earlier_table : goal.returns-clause-earlier_table
@@ -15,3 +15,6 @@ returns-clause-past_below c = past_below
 
 pub returns-clause-past_in_first_centre : goal.returns-clause-past_in_first_centre
 returns-clause-past_in_first_centre c = past_in_first_centre
+
+pub returns-clause-past_shown : goal.returns-clause-past_shown
+returns-clause-past_shown c = past_shown

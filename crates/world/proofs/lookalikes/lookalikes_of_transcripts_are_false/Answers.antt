@@ -1,4 +1,4 @@
-use Rattle.world.proofs.RefutedOutcomes.{given_up, all_writes, submissions_end, next_number}
+use Rattle.world.proofs.RefutedOutcomes.{refused_events, given_up, all_writes, submissions_end, next_number}
 use Rattle.world.proofs.lookalikes.lookalikes_of_transcripts_are_false.Goals as goal
 
 pub returns-clause-given_up : goal.returns-clause-given_up
@@ -12,3 +12,6 @@ returns-clause-submissions_end c = submissions_end
 
 pub returns-clause-next_number : goal.returns-clause-next_number
 returns-clause-next_number c = next_number
+
+pub returns-clause-refused_events : goal.returns-clause-refused_events
+returns-clause-refused_events c = refused_events
