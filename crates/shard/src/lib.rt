@@ -1,6 +1,7 @@
 //! One shard: what is promised of all that it answers, by the protocol's definitions.
 //!
-//! No program runs it yet. That one shard is right is a law of the definitions.
+//! No program runs it yet. That one shard is right is a law of the definitions, and forms that resemble it and are false are
+//! refuted.
 #![tactic(auto)]
 
 mod law;

@@ -1,5 +1,5 @@
 //! Runs of all actors, as definitions: which events there are, what each makes of a run, and what is said of runs. What is
-//! promised of every run is proved as laws.
+//! promised of every run is proved as laws, and forms that resemble these and are false are refuted.
 //!
 //! No program runs them yet. The worked runs are laws too: each computes to the outcomes, clocks and times that are stated.
 #![tactic(auto)]
