@@ -1,4 +1,4 @@
--- Worked runs of one shard against forms that resemble its law, and against the law without honest envelopes.
+-- Worked runs of one shard against forms that resemble its law, and against the law without a clause of honesty.
 use Rattle.std.proofs.Common.{◌≡◌, ap, subst, refl, inl, inr, ℕ, false, List, [], ◌∷◌, length}
 use Rattle.std.specs.Prelude.{⊤, ◌==◌, nat_lt, Contains}
 use Rattle.std.specs.List.{AllByRecursion}
@@ -21,12 +21,12 @@ use Rattle.messages.specs.Words.{envelope}
 use Rattle.messages.specs.Honest.{all_told}
 use Rattle.messages.specs.Rows.{row_of}
 use Rattle.shard.specs.Events.{envelopes_handled}
-use Rattle.shard.specs.Right.{part_now, part_then, IsRightShard}
+use Rattle.shard.specs.Right.{part_now, part_then}
 use Rattle.shard.specs.Worked.{key_a, key_b, name_x, x_gets, x_of, first_of, stamp, written_then_read, read_then_written, read_at_its_mark, collected_then_read, commit_at_its_mark, excluded_at_its_commit_time, read_above_its_time, two_of_one_stamp}
-use Rattle.shard.specs.Lookalikes.{RowsAreRightEarlier, RowsAreRightLater, RowsAtATimeAreRightEarlier, RowsAtATimeAreRightLater, PartsAreAppliedAbove, GivenUpFarBelow}
+use Rattle.shard.specs.Lookalikes.{RowsAreRightEarlier, RowsAreRightLater, RowsAtATimeAreRightEarlier, RowsAtATimeAreRightLater, PartsAreAppliedAbove, GivenUpFarBelow, Marks, Exclusions, TimesOfReads, Stamps, IsRightWithout}
 use Rattle.shard.proofs.Lists.{each_contained}
 use Rattle.shard.proofs.Closed.{not_more, not_below, is_below, are_equal, differ, at, none}
-use Rattle.shard.proofs.WorkedHonest.{honest_written, honest_read, honest_mark, honest_collected}
+use Rattle.shard.proofs.WorkedHonest.{honest_written, honest_read, honest_mark, honest_collected, but_for_marks, but_for_exclusions, but_for_times, but_for_stamps}
 
 -- ## What is asked, and what is shown
 
@@ -129,31 +129,31 @@ given_up all =
     let e = envelope 0 3 10 (body.PartAt 1 9 at_time.Collected) in
     not_below 10 10 refl (all honest_collected e 1 9 (at collected_then_read.sent e 0 refl refl) refl)
 
--- ## Envelopes that aren't honest
+-- ## Envelopes that are honest but for one clause
 
-pub mark : ¬ (IsRightShard commit_at_its_mark)
-mark all =
+pub marks : ¬ (IsRightWithout Marks commit_at_its_mark)
+marks all =
     let w = commit_at_its_mark in
     let row = empty_now key_a 2 in
-    let r = all.now (told_now 1 3 row) 1 (row ∷ []) (at w.sent (told_now 1 3 row) 1 refl refl) refl in
+    let r = (all but_for_marks).now (told_now 1 3 row) 1 (row ∷ []) (at w.sent (told_now 1 3 row) 1 refl refl) refl in
     wrong w.state.applied r.read (x_of key_a) key_a 2 (part_now row)
     (asked_now (envelopes_handled w) (x_of key_a) (tt, (refl, (tt, tt))) r.asked 1 r.read r.handled r.body) refl
     (r.right row (at (row ∷ []) row 0 refl refl) 2 (not_more 0 2 refl) (not_more 2 2 refl))
 
-pub excluded : ¬ (IsRightShard excluded_at_its_commit_time)
-excluded all =
+pub exclusions : ¬ (IsRightWithout Exclusions excluded_at_its_commit_time)
+exclusions all =
     let w = excluded_at_its_commit_time in
     let row = empty_then key_a in
-    let r = all.then (told_then 1 5 3 row) 1 3 (row ∷ []) (at w.sent (told_then 1 5 3 row) 2 refl refl) refl in
+    let r = (all but_for_exclusions).then (told_then 1 5 3 row) 1 3 (row ∷ []) (at w.sent (told_then 1 5 3 row) 2 refl refl) refl in
     wrong w.state.applied r.read (x_of key_a) key_a 3 (part_then row)
     (asked_then (envelopes_handled w) (x_of key_a) (tt, (refl, (tt, (tt, tt)))) r.asked 1 3 r.read r.handled r.body) refl
     (r.right row (at (row ∷ []) row 0 refl refl))
 
-pub read : ¬ (IsRightShard read_above_its_time)
-read all =
+pub times_of_reads : ¬ (IsRightWithout TimesOfReads read_above_its_time)
+times_of_reads all =
     let w = read_above_its_time in
     let row = empty_then key_b in
-    let r = all.then (told_then 0 2 3 row) 1 3 (row ∷ []) (at w.sent (told_then 0 2 3 row) 0 refl refl) refl in
+    let r = (all but_for_times).then (told_then 0 2 3 row) 1 3 (row ∷ []) (at w.sent (told_then 0 2 3 row) 0 refl refl) refl in
     wrong w.state.applied r.read (x_of key_b) key_b 3 (part_then row)
     (asked_then (envelopes_handled w) (x_of key_b) (refl, (tt, tt)) r.asked 1 3 r.read r.handled r.body) refl
     (r.right row (at (row ∷ []) row 0 refl refl))
@@ -162,10 +162,10 @@ read all =
 abbrev both_now : RowNow
 both_now = record { key = key_a; columns = x_shown; writers = writer 2 ∷ writer 3 ∷ []; evt = 3; lvt = 6 }
 
-pub stamps : ¬ (IsRightShard two_of_one_stamp)
+pub stamps : ¬ (IsRightWithout Stamps two_of_one_stamp)
 stamps all =
     let w = two_of_one_stamp in
-    let r = all.now (told_now 1 6 both_now) 1 (both_now ∷ []) (at w.sent (told_now 1 6 both_now) 2 refl refl) refl in
+    let r = (all but_for_stamps).now (told_now 1 6 both_now) 1 (both_now ∷ []) (at w.sent (told_now 1 6 both_now) 2 refl refl) refl in
     let rested = ((r.right both_now (at (both_now ∷ []) both_now 0 refl refl) 3 (not_more 3 3 refl) (not_more 3 6 refl)).writers (writer 3)).0 (at (writer 2 ∷ writer 3 ∷ []) (writer 3) 1 refl refl) in
     none (λ x. x.part.writer.txn.session == 3) (applied_by 3 w.state.applied) rested.0 refl rested.1
     (are_equal rested.0.part.writer.txn.session 3 (ap (λ (x : WriterValue). x.txn.session) rested.2))

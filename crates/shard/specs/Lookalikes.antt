@@ -1,6 +1,7 @@
--- Forms that resemble what is promised of one shard and are false: each has one bound changed by one. Worked runs with
--- honest envelopes refute them.
-use Rattle.std.specs.Prelude.{◌≡◌, ℕ, ◌+◌, ◌-◌, ◌<◌, ◌≤◌, List, map, Contains, ◌⊎◌}
+-- Forms that resemble what is promised of one shard and are false: each has one bound changed by one, or asks for honest
+-- envelopes without one of the clauses. Worked runs refute them.
+use Rattle.std.specs.Prelude.{◌≡◌, ◌≢◌, ℕ, ◌+◌, ◌-◌, ◌<◌, ◌≤◌, List, map, Contains, ◌⊎◌}
+use Rattle.column_family.specs.Normal.{IsNormal}
 use Rattle.slice.specs.declared.read.Read.{Read}
 use Rattle.store.specs.declared.part.Applied.{Applied}
 use Rattle.store.specs.Part.{IsRightPart}
@@ -9,11 +10,11 @@ use Rattle.messages.specs.declared.rows_at.RowAt.{RowAt}
 use Rattle.messages.specs.declared.rows_at.AtTime.TheVariants as at
 use Rattle.messages.specs.declared.body.Body.TheVariants as body
 use Rattle.messages.specs.declared.envelope.Envelope.{Envelope}
-use Rattle.messages.specs.Shard.{Decision}
-use Rattle.messages.specs.Honest.{Told, all_told, IsHonest}
+use Rattle.messages.specs.Shard.{ShardState, PreparedPart, Decision}
+use Rattle.messages.specs.Honest.{Told, StampedTxn, all_told, part_in, stamps_met, IsHonest}
 use Rattle.messages.specs.Rows.{row_of}
 use Rattle.shard.specs.Events.{ShardRun, envelopes_handled}
-use Rattle.shard.specs.Right.{part_now, IsRightAt}
+use Rattle.shard.specs.Right.{part_now, IsRightAt, IsRightShard}
 
 -- ## Rows of a first round
 
@@ -90,3 +91,32 @@ abbrev pub GivenUpFarBelow : ShardRun → Type 0
 GivenUpFarBelow w =
     IsHonest w.state (envelopes_handled w) → (e : Envelope) (number time : ℕ) → Contains w.sent e
     → e.body ≡ body.PartAt number time at.Collected → time + 1 < w.state.low
+
+-- ## Envelopes that are honest but for one clause
+
+-- a clause of `IsHonest`: that commit times are above marks, and above the times of NotBy; that a ReadAt names no time above
+-- its envelope's; that two transactions have two stamps
+pub data Clause : Type 0 where
+  Marks : Clause
+  Exclusions : Clause
+  TimesOfReads : Clause
+  Stamps : Clause
+
+-- envelopes are honest, but for this clause
+pub record IsHonestBut (left_out : Clause) (a : ShardState) (es : List Envelope) : Type 0 where
+  pub commit : (x y : Told) → Contains (all_told es) x → Contains (all_told es) y → x.txn ≡ y.txn → x.commit ≡ y.commit
+  pub stamp : (x y : Told) → Contains (all_told es) x → Contains (all_told es) y → x.txn ≡ y.txn → x.stamp ≡ y.stamp
+  pub prepared : left_out ≢ Marks
+      → (x : Told) (p : PreparedPart) → Contains (all_told es) x → Contains a.prepared p → p.txn ≡ x.txn → p.time < x.commit
+  pub told : (x : Told) → Contains (all_told es) x → x.commit ≤ x.time
+  pub excluded : left_out ≢ Exclusions
+      → (x : Told) (e : Envelope) (time : ℕ) → Contains (all_told es) x → Contains es e → e.body ≡ body.NotBy x.txn time → time < x.commit
+  pub stamps : left_out ≢ Stamps
+      → (x y : StampedTxn) → Contains (stamps_met a es) x → Contains (stamps_met a es) y → x.stamp ≡ y.stamp → x.txn ≡ y.txn
+  pub read : left_out ≢ TimesOfReads
+      → (e : Envelope) (number time : ℕ) (r : Read) → Contains es e → e.body ≡ body.ReadAt number time r → time ≤ e.time
+  pub parts : (e : Envelope) → Contains es e → IsNormal (part_in e.body)
+
+-- that is enough for a shard to be right
+abbrev pub IsRightWithout : Clause → ShardRun → Type 0
+IsRightWithout c w = IsHonestBut c w.state (envelopes_handled w) → IsRightShard w

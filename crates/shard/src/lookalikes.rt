@@ -1,7 +1,6 @@
 //! Forms that resemble the law of one shard and are false: each is refuted by a worked run.
-ghost use Rattle.shard.specs.Right.{IsRightShard};
 ghost use Rattle.shard.specs.Worked.{written_then_read, read_then_written, read_at_its_mark, collected_then_read, commit_at_its_mark, excluded_at_its_commit_time, read_above_its_time, two_of_one_stamp};
-ghost use Rattle.shard.specs.Lookalikes.{RowsAreRightEarlier, RowsAreRightLater, RowsAtATimeAreRightEarlier, RowsAtATimeAreRightLater, PartsAreAppliedAbove, GivenUpFarBelow};
+ghost use Rattle.shard.specs.Lookalikes.{RowsAreRightEarlier, RowsAreRightLater, RowsAtATimeAreRightEarlier, RowsAtATimeAreRightLater, PartsAreAppliedAbove, GivenUpFarBelow, Marks, Exclusions, TimesOfReads, Stamps, IsRightWithout};
 
 /// With honest envelopes a row is right between its earliest and its latest valid time, and not one before or after; a row
 /// at a time at that time alone; a part is applied at its commit time; and a read can be given up just below the horizon.
@@ -15,12 +14,12 @@ pub fn lookalikes_of_right_shards_are_false()
     ensures given_up { ¬ (GivenUpFarBelow collected_then_read) }
 {}
 
-/// Without honest envelopes a shard needn't be right: where a commit time isn't above the mark, or above a time that a NotBy
-/// named, where a ReadAt names a time that isn't there yet, and where two transactions have one stamp. Does nothing; its
-/// contract is the law.
+/// A shard whose envelopes are honest but for one clause needn't be right: where a commit time isn't above the mark, or above
+/// a time that a NotBy named, where a ReadAt names a time that isn't there yet, or where two transactions have one stamp.
+/// Does nothing; its contract is the law.
 pub fn shards_need_honest_envelopes()
-    ensures mark { ¬ (IsRightShard commit_at_its_mark) }
-    ensures excluded { ¬ (IsRightShard excluded_at_its_commit_time) }
-    ensures read { ¬ (IsRightShard read_above_its_time) }
-    ensures stamps { ¬ (IsRightShard two_of_one_stamp) }
+    ensures marks { ¬ (IsRightWithout Marks commit_at_its_mark) }
+    ensures exclusions { ¬ (IsRightWithout Exclusions excluded_at_its_commit_time) }
+    ensures times_of_reads { ¬ (IsRightWithout TimesOfReads read_above_its_time) }
+    ensures stamps { ¬ (IsRightWithout Stamps two_of_one_stamp) }
 {}

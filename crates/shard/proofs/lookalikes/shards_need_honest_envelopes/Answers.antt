@@ -1,14 +1,14 @@
-use Rattle.shard.proofs.Refuted.{mark, excluded, read, stamps}
+use Rattle.shard.proofs.Refuted.{marks, exclusions, times_of_reads, stamps}
 use Rattle.shard.proofs.lookalikes.shards_need_honest_envelopes.Goals as goal
 
-pub returns-clause-mark : goal.returns-clause-mark
-returns-clause-mark c = mark
+pub returns-clause-marks : goal.returns-clause-marks
+returns-clause-marks c = marks
 
-pub returns-clause-excluded : goal.returns-clause-excluded
-returns-clause-excluded c = excluded
+pub returns-clause-exclusions : goal.returns-clause-exclusions
+returns-clause-exclusions c = exclusions
 
-pub returns-clause-read : goal.returns-clause-read
-returns-clause-read c = read
+pub returns-clause-times_of_reads : goal.returns-clause-times_of_reads
+returns-clause-times_of_reads c = times_of_reads
 
 pub returns-clause-stamps : goal.returns-clause-stamps
 returns-clause-stamps c = stamps
