@@ -1,6 +1,6 @@
 -- Where the first change of each row stands, and what is kept, from the newest change to the oldest.
 use Rattle.std.proofs.Common.{◌≡◌, ◌∙◌, ℕ, suc, ◌+◌, ap, sym, refl, Bool, true, false, ◌&&◌, List, [], ◌∷◌, ◌++◌, length, Option, Some, None, arith}
-use Rattle.std.specs.BTreeMap.{insert_entry, BTreeMap, get, Updates}
+use Rattle.std.specs.BTreeMap.{BTreeMap, get, Updates}
 use Rattle.std.specs.Prelude.{if◌then◌else◌, unwrap_or}
 use Rattle.std.specs.declared.cmp.Ordering.{Ordering}
 use Rattle.std.specs.declared.cmp.Ordering.TheVariants.{Less, Equal, Greater}
@@ -11,11 +11,10 @@ use Rattle.std.proofs.lemmas.Slice.Eq.{bytes_eq-Decides}
 use Rattle.std.proofs.lemmas.Map.Text.{is_eq-slice_cmp}
 use Rattle.column_family.specs.declared.batch.Row.{Row}
 use Rattle.column_family.specs.declared.batch.Change.{Change}
-use Rattle.column_family.specs.declared.normalizing.Place.{Place}
 use Rattle.column_family.specs.Location.{is_same_row}
 use Rattle.column_family.specs.Normal.{changes_before}
 use Rattle.column_family.proofs.Options.{by_cases}
-use Rattle.column_family.specs.Places.{Placed, row_cmp, place_cmp, first_from, place_of, is_covered, keep_at, keep, keep_all}
+use Rattle.column_family.specs.Places.{Placed, row_cmp, first_from, keep, keep_all}
 
 first_from_push : (i : ℕ) (xs : List Change) (c : Change) (r : Row) (n : ℕ) → first_from i (xs ++ c ∷ []) r n ≡ first_from i xs r (if is_same_row r c.row then i + length xs else n)
 first_from_push i [] c r n = let e : i + 0 ≡ i = omega arith in rw e refl
@@ -37,9 +36,6 @@ first_from_all i (x ∷ xs) r =
 keep_all_push : (number : Row → ℕ) (es : Placed) (xs : List Change) (c : Change) → keep_all number es (xs ++ c ∷ []) ≡ keep_all number (keep (number c.row) es c) xs
 keep_all_push number es [] c = refl
 keep_all_push number es (x ∷ xs) c = ap (λ (fs : Placed). keep (number x.row) fs x) (keep_all_push number es xs c)
-
-pub keep_new : (row : ℕ) (es : Placed) (c : Change) (p : Place) → place_of row c.mutation ≡ Some p → is_covered es p ≡ false → keep row es c ≡ insert_entry place_cmp es p c
-keep_new row es c p e apart = ap (λ (o : Option Place). keep_at es o c) e ∙ rw apart refl
 
 -- equal rows are one row, by either test
 pub bytes_eq-flip : (a b : List ℕ) → bytes_eq a b ≡ bytes_eq b a

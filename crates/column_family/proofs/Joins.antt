@@ -1,9 +1,8 @@
 -- The newest of two histories, one after the other.
-use Rattle.std.proofs.Common.{◌≡◌, ◌∙◌, sym, ap, refl, Bool, true, false, List, [], ◌∷◌, ◌++◌, Option, Some, None, option_map, arith}
+use Rattle.std.proofs.Common.{◌≡◌, ◌∙◌, sym, ap, refl, Bool, true, false, [], ◌∷◌, ◌++◌, Option, Some, None, option_map, arith}
 use Rattle.std.proofs.lemmas.Bool.Decides.{nat_tests}
 use Rattle.logical_time.specs.Stamps.{StampValue, is_older}
 use Rattle.column_family.specs.declared.batch.Change.{Change}
-use Rattle.column_family.specs.declared.batch.Committed.{Committed}
 use Rattle.column_family.specs.History.{History, Stamped, newer_of, newest_of, last_of, stamped}
 
 -- a stamp that isn't older than one that isn't older than a third isn't older than that

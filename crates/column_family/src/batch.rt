@@ -7,7 +7,7 @@ use std::alloc::{AllocError, AllocFailed, Global};
 use std::marker::Model;
 
 /// A row: a key in a column family.
-#[derive(Drop, Debug, Clone, PartialEq, Eq, PartialOrd, Ord)]
+#[derive(Drop, Clone, PartialEq, Eq, PartialOrd, Ord)]
 pub struct Row {
     /// The column family.
     pub family: Family,
@@ -16,7 +16,7 @@ pub struct Row {
 }
 
 /// What is done to a row (Cassandra's mutation: an insertion of a column, or a deletion).
-#[derive(Drop, Debug, Clone, PartialEq, Eq)]
+#[derive(Drop, Clone, PartialEq, Eq)]
 pub enum Mutation {
     /// Gives a column a value.
     Insert {
@@ -42,7 +42,7 @@ pub enum Mutation {
 }
 
 /// A mutation of a row.
-#[derive(Drop, Debug, Clone, PartialEq, Eq)]
+#[derive(Drop, Clone, PartialEq, Eq)]
 pub struct Change {
     /// The row.
     pub row: Row,
@@ -63,7 +63,7 @@ impl Change {
 
 /// A batch: changes in order, the later ones newer. Each batch is one write transaction
 /// (Cassandra's `batch_mutate`, Eiger's write-only transaction).
-#[derive(Drop, Debug, Clone)]
+#[derive(Drop, Clone)]
 pub struct Batch {
     changes: Vec<Change>,
 }
@@ -127,7 +127,7 @@ impl Batch {
 }
 
 /// A batch that is committed: an entry of a history.
-#[derive(Drop, Debug, Clone)]
+#[derive(Drop, Clone)]
 pub struct Committed {
     /// The batch, as it was submitted.
     pub batch: Batch,

@@ -2,7 +2,7 @@
 //!
 //! Each is a type of its own over a counted buffer, so that a clone copies no byte and two of one kind
 //! can't be taken for each other. Contracts see lists of bytes.
-ghost use Rattle.std.specs.Prelude.{◌≡◌, IfOk};
+ghost use Rattle.std.specs.Prelude.{◌≡◌, ◌&&◌, nat_le, length, IfOk};
 ghost use Rattle.column_family.specs.Limits.{is_key, is_name, is_end, is_value};
 
 use bytes::Bytes;
@@ -16,8 +16,15 @@ const LONGEST_NAME: usize = 1024;
 /// How long a value may be, in bytes.
 const LONGEST_VALUE: usize = 65_536;
 
+/// Whether there are 1 to so many bytes.
+fn has_length(bytes: &[u8], longest: usize) -> bool
+    ensures { result ≡ (nat_le 1 (length bytes.now) && nat_le (length bytes.now) longest) }
+{
+    1 <= bytes.len() && bytes.len() <= longest
+}
+
 /// The name of a column family.
-#[derive(Drop, Debug, Clone, PartialEq, Eq, PartialOrd, Ord)]
+#[derive(Drop, Clone, PartialEq, Eq, PartialOrd, Ord)]
 pub struct Family(Bytes);
 
 impl Model for Family {
@@ -47,7 +54,7 @@ impl Family {
 }
 
 /// The key of a row.
-#[derive(Drop, Debug, Clone, PartialEq, Eq, PartialOrd, Ord)]
+#[derive(Drop, Clone, PartialEq, Eq, PartialOrd, Ord)]
 pub struct Key(Bytes);
 
 impl Model for Key {
@@ -79,13 +86,12 @@ impl Key {
     pub fn is_allowed(&self) -> bool
         ensures { result ≡ is_key self.now }
     {
-        let length = self.as_slice().len();
-        1 <= length && length <= LONGEST_KEY
+        has_length(self.as_slice(), LONGEST_KEY)
     }
 }
 
 /// The name of a column, or an end of a range of names.
-#[derive(Drop, Debug, Clone, PartialEq, Eq, PartialOrd, Ord)]
+#[derive(Drop, Clone, PartialEq, Eq, PartialOrd, Ord)]
 pub struct Name(Bytes);
 
 impl Model for Name {
@@ -117,8 +123,7 @@ impl Name {
     pub fn is_allowed(&self) -> bool
         ensures { result ≡ is_name self.now }
     {
-        let length = self.as_slice().len();
-        1 <= length && length <= LONGEST_NAME
+        has_length(self.as_slice(), LONGEST_NAME)
     }
 
     /// Whether this may be an end of a range: it has at most 1,024 bytes.
@@ -130,7 +135,7 @@ impl Name {
 }
 
 /// The value of a column.
-#[derive(Drop, Debug, Clone, PartialEq, Eq)]
+#[derive(Drop, Clone, PartialEq, Eq)]
 pub struct Value(Bytes);
 
 impl Model for Value {

@@ -11,7 +11,7 @@ use logical_time::{Fault, Time};
 use std::alloc::{AllocError, Global};
 
 /// The newest of some mutations in a history.
-#[derive(Clone, Copy, Debug)]
+#[derive(Clone, Copy)]
 pub struct NewestMutation<'h> {
     /// The batch in which it was committed, with its stamp and its commit time.
     pub entry: &'h Committed,

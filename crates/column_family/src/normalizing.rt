@@ -2,7 +2,7 @@
 //!
 //! Changes are taken from the newest to the oldest, and kept by their place in the normal form. An older
 //! change is without effect where its place is taken, and where its row is deleted by a newer one.
-ghost use Rattle.std.specs.Prelude.{◌≡◌, [], length, unwrap_or, IfOk, OnOk, IfErr};
+ghost use Rattle.std.specs.Prelude.{◌≡◌, [], length, unwrap_or, Some, IfOk, OnOk, IfErr};
 ghost use Rattle.std.specs.BTreeMap.{get, values};
 ghost use Rattle.logical_time.specs.declared.fault.Fault.TheVariants as fault;
 ghost use Rattle.column_family.specs.declared.batch.Row.{Row};
@@ -16,7 +16,7 @@ use std::alloc::{AllocError, Global};
 use std::collections::BTreeMap;
 
 /// Where a change stands in the normal form.
-#[derive(Drop, Debug, Clone, PartialEq, Eq, PartialOrd, Ord)]
+#[derive(Drop, PartialEq, Eq, PartialOrd, Ord)]
 struct Place {
     /// Where the first change of its row stands in the batch.
     row: usize,
@@ -62,19 +62,27 @@ fn is_covered(kept: &BTreeMap<Place, Change>, place: &Place) -> bool
     kept.contains_key(&deletion) || kept.contains_key(place)
 }
 
+/// Keeps an older change that has this place, if it has an effect.
+fn keep_at(kept: &mut BTreeMap<Place, Change>, place: Place, change: &Change) -> Result<(), Fault>
+    ensures ok { OnOk result (kept.new.entries ≡ spec.keep_at kept.old.entries (Some place) change.now) }
+    ensures memory { IfErr result (λ e. e ≡ fault.Memory) }
+{
+    if is_covered(kept, &place) {
+        return Ok(());
+    }
+    drop(kept.insert(place, change.copied()?)?);
+    Ok(())
+}
+
 /// Keeps an older change of the row, if it has an effect.
 fn keep(kept: &mut BTreeMap<Place, Change>, row: usize, change: &Change) -> Result<(), Fault>
     ensures ok { OnOk result (kept.new.entries ≡ spec.keep row kept.old.entries change.now) }
     ensures memory { IfErr result (λ e. e ≡ fault.Memory) }
 {
-    let Some(place) = place_of(row, &change.mutation)? else {
-        return Ok(())
-    };
-    if is_covered(kept, &place) {
-        return Ok(());
+    match place_of(row, &change.mutation)? {
+        Some(place) => keep_at(kept, place, change),
+        None => Ok(()),
     }
-    kept.insert(place, change.copied()?)?;
-    Ok(())
 }
 
 /// What is kept of the changes, by place.

@@ -9,7 +9,7 @@ use std::marker::Model;
 
 /// The column families of a store: 1 to 16 names, no two the same, each of 1 to 64 ASCII letters, digits
 /// and underscores.
-#[derive(Drop, Debug, Clone)]
+#[derive(Drop, Clone)]
 pub struct Schema {
     families: Vec<Family>,
 }

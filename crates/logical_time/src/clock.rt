@@ -6,7 +6,7 @@ use crate::time::Time;
 use std::marker::Model;
 
 /// The clock of an actor (Lamport's).
-#[derive(Clone, Copy, Debug, PartialEq, Eq)]
+#[derive(Clone, Copy, PartialEq, Eq)]
 pub struct Clock {
     now: Time,
 }

@@ -36,7 +36,7 @@ impl Node {
 
 /// When a transaction was decided first, and by which coordinator. Of two mutations of a location the
 /// one with the greater stamp is newer: by time, then by node.
-#[derive(Clone, Copy, Debug, PartialEq, Eq, PartialOrd, Ord)]
+#[derive(Clone, Copy, PartialEq, Eq, PartialOrd, Ord)]
 pub struct Stamp {
     /// The commit time in the data centre where the transaction was submitted.
     pub time: Time,
@@ -74,7 +74,7 @@ impl Model for TxnId {
 }
 
 /// A transaction that something rests on, and the shard that coordinates it.
-#[derive(Clone, Copy, Debug, PartialEq, Eq, PartialOrd, Ord)]
+#[derive(Clone, Copy, PartialEq, Eq, PartialOrd, Ord)]
 pub struct Writer {
     /// The transaction.
     pub txn: TxnId,

@@ -5,7 +5,7 @@ use crate::ids::Writer;
 use std::marker::Model;
 
 /// Transactions that something rests on, in order and each once.
-#[derive(Drop, Debug, Clone)]
+#[derive(Drop, Clone)]
 pub struct Writers {
     writers: Vec<Writer>,
 }

@@ -14,7 +14,7 @@ use std::marker::Model;
 
 /// The cohorts of a transaction: the shards, beside its coordinator, of which it writes rows, by their numbers within a
 /// data centre. The same in all data centres.
-#[derive(Drop, Debug, Clone)]
+#[derive(Drop, Clone)]
 pub struct Cohorts {
     shards: Vec<u16>,
 }
@@ -44,7 +44,7 @@ impl Cohorts {
 }
 
 /// What a message says. A shard that is named in one is meant by its number within a data centre.
-#[derive(Drop, Debug, Clone)]
+#[derive(Drop)]
 pub enum Body {
     /// A session submits a write: to its coordinator.
     Begin {
@@ -200,43 +200,29 @@ impl Body {
     ghost use Rattle.std.specs.Prelude.{◌≡◌, IfOk};
 
     /// A copy, which shares the bytes of keys, names and values. Fails by memory alone.
+    #[rattlefmt::skip]
     pub fn copied(&self) -> Result<Body, AllocError>
         ensures { IfOk result (λ copy. copy ≡ self.now) }
     {
-        match self {
-            Body::Begin {
-                txn,
-                rows,
-                cohorts,
-                dependencies,
-            } => begin(*txn, rows, cohorts, dependencies),
-            Body::Prepare {
-                txn,
-                rows,
-                coordinator,
-            } => prepare(*txn, rows, *coordinator),
-            Body::Read { number, read } => first_round(*number, read),
-            Body::ReadAt { number, time, read } => second_round(*number, *time, read),
-            Body::ReplBegin {
-                txn,
-                rows,
-                stamp,
-                cohorts,
-                dependencies,
-            } => repl_begin(*txn, rows, *stamp, cohorts, dependencies),
-            Body::ReplPart {
-                txn,
-                rows,
-                stamp,
-                coordinator,
-            } => repl_part(*txn, rows, *stamp, *coordinator),
-            Body::PartNow { number, rows } => part_now(*number, rows),
-            Body::PartAt {
-                number,
-                time,
-                answer,
-            } => part_at(*number, *time, answer),
-            numbers_alone => numbers_alone.clone(),
+        match *self {
+            Body::Begin { txn, ref rows, ref cohorts, ref dependencies } => begin(txn, rows, cohorts, dependencies),
+            Body::Prepare { txn, ref rows, coordinator } => prepare(txn, rows, coordinator),
+            Body::Yes { txn } => Ok(Body::Yes { txn }),
+            Body::Commit { txn, commit, stamp } => Ok(Body::Commit { txn, commit, stamp }),
+            Body::At { txn, commit, stamp } => Ok(Body::At { txn, commit, stamp }),
+            Body::NotBy { txn, time } => Ok(Body::NotBy { txn, time }),
+            Body::Check { txn, time } => Ok(Body::Check { txn, time }),
+            Body::Read { number, ref read } => first_round(number, read),
+            Body::ReadAt { number, time, ref read } => second_round(number, time, read),
+            Body::ReplBegin { txn, ref rows, stamp, ref cohorts, ref dependencies } => repl_begin(txn, rows, stamp, cohorts, dependencies),
+            Body::ReplPart { txn, ref rows, stamp, coordinator } => repl_part(txn, rows, stamp, coordinator),
+            Body::Notify { txn } => Ok(Body::Notify { txn }),
+            Body::PrepareRemote { txn } => Ok(Body::PrepareRemote { txn }),
+            Body::DepCheck { dependency, waiter } => Ok(Body::DepCheck { dependency, waiter }),
+            Body::DepOk { dependency, waiter, commit } => Ok(Body::DepOk { dependency, waiter, commit }),
+            Body::Done { txn, commit, stamp } => Ok(Body::Done { txn, commit, stamp }),
+            Body::PartNow { number, ref rows } => part_now(number, rows),
+            Body::PartAt { number, time, ref answer } => part_at(number, time, answer),
         }
     }
 }

@@ -6,7 +6,7 @@ use logical_time::{Fault, Node, Time};
 use std::alloc::AllocError;
 
 /// A message from one actor to another.
-#[derive(Drop, Debug)]
+#[derive(Drop)]
 pub struct Envelope {
     /// Who sent it.
     pub from: Node,
@@ -36,7 +36,7 @@ impl Envelope {
 }
 
 /// An envelope that wasn't taken, and why. It may come again.
-#[derive(Drop, Debug)]
+#[derive(Drop)]
 pub struct Refused {
     /// Why.
     pub fault: Fault,

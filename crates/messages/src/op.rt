@@ -6,7 +6,7 @@ use slice::Read;
 use std::alloc::AllocError;
 
 /// What a session submits.
-#[derive(Drop, Debug, Clone)]
+#[derive(Drop, Clone)]
 pub enum Op {
     /// A write transaction.
     Batch(Batch),

@@ -8,7 +8,7 @@ use std::alloc::Global;
 use std::marker::Model;
 
 /// Envelopes in the order in which they were posted, numbered from 0.
-#[derive(Drop, Debug)]
+#[derive(Drop)]
 pub struct Outbox {
     envelopes: Vec<Envelope>,
 }

@@ -6,7 +6,7 @@ use slice::Answer;
 use std::alloc::AllocError;
 
 /// What came of an operation.
-#[derive(Drop, Debug, Clone)]
+#[derive(Drop, Clone)]
 pub enum Outcome {
     /// A write is committed.
     Wrote {

@@ -7,7 +7,7 @@ use slice::Columns;
 use std::marker::Model;
 
 /// An asked row at a time.
-#[derive(Drop, Debug, Clone)]
+#[derive(Drop, Clone)]
 pub struct RowAt {
     /// The key of the row.
     pub key: Key,
@@ -18,7 +18,7 @@ pub struct RowAt {
 }
 
 /// Asked rows of one shard at a time.
-#[derive(Drop, Debug, Clone)]
+#[derive(Drop, Clone)]
 pub struct RowsAt {
     rows: Vec<RowAt>,
 }
@@ -57,7 +57,7 @@ impl RowsAt {
 }
 
 /// What a shard answers to a read at a time.
-#[derive(Drop, Debug, Clone)]
+#[derive(Drop, Clone)]
 pub enum AtTime {
     /// The versions of that time are collected already.
     Collected,

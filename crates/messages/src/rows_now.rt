@@ -7,7 +7,7 @@ use slice::Columns;
 use std::marker::Model;
 
 /// An asked row by its newest versions.
-#[derive(Drop, Debug, Clone)]
+#[derive(Drop, Clone)]
 pub struct RowNow {
     /// The key of the row.
     pub key: Key,
@@ -22,7 +22,7 @@ pub struct RowNow {
 }
 
 /// The asked rows of one shard by their newest versions.
-#[derive(Drop, Debug, Clone)]
+#[derive(Drop, Clone)]
 pub struct RowsNow {
     rows: Vec<RowNow>,
 }

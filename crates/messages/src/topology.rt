@@ -1,5 +1,5 @@
 //! Which actors there are.
-ghost use Rattle.std.specs.Prelude.{◌≡◌, ◌*◌, ◌<◌, ◌≤◌, ◌↔◌, true, false, length, nat_lt, IfOk, IfErr, IsErrOf};
+ghost use Rattle.std.specs.Prelude.{◌≡◌, ◌+◌, ◌*◌, ◌<◌, ◌≤◌, ◌↔◌, true, false, length, nat_lt, IfOk, IfErr, IsErrOf};
 ghost use Rattle.std.specs.List.{list_all};
 ghost use Rattle.messages.specs.Topology as spec;
 
@@ -16,7 +16,7 @@ const MOST_SESSIONS: usize = 16;
 
 /// The actors of a store: data centres of equally many shards, and sessions, each at home in a data centre. Shard `s`
 /// of data centre `d` is node `d * shards + s`; session `i` is node `dcs * shards + i`.
-#[derive(Drop, Debug)]
+#[derive(Drop)]
 pub struct Topology {
     dcs: u16,
     shards: u16,
@@ -63,6 +63,16 @@ fn product(dcs: u16, shards: u16) -> u16
     ensures limit { result ≤ 32 }
 {
     dcs * shards
+}
+
+// The node so many places after those of the shards of so many data centres.
+fn node_at(dcs: u16, shards: u16, place: u16) -> Node
+    requires dcs { dcs ≤ 4 }
+    requires shards { shards ≤ 8 }
+    requires place { place ≤ 16 }
+    ensures { result ≡ dcs * shards + place }
+{
+    Node::new(product(dcs, shards) + place)
 }
 
 impl Topology {
@@ -122,8 +132,7 @@ impl Topology {
         ensures value { result ≡ spec.shard_count self.now }
         ensures limit { result ≤ 32 }
     {
-        let dcs = self.dcs;
-        product(dcs, self.shards)
+        product(self.dcs, self.shards)
     }
 
     /// How many actors there are, shards and sessions.
@@ -131,7 +140,7 @@ impl Topology {
         ensures value { result ≡ spec.node_count self.now }
         ensures limit { result ≤ 48 }
     {
-        product(self.dcs, self.shards) + self.homes.len() as u16
+        self.shard_count() + self.homes.len() as u16
     }
 
     /// The node of a shard in a data centre.
@@ -140,7 +149,7 @@ impl Topology {
         requires shard { shard < self.now.shards }
         ensures { result ≡ spec.shard_node self.now dc shard }
     {
-        Node::new(product(dc, self.shards) + shard)
+        node_at(dc, self.shards, shard)
     }
 
     /// The node of a session.
@@ -148,7 +157,7 @@ impl Topology {
         requires { session < length self.now.homes }
         ensures { result ≡ spec.session_node self.now session }
     {
-        Node::new(product(self.dcs, self.shards) + session)
+        node_at(self.dcs, self.shards, session)
     }
 
     /// Whether the node is a shard.

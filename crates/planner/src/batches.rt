@@ -13,7 +13,7 @@ use logical_time::Fault;
 use std::alloc::Global;
 
 /// The part of a shard in the plan of a batch.
-#[derive(Drop, Debug)]
+#[derive(Drop)]
 pub struct ShardPart {
     /// The shard, as its number within a data centre.
     pub shard: u16,
@@ -22,7 +22,7 @@ pub struct ShardPart {
 }
 
 /// The plan of a batch: what each shard has to keep of it.
-#[derive(Drop, Debug)]
+#[derive(Drop)]
 pub struct BatchPlan {
     /// The part of the coordinator, which is the shard of the batch's first row (Eiger).
     pub coordinator: ShardPart,

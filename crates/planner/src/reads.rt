@@ -13,7 +13,7 @@ use std::alloc::Global;
 use table::each_once;
 
 /// The keys that a read asks of a shard.
-#[derive(Drop, Debug)]
+#[derive(Drop)]
 pub struct ShardKeys {
     /// The shard, as its number within a data centre.
     pub shard: u16,
@@ -22,7 +22,7 @@ pub struct ShardKeys {
 }
 
 /// The plan of a read: what is asked of which shards.
-#[derive(Drop, Debug)]
+#[derive(Drop)]
 pub struct ReadPlan {
     /// The shards that hold an asked key, ascending, each with its keys.
     pub asked: Vec<ShardKeys>,

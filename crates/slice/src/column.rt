@@ -6,7 +6,7 @@ use std::alloc::{AllocFailed, Global};
 use std::marker::Model;
 
 /// A column: a name and its value.
-#[derive(Drop, Debug, Clone, PartialEq, Eq)]
+#[derive(Drop, Clone, PartialEq, Eq)]
 pub struct Column {
     /// The name.
     pub name: Name,
@@ -15,7 +15,7 @@ pub struct Column {
 }
 
 /// Columns in order.
-#[derive(Drop, Debug, Clone)]
+#[derive(Drop, Clone)]
 pub struct Columns {
     columns: Vec<Column>,
 }

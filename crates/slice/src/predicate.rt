@@ -13,7 +13,7 @@ use logical_time::Fault;
 use std::marker::Model;
 
 /// Names in the order in which they are listed, repeats included.
-#[derive(Drop, Debug, Clone)]
+#[derive(Drop, Clone)]
 pub struct Names {
     names: Vec<Name>,
 }
@@ -43,7 +43,7 @@ impl Names {
 }
 
 /// Which columns of a row are asked for (Cassandra's slice predicate).
-#[derive(Drop, Debug, Clone)]
+#[derive(Drop, Clone)]
 pub enum Predicate {
     /// The columns with these names.
     Names(Names),

@@ -8,7 +8,7 @@ use std::alloc::{AllocFailed, Global};
 use std::marker::Model;
 
 /// Keys as a request lists them, repeats included.
-#[derive(Drop, Debug, Clone)]
+#[derive(Drop, Clone)]
 pub struct Keys {
     keys: Vec<Key>,
 }
@@ -38,7 +38,7 @@ impl Keys {
 }
 
 /// What a read transaction asks: of each of these rows of a family the columns that the predicate names.
-#[derive(Drop, Debug, Clone)]
+#[derive(Drop, Clone)]
 pub struct Read {
     /// The column family.
     pub family: Family,
@@ -49,7 +49,7 @@ pub struct Read {
 }
 
 /// An asked row of an answer.
-#[derive(Drop, Debug, Clone)]
+#[derive(Drop, Clone)]
 pub struct AnsweredRow {
     /// The key of the row.
     pub key: Key,
@@ -58,7 +58,7 @@ pub struct AnsweredRow {
 }
 
 /// The answer of a read: each asked key once, in the order of first asking, with its columns.
-#[derive(Drop, Debug, Clone)]
+#[derive(Drop, Clone)]
 pub struct Answer {
     rows: Vec<AnsweredRow>,
 }

@@ -1,5 +1,5 @@
 -- The places that a mutation is of.
-use Rattle.std.proofs.Common.{◌≡◌, ℕ, ◌∙◌, ap, refl, subst, Bool, true, false, ◌&&◌, ◌⊎◌, ◌<◌, List, Option, Some, None, Result, Ok, Err, OnOk, arith}
+use Rattle.std.proofs.Common.{◌≡◌, ℕ, ◌∙◌, ap, refl, subst, Bool, true, false, ◌&&◌, ◌⊎◌, ◌<◌, List, Some, None, Result, Ok, Err, OnOk, arith}
 use Rattle.std.specs.Str.{bytes_eq}
 use Rattle.std.proofs.lemmas.Slice.Eq.{bytes_eq-Decides}
 use Rattle.logical_time.specs.Stamps.{StampValue}

@@ -1,16 +1,15 @@
 -- The columns that are seen of a row, found by name or in a range.
-use Rattle.std.proofs.Common.{◌≡◌, ℕ, zero, suc, ◌∙◌, ap, sym, subst, refl, Bool, true, false, ◌||◌, cond, inl, inr, List, [], ◌∷◌, ◌++◌, map, filter, filter_map, Option, Some, None, option_map, Contains}
+use Rattle.std.proofs.Common.{◌≡◌, ℕ, zero, suc, ◌∙◌, ap, sym, subst, refl, Bool, true, false, ◌||◌, cond, inl, inr, List, [], ◌∷◌, map, filter, filter_map, Option, Some, None, option_map, Contains}
 use Rattle.std.specs.List.{cons_option, AllByRecursion, list_any}
 use Rattle.std.specs.List.Sorted.{IsStrictlySortedBy}
-use Rattle.std.specs.Map.{lookup, keys_of}
+use Rattle.std.specs.Map.{lookup}
 use Rattle.std.specs.Prelude.{unwrap_or}
-use Rattle.std.specs.Ordering.{nat_cmp, is_eq, eq_by_cmp}
+use Rattle.std.specs.Ordering.{is_eq}
 use Rattle.std.specs.declared.cmp.Ordering.TheVariants.{Less}
-use Rattle.std.specs.Cmp.Lexicographic.{slice_cmp}
 use Rattle.std.specs.Str.{bytes_eq}
 use Rattle.std.proofs.lemmas.Cmp.{nat_list_cmp_total, eq_by_cmp_equiv}
 use Rattle.std.proofs.lemmas.Slice.Eq.{bytes_eq-Decides}
-use Rattle.std.proofs.lemmas.List.{map-append, map-id, append_assoc}
+use Rattle.std.proofs.lemmas.List.{map-id}
 use Rattle.std.proofs.lemmas.List.Kept.{IsStrictlySortedBy-filter}
 use Rattle.std.proofs.lemmas.Map.Keys.{IsDistinct-from_sorted}
 use Rattle.std.proofs.lemmas.Map.Views.{lookup-from_Contains, Contains-from_lookup}
@@ -24,11 +23,10 @@ use Rattle.versions.specs.declared.version.Version.{Version}
 use Rattle.versions.specs.Chain.{Held}
 use Rattle.store.specs.declared.sight.Moment.{Moment}
 use Rattle.store.specs.declared.sight.Moment.TheVariants.{Now, At}
-use Rattle.store.specs.declared.sight.Seen.{Seen}
 use Rattle.logical_time.specs.Stamps.{writer_cmp}
 use Rattle.store.specs.declared.part.Part.{Part}
 use Rattle.store.specs.Kept.{Chains, no_row, chain_of, name_cmp, column_held, nothing_held}
-use Rattle.store.specs.Sight.{NamedVersion, named, seen_in, seen_entry, seen_at, AreSeen, is_backwards, writers_of, evt_of_sight, IsPartSeen}
+use Rattle.store.specs.Sight.{NamedVersion, seen_in, seen_entry, seen_at, AreSeen, is_backwards, writers_of, evt_of_sight, IsPartSeen}
 use Rattle.store.proofs.Bounds.{none_between}
 use Rattle.store.proofs.Lists.{none_in_empty, contains_first, contains_rest, first_or_rest, kept, kept_only, given, given_only}
 use Rattle.store.proofs.Maps.{by_cases, same_name}

@@ -1,12 +1,12 @@
 -- What a store's answers stand for: everything that was ever applied to it.
-use Rattle.std.specs.Prelude.{◌≡◌, ℕ, ◌≤◌, Bool, true, false, List, [], ◌∷◌, Option, Some, None, option_map, Contains, ⊤}
+use Rattle.std.specs.Prelude.{◌≡◌, ℕ, ◌≤◌, true, false, List, [], ◌∷◌, Option, Some, None, option_map, Contains, ⊤}
 use Rattle.std.specs.List.{list_any}
 use Rattle.std.specs.Ordering.{is_eq}
 use Rattle.logical_time.specs.Stamps.{StampValue, stamp_cmp, is_older}
 use Rattle.column_family.specs.declared.batch.Row.{Row}
 use Rattle.column_family.specs.declared.batch.Mutation.{Mutation}
 use Rattle.column_family.specs.declared.batch.Mutation.TheVariants.{Insert, DeleteColumn, DeleteRow}
-use Rattle.column_family.specs.Location.{Location, touches}
+use Rattle.column_family.specs.Location.{Location}
 use Rattle.column_family.specs.History.{Stamped, newest_of, newest_at}
 use Rattle.column_family.specs.Normal.{IsNormal}
 use Rattle.versions.specs.declared.version.Version.{Version}

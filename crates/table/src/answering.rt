@@ -1,12 +1,14 @@
 //! The meaning of a read, by running it.
 ghost use Rattle.std.specs.Prelude.{◌≡◌, IfOk, IfErr, map};
+ghost use Rattle.slice.specs.Slice.{slice_of};
+ghost use Rattle.slice.specs.Live as live;
 ghost use Rattle.table.specs.Meaning as meaning;
 
 use crate::history::History;
 use column_family::{Committed, Key, Row, up_to};
 use logical_time::{Fault, Time};
-use slice::{Answer, AnsweredRow, Read, live_columns, select};
-use std::alloc::Global;
+use slice::{Answer, AnsweredRow, Columns, Predicate, Read, live_columns, select};
+use std::alloc::{AllocError, Global};
 use std::collections::BTreeSet;
 
 /// What the read means on the history at the time: each asked key once, in the order of first asking, with its
@@ -64,16 +66,36 @@ fn answer_key(
     ensures ok { IfOk result (λ row. row ≡ meaning.shown_row read.now entries.now key.now) }
     ensures memory { IfErr result (λ e. e ≡ Fault.Memory) }
 {
-    let row = Row {
-        family: read.family.clone()?,
-        key: key.clone()?,
-    };
-    let live = live_columns(alloc, entries, &row)?;
-    let columns = select(alloc, live.as_slice(), &read.predicate)?;
+    let row = row_of(read, key)?;
+    let columns = slice_at(alloc, entries, &row, &read.predicate)?;
     Ok(AnsweredRow {
-        key: key.clone()?,
+        key: row.key,
         columns,
     })
+}
+
+// The row that a read means by a key.
+fn row_of(read: &Read, key: &Key) -> Result<Row, AllocError>
+    ensures { IfOk result (λ row. row ≡ meaning.row_of read.now key.now) }
+{
+    Ok(Row {
+        family: read.family.clone()?,
+        key: key.clone()?,
+    })
+}
+
+// The slice of a row's live columns.
+fn slice_at(
+    alloc: Global,
+    entries: &[Committed],
+    row: &Row,
+    predicate: &Predicate,
+) -> Result<Columns, Fault>
+    ensures ok { IfOk result (λ columns. columns ≡ slice_of predicate.now (live.live_columns entries.now row.now)) }
+    ensures memory { IfErr result (λ e. e ≡ Fault.Memory) }
+{
+    let live = live_columns(alloc, entries, row)?;
+    select(alloc, live.as_slice(), predicate)
 }
 
 #[cfg(test)]

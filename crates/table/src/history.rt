@@ -7,7 +7,7 @@ use std::marker::Model;
 
 /// The batches that are committed in a data centre, each as it was submitted, with its stamp and its
 /// commit time there, in any order.
-#[derive(Drop, Debug, Clone)]
+#[derive(Drop)]
 pub struct History {
     entries: Vec<Committed>,
 }

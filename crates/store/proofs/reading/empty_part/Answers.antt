@@ -1,4 +1,4 @@
-use Rattle.std.proofs.Common.{rules, ◌≡◌, ◌∙◌, sym, ap, refl, [], ◌∷◌}
+use Rattle.std.proofs.Common.{◌∙◌}
 use Rattle.store.proofs.Sights.{nothing_kept}
 use Rattle.store.proofs.reading.empty_part.Goals as goal
 

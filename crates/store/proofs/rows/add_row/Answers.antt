@@ -1,7 +1,6 @@
-use Rattle.std.proofs.Common.{rules, ◌≡◌, ◌≤◌, ◌<◌, ◌∙◌, refl, ℕ, true, Option, Some, None, arith}
-use Rattle.std.specs.Prelude.{◌&&◌}
+use Rattle.std.proofs.Common.{rules, ◌≡◌, ◌≤◌, ◌∙◌, refl, Some, None, arith}
 use Rattle.column_family.specs.Places.{row_cmp}
-use Rattle.store.specs.Kept.{Place, no_row, chain_of, is_of_place}
+use Rattle.store.specs.Kept.{Place, no_row, chain_of}
 use Rattle.store.proofs.Maps.{each_row, not_found}
 use Rattle.store.proofs.rows.add_row.Goals as goal
 

@@ -1,6 +1,6 @@
 use Rattle.std.proofs.Common.{rules, ◌≡◌, ◌∙◌, ◌∷◌, subst, List}
 use Rattle.column_family.specs.declared.batch.Change.{Change}
-use Rattle.store.specs.Kept.{Place, chain_at, written, put_all}
+use Rattle.store.specs.Kept.{chain_at, written, put_all}
 use Rattle.store.proofs.Changes.{AreReady, ready_rest, put_rest}
 use Rattle.store.proofs.rows.put_changes.Goals as goal
 

@@ -1,4 +1,4 @@
-use Rattle.std.proofs.Common.{rules, ◌≡◌, ◌≤◌, ◌<◌, refl, sym, subst, true, arith}
+use Rattle.std.proofs.Common.{rules, ◌≡◌, ◌≤◌, ◌<◌, refl, subst, true, arith}
 use Rattle.std.specs.Prelude.{◌&&◌}
 use Rattle.column_family.specs.Places.{row_cmp}
 use Rattle.store.specs.Kept.{Place, Chains, no_row, chain_of, is_of_place}

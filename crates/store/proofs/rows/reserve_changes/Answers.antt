@@ -1,4 +1,4 @@
-use Rattle.std.proofs.Common.{rules, ◌≡◌, ◌∙◌, sym, subst, take, ◌++◌, [], ◌∷◌, ◌<◌, true, arith}
+use Rattle.std.proofs.Common.{rules, ◌≡◌, ◌∙◌, subst, take, ◌++◌, [], ◌∷◌, ◌<◌, true, arith}
 use Rattle.std.proofs.lemmas.List.{take_more}
 use Rattle.column_family.specs.declared.batch.Row.{Row}
 use Rattle.column_family.specs.declared.batch.Change.{Change}

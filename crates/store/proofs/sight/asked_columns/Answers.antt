@@ -1,6 +1,6 @@
 use Rattle.std.proofs.Common.{rules, ◌≡◌, ◌∙◌, ap, sym, subst, refl, ℕ, List, map, filter, filter_map, true, false}
 use Rattle.slice.specs.declared.predicate.Predicate.{Predicate}
-use Rattle.slice.specs.declared.predicate.Predicate.TheVariants.{Names, Range}
+use Rattle.slice.specs.declared.predicate.Predicate.TheVariants.{Range}
 use Rattle.std.specs.List.Sorted.{IsStrictlySortedBy}
 use Rattle.slice.specs.Slice.{is_between}
 use Rattle.slice.specs.Live.{in_name_order}

@@ -1,12 +1,9 @@
-use Rattle.std.proofs.Common.{rules, ◌≡◌, ◌∙◌, ap, sym, subst, ℕ, List, [], ◌++◌, map, filter, filter_map, true, false}
-use Rattle.std.specs.declared.ops.Bound.{Bound}
-use Rattle.std.specs.Bound.{IsForward}
-use Rattle.std.specs.BTreeMap.Range.{IsLeBy, IsLtBy, entries_between}
+use Rattle.std.proofs.Common.{rules, ◌≡◌, ◌∙◌, ap, sym, List, ◌++◌, map, filter_map, true, false}
+use Rattle.std.specs.BTreeMap.Range.{entries_between}
 use Rattle.slice.specs.Slice.{is_between}
-use Rattle.versions.specs.Chain.{Held}
 use Rattle.store.specs.declared.sight.Seen.{Seen}
 use Rattle.store.specs.Kept.{name_cmp}
-use Rattle.store.specs.Sight.{NamedVersion, named, seen_entry, is_backwards, bound_at}
+use Rattle.store.specs.Sight.{named, seen_entry, is_backwards, bound_at}
 use Rattle.store.proofs.Bounds.{forward, in_range, none_between}
 use Rattle.store.proofs.Sights.{none_kept}
 use Rattle.store.proofs.sight.seen_between.Goals as goal

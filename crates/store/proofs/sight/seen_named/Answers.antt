@@ -1,4 +1,4 @@
-use Rattle.std.proofs.Common.{rules, ◌≡◌, ◌∙◌, ap, sym, Option, ℕ, List}
+use Rattle.std.proofs.Common.{rules, ◌≡◌, ◌∙◌, ap, sym, ℕ, List}
 use Rattle.versions.specs.Chain.{Held}
 use Rattle.store.specs.Kept.{name_cmp, nothing_held}
 use Rattle.store.specs.Sight.{seen_entry}

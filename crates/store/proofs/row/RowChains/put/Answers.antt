@@ -1,4 +1,4 @@
-use Rattle.std.proofs.Common.{rules, ◌≡◌, sym, subst, ap}
+use Rattle.std.proofs.Common.{sym, subst}
 use Rattle.store.specs.Kept.{Chains, column_held}
 use Rattle.store.proofs.Places.{IsReady, at_insertion, at_deletion, at_row_deletion}
 use Rattle.store.proofs.row.RowChains.put.Goals as goal

@@ -4,7 +4,7 @@ use Rattle.column_family.specs.Places.{row_cmp}
 use Rattle.store.specs.declared.part.Part.{Part}
 use Rattle.store.specs.declared.sight.Moment.TheVariants.{At}
 use Rattle.store.specs.Kept.{Kept, held_by, no_row}
-use Rattle.store.specs.Part.{IsRightPart, applied_by}
+use Rattle.store.specs.Part.{applied_by}
 use Rattle.store.specs.Sight.{IsPartSeen}
 use Rattle.store.proofs.Assembled.{any_evt}
 use Rattle.store.proofs.Later.{right_lasts}
