@@ -3,7 +3,7 @@
 use logical_time::{Stamp, Time, Writer};
 
 /// The transaction that versions come from, and since when they are seen.
-#[derive(Drop, Debug)]
+#[derive(Drop)]
 pub(crate) struct Origin {
     /// The transaction, with its coordinator.
     pub(crate) writer: Writer,

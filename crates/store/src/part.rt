@@ -4,7 +4,7 @@ use logical_time::{Stamp, Time, Writer, Writers};
 use slice::Columns;
 
 /// A transaction's part for one shard: the changes of that shard's rows, in normal form.
-#[derive(Drop, Debug, Clone)]
+#[derive(Drop)]
 pub struct WritePart {
     /// The transaction, with its coordinator.
     pub writer: Writer,
@@ -13,7 +13,7 @@ pub struct WritePart {
 }
 
 /// A part that was applied.
-#[derive(Drop, Debug)]
+#[derive(Drop)]
 pub struct Applied {
     /// The part.
     pub part: WritePart,
@@ -24,7 +24,7 @@ pub struct Applied {
 }
 
 /// What a store answers of a row.
-#[derive(Drop, Debug, Clone)]
+#[derive(Drop)]
 pub struct Part {
     /// The slice of the row.
     pub columns: Columns,

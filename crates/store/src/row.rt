@@ -18,7 +18,7 @@ use std::marker::Model;
 use versions::{Chain, Version, What};
 
 /// The chains of a row: one for each of its columns, and one for its deletions.
-#[derive(Drop, Debug)]
+#[derive(Drop)]
 pub(crate) struct RowChains {
     pub(crate) columns: BTreeMap<Name, Chain>,
     pub(crate) deletions: Chain,

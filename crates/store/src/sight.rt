@@ -19,7 +19,7 @@ use std::ops::Bound;
 use versions::{Chain, Version};
 
 /// When a row is looked at.
-#[derive(Drop, Debug)]
+#[derive(Drop)]
 pub(crate) enum Moment {
     /// By the newest versions.
     Now,
@@ -28,7 +28,7 @@ pub(crate) enum Moment {
 }
 
 /// A column of which a version is seen.
-#[derive(Drop, Debug, Clone, Copy)]
+#[derive(Drop)]
 pub(crate) struct Seen<'s> {
     /// The column.
     pub(crate) name: &'s Name,

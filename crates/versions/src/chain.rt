@@ -11,7 +11,7 @@ use std::marker::Model;
 
 /// The versions of a column, or of the deletions of a row, each stamp at most once. A version's place is
 /// counted from the greatest stamp, which stands at place 0.
-#[derive(Drop, Debug)]
+#[derive(Drop)]
 pub struct Chain {
     versions: Vec<Version>,
 }
