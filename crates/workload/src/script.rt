@@ -7,7 +7,7 @@ use std::alloc::AllocError;
 use std::marker::Model;
 
 /// What a session submits.
-#[derive(Drop, Debug, Clone)]
+#[derive(Drop, Clone)]
 pub enum Op {
     /// A write transaction.
     Batch(Batch),
@@ -27,7 +27,7 @@ impl Op {
 }
 
 /// An event of a script.
-#[derive(Drop, Debug)]
+#[derive(Drop)]
 pub enum Event {
     /// The session submits an operation.
     Submit(Op),
@@ -36,7 +36,7 @@ pub enum Event {
 }
 
 /// Events in order.
-#[derive(Drop, Debug)]
+#[derive(Drop)]
 pub struct Events {
     events: Vec<Event>,
 }
@@ -67,7 +67,7 @@ impl Events {
 }
 
 /// A script for one data centre with one shard and one session.
-#[derive(Drop, Debug)]
+#[derive(Drop)]
 pub struct Script {
     /// The column families.
     pub schema: Schema,

@@ -7,7 +7,7 @@ use std::alloc::{AllocFailed, Global};
 use std::marker::Model;
 
 /// An entry of a transcript: the outcome of an operation, or the refusal of a submission.
-#[derive(Drop, Debug)]
+#[derive(Drop)]
 pub enum Entry {
     /// A write transaction is committed.
     Wrote {
@@ -48,7 +48,7 @@ pub enum Entry {
 }
 
 /// The transcript of a script: its entries in the order of completion or refusal.
-#[derive(Drop, Debug)]
+#[derive(Drop)]
 pub struct Transcript {
     entries: Vec<Entry>,
 }
