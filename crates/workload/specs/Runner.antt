@@ -63,14 +63,14 @@ Reads read old told new =
     × (new.accepted ≡ old.accepted) × (new.open_op ≡ old.open_op)
 
 -- the operation is completed, and its outcome told
-abbrev pub Completes : Op → Runner → Entry → Runner → Type 0
-Completes (Batch batch) old told new = Writes batch old told new
-Completes (Asks read) old told new = Reads read old told new
+abbrev pub Completes : Op → Runner → Option Entry → Runner → Type 0
+Completes (Batch batch) old told new = (e : Entry) × (told ≡ Some e) × Writes batch old e new
+Completes (Asks read) old told new = (e : Entry) × (told ≡ Some e) × Reads read old e new
 
 -- what the open operation becomes at a drain
 abbrev pub Drains : Option Op → Runner → Option Entry → Runner → Type 0
 Drains None old told new = (told ≡ None) × (new ≡ old)
-Drains (Some op) old told new = (e : Entry) × (told ≡ Some e) × Completes op (record old { open_op = None }) e new
+Drains (Some op) old told new = Completes op (record old { open_op = None }) told new
 
 -- no event moves the session's clock by more than 2, or the shard's past it
 abbrev pub KeepsPace : Runner → Runner → Type 0

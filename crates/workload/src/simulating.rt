@@ -224,15 +224,21 @@ impl Runner {
     }
 
     /// The operation is completed.
-    fn complete(&mut self, alloc: Global, op: &Op) -> Result<Entry, Fault>
+    fn complete(&mut self, alloc: Global, op: &Op) -> Result<Option<Entry>, Fault>
         ensures ok { IfOk result (λ told. Completes op.now self.old told self.new) }
         ensures faults { IfErr result (λ e. (e ≡ Fault.Memory) ⊎ (e ≡ Fault.ClockSpent)) }
         ensures moved { self.old.shard ≤ self.old.session → OnOk result (KeepsPace self.old self.new) }
         ensures spent { self.old.shard ≤ self.old.session → IsErrOf result Fault.ClockSpent → 2 ^ 48 ≤ self.old.session + 2 }
     {
         match op {
-            Op::Batch(batch) => self.write(alloc, batch),
-            Op::Read(read) => self.read(alloc, read),
+            Op::Batch(batch) => {
+                let entry = self.write(alloc, batch)?;
+                Ok(Some(entry))
+            }
+            Op::Read(read) => {
+                let entry = self.read(alloc, read)?;
+                Ok(Some(entry))
+            }
         }
     }
 
@@ -243,11 +249,10 @@ impl Runner {
         ensures moved { self.old.shard ≤ self.old.session → OnOk result (KeepsPace self.old self.new) }
         ensures spent { self.old.shard ≤ self.old.session → IsErrOf result Fault.ClockSpent → 2 ^ 48 ≤ self.old.session + 2 }
     {
-        let Some(op) = self.open_op.take() else {
-            return Ok(None);
-        };
-        let entry = self.complete(alloc, &op)?;
-        Ok(Some(entry))
+        match self.open_op.take() {
+            None => Ok(None),
+            Some(op) => self.complete(alloc, &op),
+        }
     }
 
     /// One event of the script.
@@ -293,6 +298,16 @@ impl Runner {
     }
 }
 
+// The events of the script happen, from the start on.
+fn tell_all(alloc: Global, script: &Script, transcript: &mut Transcript) -> Result<(), Fault>
+    ensures ok { transcript.old ≡ [] → OnOk result (IsTranscriptOf script.now transcript.new) }
+    ensures faults { IfErr result (λ e. (e ≡ Fault.Memory) ⊎ (e ≡ Fault.ClockSpent)) }
+    ensures spent { IsErrOf result Fault.ClockSpent → 2 ^ 48 ≤ 2 * length script.now.events }
+{
+    let mut runner = Runner::new(alloc);
+    runner.run(alloc, script, transcript)
+}
+
 /// The transcript of a script. Refused with `ClockSpent` where a clock would leave its range, and with `Memory`.
 /// Linear in the script but for the store: each batch costs what `normal` and `Store::apply` do, and each row read
 /// what `Store::read_now` does.
@@ -301,8 +316,7 @@ pub fn simulate(alloc: Global, script: &Script) -> Result<Transcript, Fault>
     ensures faults { IfErr result (λ e. (e ≡ Fault.Memory) ⊎ (e ≡ Fault.ClockSpent)) }
     ensures spent { IsErrOf result Fault.ClockSpent → 2 ^ 48 ≤ 2 * length script.now.events }
 {
-    let mut runner = Runner::new(alloc);
     let mut transcript = Transcript::new(alloc);
-    runner.run(alloc, script, &mut transcript)?;
+    tell_all(alloc, script, &mut transcript)?;
     Ok(transcript)
 }
