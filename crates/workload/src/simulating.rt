@@ -3,7 +3,7 @@ ghost use Rattle.std.specs.Prelude.{◌≡◌, ◌*◌, ◌^◌, ◌≤◌, List
 ghost use Rattle.store.specs.declared.part.Applied.{Applied};
 ghost use Rattle.store.specs.Keeps.{Keeps};
 ghost use Rattle.store.specs.Part.{history_of};
-ghost use Rattle.table.specs.Meaning.{row_of, shown, shown_row};
+ghost use Rattle.table.specs.Meaning.{shown, shown_row};
 ghost use Rattle.workload.specs.Simulation.{IsTranscriptOf, greatest};
 
 use crate::checks::check_op;
@@ -12,7 +12,7 @@ use crate::transcript::{Entry, Transcript};
 use column_family::{Batch, Key, Row, Schema, normal};
 use logical_time::{Clock, Fault, Node, Stamp, Time, TxnId, Writer};
 use slice::{Answer, AnsweredRow, Read};
-use std::alloc::{AllocError, Global};
+use std::alloc::Global;
 use store::{Store, WritePart};
 use table::each_once;
 
@@ -21,16 +21,6 @@ const SHARD: u16 = 0;
 /// The session's node.
 const SESSION: u16 = 1;
 
-// The row of an asked key.
-fn asked_row(read: &Read, key: &Key) -> Result<Row, AllocError>
-    ensures { IfOk result (λ row. row ≡ row_of read.now key.now) }
-{
-    Ok(Row {
-        family: read.family.clone()?,
-        key: key.clone()?,
-    })
-}
-
 // What the store shows of a row, and since when it is valid.
 #[tactic(auto, using(crate::proofs::Times::evt_of_within))]
 fn read_row(store: &Store, read: &Read, key: &Key) -> Result<(Time, AnsweredRow), Fault>
@@ -38,7 +28,10 @@ fn read_row(store: &Store, read: &Read, key: &Key) -> Result<(Time, AnsweredRow)
     ensures evt { (all : List Applied) → Keeps store.now all → IfOk result (λ r. r.0 ≤ greatest (history_of all)) }
     ensures memory { IfErr result (λ e. e ≡ Fault.Memory) }
 {
-    let row = asked_row(read, key)?;
+    let row = Row {
+        family: read.family.clone()?,
+        key: key.clone()?,
+    };
     let part = store.read_now(&row, &read.predicate)?;
     let row = AnsweredRow {
         key: row.key,
