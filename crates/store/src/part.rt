@@ -4,7 +4,7 @@ use logical_time::{Stamp, Time, Writer, Writers};
 use slice::Columns;
 
 /// A transaction's part for one shard: the changes of that shard's rows, in normal form.
-#[derive(Drop, Clone)]
+#[derive(Drop)]
 pub struct WritePart {
     /// The transaction, with its coordinator.
     pub writer: Writer,
@@ -24,7 +24,7 @@ pub struct Applied {
 }
 
 /// What a store answers of a row.
-#[derive(Drop, Clone)]
+#[derive(Drop)]
 pub struct Part {
     /// The slice of the row.
     pub columns: Columns,

@@ -28,7 +28,7 @@ pub(crate) enum Moment {
 }
 
 /// A column of which a version is seen.
-#[derive(Drop, Clone, Copy)]
+#[derive(Drop)]
 pub(crate) struct Seen<'s> {
     /// The column.
     pub(crate) name: &'s Name,

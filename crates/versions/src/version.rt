@@ -4,7 +4,7 @@ use column_family::Value;
 use logical_time::{Stamp, Time, Writer};
 
 /// What a transaction left.
-#[derive(Drop, Clone, PartialEq, Eq)]
+#[derive(Drop)]
 pub struct What {
     /// The transaction, with its coordinator.
     pub writer: Writer,
@@ -13,7 +13,7 @@ pub struct What {
 }
 
 /// What a transaction left of a column or a row, and from when on it is seen.
-#[derive(Drop, Clone, PartialEq, Eq)]
+#[derive(Drop)]
 pub struct Version {
     /// The stamp of the transaction, the same in all data centres. The version of the greater stamp is the newer.
     pub stamp: Stamp,

@@ -1,5 +1,6 @@
 -- What the runner does at a drain is told as a transcript tells it.
-use Rattle.std.proofs.Common.{◌≡◌, ◌∙◌, sym, ap, subst, refl, inl, inr, ℕ, ◌<◌, ◌≤◌, List, [], ◌∷◌, ◌++◌, map, Option, Some, None, arith, append-nil}
+use Rattle.std.proofs.Common.{◌≡◌, ◌∙◌, sym, ap, subst, refl, inl, inr, ℕ, ◌<◌, ◌≤◌, List, [], ◌∷◌, ◌++◌, map, Option, Some, None, arith, append-nil, append_assoc}
+use Rattle.std.specs.Prelude.{option_to_list}
 use Rattle.std.proofs.lemmas.List.Elements.{All-nil, All-push}
 use Rattle.logical_time.specs.Stamps.{StampValue}
 use Rattle.column_family.specs.declared.batch.Change.{Change}
@@ -78,9 +79,9 @@ completed old new batch h all part t done above stands kept floor shard =
     }
 
 written : (schema : List (List ℕ)) (old : Runner) (told : Option Entry) (new : Runner) (batch : List Change) (e : Entry)
-    → old.open_op ≡ Some (Batch batch) → told ≡ Some e → new.open_op ≡ None → Writes batch (record old { open_op = None }) e new
+    → old.open_op ≡ Some (Batch batch) → told ≡ Some e → Writes batch (record old { open_op = None }) e new
     → GoesOn schema Drain old told new
-written schema old told new batch e is tells empty (t, part, later, entry, stands, keeps, floor, shard, accepted, open_op) h all done =
+written schema old told new batch e is tells (t, part, later, entry, stands, keeps, floor, shard, accepted, open_op) h all done =
     let first = done.floor in
     let behind = done.behind in
     let times = done.times in
@@ -90,13 +91,13 @@ written schema old told new batch e is tells empty (t, part, later, entry, stand
       all ++ applied_at part t ∷ [],
       completed old new batch h all part t done (omega arith) stands kept floor shard,
       λ events others tail.
-          rw (is, tells) (t, others, above, ap (λ x. x ∷ others) entry, rw (← accepted, ← empty) tail),
+          rw (is, tells) (t, others, above, ap (λ x. x ∷ others) entry, rw (← accepted, ← open_op) tail),
     )
 
 answered : (schema : List (List ℕ)) (old : Runner) (told : Option Entry) (new : Runner) (read : Read) (e : Entry)
-    → old.open_op ≡ Some (Asks read) → told ≡ Some e → new.open_op ≡ None → Reads read (record old { open_op = None }) e new
+    → old.open_op ≡ Some (Asks read) → told ≡ Some e → Reads read (record old { open_op = None }) e new
     → GoesOn schema Drain old told new
-answered schema old told new read e is tells empty (t, from, answers, store, floor, shard, accepted, open_op) h all done =
+answered schema old told new read e is tells (t, from, answers, store, floor, shard, accepted, open_op) h all done =
     let (to, entry) = answers all done.kept in
     let first = done.floor in
     let behind = done.behind in
@@ -116,7 +117,7 @@ answered schema old told new read e is tells empty (t, from, answers, store, flo
         times = done.times;
         newest = done.newest;
       },
-      λ events others tail. rw (is, tells) (others, ap (λ x. x ∷ others) same, rw (← accepted, ← empty) tail),
+      λ events others tail. rw (is, tells) (others, ap (λ x. x ∷ others) same, rw (← accepted, ← open_op) tail),
     )
 
 nothing : (schema : List (List ℕ)) (old : Runner) (told : Option Entry) (new : Runner)
@@ -131,8 +132,8 @@ nothing schema old told new is tells same h all done = (
 drained_by : (schema : List (List ℕ)) (old : Runner) (told : Option Entry) (new : Runner) (o : Option Op)
     → old.open_op ≡ o → Drains o old told new → GoesOn schema Drain old told new
 drained_by schema old told new None is (tells, same) = nothing schema old told new is tells same
-drained_by schema old told new (Some (Batch batch)) is (e, tells, empty, writes) = written schema old told new batch e is tells empty writes
-drained_by schema old told new (Some (Asks read)) is (e, tells, empty, reads) = answered schema old told new read e is tells empty reads
+drained_by schema old told new (Some (Batch batch)) is (e, tells, writes) = written schema old told new batch e is tells writes
+drained_by schema old told new (Some (Asks read)) is (e, tells, reads) = answered schema old told new read e is tells reads
 
 pub drained : (schema : List (List ℕ)) (event : Event) (old : Runner) (told : Option Entry) (new : Runner)
     → event ≡ Drain → Drains old.open_op old told new → GoesOn schema event old told new
@@ -156,9 +157,21 @@ told_none schema script r told none floor accepted empty kept = (
   λ others tail. let start = rw (accepted, empty) at tail in rw none start,
 )
 
+-- after one more event
+pub told_more : (schema : List (List ℕ)) (script : List Event) (event : Event) (events : List Event) (old new : Runner) (before : List Entry) (told : Option Entry)
+    → GoesOn schema event old told new → HasTold schema script old (event ∷ events) before → HasTold schema script new events (before ++ option_to_list told)
+told_more schema script event events old new before told goes (h, all, done, tail) =
+    let (k, more, next, on) = goes h all done in (
+      k,
+      more,
+      next,
+      λ others rest.
+          subst (λ es. Tells schema [] 0 None script es) (sym (append_assoc before (option_to_list told) others))
+          (tail (option_to_list told ++ others) (on events others rest)),
+    )
+
 -- once no event is left, the transcript is whole
-pub told_whole : (schema : List (List ℕ)) (script : List Event) (r : Runner) (events : List Event) (told : List Entry)
-    → events ≡ [] → HasTold schema script r events told → Tells schema [] 0 None script told
-told_whole schema script r events told none (h, all, done, tail) =
-    subst (λ es. Tells schema [] 0 None script es) (append-nil told)
-    (tail [] (subst (λ es. Tells schema h r.accepted r.open_op es []) (sym none) refl))
+pub told_whole : (schema : List (List ℕ)) (script : List Event) (r : Runner) (told : List Entry)
+    → HasTold schema script r [] told → Tells schema [] 0 None script told
+told_whole schema script r told (h, all, done, tail) =
+    subst (λ es. Tells schema [] 0 None script es) (append-nil told) (tail [] refl)

@@ -13,6 +13,7 @@ use Rattle.table.specs.Meaning.{shown}
 use Rattle.workload.specs.declared.script.Op.{Op}
 use Rattle.workload.specs.declared.script.Op.TheVariants.{Batch, Read as Asks}
 use Rattle.workload.specs.declared.script.Event.{Event}
+use Rattle.workload.specs.declared.script.Script.{Script}
 use Rattle.workload.specs.declared.transcript.Entry.{Entry}
 use Rattle.workload.specs.declared.transcript.Entry.TheVariants.{Wrote, Read as Answered, Refused}
 use Rattle.workload.specs.declared.simulating.Runner.{Runner}
@@ -27,11 +28,16 @@ pub record HasCompleted (r : Runner) (h : History) (all : List Applied) : Type 0
   pub times : greatest (history_of all) ≡ greatest h
   pub newest : (l : Location) → newest (history_of all) l ≡ newest h l
 
+-- the operation is open, with the next number
+abbrev pub Accepts : Op → Runner → Runner → Type 0
+Accepts op old new =
+    (new.open_op ≡ Some op) × (new.accepted ≡ old.accepted + 1) × (new.shard ≡ old.shard) × (new.floor ≡ old.floor) × (new.store ≡ old.store)
+
 -- a submission is accepted, or refused and nothing else happens
 abbrev pub Submits : List (List ℕ) → Op → Runner → Option Entry → Runner → Type 0
 Submits schema op old told new =
     MatchOption (submission_fault schema old.open_op op)
-    ((told ≡ None) × (new.open_op ≡ Some op) × (new.accepted ≡ old.accepted + 1) × (new.shard ≡ old.shard) × (new.floor ≡ old.floor) × (new.store ≡ old.store))
+    ((told ≡ None) × Accepts op old new)
     (λ f. (told ≡ Some (Refused session f)) × (new ≡ old))
 
 -- a part that is applied at a time
@@ -56,11 +62,15 @@ Reads read old told new =
     × (new.store ≡ old.store) × (new.floor ≡ time) × (old.shard ≤ new.shard)
     × (new.accepted ≡ old.accepted) × (new.open_op ≡ old.open_op)
 
+-- the operation is completed, and its outcome told
+abbrev pub Completes : Op → Runner → Option Entry → Runner → Type 0
+Completes (Batch batch) old told new = (e : Entry) × (told ≡ Some e) × Writes batch old e new
+Completes (Asks read) old told new = (e : Entry) × (told ≡ Some e) × Reads read old e new
+
 -- what the open operation becomes at a drain
 abbrev pub Drains : Option Op → Runner → Option Entry → Runner → Type 0
 Drains None old told new = (told ≡ None) × (new ≡ old)
-Drains (Some (Batch batch)) old told new = (e : Entry) × (told ≡ Some e) × (new.open_op ≡ None) × Writes batch (record old { open_op = None }) e new
-Drains (Some (Asks read)) old told new = (e : Entry) × (told ≡ Some e) × (new.open_op ≡ None) × Reads read (record old { open_op = None }) e new
+Drains (Some op) old told new = Completes op (record old { open_op = None }) told new
 
 -- no event moves the session's clock by more than 2, or the shard's past it
 abbrev pub KeepsPace : Runner → Runner → Type 0
@@ -80,3 +90,8 @@ abbrev pub HasTold : List (List ℕ) → List Event → Runner → List Event �
 HasTold schema script r events told =
     (h : History) × (all : List Applied) × HasCompleted r h all
     × ((others : List Entry) → Tells schema h r.accepted r.open_op events others → Tells schema [] 0 None script (told ++ others))
+
+-- the runner goes through the events of the script, and what was told before stands before what is told of them
+abbrev pub GoesThrough : Script → Runner → List Entry → Runner → List Entry → Type 0
+GoesThrough script old before new after =
+    (all : List Event) → HasTold script.schema all old script.events before → HasTold script.schema all new [] after

@@ -15,7 +15,7 @@ use Rattle.workload.specs.declared.script.Event.{Event}
 use Rattle.workload.specs.declared.script.Event.TheVariants.{Submit, Drain}
 use Rattle.workload.specs.declared.script.Script.{Script}
 use Rattle.workload.specs.Gives.{◌>>=◌}
-use Rattle.workload.specs.Shape.{whole_within, has_members, has_items, members_named, text_at, list_by, list_within}
+use Rattle.workload.specs.Shape.{whole_within, has_members, has_items, members_named, part_at, text_at, list_by, list_within}
 
 -- ["insert", name, value]
 unfoldable pub insert_of : Data → Option Mutation
@@ -54,8 +54,7 @@ unfoldable pub change_of : Data → Option Change
 change_of d = if has_items 3 d then (do
   family ← text_at 0 d
   key ← text_at 1 d
-  third ← at 2 d
-  mutation ← mutation_of third
+  mutation ← part_at mutation_of 2 d
   Some (record { row = record { family = family; key = key }; mutation = mutation })) else None
 
 -- an end of a range: open where it is left out
@@ -82,10 +81,10 @@ range_members d =
 -- {"start": .., "finish": .., "reversed": .., "count": ..}, and each may be left out
 unfoldable pub range_of : Data → Option Predicate
 range_of d = if has_members (range_members d) d then (do
-  start ← end_of (get (codes "start") d)
-  finish ← end_of (get (codes "finish") d)
   reversed ← reversed_of (get (codes "reversed") d)
   count ← count_of (get (codes "count") d)
+  start ← end_of (get (codes "start") d)
+  finish ← end_of (get (codes "finish") d)
   Some (Range start finish reversed count)) else None
 
 -- [name, ..]
@@ -107,10 +106,8 @@ predicate_of d = if has_members 1 d then predicate_in (get (codes "names") d) (g
 unfoldable pub read_of : Data → Option Op
 read_of d = if has_items 3 d then (do
   family ← text_at 0 d
-  second ← at 1 d
-  keys ← list_by as_str second
-  third ← at 2 d
-  predicate ← predicate_of third
+  keys ← part_at (list_by as_str) 1 d
+  predicate ← part_at predicate_of 2 d
   Some (Asks (record { family = family; keys = keys; predicate = predicate }))) else None
 
 -- [change, ..]
@@ -133,8 +130,7 @@ unfoldable pub submit_of : Data → Option Event
 submit_of d = if has_items 3 d then (do
   second ← at 1 d
   session ← whole_within 0 0 second
-  third ← at 2 d
-  op ← op_of third
+  op ← part_at op_of 2 d
   Some (Submit op)) else None
 
 -- ["drain"]
@@ -160,17 +156,22 @@ schema_among families = if is_schema families then Some families else None
 unfoldable pub families_of : Data → Option (List (List ℕ))
 families_of d = option_and_then schema_among (list_by as_str d)
 
--- {"dcs": 1, "shards": 1, "families": .., "homes": .., "events": ..}: one data centre, one shard, at most 100,000 events
-unfoldable pub script_of : Data → Option Script
-script_of d = if has_members 5 d then (do
+-- "dcs": 1, "shards": 1, "homes": [0]: one data centre with one shard, the home of the one session
+unfoldable pub topology_of : Data → Option ℕ
+topology_of d = do
   dcs ← get (codes "dcs") d
   data_centres ← whole_within 1 1 dcs
   shards ← get (codes "shards") d
   shards_in_each ← whole_within 1 1 shards
+  homes ← get (codes "homes") d
+  homes_of homes
+
+-- {"dcs": 1, "shards": 1, "families": .., "homes": .., "events": ..}: at most 100,000 events
+unfoldable pub script_of : Data → Option Script
+script_of d = if has_members 5 d then (do
+  home ← topology_of d
   families ← get (codes "families") d
   schema ← families_of families
-  homes ← get (codes "homes") d
-  home ← homes_of homes
   events ← get (codes "events") d
   all ← list_within event_of 100000 events
   Some (record { schema = schema; events = all })) else None

@@ -42,8 +42,12 @@ has_items n d = is_same n (option_map items_len (as_array d))
 abbrev pub members_named : List ℕ → Data → ℕ
 members_named name d = if is_some (get name d) then 1 else 0
 
+-- what the item at a place stands for
+abbrev pub part_at : {A : Type 0} → (Data → Option A) → ℕ → Data → Option A
+part_at f i d = option_and_then f (at i d)
+
 abbrev pub text_at : ℕ → Data → Option (List ℕ)
-text_at i d = option_and_then as_str (at i d)
+text_at = part_at as_str
 
 -- what each item of a list stands for, in order
 abbrev pub all_by : {A : Type 0} → (Data → Option A) → List Data → Option (List A)

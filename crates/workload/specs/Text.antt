@@ -2,6 +2,7 @@
 use Rattle.std.specs.Prelude.{ℕ, List, ◌++◌, codes, decimal}
 use Rattle.std.specs.List.{flat_map}
 use Rattle.hex.specs.Hex.{encode_lower}
+use Rattle.logical_time.specs.declared.fault.Fault.{Fault}
 use Rattle.logical_time.specs.Fault.{number_of}
 use Rattle.logical_time.specs.Stamps.{StampValue}
 use Rattle.slice.specs.declared.column.Column.{Column}
@@ -26,13 +27,20 @@ abbrev pub commit_text : ℕ → StampValue → List ℕ
 commit_text commit stamp =
     codes " wrote commit " ++ decimal commit ++ codes " stamp " ++ decimal stamp.time ++ codes "." ++ decimal stamp.node ++ codes "\n"
 
+-- ` read at T`, and the end of the line; then one line for each key
+abbrev pub answer_text : ℕ → List AnsweredRow → List ℕ
+answer_text effective answer = codes " read at " ++ decimal effective ++ codes "\n" ++ flat_map row_text answer
+
+-- `node N refused R`, and the end of the line
+abbrev pub refusal_text : ℕ → Fault → List ℕ
+refusal_text node fault = codes "node " ++ decimal node ++ codes " refused " ++ decimal (number_of fault) ++ codes "\n"
+
 -- an entry: one line, and after that of a read one for each key
 abbrev pub entry_text : Entry → List ℕ
 entry_text (Wrote node number commit stamp) = op_text node number ++ commit_text commit stamp
-entry_text (Read node number effective answer) =
-    op_text node number ++ codes " read at " ++ decimal effective ++ codes "\n" ++ flat_map row_text answer
+entry_text (Read node number effective answer) = op_text node number ++ answer_text effective answer
 entry_text (Collected node number) = op_text node number ++ codes " collected\n"
-entry_text (Refused node fault) = codes "node " ++ decimal node ++ codes " refused " ++ decimal (number_of fault) ++ codes "\n"
+entry_text (Refused node fault) = refusal_text node fault
 
 abbrev pub text_of : List Entry → List ℕ
 text_of entries = flat_map entry_text entries

@@ -13,7 +13,7 @@ use std::io::{ErrorKind, Read, Write};
 use std::str;
 
 /// What the program is asked to do.
-#[derive(Clone, Copy, PartialEq, Eq)]
+#[derive(Clone, Copy)]
 pub enum Task {
     /// Reads a script, runs it and writes its transcript.
     Sim,

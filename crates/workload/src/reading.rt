@@ -5,13 +5,13 @@ ghost use Rattle.serde_json.specs.Find.{as_str, get};
 ghost use Rattle.serde_json.specs.Read.{read};
 ghost use Rattle.serde_json.specs.View.{view};
 ghost use Rattle.workload.specs.Gives.{Gives, GivesSeen};
-ghost use Rattle.workload.specs.Shape.{list_within as items_within};
+ghost use Rattle.workload.specs.Shape.{list_by, list_within as items_within};
 ghost use Rattle.workload.specs.Script as form;
 
 use crate::script::{Event, Events, Op, Script};
 use crate::shape::{
-    Shaped, has_items, has_members, item, list_of, list_within, member, members_named, text_at,
-    whole_within,
+    Shaped, has_items, has_members, item, list_of, list_within, member, members_named, part_at,
+    text_at, whole_within,
 };
 use column_family::{Batch, Change, Family, Key, Mutation, Name, Row, Schema, Value};
 use logical_time::Fault;
@@ -53,6 +53,47 @@ impl Shaped for Name {
     }
 }
 
+impl Shaped for Value {
+    ghost stands_for = { as_str };
+
+    fn of_json(alloc: Global, json: &Json) -> Result<Value, Fault> {
+        let text = json.as_str().ok_or(Fault::Script)?;
+        Ok(Value::from_slice(alloc, text.as_bytes())?)
+    }
+}
+
+impl Shaped for Keys {
+    ghost stands_for = { list_by as_str };
+
+    fn of_json(alloc: Global, json: &Json) -> Result<Keys, Fault> {
+        Ok(Keys::from_vec(list_of(alloc, json)?))
+    }
+}
+
+impl Shaped for Mutation {
+    ghost stands_for = { form.mutation_of };
+
+    fn of_json(alloc: Global, json: &Json) -> Result<Mutation, Fault> {
+        mutation(alloc, json)
+    }
+}
+
+impl Shaped for Predicate {
+    ghost stands_for = { form.predicate_of };
+
+    fn of_json(alloc: Global, json: &Json) -> Result<Predicate, Fault> {
+        predicate(alloc, json)
+    }
+}
+
+impl Shaped for Op {
+    ghost stands_for = { form.op_of };
+
+    fn of_json(alloc: Global, json: &Json) -> Result<Op, Fault> {
+        op(alloc, json)
+    }
+}
+
 impl Shaped for Change {
     ghost stands_for = { form.change_of };
 
@@ -76,8 +117,8 @@ fn insert(alloc: Global, json: &Json) -> Result<Mutation, Fault>
     if !has_items(json, 3) {
         return Err(Fault::Script);
     }
-    let name = Name::from_slice(alloc, text_at(json, 1)?.as_bytes())?;
-    let value = Value::from_slice(alloc, text_at(json, 2)?.as_bytes())?;
+    let name = part_at(alloc, json, 1)?;
+    let value = part_at(alloc, json, 2)?;
     Ok(Mutation::Insert { name, value })
 }
 
@@ -88,7 +129,7 @@ fn delete(alloc: Global, json: &Json) -> Result<Mutation, Fault>
     if !has_items(json, 2) {
         return Err(Fault::Script);
     }
-    let name = Name::from_slice(alloc, text_at(json, 1)?.as_bytes())?;
+    let name = part_at(alloc, json, 1)?;
     Ok(Mutation::DeleteColumn { name })
 }
 
@@ -110,8 +151,8 @@ fn delete_range(alloc: Global, json: &Json) -> Result<Mutation, Fault>
     if !has_items(json, 3) {
         return Err(Fault::Script);
     }
-    let start = Name::from_slice(alloc, text_at(json, 1)?.as_bytes())?;
-    let finish = Name::from_slice(alloc, text_at(json, 2)?.as_bytes())?;
+    let start = part_at(alloc, json, 1)?;
+    let finish = part_at(alloc, json, 2)?;
     Ok(Mutation::DeleteRange { start, finish })
 }
 
@@ -140,10 +181,11 @@ fn change(alloc: Global, json: &Json) -> Result<Change, Fault>
     if !has_items(json, 3) {
         return Err(Fault::Script);
     }
-    let family = Family::from_slice(alloc, text_at(json, 0)?.as_bytes())?;
-    let key = Key::from_slice(alloc, text_at(json, 1)?.as_bytes())?;
-    let mutation = mutation(alloc, item(json, 2)?)?;
-    let row = Row { family, key };
+    let row = Row {
+        family: part_at(alloc, json, 0)?,
+        key: part_at(alloc, json, 1)?,
+    };
+    let mutation = part_at(alloc, json, 2)?;
     Ok(Change { row, mutation })
 }
 
@@ -190,10 +232,10 @@ fn range(alloc: Global, json: &Json) -> Result<Predicate, Fault>
     if !has_members(json, range_members(json)) {
         return Err(Fault::Script);
     }
-    let start = end(alloc, json, "start")?;
-    let finish = end(alloc, json, "finish")?;
     let reversed = reversed(json)?;
     let count = count(json)?;
+    let start = end(alloc, json, "start")?;
+    let finish = end(alloc, json, "finish")?;
     Ok(Predicate::Range {
         start,
         finish,
@@ -229,9 +271,9 @@ fn read_op(alloc: Global, json: &Json) -> Result<Op, Fault>
     if !has_items(json, 3) {
         return Err(Fault::Script);
     }
-    let family = Family::from_slice(alloc, text_at(json, 0)?.as_bytes())?;
-    let keys = Keys::from_vec(list_of(alloc, item(json, 1)?)?);
-    let predicate = predicate(alloc, item(json, 2)?)?;
+    let family = part_at(alloc, json, 0)?;
+    let keys = part_at(alloc, json, 1)?;
+    let predicate = part_at(alloc, json, 2)?;
     Ok(Op::Read(Read {
         family,
         keys,
@@ -267,7 +309,7 @@ fn submit(alloc: Global, json: &Json) -> Result<Event, Fault>
         return Err(Fault::Script);
     }
     whole_within(item(json, 1)?, 0, 0)?;
-    let op = op(alloc, item(json, 2)?)?;
+    let op = part_at(alloc, json, 2)?;
     Ok(Event::Submit(op))
 }
 
@@ -312,6 +354,15 @@ fn homes(json: &Json) -> Result<u64, Fault>
     whole_within(item(json, 0)?, 0, 0)
 }
 
+#[tactic(auto, unfolding(crate::specs::Script::topology_of))]
+fn topology(json: &Json) -> Result<u64, Fault>
+    ensures { Gives result (form.topology_of (view json.now)) }
+{
+    whole_within(member(json, "dcs")?, 1, 1)?;
+    whole_within(member(json, "shards")?, 1, 1)?;
+    homes(member(json, "homes")?)
+}
+
 #[tactic(auto, unfolding(crate::specs::Script::families_of))]
 fn families(alloc: Global, json: &Json) -> Result<Schema, Fault>
     ensures { Gives result (form.families_of (view json.now)) }
@@ -326,10 +377,8 @@ fn script(alloc: Global, json: &Json) -> Result<Script, Fault>
     if !has_members(json, 5) {
         return Err(Fault::Script);
     }
-    whole_within(member(json, "dcs")?, 1, 1)?;
-    whole_within(member(json, "shards")?, 1, 1)?;
+    topology(json)?;
     let schema = families(alloc, member(json, "families")?)?;
-    homes(member(json, "homes")?)?;
     let events = events(alloc, member(json, "events")?)?;
     Ok(Script { schema, events })
 }

@@ -99,6 +99,13 @@ pub fn item(json: &Value, place: usize) -> Result<&Value, Fault>
     json.get(place).ok_or(Fault::Script)
 }
 
+/// What the item at a place stands for, counted from 0.
+pub fn part_at<T: Shaped>(alloc: Global, json: &Value, place: usize) -> Result<T, Fault>
+    ensures { Gives result (shape.part_at T.stands_for place (view json.now)) }
+{
+    T::of_json(alloc, item(json, place)?)
+}
+
 /// The text at a place, counted from 0.
 pub fn text_at(json: &Value, place: usize) -> Result<&str, Fault>
     ensures { GivesSeen (λ text. text.now) result (shape.text_at place (view json.now)) }

@@ -1,5 +1,5 @@
 //! A script is run by one session and one shard, each with its clock.
-ghost use Rattle.std.specs.Prelude.{◌≡◌, ◌*◌, ◌^◌, ◌≤◌, List, [], ◌++◌, ◌∷◌, length, IfOk, IfErr, OnOk, IsErrOf, ◌⊎◌};
+ghost use Rattle.std.specs.Prelude.{◌≡◌, ◌*◌, ◌^◌, ◌≤◌, List, [], ◌++◌, ◌∷◌, length, option_to_list, IfOk, IfErr, OnOk, IsErrOf, ◌⊎◌};
 ghost use Rattle.store.specs.declared.part.Applied.{Applied};
 ghost use Rattle.store.specs.Keeps.{Keeps};
 ghost use Rattle.store.specs.Part.{history_of};
@@ -61,6 +61,17 @@ fn read_all(alloc: Global, store: &Store, floor: Time, read: &Read) -> Result<(T
     Ok((effective, answer))
 }
 
+// What is told of an event, if anything, is added to the transcript.
+fn tell(transcript: &mut Transcript, told: Option<Entry>) -> Result<(), Fault>
+    ensures ok { OnOk result (transcript.new ≡ transcript.old ++ option_to_list told) }
+    ensures memory { IfErr result (λ e. e ≡ Fault.Memory) }
+{
+    if let Some(entry) = told {
+        transcript.push(entry)?;
+    }
+    Ok(())
+}
+
 /// A session and the shard that it talks to.
 #[derive(Drop)]
 pub struct Runner {
@@ -80,10 +91,10 @@ pub struct Runner {
 }
 
 impl Runner {
-    ghost use Rattle.std.specs.Prelude.{◌≡◌, ◌+◌, ◌^◌, ◌≤◌, IfOk, IfErr, OnOk, IsErrOf, None, [], ◌⊎◌};
+    ghost use Rattle.std.specs.Prelude.{◌≡◌, ◌+◌, ◌*◌, ◌^◌, ◌≤◌, length, IfOk, IfErr, OnOk, IsErrOf, None, [], ◌⊎◌};
     ghost use Rattle.logical_time.specs.Fault.{IsRefusedFor};
     ghost use Rattle.workload.specs.Simulation.{submission_fault};
-    ghost use Rattle.workload.specs.Runner.{Submits, Writes, Reads, Drains, GoesOn, KeepsPace};
+    ghost use Rattle.workload.specs.Runner.{Accepts, Submits, Writes, Reads, Completes, Drains, GoesOn, GoesThrough, KeepsPace};
 
     /// Both start at 0, with nothing applied.
     fn new(alloc: Global) -> Runner
@@ -114,6 +125,22 @@ impl Runner {
         check_op(schema, op)
     }
 
+    /// The session takes the operation on: it is open from now on, with the next number.
+    fn accept(&mut self, op: &Op) -> Result<(), Fault>
+        ensures ok { OnOk result (Accepts op.now self.old self.new) }
+        ensures faults { IfErr result (λ e. (e ≡ Fault.Memory) ⊎ (e ≡ Fault.ClockSpent)) }
+        ensures moved { self.old.shard ≤ self.old.session → OnOk result (KeepsPace self.old self.new) }
+        ensures spent { self.old.shard ≤ self.old.session → IsErrOf result Fault.ClockSpent → 2 ^ 48 ≤ self.old.session + 2 }
+    {
+        let now = self.session.now();
+        let time = self.session.receive(now)?.get();
+        prove!(self.accepted < time);
+        let op = op.copied()?;
+        self.accepted += 1;
+        self.open_op = Some(op);
+        Ok(())
+    }
+
     /// The session submits an operation: it is refused, or open from now on.
     fn submit(&mut self, schema: &Schema, op: &Op) -> Result<Option<Entry>, Fault>
         ensures ok { IfOk result (λ told. Submits schema.now op.now self.old told self.new) }
@@ -122,19 +149,15 @@ impl Runner {
         ensures spent { self.old.shard ≤ self.old.session → IsErrOf result Fault.ClockSpent → 2 ^ 48 ≤ self.old.session + 2 }
     {
         match self.check(schema, op) {
-            Ok(()) => {}
+            Ok(()) => {
+                self.accept(op)?;
+                Ok(None)
+            }
             Err(fault) => {
                 let node = Node::new(SESSION);
-                return Ok(Some(Entry::Refused { node, fault }));
+                Ok(Some(Entry::Refused { node, fault }))
             }
         }
-        let op = op.copied()?;
-        let now = self.session.now();
-        let time = self.session.receive(now)?.get();
-        prove!(self.accepted < time);
-        self.accepted += 1;
-        self.open_op = Some(op);
-        Ok(None)
     }
 
     /// The shard commits the batch, and tells the session.
@@ -193,6 +216,25 @@ impl Runner {
         })
     }
 
+    /// The operation is completed.
+    fn complete(&mut self, alloc: Global, op: &Op) -> Result<Option<Entry>, Fault>
+        ensures ok { IfOk result (λ told. Completes op.now self.old told self.new) }
+        ensures faults { IfErr result (λ e. (e ≡ Fault.Memory) ⊎ (e ≡ Fault.ClockSpent)) }
+        ensures moved { self.old.shard ≤ self.old.session → OnOk result (KeepsPace self.old self.new) }
+        ensures spent { self.old.shard ≤ self.old.session → IsErrOf result Fault.ClockSpent → 2 ^ 48 ≤ self.old.session + 2 }
+    {
+        match op {
+            Op::Batch(batch) => {
+                let entry = self.write(alloc, batch)?;
+                Ok(Some(entry))
+            }
+            Op::Read(read) => {
+                let entry = self.read(alloc, read)?;
+                Ok(Some(entry))
+            }
+        }
+    }
+
     /// The open operation, if there is one, is completed.
     fn drain(&mut self, alloc: Global) -> Result<Option<Entry>, Fault>
         ensures ok { IfOk result (λ told. Drains self.old.open_op self.old told self.new) }
@@ -202,14 +244,7 @@ impl Runner {
     {
         match self.open_op.take() {
             None => Ok(None),
-            Some(Op::Batch(batch)) => {
-                let entry = self.write(alloc, &batch)?;
-                Ok(Some(entry))
-            }
-            Some(Op::Read(read)) => {
-                let entry = self.read(alloc, &read)?;
-                Ok(Some(entry))
-            }
+            Some(op) => self.complete(alloc, &op),
         }
     }
 
@@ -236,6 +271,34 @@ impl Runner {
             }
         }
     }
+
+    /// The events happen, in order, and what is told of them is added to the transcript.
+    fn run(
+        &mut self,
+        alloc: Global,
+        script: &Script,
+        transcript: &mut Transcript,
+    ) -> Result<(), Fault>
+        ensures ok { OnOk result (GoesThrough script.now self.old transcript.old self.new transcript.new) }
+        ensures faults { IfErr result (λ e. (e ≡ Fault.Memory) ⊎ (e ≡ Fault.ClockSpent)) }
+        ensures spent { self.old.shard ≤ self.old.session → IsErrOf result Fault.ClockSpent → 2 ^ 48 ≤ self.old.session + 2 * length script.now.events }
+    {
+        for event in script.events.as_slice() {
+            let told = self.step(alloc, &script.schema, event)?;
+            tell(transcript, told)?;
+        }
+        Ok(())
+    }
+}
+
+// The events of the script happen, from the start on.
+fn tell_all(alloc: Global, script: &Script, transcript: &mut Transcript) -> Result<(), Fault>
+    ensures ok { transcript.old ≡ [] → OnOk result (IsTranscriptOf script.now transcript.new) }
+    ensures faults { IfErr result (λ e. (e ≡ Fault.Memory) ⊎ (e ≡ Fault.ClockSpent)) }
+    ensures spent { IsErrOf result Fault.ClockSpent → 2 ^ 48 ≤ 2 * length script.now.events }
+{
+    let mut runner = Runner::new(alloc);
+    runner.run(alloc, script, transcript)
 }
 
 /// The transcript of a script. Refused with `ClockSpent` where a clock would leave its range, and with `Memory`.
@@ -246,12 +309,7 @@ pub fn simulate(alloc: Global, script: &Script) -> Result<Transcript, Fault>
     ensures faults { IfErr result (λ e. (e ≡ Fault.Memory) ⊎ (e ≡ Fault.ClockSpent)) }
     ensures spent { IsErrOf result Fault.ClockSpent → 2 ^ 48 ≤ 2 * length script.now.events }
 {
-    let mut runner = Runner::new(alloc);
     let mut transcript = Transcript::new(alloc);
-    for event in script.events.as_slice() {
-        if let Some(entry) = runner.step(alloc, &script.schema, event)? {
-            transcript.push(entry)?;
-        }
-    }
+    tell_all(alloc, script, &mut transcript)?;
     Ok(transcript)
 }

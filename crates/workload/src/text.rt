@@ -1,7 +1,7 @@
 //! The texts of transcripts.
 ghost use Rattle.std.specs.Prelude.{◌≡◌, ◌++◌, OnOk, IfOk, IfErr, string_bytes, codes};
 ghost use Rattle.std.specs.List.{flat_map};
-ghost use Rattle.workload.specs.Text.{column_text, row_text, op_text, commit_text, entry_text, text_of};
+ghost use Rattle.workload.specs.Text.{column_text, row_text, op_text, commit_text, answer_text, refusal_text, entry_text, text_of};
 
 use crate::transcript::{Entry, Transcript};
 use logical_time::{Fault, Node, Stamp, Time};
@@ -62,6 +62,28 @@ fn add_commit(text: &mut String, commit: Time, stamp: Stamp) -> Result<(), Alloc
     write!(text, " wrote commit {commit} stamp {time}.{coordinator}\n")
 }
 
+// ` read at T`, and the end of the line; then each row.
+fn add_answer(
+    alloc: Global,
+    text: &mut String,
+    effective: Time,
+    answer: &Answer,
+) -> Result<(), AllocError>
+    ensures { OnOk result (string_bytes text.new ≡ string_bytes text.old ++ answer_text effective answer.now) }
+{
+    let time = effective.get();
+    write!(text, " read at {time}\n")?;
+    add_rows(alloc, text, answer)
+}
+
+// `node N refused R`, and the end of the line.
+fn add_refusal(text: &mut String, node: Node, fault: Fault) -> Result<(), AllocError>
+    ensures { OnOk result (string_bytes text.new ≡ string_bytes text.old ++ refusal_text node fault) }
+{
+    let (node, refusal) = (node.get(), fault.number());
+    write!(text, "node {node} refused {refusal}\n")
+}
+
 // An entry, with the rows of a read.
 fn add_entry(alloc: Global, text: &mut String, entry: &Entry) -> Result<(), AllocError>
     ensures { OnOk result (string_bytes text.new ≡ string_bytes text.old ++ entry_text entry.now) }
@@ -83,18 +105,13 @@ fn add_entry(alloc: Global, text: &mut String, entry: &Entry) -> Result<(), Allo
             answer,
         } => {
             add_op(text, *node, *number)?;
-            let time = effective.get();
-            write!(text, " read at {time}\n")?;
-            add_rows(alloc, text, answer)
+            add_answer(alloc, text, *effective, answer)
         }
         Entry::Collected { node, number } => {
             add_op(text, *node, *number)?;
             write!(text, " collected\n")
         }
-        Entry::Refused { node, fault } => {
-            let (node, refusal) = (node.get(), fault.number());
-            write!(text, "node {node} refused {refusal}\n")
-        }
+        Entry::Refused { node, fault } => add_refusal(text, *node, *fault),
     }
 }
 

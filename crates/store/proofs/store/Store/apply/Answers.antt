@@ -19,3 +19,6 @@ returns-clause-keeps c = λ all keeps normal fresh.
     let a : Applied = record { part = c.args.part; commit = c.args.commit; stamp = c.args.stamp } in
     let put : HavePut o c.args.part.batch c.args.self.now.rows new.rows = search rules in
     keeps_applied c.args.self.now new all a o (ap (λ (k : Kept). k.low) c.self.view_is) refl put normal fresh keeps
+
+pub returns-clause-put : goal.returns-clause-put
+returns-clause-put c = search rules

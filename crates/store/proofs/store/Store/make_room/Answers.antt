@@ -1,4 +1,4 @@
-use Rattle.std.proofs.Common.{ap, subst}
+use Rattle.std.proofs.Common.{rules, ap, subst}
 use Rattle.store.specs.Kept.{Kept, HaveSameVersions}
 use Rattle.store.proofs.Lasting.{keeps_same}
 use Rattle.store.proofs.store.Store.make_room.Goals as goal
@@ -8,3 +8,6 @@ returns-clause-keeps c = λ all keeps.
     let new : Kept = record { rows = c.reserve_changes.new.rows.entries; low = c.self.inside.low } in
     keeps_same c.args.self.now new all (ap (λ (k : Kept). k.low) c.self.view_is)
     (subst (λ (k : Kept). HaveSameVersions k.rows new.rows) c.self.view_is c.reserve_changes.ensures.versions) keeps
+
+pub returns-clause-ok : goal.returns-clause-ok
+returns-clause-ok c = search rules
