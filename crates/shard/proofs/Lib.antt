@@ -7,6 +7,7 @@ pub mod OneShard
 pub mod ReadSteps
 pub mod Remotes
 pub mod Run
+pub mod Sending
 pub mod Shown
 pub mod Untouched
 pub mod Updates

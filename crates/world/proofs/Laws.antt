@@ -10,7 +10,6 @@ use Rattle.messages.specs.declared.op.Op.{Op}
 use Rattle.messages.specs.declared.op.Op.TheVariants as op
 use Rattle.messages.specs.declared.outcome.Outcome.{Outcome}
 use Rattle.messages.specs.declared.outcome.Outcome.TheVariants as outcome
-use Rattle.messages.specs.Session.{Finished}
 use Rattle.messages.specs.Topology.{TopologyValue, is_topology, dc_of, shard_of, shard_node}
 use Rattle.messages.proofs.Numbering.{shard_again}
 use Rattle.world.specs.Run.{Run, Event, Submission, Completed, run, opening}
@@ -155,7 +154,7 @@ named_in_runs top events some = named_apart (run top events).submitted (every_ca
 pub coordinators_in_runs : (top : TopologyValue) (events : List Event) → 0 < top.shards → CoordinatorsDecide top (run top events)
 coordinators_in_runs top events some = coordinators_decide top (run top events) (every_run top events some)
 
-prefix_grows : (top : TopologyValue) (before after : List Event) → 0 < top.shards → Grows top (run top before) (run top (before ++ after))
+pub prefix_grows : (top : TopologyValue) (before after : List Event) → 0 < top.shards → Grows top (run top before) (run top (before ++ after))
 prefix_grows top before after some =
     subst (λ z. Grows top (run top before) z) (sym (run_after top (opening top) before after)) (run_grows top (run top before) after some (every_run top before some))
 

@@ -77,6 +77,11 @@ pub mod HeardRuns
 pub mod NowSent
 pub mod NowSentRuns
 pub mod FreshReads
+pub mod HeardCases
+pub mod SessionSends
+pub mod Horizons
+pub mod Sendings
+pub mod Completions
 pub mod Settling
 pub mod SettledAway
 pub mod SettledShards
@@ -94,3 +99,4 @@ pub mod LiveEvents
 pub mod LaterCommits
 pub mod EachShard
 pub mod Laws
+pub mod GivenUp

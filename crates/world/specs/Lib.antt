@@ -10,3 +10,4 @@ pub mod Entries
 pub mod Promises
 pub mod Settled
 pub mod Each
+pub mod Collected

@@ -7,6 +7,7 @@ ghost use Rattle.world.specs.Run.{Event, run};
 ghost use Rattle.world.specs.Histories.{IsHistory};
 ghost use Rattle.world.specs.Quiet.{IsQuiet};
 ghost use Rattle.world.specs.Settled.{Settled};
+ghost use Rattle.world.specs.Collected.{CollectedIsBelowHorizon, HorizonsAreOfCollections};
 ghost use Rattle.world.specs.Each.{EachShardIsRight};
 ghost use Rattle.world.specs.Entries.{TellsDecided, AreNamedOnce, CoordinatorsDecide, StampsAgree, WritesAreTold};
 ghost use Rattle.world.specs.Promises.{EntriesAreOfSubmissions, LaterCommitsAreAbove, OutcomesAreListed, ReadsShowOneTable, ReadsShowTheirPast, ReadsAreFresh, StampsFollowCauses, TimesNeverFall, OperationsEndOnce, HistoriesGrow, HandledIsHonest};
@@ -30,6 +31,15 @@ pub fn reads_show_their_past()
 #[tactic(auto, using(crate::proofs::Laws::reads_are_fresh))]
 pub fn reads_are_fresh()
     ensures { (top : TopologyValue) (events : List Event) → 0 < top.shards → ReadsAreFresh top (run top events) }
+{}
+
+/// In every run a read ends with Collected only where its effective time lay below the horizon of a shard that it asked, at
+/// the moment that this shard said so; and the horizon of a shard is the greatest time of its collections so far. Does
+/// nothing; its contract is the law.
+#[tactic(auto, using(crate::proofs::GivenUp::collected_in_runs, crate::proofs::Horizons::horizons_are_of_collections))]
+pub fn reads_are_given_up_below_horizons()
+    ensures collected { (top : TopologyValue) (events : List Event) → 0 < top.shards → CollectedIsBelowHorizon top (run top events) }
+    ensures horizons { (top : TopologyValue) (events : List Event) → HorizonsAreOfCollections (run top events) }
 {}
 
 /// In every run the history of a data centre has one entry for each transaction that was decided there, with its batch as
