@@ -100,3 +100,4 @@ pub mod LaterCommits
 pub mod EachShard
 pub mod Laws
 pub mod GivenUp
+pub mod FirstRounds

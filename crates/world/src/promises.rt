@@ -5,6 +5,7 @@ ghost use Rattle.column_family.specs.History.{History};
 ghost use Rattle.messages.specs.Topology.{TopologyValue, is_topology};
 ghost use Rattle.world.specs.Run.{Event, run};
 ghost use Rattle.world.specs.Histories.{IsHistory};
+ghost use Rattle.world.specs.Fresh.{FirstRoundsAreWhole};
 ghost use Rattle.world.specs.Quiet.{IsQuiet};
 ghost use Rattle.world.specs.Settled.{Settled};
 ghost use Rattle.world.specs.Collected.{CollectedIsBelowHorizon, HorizonsAreOfCollections};
@@ -27,10 +28,12 @@ pub fn reads_show_their_past()
 {}
 
 /// In every run each completed read shows, at each asked location, nothing older than what the asked shard had applied
-/// there before it sent the answer that the session kept. Does nothing; its contract is the law.
-#[tactic(auto, using(crate::proofs::Laws::reads_are_fresh))]
+/// there before it sent the answer that the session kept; and of each shard that the read asked, its session kept one answer
+/// of the first round, and no other. Does nothing; its contract is the law.
+#[tactic(auto, using(crate::proofs::Laws::reads_are_fresh, crate::proofs::FirstRounds::first_rounds_are_whole))]
 pub fn reads_are_fresh()
-    ensures { (top : TopologyValue) (events : List Event) → 0 < top.shards → ReadsAreFresh top (run top events) }
+    ensures fresh { (top : TopologyValue) (events : List Event) → 0 < top.shards → ReadsAreFresh top (run top events) }
+    ensures kept { (top : TopologyValue) (events : List Event) → 0 < top.shards → FirstRoundsAreWhole top (run top events) }
 {}
 
 /// In every run a read ends with Collected only where its effective time lay below the horizon of a shard that it asked, at
