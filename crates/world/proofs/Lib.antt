@@ -1,5 +1,6 @@
 mod Replayed
 mod WorkedPasts
+mod WorkedFreshness
 pub mod Among
 pub mod Growth
 pub mod Facts

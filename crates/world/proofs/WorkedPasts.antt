@@ -19,7 +19,7 @@ below : (k n : ℕ) → nat_lt k n ≡ true → k < n
 below k n is = grind (arith, nat_tests)
 
 -- the element at a place of a list is in it
-at : {X : Type 0} (xs : List X) (x : X) (k : ℕ) → nat_lt k (length xs) ≡ true → slice_index_or xs k x ≡ x → Contains xs x
+pub at : {X : Type 0} (xs : List X) (x : X) (k : ℕ) → nat_lt k (length xs) ≡ true → slice_index_or xs k x ≡ x → Contains xs x
 at xs x k is_place is = (k, below k (length xs) is_place, is)
 
 -- ## A session's own write

@@ -1,13 +1,16 @@
 //! Laws of runs, and worked runs as laws of the protocol's definitions.
 ghost use Rattle.std.specs.Prelude.{◌≡◌, List, [], ◌∷◌, Some};
 ghost use Rattle.messages.specs.declared.outcome.Outcome.TheVariants as outcome;
+ghost use Rattle.store.specs.declared.part.Applied.{Applied};
+ghost use Rattle.messages.specs.declared.envelope.Envelope.{Envelope};
 ghost use Rattle.messages.specs.Topology.{TopologyValue};
 ghost use Rattle.world.specs.Run.{Event, run};
 ghost use Rattle.world.specs.Histories.{history_of};
+ghost use Rattle.world.specs.Fresh.{IsKept, WasApplied};
 ghost use Rattle.world.specs.Quiet.{IsQuiet};
 ghost use Rattle.world.specs.Met.{horizon};
 ghost use Rattle.world.specs.Before.{Past};
-ghost use Rattle.world.specs.Worked.{operation, outcomes_of, shard_clocks, times_sent, valid_in, commit_times, prepare_times, times_applied, x_at, wrote, column, row, digit, key_a, key_b, key_c, name_c, name_d, name_x, name_y, both_rows, one_shard, two_shards, two_centres, three_at_home, two_by_two};
+ghost use Rattle.world.specs.Worked.{operation, outcomes_of, shard_clocks, times_sent, valid_in, commit_times, prepare_times, times_applied, x_at, wrote, column, row, insert, digit, key_a, key_b, key_c, name_c, name_d, name_x, name_y, both_rows, one_shard, two_shards, two_centres, three_at_home, two_by_two};
 ghost use Rattle.world.specs.Worked.{insert_and_read_back, messages_come_again, deletion_is_read, two_shard_write, read_asks_coordinator, second_round_collected, collected_while_waiting, horizon_at_effective_time, late_repeats, undecided_is_excluded, unseen_column_under_mark, concurrent_inserts_meet, older_stamp_arrives_late, dependency_holds_back, read_before_dependency, dependency_through_a_read, write_is_replicated};
 
 /// The events that a run keeps, which are those that weren't refused, lead to the same run. Does nothing; its contract is
@@ -121,4 +124,11 @@ pub fn worked_pasts()
     ensures first_read { Past three_at_home dependency_through_a_read (operation 4 3) (operation 2 1) }
     ensures second_read { Past three_at_home dependency_through_a_read (operation 4 3) (operation 3 1) }
     ensures quiet { IsQuiet write_is_replicated }
+{}
+
+/// The answer that a session kept of a shard, and that the shard had applied an insertion when it sent this answer, which the
+/// read shows. Does nothing; its contract is the law.
+pub fn worked_freshness()
+    ensures kept { (e : Envelope) × IsKept one_shard insert_and_read_back 1 2 3 e × (e.from ≡ 0) }
+    ensures applied { (x : Applied) × WasApplied one_shard insert_and_read_back 0 3 x × (x.part.batch ≡ insert key_b name_x 1 ∷ []) }
 {}
