@@ -1,3 +1,4 @@
 pub mod Events
 pub mod Right
 pub mod Sound
+pub mod Unfinished

@@ -102,3 +102,7 @@ pub mod EachShard
 pub mod Laws
 pub mod GivenUp
 pub mod FirstRounds
+pub mod Addressed
+pub mod Unhandled
+pub mod AskedHistory
+pub mod Unfinished

@@ -11,3 +11,4 @@ pub mod Promises
 pub mod Settled
 pub mod Each
 pub mod Collected
+pub mod Lookups

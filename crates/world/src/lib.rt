@@ -16,6 +16,6 @@ pub use promises::{
     handled_envelopes_are_honest, histories_only_grow, histories_tell_what_is_decided,
     later_commits_are_above_reads, quiet_means_done, reads_are_fresh,
     reads_are_given_up_below_horizons, reads_show_one_table, reads_show_their_past,
-    stamps_agree_everywhere, stamps_follow_causal_order, times_of_a_session_never_fall,
-    transcript_tells_what_ended,
+    runs_can_be_looked_up, stamps_agree_everywhere, stamps_follow_causal_order,
+    times_of_a_session_never_fall, transcript_tells_what_ended,
 };

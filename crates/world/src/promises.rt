@@ -3,11 +3,12 @@
 ghost use Rattle.std.specs.Prelude.{◌≡◌, ◌<◌, ℕ, true, List};
 ghost use Rattle.column_family.specs.History.{History};
 ghost use Rattle.messages.specs.Topology.{TopologyValue, is_topology};
-ghost use Rattle.world.specs.Run.{Event, run};
+ghost use Rattle.world.specs.Run.{Run, Event, run};
 ghost use Rattle.world.specs.Histories.{IsHistory};
 ghost use Rattle.world.specs.Fresh.{FirstRoundsAreWhole};
 ghost use Rattle.world.specs.Quiet.{IsQuiet};
 ghost use Rattle.world.specs.Settled.{Settled};
+ghost use Rattle.world.specs.Lookups.{FindsUnhandled, HistoriesAreAsked, MessagesAreForActors, ShardsTellUnfinished};
 ghost use Rattle.world.specs.Collected.{CollectedIsBelowHorizon, HorizonsAreOfCollections};
 ghost use Rattle.world.specs.Each.{EachShardIsRight};
 ghost use Rattle.world.specs.Entries.{TellsDecided, AreNamedOnce, CoordinatorsDecide, StampsAgree, WritesAreTold};
@@ -112,6 +113,17 @@ pub fn handled_envelopes_are_honest()
 /// is the law.
 pub fn each_shard_of_a_run_is_right()
     ensures { (top : TopologyValue) (events : List Event) → 0 < top.shards → EachShardIsRight top (run top events) }
+{}
+
+/// In every run each message is for an actor that there is; the first message that was not handled is found, and there is
+/// none exactly in a quiet run; the history of a data centre is what one gets by asking, for each submitted batch, its
+/// coordinator there; and what is unfinished on a shard are the parts that it holds and hasn't applied, in order of
+/// transaction number, each once: nothing where the shard keeps nothing waiting. Does nothing; its contract is the law.
+pub fn runs_can_be_looked_up()
+    ensures messages { (top : TopologyValue) (events : List Event) → is_topology top.dcs top.shards top.homes ≡ true → MessagesAreForActors top (run top events) }
+    ensures unhandled { (w : Run) → FindsUnhandled w }
+    ensures histories { (top : TopologyValue) (events : List Event) → 0 < top.shards → HistoriesAreAsked top (run top events) }
+    ensures unfinished { (top : TopologyValue) (events : List Event) → 0 < top.shards → ShardsTellUnfinished top (run top events) }
 {}
 
 /// Quiet means done: in every run in which each sent message has been handled at least once, every submitted operation has
