@@ -1,5 +1,5 @@
 -- What a shard sends at an event and which reads wait after it, kind by kind; and that no message moves its horizon.
-use Rattle.std.proofs.Common.{◌≡◌, sym, subst, refl, ℕ, inl, inr, Bool, true, false, not, List, [], ◌∷◌, ◌++◌, map, Option, Some, None}
+use Rattle.std.proofs.Common.{◌≡◌, sym, subst, refl, ℕ, ◌⊎◌, inl, inr, Bool, true, false, not, List, [], ◌∷◌, ◌++◌, map, Option, Some, None}
 use Rattle.std.specs.Prelude.{filter, if◌then◌else◌, is_some, nat_le, nat_lt, Contains}
 use Rattle.std.specs.List.{AllByRecursion}
 use Rattle.std.proofs.lemmas.List.Elements.{Contains-push_cases}
@@ -21,24 +21,26 @@ use Rattle.messages.specs.Reads.{part_at, asked_below, check_of, is_waiting, wai
 use Rattle.messages.specs.Commits.{applied_part, commits, stamp_for, announcements, dep_oks, decide, begin_if, prepare_if, with_vote, counted_if, vote_if, early_if, yes_for, repl_parts, apply_part, commit_if, commit_for, check_for}
 use Rattle.messages.specs.Replication.{ballot_of, remote_prepare, is_ready, ready_if, ready, dep_checks, with_ballot, repl_begin_if, with_notice, notice_if, early_notice_if, notify_for, repl_part_if, prepare_remote_for, remember_if, dep_check_for, is_unmet, with_met, met_if, dep_ok_for}
 use Rattle.messages.specs.ShardEvents.{handled}
-use Rattle.shard.proofs.Lists.{each_joined, each_mapped}
+use Rattle.shard.proofs.Lists.{same_txn, found, each_joined, each_mapped}
 
--- what holds of each kind of envelope that answers neither a read nor a check
+-- what holds of each kind of envelope that answers neither a read nor a check, and hands on no commit
 pub record Plain (top : TopologyValue) (me n : ℕ) (P : Envelope → Type 0) : Type 0 where
   pub yes : (shard : ℕ) (t : TxnValue) → P (envelope me (shard_node top (dc_of top me) shard) n (body.Yes t))
   pub commit : (shard : ℕ) (t : TxnValue) (stamp : StampValue) → P (envelope me (shard_node top (dc_of top me) shard) n (body.Commit t n stamp))
   pub done : (t : TxnValue) (stamp : StampValue) → P (envelope me t.session n (body.Done t n stamp))
   pub repl_begin : (dc : ℕ) (t : TxnValue) (rows : List Change) (stamp : StampValue) (cohorts : List ℕ) (dependencies : List WriterValue)
       → P (envelope me (shard_node top dc (shard_of top me)) n (body.ReplBegin t rows stamp cohorts dependencies))
-  pub repl_part : (dc : ℕ) (t : TxnValue) (rows : List Change) (stamp : StampValue) (coordinator : ℕ)
-      → P (envelope me (shard_node top dc (shard_of top me)) n (body.ReplPart t rows stamp coordinator))
   pub notify : (shard : ℕ) (t : TxnValue) → P (envelope me (shard_node top (dc_of top me) shard) n (body.Notify t))
   pub prepare_remote : (shard : ℕ) (t : TxnValue) → P (envelope me (shard_node top (dc_of top me) shard) n (body.PrepareRemote t))
   pub dep_check : (shard : ℕ) (dependency waiter : TxnValue) → P (envelope me (shard_node top (dc_of top me) shard) n (body.DepCheck dependency waiter))
   pub dep_ok : (to : ℕ) (dependency waiter : TxnValue) (commit : ℕ) → P (envelope me to n (body.DepOk dependency waiter commit))
   pub check : (shard : ℕ) (t : TxnValue) (time : ℕ) → P (envelope me (shard_node top (dc_of top me) shard) n (body.Check t time))
 
--- What holds of each envelope that answers this message, of each read that waits, and of each answer to such a read from the
+-- the message tells this decision
+abbrev pub IsTelling : Body → TxnValue → ℕ → StampValue → Type 0
+IsTelling m t commit stamp = (m ≡ body.Commit t commit stamp) ⊎ (m ≡ body.At t commit stamp)
+
+-- What holds of each envelope that answers this message or hands on its stamp, of each read that waits, and of each answer to such a read from the
 -- state after the step.
 pub record Answering (top : TopologyValue) (me n : ℕ) (a : ShardState) (from : ℕ) (m : Body) (P : Envelope → Type 0) (W : WaitingRead → Type 0) : Type 0 where
   pub plain : Plain top me n P
@@ -50,6 +52,8 @@ pub record Answering (top : TopologyValue) (me n : ℕ) (a : ShardState) (from :
   pub now : (number : ℕ) (read : Read) → m ≡ body.Read number read → P (envelope me from n (body.PartNow number (map (row_now n a read) read.keys)))
   pub at : (t : TxnValue) (time commit : ℕ) (stamp : StampValue) → m ≡ body.Check t time → P (envelope me from n (body.At t commit stamp))
   pub not_by : (t : TxnValue) (time : ℕ) → m ≡ body.Check t time → P (envelope me from n (body.NotBy t time))
+  pub repl_part : (dc : ℕ) (t : TxnValue) (rows : List Change) (commit : ℕ) (stamp : StampValue) (coordinator : ℕ) → IsTelling m t commit stamp
+      → P (envelope me (shard_node top dc (shard_of top me)) n (body.ReplPart t rows stamp coordinator))
 
 -- the step leaves the horizon, each envelope that it sends has the one property, each read that waits after it the other
 pub record Gives (before : ℕ) (P : Envelope → Type 0) (W : WaitingRead → Type 0) (st : ShardStep) : Type 0 where
@@ -159,33 +163,41 @@ module _ (top : TopologyValue) (me n : ℕ) (P : Envelope → Type 0) (W : Waiti
 
   -- ## Commit, Check
 
-  copies : (role : Role) (p : PreparedPart) (stamp : StampValue) → AllByRecursion P (repl_parts role top me n p stamp)
-  copies Own p stamp = tt
-  copies Cohort p stamp =
+  -- what the parts of a transaction, handed on with this stamp, have
+  abbrev Copied : TxnValue → StampValue → Type 0
+  Copied t stamp =
+      (dc : ℕ) (rows : List Change) (coordinator : ℕ) → P (envelope me (shard_node top dc (shard_of top me)) n (body.ReplPart t rows stamp coordinator))
+
+  copies : (role : Role) (p : PreparedPart) (stamp : StampValue) → Copied p.txn stamp → AllByRecursion P (repl_parts role top me n p stamp)
+  copies Own p stamp copied = tt
+  copies Cohort p stamp copied =
       each_mapped P (λ d. envelope me (shard_node top d (shard_of top me)) n (body.ReplPart p.txn p.rows stamp p.coordinator)) (other_dcs top me)
-      (λ d has. k.repl_part d p.txn p.rows stamp p.coordinator)
-  copies Replica p stamp = tt
+      (λ d has. copied d p.rows p.coordinator)
+  copies Replica p stamp copied = tt
 
-  apply_gives : (a : ShardState) (p : PreparedPart) (commit : ℕ) (stamp : StampValue) → Old a → (apply_part top me n a p commit stamp).state ≡ last
+  apply_gives : (a : ShardState) (p : PreparedPart) (commit : ℕ) (stamp : StampValue) → Old a → Copied p.txn stamp
+      → (apply_part top me n a p commit stamp).state ≡ last
       → Gives a.low P W (apply_part top me n a p commit stamp)
-  apply_gives a p commit stamp old is =
+  apply_gives a p commit stamp old copied is =
       let_go_gives (record a { applied = a.applied ++ applied_part p.txn p.coordinator p.rows commit stamp ∷ [] }) p.txn (λ x. true)
-      (repl_parts p.role top me n p stamp) old is (copies p.role p stamp)
+      (repl_parts p.role top me n p stamp) old is (copies p.role p stamp copied)
 
-  commit_gives : (role : Role) (applied : Bool) (a : ShardState) (p : PreparedPart) (commit : ℕ) (stamp : StampValue) → Old a
+  commit_gives : (role : Role) (applied : Bool) (a : ShardState) (p : PreparedPart) (commit : ℕ) (stamp : StampValue) → Old a → Copied p.txn stamp
       → (commit_if role applied top me n a p commit stamp).state ≡ last
       → Gives a.low P W (commit_if role applied top me n a p commit stamp)
-  commit_gives Own applied a p commit stamp old is = calm a old
-  commit_gives Cohort true a p commit stamp old is = calm a old
-  commit_gives Cohort false a p commit stamp old is = apply_gives a p commit stamp old is
-  commit_gives Replica true a p commit stamp old is = calm a old
-  commit_gives Replica false a p commit stamp old is = apply_gives a p commit stamp old is
+  commit_gives Own applied a p commit stamp old copied is = calm a old
+  commit_gives Cohort true a p commit stamp old copied is = calm a old
+  commit_gives Cohort false a p commit stamp old copied is = apply_gives a p commit stamp old copied is
+  commit_gives Replica true a p commit stamp old copied is = calm a old
+  commit_gives Replica false a p commit stamp old copied is = apply_gives a p commit stamp old copied is
 
-  committed_gives : (o : Option PreparedPart) (a : ShardState) (commit : ℕ) (stamp : StampValue) → Old a
-      → (commit_for o top me n a commit stamp).state ≡ last
+  committed_gives : (o : Option PreparedPart) (a : ShardState) (t : TxnValue) (commit : ℕ) (stamp : StampValue) → prepared_part t a ≡ o → Old a
+      → Copied t stamp → (commit_for o top me n a commit stamp).state ≡ last
       → Gives a.low P W (commit_for o top me n a commit stamp)
-  committed_gives None a commit stamp old is = calm a old
-  committed_gives (Some p) a commit stamp old is = commit_gives p.role (is_applied p.txn a) a p commit stamp old is
+  committed_gives None a t commit stamp there old copied is = calm a old
+  committed_gives (Some p) a t commit stamp there old copied is =
+      let own : p.txn ≡ t = same_txn p.txn t (found (λ (x : PreparedPart). is_same_txn x.txn t) a.prepared p there).1 in
+      commit_gives p.role (is_applied p.txn a) a p commit stamp old (subst (λ u. Copied u stamp) (sym own) copied) is
 
   check_gives : (o : Option Decision) (a : ShardState) (from : ℕ) (t : TxnValue) (time : ℕ) → Old a
       → ((commit : ℕ) (stamp : StampValue) → P (envelope me from n (body.At t commit stamp))) → P (envelope me from n (body.NotBy t time))
@@ -311,8 +323,10 @@ module _ (top : TopologyValue) (me n : ℕ) (P : Envelope → Type 0) (W : Waiti
       (record { txn = t; rows = rows; cohorts = cohorts; dependencies = dependencies; stamp = None }) c.old is
   by_body a from (body.Prepare t rows coordinator) is c = prepare_gives (is_known t a) a t rows coordinator c.old
   by_body a from (body.Yes t) is c = yes_gives (standing_ballot t a) a t from c.old is
-  by_body a from (body.Commit t commit stamp) is c = committed_gives (prepared_part t a) a commit stamp c.old is
-  by_body a from (body.At t commit stamp) is c = committed_gives (prepared_part t a) a commit stamp c.old is
+  by_body a from (body.Commit t commit stamp) is c =
+      committed_gives (prepared_part t a) a t commit stamp refl c.old (λ dc rows coordinator. c.repl_part dc t rows commit stamp coordinator (inl refl)) is
+  by_body a from (body.At t commit stamp) is c =
+      committed_gives (prepared_part t a) a t commit stamp refl c.old (λ dc rows coordinator. c.repl_part dc t rows commit stamp coordinator (inr refl)) is
   by_body a from (body.NotBy t time) is c = let_go_gives a t (λ x. nat_le x.time time) [] c.old is tt
   by_body a from (body.Check t time) is c =
       check_gives (decision_of t a) a from t time c.old (λ commit stamp. c.at t time commit stamp refl) (c.not_by t time refl)

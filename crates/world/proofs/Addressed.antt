@@ -72,7 +72,6 @@ module _ (top : TopologyValue) (w : Run) (k : Addressed top w) where
                 commit = λ s t stamp. tt;
                 done = λ t stamp. tt;
                 repl_begin = λ dc t rows stamp cohorts dependencies. tt;
-                repl_part = λ dc t rows stamp coordinator. tt;
                 notify = λ s t. tt;
                 prepare_remote = λ s t. tt;
                 dep_check = λ s dependency waiter. tt;
@@ -86,6 +85,7 @@ module _ (top : TopologyValue) (w : Run) (k : Addressed top w) where
           now = λ number read is. reader (ReadNow number read) is;
           at = λ t time commit stamp is. tt;
           not_by = λ t time is. here;
+          repl_part = λ dc t rows commit stamp coordinator told. tt;
         })
 
   step_addressed : (x : Event) → Addressed top (step top w x)

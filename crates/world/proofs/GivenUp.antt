@@ -78,7 +78,6 @@ module _ (top : TopologyValue) (w : Run) (inv : Inv top w) (f : Envelope) (n : �
               commit = λ s t stamp. (refl, tt);
               done = λ t stamp. (refl, tt);
               repl_begin = λ dc t rows stamp cohorts dependencies. (refl, tt);
-              repl_part = λ dc t rows stamp coordinator. (refl, tt);
               notify = λ s t. (refl, tt);
               prepare_remote = λ s t. (refl, tt);
               dep_check = λ s dependency waiter. (refl, tt);
@@ -92,6 +91,7 @@ module _ (top : TopologyValue) (w : Run) (inv : Inv top w) (f : Envelope) (n : �
         now = λ number read is. (refl, tt);
         at = λ t time commit stamp is. (refl, tt);
         not_by = λ t time is. (refl, tt);
+        repl_part = λ dc t rows commit stamp coordinator told. (refl, tt);
       })).sends
       e (among_contains e (handled top f.to n a f.from f.body).sends m)
 

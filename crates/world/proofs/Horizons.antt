@@ -24,7 +24,6 @@ handled_low top me n a from m =
             commit = λ s t stamp. tt;
             done = λ t stamp. tt;
             repl_begin = λ dc t rows stamp cohorts dependencies. tt;
-            repl_part = λ dc t rows stamp coordinator. tt;
             notify = λ s t. tt;
             prepare_remote = λ s t. tt;
             dep_check = λ s dependency waiter. tt;
@@ -38,6 +37,7 @@ handled_low top me n a from m =
       now = λ number read is. tt;
       at = λ t time commit stamp is. tt;
       not_by = λ t time is. tt;
+      repl_part = λ dc t rows commit stamp coordinator told. tt;
     }) in
     given.low
 

@@ -106,3 +106,5 @@ pub mod Addressed
 pub mod Unhandled
 pub mod AskedHistory
 pub mod Unfinished
+pub mod PastsDecided
+pub mod NamedStamps

@@ -12,3 +12,5 @@ pub mod Settled
 pub mod Each
 pub mod Collected
 pub mod Lookups
+pub mod Causes
+pub mod Named

@@ -9,6 +9,8 @@ ghost use Rattle.world.specs.Fresh.{FirstRoundsAreWhole};
 ghost use Rattle.world.specs.Quiet.{IsQuiet};
 ghost use Rattle.world.specs.Settled.{Settled};
 ghost use Rattle.world.specs.Lookups.{FindsUnhandled, HistoriesAreAsked, MessagesAreForActors, ShardsTellUnfinished};
+ghost use Rattle.world.specs.Named.{StampsAreNamed};
+ghost use Rattle.world.specs.Causes.{PastsAreDecided};
 ghost use Rattle.world.specs.Collected.{CollectedIsBelowHorizon, HorizonsAreOfCollections};
 ghost use Rattle.world.specs.Each.{EachShardIsRight};
 ghost use Rattle.world.specs.Entries.{TellsDecided, AreNamedOnce, CoordinatorsDecide, StampsAgree, WritesAreTold};
@@ -67,16 +69,20 @@ pub fn later_commits_are_above_reads()
 {}
 
 /// In every run a transaction has one stamp in all data centres, and no other has it; where it was submitted, its time is
-/// the commit time and its node the coordinator. Does nothing; its contract is the law.
-#[tactic(auto, using(crate::proofs::Laws::stamps_in_runs))]
+/// the commit time and its node the coordinator; and each stamp that a message names, of a decision that it tells or of a part
+/// that it replicates, is that of a decision. Does nothing; its contract is the law.
+#[tactic(auto, using(crate::proofs::Laws::stamps_in_runs, crate::proofs::NamedStamps::stamps_are_named))]
 pub fn stamps_agree_everywhere()
-    ensures { (top : TopologyValue) (events : List Event) → 0 < top.shards → StampsAgree top (run top events) }
+    ensures decisions { (top : TopologyValue) (events : List Event) → 0 < top.shards → StampsAgree top (run top events) }
+    ensures messages { (top : TopologyValue) (events : List Event) → 0 < top.shards → StampsAreNamed (run top events) }
 {}
 
-/// In every run the stamp of a write is less than the stamp of each write that it is before. Does nothing; its contract is
-/// the law.
+/// In every run the stamp of a write is less than the stamp of each write that it is before; and in whatever data centre a
+/// write is decided, each write before it is decided there as well, with a smaller commit time and a smaller stamp. Does
+/// nothing; its contract is the law.
 pub fn stamps_follow_causal_order()
-    ensures { (top : TopologyValue) (events : List Event) → 0 < top.shards → StampsFollowCauses top (run top events) }
+    ensures stamps { (top : TopologyValue) (events : List Event) → 0 < top.shards → StampsFollowCauses top (run top events) }
+    ensures there { (top : TopologyValue) (events : List Event) → 0 < top.shards → PastsAreDecided top (run top events) }
 {}
 
 /// In every run each completed write stands in the history of its session's home, with the commit time and the stamp that
