@@ -5,6 +5,7 @@ pub mod Before
 pub mod Met
 pub mod Fresh
 pub mod Worked
+pub mod WorkedTimes
 pub mod Committed
 pub mod Entries
 pub mod Promises

@@ -9,7 +9,8 @@ mod promises;
 
 pub use law::{
     refused_events_are_left_out, worked_collections, worked_dependencies, worked_freshness,
-    worked_inserts_that_meet, worked_pasts, worked_reads, worked_replication, worked_writes,
+    worked_inserts_that_meet, worked_pasts, worked_reads, worked_replication, worked_times,
+    worked_writes,
 };
 pub use promises::{
     completed_writes_are_in_the_history, each_shard_of_a_run_is_right,
