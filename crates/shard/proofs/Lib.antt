@@ -9,6 +9,7 @@ pub mod ReadSteps
 mod Refuted
 pub mod Remotes
 pub mod Run
+pub mod Sending
 pub mod Shown
 pub mod Untouched
 pub mod Updates

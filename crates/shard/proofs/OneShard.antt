@@ -43,6 +43,7 @@ shard_is_right top me events honest =
     let ran = continued_ran events fresh_shard honest (within_itself w.state) (λ e has. has) (fresh_ran top me w.state es) in
     let sound = each_contained (λ (e : Envelope). BodySound es w.state e.to e.body) w.sent ran.sends in
     record {
+      apart = ran.holds.stamped_apart;
       applied = ran.holds.decided_so;
       now = λ e number rows has is. (
           let s = subst (BodySound es w.state e.to) is (sound e has) in

@@ -3,3 +3,4 @@ pub mod Right
 pub mod Sound
 pub mod Worked
 pub mod Lookalikes
+pub mod Unfinished

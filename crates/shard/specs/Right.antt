@@ -4,6 +4,7 @@ use Rattle.slice.specs.declared.read.Read.{Read}
 use Rattle.store.specs.declared.part.Applied.{Applied}
 use Rattle.store.specs.declared.part.Part.{Part}
 use Rattle.store.specs.Part.{IsRightPart}
+use Rattle.store.specs.Keeps.{AreApart}
 use Rattle.messages.specs.declared.rows_now.RowNow.{RowNow}
 use Rattle.messages.specs.declared.rows_at.RowAt.{RowAt}
 use Rattle.messages.specs.declared.rows_at.AtTime.TheVariants as at
@@ -61,8 +62,9 @@ IsAppliedAsDecided a envelopes x =
 
 -- The shard is right: of all that it sent, each answer of a first round is right at each time for which it says so, each
 -- answer at a time is right at that time, both against all that it ever applied; a read is given up only below the
--- horizon; and parts are applied as they were decided.
+-- horizon; and parts are applied as they were decided, in normal form, no two with one stamp.
 pub record IsRightShard (w : ShardRun) : Type 0 where
+  pub apart : AreApart w.state.applied
   pub applied : (x : Applied) → Contains w.state.applied x → IsAppliedAsDecided w.state (envelopes_handled w) x
   pub now : (e : Envelope) (number : ℕ) (rows : List RowNow) → Contains w.sent e → e.body ≡ body.PartNow number rows
       → AnswersNow w.state.applied (envelopes_handled w) e number rows

@@ -68,7 +68,7 @@ module _ (top : TopologyValue) (w : Run) (some : 0 < top.shards) (inv : Inv top 
       dc_shard top node some (subst (λ d. d < top.dcs) (sym o.here) (live.submitted o.submission o.batch o.written.among o.written.op).home)
 
   -- only shards have prepared or decided something
-  known_shard : (node : ℕ) (t : TxnValue) → Known (w.shards node) t → is_shard top node ≡ true
+  pub known_shard : (node : ℕ) (t : TxnValue) → Known (w.shards node) t → is_shard top node ≡ true
   known_shard node t k = go (is_shard top node) refl
     where
       none : Known new_shard t → ⊥

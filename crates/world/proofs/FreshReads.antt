@@ -81,7 +81,7 @@ pub record IsOf (top : TopologyValue) (w : Run) (c : Completed) (a : SessionStat
   pub op : c.op ≡ op.Read read
   pub home : c.home ≡ a.home
 
-open_of : (top : TopologyValue) (u w : Run) (c : Completed) (a : SessionState) (read : Read) → Inv top w → Grows top u w → Among c w.transcript
+pub open_of : (top : TopologyValue) (u w : Run) (c : Completed) (a : SessionState) (read : Read) → Inv top w → Grows top u w → Among c w.transcript
     → a.count ≡ c.number
     → IsOpen u c.node a.count a.home (op.Read read) → IsOf top w c a read
 open_of top u w c a read inv g m count is =

@@ -143,7 +143,7 @@ heard_step top w x session number h k =
       collected = λ node time n is. record { heard = k.heard; ended = k.ended };
     })
 
-heard_later : (top : TopologyValue) (w : Run) (xs : List Event) (session number : ℕ) (h : HeardNow) → RunHeard w session number h
+pub heard_later : (top : TopologyValue) (w : Run) (xs : List Event) (session number : ℕ) (h : HeardNow) → RunHeard w session number h
     → RunHeard (continued top w xs) session number h
 heard_later top w [] session number h k = k
 heard_later top w (x ∷ xs) session number h k = heard_later top (step top w x) xs session number h (heard_step top w x session number h k)
@@ -165,7 +165,7 @@ not_open top w node o only e busy is = by (is_session top node) refl
     by false to = false≢true (sym busy ∙ ap is_idle (sym e ∙ only node to))
 
 -- the session kept the message at this delivery
-kept_at : (top : TopologyValue) (w : Run) (session number k : ℕ) (e : Envelope) (kept : IsKept top w session number k e)
+pub kept_at : (top : TopologyValue) (w : Run) (session number k : ℕ) (e : Envelope) (kept : IsKept top w session number k e)
     → OnlySessions top (run top kept.before)
     → ((c : Completed) → Among c (run top kept.before).transcript → is_idle ((run top kept.before).sessions c.node).current ≡ false
     → c.number < ((run top kept.before).sessions c.node).count)

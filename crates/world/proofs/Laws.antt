@@ -53,16 +53,16 @@ reads_show_one_table top events some c read time answer h is history =
 -- ## Causal order
 
 module _ (top : TopologyValue) (some : 0 < top.shards) (w : Run) (inv : Inv top w) where
-  rests : (dc time : ℕ) (read : Read) (rows : List RowAt) → AnsweredFrom top w dc read time rows → (u : TxnValue) → ReadRestsOn top w dc read time u → (k : WriterValue) × Among k (writers_in rows) × (k.txn ≡ u)
+  pub rests : (dc time : ℕ) (read : Read) (rows : List RowAt) → AnsweredFrom top w dc read time rows → (u : TxnValue) → ReadRestsOn top w dc read time u → (k : WriterValue) × Among k (writers_in rows) × (k.txn ≡ u)
   rests dc time read rows from u r =
       let k = rests_on_written top w inv some dc time read rows from u r in
       (k.0, contains_among k.0 (writers_in rows) k.1, k.2)
 
-  committed : (dc time : ℕ) (read : Read) (rows : List RowAt) → AnsweredFrom top w dc read time rows → (k : WriterValue) → Among k (writers_in rows) → IsDone top w dc k.txn (time + 1)
+  pub committed : (dc time : ℕ) (read : Read) (rows : List RowAt) → AnsweredFrom top w dc read time rows → (k : WriterValue) → Among k (writers_in rows) → IsDone top w dc k.txn (time + 1)
   committed dc time read rows from k m =
       writers_done top w some inv dc time time read rows [] from (le_refl time) (λ k m. absurd m) k (new_writers rows [] k m)
 
-  done_here : (dc time : ℕ) (u : TxnValue) (d : IsDone top w dc u time) → Contains (decisions_in top w dc) d.decision
+  pub done_here : (dc time : ℕ) (u : TxnValue) (d : IsDone top w dc u time) → Contains (decisions_in top w dc) d.decision
   done_here dc time u d =
       let at : Among d.decision (w.shards (shard_node top dc (shard_of top d.node))).decided =
       subst (λ z. Among d.decision (w.shards (shard_node top z (shard_of top d.node))).decided) d.here
@@ -154,7 +154,7 @@ named_in_runs top events some = named_apart (run top events).submitted (every_ca
 pub coordinators_in_runs : (top : TopologyValue) (events : List Event) → 0 < top.shards → CoordinatorsDecide top (run top events)
 coordinators_in_runs top events some = coordinators_decide top (run top events) (every_run top events some)
 
-prefix_grows : (top : TopologyValue) (before after : List Event) → 0 < top.shards → Grows top (run top before) (run top (before ++ after))
+pub prefix_grows : (top : TopologyValue) (before after : List Event) → 0 < top.shards → Grows top (run top before) (run top (before ++ after))
 prefix_grows top before after some =
     subst (λ z. Grows top (run top before) z) (sym (run_after top (opening top) before after)) (run_grows top (run top before) after some (every_run top before some))
 

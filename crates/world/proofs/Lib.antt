@@ -7,6 +7,7 @@ mod RefutedFreshness
 mod RefutedHistories
 mod RefutedOutcomes
 mod RefutedShards
+mod WorkedFreshness
 pub mod Among
 pub mod Growth
 pub mod Facts
@@ -84,6 +85,11 @@ pub mod HeardRuns
 pub mod NowSent
 pub mod NowSentRuns
 pub mod FreshReads
+pub mod HeardCases
+pub mod SessionSends
+pub mod Horizons
+pub mod Sendings
+pub mod Completions
 pub mod Settling
 pub mod SettledAway
 pub mod SettledShards
@@ -101,3 +107,11 @@ pub mod LiveEvents
 pub mod LaterCommits
 pub mod EachShard
 pub mod Laws
+pub mod GivenUp
+pub mod FirstRounds
+pub mod Addressed
+pub mod Unhandled
+pub mod AskedHistory
+pub mod Unfinished
+pub mod PastsDecided
+pub mod NamedStamps

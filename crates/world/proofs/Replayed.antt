@@ -53,7 +53,7 @@ pub continued_push : (top : TopologyValue) (w : Run) (xs : List Event) (x : Even
 continued_push top w [] x = refl
 continued_push top w (y ∷ ys) x = continued_push top (step top w y) ys x
 
-step_replayed : (top : TopologyValue) (w : Run) (x : Event) → run top w.events ≡ w → run top (step top w x).events ≡ step top w x
+pub step_replayed : (top : TopologyValue) (w : Run) (x : Event) → run top w.events ≡ w → run top (step top w x).events ≡ step top w x
 step_replayed top w x replayed = by (happens top w x)
   where
     by : Happens w x (step top w x) → run top (step top w x).events ≡ step top w x

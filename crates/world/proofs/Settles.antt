@@ -1,11 +1,10 @@
 -- A quiet run is settled.
-use Rattle.std.proofs.Common.{◌≡◌, ℕ, ◌<◌, List, ◌⊎◌, inl, inr, refl, sym, ap, ◌∙◌, subst, arith}
-use Rattle.std.specs.Prelude.{false, Contains}
+use Rattle.std.proofs.Common.{◌≡◌, ℕ, ◌<◌, List, Some, ◌⊎◌, inl, inr, refl, sym, ap, ◌∙◌, subst, arith}
+use Rattle.std.specs.Prelude.{false}
 use Rattle.std.proofs.lemmas.Bool.{false≢true}
 use Rattle.logical_time.specs.Stamps.{TxnValue}
 use Rattle.std.proofs.lemmas.List.Sorted.{Contains-permutation, IsPermutation-sym}
 use Rattle.column_family.specs.declared.batch.Change.{Change}
-use Rattle.column_family.specs.declared.batch.Committed.{Committed}
 use Rattle.column_family.specs.History.{History}
 use Rattle.planner.specs.Plan.{coordinator_of}
 use Rattle.messages.specs.Topology.{TopologyValue}
@@ -13,12 +12,14 @@ use Rattle.messages.specs.Session.{Open, Idle, Writing, FirstRound, SecondRound,
 use Rattle.world.specs.Run.{Run, Submission, Completed}
 use Rattle.world.specs.Histories.{decisions_in, history_of, IsHistory}
 use Rattle.world.specs.Quiet.{IsQuiet}
-use Rattle.world.specs.Settled.{IsOutcomeOf, IsCommittedIn, Settled}
+use Rattle.world.specs.Settled.{IsOutcomeOf, IsCommittedIn, HasEntry, Settled}
 use Rattle.world.proofs.Among.{Among, among_contains, contains_among}
 use Rattle.world.proofs.Facts.{txn_of, IsWritten, lead}
 use Rattle.world.proofs.Invariant.{OpenSound, Inv}
 use Rattle.world.proofs.Causal.{txn_ended, Causal}
-use Rattle.world.proofs.DecidedIn.{decided_in, in_decisions, entry, entry_among}
+use Rattle.world.proofs.DecidedIn.{decided_in, in_decisions}
+use Rattle.world.proofs.Entries.{batch_found}
+use Rattle.world.proofs.Histories.{entry_there}
 use Rattle.world.proofs.StampsApart.{written_at, submitted_one, batch_one}
 use Rattle.world.proofs.Near.{coordinator_below, lead_dc}
 use Rattle.world.proofs.About.{OfRead, OfReadAt, OfPartNow, OfPartAt, OfDone}
@@ -40,20 +41,24 @@ module _ (top : TopologyValue) (w : Run) (some : 0 < top.shards) (inv : Inv top 
         d.2,
       )
 
-  -- it stands in the history
-  stands_in : (t : TxnValue) (b : Submission) (batch : List Change) → IsWritten w t b batch → (dc : ℕ) → dc < top.dcs
-      → (h : History) → IsHistory top w dc h → (c : Committed) × Contains h c × (c.batch ≡ batch)
-  stands_in t b batch k dc lt h is =
-      let d = committed_in t b batch k dc lt in
-      let m = contains_among d.0 (decisions_in top w dc) d.1 in
-      let to = decided_in top w inv dc d.0 m in
-      let c = entry d.0 to.sound.batch in
-      let has = among_contains c (history_of top w dc) (entry_among top w inv dc d.0 m to) in (
-        c,
-        Contains-permutation (history_of top w dc) h c (IsPermutation-sym h (history_of top w dc) is) has,
-        batch_one inv.submitted
-            (written_at d.2 to.sound.written) k,
-      )
+  -- it has its own entry in the history
+  stands_in : (b : Submission) (batch : List Change) → IsWritten w (txn_of b) b batch → (dc : ℕ) → dc < top.dcs
+      → (h : History) → IsHistory top w dc h → HasEntry top w dc h b batch
+  stands_in b batch k dc lt h is =
+      let d = committed_in (txn_of b) b batch k dc lt in
+      let e = entry_there top w dc d.0 inv d.1 in
+      let s = (decided_in top w inv dc d.0 (contains_among d.0 (decisions_in top w dc) d.1)).sound in
+      let found : Some s.batch ≡ Some e.0.batch = sym (batch_found top w d.0.txn s.submission s.batch inv.submitted s.written) ∙ e.2.batch in
+      let same : s.batch ≡ e.0.batch = cc in
+      record {
+        decision = d.0;
+        decided = d.1;
+        txn = d.2;
+        entry = e.0;
+        listed = Contains-permutation (history_of top w dc) h e.0 (IsPermutation-sym h (history_of top w dc) is) e.1;
+        is = e.2;
+        submitted = sym same ∙ batch_one inv.submitted (written_at d.2 s.written) k;
+      }
 
   -- the session was told
   write_ended : (t : TxnValue) (b : Submission) (batch : List Change) → IsWritten w t b batch → HasEnded w t
@@ -131,7 +136,7 @@ module _ (top : TopologyValue) (w : Run) (some : 0 < top.shards) (inv : Inv top 
         idle = idle;
         committed = λ b batch dc c e lt. committed_in (txn_of b) b batch (record { among = contains_among b w.submitted c; txn = refl; op = e }) dc lt;
         histories = λ b batch dc h c e lt is.
-            stands_in (txn_of b) b batch (record { among = contains_among b w.submitted c; txn = refl; op = e }) dc lt h is;
+            stands_in b batch (record { among = contains_among b w.submitted c; txn = refl; op = e }) dc lt h is;
         shards = shard_clear top w some inv live quiet;
         tables = λ dc other lt below. equal_tables top w inv dc other (λ t b batch k. (committed_in t b batch k dc lt, committed_in t b batch k other below));
       }

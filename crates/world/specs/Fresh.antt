@@ -5,8 +5,10 @@ use Rattle.logical_time.specs.Stamps.{is_older}
 use Rattle.column_family.specs.Location.{Location, touches}
 use Rattle.column_family.specs.History.{Stamped, newest_at}
 use Rattle.slice.specs.declared.read.Read.{Read}
+use Rattle.slice.specs.declared.read.AnsweredRow.{AnsweredRow}
 use Rattle.slice.specs.Slice.{is_asked}
 use Rattle.store.specs.declared.part.Applied.{Applied}
+use Rattle.planner.specs.Plan.{shards_asked}
 use Rattle.table.specs.Meaning.{row_of}
 use Rattle.messages.specs.declared.rows_now.RowNow.{RowNow}
 use Rattle.messages.specs.declared.body.Body.TheVariants as body
@@ -15,7 +17,7 @@ use Rattle.messages.specs.declared.op.Op.{Op}
 use Rattle.messages.specs.declared.op.Op.TheVariants as op
 use Rattle.messages.specs.declared.outcome.Outcome.{Outcome}
 use Rattle.messages.specs.declared.outcome.Outcome.TheVariants as outcome
-use Rattle.messages.specs.Topology.{TopologyValue}
+use Rattle.messages.specs.Topology.{TopologyValue, shard_node}
 use Rattle.messages.specs.Session.{HeardNow, FirstRound}
 use Rattle.messages.specs.Rounds.{asked_nodes, is_missing}
 use Rattle.world.specs.Run.{Run, Event, Deliver, Completed, step, run}
@@ -71,3 +73,21 @@ IsFreshFor o end top w c = Unit {0}
 
 abbrev pub IsFresh : TopologyValue → Run → Completed → Type 0
 IsFresh top w c = IsFreshFor c.op c.outcome top w c
+
+-- ## The answers of the first round
+
+-- The session kept an answer of this shard to the first round of the operation that it numbered so; and but for this
+-- delivery of this message it kept none.
+pub record HasOneKept (top : TopologyValue) (w : Run) (session number shard : ℕ) : Type 0 where
+  pub k : ℕ
+  pub e : Envelope
+  pub kept : IsKept top w session number k e
+  pub from : e.from ≡ shard
+  pub one : (j : ℕ) (f : Envelope) (other : IsKept top w session number j f) → f.from ≡ shard → (j ≡ k) × (other.before ≡ kept.before)
+
+-- of each shard that a completed read asked, its session kept one answer of the first round
+abbrev pub FirstRoundsAreWhole : TopologyValue → Run → Type 0
+FirstRoundsAreWhole top w =
+    (c : Completed) (read : Read) (time : ℕ) (answer : List AnsweredRow) (shard : ℕ)
+    → Contains w.transcript c → c.op ≡ op.Read read → c.outcome ≡ outcome.Read time answer → Contains (shards_asked top.shards read.keys) shard
+    → HasOneKept top w c.node c.number (shard_node top c.home shard)

@@ -5,9 +5,14 @@ pub mod Before
 pub mod Met
 pub mod Fresh
 pub mod Worked
+pub mod WorkedTimes
 pub mod Committed
 pub mod Entries
 pub mod Promises
 pub mod Settled
 pub mod Each
 pub mod Lookalikes
+pub mod Collected
+pub mod Lookups
+pub mod Causes
+pub mod Named

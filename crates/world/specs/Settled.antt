@@ -15,6 +15,7 @@ use Rattle.messages.specs.Session.{Idle}
 use Rattle.messages.specs.Known.{decision_of, is_applied}
 use Rattle.world.specs.Run.{Run, Submission, Completed}
 use Rattle.world.specs.Histories.{decisions_in, IsHistory}
+use Rattle.world.specs.Entries.{named_by, IsEntryOf}
 
 -- this is what came of the submitted operation: of its session and number, as it was submitted
 pub record IsOutcomeOf (w : Run) (s : Submission) (c : Completed) : Type 0 where
@@ -27,6 +28,17 @@ pub record IsOutcomeOf (w : Run) (s : Submission) (c : Completed) : Type 0 where
 -- the transaction is committed in the data centre: its coordinator there has decided it
 abbrev pub IsCommittedIn : TopologyValue → Run → ℕ → TxnValue → Type 0
 IsCommittedIn top w dc t = (d : Decision) × Contains (decisions_in top w dc) d × (d.txn ≡ t)
+
+-- The history has the submitted batch's own entry: it is of the decision of this operation there, so that of two equal batches
+-- each has its own.
+pub record HasEntry (top : TopologyValue) (w : Run) (dc : ℕ) (h : History) (s : Submission) (batch : List Change) : Type 0 where
+  pub decision : Decision
+  pub decided : Contains (decisions_in top w dc) decision
+  pub txn : decision.txn ≡ named_by s
+  pub entry : Committed
+  pub listed : Contains h entry
+  pub is : IsEntryOf w decision entry
+  pub submitted : entry.batch ≡ batch
 
 -- the shard answered a DepCheck that it had to remember
 pub record WasAnswered (w : Run) (node : ℕ) (k : Asker) : Type 0 where
@@ -74,9 +86,9 @@ pub record Settled (top : TopologyValue) (w : Run) : Type 0 where
   -- every submitted batch is committed in every data centre
   pub committed : (s : Submission) (batch : List Change) (dc : ℕ) → Contains w.submitted s → s.op ≡ op.Batch batch → dc < top.dcs
       → IsCommittedIn top w dc (record { session = s.session; number = s.number })
-  -- and stands in every history of each, as it was submitted
+  -- and has its own entry in every history of each, as it was submitted
   pub histories : (s : Submission) (batch : List Change) (dc : ℕ) (h : History)
-      → Contains w.submitted s → s.op ≡ op.Batch batch → dc < top.dcs → IsHistory top w dc h → (c : Committed) × Contains h c × (c.batch ≡ batch)
+      → Contains w.submitted s → s.op ≡ op.Batch batch → dc < top.dcs → IsHistory top w dc h → HasEntry top w dc h s batch
   -- nothing waits on any shard
   pub shards : (node : ℕ) → IsClear w node (w.shards node)
   -- all data centres have one table

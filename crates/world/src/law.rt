@@ -1,14 +1,18 @@
 //! Laws of runs, and worked runs as laws of the protocol's definitions.
 ghost use Rattle.std.specs.Prelude.{◌≡◌, List, [], ◌∷◌, Some};
 ghost use Rattle.messages.specs.declared.outcome.Outcome.TheVariants as outcome;
+ghost use Rattle.store.specs.declared.part.Applied.{Applied};
+ghost use Rattle.messages.specs.declared.envelope.Envelope.{Envelope};
 ghost use Rattle.messages.specs.Topology.{TopologyValue};
 ghost use Rattle.world.specs.Run.{Event, run};
 ghost use Rattle.world.specs.Histories.{history_of};
+ghost use Rattle.world.specs.Fresh.{IsKept, WasApplied};
 ghost use Rattle.world.specs.Quiet.{IsQuiet};
 ghost use Rattle.world.specs.Met.{horizon};
 ghost use Rattle.world.specs.Before.{Past};
-ghost use Rattle.world.specs.Worked.{operation, outcomes_of, shard_clocks, times_sent, valid_in, commit_times, prepare_times, times_applied, x_at, wrote, column, row, digit, key_a, key_b, key_c, name_c, name_d, name_x, name_y, both_rows, one_shard, two_shards, two_centres, three_at_home, two_by_two};
+ghost use Rattle.world.specs.Worked.{operation, outcomes_of, shard_clocks, times_sent, valid_in, commit_times, prepare_times, times_applied, x_at, wrote, column, row, insert, digit, key_a, key_b, key_c, name_c, name_d, name_x, name_y, both_rows, one_shard, two_shards, two_centres, three_at_home, two_by_two};
 ghost use Rattle.world.specs.Worked.{insert_and_read_back, messages_come_again, deletion_is_read, two_shard_write, read_asks_coordinator, second_round_collected, collected_while_waiting, horizon_at_effective_time, late_repeats, undecided_is_excluded, unseen_column_under_mark, concurrent_inserts_meet, older_stamp_arrives_late, dependency_holds_back, read_before_dependency, dependency_through_a_read, write_is_replicated};
+ghost use Rattle.world.specs.WorkedTimes.{two_shards_of_three, both_wait, one_is_let_go, reads_wait_at_two_times, times_waited, read_after_a_read, row_without_deletion, row_with_newer_deletion, row_with_older_deletion};
 
 /// The events that a run keeps, which are those that weren't refused, lead to the same run. Does nothing; its contract is
 /// the law.
@@ -121,4 +125,36 @@ pub fn worked_pasts()
     ensures first_read { Past three_at_home dependency_through_a_read (operation 4 3) (operation 2 1) }
     ensures second_read { Past three_at_home dependency_through_a_read (operation 4 3) (operation 3 1) }
     ensures quiet { IsQuiet write_is_replicated }
+{}
+
+/// The answer that a session kept of a shard, and that the shard had applied an insertion when it sent this answer, which the
+/// read shows. Does nothing; its contract is the law.
+pub fn worked_freshness()
+    ensures kept { (e : Envelope) × IsKept one_shard insert_and_read_back 1 2 3 e × (e.from ≡ 0) }
+    ensures applied { (x : Applied) × WasApplied one_shard insert_and_read_back 0 3 x × (x.part.batch ≡ insert key_b name_x 1 ∷ []) }
+{}
+
+/// Two reads wait for one batch at different times: where it is excluded at the time of the one, that one is let go, and the
+/// other shows it once it is committed. After a read a session's floor is the read's time, and its next read isn't below it.
+/// The earliest valid time of a row is that of its newest deletion or of the asked columns, whichever is later, also where
+/// the deletion is older than a column or no asked column was ever there. Does nothing; its contract is the law.
+pub fn worked_times()
+    ensures both { times_waited (run two_shards_of_three both_wait) 1 ≡ 3 ∷ 10 ∷ [] }
+    ensures one { times_waited (run two_shards_of_three one_is_let_go) 1 ≡ 10 ∷ [] }
+    ensures excluded { outcomes_of reads_wait_at_two_times 3 ≡ wrote 3 0 ∷ outcome.Read 3 (row key_a [] ∷ []) ∷ [] }
+    ensures shown { outcomes_of reads_wait_at_two_times 4 ≡ wrote 10 1 ∷ outcome.Read 10 (row key_a (column name_x 2 ∷ []) ∷ []) ∷ [] }
+    ensures times { times_sent reads_wait_at_two_times ≡ 1 ∷ 1 ∷ 2 ∷ 1 ∷ 3 ∷ 5 ∷ 6 ∷ 7 ∷ 8 ∷ 1 ∷ 10 ∷ 12 ∷ 13 ∷ 14 ∷ 15 ∷ 9 ∷ 16 ∷ 10 ∷ 10 ∷ 17 ∷ [] }
+    ensures commits { commit_times two_shards_of_three reads_wait_at_two_times 0 ≡ 3 ∷ 10 ∷ 10 ∷ [] }
+    ensures floor { (read_asks_coordinator.sessions 3).floor ≡ 3 }
+    ensures next_read { outcomes_of read_after_a_read 3 ≡ outcome.Read 3 both_rows ∷ outcome.Read 3 (row key_c [] ∷ []) ∷ [] }
+    ensures next_valid { valid_in read_after_a_read 14 ≡ 0 ∷ 12 ∷ [] }
+    ensures no_deletion { outcomes_of row_without_deletion 2 ≡ outcome.Read 2 (row key_b (column name_x 1 ∷ []) ∷ []) ∷ [] }
+    ensures no_deletion_valid { valid_in row_without_deletion 3 ≡ 2 ∷ 3 ∷ [] }
+    ensures no_column { valid_in row_without_deletion 5 ≡ 0 ∷ 4 ∷ [] }
+    ensures newer_deletion { outcomes_of row_with_newer_deletion 2 ≡ outcome.Read 5 (row key_b [] ∷ []) ∷ [] }
+    ensures newer_deletion_valid { valid_in row_with_newer_deletion 5 ≡ 5 ∷ 6 ∷ [] }
+    ensures newer_deletion_alone { valid_in row_with_newer_deletion 7 ≡ 5 ∷ 7 ∷ [] }
+    ensures older_deletion { outcomes_of row_with_older_deletion 2 ≡ outcome.Read 5 (row key_b (column name_x 1 ∷ []) ∷ []) ∷ [] }
+    ensures older_deletion_valid { valid_in row_with_older_deletion 5 ≡ 5 ∷ 6 ∷ [] }
+    ensures older_deletion_alone { valid_in row_with_older_deletion 7 ≡ 2 ∷ 7 ∷ [] }
 {}

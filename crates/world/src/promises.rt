@@ -3,10 +3,15 @@
 ghost use Rattle.std.specs.Prelude.{◌≡◌, ◌<◌, ℕ, true, List};
 ghost use Rattle.column_family.specs.History.{History};
 ghost use Rattle.messages.specs.Topology.{TopologyValue, is_topology};
-ghost use Rattle.world.specs.Run.{Event, run};
+ghost use Rattle.world.specs.Run.{Run, Event, run};
 ghost use Rattle.world.specs.Histories.{IsHistory};
+ghost use Rattle.world.specs.Fresh.{FirstRoundsAreWhole};
 ghost use Rattle.world.specs.Quiet.{IsQuiet};
 ghost use Rattle.world.specs.Settled.{Settled};
+ghost use Rattle.world.specs.Lookups.{FindsUnhandled, HistoriesAreAsked, MessagesAreForActors, ShardsTellUnfinished};
+ghost use Rattle.world.specs.Named.{StampsAreNamed};
+ghost use Rattle.world.specs.Causes.{PastsAreDecided};
+ghost use Rattle.world.specs.Collected.{CollectedIsBelowHorizon, HorizonsAreOfCollections};
 ghost use Rattle.world.specs.Each.{EachShardIsRight};
 ghost use Rattle.world.specs.Entries.{TellsDecided, AreNamedOnce, CoordinatorsDecide, StampsAgree, WritesAreTold};
 ghost use Rattle.world.specs.Promises.{EntriesAreOfSubmissions, LaterCommitsAreAbove, OutcomesAreListed, ReadsShowOneTable, ReadsShowTheirPast, ReadsAreFresh, StampsFollowCauses, TimesNeverFall, OperationsEndOnce, HistoriesGrow, HandledIsHonest};
@@ -26,10 +31,21 @@ pub fn reads_show_their_past()
 {}
 
 /// In every run each completed read shows, at each asked location, nothing older than what the asked shard had applied
-/// there before it sent the answer that the session kept. Does nothing; its contract is the law.
-#[tactic(auto, using(crate::proofs::Laws::reads_are_fresh))]
+/// there before it sent the answer that the session kept; and of each shard that the read asked, its session kept one answer
+/// of the first round, and no other. Does nothing; its contract is the law.
+#[tactic(auto, using(crate::proofs::Laws::reads_are_fresh, crate::proofs::FirstRounds::first_rounds_are_whole))]
 pub fn reads_are_fresh()
-    ensures { (top : TopologyValue) (events : List Event) → 0 < top.shards → ReadsAreFresh top (run top events) }
+    ensures fresh { (top : TopologyValue) (events : List Event) → 0 < top.shards → ReadsAreFresh top (run top events) }
+    ensures kept { (top : TopologyValue) (events : List Event) → 0 < top.shards → FirstRoundsAreWhole top (run top events) }
+{}
+
+/// In every run a read ends with Collected only where its effective time lay below the horizon of a shard that it asked, at
+/// the moment that this shard said so; and the horizon of a shard is the greatest time of its collections so far. Does
+/// nothing; its contract is the law.
+#[tactic(auto, using(crate::proofs::GivenUp::collected_in_runs, crate::proofs::Horizons::horizons_are_of_collections))]
+pub fn reads_are_given_up_below_horizons()
+    ensures collected { (top : TopologyValue) (events : List Event) → 0 < top.shards → CollectedIsBelowHorizon top (run top events) }
+    ensures horizons { (top : TopologyValue) (events : List Event) → HorizonsAreOfCollections (run top events) }
 {}
 
 /// In every run the history of a data centre has one entry for each transaction that was decided there, with its batch as
@@ -53,16 +69,20 @@ pub fn later_commits_are_above_reads()
 {}
 
 /// In every run a transaction has one stamp in all data centres, and no other has it; where it was submitted, its time is
-/// the commit time and its node the coordinator. Does nothing; its contract is the law.
-#[tactic(auto, using(crate::proofs::Laws::stamps_in_runs))]
+/// the commit time and its node the coordinator; and each stamp that a message names, of a decision that it tells or of a part
+/// that it replicates, is that of a decision. Does nothing; its contract is the law.
+#[tactic(auto, using(crate::proofs::Laws::stamps_in_runs, crate::proofs::NamedStamps::stamps_are_named))]
 pub fn stamps_agree_everywhere()
-    ensures { (top : TopologyValue) (events : List Event) → 0 < top.shards → StampsAgree top (run top events) }
+    ensures decisions { (top : TopologyValue) (events : List Event) → 0 < top.shards → StampsAgree top (run top events) }
+    ensures messages { (top : TopologyValue) (events : List Event) → 0 < top.shards → StampsAreNamed (run top events) }
 {}
 
-/// In every run the stamp of a write is less than the stamp of each write that it is before. Does nothing; its contract is
-/// the law.
+/// In every run the stamp of a write is less than the stamp of each write that it is before; and in whatever data centre a
+/// write is decided, each write before it is decided there as well, with a smaller commit time and a smaller stamp. Does
+/// nothing; its contract is the law.
 pub fn stamps_follow_causal_order()
-    ensures { (top : TopologyValue) (events : List Event) → 0 < top.shards → StampsFollowCauses top (run top events) }
+    ensures stamps { (top : TopologyValue) (events : List Event) → 0 < top.shards → StampsFollowCauses top (run top events) }
+    ensures there { (top : TopologyValue) (events : List Event) → 0 < top.shards → PastsAreDecided top (run top events) }
 {}
 
 /// In every run each completed write stands in the history of its session's home, with the commit time and the stamp that
@@ -99,6 +119,17 @@ pub fn handled_envelopes_are_honest()
 /// is the law.
 pub fn each_shard_of_a_run_is_right()
     ensures { (top : TopologyValue) (events : List Event) → 0 < top.shards → EachShardIsRight top (run top events) }
+{}
+
+/// In every run each message is for an actor that there is; the first message that was not handled is found, and there is
+/// none exactly in a quiet run; the history of a data centre is what one gets by asking, for each submitted batch, its
+/// coordinator there; and what is unfinished on a shard are the parts that it holds and hasn't applied, in order of
+/// transaction number, each once: nothing where the shard keeps nothing waiting. Does nothing; its contract is the law.
+pub fn runs_can_be_looked_up()
+    ensures messages { (top : TopologyValue) (events : List Event) → is_topology top.dcs top.shards top.homes ≡ true → MessagesAreForActors top (run top events) }
+    ensures unhandled { (w : Run) → FindsUnhandled w }
+    ensures histories { (top : TopologyValue) (events : List Event) → 0 < top.shards → HistoriesAreAsked top (run top events) }
+    ensures unfinished { (top : TopologyValue) (events : List Event) → 0 < top.shards → ShardsTellUnfinished top (run top events) }
 {}
 
 /// Quiet means done: in every run in which each sent message has been handled at least once, every submitted operation has

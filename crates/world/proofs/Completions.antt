@@ -1,0 +1,165 @@
+-- Each entry of the transcript came at an event: the delivery of a message that ended the operation of its session.
+use Rattle.std.proofs.Common.{◌≡◌, ◌∙◌, ℕ, ap, sym, refl, subst, true, inl, inr, List, [], ◌∷◌, ◌++◌, length, drop, Some, slice_get}
+use Rattle.std.specs.Prelude.{◌⊎◌}
+use Rattle.std.proofs.Math.Seq.{drop-length, drop-append_seam}
+use Rattle.slice.specs.declared.read.Read.{Read}
+use Rattle.messages.specs.declared.rows_now.RowNow.{RowNow}
+use Rattle.messages.specs.declared.rows_at.RowAt.{RowAt}
+use Rattle.messages.specs.declared.rows_at.AtTime.TheVariants as at
+use Rattle.messages.specs.declared.outcome.Outcome.{Outcome}
+use Rattle.messages.specs.declared.outcome.Outcome.TheVariants as outcome
+use Rattle.messages.specs.declared.body.Body.{Body}
+use Rattle.messages.specs.declared.envelope.Envelope.{Envelope}
+use Rattle.messages.specs.Topology.{TopologyValue}
+use Rattle.messages.specs.Session.{SessionState, SessionStep, HeardNow, HeardAt, Finished}
+use Rattle.messages.specs.Rounds.{asked_nodes, all_heard}
+use Rattle.messages.specs.SessionEvents.{heard}
+use Rattle.world.specs.Run.{Run, Event, Deliver, Completed, newly_completed, opening, step, continued, run}
+use Rattle.world.proofs.Among.{Among, among_append}
+use Rattle.world.proofs.EventCases.{event_cases}
+use Rattle.world.proofs.HeardRuns.{newly_finished}
+use Rattle.world.proofs.HeardCases.{FirstAnswer, SecondAnswer, heard_cases}
+
+-- ## What ends an operation
+
+-- the last answer of a first round
+pub record LastFirst (top : TopologyValue) (a : SessionState) (from : ℕ) (m : Body) : Type 0 where
+  pub read : Read
+  pub heard : List HeardNow
+  pub rows : List RowNow
+  pub answer : FirstAnswer top a from m read heard rows
+  pub all : all_heard (asked_nodes top a read) (heard ++ record { from = from; rows = rows } ∷ []) ≡ true
+
+-- an answer of a second round
+pub record LastSecond (top : TopologyValue) (a : SessionState) (from : ℕ) (m : Body) : Type 0 where
+  pub read : Read
+  pub time : ℕ
+  pub first : List HeardNow
+  pub heard : List HeardAt
+  pub rows : List RowAt
+  pub answer : SecondAnswer top a from m read time first heard (at.Rows rows)
+
+-- Collected in a second round
+pub record SaidCollected (top : TopologyValue) (a : SessionState) (from : ℕ) (m : Body) : Type 0 where
+  pub read : Read
+  pub time : ℕ
+  pub first : List HeardNow
+  pub heard : List HeardAt
+  pub answer : SecondAnswer top a from m read time first heard at.Collected
+
+-- what ended the operation with this outcome; of writes nothing is said
+abbrev pub EndsBy : Outcome → TopologyValue → SessionState → ℕ → Body → Type 0
+EndsBy (outcome.Wrote commit stamp) top a from m = Unit {0}
+EndsBy (outcome.Read time answer) top a from m = LastFirst top a from m ⊎ LastSecond top a from m
+EndsBy outcome.Collected top a from m = SaidCollected top a from m
+
+module _ (top : TopologyValue) (me n : ℕ) (a : SessionState) (from : ℕ) (m : Body) where
+  -- what the step finished, with these outcomes after it, is the open operation
+  abbrev Finishes : List Finished → Type 0
+  Finishes outcomes = (f : Finished) → Among f (drop (length a.outcomes) outcomes) → (f.number ≡ a.count) × EndsBy f.outcome top a from m
+
+  none : Finishes a.outcomes
+  none f i = absurd (subst (λ (l : List Finished). Among f l) (drop-length a.outcomes) i)
+
+  this : (o : Outcome) → EndsBy o top a from m → Finishes (a.outcomes ++ record { number = a.count; outcome = o } ∷ [])
+  this o k f i =
+      elim (subst (λ (l : List Finished). Among f l) (drop-append_seam a.outcomes (record { number = a.count; outcome = o } ∷ [])) i) [
+        | inl q ↦ (ap (λ (z : Finished). z.number) q, subst (λ (z : Finished). EndsBy z.outcome top a from m) (sym q) k)
+        | inr i ↦ absurd i
+      ]
+
+  finishes : Finishes (heard top me n a from m).state.outcomes
+  finishes =
+      heard_cases top me n a from m (λ (st : SessionStep). Finishes st.state.outcomes)
+      (record {
+        still = none;
+        wrote = λ coordinator t commit stamp is. this (outcome.Wrote commit stamp) tt;
+        kept = λ read hs rows k. none;
+        second = λ read hs rows nodes k all. none;
+        ends = λ read hs rows taken k all. this (outcome.Read _ _) (inl (record { read = read; heard = hs; rows = rows; answer = k; all = all }));
+        kept_at = λ read time first hs gs rows k. none;
+        ends_at =
+            λ read time first hs rows taken k.
+            this (outcome.Read time _) (inr (record { read = read; time = time; first = first; heard = hs; rows = rows; answer = k }));
+        gives_up =
+            λ read time first hs k. this outcome.Collected (record { read = read; time = time; first = first; heard = hs; answer = k });
+      })
+
+-- ## Where an entry came
+
+-- the event brought this entry
+pub record Brings (top : TopologyValue) (w : Run) (x : Event) (c : Completed) : Type 0 where
+  pub k : ℕ
+  pub delivery : x ≡ Deliver k
+  pub message : Envelope
+  pub number : slice_get w.sent k ≡ Some message
+  pub to : message.to ≡ c.node
+  pub count : (w.sessions c.node).count ≡ c.number
+  pub ends : EndsBy c.outcome top (w.sessions c.node) message.from message.body
+
+step_brings : (top : TopologyValue) (w : Run) (x : Event) (c : Completed) → Among c (step top w x).transcript → Among c w.transcript ⊎ Brings top w x c
+step_brings top w x c m =
+    event_cases top w x (λ v. Among c v.transcript → Among c w.transcript ⊎ Brings top w x c)
+    (record {
+      nothing = λ i. inl i;
+      handled = λ j e n is sent to i. inl i;
+      heard = λ j e n is sent other to i. elim (among_append c w.transcript (newly_completed w.submitted e.to (w.sessions e.to) (heard top e.to n (w.sessions e.to) e.from e.body).state) i) [
+        | inl old ↦ inl old
+        | inr new ↦ inr (brought j e n is sent new)
+      ];
+      begun = λ node o n is to i. inl i;
+      collected = λ node time n is i. inl i;
+    })
+    m
+  where
+    brought : (j : ℕ) (e : Envelope) (n : ℕ) → x ≡ Deliver j → slice_get w.sent j ≡ Some e
+        → Among c (newly_completed w.submitted e.to (w.sessions e.to) (heard top e.to n (w.sessions e.to) e.from e.body).state) → Brings top w x c
+    brought j e n is sent new =
+        let f = newly_finished w.submitted e.to (w.sessions e.to) (heard top e.to n (w.sessions e.to) e.from e.body).state c new in
+        let k = finishes top e.to n (w.sessions e.to) e.from e.body f.finished f.among in
+        record {
+          k = j;
+          delivery = is;
+          message = e;
+          number = sent;
+          to = sym f.node_is;
+          count = ap (λ z. (w.sessions z).count) f.node_is ∙ sym k.0 ∙ sym f.number;
+          ends = subst (λ z. EndsBy c.outcome top (w.sessions z) e.from e.body) (sym f.node_is) (subst (λ o. EndsBy o top (w.sessions e.to) e.from e.body) (sym f.outcome) k.1);
+        }
+
+record CameIn (top : TopologyValue) (w : Run) (events : List Event) (c : Completed) : Type 0 where
+  before : List Event
+  event : Event
+  after : List Event
+  split : events ≡ before ++ event ∷ after
+  brings : Brings top (continued top w before) event c
+
+came_in : (top : TopologyValue) (w : Run) (events : List Event) (c : Completed) → Among c (continued top w events).transcript → Among c w.transcript ⊎ CameIn top w events c
+came_in top w [] c m = inl m
+came_in top w (x ∷ xs) c m = elim (came_in top (step top w x) xs c m) [
+  | inl here ↦ elim (step_brings top w x c here) [
+    | inl old ↦ inl old
+    | inr new ↦ inr (record { before = []; event = x; after = xs; split = refl; brings = new })
+  ]
+  | inr r ↦ inr (record { before = x ∷ r.before; event = r.event; after = r.after; split = ap (λ l. x ∷ l) r.split; brings = r.brings })
+]
+
+-- the event that brought an entry of a run
+pub record CameAt (top : TopologyValue) (w : Run) (c : Completed) : Type 0 where
+  pub before : List Event
+  pub event : Event
+  pub after : List Event
+  pub brings : Brings top (run top before) event c
+  pub delivery : w.events ≡ before ++ Deliver brings.k ∷ after
+
+pub came_at : (top : TopologyValue) (w : Run) → run top w.events ≡ w → (c : Completed) → Among c w.transcript → CameAt top w c
+came_at top w replayed c m = elim (came_in top (opening top) w.events c (subst (λ (z : Run). Among c z.transcript) (sym replayed) m)) [
+  | inl none ↦ absurd none
+  | inr r ↦ record {
+    before = r.before;
+    event = r.event;
+    after = r.after;
+    brings = r.brings;
+    delivery = r.split ∙ ap (λ x. r.before ++ x ∷ r.after) r.brings.delivery;
+  }
+]
