@@ -4,7 +4,7 @@ use slice::Answer;
 use std::marker::Model;
 
 /// What a read transaction came to.
-#[derive(Drop, Debug)]
+#[derive(Drop)]
 pub struct Answered {
     /// The effective time: that of the table which the answer shows.
     pub effective: Time,

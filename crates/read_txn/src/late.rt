@@ -3,7 +3,7 @@ use logical_time::Node;
 use slice::Keys;
 
 /// What the second round asks of a shard.
-#[derive(Drop, Debug)]
+#[derive(Drop)]
 pub struct LateShard {
     /// The shard, as a node.
     pub node: Node,
