@@ -10,7 +10,7 @@ ghost use Rattle.client.specs.State.{dependencies_of, state_of, topology_of};
 ghost use Rattle.client.specs.Represents.{IsRefusalOf, IsSpentOrMemory};
 
 use crate::current::Current;
-use crate::envelopes::{nodes, post_all, reads, writes};
+use crate::envelopes::{nodes, reads, send, writes};
 use crate::kept::Kept;
 use crate::ordering::in_order;
 use column_family::Batch;
@@ -109,8 +109,7 @@ fn submit_batch(kept: &mut Kept, batch: &Batch, outbox: &mut Outbox) -> Result<u
         &ready.dependencies,
         plan,
     )?;
-    outbox.reserve(envelopes.len())?;
-    post_all(outbox, envelopes);
+    send(outbox, envelopes)?;
     Ok(accept(kept, ready, Current::Write(coordinator)))
 }
 
@@ -135,8 +134,7 @@ fn ask(kept: &Kept, clock: Clock, read: &Read, outbox: &mut Outbox) -> Result<Ve
         read,
         plan.asked,
     )?;
-    outbox.reserve(envelopes.len())?;
-    post_all(outbox, envelopes);
+    send(outbox, envelopes)?;
     Ok(asked)
 }
 

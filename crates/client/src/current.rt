@@ -43,10 +43,10 @@ impl Current {
         match self {
             Current::Idle | Current::Write(_) => {}
             Current::First(round) => {
-                let _read = round.surrender();
+                drop(round.surrender());
             }
             Current::Second(round) => {
-                let _read = round.surrender();
+                drop(round.surrender());
             }
         }
     }

@@ -1,5 +1,5 @@
 //! The envelopes of submissions.
-ghost use Rattle.std.specs.Prelude.{◌≡◌, ◌<◌, ◌≤◌, ◌++◌, length, map, IfOk, OnOk, IfErr};
+ghost use Rattle.std.specs.Prelude.{◌≡◌, ◌<◌, ◌≤◌, ◌++◌, length, map, IfOk, OnOk, OnErr, IfErr};
 ghost use Rattle.std.specs.List.{AllByRecursion};
 ghost use Rattle.client.specs.Envelopes.{node_in, prepare_part, batch_envelopes, read_keys};
 
@@ -40,7 +40,8 @@ fn add_prepares(
     Ok(())
 }
 
-fn share_of(read: &Read, keys: Keys) -> Result<Read, Fault>
+/// The read, of these keys.
+pub(crate) fn share_of(read: &Read, keys: Keys) -> Result<Read, Fault>
     ensures ok { IfOk result (λ share. share ≡ record read.now { keys = keys }) }
     ensures memory { IfErr result (λ e. e ≡ Fault.Memory) }
 {
@@ -95,13 +96,24 @@ pub(crate) fn nodes(alloc: Global, home: Home, shares: &[ShardKeys]) -> Result<V
 }
 
 /// Posts envelopes for which there is room.
-pub(crate) fn post_all(outbox: &mut Outbox, envelopes: Vec<Envelope>)
+fn post_all(outbox: &mut Outbox, envelopes: Vec<Envelope>)
     requires { length envelopes.items ≤ outbox.old.room }
     ensures { outbox.new.sent ≡ outbox.old.sent ++ envelopes.items }
 {
     for envelope in envelopes {
         outbox.post(envelope).unwrap();
     }
+}
+
+/// Sends all of these envelopes, or none.
+pub(crate) fn send(outbox: &mut Outbox, envelopes: Vec<Envelope>) -> Result<(), Fault>
+    ensures sends { OnOk result (outbox.new.sent ≡ outbox.old.sent ++ envelopes.items) }
+    ensures unsent { OnErr result (outbox.new.sent ≡ outbox.old.sent) }
+    ensures memory { IfErr result (λ e. e ≡ Fault.Memory) }
+{
+    outbox.reserve(envelopes.len())?;
+    post_all(outbox, envelopes);
+    Ok(())
 }
 
 /// The shards of these parts.
@@ -128,6 +140,8 @@ pub(crate) fn writes(
     ensures ok { IfOk result (λ envelopes. envelopes.items ≡ batch_envelopes home node time txn dependencies.now plan.coordinator plan.cohorts.items) }
     ensures memory { IfErr result (λ e. e ≡ Fault.Memory) }
 {
+    let others = shards_of(alloc, plan.cohorts.as_slice())?;
+    let dependencies = dependencies.clone()?;
     let BatchPlan {
         coordinator: ShardPart { shard, batch },
         cohorts,
@@ -140,8 +154,8 @@ pub(crate) fn writes(
         body: Body::Begin {
             txn,
             rows: batch,
-            cohorts: shards_of(alloc, cohorts.as_slice())?,
-            dependencies: dependencies.clone()?,
+            cohorts: others,
+            dependencies,
         },
     })?;
     add_prepares(&mut envelopes, home, node, time, txn, shard, cohorts)?;

@@ -9,7 +9,7 @@ ghost use Rattle.client.specs.Ignored.{heeds_now};
 ghost use Rattle.client.specs.Steps as steps;
 
 use crate::current::Current;
-use crate::envelopes::post_all;
+use crate::envelopes::{send, share_of};
 use crate::hearing::{complete, put};
 use crate::kept::Kept;
 use logical_time::{Clock, Fault, Node, Time};
@@ -23,12 +23,8 @@ fn late_read(round: &SecondRound, late: &LateShard) -> Result<Read, Fault>
     ensures ok { IfOk result (λ read. read ≡ record round.now.read { keys = late.now.keys }) }
     ensures memory { IfErr result (λ e. e ≡ Fault.Memory) }
 {
-    let read = round.read();
-    Ok(Read {
-        family: read.family.clone()?,
-        keys: late.keys.clone()?,
-        predicate: read.predicate.clone()?,
-    })
+    let keys = late.keys.clone()?;
+    share_of(round.read(), keys)
 }
 
 /// A ReadAt for each shard that the second round asks.
@@ -62,8 +58,7 @@ fn ask_again(kept: &Kept, time: Time, round: &SecondRound, outbox: &mut Outbox) 
     ensures memory { IfErr result (λ e. e ≡ Fault.Memory) }
 {
     let envelopes = late_reads(kept, time, round)?;
-    outbox.reserve(envelopes.len())?;
-    post_all(outbox, envelopes);
+    send(outbox, envelopes)?;
     Ok(())
 }
 

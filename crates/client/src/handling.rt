@@ -11,9 +11,6 @@ use crate::kept::Kept;
 use logical_time::{Clock, Fault, Node};
 use messages::{Body, Envelope, Outbox, Refused};
 
-/// Lets go of what is for a shard.
-fn ignore(_body: Body) {}
-
 /// Hears what an envelope says.
 fn hear(
     kept: &mut Kept,
@@ -55,7 +52,7 @@ fn hear(
             )),
         },
         other => {
-            ignore(other);
+            drop(other);
             kept.clock = clock;
             Ok(())
         }

@@ -5,7 +5,7 @@ use logical_time::Node;
 use std::marker::Model;
 
 /// A data centre, as a session sees it: so many shards, which are nodes in a row.
-#[derive(Clone, Copy, Debug, PartialEq, Eq)]
+#[derive(Clone, Copy)]
 pub(crate) struct Home {
     dc: u16,
     shards: u16,

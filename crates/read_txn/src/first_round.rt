@@ -68,12 +68,7 @@ impl FirstRound {
     pub fn new(alloc: Global, read: Read, floor: Time, asked: Vec<Node>) -> FirstRound
         ensures { result ≡ record { read = read; floor = floor; asked = asked.items; heard = [] } }
     {
-        FirstRound {
-            read,
-            floor,
-            asked,
-            heard: Vec::new(alloc),
-        }
+        FirstRound::with_heard(read, floor, asked, Vec::new(alloc))
     }
 
     /// What is read.
@@ -128,11 +123,10 @@ impl FirstRound {
         ensures round { IfErr result (λ e. e.1 ≡ self) }
         ensures rows { IfErr result (λ e. e.2 ≡ rows) }
     {
-        if is_missing(&self.asked, &self.heard, from) {
-            self.keep(from, rows)
-        } else {
-            Ok(FirstTaken::More(self))
+        if !is_missing(&self.asked, &self.heard, from) {
+            return Ok(FirstTaken::More(self));
         }
+        self.keep(from, rows)
     }
 
     /// Keeps an answer that was missing.
@@ -216,7 +210,7 @@ impl FirstRound {
     {
         match complete(alloc, &self.read, time, &self.heard, &[]) {
             Ok(answered) => {
-                let _read = self.surrender();
+                drop(self.surrender());
                 Ok(FirstTaken::Done(answered))
             }
             Err(_) => Err(self),

@@ -125,11 +125,10 @@ impl SecondRound {
         ensures round { IfErr result (λ e. e.1 ≡ self) }
         ensures answer { IfErr result (λ e. e.2 ≡ answer) }
     {
-        if self.awaits(from) {
-            self.take_awaited(from, answer)
-        } else {
-            Ok(SecondTaken::More(self))
+        if !self.awaits(from) {
+            return Ok(SecondTaken::More(self));
         }
+        self.take_awaited(from, answer)
     }
 
     /// Goes back to the first round, of this floor, as it was before its last answer, and hands the rows of that out: for
@@ -187,7 +186,7 @@ impl SecondRound {
     {
         match answer {
             AtTime::Collected => {
-                let _read = self.surrender();
+                drop(self.surrender());
                 Ok(SecondTaken::Collected)
             }
             AtTime::Rows(rows) => self.keep(from, rows),
@@ -247,7 +246,7 @@ impl SecondRound {
         let alloc = *self.heard.allocator();
         match complete(alloc, &self.read, self.time, &self.first, &self.heard) {
             Ok(answered) => {
-                let _read = self.surrender();
+                drop(self.surrender());
                 Ok(SecondTaken::Done(answered))
             }
             Err(_) => Err(self),
