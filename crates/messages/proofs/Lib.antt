@@ -1,3 +1,4 @@
+pub mod Announcing
 pub mod Greatest
 pub mod Numbering
 pub mod Rested

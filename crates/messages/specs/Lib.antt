@@ -1,5 +1,6 @@
 pub mod Topology
 pub mod Outbox
+pub mod Posting
 pub mod Clock
 pub mod Words
 pub mod Shard

@@ -11,6 +11,7 @@ mod law;
 mod op;
 mod outbox;
 mod outcome;
+mod posting;
 mod rows_at;
 mod rows_now;
 mod topology;
@@ -24,6 +25,7 @@ pub use law::{
 pub use op::Op;
 pub use outbox::Outbox;
 pub use outcome::Outcome;
+pub use posting::announce;
 pub use rows_at::{AtTime, RowAt, RowsAt};
 pub use rows_now::{RowNow, RowsNow};
 pub use topology::Topology;

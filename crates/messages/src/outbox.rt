@@ -62,6 +62,13 @@ impl Outbox {
         }
     }
 
+    /// How many more envelopes fit without memory.
+    pub fn room(&self) -> usize
+        ensures { result ≡ self.now.room }
+    {
+        self.envelopes.capacity() - self.len()
+    }
+
     /// How many envelopes were posted.
     pub fn len(&self) -> usize
         ensures { result ≡ length self.now.sent }

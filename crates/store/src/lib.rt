@@ -13,5 +13,5 @@ mod store;
 #[cfg(test)]
 mod tests;
 
-pub use part::{Applied, Part, WritePart};
+pub use part::{Applied, Part};
 pub use store::Store;

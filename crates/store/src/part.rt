@@ -1,16 +1,7 @@
 //! What is applied to a store, and what it answers.
-use column_family::Batch;
-use logical_time::{Stamp, Time, Writer, Writers};
+use logical_time::{Stamp, Time, Writers};
 use slice::Columns;
-
-/// A transaction's part for one shard: the changes of that shard's rows, in normal form.
-#[derive(Drop)]
-pub struct WritePart {
-    /// The transaction, with its coordinator.
-    pub writer: Writer,
-    /// The changes.
-    pub batch: Batch,
-}
+use txn_state::WritePart;
 
 /// A part that was applied.
 #[derive(Drop)]

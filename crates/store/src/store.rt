@@ -10,7 +10,7 @@ ghost use Rattle.column_family.specs.History.{newest_at};
 ghost use Rattle.store.specs.Part.{IsNewestPart, IsRightPart, history_of};
 
 use crate::origin::Origin;
-use crate::part::{Part, WritePart};
+use crate::part::Part;
 use crate::reading::part_in;
 use crate::row::RowChains;
 use crate::rows::{put_changes, reserve_changes};
@@ -21,6 +21,7 @@ use slice::Predicate;
 use std::alloc::Global;
 use std::collections::BTreeMap;
 use std::marker::Model;
+use txn_state::Prepared;
 
 /// What a shard keeps of the parts that were applied: the versions of each column and of each row's deletion, and
 /// the horizon, the time below which no read is answered any more.
@@ -78,25 +79,26 @@ impl Store {
     #[tactic(auto, using(crate::proofs::KeepsApplied::keeps_applied, crate::proofs::Lasting::keeps_same, crate::proofs::Overtaken::overtaken))]
     pub fn apply(
         &mut self,
-        part: WritePart,
+        prepared: Prepared,
         commit: Time,
         stamp: Stamp,
-    ) -> Result<(), (Fault, WritePart)>
-        ensures put { OnOk result (HavePut (record { writer = part.writer; stamp = stamp; evt = commit }) part.batch self.old.rows self.new.rows) }
+    ) -> Result<(), (Fault, Prepared)>
+        ensures put { OnOk result (HavePut (record { writer = prepared.part.writer; stamp = stamp; evt = commit }) prepared.part.batch self.old.rows self.new.rows) }
         ensures low { self.new.low ≡ self.old.low }
-        ensures keeps { (all : List Applied) → Keeps self.old all → IsNormal part.batch → IsNewStamp stamp all → OnOk result (Keeps self.new (all ++ record { part = part; commit = commit; stamp = stamp } ∷ [])) }
-        ensures succeeds { HasRoom self.old.rows part.batch → IsOk result }
+        ensures keeps { (all : List Applied) → Keeps self.old all → IsNormal prepared.part.batch → IsNewStamp stamp all → OnOk result (Keeps self.new (all ++ record { part = prepared.part; commit = commit; stamp = stamp } ∷ [])) }
+        ensures succeeds { HasRoom self.old.rows prepared.part.batch → IsOk result }
         ensures same { OnErr result (HaveSameVersions self.old.rows self.new.rows) }
         ensures kept { (all : List Applied) → Keeps self.old all → OnErr result (Keeps self.new all) }
-        ensures back { IfErr result (λ e. (e.0 ≡ fault.Memory) × (e.1 ≡ part)) }
+        ensures back { IfErr result (λ e. (e.0 ≡ fault.Memory) × (e.1 ≡ prepared)) }
 
         // A mutation that is committed no earlier than a newer one of its location changes the table at no time.
-        ensures overtaken { (all : List Applied) (l : Location) → IsOvertaken all l stamp commit → (t : ℕ) → newest_at (history_of (all ++ record { part = part; commit = commit; stamp = stamp } ∷ [])) t l ≡ newest_at (history_of all) t l }
+        ensures overtaken { (all : List Applied) (l : Location) → IsOvertaken all l stamp commit → (t : ℕ) → newest_at (history_of (all ++ record { part = prepared.part; commit = commit; stamp = stamp } ∷ [])) t l ≡ newest_at (history_of all) t l }
     {
-        match reserve_changes(self.alloc, &mut self.rows, part.batch.as_slice()) {
+        match reserve_changes(self.alloc, &mut self.rows, prepared.part().as_slice()) {
             Ok(()) => {}
-            Err(fault) => return Err((fault, part)),
+            Err(fault) => return Err((fault, prepared)),
         }
+        let (part, _) = prepared.surrender();
         let origin = Origin {
             writer: part.writer,
             stamp,

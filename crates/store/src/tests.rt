@@ -1,12 +1,13 @@
 //! Worked cases of the store.
 
-use crate::part::{Part, WritePart};
+use crate::part::Part;
 use crate::store::Store;
 use column_family::{Batch, Change, Family, Key, Mutation, Name, Row, Value};
 use logical_time::{Fault, Node, Stamp, Time, TxnId, Writer};
 use slice::{Names, Predicate};
 use std::alloc::{AllocError, Global};
 use std::test::Fail;
+use txn_state::{Prepared, WritePart};
 
 fn time(number: u64) -> Time {
     Time::new(number).unwrap_or(Time::zero())
@@ -59,9 +60,12 @@ fn insert(
         writer: writer(stamp),
         batch: batch(alloc, value)?,
     };
-    match store.apply(part, time(commit), stamp) {
+    match store.apply(Prepared::new(part, time(commit)), time(commit), stamp) {
         Ok(()) => Ok(()),
-        Err((fault, _)) => Err(fault),
+        Err((fault, prepared)) => {
+            let _part = prepared.surrender();
+            Err(fault)
+        }
     }
 }
 

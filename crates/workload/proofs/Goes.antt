@@ -13,7 +13,7 @@ use Rattle.slice.specs.Slice.{slice_of}
 use Rattle.slice.specs.Live.{live_columns}
 use Rattle.slice.proofs.LiveTable.{live_columns_alike}
 use Rattle.store.specs.declared.part.Applied.{Applied}
-use Rattle.store.specs.declared.part.WritePart.{WritePart}
+use Rattle.txn_state.specs.declared.part.WritePart.{WritePart}
 use Rattle.store.specs.Keeps.{Keeps}
 use Rattle.store.specs.Part.{history_of}
 use Rattle.table.specs.Meaning.{shown, shown_row, meaning, each_once, row_of}

@@ -6,7 +6,7 @@ use Rattle.column_family.specs.History.{History, newest}
 use Rattle.column_family.specs.Normal.{StandsFor}
 use Rattle.slice.specs.declared.read.Read.{Read}
 use Rattle.store.specs.declared.part.Applied.{Applied}
-use Rattle.store.specs.declared.part.WritePart.{WritePart}
+use Rattle.txn_state.specs.declared.part.WritePart.{WritePart}
 use Rattle.store.specs.Part.{history_of}
 use Rattle.store.specs.Keeps.{IsNewStamp, Keeps}
 use Rattle.table.specs.Meaning.{shown}

@@ -13,8 +13,9 @@ use column_family::{Batch, Key, Row, Schema, normal};
 use logical_time::{Clock, Fault, Node, Stamp, Time, TxnId, Writer};
 use slice::{Answer, AnsweredRow, Read};
 use std::alloc::Global;
-use store::{Store, WritePart};
+use store::Store;
 use table::each_once;
+use txn_state::{Prepared, WritePart};
 
 /// The shard's number, and its node.
 const SHARD: u16 = 0;
@@ -182,9 +183,13 @@ impl Runner {
             writer: Writer { txn, shard: SHARD },
             batch: normal,
         };
-        match self.store.apply(part, commit, stamp) {
+        let prepared = Prepared::new(part, commit);
+        match self.store.apply(prepared, commit, stamp) {
             Ok(()) => {}
-            Err((fault, _part)) => return Err(fault),
+            Err((fault, prepared)) => {
+                let _part = prepared.surrender();
+                return Err(fault);
+            }
         }
         self.session.receive(commit)?;
         self.floor = commit;

@@ -15,9 +15,9 @@ returns-in-Err-clause-kept c = λ all keeps.
 pub returns-clause-keeps : goal.returns-clause-keeps
 returns-clause-keeps c = λ all keeps normal fresh.
     let new : Kept = record { rows = c.put_changes.new.rows.entries; low = c.self.inside.low } in
-    let o : Origin = record { writer = c.args.part.writer; stamp = c.args.stamp; evt = c.args.commit } in
-    let a : Applied = record { part = c.args.part; commit = c.args.commit; stamp = c.args.stamp } in
-    let put : HavePut o c.args.part.batch c.args.self.now.rows new.rows = search rules in
+    let o : Origin = record { writer = c.args.prepared.part.writer; stamp = c.args.stamp; evt = c.args.commit } in
+    let a : Applied = record { part = c.args.prepared.part; commit = c.args.commit; stamp = c.args.stamp } in
+    let put : HavePut o c.args.prepared.part.batch c.args.self.now.rows new.rows = search rules in
     keeps_applied c.args.self.now new all a o (ap (λ (k : Kept). k.low) c.self.view_is) refl put normal fresh keeps
 
 pub returns-clause-put : goal.returns-clause-put

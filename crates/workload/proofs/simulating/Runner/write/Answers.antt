@@ -8,7 +8,7 @@ returns-clause-ok c = (
   omega (arith, c.in_ok-commit.ensures.ok),
   cc (c.new.ensures, c.new-3.ensures),
   c.in_ok-normal.ensures.stands_for,
-  λ all kept new. (rw c.new.ensures at (c.in-Ok.ensures.keeps all kept c.in_ok-normal.ensures.form)) new,
+  λ all kept new. (rw (c.new.ensures, c.new-prepared.ensures) at (c.in-Ok.ensures.keeps all kept)) c.in_ok-normal.ensures.form new,
   refl,
   search rules,
   refl,

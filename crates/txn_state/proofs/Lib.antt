@@ -1,0 +1,4 @@
+pub mod Missing
+pub mod Strangers
+pub mod Txns
+pub mod Notices

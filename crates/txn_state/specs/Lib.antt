@@ -1,0 +1,9 @@
+pub mod Prepared
+pub mod Votes
+pub mod Answers
+pub mod Ballot
+pub mod Voted
+pub mod Verdict
+pub mod Announced
+pub mod RemoteBallot
+pub mod Ready
