@@ -3,7 +3,7 @@ use column_family::Batch;
 use logical_time::Writer;
 
 /// A transaction's part for one shard: the changes of that shard's rows, in normal form.
-#[derive(Drop, Debug, Clone)]
+#[derive(Drop)]
 pub struct WritePart {
     /// The transaction, with its coordinator.
     pub writer: Writer,
