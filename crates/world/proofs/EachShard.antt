@@ -8,8 +8,8 @@ use Rattle.logical_time.specs.declared.fault.Fault.{Fault}
 use Rattle.messages.specs.declared.op.Op.{Op}
 use Rattle.messages.specs.declared.envelope.Envelope.{Envelope}
 use Rattle.messages.specs.Topology.{TopologyValue, is_shard, is_session}
-use Rattle.messages.specs.Shard.{ShardState, ShardStep}
-use Rattle.messages.specs.Session.{SessionState, SessionStep}
+use Rattle.messages.specs.Shard.{ShardStep}
+use Rattle.messages.specs.Session.{SessionStep}
 use Rattle.messages.specs.ShardEvents.{shard_handle, shard_collect}
 use Rattle.messages.specs.SessionEvents.{session_handle}
 use Rattle.messages.specs.Submitting.{session_submit}

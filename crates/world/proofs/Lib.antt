@@ -8,6 +8,7 @@ pub mod Lasting
 pub mod LastingAll
 pub mod Able
 pub mod ShardSteps
+pub mod Transcripts
 pub mod Causal
 pub mod Pasts
 pub mod About

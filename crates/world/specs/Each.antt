@@ -2,7 +2,7 @@
 use Rattle.std.specs.Prelude.{◌≡◌, ℕ, true, ◌==◌, if◌then◌else◌, List, filter_map, slice_get, Option, Some, None, option_and_then, Contains}
 use Rattle.messages.specs.declared.envelope.Envelope.{Envelope}
 use Rattle.messages.specs.Topology.{TopologyValue, is_shard}
-use Rattle.shard.specs.Events.{ShardEvent, Handle, Collect as CollectHere, ShardRun, shard_run}
+use Rattle.shard.specs.Events.{ShardEvent, Handle, Collect as CollectHere, shard_run}
 use Rattle.shard.specs.Right.{IsRightShard}
 use Rattle.world.specs.Run.{Run, Event, Submit, Deliver, Collect}
 

@@ -1,5 +1,5 @@
 -- Runs: what a list of events makes of the shards, the sessions and the network between them.
-use Rattle.std.specs.Prelude.{ℕ, Bool, true, false, ◌==◌, if◌then◌else◌, List, [], ◌∷◌, ◌++◌, length, drop, find, filter_map, slice_get, Option, Some, None, option_map, Result, Ok, Err}
+use Rattle.std.specs.Prelude.{ℕ, Bool, true, false, ◌==◌, if◌then◌else◌, List, [], ◌∷◌, ◌++◌, find, slice_get, Option, Some, None, option_map, option_and_then, Result, Ok, Err}
 use Rattle.std.specs.Option.{unwrap_or}
 use Rattle.logical_time.specs.declared.fault.Fault.{Fault}
 use Rattle.logical_time.specs.Stamps.{TxnValue, WriterValue}
@@ -11,7 +11,7 @@ use Rattle.messages.specs.Words.{is_same_txn}
 use Rattle.messages.specs.Shard.{ShardState, ShardStep, new_shard}
 use Rattle.messages.specs.Session.{SessionState, SessionStep, Finished, new_session}
 use Rattle.messages.specs.ShardEvents.{shard_handle, shard_collect}
-use Rattle.messages.specs.SessionEvents.{session_handle}
+use Rattle.messages.specs.SessionEvents.{session_handle, session_taken}
 use Rattle.messages.specs.Submitting.{session_submit}
 
 -- ## Events
@@ -84,10 +84,14 @@ completed_of submitted node f =
     option_map (λ s. record { node = node; number = f.number; home = s.home; op = s.op; outcome = f.outcome })
     (submission_of submitted (record { session = node; number = f.number }))
 
--- what a session finished in a step, from what it had finished before
-abbrev pub newly_completed : List Submission → ℕ → SessionState → SessionState → List Completed
-newly_completed submitted node before after =
-    filter_map (completed_of submitted node) (drop (length before.outcomes) after.outcomes)
+-- the operation that a session's step ended, if it ended one: what its outcome tells that isn't taken yet
+abbrev pub ended_by : List Submission → ℕ → SessionStep → Option Completed
+ended_by submitted node s = option_and_then (completed_of submitted node) s.state.untaken
+
+-- a transcript with what ended, if anything did
+abbrev pub with_ended : List Completed → Option Completed → List Completed
+with_ended transcript None = transcript
+with_ended transcript (Some c) = transcript ++ c ∷ []
 
 -- ## The step of an event
 
@@ -101,27 +105,38 @@ after_shard (Ok s) w x node =
       sent = w.sent ++ s.sends;
     }
 
--- a session's step, in the same way; what it finishes is added to the transcript
-abbrev pub after_session : Result SessionStep Fault → Run → Event → ℕ → Run
-after_session (Err e) w x node = w
-after_session (Ok s) w x node =
+-- A session's step, in the same way, where these operations are accepted by then: its outcome is taken, and what it ended
+-- is added to the transcript.
+abbrev pub with_session : Run → Event → ℕ → List Submission → SessionStep → Run
+with_session w x node submitted s =
     record w {
       events = w.events ++ x ∷ [];
-      sessions = with_actor w.sessions node s.state;
+      sessions = with_actor w.sessions node (session_taken s.state);
       sent = w.sent ++ s.sends;
-      transcript = w.transcript ++ newly_completed w.submitted node (w.sessions node) s.state;
+      submitted = submitted;
+      transcript = with_ended w.transcript (ended_by submitted node s);
+    }
+
+abbrev pub after_session : Result SessionStep Fault → Run → Event → ℕ → Run
+after_session (Err e) w x node = w
+after_session (Ok s) w x node = with_session w x node w.submitted s
+
+-- the operation that a session accepted in this step
+abbrev pub submission_by : Run → ℕ → Op → SessionStep → Submission
+submission_by w node op s =
+    record {
+      session = node;
+      number = s.state.count;
+      home = (w.sessions node).home;
+      time = s.state.clock;
+      op = op;
+      dependencies = (w.sessions node).dependencies;
     }
 
 -- a session's step at a submission: the operation is added to those that were accepted
 abbrev pub after_submission : Result SessionStep Fault → Run → ℕ → Op → Run
 after_submission (Err e) w node op = w
-after_submission (Ok s) w node op =
-    record w {
-      events = w.events ++ Submit node op ∷ [];
-      sessions = with_actor w.sessions node s.state;
-      sent = w.sent ++ s.sends;
-      submitted = w.submitted ++ record { session = node; number = s.state.count; home = (w.sessions node).home; time = s.state.clock; op = op; dependencies = (w.sessions node).dependencies } ∷ [];
-    }
+after_submission (Ok s) w node op = with_session w (Submit node op) node (w.submitted ++ submission_by w node op s ∷ []) s
 
 -- a submission, by whether the node is a session
 abbrev pub submit_if : Bool → TopologyValue → Run → ℕ → Op → Run

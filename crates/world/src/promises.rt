@@ -77,7 +77,7 @@ pub fn completed_writes_are_in_the_history()
 /// contract is the law.
 pub fn transcript_tells_what_ended()
     ensures entries { (top : TopologyValue) (events : List Event) → 0 < top.shards → EntriesAreOfSubmissions (run top events) }
-    ensures outcomes { (top : TopologyValue) (events : List Event) → 0 < top.shards → OutcomesAreListed (run top events) }
+    ensures outcomes { (top : TopologyValue) (events : List Event) → 0 < top.shards → OutcomesAreListed top (run top events) }
 {}
 
 /// In every run the commit and effective times of a session never fall, and each of its operations ends once. Does nothing;
