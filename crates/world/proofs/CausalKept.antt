@@ -25,7 +25,6 @@ use Rattle.world.proofs.Invariant.{IsOpen, AnsweredFrom, EndSound, Inv}
 use Rattle.world.proofs.LastingAll.{from_grows}
 use Rattle.world.proofs.ShardSteps.{actor_same, shard_run_grows}
 use Rattle.world.proofs.SessionSteps.{Stays, EndLeaves, Ends, SessionAble, session_run_grows}
-use Rattle.world.proofs.Entries.{submission_found}
 use Rattle.world.proofs.Transcripts.{ended_or_old, nothing_ended, ended_as_told}
 use Rattle.world.proofs.Causal.{txn_ended, Covered, direct, via, LaterCovered, writers_in, EndCausal, EndedOnce, NamedOnce, Causal}
 
@@ -347,28 +346,6 @@ module _ (top : TopologyValue) (w : Run) (node : ℕ) (st : SessionStep) (ev : E
   once_go : (o : Option Completed) → added ≡ o → EndedOnce (with_ended w.transcript o)
   once_go None q = k.once
   once_go (Some d) q = once_after w.transcript (λ c m. m) k.once d q
-
-  -- an outcome that the session tells is listed
-  pub told_is_listed : (f : Finished) → st.state.untaken ≡ Some f → (c : Completed) × (added ≡ Some c) × (c.node ≡ node) × (c.number ≡ f.number) × (c.outcome ≡ f.outcome)
-  told_is_listed f tells = go able.turn
-    where
-      go : Stays (w.sessions node) st.state ⊎ Ends top w node st.state → (c : Completed) × (added ≡ Some c) × (c.node ≡ node) × (c.number ≡ f.number) × (c.outcome ≡ f.outcome)
-      go (inl s) = let none = s.untaken in absurd (cc)
-      go (inr e) =
-          let s = e.opened.submission in
-          let t : TxnValue = record { session = node; number = (w.sessions node).count } in
-          let txn : txn_of s ≡ t = λ j. record { session = e.opened.session j; number = e.opened.number j } in
-          let found = submission_found top w s t inv.submitted e.opened.among txn in
-          let c : Completed = record { node = node; number = (w.sessions node).count; home = s.home; op = s.op; outcome = e.came } in
-          let both : Some (told e) ≡ Some f = sym e.untaken ∙ tells in
-          let same : told e ≡ f = cc in (
-            c,
-            ended_as_told w.submitted node st (told e) e.untaken
-                ∙ ap (option_map (λ (z : Submission). let r : Completed = record { node = node; number = (w.sessions node).count; home = z.home; op = z.op; outcome = e.came } in r)) found,
-            refl,
-            ap (λ (z : Finished). z.number) same,
-            ap (λ (z : Finished). z.outcome) same,
-          )
 
   pub session_causal : Causal top x
   session_causal =

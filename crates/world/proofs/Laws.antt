@@ -1,5 +1,5 @@
 -- The promises of every run, from what holds of it.
-use Rattle.std.proofs.Common.{◌≡◌, ℕ, ◌+◌, ◌<◌, true, false, List, [], ◌∷◌, ◌++◌, Option, Some, None, Ok, refl, sym, ap, ◌∙◌, subst, arith, le_refl, le_of_lt}
+use Rattle.std.proofs.Common.{◌≡◌, ℕ, ◌+◌, ◌<◌, true, List, [], ◌∷◌, ◌++◌, refl, sym, ap, ◌∙◌, subst, arith, le_refl}
 use Rattle.std.specs.Prelude.{◌≢◌, Contains, AllPairs}
 use Rattle.std.proofs.lemmas.Bool.Decides.{nat_tests}
 use Rattle.logical_time.specs.Stamps.{StampValue, TxnValue, WriterValue, is_older}
@@ -10,12 +10,10 @@ use Rattle.messages.specs.declared.op.Op.{Op}
 use Rattle.messages.specs.declared.op.Op.TheVariants as op
 use Rattle.messages.specs.declared.outcome.Outcome.{Outcome}
 use Rattle.messages.specs.declared.outcome.Outcome.TheVariants as outcome
-use Rattle.messages.specs.Clock.{ticked, on_clock}
-use Rattle.messages.specs.Session.{SessionStep}
-use Rattle.messages.specs.SessionEvents.{heard}
-use Rattle.messages.specs.Topology.{TopologyValue, is_topology, is_shard, is_session, dc_of, shard_of, shard_node}
+use Rattle.messages.specs.Actors.{finished_in}
+use Rattle.messages.specs.Topology.{TopologyValue, is_topology, dc_of, shard_of, shard_node}
 use Rattle.messages.proofs.Numbering.{shard_again}
-use Rattle.world.specs.Run.{Run, Event, Deliver, Submission, Completed, ended_by, with_ended, after_session, deliver_if, deliver_for, step, run, opening}
+use Rattle.world.specs.Run.{Run, Event, Submission, Completed, run, opening}
 use Rattle.world.specs.Histories.{decisions_in, IsHistory}
 use Rattle.world.specs.Before.{ReadRestsOn}
 use Rattle.world.specs.Committed.{IsCommittedBy}
@@ -23,8 +21,8 @@ use Rattle.world.specs.Entries.{named_by, StampsAgree, WritesAreTold, TellsDecid
 use Rattle.world.specs.Quiet.{IsQuiet}
 use Rattle.world.specs.Settled.{Settled}
 use Rattle.world.specs.Each.{EachShardIsRight}
-use Rattle.world.specs.Promises.{number_of, LaterCommitsAreAbove, Fits, EntriesAreOfSubmissions, IsEntryOfFinished, OutcomesAreListed, ReadsShowOneTable, ReadsShowTheirPast, ReadsAreFresh, StampsFollowCauses, TimesNeverFall, OperationsEndOnce, HistoriesGrow, HandledIsHonest}
-use Rattle.world.proofs.Among.{Among, among_contains, contains_among, get_among}
+use Rattle.world.specs.Promises.{number_of, LaterCommitsAreAbove, Fits, EntriesAreOfSubmissions, OutcomesAreListed, ReadsShowOneTable, ReadsShowTheirPast, ReadsAreFresh, StampsFollowCauses, TimesNeverFall, OperationsEndOnce, HistoriesGrow, HandledIsHonest}
+use Rattle.world.proofs.Among.{Among, among_contains, contains_among}
 use Rattle.world.proofs.Growth.{Grows}
 use Rattle.world.proofs.Facts.{lead, IsDone}
 use Rattle.world.proofs.Invariant.{AnsweredFrom, EndSound, Inv}
@@ -36,12 +34,9 @@ use Rattle.world.proofs.ReadRests.{rests_on_written}
 use Rattle.world.proofs.WritersDone.{writers_done}
 use Rattle.world.proofs.Pairs.{no_pairs, more_pairs}
 use Rattle.world.proofs.Causal.{EndedOnce, NamedOnce, writers_in}
-use Rattle.world.proofs.CausalKept.{new_writers, told_is_listed}
+use Rattle.world.proofs.CausalKept.{new_writers}
 use Rattle.world.proofs.CausalRuns.{every_causal}
 use Rattle.world.proofs.Pasts.{past_reached}
-use Rattle.world.proofs.Events.{ticked_above}
-use Rattle.world.proofs.SessionsKept.{heard_able}
-use Rattle.world.proofs.Transcripts.{ended_is_last}
 use Rattle.world.proofs.Runs.{every_run, run_grows, run_after}
 use Rattle.world.proofs.KeptEntries.{history_kept, stamps_agree, writes_are_told}
 use Rattle.world.proofs.Histories.{history_tells, coordinators_decide}
@@ -51,6 +46,7 @@ use Rattle.world.proofs.Addresses.{stands}
 use Rattle.world.proofs.LiveEvents.{run_live}
 use Rattle.world.proofs.EachShard.{each_is_right}
 use Rattle.world.proofs.FreshReads.{completed_fresh}
+use Rattle.world.proofs.OwnJournals.{each_is_its_journal}
 
 pub reads_show_one_table : (top : TopologyValue) (events : List Event) → 0 < top.shards → ReadsShowOneTable top (run top events)
 reads_show_one_table top events some c read time answer h is history =
@@ -139,40 +135,10 @@ entries_are_of_submissions top events some c has =
       fits = fits_go c.op c.outcome top w c.home (record { session = c.node; number = c.number }) k.came;
     }
 
-session_no_shard : (top : TopologyValue) (n : ℕ) → is_session top n ≡ true → is_shard top n ≡ false
-session_no_shard top n e = grind (arith, nat_tests)
+-- ## Journals
 
 pub outcomes_are_listed : (top : TopologyValue) (events : List Event) → 0 < top.shards → OutcomesAreListed top (run top events)
-outcomes_are_listed top events some k e s f sent to ok tells = go (ticked (w.sessions e.to).clock e.time) refl ok
-  where
-    w : Run
-    w = run top events
-
-    arrives : step top w (Deliver k) ≡ after_session (Ok s) w (Deliver k) e.to
-    arrives =
-        ap (λ o. deliver_for o top w (Deliver k)) sent ∙ ap (λ b. deliver_if b (is_session top e.to) top w (Deliver k) e) (session_no_shard top e.to to)
-        ∙ ap (λ b. deliver_if false b top w (Deliver k) e) to ∙ ap (λ r. after_session r w (Deliver k) e.to) ok
-
-    go : (o : Option ℕ) → ticked (w.sessions e.to).clock e.time ≡ o → on_clock o (λ n. heard top e.to n (w.sessions e.to) e.from e.body) ≡ Ok s
-        → (c : Completed) × IsEntryOfFinished (step top w (Deliver k)) e.to f c
-    go None q h = absurd (cc)
-    go (Some n) q h =
-        let inv = every_run top events some in
-        let above = ticked_above (w.sessions e.to).clock e.time n q in
-        let st = heard top e.to n (w.sessions e.to) e.from e.body in
-        let is : st ≡ s = cc in
-        let able = heard_able top w e.to n some inv (le_of_lt above.0) e.from e.time e.body (le_of_lt above.1) (inv.sent e (get_among w.sent k e sent)) in
-        let t = told_is_listed top w e.to st (Deliver k) inv able (every_causal top events some) f (ap (λ (z : SessionStep). z.state.untaken) is ∙ tells) in
-        let after : after_session (Ok st) w (Deliver k) e.to ≡ step top w (Deliver k) = ap (λ z. after_session (Ok z) w (Deliver k) e.to) is ∙ sym arrives in (
-          t.0,
-          subst (λ (v : Run). IsEntryOfFinished v e.to f t.0) after
-              (record {
-                completed = among_contains t.0 (with_ended w.transcript (ended_by w.submitted e.to st)) (ended_is_last t.0 w.transcript (ended_by w.submitted e.to st) t.1);
-                node = t.2;
-                number = t.3;
-                outcome = t.4;
-              }),
-        )
+outcomes_are_listed top events some node = sym (ap finished_in (each_is_its_journal top events node some))
 
 -- ## Histories
 
@@ -216,7 +182,7 @@ pub handled_is_honest : (top : TopologyValue) (events : List Event) → 0 < top.
 handled_is_honest top events some node = handled_honest top (run top events) node (every_run top events some)
 
 pub each_shard_is_right : (top : TopologyValue) (events : List Event) → 0 < top.shards → EachShardIsRight top (run top events)
-each_shard_is_right top events some node here = each_is_right top events node here (handled_is_honest top events some node)
+each_shard_is_right top events some node here = each_is_right top events node some here (handled_is_honest top events some node)
 
 pub reads_are_fresh : (top : TopologyValue) (events : List Event) → 0 < top.shards → ReadsAreFresh top (run top events)
 reads_are_fresh top events some c has =

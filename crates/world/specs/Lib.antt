@@ -7,6 +7,8 @@ pub mod Fresh
 pub mod Worked
 pub mod Committed
 pub mod Entries
+pub mod Journals
 pub mod Promises
 pub mod Settled
 pub mod Each
+pub mod Threads

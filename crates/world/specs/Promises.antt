@@ -1,5 +1,5 @@
 -- What is promised of every run, in a customer's words: one set of whole transactions for each data centre, and one number.
-use Rattle.std.specs.Prelude.{◌≡◌, ◌≢◌, ℕ, ◌<◌, true, List, ◌++◌, slice_get, Some, Ok, Contains, AllPairs}
+use Rattle.std.specs.Prelude.{◌≡◌, ◌≢◌, ℕ, ◌<◌, true, List, ◌++◌, ◌==◌, map, filter, Some, Contains, AllPairs}
 use Rattle.logical_time.specs.Stamps.{TxnValue, is_older}
 use Rattle.std.specs.List.{list_any}
 use Rattle.column_family.specs.declared.batch.Change.{Change}
@@ -12,17 +12,16 @@ use Rattle.messages.specs.declared.op.Op.{Op}
 use Rattle.messages.specs.declared.op.Op.TheVariants as op
 use Rattle.messages.specs.declared.outcome.Outcome.{Outcome}
 use Rattle.messages.specs.declared.outcome.Outcome.TheVariants as outcome
-use Rattle.messages.specs.declared.envelope.Envelope.{Envelope}
-use Rattle.messages.specs.Topology.{TopologyValue, is_session}
+use Rattle.messages.specs.Topology.{TopologyValue}
 use Rattle.messages.specs.Honest.{IsHonest}
 use Rattle.messages.specs.Shard.{Decision}
-use Rattle.messages.specs.Session.{SessionStep, Finished}
-use Rattle.messages.specs.SessionEvents.{session_handle}
-use Rattle.world.specs.Run.{Run, Event, Deliver, Submission, Completed, step, run}
+use Rattle.messages.specs.Actors.{outcomes_by}
+use Rattle.world.specs.Run.{Run, Event, Submission, Completed, run}
 use Rattle.world.specs.Histories.{batch_submitted, decisions_in, IsHistory}
 use Rattle.world.specs.Before.{Past}
 use Rattle.world.specs.Fresh.{IsFresh}
 use Rattle.world.specs.Met.{envelopes_to}
+use Rattle.world.specs.Journals.{finished_as, journal_in}
 use Rattle.world.specs.Committed.{IsCommittedBy, time_of, IsNotBelow}
 use Rattle.world.specs.Entries.{IsKeptIn}
 
@@ -57,19 +56,10 @@ pub record IsEndOfSubmitted (w : Run) (c : Completed) : Type 0 where
 abbrev pub EntriesAreOfSubmissions : Run → Type 0
 EntriesAreOfSubmissions w = (c : Completed) → Contains w.transcript c → IsEndOfSubmitted w c
 
--- the entry is what the session finished
-pub record IsEntryOfFinished (w : Run) (session : ℕ) (f : Finished) (c : Completed) : Type 0 where
-  pub completed : Contains w.transcript c
-  pub node : c.node ≡ session
-  pub number : c.number ≡ f.number
-  pub outcome : c.outcome ≡ f.outcome
-
--- whatever a session finishes as a message comes to it stands in the transcript of the run after that
+-- the entries of each actor are what its journal finishes, in that order
 abbrev pub OutcomesAreListed : TopologyValue → Run → Type 0
 OutcomesAreListed top w =
-    (k : ℕ) (e : Envelope) (s : SessionStep) (f : Finished)
-    → slice_get w.sent k ≡ Some e → is_session top e.to ≡ true → session_handle top e.to (w.sessions e.to) e ≡ Ok s → s.state.untaken ≡ Some f
-    → (c : Completed) × IsEntryOfFinished (step top w (Deliver k)) e.to f c
+    (node : ℕ) → map finished_as (filter (λ (c : Completed). c.node == node) w.transcript) ≡ outcomes_by top node (journal_in w node)
 
 -- One table: the answer of each completed read is the meaning of its request on the history of its home, in whatever
 -- order, at its effective time. It is the whole answer: the asked keys in order, each with its slice.

@@ -4,9 +4,14 @@
 //! No program runs them yet. The worked runs are laws too: each computes to the outcomes, clocks and times that are stated.
 #![tactic(auto)]
 
+mod journals;
 mod law;
 mod promises;
 
+pub use journals::{
+    actors_are_their_journals, journals_tell_what_happened, journals_that_fit_are_a_run,
+    steps_keep_time, threads_keep_the_promises,
+};
 pub use law::{
     refused_events_are_left_out, worked_collections, worked_dependencies, worked_inserts_that_meet,
     worked_pasts, worked_reads, worked_replication, worked_writes,
