@@ -21,8 +21,8 @@ use Rattle.world.specs.Entries.{named_by, StampsAgree, WritesAreTold, TellsDecid
 use Rattle.world.specs.Quiet.{IsQuiet}
 use Rattle.world.specs.Settled.{Settled}
 use Rattle.world.specs.Each.{EachShardIsRight}
-use Rattle.world.specs.Promises.{number_of, LaterCommitsAreAbove, Fits, EntriesAreOfSubmissions, OutcomesAreListed, ReadsShowOneTable, ReadsShowTheirPast, ReadsAreFresh, StampsFollowCauses, TimesNeverFall, OperationsEndOnce, HistoriesGrow, HandledIsHonest}
-use Rattle.world.proofs.Among.{Among, among_contains, contains_among}
+use Rattle.world.specs.Promises.{number_of, LaterCommitsAreAbove, Fits, EntriesAreOfSubmissions, OutcomesAreListed, ReadsShowOneTable, AnswersStay, ReadsShowTheirPast, ReadsAreFresh, StampsFollowCauses, TimesNeverFall, OperationsEndOnce, HistoriesGrow, HandledIsHonest}
+use Rattle.world.proofs.Among.{Among, among_contains, contains_among, append_first}
 use Rattle.world.proofs.Growth.{Grows}
 use Rattle.world.proofs.Facts.{lead, IsDone}
 use Rattle.world.proofs.Invariant.{AnsweredFrom, EndSound, Inv}
@@ -37,6 +37,7 @@ use Rattle.world.proofs.Causal.{EndedOnce, NamedOnce, writers_in}
 use Rattle.world.proofs.CausalKept.{new_writers}
 use Rattle.world.proofs.CausalRuns.{every_causal}
 use Rattle.world.proofs.Pasts.{past_reached}
+use Rattle.world.proofs.Grown.{runs_only_grow}
 use Rattle.world.proofs.Runs.{every_run, run_grows, run_after}
 use Rattle.world.proofs.KeptEntries.{history_kept, stamps_agree, writes_are_told}
 use Rattle.world.proofs.Histories.{history_tells, coordinators_decide}
@@ -139,6 +140,18 @@ entries_are_of_submissions top events some c has =
 
 pub outcomes_are_listed : (top : TopologyValue) (events : List Event) → 0 < top.shards → OutcomesAreListed top (run top events)
 outcomes_are_listed top events some node = sym (ap finished_in (each_is_its_journal top events node some))
+
+-- ## Later moments
+
+pub answers_stay : (top : TopologyValue) (before after : List Event) → 0 < top.shards → AnswersStay top before after
+answers_stay top before after some c read time answer h is history =
+    let w = run top before in
+    let v = run top (before ++ after) in
+    let more = (runs_only_grow top before after).transcript in
+    let still : Among c v.transcript =
+    subst (λ l. Among c l) (sym more.1) (append_first c w.transcript more.0 (contains_among c w.transcript is.completed)) in
+    reads_show_one_table top (before ++ after) some c read time answer h
+    (record { completed = among_contains c v.transcript still; op = is.op; outcome = is.outcome }) history
 
 -- ## Histories
 

@@ -72,6 +72,7 @@ pub mod CausalKept
 pub mod CausalRuns
 pub mod FreshShown
 pub mod EventCases
+pub mod Grown
 pub mod Prefixes
 pub mod HeardFirst
 pub mod HeardRuns

@@ -1,5 +1,5 @@
 -- What a step finishes has its entry in the transcript after it.
-use Rattle.std.proofs.Common.{append-nil, ◌≡◌, ◌∙◌, ℕ, ◌<◌, refl, sym, ap, subst, le_of_lt, Bool, true, false, List, [], ◌++◌, map, Option, Some, None, Result, Ok, Err, ◌⊎◌, inl, inr}
+use Rattle.std.proofs.Common.{◌≡◌, ◌∙◌, ℕ, ◌<◌, refl, sym, ap, subst, le_of_lt, Bool, true, false, List, [], map, Option, Some, None, Result, Ok, Err, ◌⊎◌, inl, inr}
 use Rattle.std.specs.Prelude.{if◌then◌else◌, option_map, option_and_then}
 use Rattle.std.specs.List.{cons_option}
 use Rattle.logical_time.specs.declared.fault.Fault.{Fault}
@@ -29,10 +29,6 @@ use Rattle.world.proofs.Entries.{submission_found}
 use Rattle.world.proofs.Moves.{SubmittedBy, Moves, shard_took, session_took}
 
 -- ## Optional elements
-
-pub as_list : (cs : List Completed) (o : Option Completed) → with_ended cs o ≡ cs ++ cons_option o []
-as_list cs None = sym (append-nil cs)
-as_list cs (Some c) = refl
 
 pub the_element : {X : Type 0} (o : Option X) (x : X) → Among x (cons_option o []) → o ≡ Some x
 the_element None x m = absurd m

@@ -16,7 +16,8 @@ use Rattle.world.proofs.Among.{Among, among_contains, contains_among, among_appe
 use Rattle.world.proofs.Ticks.{step_ticks}
 use Rattle.world.proofs.Moves.{Moves, IsMove, each_is_move}
 use Rattle.world.proofs.JournalSteps.{apart_too, AreKnown, known_later, journal_here, journal_there}
-use Rattle.world.proofs.Listed.{as_list, the_element, map_element, IsListed, step_is_listed}
+use Rattle.world.proofs.Transcripts.{as_list}
+use Rattle.world.proofs.Listed.{the_element, map_element, IsListed, step_is_listed}
 use Rattle.world.proofs.Invariant.{Inv}
 use Rattle.world.proofs.Runs.{opening_holds, step_kept}
 use Rattle.world.proofs.Replays.{replay_push}

@@ -1,6 +1,7 @@
 -- What a transcript has after a session's step: what it had, and what the step ended.
-use Rattle.std.proofs.Common.{◌≡◌, ℕ, ap, refl, sym, subst, List, [], ◌∷◌, Option, Some, None, ◌⊎◌, inl, inr}
+use Rattle.std.proofs.Common.{append-nil, ◌≡◌, ℕ, ap, refl, sym, subst, List, [], ◌∷◌, ◌++◌, Option, Some, None, ◌⊎◌, inl, inr}
 use Rattle.std.specs.Prelude.{option_and_then}
+use Rattle.std.specs.List.{cons_option}
 use Rattle.messages.specs.declared.op.Op.{Op}
 use Rattle.messages.specs.declared.op.Op.TheVariants as op
 use Rattle.messages.specs.Topology.{TopologyValue}
@@ -19,6 +20,11 @@ old_stays c cs (Some d) m = append_first c cs (d ∷ []) m
 
 pub ended_is_last : (c : Completed) (cs : List Completed) (o : Option Completed) → o ≡ Some c → Among c (with_ended cs o)
 ended_is_last c cs o e = subst (λ z. Among c (with_ended cs z)) (sym e) (among_last c cs)
+
+-- as a list
+pub as_list : (cs : List Completed) (o : Option Completed) → with_ended cs o ≡ cs ++ cons_option o []
+as_list cs None = sym (append-nil cs)
+as_list cs (Some c) = refl
 
 -- without an outcome nothing ended
 pub nothing_ended : (submitted : List Submission) (node : ℕ) (st : SessionStep) (c : Completed) → st.state.untaken ≡ None → ended_by submitted node st ≡ Some c → ⊥

@@ -88,10 +88,14 @@ receipts_from node journal = filter (λ (e : Envelope). e.from == node) (filter_
 abbrev pub sends_to : ℕ → List Envelope → List Envelope
 sends_to node sent = filter (λ (e : Envelope). e.to == node) sent
 
+-- the first list is a beginning of the second
+abbrev pub IsBeginning : {X : Type 0} → List X → List X → Type 0
+IsBeginning {X} xs ys = (more : List X) × (ys ≡ xs ++ more)
+
 -- The journals fit link by link: each replays without a refusal, what each handles is from an actor, and on each link the
 -- receipts are a beginning of what the sender's journal sent to that node.
 pub record DoLinksFit (top : TopologyValue) (journals : ℕ → List ActorEvent) : Type 0 where
   pub replays : DoReplay top journals
   pub senders : (node : ℕ) (e : Envelope) → node < node_count top → Contains (journals node) (Handle e) → e.from < node_count top
   pub begins : (from to : ℕ) → from < node_count top → to < node_count top
-      → (more : List Envelope) × (sends_to to (sent_by top from (journals from)) ≡ receipts_from from (journals to) ++ more)
+      → IsBeginning (receipts_from from (journals to)) (sends_to to (sent_by top from (journals from)))

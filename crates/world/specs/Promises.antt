@@ -21,7 +21,7 @@ use Rattle.world.specs.Histories.{batch_submitted, decisions_in, IsHistory}
 use Rattle.world.specs.Before.{Past}
 use Rattle.world.specs.Fresh.{IsFresh}
 use Rattle.world.specs.Met.{envelopes_to}
-use Rattle.world.specs.Journals.{finished_as, journal_in}
+use Rattle.world.specs.Journals.{finished_as, journal_in, IsBeginning}
 use Rattle.world.specs.Committed.{IsCommittedBy, time_of, IsNotBelow}
 use Rattle.world.specs.Entries.{IsKeptIn}
 
@@ -61,12 +61,25 @@ abbrev pub OutcomesAreListed : TopologyValue → Run → Type 0
 OutcomesAreListed top w =
     (node : ℕ) → map finished_as (filter (λ (c : Completed). c.node == node) w.transcript) ≡ outcomes_by top node (journal_in w node)
 
+-- what was sent, submitted and completed stays, in order, whatever events follow
+pub record RunsGrow (top : TopologyValue) (before after : List Event) : Type 0 where
+  pub sent : IsBeginning (run top before).sent (run top (before ++ after)).sent
+  pub submitted : IsBeginning (run top before).submitted (run top (before ++ after)).submitted
+  pub transcript : IsBeginning (run top before).transcript (run top (before ++ after)).transcript
+
 -- One table: the answer of each completed read is the meaning of its request on the history of its home, in whatever
 -- order, at its effective time. It is the whole answer: the asked keys in order, each with its slice.
 abbrev pub ReadsShowOneTable : TopologyValue → Run → Type 0
 ReadsShowOneTable top w =
     (c : Completed) (read : Read) (time : ℕ) (answer : List AnsweredRow) (h : History)
     → IsAnswered w c read time answer → IsHistory top w c.home h → answer ≡ meaning read h time
+
+-- it stays so: the answer of each completed read is the meaning of its request on the history of its home at any later
+-- moment, too
+abbrev pub AnswersStay : TopologyValue → List Event → List Event → Type 0
+AnswersStay top before after =
+    (c : Completed) (read : Read) (time : ℕ) (answer : List AnsweredRow) (h : History)
+    → IsAnswered (run top before) c read time answer → IsHistory top (run top (before ++ after)) c.home h → answer ≡ meaning read h time
 
 -- the transaction's batch, as submitted, touches a location of a row that the read asks for
 pub record TouchesAsked (w : Run) (t : TxnValue) (read : Read) : Type 0 where

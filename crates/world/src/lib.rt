@@ -20,6 +20,6 @@ pub use promises::{
     completed_writes_are_in_the_history, each_shard_of_a_run_is_right,
     handled_envelopes_are_honest, histories_only_grow, histories_tell_what_is_decided,
     later_commits_are_above_reads, quiet_means_done, reads_are_fresh, reads_show_one_table,
-    reads_show_their_past, stamps_agree_everywhere, stamps_follow_causal_order,
+    reads_show_their_past, runs_only_grow, stamps_agree_everywhere, stamps_follow_causal_order,
     times_of_a_session_never_fall, transcript_tells_what_ended,
 };
