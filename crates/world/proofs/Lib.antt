@@ -74,6 +74,7 @@ pub mod FreshShown
 pub mod EventCases
 pub mod Grown
 pub mod Prefixes
+pub mod Refusals
 pub mod HeardFirst
 pub mod HeardRuns
 pub mod NowSent

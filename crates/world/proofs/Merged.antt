@@ -13,6 +13,7 @@ use Rattle.world.specs.Run.{Run, Event, opening, step, run}
 use Rattle.world.specs.Journals.{actor_in, journal_in, DoFit, IsThreadedRun}
 use Rattle.world.proofs.Among.{Among, among_contains, contains_among, among_append, append_first, append_second}
 use Rattle.world.proofs.Replayed.{continued_push}
+use Rattle.world.proofs.Refusals.{kept_is_run}
 use Rattle.world.proofs.Ticks.{step_ticks}
 use Rattle.world.proofs.Moves.{Moves}
 use Rattle.world.proofs.Happenings.{Happens, handle_happens, submit_happens, collect_happens}
@@ -246,7 +247,7 @@ module _ (top : TopologyValue) (journals : ℕ → List ActorEvent) where
   ends bound below g = (
     g.run_now.events,
     record {
-      accepted = ap (λ (v : Run). v.events) g.replayed;
+      is_run = kept_is_run top g.run_now.events (ap (λ (v : Run). v.events) g.replayed);
       each = λ m c. ap (λ v. journal_in v m) g.replayed ∙ sym (whole m (g.after m (omega arith) c));
     },
   )

@@ -7,6 +7,7 @@ use Rattle.messages.specs.Topology.{TopologyValue, is_shard, node_count}
 use Rattle.messages.specs.Session.{Finished}
 use Rattle.messages.specs.Actors.{ActorState, OfShard, OfSession, clock_of, ActorStep, actor_step, envelope_of, Replayed, replay_of, sent_by}
 use Rattle.world.specs.Run.{Run, Completed, Event, Submit, Deliver, Collect, run}
+use Rattle.world.specs.Refusals.{IsRun}
 
 -- ## The actors of every run
 
@@ -56,7 +57,7 @@ KeepsTime top me = (a : ActorState) (x : ActorEvent) (s : ActorStep) → actor_s
 -- The journals, one for each node, are those of the run of these events: none of its events is refused, and each actor's
 -- journal in it is exactly that node's.
 pub record IsRunOf (top : TopologyValue) (journals : ℕ → List ActorEvent) (events : List Event) : Type 0 where
-  pub accepted : (run top events).events ≡ events
+  pub is_run : IsRun top events
   pub each : (node : ℕ) → node < node_count top → journal_in (run top events) node ≡ journals node
 
 -- Journals are a threaded run: there is a run whose journals they are

@@ -7,6 +7,7 @@ pub mod Fresh
 pub mod Worked
 pub mod Committed
 pub mod Entries
+pub mod Refusals
 pub mod Journals
 pub mod Promises
 pub mod Settled

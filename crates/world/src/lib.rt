@@ -13,8 +13,8 @@ pub use journals::{
     steps_keep_time, threads_keep_the_promises,
 };
 pub use law::{
-    refused_events_are_left_out, worked_collections, worked_dependencies, worked_inserts_that_meet,
-    worked_pasts, worked_reads, worked_replication, worked_writes,
+    refusals_are_told, refused_events_are_left_out, worked_collections, worked_dependencies,
+    worked_inserts_that_meet, worked_pasts, worked_reads, worked_replication, worked_writes,
 };
 pub use promises::{
     completed_writes_are_in_the_history, each_shard_of_a_run_is_right,
