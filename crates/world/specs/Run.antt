@@ -4,7 +4,6 @@ use Rattle.std.specs.Option.{unwrap_or}
 use Rattle.logical_time.specs.declared.fault.Fault.{Fault}
 use Rattle.logical_time.specs.Stamps.{TxnValue, WriterValue}
 use Rattle.messages.specs.declared.op.Op.{Op}
-use Rattle.messages.specs.declared.outcome.Outcome.{Outcome}
 use Rattle.messages.specs.declared.envelope.Envelope.{Envelope}
 use Rattle.messages.specs.Topology.{TopologyValue, is_shard, is_session, home_of}
 use Rattle.messages.specs.Words.{is_same_txn}
@@ -13,6 +12,7 @@ use Rattle.messages.specs.Session.{SessionState, SessionStep, Finished, new_sess
 use Rattle.messages.specs.ShardEvents.{shard_handle, shard_collect}
 use Rattle.messages.specs.SessionEvents.{session_handle, session_taken}
 use Rattle.messages.specs.Submitting.{session_submit}
+use Rattle.world.specs.declared.completed.Completed.{Completed}
 
 -- ## Events
 
@@ -33,14 +33,6 @@ pub record Submission : Type 0 where
   pub time : ℕ
   pub op : Op
   pub dependencies : List WriterValue
-
--- an operation that ended, with its session's node and home, its number, and what came of it
-pub record Completed : Type 0 where
-  pub node : ℕ
-  pub number : ℕ
-  pub home : ℕ
-  pub op : Op
-  pub outcome : Outcome
 
 -- ## The state of a run
 

@@ -4,10 +4,12 @@
 //! No program runs them yet. The worked runs are laws too: each computes to the outcomes, clocks and times that are stated.
 #![tactic(auto)]
 
+mod completed;
 mod journals;
 mod law;
 mod promises;
 
+pub use completed::Completed;
 pub use journals::{
     actors_are_their_journals, journals_tell_what_happened, journals_that_fit_are_a_run,
     steps_keep_time, threads_keep_the_promises,
