@@ -108,6 +108,7 @@ pub mod OwnJournals
 pub mod EachShard
 pub mod Links
 pub mod Counted
+pub mod Places
 pub mod Numbered
 pub mod Journaled
 pub mod Threaded

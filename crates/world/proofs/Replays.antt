@@ -1,13 +1,17 @@
 -- Replays: one event less at the front, one more at the end, and the times of what is sent.
 use Rattle.std.proofs.Common.{append-nil, ◌≡◌, ◌∙◌, ℕ, ◌<◌, List, [], ◌∷◌, ◌++◌, Option, Some, None, inl, inr, refl, sym, ap, subst, arith}
 use Rattle.std.specs.Prelude.{option_map, option_and_then}
+use Rattle.std.specs.Prelude.{AllPairs}
 use Rattle.std.specs.List.{cons_option}
+use Rattle.std.specs.Option.{unwrap_or}
 use Rattle.std.proofs.lemmas.List.{append_assoc}
 use Rattle.messages.specs.declared.envelope.Envelope.{Envelope}
 use Rattle.messages.specs.Topology.{TopologyValue}
 use Rattle.messages.specs.declared.event.Event.{Event as ActorEvent}
-use Rattle.messages.specs.Actors.{ActorState, clock_of, ActorStep, actor_step, Replayed, before_rest, replay}
+use Rattle.messages.specs.Actors.{opening_actor, ActorState, clock_of, ActorStep, actor_step, Replayed, before_rest, replay}
 use Rattle.world.proofs.Among.{Among, among_contains, among_append}
+use Rattle.world.specs.Journals.{clocks_from, ClocksRise}
+use Rattle.world.proofs.Pairs.{no_pairs, more_pairs}
 use Rattle.world.proofs.Ticks.{step_ticks}
 
 -- the first event is taken, and the rest replays from there
@@ -102,3 +106,28 @@ rest_above top me limit a (x ∷ xs) r h k e m =
 pub next_above : (top : TopologyValue) (me : ℕ) (a : ActorState) (xs : List ActorEvent) → NextAbove top me (clock_of a) a xs
 next_above top me a [] = tt
 next_above top me a (x ∷ xs) = λ s takes. (step_ticks top me a x s takes).rises
+
+-- ## The clocks of a journal
+
+-- they are above the clock that it begins with, and rise
+clocks_above : (top : TopologyValue) (me : ℕ) (xs : List ActorEvent) (a : ActorState)
+    → ((m : ℕ) → Among m (clocks_from top me a xs) → clock_of a < m) × AllPairs (λ m n. m < n) (clocks_from top me a xs)
+clocks_above top me [] a = (λ m i. absurd i, no_pairs (λ m n. m < n))
+clocks_above top me (x ∷ xs) a = go (λ b. clocks_above top me xs b) (actor_step top me a x) refl
+  where
+    clocks_after : Option ActorStep → List ℕ
+    clocks_after o = unwrap_or (option_map (λ (s : ActorStep). clock_of s.state ∷ clocks_from top me s.state xs) o) []
+
+    go : ((b : ActorState) → ((m : ℕ) → Among m (clocks_from top me b xs) → clock_of b < m) × AllPairs (λ m n. m < n) (clocks_from top me b xs))
+        → (o : Option ActorStep) → actor_step top me a x ≡ o
+        → ((m : ℕ) → Among m (clocks_after o) → clock_of a < m) × AllPairs (λ m n. m < n) (clocks_after o)
+    go ih None q = (λ m i. absurd i, no_pairs (λ m n. m < n))
+    go ih (Some s) q =
+        let up = (step_ticks top me a x s q).rises in
+        let rest = ih s.state in (
+          λ m i. elim i [ inl same ↦ (omega arith) | inr later ↦ let above = rest.0 m later in omega arith ],
+          more_pairs (λ m n. m < n) (clock_of s.state) (clocks_from top me s.state xs) rest.0 rest.1,
+        )
+
+pub clocks_rise : (top : TopologyValue) (me : ℕ) → ClocksRise top me
+clocks_rise top me journal = (clocks_above top me journal (opening_actor top me)).1

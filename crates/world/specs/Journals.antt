@@ -1,11 +1,12 @@
 -- Journals: each actor's own events in a run, and when journals are those of a run.
-use Rattle.std.specs.Prelude.{◌≡◌, ℕ, ◌<◌, ◌^◌, ◌==◌, if◌then◌else◌, List, ◌++◌, map, filter, filter_map, slice_get, Option, Some, None, option_and_then, Contains}
+use Rattle.std.specs.Prelude.{◌≡◌, ℕ, ◌<◌, ◌^◌, ◌==◌, if◌then◌else◌, List, [], ◌∷◌, ◌++◌, map, filter, filter_map, slice_get, Option, Some, None, option_map, option_and_then, AllPairs, Contains}
+use Rattle.std.specs.Option.{unwrap_or}
 use Rattle.messages.specs.declared.envelope.Envelope.{Envelope}
 use Rattle.messages.specs.declared.event.Event.{Event as ActorEvent}
 use Rattle.messages.specs.declared.event.Event.TheVariants.{Submit as SubmitHere, Handle, Collect as CollectHere}
 use Rattle.messages.specs.Topology.{TopologyValue, is_shard, node_count}
 use Rattle.messages.specs.Session.{Finished}
-use Rattle.messages.specs.Actors.{ActorState, OfShard, OfSession, clock_of, ActorStep, actor_step, envelope_of, Replayed, replay_of, sent_by}
+use Rattle.messages.specs.Actors.{ActorState, OfShard, OfSession, clock_of, opening_actor, ActorStep, actor_step, envelope_of, Replayed, replay_of, sent_by}
 use Rattle.world.specs.declared.completed.Completed.{Completed}
 use Rattle.world.specs.Run.{Run, Event, Submit, Deliver, Collect, run}
 use Rattle.world.specs.Refusals.{IsRun}
@@ -52,6 +53,16 @@ pub record Ticks (me : ℕ) (a : ActorState) (x : ActorEvent) (s : ActorStep) : 
 -- each step of the actor keeps time so
 abbrev pub KeepsTime : TopologyValue → ℕ → Type 0
 KeepsTime top me = (a : ActorState) (x : ActorEvent) (s : ActorStep) → actor_step top me a x ≡ Some s → Ticks me a x s
+
+-- the clocks of an actor after each of these events, up to one that is refused
+abbrev pub clocks_from : TopologyValue → ℕ → ActorState → List ActorEvent → List ℕ
+clocks_from top me a [] = []
+clocks_from top me a (x ∷ xs) =
+    unwrap_or (option_map (λ (s : ActorStep). clock_of s.state ∷ clocks_from top me s.state xs) (actor_step top me a x)) []
+
+-- along a journal the clock rises
+abbrev pub ClocksRise : TopologyValue → ℕ → Type 0
+ClocksRise top me = (journal : List ActorEvent) → AllPairs (λ m n. m < n) (clocks_from top me (opening_actor top me) journal)
 
 -- ## Journals that are a run
 

@@ -3,13 +3,14 @@ ghost use Rattle.std.specs.Prelude.{◌≡◌, ◌<◌, ℕ, true, List};
 ghost use Rattle.messages.specs.declared.event.Event.{Event as ActorEvent};
 ghost use Rattle.messages.specs.Topology.{TopologyValue, is_topology};
 ghost use Rattle.world.specs.Run.{Event, run};
-ghost use Rattle.world.specs.Journals.{KeepsTime, DoFit, DoLinksFit, IsThreadedRun, IsRunOf, IsItsJournal};
+ghost use Rattle.world.specs.Journals.{KeepsTime, ClocksRise, DoFit, DoLinksFit, IsThreadedRun, IsRunOf, IsItsJournal};
 ghost use Rattle.world.specs.Threads.{IsToldByJournals, JournalsShowOneTable, ThreadsKeepPromises};
 
 /// An actor's clock rises with each of its events. What an event sends carries the clock after it, and what it handles is
-/// older. Does nothing; its contract is the law.
+/// older. So the clocks along a journal rise strictly. Does nothing; its contract is the law.
 pub fn steps_keep_time()
-    ensures { (top : TopologyValue) (node : ℕ) → KeepsTime top node }
+    ensures steps { (top : TopologyValue) (node : ℕ) → KeepsTime top node }
+    ensures journals { (top : TopologyValue) (node : ℕ) → ClocksRise top node }
 {}
 
 /// In every run each actor is the replay of its own journal: that leads to its state, sends exactly what the run has from its
