@@ -8,8 +8,7 @@ use Rattle.messages.specs.declared.outcome.Outcome.{Outcome}
 use Rattle.messages.specs.declared.outcome.Outcome.TheVariants as outcome
 use Rattle.messages.specs.Topology.{TopologyValue}
 use Rattle.messages.specs.Session.{is_idle}
-use Rattle.world.specs.declared.completed.Completed.{Completed}
-use Rattle.world.specs.Run.{Run, Submission}
+use Rattle.world.specs.Run.{Run, Submission, Completed}
 use Rattle.world.specs.Committed.{time_of, IsNotBelow}
 use Rattle.world.proofs.Among.{Among}
 use Rattle.world.proofs.Facts.{txn_of}

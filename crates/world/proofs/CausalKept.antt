@@ -15,8 +15,7 @@ use Rattle.messages.specs.Shard.{ShardStep}
 use Rattle.messages.specs.Session.{SessionState, SessionStep, Open, Finished, is_idle}
 use Rattle.messages.specs.Rounds.{with_writers}
 use Rattle.messages.specs.SessionEvents.{session_taken}
-use Rattle.world.specs.declared.completed.Completed.{Completed}
-use Rattle.world.specs.Run.{Run, Event, Submission, submission_of, completed_of, ended_by, with_ended, after_shard, after_session, after_submission}
+use Rattle.world.specs.Run.{Run, Event, Submission, Completed, submission_of, completed_of, ended_by, with_ended, after_shard, after_session, after_submission}
 use Rattle.messages.proofs.WritersInOrder.{writers_stay}
 use Rattle.world.specs.Committed.{time_of, IsNotBelow}
 use Rattle.world.proofs.Among.{Among, among_contains, append_first, append_second, last_or_old, contains_among, find_some, same_txn}

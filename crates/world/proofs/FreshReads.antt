@@ -32,8 +32,7 @@ use Rattle.messages.specs.Rows.{row_now}
 use Rattle.messages.specs.Session.{SessionState, Open, FirstRound, HeardNow}
 use Rattle.messages.specs.Submitting.{home_node, share_of}
 use Rattle.messages.specs.Rounds.{asked_nodes, was_heard, is_missing}
-use Rattle.world.specs.declared.completed.Completed.{Completed}
-use Rattle.world.specs.Run.{Run, Event, Deliver, Submission, step, continued, run}
+use Rattle.world.specs.Run.{Run, Event, Deliver, Submission, Completed, step, continued, run}
 use Rattle.world.specs.Fresh.{IsKept, WasApplied, IsNoOlder, IsFreshFor, IsFresh}
 use Rattle.messages.proofs.Numbering.{dc_of_shard}
 use Rattle.world.proofs.Runs.{run_after}

@@ -7,8 +7,7 @@ use Rattle.messages.specs.Shard.{ShardState, PreparedPart, Decision}
 use Rattle.messages.specs.Session.{SessionState, Open, Idle, Writing, FirstRound, SecondRound}
 use Rattle.messages.specs.Submitting.{share_of}
 use Rattle.messages.specs.Rounds.{late_keys}
-use Rattle.world.specs.declared.completed.Completed.{Completed}
-use Rattle.world.specs.Run.{Run, Submission}
+use Rattle.world.specs.Run.{Run, Submission, Completed}
 use Rattle.world.proofs.Among.{Among}
 
 -- ## Shards

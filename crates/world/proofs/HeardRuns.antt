@@ -11,8 +11,7 @@ use Rattle.messages.specs.Session.{SessionState, SessionStep, Open, Idle, FirstR
 use Rattle.messages.specs.Submitting.{begun}
 use Rattle.messages.specs.Rounds.{asked_nodes, is_missing}
 use Rattle.messages.specs.SessionEvents.{heard, session_taken}
-use Rattle.world.specs.declared.completed.Completed.{Completed}
-use Rattle.world.specs.Run.{Run, Event, Deliver, Submission, opening, submission_of, completed_of, ended_by, with_ended, submission_by, with_actor, after_session, step, continued, run}
+use Rattle.world.specs.Run.{Run, Event, Deliver, Submission, Completed, opening, submission_of, completed_of, ended_by, with_ended, submission_by, with_actor, after_session, step, continued, run}
 use Rattle.world.specs.Fresh.{IsKept}
 use Rattle.world.proofs.Among.{Among}
 use Rattle.world.proofs.EventCases.{event_cases}

@@ -26,8 +26,7 @@ use Rattle.messages.specs.Replication.{is_ready}
 use Rattle.messages.specs.Session.{SessionState, Open, Idle, Writing, FirstRound, SecondRound, HeardNow, HeardAt}
 use Rattle.messages.specs.Submitting.{share_of, plan_fault}
 use Rattle.messages.specs.Rounds.{asked_nodes, all_heard, effective_time, late_keys, late_nodes, answer_of}
-use Rattle.world.specs.declared.completed.Completed.{Completed}
-use Rattle.world.specs.Run.{Run, Submission}
+use Rattle.world.specs.Run.{Run, Submission, Completed}
 use Rattle.world.proofs.Among.{Among}
 use Rattle.world.proofs.Growth.{AskedNow, AskedAt}
 use Rattle.world.proofs.Facts.{txn_of, IsWritten, lead, part_on, IsDecided, IsDone, DecidedOnce, PreparedBefore, PreparedSound, BallotSound, KeptBallotSound, KeptPartSound, DecisionSound, AppliedSound, Excluded, WaitSound, RowAtSound, AnswersNow, AnswersAt}

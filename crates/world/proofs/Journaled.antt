@@ -10,8 +10,7 @@ use Rattle.messages.specs.Topology.{TopologyValue, is_shard, is_session, shard_n
 use Rattle.messages.proofs.Numbering.{shard_is_shard}
 use Rattle.messages.specs.declared.event.Event.{Event as ActorEvent}
 use Rattle.messages.specs.Actors.{OfShard, OfSession, replay_of}
-use Rattle.world.specs.declared.completed.Completed.{Completed}
-use Rattle.world.specs.Run.{Run, Event, Submission, run, submission_of}
+use Rattle.world.specs.Run.{Run, Event, Completed, Submission, run, submission_of}
 use Rattle.world.specs.Histories.{batch_in, batch_submitted, committed_of}
 use Rattle.world.specs.Journals.{actor_in, finished_as, journal_in, IsRunOf}
 use Rattle.world.specs.Threads.{op_numbered, decided_of, decided_in, decided_by, batch_by, committed_by, IsToldByJournals}

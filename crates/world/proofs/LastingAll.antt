@@ -13,8 +13,7 @@ use Rattle.messages.specs.declared.body.Body.{Body}
 use Rattle.messages.specs.declared.body.Body.TheVariants.{Begin, Prepare, Yes, Commit, At, NotBy, Check, Read as ReadNow, ReadAt, ReplBegin, ReplPart, Notify, PrepareRemote, DepCheck, DepOk, Done, PartNow, PartAt}
 use Rattle.messages.specs.Topology.{TopologyValue}
 use Rattle.messages.specs.Session.{SessionState, Open, Idle, Writing, FirstRound, SecondRound, HeardNow, HeardAt}
-use Rattle.world.specs.declared.completed.Completed.{Completed}
-use Rattle.world.specs.Run.{Run}
+use Rattle.world.specs.Run.{Run, Completed}
 use Rattle.world.proofs.Growth.{Grows}
 use Rattle.world.proofs.Invariant.{IsLead, TellsDecision, TellsThen, Says, ShardSound, IsOpen, HeardNowSound, HeardAtSound, OpenSound, SessionSound, AnsweredFrom, EndSound, CompletedSound}
 use Rattle.world.proofs.Lasting.{written_grows, decided_grows, done_grows, before_grows, prepared_grows, ballot_grows, kept_ballot_grows, kept_part_grows, decision_grows, applied_grows, excluded_grows, row_at_grows, answers_now_grow, answers_at_grow, wait_grows}

@@ -13,8 +13,7 @@ use Rattle.messages.specs.declared.outcome.Outcome.TheVariants as outcome
 use Rattle.messages.specs.Actors.{finished_in}
 use Rattle.messages.specs.Topology.{TopologyValue, is_topology, dc_of, shard_of, shard_node}
 use Rattle.messages.proofs.Numbering.{shard_again}
-use Rattle.world.specs.declared.completed.Completed.{Completed}
-use Rattle.world.specs.Run.{Run, Event, Submission, run, opening}
+use Rattle.world.specs.Run.{Run, Event, Submission, Completed, run, opening}
 use Rattle.world.specs.Histories.{decisions_in, IsHistory}
 use Rattle.world.specs.Before.{ReadRestsOn}
 use Rattle.world.specs.Committed.{IsCommittedBy}

@@ -17,8 +17,7 @@ use Rattle.messages.specs.ShardEvents.{shard_handle, shard_collect}
 use Rattle.messages.specs.SessionEvents.{heard}
 use Rattle.messages.specs.Submitting.{begun, submit_fault, submit_if as submitted_if}
 use Rattle.messages.specs.Actors.{ActorState, OfShard, OfSession, ActorStep, of_shard, of_session, actor_step}
-use Rattle.world.specs.declared.completed.Completed.{Completed}
-use Rattle.world.specs.Run.{Run, Event, Submission, completed_of, with_ended}
+use Rattle.world.specs.Run.{Run, Event, Submission, Completed, completed_of, with_ended}
 use Rattle.world.specs.Journals.{actor_in, finished_as}
 use Rattle.world.proofs.Among.{Among}
 use Rattle.world.proofs.Facts.{txn_of}

@@ -14,8 +14,7 @@ use Rattle.messages.specs.Topology.{TopologyValue, shard_node}
 use Rattle.messages.specs.Session.{SessionStep, Open, Idle, Writing, FirstRound, SecondRound, Finished, calm, is_idle}
 use Rattle.messages.specs.Rounds.{with_writers, answer_of}
 use Rattle.messages.specs.SessionEvents.{ended, answered, given_up, session_taken}
-use Rattle.world.specs.declared.completed.Completed.{Completed}
-use Rattle.world.specs.Run.{Run, Submission, completed_of, ended_by}
+use Rattle.world.specs.Run.{Run, Submission, Completed, completed_of, ended_by}
 use Rattle.world.proofs.Among.{Among}
 use Rattle.world.proofs.Invariant.{IsOpen, AnsweredFrom, Inv}
 use Rattle.world.proofs.DecidedIn.{found}

@@ -10,8 +10,7 @@ use Rattle.messages.specs.Topology.{TopologyValue, node_count}
 use Rattle.messages.specs.declared.event.Event.{Event as ActorEvent}
 use Rattle.messages.specs.declared.event.Event.TheVariants.{Submit as SubmitHere, Handle, Collect as CollectHere}
 use Rattle.messages.specs.Actors.{ActorStep, opening_actor, replay_of, sent_in, sent_by}
-use Rattle.world.specs.declared.completed.Completed.{Completed}
-use Rattle.world.specs.Run.{Run, Event, Submit, Deliver, Collect, opening, step, continued, run}
+use Rattle.world.specs.Run.{Run, Completed, Event, Submit, Deliver, Collect, opening, step, continued, run}
 use Rattle.world.specs.Journals.{actor_in, event_at, journal_in, finished_as, IsRunOf, DoFit, IsItsJournal}
 use Rattle.world.proofs.Among.{Among, among_contains, contains_among, among_append, get_among, filter_among}
 use Rattle.world.proofs.Ticks.{step_ticks}

@@ -13,8 +13,7 @@ use Rattle.messages.specs.declared.outcome.Outcome.TheVariants as outcome
 use Rattle.messages.specs.Topology.{TopologyValue, dc_of}
 use Rattle.messages.specs.Words.{is_same_txn}
 use Rattle.messages.specs.Shard.{Decision}
-use Rattle.world.specs.declared.completed.Completed.{Completed}
-use Rattle.world.specs.Run.{Run, Submission, submission_of}
+use Rattle.world.specs.Run.{Run, Submission, Completed, submission_of}
 use Rattle.world.specs.Committed.{time_of, IsNotBelow}
 use Rattle.world.specs.Histories.{batch_in}
 use Rattle.world.specs.Before.{IsSubmitted, IsWrite, completes, IsCompleted, ReadRestsOn, EndRestsOn, RestsOn, IsJustBefore, IsBeforeOver, Past}

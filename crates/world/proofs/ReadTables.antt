@@ -19,8 +19,7 @@ use Rattle.messages.specs.declared.op.Op.TheVariants as op
 use Rattle.messages.specs.declared.outcome.Outcome.{Outcome}
 use Rattle.messages.specs.declared.outcome.Outcome.TheVariants as outcome
 use Rattle.messages.specs.Topology.{TopologyValue, shard_node}
-use Rattle.world.specs.declared.completed.Completed.{Completed}
-use Rattle.world.specs.Run.{Run}
+use Rattle.world.specs.Run.{Run, Completed}
 use Rattle.world.specs.Histories.{IsHistory}
 use Rattle.messages.proofs.Numbering.{dc_of_shard, number_of_shard}
 use Rattle.world.proofs.Near.{key_below}

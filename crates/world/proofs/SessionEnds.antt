@@ -10,8 +10,7 @@ use Rattle.messages.specs.Topology.{TopologyValue}
 use Rattle.messages.specs.Words.{is_same_txn}
 use Rattle.messages.specs.Session.{SessionState, Open, Idle, Writing, FirstRound, SecondRound, HeardNow, HeardAt, calm, is_idle}
 use Rattle.messages.specs.SessionEvents.{ended}
-use Rattle.world.specs.declared.completed.Completed.{Completed}
-use Rattle.world.specs.Run.{Run, Submission, submission_of, completed_of}
+use Rattle.world.specs.Run.{Run, Submission, Completed, submission_of, completed_of}
 use Rattle.world.proofs.Among.{Among, find_some, same_txn}
 use Rattle.world.proofs.Growth.{FirstAsked, SecondAsked, Grows}
 use Rattle.world.proofs.Facts.{txn_of, IsDone}

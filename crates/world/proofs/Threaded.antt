@@ -7,8 +7,7 @@ use Rattle.messages.specs.Topology.{TopologyValue, is_topology}
 use Rattle.messages.specs.Session.{Finished}
 use Rattle.messages.specs.Actors.{finished_in}
 use Rattle.messages.specs.declared.event.Event.{Event as ActorEvent}
-use Rattle.world.specs.declared.completed.Completed.{Completed}
-use Rattle.world.specs.Run.{run}
+use Rattle.world.specs.Run.{Completed, run}
 use Rattle.world.specs.Histories.{history_of}
 use Rattle.world.specs.Journals.{finished_as, DoFit}
 use Rattle.world.specs.Threads.{op_numbered, JournalsShowOneTable, ThreadsKeepPromises}

@@ -7,8 +7,7 @@ use Rattle.messages.specs.declared.op.Op.TheVariants as op
 use Rattle.messages.specs.Topology.{TopologyValue}
 use Rattle.messages.specs.Session.{SessionState, SessionStep, Finished}
 use Rattle.messages.specs.Submitting.{begun}
-use Rattle.world.specs.declared.completed.Completed.{Completed}
-use Rattle.world.specs.Run.{Submission, completed_of, ended_by, with_ended}
+use Rattle.world.specs.Run.{Submission, Completed, completed_of, ended_by, with_ended}
 use Rattle.world.proofs.Among.{Among, append_first, among_last, last_or_old}
 
 pub ended_or_old : (c : Completed) (cs : List Completed) (o : Option Completed) → Among c (with_ended cs o) → Among c cs ⊎ (o ≡ Some c)

@@ -9,8 +9,7 @@ use Rattle.slice.specs.declared.read.Read.{Read}
 use Rattle.messages.specs.declared.op.Op.TheVariants as op
 use Rattle.messages.specs.declared.outcome.Outcome.TheVariants as outcome
 use Rattle.messages.specs.Shard.{Decision}
-use Rattle.world.specs.declared.completed.Completed.{Completed}
-use Rattle.world.specs.Run.{Submission}
+use Rattle.world.specs.Run.{Completed, Submission}
 use Rattle.world.specs.Histories.{decisions_in}
 use Rattle.world.specs.Quiet.{handled, IsQuiet}
 use Rattle.world.specs.Before.{completes, IsEarlier, RestsOn, Past}

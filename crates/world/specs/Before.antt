@@ -13,8 +13,7 @@ use Rattle.messages.specs.declared.outcome.Outcome.{Outcome}
 use Rattle.messages.specs.declared.outcome.Outcome.TheVariants as outcome
 use Rattle.messages.specs.Topology.{TopologyValue}
 use Rattle.messages.specs.Shard.{Decision}
-use Rattle.world.specs.declared.completed.Completed.{Completed}
-use Rattle.world.specs.Run.{Run, Submission}
+use Rattle.world.specs.Run.{Run, Submission, Completed}
 use Rattle.world.specs.Histories.{batch_submitted, decisions_in, history_of}
 
 -- the session submitted the operation, and it was accepted

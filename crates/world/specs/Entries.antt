@@ -10,8 +10,7 @@ use Rattle.messages.specs.declared.outcome.Outcome.TheVariants as outcome
 use Rattle.logical_time.specs.Stamps.{StampValue, TxnValue}
 use Rattle.messages.specs.Topology.{TopologyValue, dc_of, shard_node}
 use Rattle.messages.specs.Shard.{Decision}
-use Rattle.world.specs.declared.completed.Completed.{Completed}
-use Rattle.world.specs.Run.{Run, Submission}
+use Rattle.world.specs.Run.{Run, Submission, Completed}
 use Rattle.world.specs.Histories.{batch_submitted, decisions_in, IsHistory}
 
 -- ## Submissions and decisions

@@ -18,8 +18,7 @@ use Rattle.messages.specs.declared.outcome.Outcome.TheVariants as outcome
 use Rattle.messages.specs.Topology.{TopologyValue}
 use Rattle.messages.specs.Session.{HeardNow, FirstRound}
 use Rattle.messages.specs.Rounds.{asked_nodes, is_missing}
-use Rattle.world.specs.declared.completed.Completed.{Completed}
-use Rattle.world.specs.Run.{Run, Event, Deliver, step, run}
+use Rattle.world.specs.Run.{Run, Event, Deliver, Completed, step, run}
 use Rattle.world.specs.Histories.{history_of}
 
 -- The session kept this message as a shard's answer to the first round of the read that it numbered so: at its delivery

@@ -7,8 +7,7 @@ use Rattle.messages.specs.declared.event.Event.TheVariants.{Submit as SubmitHere
 use Rattle.messages.specs.Topology.{TopologyValue, is_shard, node_count}
 use Rattle.messages.specs.Session.{Finished}
 use Rattle.messages.specs.Actors.{ActorState, OfShard, OfSession, clock_of, opening_actor, ActorStep, actor_step, envelope_of, Replayed, replay_of, sent_by}
-use Rattle.world.specs.declared.completed.Completed.{Completed}
-use Rattle.world.specs.Run.{Run, Event, Submit, Deliver, Collect, run}
+use Rattle.world.specs.Run.{Run, Completed, Event, Submit, Deliver, Collect, run}
 use Rattle.world.specs.Refusals.{IsRun}
 
 -- ## The actors of every run

@@ -16,8 +16,7 @@ use Rattle.messages.specs.Topology.{TopologyValue}
 use Rattle.messages.specs.Honest.{IsHonest}
 use Rattle.messages.specs.Shard.{Decision}
 use Rattle.messages.specs.Actors.{outcomes_by}
-use Rattle.world.specs.declared.completed.Completed.{Completed}
-use Rattle.world.specs.Run.{Run, Event, Submission, run}
+use Rattle.world.specs.Run.{Run, Event, Submission, Completed, run}
 use Rattle.world.specs.Histories.{batch_submitted, decisions_in, IsHistory}
 use Rattle.world.specs.Before.{Past}
 use Rattle.world.specs.Fresh.{IsFresh}

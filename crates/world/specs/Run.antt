@@ -12,17 +12,10 @@ use Rattle.messages.specs.Session.{SessionState, SessionStep, Finished, new_sess
 use Rattle.messages.specs.ShardEvents.{shard_handle, shard_collect}
 use Rattle.messages.specs.SessionEvents.{session_handle, session_taken}
 use Rattle.messages.specs.Submitting.{session_submit}
-use Rattle.world.specs.declared.completed.Completed.{Completed}
-
--- ## Events
-
--- An event: a session submits an operation, the message of this number is delivered, or a shard collects up to a
--- time. Messages are numbered from 0 in the order of sending, and delivered in any order, again, or never. Sessions
--- and shards are named by their nodes.
-pub data Event : Type 0 where
-  Submit : (session : ℕ) (op : Op) → Event
-  Deliver : (number : ℕ) → Event
-  Collect : (shard time : ℕ) → Event
+-- the events of a run, and the operations that ended in it, are public types
+pub use Rattle.world.specs.declared.run_event.RunEvent.{RunEvent as Event}
+pub use Rattle.world.specs.declared.run_event.RunEvent.TheVariants.{Submit, Deliver, Collect}
+pub use Rattle.world.specs.declared.completed.Completed.{Completed}
 
 -- an operation that its session accepted, with its number there, the session's home and its clock, and what a write then
 -- depends on

@@ -13,8 +13,7 @@ use Rattle.messages.specs.Topology.{TopologyValue}
 use Rattle.messages.specs.Shard.{ShardState, PreparedPart, BegunBallot, Vote, Decision, KeptPart, KeptBallot, Asker}
 use Rattle.messages.specs.Session.{Idle}
 use Rattle.messages.specs.Known.{decision_of, is_applied}
-use Rattle.world.specs.declared.completed.Completed.{Completed}
-use Rattle.world.specs.Run.{Run, Submission}
+use Rattle.world.specs.Run.{Run, Submission, Completed}
 use Rattle.world.specs.Histories.{decisions_in, IsHistory}
 
 -- this is what came of the submitted operation: of its session and number, as it was submitted

@@ -18,8 +18,7 @@ use Rattle.messages.specs.declared.event.Event.TheVariants.{Submit as SubmitHere
 use Rattle.messages.specs.Topology.{TopologyValue, is_session, shard_node, node_count, home_of}
 use Rattle.messages.specs.Shard.{Decision}
 use Rattle.messages.specs.Actors.{ActorState, OfShard, OfSession, Replayed, replay_of, outcomes_by}
-use Rattle.world.specs.declared.completed.Completed.{Completed}
-use Rattle.world.specs.Run.{Run, Submission, Event, run}
+use Rattle.world.specs.Run.{Run, Submission, Completed, Event, run}
 use Rattle.world.specs.Histories.{batch_in, history_of}
 use Rattle.world.specs.Journals.{actor_in, finished_as, IsRunOf, IsThreadedRun}
 use Rattle.world.specs.Promises.{ReadsShowOneTable, ReadsShowTheirPast, ReadsAreFresh}

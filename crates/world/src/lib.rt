@@ -8,6 +8,7 @@ mod completed;
 mod journals;
 mod law;
 mod promises;
+mod run_event;
 
 pub use completed::Completed;
 pub use journals::{
@@ -25,3 +26,4 @@ pub use promises::{
     reads_show_their_past, runs_only_grow, stamps_agree_everywhere, stamps_follow_causal_order,
     times_of_a_session_never_fall, transcript_tells_what_ended,
 };
+pub use run_event::RunEvent;
