@@ -1,18 +1,17 @@
 -- The histories, outcomes and operations of a run are those that its journals give.
-use Rattle.std.proofs.Common.{◌≡◌, ◌∙◌, ℕ, zero, suc, ◌<◌, sym, ap, refl, Bool, true, false, List, [], ◌∷◌, ◌++◌, map, Option, Some, None, inl, inr}
-use Rattle.std.specs.Prelude.{◌==◌, if◌then◌else◌, filter, filter_map, flat_map, option_map, option_and_then, slice_get}
+use Rattle.std.proofs.Common.{◌≡◌, ◌∙◌, ℕ, zero, suc, ◌<◌, sym, ap, refl, Bool, true, false, List, [], ◌∷◌, ◌++◌, Option, Some, None, inl, inr}
+use Rattle.std.specs.Prelude.{if◌then◌else◌, filter_map, flat_map, option_map, option_and_then, slice_get}
 use Rattle.std.specs.List.{range_with_len}
 use Rattle.logical_time.specs.Stamps.{TxnValue}
 use Rattle.column_family.specs.declared.batch.Change.{Change}
 use Rattle.messages.specs.declared.op.Op.{Op}
-use Rattle.messages.specs.declared.envelope.Envelope.{Envelope}
 use Rattle.messages.specs.Topology.{TopologyValue, is_shard, is_session, shard_node, node_count}
 use Rattle.messages.proofs.Numbering.{shard_is_shard}
 use Rattle.messages.specs.declared.event.Event.{Event as ActorEvent}
 use Rattle.messages.specs.Actors.{OfShard, OfSession, replay_of}
-use Rattle.world.specs.Run.{Run, Event, Completed, Submission, run, submission_of}
+use Rattle.world.specs.Run.{Run, Event, Submission, run, submission_of}
 use Rattle.world.specs.Histories.{batch_in, batch_submitted, committed_of}
-use Rattle.world.specs.Journals.{actor_in, finished_as, journal_in, IsRunOf}
+use Rattle.world.specs.Journals.{held_in, journal_in, IsRunOf}
 use Rattle.world.specs.Threads.{op_numbered, decided_of, decided_in, decided_by, batch_by, committed_by, IsToldByJournals}
 use Rattle.world.proofs.Among.{Among, contains_among}
 use Rattle.world.proofs.Near.{listed_below}
@@ -31,14 +30,7 @@ module _ (top : TopologyValue) (journals : ℕ → List ActorEvent) (events : Li
   w = run top events
 
   -- the replay of a journal ends in the actor of the run
-  replayed_there : (node : ℕ) → node < node_count top
-      → replay_of top node (journals node)
-      ≡ Some
-      (record {
-        state = actor_in top w node;
-        sent = filter (λ (e : Envelope). e.from == node) w.sent;
-        finished = map finished_as (filter (λ (c : Completed). c.node == node) w.transcript);
-      })
+  replayed_there : (node : ℕ) → node < node_count top → replay_of top node (journals node) ≡ Some (held_in top w node)
   replayed_there node lt = ap (replay_of top node) (sym (is.each node lt)) ∙ (run_journals top events some).each node
 
   decided_there : (node : ℕ) → is_shard top node ≡ true → (w.shards node).decided ≡ decided_by top journals node

@@ -5,14 +5,13 @@ use Rattle.std.specs.List.{cons_option}
 use Rattle.logical_time.specs.declared.fault.Fault.{Fault}
 use Rattle.logical_time.specs.Stamps.{TxnValue}
 use Rattle.messages.specs.declared.op.Op.{Op}
-use Rattle.messages.specs.declared.op.Op.TheVariants as op
 use Rattle.messages.specs.declared.envelope.Envelope.{Envelope}
 use Rattle.messages.specs.declared.event.Event.{Event as ActorEvent}
 use Rattle.messages.specs.declared.event.Event.TheVariants.{Submit as SubmitHere, Handle, Collect as CollectHere}
 use Rattle.messages.specs.Topology.{TopologyValue, is_shard}
 use Rattle.messages.specs.Clock.{ticked, on_clock}
 use Rattle.messages.specs.Shard.{ShardStep}
-use Rattle.messages.specs.Session.{SessionState, SessionStep, Finished, is_idle}
+use Rattle.messages.specs.Session.{SessionStep, Finished, is_idle}
 use Rattle.messages.specs.ShardEvents.{shard_handle, shard_collect}
 use Rattle.messages.specs.SessionEvents.{heard}
 use Rattle.messages.specs.Submitting.{begun, submit_fault, submit_if as submitted_if}
@@ -26,6 +25,7 @@ use Rattle.world.proofs.Events.{ticked_above}
 use Rattle.world.proofs.SessionSteps.{Stays, Ends, SessionAble}
 use Rattle.world.proofs.SessionsKept.{heard_able}
 use Rattle.world.proofs.Entries.{submission_found}
+use Rattle.world.proofs.Transcripts.{submission_tells_nothing}
 use Rattle.world.proofs.Moves.{SubmittedBy, Moves, shard_took, session_took}
 
 -- ## Optional elements
@@ -64,10 +64,6 @@ told_is_found top w n st inv able f tells = go able.turn
         let same : own ≡ f = cc in
         (c, ap (completed_of w.submitted n) (sym same) ∙ is, refl, same)
 
-begun_tells_none : (top : TopologyValue) (me n : ℕ) (a : SessionState) (o : Op) → (begun top me n a o).state.untaken ≡ None
-begun_tells_none top me n a (op.Batch batch) = refl
-begun_tells_none top me n a (op.Read read) = refl
-
 -- ## An actor's step
 
 shard_finishes_none : (r : Result ShardStep Fault) (s : ActorStep) → of_shard r ≡ Some s → s.finishes ≡ None
@@ -86,7 +82,7 @@ submission_finishes_none top n (OfSession a) o s q = go (submit_fault (is_idle a
     by None h = absurd (cc)
     by (Some k) h =
         let is : session_took (begun top n k a o) ≡ s = cc in
-        sym (ap (λ (z : ActorStep). z.finishes) is) ∙ begun_tells_none top n k a o
+        sym (ap (λ (z : ActorStep). z.finishes) is) ∙ submission_tells_nothing top n k a o
 
     go : (f : Option Fault) → of_session (submitted_if f top n a o) ≡ Some s → s.finishes ≡ None
     go (Some fault) h = absurd (cc)

@@ -1,17 +1,17 @@
 -- The actors of every run are the replays of their own journals, which fit together.
 use Rattle.std.proofs.Common.{append-nil, ◌≡◌, ◌∙◌, ℕ, ◌<◌, Bool, true, false, cond, List, [], ◌∷◌, ◌++◌, map, Option, Some, None, inl, inr, refl, sym, ap, subst, slice_get, eqb-true, eq-eqb}
-use Rattle.std.specs.Prelude.{◌==◌, if◌then◌else◌, filter, filter_map, option_and_then}
+use Rattle.std.specs.Prelude.{◌==◌, if◌then◌else◌, filter, option_and_then}
 use Rattle.std.specs.List.{cons_option}
 use Rattle.std.proofs.lemmas.List.{map-append}
 use Rattle.std.proofs.lemmas.List.Elements.{filter-append}
 use Rattle.messages.specs.declared.envelope.Envelope.{Envelope}
-use Rattle.messages.specs.Session.{Finished}
 use Rattle.messages.specs.Topology.{TopologyValue, node_count}
 use Rattle.messages.specs.declared.event.Event.{Event as ActorEvent}
 use Rattle.messages.specs.declared.event.Event.TheVariants.{Submit as SubmitHere, Handle, Collect as CollectHere}
 use Rattle.messages.specs.Actors.{ActorStep, opening_actor, replay_of, sent_in, sent_by}
+use Rattle.store.proofs.Lists.{given_only}
 use Rattle.world.specs.Run.{Run, Completed, Event, Submit, Deliver, Collect, opening, step, continued, run}
-use Rattle.world.specs.Journals.{actor_in, event_at, journal_in, finished_as, IsRunOf, DoFit, IsItsJournal}
+use Rattle.world.specs.Journals.{actor_in, event_at, journal_in, finished_as, sent_from, ended_at, held_in, IsRunOf, DoFit, IsItsJournal}
 use Rattle.world.proofs.Among.{Among, among_contains, contains_among, among_append, get_among, filter_among}
 use Rattle.world.proofs.Ticks.{step_ticks}
 use Rattle.world.proofs.Moves.{Moves, IsMove, each_is_move}
@@ -32,22 +32,7 @@ pub none_stays : {X : Type 0} (p : X → Bool) (xs : List X) → ((x : X) → Am
 none_stays p [] f = refl
 none_stays p (x ∷ xs) f = ap (λ b. cond b (x ∷ filter p xs) (filter p xs)) (f x (inl refl)) ∙ none_stays p xs (λ y m. f y (inr m))
 
--- what a chosen list has comes from an element
-pub told_by : {X Y : Type 0} (f : X → Option Y) (xs : List X) (y : Y) → Among y (filter_map f xs) → (x : X) × Among x xs × (f x ≡ Some y)
-told_by f [] y m = absurd m
-told_by {X} {Y} f (x ∷ xs) y m = go (f x) refl (λ i. told_by f xs y i) m
-  where
-    go : (o : Option Y) → f x ≡ o → (Among y (filter_map f xs) → (z : X) × Among z xs × (f z ≡ Some y)) → Among y (cons_option o (filter_map f xs))
-        → (z : X) × Among z (x ∷ xs) × (f z ≡ Some y)
-    go None q ih i = let r = ih i in (r.0, inr r.1, r.2)
-    go (Some z) q ih (inl same) = (x, inl refl, q ∙ ap Some (sym same))
-    go (Some z) q ih (inr i) = let r = ih i in (r.0, inr r.1, r.2)
-
 -- ## Every run
-
--- what the transcript has of an actor, as its session has it
-abbrev ended_at : ℕ → List Completed → List Finished
-ended_at m transcript = map finished_as (filter (λ (c : Completed). c.node == m) transcript)
 
 pub record AreOwnJournals (top : TopologyValue) (w : Run) : Type 0 where
   pub known : AreKnown w
@@ -59,12 +44,12 @@ module _ (top : TopologyValue) (w v : Run) (ev : Event) (n : ℕ) (x : ActorEven
   own : (e : Envelope) → Among e s.sends → e.from ≡ n
   own e m = ((step_ticks top n (actor_in top w n) x s f.takes).sends e (among_contains e s.sends m)).0
 
-  sent_now : (m : ℕ) → filter (λ (e : Envelope). e.from == m) v.sent ≡ filter (λ (e : Envelope). e.from == m) w.sent ++ filter (λ (e : Envelope). e.from == m) s.sends
+  sent_now : (m : ℕ) → sent_from v m ≡ sent_from w m ++ filter (λ (e : Envelope). e.from == m) s.sends
   sent_now m = ap (filter (λ (e : Envelope). e.from == m)) f.sent ∙ filter-append (λ (e : Envelope). e.from == m) w.sent s.sends
 
-  ended_now : (m : ℕ) → ended_at m v.transcript ≡ ended_at m w.transcript ++ map finished_as (filter (λ (c : Completed). c.node == m) (cons_option g.entry []))
+  ended_now : (m : ℕ) → ended_at v m ≡ ended_at w m ++ map finished_as (filter (λ (c : Completed). c.node == m) (cons_option g.entry []))
   ended_now m =
-      ap (ended_at m) (g.transcript ∙ as_list w.transcript g.entry)
+      ap (λ l. map finished_as (filter (λ (c : Completed). c.node == m) l)) (g.transcript ∙ as_list w.transcript g.entry)
       ∙ ap (map finished_as) (filter-append (λ (c : Completed). c.node == m) w.transcript (cons_option g.entry []))
       ∙ map-append finished_as (filter (λ (c : Completed). c.node == m) w.transcript) (filter (λ (c : Completed). c.node == m) (cons_option g.entry []))
 
@@ -77,13 +62,13 @@ module _ (top : TopologyValue) (w v : Run) (ev : Event) (n : ℕ) (x : ActorEven
       ∙ map_element finished_as g.entry ∙ ap (λ o. cons_option o []) g.same in
       ap (replay_of top n) (journal_here f k.known)
       ∙ replay_push top n (opening_actor top n) (journal_in w n) x
-      (record { state = actor_in top w n; sent = filter (λ (e : Envelope). e.from == n) w.sent; finished = ended_at n w.transcript }) s (k.each n) f.takes
-      ∙ ap (λ a. Some (record { state = a; sent = filter (λ (e : Envelope). e.from == n) w.sent ++ s.sends; finished = ended_at n w.transcript ++ cons_option s.finishes [] }))
+      (held_in top w n) s (k.each n) f.takes
+      ∙ ap (λ a. Some (record { state = a; sent = sent_from w n ++ s.sends; finished = ended_at w n ++ cons_option s.finishes [] }))
       (sym f.here)
-      ∙ ap (λ l. Some (record { state = actor_in top v n; sent = l; finished = ended_at n w.transcript ++ cons_option s.finishes [] }))
-      (sym (sent_now n ∙ ap (λ l. filter (λ (e : Envelope). e.from == n) w.sent ++ l) mine))
-      ∙ ap (λ l. Some (record { state = actor_in top v n; sent = filter (λ (e : Envelope). e.from == n) v.sent; finished = l }))
-      (sym (ended_now n ∙ ap (λ l. ended_at n w.transcript ++ l) ours))
+      ∙ ap (λ l. Some (record { state = actor_in top v n; sent = l; finished = ended_at w n ++ cons_option s.finishes [] }))
+      (sym (sent_now n ∙ ap (λ l. sent_from w n ++ l) mine))
+      ∙ ap (λ l. Some (record { state = actor_in top v n; sent = sent_from v n; finished = l }))
+      (sym (ended_now n ∙ ap (λ l. ended_at w n ++ l) ours))
 
   there : (m : ℕ) → (n == m) ≡ false → IsItsJournal top v m
   there m apart =
@@ -93,11 +78,11 @@ module _ (top : TopologyValue) (w v : Run) (ev : Event) (n : ℕ) (x : ActorEven
       none_stays (λ (c : Completed). c.node == m) (cons_option g.entry []) (λ c i. ap (λ z. z == m) (g.mine c (the_element g.entry c i)) ∙ apart) in
       ap (replay_of top m) (journal_there f k.known m apart)
       ∙ k.each m
-      ∙ ap (λ a. Some (record { state = a; sent = filter (λ (e : Envelope). e.from == m) w.sent; finished = ended_at m w.transcript })) (sym (f.others m (apart_too n m apart)))
-      ∙ ap (λ l. Some (record { state = actor_in top v m; sent = l; finished = ended_at m w.transcript }))
-      (sym (sent_now m ∙ ap (λ l. filter (λ (e : Envelope). e.from == m) w.sent ++ l) others ∙ append-nil (filter (λ (e : Envelope). e.from == m) w.sent)))
-      ∙ ap (λ l. Some (record { state = actor_in top v m; sent = filter (λ (e : Envelope). e.from == m) v.sent; finished = l }))
-      (sym (ended_now m ∙ ap (λ l. ended_at m w.transcript ++ map finished_as l) theirs ∙ append-nil (ended_at m w.transcript)))
+      ∙ ap (λ a. Some (record { state = a; sent = sent_from w m; finished = ended_at w m })) (sym (f.others m (apart_too n m apart)))
+      ∙ ap (λ l. Some (record { state = actor_in top v m; sent = l; finished = ended_at w m }))
+      (sym (sent_now m ∙ ap (λ l. sent_from w m ++ l) others ∙ append-nil (sent_from w m)))
+      ∙ ap (λ l. Some (record { state = actor_in top v m; sent = sent_from v m; finished = l }))
+      (sym (ended_now m ∙ ap (λ l. ended_at w m ++ map finished_as l) theirs ∙ append-nil (ended_at w m)))
 
   pub moved_on : AreOwnJournals top v
   moved_on =
@@ -138,7 +123,7 @@ each_is_its_journal top events node some = (run_journals top events some).each n
 
 -- what an actor of a run handles was sent to it
 pub handled_there : (w : Run) (m : ℕ) (e : Envelope) → Among (Handle e) (journal_in w m) → Among e w.sent × (e.to ≡ m)
-handled_there w m e i = let t = told_by (event_at w m) w.events (Handle e) i in at t.0 t.2
+handled_there w m e i = let t = given_only (event_at w m) w.events (Handle e) (among_contains (Handle e) (journal_in w m) i) in at t.0 t.2
   where
     sent : (k : ℕ) (o : Option Envelope) → slice_get w.sent k ≡ o → option_and_then (λ (z : Envelope). if z.to == m then Some (Handle z) else None) o ≡ Some (Handle e)
         → Among e w.sent × (e.to ≡ m)

@@ -40,7 +40,10 @@ pub ended_as_told : (submitted : List Submission) (node : ℕ) (st : SessionStep
 ended_as_told submitted node st f told = ap (option_and_then (completed_of submitted node)) told
 
 -- a submission ends nothing
+pub submission_tells_nothing : (top : TopologyValue) (me n : ℕ) (a : SessionState) (o : Op) → (begun top me n a o).state.untaken ≡ None
+submission_tells_nothing top me n a (op.Batch batch) = refl
+submission_tells_nothing top me n a (op.Read read) = refl
+
 pub submission_ends_nothing : (top : TopologyValue) (me n : ℕ) (a : SessionState) (o : Op) (submitted : List Submission) (node : ℕ)
     → ended_by submitted node (begun top me n a o) ≡ None
-submission_ends_nothing top me n a (op.Batch batch) submitted node = refl
-submission_ends_nothing top me n a (op.Read read) submitted node = refl
+submission_ends_nothing top me n a o submitted node = ap (option_and_then (completed_of submitted node)) (submission_tells_nothing top me n a o)

@@ -30,17 +30,21 @@ journal_in w node = filter_map (event_at w node) w.events
 abbrev pub finished_as : Completed → Finished
 finished_as c = record { number = c.number; outcome = c.outcome }
 
--- The actor of a run is the replay of its own journal there: that leads to its state, sent exactly what the run has from its
--- node and finished exactly what the transcript has of it, each in order.
+-- what a run has from the node of an actor, in order
+abbrev pub sent_from : Run → ℕ → List Envelope
+sent_from w node = filter (λ (e : Envelope). e.from == node) w.sent
+
+-- what the transcript has of an actor, in order
+abbrev pub ended_at : Run → ℕ → List Finished
+ended_at w node = map finished_as (filter (λ (c : Completed). c.node == node) w.transcript)
+
+-- what a run has of an actor: its state, all that it sent and all that it finished
+abbrev pub held_in : TopologyValue → Run → ℕ → Replayed
+held_in top w node = record { state = actor_in top w node; sent = sent_from w node; finished = ended_at w node }
+
+-- what the run has of the actor is the replay of its own journal there
 abbrev pub IsItsJournal : TopologyValue → Run → ℕ → Type 0
-IsItsJournal top w node =
-    replay_of top node (journal_in w node)
-    ≡ Some
-    (record {
-      state = actor_in top w node;
-      sent = filter (λ (e : Envelope). e.from == node) w.sent;
-      finished = map finished_as (filter (λ (c : Completed). c.node == node) w.transcript);
-    })
+IsItsJournal top w node = replay_of top node (journal_in w node) ≡ Some (held_in top w node)
 
 -- The clock rises, and stays a time. What is sent is from this node, at the clock after the event; what is handled is older.
 pub record Ticks (me : ℕ) (a : ActorState) (x : ActorEvent) (s : ActorStep) : Type 0 where

@@ -1,5 +1,5 @@
 -- What is promised of every run, in a customer's words: one set of whole transactions for each data centre, and one number.
-use Rattle.std.specs.Prelude.{◌≡◌, ◌≢◌, ℕ, ◌<◌, true, List, ◌++◌, ◌==◌, map, filter, Some, Contains, AllPairs}
+use Rattle.std.specs.Prelude.{◌≡◌, ◌≢◌, ℕ, ◌<◌, true, List, ◌++◌, Some, Contains, AllPairs}
 use Rattle.logical_time.specs.Stamps.{TxnValue, is_older}
 use Rattle.std.specs.List.{list_any}
 use Rattle.column_family.specs.declared.batch.Change.{Change}
@@ -21,7 +21,7 @@ use Rattle.world.specs.Histories.{batch_submitted, decisions_in, IsHistory}
 use Rattle.world.specs.Before.{Past}
 use Rattle.world.specs.Fresh.{IsFresh}
 use Rattle.world.specs.Met.{envelopes_to}
-use Rattle.world.specs.Journals.{finished_as, journal_in, IsBeginning}
+use Rattle.world.specs.Journals.{journal_in, ended_at, IsBeginning}
 use Rattle.world.specs.Committed.{IsCommittedBy, time_of, IsNotBelow}
 use Rattle.world.specs.Entries.{IsKeptIn}
 
@@ -58,8 +58,7 @@ EntriesAreOfSubmissions w = (c : Completed) → Contains w.transcript c → IsEn
 
 -- the entries of each actor are what its journal finishes, in that order
 abbrev pub OutcomesAreListed : TopologyValue → Run → Type 0
-OutcomesAreListed top w =
-    (node : ℕ) → map finished_as (filter (λ (c : Completed). c.node == node) w.transcript) ≡ outcomes_by top node (journal_in w node)
+OutcomesAreListed top w = (node : ℕ) → ended_at w node ≡ outcomes_by top node (journal_in w node)
 
 -- what was sent, submitted and completed stays, in order, whatever events follow
 pub record RunsGrow (top : TopologyValue) (before after : List Event) : Type 0 where

@@ -1,5 +1,5 @@
 -- What journals tell by themselves, whatever run they are of, and what is promised of them.
-use Rattle.std.specs.Prelude.{◌≡◌, ℕ, zero, suc, ◌<◌, ◌==◌, if◌then◌else◌, List, [], true, map, filter, filter_map, flat_map, slice_get, Option, Some, None, option_map, option_and_then, Contains, IsPermutation}
+use Rattle.std.specs.Prelude.{◌≡◌, ℕ, zero, suc, ◌<◌, if◌then◌else◌, List, [], true, filter_map, flat_map, slice_get, Option, Some, None, option_map, option_and_then, Contains, IsPermutation}
 use Rattle.std.specs.Option.{unwrap_or}
 use Rattle.std.specs.List.{range_with_len}
 use Rattle.logical_time.specs.Stamps.{TxnValue}
@@ -12,15 +12,14 @@ use Rattle.table.specs.Meaning.{meaning}
 use Rattle.messages.specs.declared.op.Op.{Op}
 use Rattle.messages.specs.declared.op.Op.TheVariants as op
 use Rattle.messages.specs.declared.outcome.Outcome.TheVariants as outcome
-use Rattle.messages.specs.declared.envelope.Envelope.{Envelope}
 use Rattle.messages.specs.declared.event.Event.{Event as ActorEvent}
 use Rattle.messages.specs.declared.event.Event.TheVariants.{Submit as SubmitHere, Handle, Collect as CollectHere}
 use Rattle.messages.specs.Topology.{TopologyValue, is_session, shard_node, node_count, home_of}
 use Rattle.messages.specs.Shard.{Decision}
 use Rattle.messages.specs.Actors.{ActorState, OfShard, OfSession, Replayed, replay_of, outcomes_by}
-use Rattle.world.specs.Run.{Run, Submission, Completed, Event, run}
+use Rattle.world.specs.Run.{Run, Submission, Event, run}
 use Rattle.world.specs.Histories.{batch_in, history_of}
-use Rattle.world.specs.Journals.{actor_in, finished_as, IsRunOf, IsThreadedRun}
+use Rattle.world.specs.Journals.{held_in, IsRunOf, IsThreadedRun}
 use Rattle.world.specs.Promises.{ReadsShowOneTable, ReadsShowTheirPast, ReadsAreFresh}
 
 -- ## Operations
@@ -66,14 +65,7 @@ history_by top journals dc =
 -- The run's actors, what each sent and what the transcript has of it are what the journals' replays give; so are its
 -- histories and its submitted operations.
 pub record IsToldByJournals (top : TopologyValue) (journals : ℕ → List ActorEvent) (w : Run) : Type 0 where
-  pub actors : (node : ℕ) → node < node_count top
-      → replay_of top node (journals node)
-      ≡ Some
-      (record {
-        state = actor_in top w node;
-        sent = filter (λ (e : Envelope). e.from == node) w.sent;
-        finished = map finished_as (filter (λ (c : Completed). c.node == node) w.transcript);
-      })
+  pub actors : (node : ℕ) → node < node_count top → replay_of top node (journals node) ≡ Some (held_in top w node)
   pub history : (dc : ℕ) → dc < top.dcs → history_of top w dc ≡ history_by top journals dc
   pub operations : (b : Submission) → Contains w.submitted b → op_numbered (journals b.session) b.number ≡ Some b.op
 
