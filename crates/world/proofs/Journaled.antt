@@ -1,6 +1,6 @@
 -- The histories, outcomes and operations of a run are those that its journals give.
 use Rattle.std.proofs.Common.{◌≡◌, ◌∙◌, ℕ, zero, suc, ◌<◌, sym, ap, refl, Bool, true, false, List, [], ◌∷◌, ◌++◌, Option, Some, None, inl, inr}
-use Rattle.std.specs.Prelude.{if◌then◌else◌, filter_map, flat_map, option_map, option_and_then, slice_get}
+use Rattle.std.specs.Prelude.{if◌then◌else◌, filter_map, flat_map, option_map, option_and_then, slice_get, Contains}
 use Rattle.std.specs.List.{range_with_len}
 use Rattle.logical_time.specs.Stamps.{TxnValue}
 use Rattle.column_family.specs.declared.batch.Change.{Change}
@@ -57,6 +57,11 @@ module _ (top : TopologyValue) (journals : ℕ → List ActorEvent) (events : Li
       by true q = ap (λ l. option_and_then batch_in (op_numbered l t.number)) (is.each t.session (session_node_counts top t.session q))
       by false q = none t.number (k.quiet t.session q)
 
+  pub operation_there : (b : Submission) → Contains w.submitted b → op_numbered (journals b.session) b.number ≡ Some b.op
+  operation_there b has =
+      let h = (run_numbered top events).named b (contains_among b w.submitted has) in
+      ap (λ l. op_numbered l b.number) (sym (is.each b.session (session_node_counts top b.session h.0))) ∙ h.1
+
   pub told_by_journals : IsToldByJournals top journals w
   told_by_journals =
       record {
@@ -67,7 +72,5 @@ module _ (top : TopologyValue) (journals : ℕ → List ActorEvent) (events : Li
             (λ s m. decided_there (shard_node top dc s) (shard_is_shard top dc s lt (listed_below top.shards s m))))
             ∙ same_told (committed_of w) (committed_by top journals) (flat_map (λ s. decided_by top journals (shard_node top dc s)) (range_with_len 0 top.shards))
             (λ d m. ap (λ o. option_map (λ (batch : List Change). record { batch = batch; stamp = d.stamp; commit = d.commit }) o) (batch_there d.txn));
-        operations = λ b has.
-            let h = (run_numbered top events).named b (contains_among b w.submitted has) in
-            ap (λ l. op_numbered l b.number) (sym (is.each b.session (session_node_counts top b.session h.0))) ∙ h.1;
+        operations = λ t here. (run_numbered top events).ops t ∙ ap (λ l. op_numbered l t.number) (is.each t.session (session_node_counts top t.session here));
       }

@@ -18,7 +18,7 @@ use Rattle.world.proofs.Addresses.{stands}
 use Rattle.world.proofs.Moves.{session_node_counts}
 use Rattle.world.proofs.Laws.{reads_show_one_table, reads_show_their_past, reads_are_fresh, entries_are_of_submissions}
 use Rattle.world.proofs.Merged.{are_a_run}
-use Rattle.world.proofs.Journaled.{told_by_journals}
+use Rattle.world.proofs.Journaled.{operation_there, told_by_journals}
 
 pub show_one_table : (top : TopologyValue) (journals : ℕ → List ActorEvent) → is_topology top.dcs top.shards top.homes ≡ true → DoFit top journals
     → JournalsShowOneTable top journals
@@ -40,7 +40,7 @@ show_one_table top journals ok fit node read time answer h here a all =
     let session : b.session ≡ node = of.session ∙ eqb-true c.0.node node among.1 in
     let number : b.number ≡ a.number = of.number ∙ sym (ap (λ (z : Finished). z.number) c.2) in
     let named : Some b.op ≡ Some (op.Read read) =
-    sym (told.operations b of.submitted) ∙ ap (λ z. op_numbered (journals z) b.number) session ∙ ap (op_numbered (journals node)) number ∙ a.op in
+    sym (operation_there top journals events s.some found.1 b of.submitted) ∙ ap (λ z. op_numbered (journals z) b.number) session ∙ ap (op_numbered (journals node)) number ∙ a.op in
     let same : b.op ≡ op.Read read = cc in
     let at : c.0.home ≡ home top node =
     sym of.home ∙ (every_run top events s.some).submitted.home b (contains_among b w.submitted of.submitted) ∙ ap (home top) session in

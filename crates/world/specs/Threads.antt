@@ -17,7 +17,7 @@ use Rattle.messages.specs.declared.event.Event.TheVariants.{Submit as SubmitHere
 use Rattle.messages.specs.Topology.{TopologyValue, is_session, shard_node, node_count, home_of}
 use Rattle.messages.specs.Shard.{Decision}
 use Rattle.messages.specs.Actors.{ActorState, OfShard, OfSession, Replayed, replay_of, outcomes_by}
-use Rattle.world.specs.Run.{Run, Submission, Event, run}
+use Rattle.world.specs.Run.{Run, Submission, Event, submission_of, run}
 use Rattle.world.specs.Histories.{batch_in, history_of}
 use Rattle.world.specs.Journals.{held_in, IsRunOf, IsThreadedRun}
 use Rattle.world.specs.Promises.{ReadsShowOneTable, ReadsShowTheirPast, ReadsAreFresh}
@@ -62,12 +62,13 @@ history_by top journals dc =
 
 -- ## What any run of the journals has
 
--- The run's actors, what each sent and what the transcript has of it are what the journals' replays give; so are its
--- histories and its submitted operations.
+-- What the run has of each actor is what the replay of its journal gives, its histories are those of the journals, and so is
+-- the operation of each number of a session.
 pub record IsToldByJournals (top : TopologyValue) (journals : ℕ → List ActorEvent) (w : Run) : Type 0 where
   pub actors : (node : ℕ) → node < node_count top → replay_of top node (journals node) ≡ Some (held_in top w node)
   pub history : (dc : ℕ) → dc < top.dcs → history_of top w dc ≡ history_by top journals dc
-  pub operations : (b : Submission) → Contains w.submitted b → op_numbered (journals b.session) b.number ≡ Some b.op
+  pub operations : (t : TxnValue) → is_session top t.session ≡ true
+      → option_map (λ (b : Submission). b.op) (submission_of w.submitted t) ≡ op_numbered (journals t.session) t.number
 
 -- ## The promises
 
