@@ -8,11 +8,12 @@ use Rattle.store.proofs.FromEvt.{right_from_evt}
 use Rattle.messages.specs.declared.rows_now.RowNow.{RowNow}
 use Rattle.messages.specs.declared.rows_at.RowAt.{RowAt}
 use Rattle.messages.specs.declared.envelope.Envelope.{Envelope}
+use Rattle.messages.specs.declared.event.Event.{Event}
 use Rattle.messages.specs.Topology.{TopologyValue}
 use Rattle.messages.specs.Shard.{ShardState}
 use Rattle.messages.specs.Rows.{row_of}
 use Rattle.messages.specs.Honest.{IsHonest}
-use Rattle.shard.specs.Events.{ShardEvent, fresh_shard, shard_run, envelopes_handled}
+use Rattle.shard.specs.Events.{fresh_shard, shard_run, envelopes_handled}
 use Rattle.shard.specs.Right.{part_now, part_then, IsRightNow, IsRightAt, IsRightShard}
 use Rattle.shard.specs.Sound.{RowNowSound, RowAtSound, BodySound}
 use Rattle.shard.proofs.Lists.{each_contained}
@@ -36,7 +37,7 @@ row_at_right es a read time r apart s =
     subst (λ (xs : List Applied). IsRightPart xs row read.predicate time (part_then r)) (sym c.split)
     (right_stays s.seen c.later row read.predicate time (part_then r) (subst AreApart c.split apart) c.above s.right)
 
-pub shard_is_right : (top : TopologyValue) (me : ℕ) (events : List ShardEvent) → IsHonest (shard_run top me events).state (envelopes_handled (shard_run top me events)) → IsRightShard (shard_run top me events)
+pub shard_is_right : (top : TopologyValue) (me : ℕ) (events : List Event) → IsHonest (shard_run top me events).state (envelopes_handled (shard_run top me events)) → IsRightShard (shard_run top me events)
 shard_is_right top me events honest =
     let w = shard_run top me events in
     let es = envelopes_handled w in

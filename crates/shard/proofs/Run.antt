@@ -8,12 +8,15 @@ use Rattle.store.proofs.Lists.{none_in_empty, given, given_only}
 use Rattle.messages.specs.declared.body.Body.{Body}
 use Rattle.messages.specs.declared.body.Body.TheVariants as body
 use Rattle.messages.specs.declared.envelope.Envelope.{Envelope}
+use Rattle.messages.specs.declared.event.Event.{Event}
+use Rattle.messages.specs.declared.event.Event.TheVariants.{Submit, Handle, Collect}
 use Rattle.messages.specs.Topology.{TopologyValue}
 use Rattle.messages.specs.Clock.{ticked, on_clock}
 use Rattle.messages.specs.Shard.{ShardState, ShardStep}
-use Rattle.messages.specs.ShardEvents.{handled, collected}
+use Rattle.messages.specs.ShardEvents.{handled, shard_handle, collected, shard_collect}
+use Rattle.messages.specs.Actors.{envelope_of}
 use Rattle.messages.specs.Honest.{told_in, part_in, IsHonest}
-use Rattle.shard.specs.Events.{ShardEvent, Handle, Collect, ShardRun, fresh_shard, event_step, after_step, shard_continued, envelope_in, envelopes_handled}
+use Rattle.shard.specs.Events.{ShardRun, fresh_shard, after_step, after_event, shard_continued, envelopes_handled}
 use Rattle.shard.specs.Sound.{BodySound, AreSound, Holds, Able, IsWithin}
 use Rattle.shard.proofs.Lists.{each_joined}
 use Rattle.shard.proofs.Grow.{sends_grow}
@@ -86,7 +89,7 @@ pub record Ran (top : TopologyValue) (me : ℕ) (last : ShardState) (es : List E
   pub holds : Holds top me last es w.state
   pub sends : AreSound es w.state w.sent
 
-able_ran : {top : TopologyValue} {me : ℕ} {last : ShardState} {es : List Envelope} (w : ShardRun) (x : ShardEvent) (st : ShardStep) → Able top me last es w.state st
+able_ran : {top : TopologyValue} {me : ℕ} {last : ShardState} {es : List Envelope} (w : ShardRun) (x : Event) (st : ShardStep) → Able top me last es w.state st
     → Ran top me last es w → Ran top me last es (after_step (Ok st) w x)
 able_ran {es = es} w x st able ran =
     record {
@@ -98,9 +101,10 @@ able_ran {es = es} w x st able ran =
 abbrev AreAmong : List Envelope → List Envelope → Type 0
 AreAmong few many = (e : Envelope) → Contains few e → Contains many e
 
-event_ran : {top : TopologyValue} {me : ℕ} {last : ShardState} {es : List Envelope} (w : ShardRun) (x : ShardEvent) → IsHonest last es
-    → IsWithin (after_step (event_step top me w.state x) w x).state last → AreAmong (envelopes_handled (after_step (event_step top me w.state x) w x)) es
-    → Ran top me last es w → Ran top me last es (after_step (event_step top me w.state x) w x)
+event_ran : {top : TopologyValue} {me : ℕ} {last : ShardState} {es : List Envelope} (w : ShardRun) (x : Event) → IsHonest last es
+    → IsWithin (after_event top me w x).state last → AreAmong (envelopes_handled (after_event top me w x)) es
+    → Ran top me last es w → Ran top me last es (after_event top me w x)
+event_ran w (Submit o) honest within among ran = ran
 event_ran {top = top} {me = me} {last = last} {es = es} w (Handle e) honest within among ran = go (ticked w.state.clock e.time) refl within among
   where
     step : ℕ → ShardStep
@@ -112,7 +116,7 @@ event_ran {top = top} {me = me} {last = last} {es = es} w (Handle e) honest with
     go None is within among = ran
     go (Some n) is within among =
         let above = ticked_above w.state.clock e.time n is in
-        let has = among e (given envelope_in (w.events ++ Handle e ∷ []) (Handle e) e (Contains-push w.events (Handle e)) refl) in
+        let has = among e (given envelope_of (w.events ++ Handle e ∷ []) (Handle e) e (Contains-push w.events (Handle e)) refl) in
         able_ran w (Handle e) (handled top me n w.state e.from e.body)
         (handled_able top me last es w.state n e honest above.0 above.1 has
         (within_then (handled_within top me n w.state e.from e.body) within) ran.holds e.body refl within)
@@ -132,7 +136,8 @@ event_ran {top = top} {me = me} {last = last} {es = es} w (Collect time) honest 
 
 -- ## Lists of events
 
-event_within : (top : TopologyValue) (me : ℕ) (w : ShardRun) (x : ShardEvent) → IsWithin w.state (after_step (event_step top me w.state x) w x).state
+event_within : (top : TopologyValue) (me : ℕ) (w : ShardRun) (x : Event) → IsWithin w.state (after_event top me w x).state
+event_within top me w (Submit o) = within_itself w.state
 event_within top me w (Handle e) = go (ticked w.state.clock e.time)
   where
     go : (o : Option ℕ) → IsWithin w.state (after_step (on_clock o (λ n. handled top me n w.state e.from e.body)) w (Handle e)).state
@@ -144,28 +149,33 @@ event_within top me w (Collect time) = go (ticked w.state.clock w.state.clock)
     go None = within_itself w.state
     go (Some n) = record { prepared = λ p has. has; decided = λ d has. has }
 
-events_stay : (r : Result ShardStep Fault) (w : ShardRun) (x : ShardEvent) → AreAmong (envelopes_handled w) (envelopes_handled (after_step r w x))
+events_stay : (r : Result ShardStep Fault) (w : ShardRun) (x : Event) → AreAmong (envelopes_handled w) (envelopes_handled (after_step r w x))
 events_stay (Err f) w x e has = has
 events_stay (Ok st) w x e has =
-    let at = given_only envelope_in w.events e has in
-    given envelope_in (w.events ++ x ∷ []) at.0 e (Contains-append_left w.events (x ∷ []) at.0 at.1) at.2
+    let at = given_only envelope_of w.events e has in
+    given envelope_of (w.events ++ x ∷ []) at.0 e (Contains-append_left w.events (x ∷ []) at.0 at.1) at.2
 
-continued_within : (top : TopologyValue) (me : ℕ) (xs : List ShardEvent) (w : ShardRun) → IsWithin w.state (shard_continued top me w xs).state
+event_stays : (top : TopologyValue) (me : ℕ) (w : ShardRun) (x : Event) → AreAmong (envelopes_handled w) (envelopes_handled (after_event top me w x))
+event_stays top me w (Submit o) = λ e has. has
+event_stays top me w (Handle e) = events_stay (shard_handle top me w.state e) w (Handle e)
+event_stays top me w (Collect time) = events_stay (shard_collect w.state time) w (Collect time)
+
+continued_within : (top : TopologyValue) (me : ℕ) (xs : List Event) (w : ShardRun) → IsWithin w.state (shard_continued top me w xs).state
 continued_within top me [] w = within_itself w.state
 continued_within top me (x ∷ xs) w =
-    within_then (event_within top me w x) (continued_within top me xs (after_step (event_step top me w.state x) w x))
+    within_then (event_within top me w x) (continued_within top me xs (after_event top me w x))
 
-continued_stay : (top : TopologyValue) (me : ℕ) (xs : List ShardEvent) (w : ShardRun) → AreAmong (envelopes_handled w) (envelopes_handled (shard_continued top me w xs))
+continued_stay : (top : TopologyValue) (me : ℕ) (xs : List Event) (w : ShardRun) → AreAmong (envelopes_handled w) (envelopes_handled (shard_continued top me w xs))
 continued_stay top me [] w e has = has
 continued_stay top me (x ∷ xs) w e has =
-    continued_stay top me xs (after_step (event_step top me w.state x) w x) e (events_stay (event_step top me w.state x) w x e has)
+    continued_stay top me xs (after_event top me w x) e (event_stays top me w x e has)
 
-pub continued_ran : {top : TopologyValue} {me : ℕ} {last : ShardState} {es : List Envelope} (xs : List ShardEvent) (w : ShardRun) → IsHonest last es
+pub continued_ran : {top : TopologyValue} {me : ℕ} {last : ShardState} {es : List Envelope} (xs : List Event) (w : ShardRun) → IsHonest last es
     → IsWithin (shard_continued top me w xs).state last → AreAmong (envelopes_handled (shard_continued top me w xs)) es
     → Ran top me last es w → Ran top me last es (shard_continued top me w xs)
 continued_ran [] w honest within among ran = ran
 continued_ran {top = top} {me = me} (x ∷ xs) w honest within among ran =
-    let v = after_step (event_step top me w.state x) w x in
+    let v = after_event top me w x in
     continued_ran xs v honest within among
     (event_ran w x honest (within_then (continued_within top me xs v) within) (λ e has. among e (continued_stay top me xs v e has)) ran)
 
