@@ -7,10 +7,12 @@ use Rattle.store.proofs.Lists.{none_in_empty}
 use Rattle.messages.specs.declared.op.Op.TheVariants as op
 use Rattle.messages.specs.declared.outcome.Outcome.{Outcome}
 use Rattle.messages.specs.declared.outcome.Outcome.TheVariants as outcome
+use Rattle.messages.specs.Actors.{outcomes_by}
 use Rattle.messages.specs.Session.{Finished}
 use Rattle.shard.proofs.Lists.{no_truth}
 use Rattle.shard.proofs.Closed.{below, not_above, are_equal, differ, at, none}
 use Rattle.world.specs.Run.{Event, Submission, Completed, run}
+use Rattle.world.specs.Journals.{journal_in}
 use Rattle.world.specs.Histories.{history_of}
 use Rattle.world.specs.Worked.{delete, one_shard, three_at_home, submitted_twice, deletion_is_read, column, row, wrote, insert, key_a, key_b, name_x, two_centres, insert_and_read_back, only_submitted, second_round_collected, read_beside_a_write, concurrent_inserts_meet}
 use Rattle.world.specs.Lookalikes.{RunsKeepAllEvents, WritesAreToldInFirstCentre, CompletedWritesAreEverywhere, TimesRise, TimesOfACentreNeverFall, SessionsEndOnce, SessionsSubmitOnce, NothingIsGivenUp, AllEndAsWrites, SubmissionsEnd, OutcomesAreListedNext}
@@ -84,9 +86,9 @@ submissions_end all = let r = all waits (at only_submitted.submitted waits 0 ref
 abbrev finished : Finished
 finished = record { number = 2; outcome = outcome.Read 2 (row key_b (column name_x 1 ∷ []) ∷ []) }
 
-pub next_number : ¬ (OutcomesAreListedNext insert_and_read_back)
+pub next_number : ¬ (OutcomesAreListedNext one_shard insert_and_read_back)
 next_number all =
-    let r = all 1 finished (at (insert_and_read_back.sessions 1).outcomes finished 1 refl refl) in
+    let r = all 1 finished (at (outcomes_by one_shard 1 (journal_in insert_and_read_back 1)) finished 1 refl refl) in
     let c = r.0 in
     none (λ e. e.number == 3) insert_and_read_back.transcript c refl r.1 (are_equal c.number 3 r.3)
 

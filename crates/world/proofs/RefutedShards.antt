@@ -10,14 +10,15 @@ use Rattle.messages.specs.declared.op.Op.TheVariants as op
 use Rattle.messages.specs.declared.outcome.Outcome.TheVariants as outcome
 use Rattle.messages.specs.Shard.{new_shard}
 use Rattle.messages.specs.Honest.{Told, all_told}
-use Rattle.shard.specs.Events.{Handle, shard_run}
+use Rattle.messages.specs.declared.event.Event.TheVariants.{Handle}
+use Rattle.shard.specs.Events.{shard_run}
 use Rattle.shard.proofs.Lists.{no_truth}
 use Rattle.shard.proofs.Closed.{below, differ, at, no_more}
 use Rattle.world.specs.Run.{Submission, Completed}
 use Rattle.world.specs.Histories.{history_of}
 use Rattle.world.specs.Quiet.{handled, IsQuiet}
 use Rattle.world.specs.Met.{envelopes_to}
-use Rattle.world.specs.Each.{events_for}
+use Rattle.world.specs.Journals.{journal_in}
 use Rattle.world.specs.Worked.{key_a, collected_and_quiet, operation, family_f, insert, key_b, name_x, one_shard, home_is_nowhere, two_shards, two_by_two, insert_and_read_back, only_submitted, sent_to_itself, second_round_collected, write_is_replicated}
 use Rattle.world.specs.Lookalikes.{SentIsHonest, EnvelopesMakeShards, EachNodeIsRight, IsNearlyQuiet, NearlyQuietMeansDone, QuietMeansDoneAnywhere, TablesAreEqualOnceOneIsDone, TablesAreEqualOneBefore, QuietMeansCompleted}
 use Rattle.world.proofs.Closed.{each_found}
@@ -41,7 +42,7 @@ without_collections all =
 
 pub each_node : ¬ (EachNodeIsRight one_shard insert_and_read_back)
 each_node all =
-    differ (λ a. a.clock) (shard_run one_shard 1 (events_for insert_and_read_back 1)).state new_shard refl (all 1).state
+    differ (λ a. a.clock) (shard_run one_shard 1 (journal_in insert_and_read_back 1)).state new_shard refl (all 1).state
 
 -- ## Quiet runs
 

@@ -18,11 +18,14 @@ use Rattle.messages.specs.declared.envelope.Envelope.{Envelope}
 use Rattle.messages.specs.declared.op.Op.TheVariants as op
 use Rattle.messages.specs.declared.outcome.Outcome.TheVariants as outcome
 use Rattle.messages.specs.Topology.{TopologyValue, is_shard, shard_node}
+use Rattle.messages.specs.declared.event.Event.TheVariants.{Handle}
+use Rattle.messages.specs.Actors.{outcomes_by}
 use Rattle.messages.specs.Honest.{IsHonest}
 use Rattle.messages.specs.Shard.{Decision}
 use Rattle.messages.specs.Session.{Finished}
-use Rattle.shard.specs.Events.{Handle, shard_run}
+use Rattle.shard.specs.Events.{shard_run}
 use Rattle.world.specs.Run.{Run, Event, Submission, Completed, run}
+use Rattle.world.specs.Journals.{journal_in}
 use Rattle.world.specs.Histories.{batch_submitted, decisions_in, history_of, IsHistory}
 use Rattle.world.specs.Quiet.{handled, IsQuiet}
 use Rattle.world.specs.Before.{completes, IsSubmitted, Past}
@@ -259,9 +262,9 @@ SubmissionsEnd w =
     (s : Submission) → Contains w.submitted s → (c : Completed) × Contains w.transcript c × (number_of c ≡ named_by s)
 
 -- what a session finished stands there under the next number
-abbrev pub OutcomesAreListedNext : Run → Type 0
-OutcomesAreListedNext w =
-    (session : ℕ) (f : Finished) → Contains (w.sessions session).outcomes f
+abbrev pub OutcomesAreListedNext : TopologyValue → Run → Type 0
+OutcomesAreListedNext top w =
+    (session : ℕ) (f : Finished) → Contains (outcomes_by top session (journal_in w session)) f
     → (c : Completed) × Contains w.transcript c × (c.node ≡ session) × (c.number ≡ f.number + 1)
 
 -- a run keeps all events, also those that are refused

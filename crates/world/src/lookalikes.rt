@@ -74,7 +74,7 @@ pub fn lookalikes_of_transcripts_are_false()
     ensures given_up { ¬ (NothingIsGivenUp second_round_collected) }
     ensures all_writes { ¬ (AllEndAsWrites insert_and_read_back) }
     ensures submissions_end { ¬ (SubmissionsEnd only_submitted) }
-    ensures next_number { ¬ (OutcomesAreListedNext insert_and_read_back) }
+    ensures next_number { ¬ (OutcomesAreListedNext one_shard insert_and_read_back) }
     ensures refused_events { ¬ (RunsKeepAllEvents one_shard submitted_twice) }
 {}
 
