@@ -14,7 +14,5 @@ mod home;
 mod kept;
 mod ordering;
 mod session;
-#[cfg(test)]
-mod tests;
 
 pub use session::Session;

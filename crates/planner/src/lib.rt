@@ -9,8 +9,6 @@ mod joining;
 mod law;
 mod partition;
 mod reads;
-#[cfg(test)]
-mod tests;
 
 pub use batches::{BatchPlan, ShardPart, plan_batch};
 pub use checks::{check_batch, check_read};

@@ -12,8 +12,6 @@ mod first_round;
 mod heard;
 mod late;
 mod second_round;
-#[cfg(test)]
-mod tests;
 mod valid;
 
 pub use answered::Answered;

@@ -10,8 +10,6 @@ mod row;
 mod rows;
 mod sight;
 mod store;
-#[cfg(test)]
-mod tests;
 
 pub use part::{Applied, Part};
 pub use store::Store;

@@ -4,13 +4,9 @@
 mod checks;
 mod performing;
 mod reading;
-#[cfg(test)]
-mod rows;
 mod script;
 mod shape;
 mod simulating;
-#[cfg(test)]
-mod tests;
 mod text;
 mod transcript;
 

@@ -1,0 +1,123 @@
+//! Times, rows, batches and reads, from the words of a step. There is one family of columns, `f`; a name has one byte.
+use column_family::{Batch, Change, Family, Key, Mutation, Name, Row, Value};
+use logical_time::{Fault, Node, Stamp, Time, TxnId};
+use slice::{Answer, Columns, Keys, Names, Predicate, Read};
+use std::alloc::Global;
+use std::str;
+
+pub(crate) fn number(word: &str) -> u64 {
+    word.parse().unwrap_or(0)
+}
+
+pub(crate) fn node(word: &str) -> Node {
+    Node::new(word.parse().unwrap_or(0))
+}
+
+pub(crate) fn time(word: &str) -> Time {
+    Time::new(number(word)).unwrap_or(Time::zero())
+}
+
+/// `TIME.NODE`.
+pub(crate) fn stamp(word: &str) -> Stamp {
+    let (first, second) = word.split_once('.').unwrap_or((word, ""));
+    Stamp {
+        time: time(first),
+        node: node(second),
+    }
+}
+
+/// `SESSION.NUMBER`.
+pub(crate) fn txn(word: &str) -> TxnId {
+    let (first, second) = word.split_once('.').unwrap_or((word, ""));
+    TxnId {
+        session: node(first),
+        number: number(second),
+    }
+}
+
+pub(crate) fn row(alloc: Global, key: &str) -> Result<Row, Fault> {
+    let family = Family::from_slice(alloc, b"f")?;
+    let key = Key::from_slice(alloc, key.as_bytes())?;
+    Ok(Row { family, key })
+}
+
+/// `x1` gives column x the value 1, `x` alone deletes the column, and an empty text deletes the row.
+fn mutation(alloc: Global, text: &[u8]) -> Result<Mutation, Fault> {
+    let [first, value @ ..] = text else {
+        return Ok(Mutation::DeleteRow);
+    };
+    let name = Name::from_slice(alloc, &[*first])?;
+    if value.is_empty() {
+        return Ok(Mutation::DeleteColumn { name });
+    }
+    let value = Value::from_slice(alloc, value)?;
+    Ok(Mutation::Insert { name, value })
+}
+
+/// `KEY:MUTATION`.
+fn change(alloc: Global, word: &str) -> Result<Change, Fault> {
+    let (key, text) = word.split_once(':').unwrap_or((word, ""));
+    let row = row(alloc, key)?;
+    let mutation = mutation(alloc, text.as_bytes())?;
+    Ok(Change { row, mutation })
+}
+
+pub(crate) fn batch(alloc: Global, words: &[&str]) -> Result<Batch, Fault> {
+    let mut batch = Batch::new(alloc);
+    for word in words {
+        batch.push(change(alloc, word)?)?;
+    }
+    Ok(batch)
+}
+
+/// The columns of these names, one byte each.
+pub(crate) fn columns_named(alloc: Global, word: &str) -> Result<Predicate, Fault> {
+    let mut names = Vec::new(alloc);
+    for byte in word.as_bytes() {
+        names.push(Name::from_slice(alloc, &[*byte])?)?;
+    }
+    Ok(Predicate::Names(Names::from_vec(names)))
+}
+
+/// The rows of these keys, one byte each.
+fn keys(alloc: Global, word: &str) -> Result<Keys, Fault> {
+    let mut keys = Vec::new(alloc);
+    for byte in word.as_bytes() {
+        keys.push(Key::from_slice(alloc, &[*byte])?)?;
+    }
+    Ok(Keys::from_vec(keys))
+}
+
+pub(crate) fn read(alloc: Global, rows: &str, predicate: Predicate) -> Result<Read, Fault> {
+    let family = Family::from_slice(alloc, b"f")?;
+    let keys = keys(alloc, rows)?;
+    Ok(Read {
+        family,
+        keys,
+        predicate,
+    })
+}
+
+pub(crate) fn text_of(bytes: &[u8]) -> &str {
+    str::from_utf8(bytes).unwrap_or("?")
+}
+
+/// Adds a space, the name and the value of each column.
+pub(crate) fn add_columns(seen: &mut String, columns: &Columns) -> Result<(), Fault> {
+    for column in columns.as_slice() {
+        let name = text_of(column.name.as_slice());
+        let value = text_of(column.value.as_slice());
+        write!(seen, " {name}{value}")?;
+    }
+    Ok(())
+}
+
+/// Adds the key and the columns of each row, and a semicolon after it.
+pub(crate) fn add_answer(seen: &mut String, answer: &Answer) -> Result<(), Fault> {
+    for row in answer.as_slice() {
+        seen.push_str(text_of(row.key.as_slice()))?;
+        add_columns(seen, &row.columns)?;
+        seen.push_str(";")?;
+    }
+    Ok(())
+}

@@ -1,0 +1,46 @@
+//! Worked cases: scripts with their transcripts, and steps of single crates with what is seen after them.
+//!
+//! The folder where it is started holds the scripts and the steps. What it writes has to be what was found by hand.
+#![tactic(auto)]
+
+mod building;
+mod chains;
+mod marks;
+mod normal_forms;
+mod readers;
+mod refusals;
+mod scripts;
+mod sessions;
+mod steps;
+mod stores;
+mod tables;
+
+use logical_time::Fault;
+use pending::Marks;
+use std::io;
+use table::History;
+use versions::Chain;
+
+fn tell_steps(rt: &HostRuntime) -> Result<(), Fault> {
+    let alloc = rt.alloc();
+    steps::tell(rt, "normal_forms.steps", &mut normal_forms::Normal)?;
+    steps::tell(rt, "reads_of_a_table.steps", &mut History::new(alloc))?;
+    steps::tell(rt, "worked_chain.steps", &mut Chain::new(alloc))?;
+    steps::tell(rt, "worked_marks.steps", &mut Marks::new(alloc))?;
+    stores::tell(rt)?;
+    sessions::tell(rt)
+}
+
+fn tell_scripts(rt: &HostRuntime) -> io::Result<()> {
+    scripts::tell(rt)?;
+    readers::tell(rt)?;
+    refusals::tell(rt)
+}
+
+fn main(rt: HostRuntime) -> Result<(), Fault> {
+    tell_steps(&rt)?;
+    match tell_scripts(&rt) {
+        Ok(()) => Ok(()),
+        Err(_) => Err(Fault::ReadFailed),
+    }
+}
