@@ -1,5 +1,5 @@
 -- What is left of a list once all that passes a test is taken out.
-use Rattle.std.proofs.Common.{◌≡◌, ap, refl, ℕ, Bool, true, false, not, cond, ◌==◌, List, [], ◌∷◌, filter, length, arith}
+use Rattle.std.proofs.Common.{◌≡◌, ap, refl, Bool, true, false, not, cond, ◌==◌, List, [], ◌∷◌, filter, length, arith}
 use Rattle.std.specs.Prelude.{◌&&◌, ◌||◌}
 use Rattle.std.specs.List.{list_any, list_all}
 use Rattle.std.proofs.lemmas.Bool.Decides.{nat_tests}

@@ -1,5 +1,5 @@
 -- One more notice.
-use Rattle.std.proofs.Common.{◌≡◌, subst, refl, ℕ, List, [], ◌∷◌, ◌++◌}
+use Rattle.std.proofs.Common.{subst, refl, ℕ, List, [], ◌∷◌, ◌++◌}
 use Rattle.logical_time.specs.Stamps.{StampValue, TxnValue}
 use Rattle.txn_state.specs.Announced.{Announced}
 

@@ -1,9 +1,8 @@
 -- A vote that isn't missing changes nothing.
-use Rattle.std.proofs.Common.{◌≡◌, ◌∙◌, ap, refl, ℕ, ◌<◌, Bool, true, false, List, [], ◌∷◌, ◌==◌, filter, length, not, arith}
+use Rattle.std.proofs.Common.{◌≡◌, ◌∙◌, ap, refl, ℕ, ◌<◌, false, ◌==◌, length, arith}
 use Rattle.std.proofs.lemmas.Bool.Decides.{nat_tests}
-use Rattle.txn_state.specs.declared.ballot.Voted.{Voted}
 use Rattle.txn_state.specs.declared.ballot.Voted.TheVariants.{More}
-use Rattle.txn_state.specs.Votes.{is_among, VotesValue, counted, are_all_there}
+use Rattle.txn_state.specs.Votes.{is_among}
 use Rattle.txn_state.specs.Ballot.{BallotValue}
 use Rattle.txn_state.specs.Voted.{voted_if, voted}
 use Rattle.txn_state.proofs.Missing.{all_left}

@@ -1,5 +1,5 @@
 -- Answers to the dependency checks of a write: each counts once.
-use Rattle.std.specs.Prelude.{ℕ, Bool, not, ◌==◌, List, filter, length}
+use Rattle.std.specs.Prelude.{Bool, not, List, filter}
 use Rattle.std.specs.List.{list_any}
 use Rattle.std.specs.Ordering.{is_eq}
 use Rattle.logical_time.specs.Stamps.{TxnValue, txn_cmp, WriterValue}
