@@ -3,7 +3,7 @@ use Rattle.std.specs.Prelude.{ℕ, not, List, ◌++◌, map, filter, filter_map,
 use Rattle.std.specs.Ordering.{is_eq}
 use Rattle.logical_time.specs.Stamps.{TxnValue, writer_cmp}
 use Rattle.column_family.specs.declared.batch.Change.{Change}
-use Rattle.store.specs.declared.part.WritePart.{WritePart}
+use Rattle.txn_state.specs.declared.part.WritePart.{WritePart}
 use Rattle.messages.specs.Topology.{TopologyValue, shard_of}
 use Rattle.messages.specs.Words.{in_writer_order}
 use Rattle.messages.specs.Shard.{ShardState}

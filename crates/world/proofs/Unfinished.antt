@@ -11,7 +11,7 @@ use Rattle.std.proofs.lemmas.Bool.{false≢true}
 use Rattle.std.proofs.lemmas.Bool.Decides.{nat_tests}
 use Rattle.logical_time.specs.Stamps.{TxnValue, WriterValue, txn_cmp, writer_cmp}
 use Rattle.column_family.specs.declared.batch.Change.{Change}
-use Rattle.store.specs.declared.part.WritePart.{WritePart}
+use Rattle.txn_state.specs.declared.part.WritePart.{WritePart}
 use Rattle.store.proofs.Lists.{given, given_only}
 use Rattle.planner.specs.Plan.{coordinator_of}
 use Rattle.messages.specs.Topology.{TopologyValue, dc_of, shard_of}

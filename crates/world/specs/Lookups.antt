@@ -7,7 +7,7 @@ use Rattle.logical_time.specs.Stamps.{txn_cmp}
 use Rattle.column_family.specs.declared.batch.Committed.{Committed}
 use Rattle.column_family.specs.History.{History}
 use Rattle.column_family.specs.Normal.{committed}
-use Rattle.store.specs.declared.part.WritePart.{WritePart}
+use Rattle.txn_state.specs.declared.part.WritePart.{WritePart}
 use Rattle.planner.specs.Plan.{coordinator_of}
 use Rattle.messages.specs.declared.envelope.Envelope.{Envelope}
 use Rattle.messages.specs.Topology.{TopologyValue, is_shard, is_session, shard_node}
