@@ -1,4 +1,4 @@
-use Rattle.std.proofs.Common.{◌≤◌, ap, subst, arith}
+use Rattle.std.proofs.Common.{◌≤◌, ap, refl, subst, inl, arith}
 use Rattle.std.proofs.lemmas.Bool.Decides.{nat_tests}
 use Rattle.column_family.specs.Places.{row_cmp}
 use Rattle.store.specs.declared.part.Part.{Part}
@@ -26,3 +26,8 @@ pub returns-clause-lasts : goal.returns-clause-lasts
 returns-clause-lasts c = λ all later keeps above.
     let part : Part = record { columns = c.in_ok-part.part.columns; writers = c.in_ok-part.part.writers; evt = c.zero.result } in
     right_lasts all later c.args.row.now c.args.predicate.now c.args.time part above (returns-clause-right c all keeps)
+
+pub returns-then-lt-clause-refused : goal.returns-then-lt-clause-refused
+returns-then-lt-clause-refused c =
+    let low = ap (λ (k : Kept). k.low) c.self.view_is in
+    inl (refl, grind (arith, nat_tests, low, c.if-lt.ensures))
