@@ -1,7 +1,8 @@
 -- What holds of one shard at each of its events.
-use Rattle.std.proofs.Common.{◌≡◌, ap, subst, refl, ℕ, ◌+◌, ◌^◌, ◌<◌, max, inl, inr, Bool, true, false, nat_lt, List, [], ◌∷◌, ◌++◌, Option, Some, None, Result, Ok, Err, arith}
-use Rattle.std.specs.Prelude.{if◌then◌else◌, Contains}
-use Rattle.std.proofs.lemmas.List.Elements.{Contains-append_left, Contains-push}
+use Rattle.std.proofs.Common.{◌≡◌, ◌∙◌, sym, ap, ap₂, subst, refl, ℕ, ◌+◌, ◌^◌, ◌<◌, ◌⊎◌, max, le_refl, append-nil, eq-eqb, inl, inr, ◌&&◌, Bool, true, false, nat_lt, List, [], ◌∷◌, ◌++◌, Option, Some, None, Result, Ok, Err, arith}
+use Rattle.std.specs.Prelude.{if◌then◌else◌, ◌==◌, Contains}
+use Rattle.std.proofs.lemmas.List.Elements.{Contains-append_left, Contains-append_cases, Contains-push}
+use Rattle.std.proofs.lemmas.List.{append_assoc}
 use Rattle.column_family.specs.Normal.{IsNormal}
 use Rattle.logical_time.specs.declared.fault.Fault.{Fault}
 use Rattle.store.proofs.Lists.{none_in_empty, given, given_only}
@@ -10,13 +11,15 @@ use Rattle.messages.specs.declared.body.Body.TheVariants as body
 use Rattle.messages.specs.declared.envelope.Envelope.{Envelope}
 use Rattle.messages.specs.Topology.{TopologyValue}
 use Rattle.messages.specs.Clock.{ticked, on_clock}
-use Rattle.messages.specs.Shard.{ShardState, ShardStep}
+use Rattle.messages.specs.Shard.{ShardState, ShardStep, WaitingRead}
+use Rattle.messages.specs.Reads.{is_waiting}
+use Rattle.slice.specs.declared.read.Read.{Read}
 use Rattle.messages.specs.ShardEvents.{handled, collected}
 use Rattle.messages.specs.Honest.{told_in, part_in, IsHonest}
-use Rattle.shard.specs.Events.{ShardEvent, Handle, Collect, ShardRun, fresh_shard, event_step, after_step, shard_continued, envelope_in, envelopes_handled}
-use Rattle.shard.specs.Sound.{BodySound, AreSound, Holds, Able, IsWithin}
-use Rattle.shard.proofs.Lists.{each_joined}
-use Rattle.shard.proofs.Grow.{sends_grow}
+use Rattle.shard.specs.Events.{ShardEvent, Handle, Collect, ShardRun, fresh_shard, event_step, after_step, shard_continued, shard_run, envelope_in, envelopes_handled}
+use Rattle.shard.specs.Sound.{Grows, Seen, Holds, Able, IsWithin}
+use Rattle.shard.proofs.Lists.{any_has, both_hold}
+use Rattle.shard.proofs.Grow.{grows_then, grows_beside}
 use Rattle.shard.proofs.Updates.{aside}
 use Rattle.shard.proofs.LetGo.{quiet_able}
 use Rattle.shard.proofs.Commits.{begin_able, prepare_able}
@@ -27,10 +30,12 @@ use Rattle.shard.proofs.Within.{within_then, within_itself, handled_within}
 
 -- ## An envelope is handled
 
-handled_able : (top : TopologyValue) (me : ℕ) (last : ShardState) (es : List Envelope) (a : ShardState) (n : ℕ) (e : Envelope) → IsHonest last es → a.clock < n → e.time < n
-    → Contains es e → IsWithin a last → Holds top me last es a
+handled_able : (top : TopologyValue) (me : ℕ) (last : ShardState) (es : Seen) (a : ShardState) (n : ℕ) (e : Envelope) → IsHonest last es.envelopes → a.clock < n → e.time < n
+    → Contains es.envelopes e → IsWithin a last → Holds top me last es a
+    → ((number : ℕ) (read : Read) → e.body ≡ body.Read number read → es.asks_now e.from number read)
+    → ((number time : ℕ) (read : Read) → e.body ≡ body.ReadAt number time read → is_waiting a e.from number ≡ false → es.asks_at e.from number time read)
     → (m : Body) → e.body ≡ m → IsWithin (handled top me n a e.from m).state last → Able top me last es a (handled top me n a e.from m)
-handled_able top me last es a n e honest lt late has before h = by_body
+handled_able top me last es a n e honest lt late has before h now at = by_body
   where
     normal : (m : Body) → e.body ≡ m → IsNormal (part_in m)
     normal m is = subst (λ z. IsNormal (part_in z)) is (honest.parts e has)
@@ -43,17 +48,17 @@ handled_able top me last es a n e honest lt late has before h = by_body
     by_body (body.Yes t) is within = yes_able a n t e.from honest lt within h
     by_body (body.Commit t commit stamp) is within =
         commit_able a n t commit stamp honest lt
-        (e.time, given (λ (z : Envelope). told_in z.time z.body) es e (record { txn = t; commit = commit; stamp = stamp; time = e.time }) has (ap (told_in e.time) is))
+        (e.time, given (λ (z : Envelope). told_in z.time z.body) es.envelopes e (record { txn = t; commit = commit; stamp = stamp; time = e.time }) has (ap (told_in e.time) is))
         before h
     by_body (body.At t commit stamp) is within =
         commit_able a n t commit stamp honest lt
-        (e.time, given (λ (z : Envelope). told_in z.time z.body) es e (record { txn = t; commit = commit; stamp = stamp; time = e.time }) has (ap (told_in e.time) is))
+        (e.time, given (λ (z : Envelope). told_in z.time z.body) es.envelopes e (record { txn = t; commit = commit; stamp = stamp; time = e.time }) has (ap (told_in e.time) is))
         before h
     by_body (body.NotBy t time) is within = not_by_able a n e.from t time e honest lt has is h
     by_body (body.Check t time) is within = check_able a n e.from t time lt h
-    by_body (body.Read number read) is within = read_able a n number read e lt has is h
+    by_body (body.Read number read) is within = read_able a n number read e lt (now number read is) h
     by_body (body.ReadAt number time read) is within =
-        read_at_able a n number time read e lt (let le = honest.read e number time read has is in omega (arith, late, le)) has is h
+        read_at_able a n number time read e lt (let le = honest.read e number time read has is in omega (arith, late, le)) (λ new. at number time read is new) h
     by_body (body.ReplBegin t rows stamp cohorts dependencies) is within =
         repl_begin_able a n (record { txn = t; rows = rows; stamp = stamp; cohorts = cohorts; dependencies = dependencies }) honest lt
         (normal (body.ReplBegin t rows stamp cohorts dependencies) is) within h
@@ -81,54 +86,15 @@ ticked_above clock time n e = go (nat_lt (max clock time + 1) (2 ^ 48)) e
     go true f = above (cc)
     go false f = absurd (cc)
 
--- a shard so far: all that it knows holds, and all that it sent is sound
-pub record Ran (top : TopologyValue) (me : ℕ) (last : ShardState) (es : List Envelope) (w : ShardRun) : Type 0 where
-  pub holds : Holds top me last es w.state
-  pub sends : AreSound es w.state w.sent
-
-able_ran : {top : TopologyValue} {me : ℕ} {last : ShardState} {es : List Envelope} (w : ShardRun) (x : ShardEvent) (st : ShardStep) → Able top me last es w.state st
-    → Ran top me last es w → Ran top me last es (after_step (Ok st) w x)
-able_ran {es = es} w x st able ran =
-    record {
-      holds = able.onward.holds;
-      sends = each_joined (λ (e : Envelope). BodySound es st.state e.to e.body) w.sent st.sends (sends_grow able.onward.grows w.sent ran.sends) able.sends;
-    }
-
 -- all of these are among those
 abbrev AreAmong : List Envelope → List Envelope → Type 0
 AreAmong few many = (e : Envelope) → Contains few e → Contains many e
 
-event_ran : {top : TopologyValue} {me : ℕ} {last : ShardState} {es : List Envelope} (w : ShardRun) (x : ShardEvent) → IsHonest last es
-    → IsWithin (after_step (event_step top me w.state x) w x).state last → AreAmong (envelopes_handled (after_step (event_step top me w.state x) w x)) es
-    → Ran top me last es w → Ran top me last es (after_step (event_step top me w.state x) w x)
-event_ran {top = top} {me = me} {last = last} {es = es} w (Handle e) honest within among ran = go (ticked w.state.clock e.time) refl within among
-  where
-    step : ℕ → ShardStep
-    step n = handled top me n w.state e.from e.body
-
-    go : (o : Option ℕ) → ticked w.state.clock e.time ≡ o → IsWithin (after_step (on_clock o (λ n. handled top me n w.state e.from e.body)) w (Handle e)).state last
-        → AreAmong (envelopes_handled (after_step (on_clock o (λ n. handled top me n w.state e.from e.body)) w (Handle e))) es
-        → Ran top me last es (after_step (on_clock o (λ n. handled top me n w.state e.from e.body)) w (Handle e))
-    go None is within among = ran
-    go (Some n) is within among =
-        let above = ticked_above w.state.clock e.time n is in
-        let has = among e (given envelope_in (w.events ++ Handle e ∷ []) (Handle e) e (Contains-push w.events (Handle e)) refl) in
-        able_ran w (Handle e) (handled top me n w.state e.from e.body)
-        (handled_able top me last es w.state n e honest above.0 above.1 has
-        (within_then (handled_within top me n w.state e.from e.body) within) ran.holds e.body refl within)
-        ran
-event_ran {top = top} {me = me} {last = last} {es = es} w (Collect time) honest within among ran = go (ticked w.state.clock w.state.clock) refl
-  where
-    go : (o : Option ℕ) → ticked w.state.clock w.state.clock ≡ o → Ran top me last es (after_step (on_clock o (λ n. collected n w.state time)) w (Collect time))
-    go None is = ran
-    go (Some n) is =
-        let above = (ticked_above w.state.clock w.state.clock n is).0 in
-        able_ran w (Collect time) (collected n w.state time)
-        (record {
-          onward = aside w.state n (max w.state.low time) w.state.early w.state.votes w.state.askers (omega (arith, above)) (omega arith) ran.holds;
-          sends = tt;
-        })
-        ran
+-- one event more
+pub run_push : (top : TopologyValue) (me : ℕ) (r : ShardRun) (xs : List ShardEvent) (y : ShardEvent)
+    → shard_continued top me r (xs ++ y ∷ []) ≡ after_step (event_step top me (shard_continued top me r xs).state y) (shard_continued top me r xs) y
+run_push top me r [] y = refl
+run_push top me r (x ∷ xs) y = run_push top me (after_step (event_step top me r.state x) r x) xs y
 
 -- ## Lists of events
 
@@ -160,14 +126,308 @@ continued_stay top me [] w e has = has
 continued_stay top me (x ∷ xs) w e has =
     continued_stay top me xs (after_step (event_step top me w.state x) w x) e (events_stay (event_step top me w.state x) w x e has)
 
-pub continued_ran : {top : TopologyValue} {me : ℕ} {last : ShardState} {es : List Envelope} (xs : List ShardEvent) (w : ShardRun) → IsHonest last es
-    → IsWithin (shard_continued top me w xs).state last → AreAmong (envelopes_handled (shard_continued top me w xs)) es
-    → Ran top me last es w → Ran top me last es (shard_continued top me w xs)
-continued_ran [] w honest within among ran = ran
-continued_ran {top = top} {me = me} (x ∷ xs) w honest within among ran =
-    let v = after_step (event_step top me w.state x) w x in
-    continued_ran xs v honest within among
-    (event_ran w x honest (within_then (continued_within top me xs v) within) (λ e has. among e (continued_stay top me xs v e has)) ran)
+-- ## Who waits, and since when
+
+-- after these events the read that this session numbered so waits, since this ReadAt was handled
+pub record IsWaitingFor (top : TopologyValue) (me : ℕ) (events : List ShardEvent) (session number time : ℕ) (read : Read) : Type 0 where
+  pub asked : Envelope
+  pub before : List ShardEvent
+  pub after : List ShardEvent
+  pub split : events ≡ before ++ Handle asked ∷ after
+  pub from : asked.from ≡ session
+  pub body : asked.body ≡ body.ReadAt number time read
+  pub taken : is_waiting (shard_run top me before).state asked.from number ≡ false
+  pub waits : (xs ys : List ShardEvent) → after ≡ xs ++ ys → is_waiting (shard_run top me (before ++ Handle asked ∷ xs)).state asked.from number ≡ true
+
+-- the event is this ReadAt, and no read of its session and number waits
+pub record IsTaken (top : TopologyValue) (me : ℕ) (events : List ShardEvent) (x : ShardEvent) (session number time : ℕ) (read : Read) : Type 0 where
+  pub asked : Envelope
+  pub event : x ≡ Handle asked
+  pub from : asked.from ≡ session
+  pub body : asked.body ≡ body.ReadAt number time read
+  pub taken : is_waiting (shard_run top me events).state asked.from number ≡ false
+
+-- the event is this Read
+pub record IsAsked (x : ShardEvent) (session number : ℕ) (read : Read) : Type 0 where
+  pub asked : Envelope
+  pub event : x ≡ Handle asked
+  pub from : asked.from ≡ session
+  pub body : asked.body ≡ body.Read number read
+
+-- what the shard is asked after these events, and at a further one
+abbrev pub seen_after : TopologyValue → ℕ → List Envelope → List ShardEvent → Seen
+seen_after top me es events =
+    record { envelopes = es; asks_now = λ session number read. ⊥; asks_at = λ session number time read. IsWaitingFor top me events session number time read }
+
+abbrev pub seen_at : TopologyValue → ℕ → List Envelope → List ShardEvent → ShardEvent → Seen
+seen_at top me es events x =
+    record {
+      envelopes = es;
+      asks_now = λ session number read. IsAsked x session number read;
+      asks_at = λ session number time read. IsWaitingFor top me events session number time read ⊎ IsTaken top me events x session number time read;
+    }
+
+-- the same holds where the reads that wait are asked in another way
+asked_so : {top : TopologyValue} {me : ℕ} {last : ShardState} {es : List Envelope} (now now' : (session number : ℕ) (read : Read) → Type 0)
+    (at at' : (session number time : ℕ) (read : Read) → Type 0) (a : ShardState)
+    → ((x : WaitingRead) → Contains a.waiting x → at x.session x.number x.time x.read → at' x.session x.number x.time x.read)
+    → Holds top me last (record { envelopes = es; asks_now = now; asks_at = at }) a
+    → Holds top me last (record { envelopes = es; asks_now = now'; asks_at = at' }) a
+asked_so now now' at at' a f h =
+    record {
+      sides = h.sides;
+      one = h.one;
+      readied = h.readied;
+      origin = h.origin;
+      prepared = h.prepared;
+      ballots = h.ballots;
+      kept_parts = h.kept_parts;
+      kept_ballots = h.kept_ballots;
+      stamped_apart = h.stamped_apart;
+      met = h.met;
+      decided_so = h.decided_so;
+      waiting = λ x has. (let s = h.waiting x has in record { asked = f x has s.asked; clock = s.clock; settled = s.settled });
+    }
+
+begins_or_all : {X : Type 0} (xs ys zs : List X) (x : X) → zs ++ x ∷ [] ≡ xs ++ ys → ((us : List X) × (zs ≡ xs ++ us)) ⊎ (xs ≡ zs ++ x ∷ [])
+begins_or_all [] ys zs x e = inl (zs, refl)
+begins_or_all (v ∷ xs) ys [] x e =
+    let head : x ≡ v = cc in
+    let rest : [] ≡ xs ++ ys = cc in
+    inr (none xs rest ∙ ap (λ z. z ∷ []) (sym head))
+  where
+    none : (us : List _) → [] ≡ us ++ ys → v ∷ us ≡ v ∷ []
+    none [] q = refl
+    none (u ∷ us) q = absurd (cc)
+begins_or_all (v ∷ xs) ys (z ∷ zs) x e =
+    let head : z ≡ v = cc in
+    let rest : zs ++ x ∷ [] ≡ xs ++ ys = cc in
+    elim (begins_or_all xs ys zs x rest) [
+      | inl r ↦ inl (r.0, ap₂ (λ u us. u ∷ us) head r.1)
+      | inr r ↦ inr (ap₂ (λ u us. u ∷ us) (sym head) r)
+    ]
+
+-- ## A shard so far
+
+-- all that it knows holds, and its events lead to it
+pub record Ran (top : TopologyValue) (me : ℕ) (last : ShardState) (es : List Envelope) (w : ShardRun) : Type 0 where
+  pub holds : Holds top me last (seen_after top me es w.events) w.state
+  pub replayed : shard_run top me w.events ≡ w
+
+module _ (top : TopologyValue) (me : ℕ) (last : ShardState) (es : List Envelope) (honest : IsHonest last es) where
+  -- each step keeps what is known, and what it sends is sound
+  event_able : (w : ShardRun) (x : ShardEvent) (st : ShardStep) → event_step top me w.state x ≡ Ok st → IsWithin st.state last
+      → AreAmong (envelopes_handled (after_step (Ok st) w x)) es → Ran top me last es w
+      → Able top me last (seen_at top me es w.events x) w.state st
+  event_able w (Handle e) st ok within among ran = go (ticked w.state.clock e.time) refl ok
+    where
+      h : Holds top me last (seen_at top me es w.events (Handle e)) w.state
+      h =
+          asked_so (λ session number read. ⊥) (λ session number read. IsAsked (Handle e) session number read)
+          (λ session number time read. IsWaitingFor top me w.events session number time read)
+          (λ session number time read.
+          IsWaitingFor top me w.events session number time read ⊎ IsTaken top me w.events (Handle e) session number time read)
+          w.state (λ x has k. inl k) ran.holds
+
+      by : (n : ℕ) → ticked w.state.clock e.time ≡ Some n → handled top me n w.state e.from e.body ≡ st
+          → Able top me last (seen_at top me es w.events (Handle e)) w.state st
+      by n is same =
+          let above = ticked_above w.state.clock e.time n is in
+          let has = among e (given envelope_in (w.events ++ Handle e ∷ []) (Handle e) e (Contains-push w.events (Handle e)) refl) in
+          let inside : IsWithin (handled top me n w.state e.from e.body).state last = subst (λ (z : ShardStep). IsWithin z.state last) (sym same) within in
+          subst (Able top me last (seen_at top me es w.events (Handle e)) w.state) same
+          (handled_able top me last (seen_at top me es w.events (Handle e)) w.state n e honest above.0 above.1 has
+          (within_then (handled_within top me n w.state e.from e.body) inside) h
+          (λ number read asks. record { asked = e; event = refl; from = refl; body = asks })
+          (λ number time read asks new. inr (record {
+            asked = e;
+            event = refl;
+            from = refl;
+            body = asks;
+            taken = ap (λ (z : ShardRun). is_waiting z.state e.from number) ran.replayed ∙ new;
+          }))
+          e.body refl inside)
+
+      go : (o : Option ℕ) → ticked w.state.clock e.time ≡ o → on_clock o (λ n. handled top me n w.state e.from e.body) ≡ Ok st
+          → Able top me last (seen_at top me es w.events (Handle e)) w.state st
+      go None is q = absurd (cc)
+      go (Some n) is q = by n is (cc)
+  event_able w (Collect time) st ok within among ran = go (ticked w.state.clock w.state.clock) refl ok
+    where
+      h : Holds top me last (seen_at top me es w.events (Collect time)) w.state
+      h =
+          asked_so (λ session number read. ⊥) (λ session number read. IsAsked (Collect time) session number read)
+          (λ session number at read. IsWaitingFor top me w.events session number at read)
+          (λ session number at read.
+          IsWaitingFor top me w.events session number at read ⊎ IsTaken top me w.events (Collect time) session number at read)
+          w.state (λ x has k. inl k) ran.holds
+
+      by : (n : ℕ) → ticked w.state.clock w.state.clock ≡ Some n → collected n w.state time ≡ st
+          → Able top me last (seen_at top me es w.events (Collect time)) w.state st
+      by n is same =
+          let above = (ticked_above w.state.clock w.state.clock n is).0 in
+          subst (Able top me last (seen_at top me es w.events (Collect time)) w.state) same
+          (record {
+            onward = aside w.state n (max w.state.low time) w.state.early w.state.votes w.state.askers (omega (arith, above)) (omega arith) h;
+            sends = tt;
+          })
+
+      go : (o : Option ℕ) → ticked w.state.clock w.state.clock ≡ o → on_clock o (λ n. collected n w.state time) ≡ Ok st
+          → Able top me last (seen_at top me es w.events (Collect time)) w.state st
+      go None is q = absurd (cc)
+      go (Some n) is q = by n is (cc)
+
+  -- after the step
+  replayed_on : (w : ShardRun) (x : ShardEvent) (st : ShardStep) → event_step top me w.state x ≡ Ok st → shard_run top me w.events ≡ w
+      → shard_run top me (w.events ++ x ∷ []) ≡ after_step (Ok st) w x
+  replayed_on w x st ok replayed =
+      run_push top me fresh_shard w.events x ∙ ap (λ (r : ShardRun). after_step (event_step top me r.state x) r x) replayed ∙ ap (λ o. after_step o w x) ok
+
+  event_ran : (w : ShardRun) (x : ShardEvent) (st : ShardStep) → event_step top me w.state x ≡ Ok st → IsWithin st.state last
+      → AreAmong (envelopes_handled (after_step (Ok st) w x)) es → Ran top me last es w → Ran top me last es (after_step (Ok st) w x)
+  event_ran w x st ok within among ran =
+      let able = event_able w x st ok within among ran in
+      record {
+        holds =
+            asked_so (λ session number read. IsAsked x session number read) (λ session number read. ⊥)
+            (λ session number time read.
+            IsWaitingFor top me w.events session number time read ⊎ IsTaken top me w.events x session number time read)
+            (λ session number time read. IsWaitingFor top me (w.events ++ x ∷ []) session number time read)
+            st.state (λ y has asked. still y has asked) able.onward.holds;
+        replayed = now;
+      }
+    where
+      now : shard_run top me (w.events ++ x ∷ []) ≡ after_step (Ok st) w x
+      now = replayed_on w x st ok ran.replayed
+
+      here : (y : WaitingRead) → Contains st.state.waiting y → (from : ℕ) → from ≡ y.session → is_waiting (shard_run top me (w.events ++ x ∷ [])).state from y.number ≡ true
+      here y has from same =
+          ap (λ (r : ShardRun). is_waiting r.state from y.number) now
+          ∙ any_has (λ (z : WaitingRead). (z.session == from) && (z.number == y.number)) st.state.waiting y has
+          (both_hold (y.session == from) (y.number == y.number) (eq-eqb y.session from (sym same)) (eq-eqb y.number y.number refl))
+
+      still : (y : WaitingRead) → Contains st.state.waiting y
+          → IsWaitingFor top me w.events y.session y.number y.time y.read ⊎ IsTaken top me w.events x y.session y.number y.time y.read
+          → IsWaitingFor top me (w.events ++ x ∷ []) y.session y.number y.time y.read
+      still y has (inl k) =
+          let split : w.events ++ x ∷ [] ≡ k.before ++ Handle k.asked ∷ (k.after ++ x ∷ []) =
+          ap (λ l. l ++ x ∷ []) k.split ∙ append_assoc k.before (Handle k.asked ∷ k.after) (x ∷ []) in
+          record {
+            asked = k.asked;
+            before = k.before;
+            after = k.after ++ x ∷ [];
+            split = split;
+            from = k.from;
+            body = k.body;
+            taken = k.taken;
+            waits = λ xs ys e. elim (begins_or_all xs ys k.after x e) [
+              | inl r ↦ k.waits xs r.0 r.1
+              | inr all ↦
+                  ap (λ l. is_waiting (shard_run top me (k.before ++ Handle k.asked ∷ l)).state k.asked.from y.number) all
+                  ∙ ap (λ l. is_waiting (shard_run top me l).state k.asked.from y.number) (sym split) ∙ here y has k.asked.from k.from
+            ];
+          }
+      still y has (inr k) =
+          record {
+            asked = k.asked;
+            before = w.events;
+            after = [];
+            split = ap (λ z. w.events ++ z ∷ []) k.event;
+            from = k.from;
+            body = k.body;
+            taken = k.taken;
+            waits = λ xs ys e.
+                ap (λ l. is_waiting (shard_run top me (w.events ++ Handle k.asked ∷ l)).state k.asked.from y.number) (nothing xs ys e)
+                ∙ ap (λ z. is_waiting (shard_run top me (w.events ++ z ∷ [])).state k.asked.from y.number) (sym k.event) ∙ here y has k.asked.from k.from;
+          }
+        where
+          nothing : (xs ys : List ShardEvent) → [] ≡ xs ++ ys → xs ≡ []
+          nothing [] ys e = refl
+          nothing (u ∷ us) ys e = absurd (cc)
+
+  -- ## Lists of events
+
+  -- what is known after further events, and that what is complete stays so
+  pub record RanOn (w v : ShardRun) : Type 0 where
+    pub ran : Ran top me last es v
+    pub grows : Grows es w.state v.state
+
+  pub continued_ran : (xs : List ShardEvent) (w : ShardRun) → IsWithin (shard_continued top me w xs).state last
+      → AreAmong (envelopes_handled (shard_continued top me w xs)) es → Ran top me last es w → RanOn w (shard_continued top me w xs)
+  continued_ran [] w within among ran = record { ran = ran; grows = grows_beside w.state w.state (le_refl w.state.clock) (le_refl w.state.low) refl refl }
+  continued_ran (x ∷ xs) w within among ran = go (event_step top me w.state x) refl within among (λ v. continued_ran xs v)
+    where
+      go : (r : Result ShardStep Fault) → event_step top me w.state x ≡ r → IsWithin (shard_continued top me (after_step r w x) xs).state last
+          → AreAmong (envelopes_handled (shard_continued top me (after_step r w x) xs)) es
+          → ((v : ShardRun) → IsWithin (shard_continued top me v xs).state last → AreAmong (envelopes_handled (shard_continued top me v xs)) es → Ran top me last es v
+          → RanOn v (shard_continued top me v xs))
+          → RanOn w (shard_continued top me (after_step r w x) xs)
+      go (Err f) ok inside known more = more w inside known ran
+      go (Ok st) ok inside known more =
+          let v = after_step (Ok st) w x in
+          let first : IsWithin st.state last = within_then (continued_within top me xs v) inside in
+          let few : AreAmong (envelopes_handled v) es = λ e has. known e (continued_stay top me xs v e has) in
+          let rest = more v inside known (event_ran w x st ok first few ran) in
+          record { ran = rest.ran; grows = grows_then (event_able w x st ok first few ran).onward.grows rest.grows }
+
+  -- the event at which the shard sent this, and what it knew then
+  pub record SentAt (w : ShardRun) (e : Envelope) : Type 0 where
+    pub before : ShardRun
+    pub event : ShardEvent
+    pub rest : List ShardEvent
+    pub split : w.events ≡ before.events ++ event ∷ rest
+    pub step : ShardStep
+    pub stepped : event_step top me before.state event ≡ Ok step
+    pub sends : Contains step.sends e
+    pub ran : Ran top me last es before
+    pub able : Able top me last (seen_at top me es before.events event) before.state step
+    pub grows : Grows es step.state w.state
+
+  events_on : (xs : List ShardEvent) (w : ShardRun) → (more : List ShardEvent) × ((shard_continued top me w xs).events ≡ w.events ++ more)
+  events_on [] w = ([], sym (append-nil w.events))
+  events_on (x ∷ xs) w = go (event_step top me w.state x) (λ v. events_on xs v)
+    where
+      go : (r : Result ShardStep Fault) → ((v : ShardRun) → (more : List ShardEvent) × ((shard_continued top me v xs).events ≡ v.events ++ more))
+          → (more : List ShardEvent) × ((shard_continued top me (after_step r w x) xs).events ≡ w.events ++ more)
+      go (Err f) more = more w
+      go (Ok st) more =
+          let r = more (after_step (Ok st) w x) in (x ∷ r.0, r.1 ∙ append_assoc w.events (x ∷ []) r.0)
+
+  pub sent_at : (xs : List ShardEvent) (w : ShardRun) → IsWithin (shard_continued top me w xs).state last
+      → AreAmong (envelopes_handled (shard_continued top me w xs)) es → Ran top me last es w → (e : Envelope) → Contains (shard_continued top me w xs).sent e
+      → Contains w.sent e ⊎ SentAt (shard_continued top me w xs) e
+  sent_at [] w within among ran e has = inl has
+  sent_at (x ∷ xs) w within among ran e has = go (event_step top me w.state x) refl within among has (λ v. sent_at xs v)
+    where
+      go : (r : Result ShardStep Fault) → event_step top me w.state x ≡ r → IsWithin (shard_continued top me (after_step r w x) xs).state last
+          → AreAmong (envelopes_handled (shard_continued top me (after_step r w x) xs)) es → Contains (shard_continued top me (after_step r w x) xs).sent e
+          → ((v : ShardRun) → IsWithin (shard_continued top me v xs).state last → AreAmong (envelopes_handled (shard_continued top me v xs)) es → Ran top me last es v
+          → (e : Envelope) → Contains (shard_continued top me v xs).sent e → Contains v.sent e ⊎ SentAt (shard_continued top me v xs) e)
+          → Contains w.sent e ⊎ SentAt (shard_continued top me (after_step r w x) xs) e
+      go (Err f) ok inside known there more = more w inside known ran e there
+      go (Ok st) ok inside known there more =
+          let v = after_step (Ok st) w x in
+          let first : IsWithin st.state last = within_then (continued_within top me xs v) inside in
+          let few : AreAmong (envelopes_handled v) es = λ e has. known e (continued_stay top me xs v e has) in
+          let after = event_ran w x st ok first few ran in
+          elim (more v inside known after e there) [
+            | inl old ↦ elim (Contains-append_cases w.sent st.sends e old) [
+              | inl earlier ↦ inl earlier
+              | inr now ↦ inr (record {
+                before = w;
+                event = x;
+                rest = (events_on xs v).0;
+                split = (events_on xs v).1 ∙ append_assoc w.events (x ∷ []) (events_on xs v).0;
+                step = st;
+                stepped = ok;
+                sends = now;
+                ran = ran;
+                able = event_able w x st ok first few ran;
+                grows = (continued_ran xs v inside known after).grows;
+              })
+            ]
+            | inr later ↦ inr later
+          ]
 
 -- nothing is known before the first event
 pub fresh_ran : (top : TopologyValue) (me : ℕ) (last : ShardState) (es : List Envelope) → Ran top me last es fresh_shard
@@ -191,5 +451,5 @@ fresh_ran top me last es =
         decided_so = λ x has. absurd (none_in_empty x has);
         waiting = λ x has. absurd (none_in_empty x has);
       };
-      sends = tt;
+      replayed = refl;
     }

@@ -14,6 +14,7 @@ use Rattle.messages.specs.ShardEvents.{shard_handle, shard_collect}
 use Rattle.messages.specs.SessionEvents.{session_handle}
 use Rattle.messages.specs.Submitting.{session_submit}
 use Rattle.shard.specs.Events.{ShardEvent, Handle, Collect as CollectHere, ShardRun, event_step, after_step, shard_continued, fresh_shard, shard_run, envelope_in, envelopes_handled}
+use Rattle.shard.proofs.Run.{run_push}
 use Rattle.shard.proofs.OneShard.{shard_is_right}
 use Rattle.messages.specs.Honest.{IsHonest}
 use Rattle.world.specs.Quiet.{number_delivered}
@@ -23,12 +24,6 @@ use Rattle.world.specs.Each.{event_for, events_for, IsRightInRun}
 use Rattle.world.proofs.Among.{Among, among_contains, contains_among, among_append, append_first, append_second, last_or_old}
 use Rattle.world.proofs.Prefixes.{get_first}
 use Rattle.world.proofs.ShardSteps.{actor_same}
-
--- one event more
-run_push : (top : TopologyValue) (me : ℕ) (r : ShardRun) (xs : List ShardEvent) (y : ShardEvent)
-    → shard_continued top me r (xs ++ y ∷ []) ≡ after_step (event_step top me (shard_continued top me r xs).state y) (shard_continued top me r xs) y
-run_push top me r [] y = refl
-run_push top me r (x ∷ xs) y = run_push top me (after_step (event_step top me r.state x) r x) xs y
 
 same_given : {X Y : Type 0} (f g : X → Option Y) (xs : List X) → ((x : X) → Among x xs → f x ≡ g x) → filter_map f xs ≡ filter_map g xs
 same_given f g [] e = refl

@@ -20,7 +20,7 @@ events_for w node = filter_map (event_for w node) w.events
 pub record IsRightInRun (top : TopologyValue) (w : Run) (node : ℕ) : Type 0 where
   pub state : (shard_run top node (events_for w node)).state ≡ w.shards node
   pub sent : (e : Envelope) → Contains (shard_run top node (events_for w node)).sent e → Contains w.sent e
-  pub right : IsRightShard (shard_run top node (events_for w node))
+  pub right : IsRightShard top node (shard_run top node (events_for w node))
 
 -- each shard of the run is right
 abbrev pub EachShardIsRight : TopologyValue → Run → Type 0
