@@ -1,6 +1,8 @@
 pub mod Additions
+pub mod Asked
 pub mod Commits
 pub mod Grow
+pub mod Handles
 pub mod LetGo
 pub mod Lists
 pub mod OneShard

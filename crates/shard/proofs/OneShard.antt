@@ -23,7 +23,8 @@ use Rattle.shard.proofs.Grow.{now_grows, at_grows}
 use Rattle.shard.proofs.Lists.{each_contained}
 use Rattle.shard.proofs.Untouched.{right_stays}
 use Rattle.shard.proofs.Within.{within_itself}
-use Rattle.shard.proofs.Run.{IsWaitingFor, IsTaken, seen_at, RanOn, SentAt, continued_ran, sent_at, fresh_ran}
+use Rattle.shard.proofs.Asked.{IsWaitingFor, IsTaken, seen_at}
+use Rattle.shard.proofs.Run.{RanOn, SentAt, continued_ran, sent_at, fresh_ran}
 
 row_now_right : (es : List Envelope) (a : ShardState) (read : Read) (r : RowNow) → AreApart a.applied → RowNowSound es a read r → IsRightNow a.applied read r
 row_now_right es a read r apart s time from to =

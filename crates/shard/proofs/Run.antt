@@ -1,211 +1,25 @@
--- What holds of one shard at each of its events.
-use Rattle.std.proofs.Common.{◌≡◌, ◌∙◌, sym, ap, ap₂, subst, refl, ℕ, ◌+◌, ◌^◌, ◌<◌, ◌⊎◌, max, le_refl, append-nil, eq-eqb, inl, inr, ◌&&◌, Bool, true, false, nat_lt, List, [], ◌∷◌, ◌++◌, Option, Some, None, Result, Ok, Err, arith}
-use Rattle.std.specs.Prelude.{if◌then◌else◌, ◌==◌, Contains}
-use Rattle.std.proofs.lemmas.List.Elements.{Contains-append_left, Contains-append_cases, Contains-push}
+-- What holds of one shard at each of its events, and when it sent what.
+use Rattle.std.proofs.Common.{◌≡◌, ◌∙◌, sym, ap, subst, refl, ℕ, ◌⊎◌, max, le_refl, append-nil, eq-eqb, inl, inr, ◌&&◌, true, List, [], ◌∷◌, ◌++◌, Option, Some, None, Result, Ok, Err, arith}
+use Rattle.std.specs.Prelude.{◌==◌, Contains}
+use Rattle.std.proofs.lemmas.List.Elements.{Contains-append_cases, Contains-push}
 use Rattle.std.proofs.lemmas.List.{append_assoc}
-use Rattle.column_family.specs.Normal.{IsNormal}
 use Rattle.logical_time.specs.declared.fault.Fault.{Fault}
-use Rattle.store.proofs.Lists.{none_in_empty, given, given_only}
-use Rattle.messages.specs.declared.body.Body.{Body}
-use Rattle.messages.specs.declared.body.Body.TheVariants as body
+use Rattle.store.proofs.Lists.{none_in_empty, given}
 use Rattle.messages.specs.declared.envelope.Envelope.{Envelope}
 use Rattle.messages.specs.Topology.{TopologyValue}
 use Rattle.messages.specs.Clock.{ticked, on_clock}
 use Rattle.messages.specs.Shard.{ShardState, ShardStep, WaitingRead}
 use Rattle.messages.specs.Reads.{is_waiting}
-use Rattle.slice.specs.declared.read.Read.{Read}
 use Rattle.messages.specs.ShardEvents.{handled, collected}
-use Rattle.messages.specs.Honest.{told_in, part_in, IsHonest}
+use Rattle.messages.specs.Honest.{IsHonest}
 use Rattle.shard.specs.Events.{ShardEvent, Handle, Collect, ShardRun, fresh_shard, event_step, after_step, shard_continued, shard_run, envelope_in, envelopes_handled}
-use Rattle.shard.specs.Sound.{Grows, Seen, Holds, Able, IsWithin}
+use Rattle.shard.specs.Sound.{Grows, Holds, Able, IsWithin}
 use Rattle.shard.proofs.Lists.{any_has, both_hold}
 use Rattle.shard.proofs.Grow.{grows_then, grows_beside}
 use Rattle.shard.proofs.Updates.{aside}
-use Rattle.shard.proofs.LetGo.{quiet_able}
-use Rattle.shard.proofs.Commits.{begin_able, prepare_able}
-use Rattle.shard.proofs.Votes.{yes_able, commit_able, not_by_able, check_able}
-use Rattle.shard.proofs.ReadSteps.{read_able, read_at_able}
-use Rattle.shard.proofs.Remotes.{repl_begin_able, repl_part_able, notify_able, prepare_remote_able, dep_check_able, dep_ok_able}
-use Rattle.shard.proofs.Within.{within_then, within_itself, handled_within}
-
--- ## An envelope is handled
-
-handled_able : (top : TopologyValue) (me : ℕ) (last : ShardState) (es : Seen) (a : ShardState) (n : ℕ) (e : Envelope) → IsHonest last es.envelopes → a.clock < n → e.time < n
-    → Contains es.envelopes e → IsWithin a last → Holds top me last es a
-    → ((number : ℕ) (read : Read) → e.body ≡ body.Read number read → es.asks_now e.from number read)
-    → ((number time : ℕ) (read : Read) → e.body ≡ body.ReadAt number time read → is_waiting a e.from number ≡ false → es.asks_at e.from number time read)
-    → (m : Body) → e.body ≡ m → IsWithin (handled top me n a e.from m).state last → Able top me last es a (handled top me n a e.from m)
-handled_able top me last es a n e honest lt late has before h now at = by_body
-  where
-    normal : (m : Body) → e.body ≡ m → IsNormal (part_in m)
-    normal m is = subst (λ z. IsNormal (part_in z)) is (honest.parts e has)
-
-    by_body : (m : Body) → e.body ≡ m → IsWithin (handled top me n a e.from m).state last → Able top me last es a (handled top me n a e.from m)
-    by_body (body.Begin t rows cohorts dependencies) is within =
-        begin_able a n (record { txn = t; rows = rows; cohorts = cohorts; dependencies = dependencies; stamp = None }) honest lt
-        (normal (body.Begin t rows cohorts dependencies) is) within h
-    by_body (body.Prepare t rows coordinator) is within = prepare_able a n t rows coordinator lt (normal (body.Prepare t rows coordinator) is) h
-    by_body (body.Yes t) is within = yes_able a n t e.from honest lt within h
-    by_body (body.Commit t commit stamp) is within =
-        commit_able a n t commit stamp honest lt
-        (e.time, given (λ (z : Envelope). told_in z.time z.body) es.envelopes e (record { txn = t; commit = commit; stamp = stamp; time = e.time }) has (ap (told_in e.time) is))
-        before h
-    by_body (body.At t commit stamp) is within =
-        commit_able a n t commit stamp honest lt
-        (e.time, given (λ (z : Envelope). told_in z.time z.body) es.envelopes e (record { txn = t; commit = commit; stamp = stamp; time = e.time }) has (ap (told_in e.time) is))
-        before h
-    by_body (body.NotBy t time) is within = not_by_able a n e.from t time e honest lt has is h
-    by_body (body.Check t time) is within = check_able a n e.from t time lt h
-    by_body (body.Read number read) is within = read_able a n number read e lt (now number read is) h
-    by_body (body.ReadAt number time read) is within =
-        read_at_able a n number time read e lt (let le = honest.read e number time read has is in omega (arith, late, le)) (λ new. at number time read is new) h
-    by_body (body.ReplBegin t rows stamp cohorts dependencies) is within =
-        repl_begin_able a n (record { txn = t; rows = rows; stamp = stamp; cohorts = cohorts; dependencies = dependencies }) honest lt
-        (normal (body.ReplBegin t rows stamp cohorts dependencies) is) within h
-    by_body (body.ReplPart t rows stamp coordinator) is within =
-        repl_part_able a n (record { txn = t; rows = rows; stamp = stamp; coordinator = coordinator }) lt
-        (normal (body.ReplPart t rows stamp coordinator) is) h
-    by_body (body.Notify t) is within = notify_able a n t e.from honest lt within h
-    by_body (body.PrepareRemote t) is within = prepare_remote_able a n t lt h
-    by_body (body.DepCheck dependency waiter) is within = dep_check_able a n (record { dependency = dependency; waiter = waiter; from = e.from }) lt h
-    by_body (body.DepOk dependency waiter commit) is within = dep_ok_able a n dependency waiter honest lt within h
-    by_body (body.Done t commit stamp) is within = quiet_able a n (omega (arith, lt)) h
-    by_body (body.PartNow number rows) is within = quiet_able a n (omega (arith, lt)) h
-    by_body (body.PartAt number time answer) is within = quiet_able a n (omega (arith, lt)) h
-
--- ## Events
-
--- the clock of an event lies above both times
-ticked_above : (clock time n : ℕ) → ticked clock time ≡ Some n → (clock < n) × (time < n)
-ticked_above clock time n e = go (nat_lt (max clock time + 1) (2 ^ 48)) e
-  where
-    above : max clock time + 1 ≡ n → (clock < n) × (time < n)
-    above same = (omega (arith, same), omega (arith, same))
-
-    go : (b : Bool) → (if b then Some (max clock time + 1) else None) ≡ Some n → (clock < n) × (time < n)
-    go true f = above (cc)
-    go false f = absurd (cc)
-
--- all of these are among those
-abbrev AreAmong : List Envelope → List Envelope → Type 0
-AreAmong few many = (e : Envelope) → Contains few e → Contains many e
-
--- one event more
-pub run_push : (top : TopologyValue) (me : ℕ) (r : ShardRun) (xs : List ShardEvent) (y : ShardEvent)
-    → shard_continued top me r (xs ++ y ∷ []) ≡ after_step (event_step top me (shard_continued top me r xs).state y) (shard_continued top me r xs) y
-run_push top me r [] y = refl
-run_push top me r (x ∷ xs) y = run_push top me (after_step (event_step top me r.state x) r x) xs y
-
--- ## Lists of events
-
-event_within : (top : TopologyValue) (me : ℕ) (w : ShardRun) (x : ShardEvent) → IsWithin w.state (after_step (event_step top me w.state x) w x).state
-event_within top me w (Handle e) = go (ticked w.state.clock e.time)
-  where
-    go : (o : Option ℕ) → IsWithin w.state (after_step (on_clock o (λ n. handled top me n w.state e.from e.body)) w (Handle e)).state
-    go None = within_itself w.state
-    go (Some n) = handled_within top me n w.state e.from e.body
-event_within top me w (Collect time) = go (ticked w.state.clock w.state.clock)
-  where
-    go : (o : Option ℕ) → IsWithin w.state (after_step (on_clock o (λ n. collected n w.state time)) w (Collect time)).state
-    go None = within_itself w.state
-    go (Some n) = record { prepared = λ p has. has; decided = λ d has. has }
-
-events_stay : (r : Result ShardStep Fault) (w : ShardRun) (x : ShardEvent) → AreAmong (envelopes_handled w) (envelopes_handled (after_step r w x))
-events_stay (Err f) w x e has = has
-events_stay (Ok st) w x e has =
-    let at = given_only envelope_in w.events e has in
-    given envelope_in (w.events ++ x ∷ []) at.0 e (Contains-append_left w.events (x ∷ []) at.0 at.1) at.2
-
-continued_within : (top : TopologyValue) (me : ℕ) (xs : List ShardEvent) (w : ShardRun) → IsWithin w.state (shard_continued top me w xs).state
-continued_within top me [] w = within_itself w.state
-continued_within top me (x ∷ xs) w =
-    within_then (event_within top me w x) (continued_within top me xs (after_step (event_step top me w.state x) w x))
-
-continued_stay : (top : TopologyValue) (me : ℕ) (xs : List ShardEvent) (w : ShardRun) → AreAmong (envelopes_handled w) (envelopes_handled (shard_continued top me w xs))
-continued_stay top me [] w e has = has
-continued_stay top me (x ∷ xs) w e has =
-    continued_stay top me xs (after_step (event_step top me w.state x) w x) e (events_stay (event_step top me w.state x) w x e has)
-
--- ## Who waits, and since when
-
--- after these events the read that this session numbered so waits, since this ReadAt was handled
-pub record IsWaitingFor (top : TopologyValue) (me : ℕ) (events : List ShardEvent) (session number time : ℕ) (read : Read) : Type 0 where
-  pub asked : Envelope
-  pub before : List ShardEvent
-  pub after : List ShardEvent
-  pub split : events ≡ before ++ Handle asked ∷ after
-  pub from : asked.from ≡ session
-  pub body : asked.body ≡ body.ReadAt number time read
-  pub taken : is_waiting (shard_run top me before).state asked.from number ≡ false
-  pub waits : (xs ys : List ShardEvent) → after ≡ xs ++ ys → is_waiting (shard_run top me (before ++ Handle asked ∷ xs)).state asked.from number ≡ true
-
--- the event is this ReadAt, and no read of its session and number waits
-pub record IsTaken (top : TopologyValue) (me : ℕ) (events : List ShardEvent) (x : ShardEvent) (session number time : ℕ) (read : Read) : Type 0 where
-  pub asked : Envelope
-  pub event : x ≡ Handle asked
-  pub from : asked.from ≡ session
-  pub body : asked.body ≡ body.ReadAt number time read
-  pub taken : is_waiting (shard_run top me events).state asked.from number ≡ false
-
--- the event is this Read
-pub record IsAsked (x : ShardEvent) (session number : ℕ) (read : Read) : Type 0 where
-  pub asked : Envelope
-  pub event : x ≡ Handle asked
-  pub from : asked.from ≡ session
-  pub body : asked.body ≡ body.Read number read
-
--- what the shard is asked after these events, and at a further one
-abbrev pub seen_after : TopologyValue → ℕ → List Envelope → List ShardEvent → Seen
-seen_after top me es events =
-    record { envelopes = es; asks_now = λ session number read. ⊥; asks_at = λ session number time read. IsWaitingFor top me events session number time read }
-
-abbrev pub seen_at : TopologyValue → ℕ → List Envelope → List ShardEvent → ShardEvent → Seen
-seen_at top me es events x =
-    record {
-      envelopes = es;
-      asks_now = λ session number read. IsAsked x session number read;
-      asks_at = λ session number time read. IsWaitingFor top me events session number time read ⊎ IsTaken top me events x session number time read;
-    }
-
--- the same holds where the reads that wait are asked in another way
-asked_so : {top : TopologyValue} {me : ℕ} {last : ShardState} {es : List Envelope} (now now' : (session number : ℕ) (read : Read) → Type 0)
-    (at at' : (session number time : ℕ) (read : Read) → Type 0) (a : ShardState)
-    → ((x : WaitingRead) → Contains a.waiting x → at x.session x.number x.time x.read → at' x.session x.number x.time x.read)
-    → Holds top me last (record { envelopes = es; asks_now = now; asks_at = at }) a
-    → Holds top me last (record { envelopes = es; asks_now = now'; asks_at = at' }) a
-asked_so now now' at at' a f h =
-    record {
-      sides = h.sides;
-      one = h.one;
-      readied = h.readied;
-      origin = h.origin;
-      prepared = h.prepared;
-      ballots = h.ballots;
-      kept_parts = h.kept_parts;
-      kept_ballots = h.kept_ballots;
-      stamped_apart = h.stamped_apart;
-      met = h.met;
-      decided_so = h.decided_so;
-      waiting = λ x has. (let s = h.waiting x has in record { asked = f x has s.asked; clock = s.clock; settled = s.settled });
-    }
-
-begins_or_all : {X : Type 0} (xs ys zs : List X) (x : X) → zs ++ x ∷ [] ≡ xs ++ ys → ((us : List X) × (zs ≡ xs ++ us)) ⊎ (xs ≡ zs ++ x ∷ [])
-begins_or_all [] ys zs x e = inl (zs, refl)
-begins_or_all (v ∷ xs) ys [] x e =
-    let head : x ≡ v = cc in
-    let rest : [] ≡ xs ++ ys = cc in
-    inr (none xs rest ∙ ap (λ z. z ∷ []) (sym head))
-  where
-    none : (us : List _) → [] ≡ us ++ ys → v ∷ us ≡ v ∷ []
-    none [] q = refl
-    none (u ∷ us) q = absurd (cc)
-begins_or_all (v ∷ xs) ys (z ∷ zs) x e =
-    let head : z ≡ v = cc in
-    let rest : zs ++ x ∷ [] ≡ xs ++ ys = cc in
-    elim (begins_or_all xs ys zs x rest) [
-      | inl r ↦ inl (r.0, ap₂ (λ u us. u ∷ us) head r.1)
-      | inr r ↦ inr (ap₂ (λ u us. u ∷ us) (sym head) r)
-    ]
+use Rattle.shard.proofs.Within.{within_then, handled_within}
+use Rattle.shard.proofs.Handles.{handled_able, ticked_above, AreAmong, run_push, continued_within, continued_stay}
+use Rattle.shard.proofs.Asked.{IsWaitingFor, IsTaken, IsAsked, seen_after, seen_at, asked_so, begins_or_all}
 
 -- ## A shard so far
 

@@ -14,7 +14,7 @@ use Rattle.messages.specs.ShardEvents.{shard_handle, shard_collect}
 use Rattle.messages.specs.SessionEvents.{session_handle}
 use Rattle.messages.specs.Submitting.{session_submit}
 use Rattle.shard.specs.Events.{ShardEvent, Handle, Collect as CollectHere, ShardRun, event_step, after_step, shard_continued, fresh_shard, shard_run, envelope_in, envelopes_handled}
-use Rattle.shard.proofs.Run.{run_push}
+use Rattle.shard.proofs.Handles.{run_push}
 use Rattle.shard.proofs.OneShard.{shard_is_right}
 use Rattle.messages.specs.Honest.{IsHonest}
 use Rattle.world.specs.Quiet.{number_delivered}
