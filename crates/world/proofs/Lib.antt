@@ -75,13 +75,12 @@ pub mod EventCases
 pub mod Prefixes
 pub mod HeardFirst
 pub mod HeardRuns
-pub mod NowSent
-pub mod NowSentRuns
-pub mod FreshReads
 pub mod HeardCases
 pub mod SessionSends
-pub mod Horizons
+pub mod NowSent
 pub mod Sendings
+pub mod FreshReads
+pub mod Horizons
 pub mod Completions
 pub mod Settling
 pub mod SettledAway
