@@ -100,6 +100,7 @@ pub mod LaterCommits
 pub mod EachShard
 pub mod Laws
 pub mod GivenUp
+pub mod KeptAnswers
 pub mod FirstRounds
 pub mod Addressed
 pub mod Unhandled
