@@ -99,7 +99,7 @@ posted_read k n read asked e =
     ∙ mapped_twice (keys_on k.home.shards read.keys) (read_keys k.home k.node n (k.count + 1) read) (shards_asked k.home.shards read.keys)
 
 pub asked_read : (k : Kept) (read : Read) (asked : List ShardKeys) → asked ≡ map (keys_on k.home.shards read.keys) (shards_asked k.home.shards read.keys)
-    → map (λ s. node_in k.home s.shard) asked ≡ asked_nodes (topology_of k) (state_of k []) read
+    → map (λ s. node_in k.home s.shard) asked ≡ asked_nodes (topology_of k) (state_of k) read
 asked_read k read asked e =
     ap (map (λ (s : ShardKeys). node_in k.home s.shard)) e
     ∙ mapped_twice (keys_on k.home.shards read.keys) (λ (s : ShardKeys). node_in k.home s.shard) (shards_asked k.home.shards read.keys)

@@ -9,7 +9,7 @@ use Rattle.messages.specs.declared.op.Op.TheVariants as op
 use Rattle.messages.specs.Clock.{ticked, on_clock}
 use Rattle.messages.specs.Topology.{TopologyValue}
 use Rattle.messages.specs.Words.{in_writer_order}
-use Rattle.messages.specs.Session.{SessionState, SessionStep, Finished, is_idle}
+use Rattle.messages.specs.Session.{SessionState, SessionStep, is_idle}
 use Rattle.messages.specs.Submitting.{begun, submit_fault, submit_if, session_submit}
 use Rattle.client.specs.declared.kept.Kept.{Kept}
 use Rattle.client.specs.Accepted.{fault_of, opened, accepted, posted}
@@ -37,46 +37,45 @@ same_fault k dcs homes true (op.Read read) = refl
 ordered_kept : (k : Kept) → dependencies_of k ≡ in_writer_order (dependencies_of k ++ [])
 ordered_kept k = sym (ap in_writer_order (append-nil (dependencies_of k)) ∙ ordered_stay (k.dependencies ++ k.added))
 
-begun_state : (k : Kept) (dcs : ℕ) (homes : List ℕ) (outcomes : List Finished) (n : ℕ) (o : Op)
-    → (begun (kept_in k dcs homes) k.node n (state_of k outcomes) o).state ≡ state_of (accepted k n o) outcomes
-begun_state k dcs homes outcomes n (op.Batch batch) = ap (λ ds. record (state_of (accepted k n (op.Batch batch)) outcomes) { dependencies = ds }) (ordered_kept k)
-begun_state k dcs homes outcomes n (op.Read read) = ap (λ ds. record (state_of (accepted k n (op.Read read)) outcomes) { dependencies = ds }) (ordered_kept k)
+begun_state : (k : Kept) (dcs : ℕ) (homes : List ℕ) (n : ℕ) (o : Op)
+    → (begun (kept_in k dcs homes) k.node n (state_of k) o).state ≡ state_of (accepted k n o)
+begun_state k dcs homes n (op.Batch batch) = ap (λ ds. record (state_of (accepted k n (op.Batch batch))) { dependencies = ds }) (ordered_kept k)
+begun_state k dcs homes n (op.Read read) = ap (λ ds. record (state_of (accepted k n (op.Read read))) { dependencies = ds }) (ordered_kept k)
 
-begun_sends : (k : Kept) (dcs : ℕ) (homes : List ℕ) (outcomes : List Finished) (n : ℕ) (o : Op)
-    → (begun (kept_in k dcs homes) k.node n (state_of k outcomes) o).sends ≡ posted k n o
-begun_sends k dcs homes outcomes n (op.Batch batch) = refl
-begun_sends k dcs homes outcomes n (op.Read read) = refl
+begun_sends : (k : Kept) (dcs : ℕ) (homes : List ℕ) (n : ℕ) (o : Op)
+    → (begun (kept_in k dcs homes) k.node n (state_of k) o).sends ≡ posted k n o
+begun_sends k dcs homes n (op.Batch batch) = refl
+begun_sends k dcs homes n (op.Read read) = refl
 
 opened_fits : (k : Kept) (n : ℕ) (o : Op) → FitsIn (accepted k n o) (opened k o)
 opened_fits k n (op.Batch batch) = refl
 opened_fits k n (op.Read read) = (refl, refl, refl)
 
-accepts : (k : Kept) (dcs : ℕ) (homes : List ℕ) (outcomes : List Finished) (n : ℕ) (o : Op) → fault_of k o ≡ None → ticked k.clock k.clock ≡ Some n
-    → session_submit (kept_in k dcs homes) k.node (state_of k outcomes) o ≡ Ok (begun (kept_in k dcs homes) k.node n (state_of k outcomes) o)
-accepts k dcs homes outcomes n o allowed time =
-    ap (λ f. submit_if f (kept_in k dcs homes) k.node (state_of k outcomes) o) (same_fault k dcs homes (is_idle (open_of k.current)) o ∙ allowed)
-    ∙ ap (λ t. on_clock t (λ m. begun (kept_in k dcs homes) k.node m (state_of k outcomes) o)) time
+accepts : (k : Kept) (dcs : ℕ) (homes : List ℕ) (n : ℕ) (o : Op) → fault_of k o ≡ None → ticked k.clock k.clock ≡ Some n
+    → session_submit (kept_in k dcs homes) k.node (state_of k) o ≡ Ok (begun (kept_in k dcs homes) k.node n (state_of k) o)
+accepts k dcs homes n o allowed time =
+    ap (λ f. submit_if f (kept_in k dcs homes) k.node (state_of k) o) (same_fault k dcs homes (is_idle (open_of k.current)) o ∙ allowed)
+    ∙ ap (λ t. on_clock t (λ m. begun (kept_in k dcs homes) k.node m (state_of k) o)) time
 
-kept_step : (k : Kept) (dcs : ℕ) (homes : List ℕ) (outcomes : List Finished) (n : ℕ) (o : Op) (before : List Envelope)
-    → IsStep (begun (kept_in k dcs homes) k.node n (state_of k outcomes) o) (kept_in k dcs homes) (accepted k n o) before (before ++ posted k n o)
-kept_step k dcs homes outcomes n o before =
-    let state = begun_state k dcs homes outcomes n o in
+kept_step : (k : Kept) (dcs : ℕ) (homes : List ℕ) (n : ℕ) (o : Op) (before : List Envelope)
+    → IsStep (begun (kept_in k dcs homes) k.node n (state_of k) o) (kept_in k dcs homes) (accepted k n o) before (before ++ posted k n o)
+kept_step k dcs homes n o before =
     record {
       state = record {
         topology = refl;
-        state = state ∙ ap (state_of (accepted k n o)) (sym (ap (λ (a : SessionState). a.outcomes) state));
+        state = begun_state k dcs homes n o;
         current = opened_fits k n o;
         ordered = ordered_stay (k.dependencies ++ k.added);
       };
-      sends = ap (λ es. before ++ es) (sym (begun_sends k dcs homes outcomes n o));
+      sends = ap (λ es. before ++ es) (sym (begun_sends k dcs homes n o));
     }
 
-kept_accepts : (k : Kept) (dcs : ℕ) (homes : List ℕ) (outcomes : List Finished) (n : ℕ) (o : Op) (before : List Envelope) → fault_of k o ≡ None
+kept_accepts : (k : Kept) (dcs : ℕ) (homes : List ℕ) (n : ℕ) (o : Op) (before : List Envelope) → fault_of k o ≡ None
     → ticked k.clock k.clock ≡ Some n
-    → IsStepOf (session_submit (kept_in k dcs homes) k.node (state_of k outcomes) o) (kept_in k dcs homes) (accepted k n o) before (before ++ posted k n o)
-kept_accepts k dcs homes outcomes n o before allowed time =
-    subst (λ r. IsStepOf r (kept_in k dcs homes) (accepted k n o) before (before ++ posted k n o)) (sym (accepts k dcs homes outcomes n o allowed time))
-    (kept_step k dcs homes outcomes n o before)
+    → IsStepOf (session_submit (kept_in k dcs homes) k.node (state_of k) o) (kept_in k dcs homes) (accepted k n o) before (before ++ posted k n o)
+kept_accepts k dcs homes n o before allowed time =
+    subst (λ r. IsStepOf r (kept_in k dcs homes) (accepted k n o) before (before ++ posted k n o)) (sym (accepts k dcs homes n o allowed time))
+    (kept_step k dcs homes n o before)
 
 pub submitted : (k l : Kept) (before after : List Envelope) (o : Op) → fault_of k o ≡ None → max k.clock k.clock + 1 < 2 ^ 48
     → l ≡ accepted k (max k.clock k.clock + 1) o → after ≡ before ++ posted k (max k.clock k.clock + 1) o
@@ -87,7 +86,7 @@ submitted k l before after o allowed lt state sends top a r =
     (subst (λ es. IsStepOf (session_submit top k.node a o) top (accepted k n o) before es) (sym sends)
     (subst (λ t. IsStepOf (session_submit t k.node a o) t (accepted k n o) before (before ++ posted k n o)) (sym r.topology)
     (subst (λ b. IsStepOf (session_submit (kept_in k top.dcs top.homes) k.node b o) (kept_in k top.dcs top.homes) (accepted k n o) before (before ++ posted k n o)) (sym r.state)
-    (kept_accepts k top.dcs top.homes a.outcomes n o before allowed (ticked_some k.clock k.clock n refl lt)))))
+    (kept_accepts k top.dcs top.homes n o before allowed (ticked_some k.clock k.clock n refl lt)))))
 
 refused_if : (f : Option Fault) (t : Option ℕ) (e : Fault) (x y : ℕ → SessionStep) (P : Option Fault → Result SessionStep Fault)
     (Q : Option Fault → Result SessionStep Fault) → ((g : Fault) → P (Some g) ≡ Err g) → ((g : Fault) → Q (Some g) ≡ Err g) → P None ≡ on_clock t x → Q None ≡ on_clock t y
@@ -96,16 +95,16 @@ refused_if (Some g) t e x y P Q p q pn qn h = subst (λ r. IsRefusalOf r e) (sym
 refused_if None None e x y P Q p q pn qn h = subst (λ r. IsRefusalOf r e) (sym qn) (subst (λ r. IsRefusalOf r e) pn h)
 refused_if None (Some n) e x y P Q p q pn qn h = subst (λ r. IsRefusalOf r e) (sym qn) (subst (λ r. IsRefusalOf r e) pn h)
 
-kept_refuses : (k : Kept) (dcs : ℕ) (homes : List ℕ) (outcomes : List Finished) (o : Op) (e : Fault)
-    → IsRefusalOf (session_submit (topology_of k) k.node (state_of k []) o) e → IsRefusalOf (session_submit (kept_in k dcs homes) k.node (state_of k outcomes) o) e
-kept_refuses k dcs homes outcomes o e h =
-    subst (λ f. IsRefusalOf (submit_if f (kept_in k dcs homes) k.node (state_of k outcomes) o) e) (sym (same_fault k dcs homes (is_idle (open_of k.current)) o))
-    (refused_if (fault_of k o) (ticked k.clock k.clock) e (λ n. begun (topology_of k) k.node n (state_of k []) o) (λ n. begun (kept_in k dcs homes) k.node n (state_of k outcomes) o)
-    (λ f. submit_if f (topology_of k) k.node (state_of k []) o) (λ f. submit_if f (kept_in k dcs homes) k.node (state_of k outcomes) o)
+kept_refuses : (k : Kept) (dcs : ℕ) (homes : List ℕ) (o : Op) (e : Fault)
+    → IsRefusalOf (session_submit (topology_of k) k.node (state_of k) o) e → IsRefusalOf (session_submit (kept_in k dcs homes) k.node (state_of k) o) e
+kept_refuses k dcs homes o e h =
+    subst (λ f. IsRefusalOf (submit_if f (kept_in k dcs homes) k.node (state_of k) o) e) (sym (same_fault k dcs homes (is_idle (open_of k.current)) o))
+    (refused_if (fault_of k o) (ticked k.clock k.clock) e (λ n. begun (topology_of k) k.node n (state_of k) o) (λ n. begun (kept_in k dcs homes) k.node n (state_of k) o)
+    (λ f. submit_if f (topology_of k) k.node (state_of k) o) (λ f. submit_if f (kept_in k dcs homes) k.node (state_of k) o)
     (λ g. refl) (λ g. refl) refl refl h)
 
-pub submit_refused : (k : Kept) (o : Op) (e : Fault) → IsRefusalOf (session_submit (topology_of k) k.node (state_of k []) o) e
+pub submit_refused : (k : Kept) (o : Op) (e : Fault) → IsRefusalOf (session_submit (topology_of k) k.node (state_of k) o) e
     → (top : TopologyValue) (a : SessionState) → Represents k top a → IsRefusalOf (session_submit top k.node a o) e
 submit_refused k o e h top a r =
     subst (λ t. IsRefusalOf (session_submit t k.node a o) e) (sym r.topology)
-    (subst (λ b. IsRefusalOf (session_submit (kept_in k top.dcs top.homes) k.node b o) e) (sym r.state) (kept_refuses k top.dcs top.homes a.outcomes o e h))
+    (subst (λ b. IsRefusalOf (session_submit (kept_in k top.dcs top.homes) k.node b o) e) (sym r.state) (kept_refuses k top.dcs top.homes o e h))

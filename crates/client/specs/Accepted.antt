@@ -24,7 +24,7 @@ fault_of k o = submit_fault (is_idle (open_of k.current)) (topology_of k) o
 abbrev pub opened : Kept → Op → Current
 opened k (op.Batch batch) = Write (coordinator_of k.home.shards batch)
 opened k (op.Read read) =
-    First (record { read = read; floor = k.floor; asked = asked_nodes (topology_of k) (state_of k []) read; heard = [] })
+    First (record { read = read; floor = k.floor; asked = asked_nodes (topology_of k) (state_of k) read; heard = [] })
 
 -- an operation is accepted at a time: the writers of the read before it are put in order
 abbrev pub accepted : Kept → ℕ → Op → Kept
@@ -41,6 +41,6 @@ accepted k n o =
 -- what is sent
 abbrev pub posted : Kept → ℕ → Op → List Envelope
 posted k n (op.Batch batch) =
-    begin_of (topology_of k) k.node n (state_of k []) batch ∷ map (prepare_of (topology_of k) k.node n (state_of k []) batch) (cohorts_of k.home.shards batch)
+    begin_of (topology_of k) k.node n (state_of k) batch ∷ map (prepare_of (topology_of k) k.node n (state_of k) batch) (cohorts_of k.home.shards batch)
 posted k n (op.Read read) =
-    map (λ s. envelope k.node (home_node (topology_of k) (state_of k []) s) n (body.Read (k.count + 1) (share_of (topology_of k) read s))) (shards_asked k.home.shards read.keys)
+    map (λ s. envelope k.node (home_node (topology_of k) (state_of k) s) n (body.Read (k.count + 1) (share_of (topology_of k) read s))) (shards_asked k.home.shards read.keys)

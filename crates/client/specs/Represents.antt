@@ -17,13 +17,13 @@ use Rattle.client.specs.State.{state_of, topology_of}
 abbrev pub FitsIn : Kept → Current → Type 0
 FitsIn k Idle = Unit {0}
 FitsIn k (Write coordinator) = k.added ≡ []
-FitsIn k (First f) = (k.added ≡ []) × (f.asked ≡ asked_nodes (topology_of k) (state_of k []) f.read) × (f.floor ≡ k.floor)
-FitsIn k (Second s) = (k.added ≡ []) × (s.asked ≡ asked_nodes (topology_of k) (state_of k []) s.read)
+FitsIn k (First f) = (k.added ≡ []) × (f.asked ≡ asked_nodes (topology_of k) (state_of k) f.read) × (f.floor ≡ k.floor)
+FitsIn k (Second s) = (k.added ≡ []) × (s.asked ≡ asked_nodes (topology_of k) (state_of k) s.read)
 
--- What is kept stands for this state of the machine, in this topology. The machine has all outcomes besides.
+-- What is kept stands for this state of the machine, in this topology.
 pub record Represents (k : Kept) (top : TopologyValue) (a : SessionState) : Type 0 where
   pub topology : top ≡ record top { shards = k.home.shards; schema = k.schema }
-  pub state : a ≡ state_of k a.outcomes
+  pub state : a ≡ state_of k
   pub current : FitsIn k k.current
   pub ordered : in_writer_order k.dependencies ≡ k.dependencies
 

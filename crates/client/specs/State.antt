@@ -16,9 +16,9 @@ abbrev pub finished_of : Option (ℕ × Outcome) → Option Finished
 finished_of None = None
 finished_of (Some p) = Some (record { number = p.0; outcome = p.1 })
 
--- the state of the machine that is kept, beside all outcomes so far, which aren't kept
-abbrev pub state_of : Kept → List Finished → SessionState
-state_of k outcomes =
+-- the state of the machine that is kept
+abbrev pub state_of : Kept → SessionState
+state_of k =
     record {
       clock = k.clock;
       count = k.count;
@@ -26,7 +26,6 @@ state_of k outcomes =
       floor = k.floor;
       dependencies = dependencies_of k;
       current = open_of k.current;
-      outcomes = outcomes;
       untaken = finished_of k.untaken;
     }
 

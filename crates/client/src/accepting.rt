@@ -119,7 +119,7 @@ fn submit_batch(kept: &mut Kept, batch: &Batch, outbox: &mut Outbox) -> Result<u
 fn ask(kept: &Kept, clock: Clock, read: &Read, outbox: &mut Outbox) -> Result<Vec<Node>, Fault>
     requires counted { kept.now.count < 2 ^ 48 }
     requires allowed { fault_of kept.now (op.Read read.now) ≡ None }
-    ensures asked { IfOk result (λ nodes. nodes.items ≡ asked_nodes (topology_of kept.now) (state_of kept.now []) read.now) }
+    ensures asked { IfOk result (λ nodes. nodes.items ≡ asked_nodes (topology_of kept.now) (state_of kept.now) read.now) }
     ensures sends { OnOk result (outbox.new.sent ≡ outbox.old.sent ++ posted kept.now clock (op.Read read.now)) }
     ensures unsent { OnErr result (outbox.new.sent ≡ outbox.old.sent) }
     ensures memory { IfErr result (λ e. e ≡ Fault.Memory) }
@@ -173,7 +173,7 @@ pub(crate) fn submit(kept: &mut Kept, op: Op, outbox: &mut Outbox) -> Result<u64
     ensures time { OnOk result (max kept.old.clock kept.old.clock + 1 < 2 ^ 48) }
     ensures state { OnOk result (kept.new ≡ accepted kept.old (max kept.old.clock kept.old.clock + 1) op) }
     ensures sends { OnOk result (outbox.new.sent ≡ outbox.old.sent ++ posted kept.old (max kept.old.clock kept.old.clock + 1) op) }
-    ensures refused { IfErr result (λ e. IsRefusalOf (session_submit (topology_of kept.old) kept.old.node (state_of kept.old []) op) e.0) }
+    ensures refused { IfErr result (λ e. IsRefusalOf (session_submit (topology_of kept.old) kept.old.node (state_of kept.old) op) e.0) }
     ensures same { OnErr result (kept.new ≡ kept.old) }
     ensures unsent { OnErr result (outbox.new.sent ≡ outbox.old.sent) }
     ensures back { IfErr result (λ e. e.1 ≡ op) }

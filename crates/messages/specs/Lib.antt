@@ -13,5 +13,6 @@ pub mod Session
 pub mod Submitting
 pub mod Rounds
 pub mod SessionEvents
+pub mod Actors
 pub mod Examples
 pub mod Honest

@@ -41,8 +41,6 @@ pub record SessionState : Type 0 where
   -- what the next write depends on, in order
   pub dependencies : List WriterValue
   pub current : Open
-  -- all outcomes so far, oldest first
-  pub outcomes : List Finished
   -- the last outcome, until it is taken or the next operation is accepted
   pub untaken : Option Finished
 
@@ -56,7 +54,6 @@ new_session home =
       floor = 0;
       dependencies = [];
       current = Idle;
-      outcomes = [];
       untaken = None;
     }
 

@@ -30,7 +30,6 @@ ended n a floor dependencies o =
             floor = floor;
             dependencies = dependencies;
             current = Idle;
-            outcomes = a.outcomes ++ record { number = a.count; outcome = o } ∷ [];
             untaken = Some (record { number = a.count; outcome = o });
           };
       sends = [];

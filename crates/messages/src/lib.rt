@@ -7,6 +7,7 @@
 mod body;
 mod copies;
 mod envelope;
+mod event;
 mod law;
 mod op;
 mod outbox;
@@ -17,6 +18,7 @@ mod topology;
 
 pub use body::{Body, Cohorts};
 pub use envelope::{Envelope, Refused};
+pub use event::Event;
 pub use law::{
     nodes_are_numbered_once, rounds_of_two_rows, times_of_reads, writers_are_rested_on,
     writers_stand_in_order,

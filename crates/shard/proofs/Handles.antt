@@ -1,5 +1,5 @@
 -- What one envelope and one event make of a shard: what is known goes on holding.
-use Rattle.std.proofs.Common.{◌≡◌, ap, subst, refl, ℕ, ◌+◌, ◌^◌, ◌<◌, max, Bool, true, false, nat_lt, List, [], ◌∷◌, ◌++◌, Option, Some, None, Result, Ok, Err, arith}
+use Rattle.std.proofs.Common.{◌≡◌, sym, ap, subst, refl, ℕ, ◌+◌, ◌^◌, ◌<◌, max, Bool, true, false, nat_lt, List, [], ◌∷◌, ◌++◌, Option, Some, None, Result, Ok, Err, arith}
 use Rattle.std.specs.Prelude.{if◌then◌else◌, Contains}
 use Rattle.std.proofs.lemmas.List.Elements.{Contains-append_left}
 use Rattle.column_family.specs.Normal.{IsNormal}
@@ -13,9 +13,13 @@ use Rattle.messages.specs.Clock.{ticked, on_clock}
 use Rattle.messages.specs.Shard.{ShardState, ShardStep}
 use Rattle.messages.specs.Reads.{is_waiting}
 use Rattle.slice.specs.declared.read.Read.{Read}
-use Rattle.messages.specs.ShardEvents.{handled, collected}
+use Rattle.messages.specs.ShardEvents.{handled, shard_handle, collected, shard_collect}
+use Rattle.messages.specs.Actors.{envelope_of}
+use Rattle.logical_time.specs.declared.fault.Fault.TheVariants.{Busy}
 use Rattle.messages.specs.Honest.{told_in, part_in, IsHonest}
-use Rattle.shard.specs.Events.{ShardEvent, Handle, Collect, ShardRun, event_step, after_step, shard_continued, envelope_in, envelopes_handled}
+use Rattle.messages.specs.declared.event.Event.{Event}
+use Rattle.messages.specs.declared.event.Event.TheVariants.{Submit, Handle, Collect}
+use Rattle.shard.specs.Events.{ShardRun, after_step, after_event, shard_continued, envelopes_handled}
 use Rattle.shard.specs.Sound.{Seen, Holds, Able, IsWithin}
 use Rattle.shard.proofs.LetGo.{quiet_able}
 use Rattle.shard.proofs.Commits.{begin_able, prepare_able}
@@ -82,19 +86,31 @@ ticked_above clock time n e = go (nat_lt (max clock time + 1) (2 ^ 48)) e
     go true f = above (cc)
     go false f = absurd (cc)
 
+-- the machine's step of an event; a submission is none of a shard's
+abbrev pub event_step : TopologyValue → ℕ → ShardState → Event → Result ShardStep Fault
+event_step top me a (Submit o) = Err Busy
+event_step top me a (Handle e) = shard_handle top me a e
+event_step top me a (Collect time) = shard_collect a time
+
+pub by_step : (top : TopologyValue) (me : ℕ) (w : ShardRun) (x : Event) → after_event top me w x ≡ after_step (event_step top me w.state x) w x
+by_step top me w (Submit o) = refl
+by_step top me w (Handle e) = refl
+by_step top me w (Collect time) = refl
+
 -- all of these are among those
 abbrev pub AreAmong : List Envelope → List Envelope → Type 0
 AreAmong few many = (e : Envelope) → Contains few e → Contains many e
 
 -- one event more
-pub run_push : (top : TopologyValue) (me : ℕ) (r : ShardRun) (xs : List ShardEvent) (y : ShardEvent)
-    → shard_continued top me r (xs ++ y ∷ []) ≡ after_step (event_step top me (shard_continued top me r xs).state y) (shard_continued top me r xs) y
+pub run_push : (top : TopologyValue) (me : ℕ) (r : ShardRun) (xs : List Event) (y : Event)
+    → shard_continued top me r (xs ++ y ∷ []) ≡ after_event top me (shard_continued top me r xs) y
 run_push top me r [] y = refl
-run_push top me r (x ∷ xs) y = run_push top me (after_step (event_step top me r.state x) r x) xs y
+run_push top me r (x ∷ xs) y = run_push top me (after_event top me r x) xs y
 
 -- ## Lists of events
 
-pub event_within : (top : TopologyValue) (me : ℕ) (w : ShardRun) (x : ShardEvent) → IsWithin w.state (after_step (event_step top me w.state x) w x).state
+pub event_within : (top : TopologyValue) (me : ℕ) (w : ShardRun) (x : Event) → IsWithin w.state (after_event top me w x).state
+event_within top me w (Submit o) = within_itself w.state
 event_within top me w (Handle e) = go (ticked w.state.clock e.time)
   where
     go : (o : Option ℕ) → IsWithin w.state (after_step (on_clock o (λ n. handled top me n w.state e.from e.body)) w (Handle e)).state
@@ -106,18 +122,22 @@ event_within top me w (Collect time) = go (ticked w.state.clock w.state.clock)
     go None = within_itself w.state
     go (Some n) = record { prepared = λ p has. has; decided = λ d has. has }
 
-events_stay : (r : Result ShardStep Fault) (w : ShardRun) (x : ShardEvent) → AreAmong (envelopes_handled w) (envelopes_handled (after_step r w x))
+events_stay : (r : Result ShardStep Fault) (w : ShardRun) (x : Event) → AreAmong (envelopes_handled w) (envelopes_handled (after_step r w x))
 events_stay (Err f) w x e has = has
 events_stay (Ok st) w x e has =
-    let at = given_only envelope_in w.events e has in
-    given envelope_in (w.events ++ x ∷ []) at.0 e (Contains-append_left w.events (x ∷ []) at.0 at.1) at.2
+    let at = given_only envelope_of w.events e has in
+    given envelope_of (w.events ++ x ∷ []) at.0 e (Contains-append_left w.events (x ∷ []) at.0 at.1) at.2
 
-pub continued_within : (top : TopologyValue) (me : ℕ) (xs : List ShardEvent) (w : ShardRun) → IsWithin w.state (shard_continued top me w xs).state
+event_stays : (top : TopologyValue) (me : ℕ) (w : ShardRun) (x : Event) → AreAmong (envelopes_handled w) (envelopes_handled (after_event top me w x))
+event_stays top me w x =
+    subst (λ (v : ShardRun). AreAmong (envelopes_handled w) (envelopes_handled v)) (sym (by_step top me w x)) (events_stay (event_step top me w.state x) w x)
+
+pub continued_within : (top : TopologyValue) (me : ℕ) (xs : List Event) (w : ShardRun) → IsWithin w.state (shard_continued top me w xs).state
 continued_within top me [] w = within_itself w.state
 continued_within top me (x ∷ xs) w =
-    within_then (event_within top me w x) (continued_within top me xs (after_step (event_step top me w.state x) w x))
+    within_then (event_within top me w x) (continued_within top me xs (after_event top me w x))
 
-pub continued_stay : (top : TopologyValue) (me : ℕ) (xs : List ShardEvent) (w : ShardRun) → AreAmong (envelopes_handled w) (envelopes_handled (shard_continued top me w xs))
+pub continued_stay : (top : TopologyValue) (me : ℕ) (xs : List Event) (w : ShardRun) → AreAmong (envelopes_handled w) (envelopes_handled (shard_continued top me w xs))
 continued_stay top me [] w e has = has
 continued_stay top me (x ∷ xs) w e has =
-    continued_stay top me xs (after_step (event_step top me w.state x) w x) e (events_stay (event_step top me w.state x) w x e has)
+    continued_stay top me xs (after_event top me w x) e (event_stays top me w x e has)

@@ -16,7 +16,9 @@ use Rattle.messages.specs.Rows.{row_of}
 use Rattle.messages.specs.Honest.{IsHonest}
 use Rattle.messages.specs.declared.body.Body.TheVariants as body
 use Rattle.store.proofs.Lists.{none_in_empty}
-use Rattle.shard.specs.Events.{ShardEvent, Handle, ShardRun, fresh_shard, event_step, shard_run, envelopes_handled}
+use Rattle.messages.specs.declared.event.Event.{Event}
+use Rattle.messages.specs.declared.event.Event.TheVariants.{Handle}
+use Rattle.shard.specs.Events.{ShardRun, fresh_shard, shard_run, envelopes_handled}
 use Rattle.shard.specs.Right.{part_now, part_then, IsRightNow, IsRightAt, IsSentBy, CausesAt, IsRightShard}
 use Rattle.shard.specs.Sound.{RowNowSound, RowAtSound, NowSound, AtSound, BodySound}
 use Rattle.shard.proofs.Grow.{now_grows, at_grows}
@@ -43,7 +45,7 @@ row_at_right es a read time r apart s =
     (right_stays s.seen c.later row read.predicate time (part_then r) (subst AreApart c.split apart) c.above s.right)
 
 -- what caused an answer at a time: it was asked at the event that sent it, or waited until then
-at_cause : (top : TopologyValue) (me : ℕ) (events before rest : List ShardEvent) (event : ShardEvent) (e : Envelope) (number time : ℕ) (read : Read)
+at_cause : (top : TopologyValue) (me : ℕ) (events before rest : List Event) (event : Event) (e : Envelope) (number time : ℕ) (read : Read)
     → events ≡ before ++ event ∷ rest → IsSentBy top me before event e
     → IsWaitingFor top me before e.to number time read ⊎ IsTaken top me before event e.to number time read
     → (asked : Envelope) × CausesAt top me events asked number e × (asked.from ≡ e.to) × (asked.body ≡ body.ReadAt number time read)
@@ -79,7 +81,7 @@ at_cause top me events before rest event e number time read split sent (inr k) =
   k.body,
 )
 
-pub shard_is_right : (top : TopologyValue) (me : ℕ) (events : List ShardEvent) → IsHonest (shard_run top me events).state (envelopes_handled (shard_run top me events))
+pub shard_is_right : (top : TopologyValue) (me : ℕ) (events : List Event) → IsHonest (shard_run top me events).state (envelopes_handled (shard_run top me events))
     → IsRightShard top me (shard_run top me events)
 shard_is_right top me events honest =
     record {
@@ -149,7 +151,9 @@ shard_is_right top me events honest =
     by_event : (e : Envelope) (s : SentAt top me w.state es honest w e) → IsSentBy top me s.before.events s.event e
     by_event e s =
         record {
-          step = s.step;
-          stepped = ap (λ (r : ShardRun). event_step top me r.state s.event) s.ran.replayed ∙ s.stepped;
-          sends = s.sends;
+          sends = s.step.sends;
+          added =
+              ap (λ (r : ShardRun). r.sent) s.now
+              ∙ ap (λ (r : ShardRun). r.sent ++ s.step.sends) (sym s.ran.replayed);
+          has = s.sends;
         }

@@ -7,18 +7,21 @@ use Rattle.logical_time.specs.declared.fault.Fault.{Fault}
 use Rattle.store.proofs.Lists.{none_in_empty, given}
 use Rattle.messages.specs.declared.envelope.Envelope.{Envelope}
 use Rattle.messages.specs.Topology.{TopologyValue}
+use Rattle.messages.specs.Actors.{envelope_of}
 use Rattle.messages.specs.Clock.{ticked, on_clock}
 use Rattle.messages.specs.Shard.{ShardState, ShardStep, WaitingRead}
 use Rattle.messages.specs.Reads.{is_waiting}
 use Rattle.messages.specs.ShardEvents.{handled, collected}
 use Rattle.messages.specs.Honest.{IsHonest}
-use Rattle.shard.specs.Events.{ShardEvent, Handle, Collect, ShardRun, fresh_shard, event_step, after_step, shard_continued, shard_run, envelope_in, envelopes_handled}
+use Rattle.messages.specs.declared.event.Event.{Event}
+use Rattle.messages.specs.declared.event.Event.TheVariants.{Submit, Handle, Collect}
+use Rattle.shard.specs.Events.{ShardRun, fresh_shard, after_step, after_event, shard_continued, shard_run, envelopes_handled}
 use Rattle.shard.specs.Sound.{Grows, Holds, Able, IsWithin}
 use Rattle.shard.proofs.Lists.{any_has, both_hold}
 use Rattle.shard.proofs.Grow.{grows_then, grows_beside}
 use Rattle.shard.proofs.Updates.{aside}
 use Rattle.shard.proofs.Within.{within_then, handled_within}
-use Rattle.shard.proofs.Handles.{handled_able, ticked_above, AreAmong, run_push, continued_within, continued_stay}
+use Rattle.shard.proofs.Handles.{handled_able, ticked_above, event_step, by_step, AreAmong, run_push, continued_within, continued_stay}
 use Rattle.shard.proofs.Asked.{IsWaitingFor, IsTaken, IsAsked, seen_after, seen_at, asked_so, begins_or_all}
 
 -- ## A shard so far
@@ -30,9 +33,10 @@ pub record Ran (top : TopologyValue) (me : ℕ) (last : ShardState) (es : List E
 
 module _ (top : TopologyValue) (me : ℕ) (last : ShardState) (es : List Envelope) (honest : IsHonest last es) where
   -- each step keeps what is known, and what it sends is sound
-  event_able : (w : ShardRun) (x : ShardEvent) (st : ShardStep) → event_step top me w.state x ≡ Ok st → IsWithin st.state last
+  event_able : (w : ShardRun) (x : Event) (st : ShardStep) → event_step top me w.state x ≡ Ok st → IsWithin st.state last
       → AreAmong (envelopes_handled (after_step (Ok st) w x)) es → Ran top me last es w
       → Able top me last (seen_at top me es w.events x) w.state st
+  event_able w (Submit o) st ok within among ran = absurd (cc)
   event_able w (Handle e) st ok within among ran = go (ticked w.state.clock e.time) refl ok
     where
       h : Holds top me last (seen_at top me es w.events (Handle e)) w.state
@@ -47,7 +51,7 @@ module _ (top : TopologyValue) (me : ℕ) (last : ShardState) (es : List Envelop
           → Able top me last (seen_at top me es w.events (Handle e)) w.state st
       by n is same =
           let above = ticked_above w.state.clock e.time n is in
-          let has = among e (given envelope_in (w.events ++ Handle e ∷ []) (Handle e) e (Contains-push w.events (Handle e)) refl) in
+          let has = among e (given envelope_of (w.events ++ Handle e ∷ []) (Handle e) e (Contains-push w.events (Handle e)) refl) in
           let inside : IsWithin (handled top me n w.state e.from e.body).state last = subst (λ (z : ShardStep). IsWithin z.state last) (sym same) within in
           subst (Able top me last (seen_at top me es w.events (Handle e)) w.state) same
           (handled_able top me last (seen_at top me es w.events (Handle e)) w.state n e honest above.0 above.1 has
@@ -92,12 +96,12 @@ module _ (top : TopologyValue) (me : ℕ) (last : ShardState) (es : List Envelop
       go (Some n) is q = by n is (cc)
 
   -- after the step
-  replayed_on : (w : ShardRun) (x : ShardEvent) (st : ShardStep) → event_step top me w.state x ≡ Ok st → shard_run top me w.events ≡ w
+  replayed_on : (w : ShardRun) (x : Event) (st : ShardStep) → event_step top me w.state x ≡ Ok st → shard_run top me w.events ≡ w
       → shard_run top me (w.events ++ x ∷ []) ≡ after_step (Ok st) w x
   replayed_on w x st ok replayed =
-      run_push top me fresh_shard w.events x ∙ ap (λ (r : ShardRun). after_step (event_step top me r.state x) r x) replayed ∙ ap (λ o. after_step o w x) ok
+      run_push top me fresh_shard w.events x ∙ ap (λ (r : ShardRun). after_event top me r x) replayed ∙ by_step top me w x ∙ ap (λ o. after_step o w x) ok
 
-  event_ran : (w : ShardRun) (x : ShardEvent) (st : ShardStep) → event_step top me w.state x ≡ Ok st → IsWithin st.state last
+  event_ran : (w : ShardRun) (x : Event) (st : ShardStep) → event_step top me w.state x ≡ Ok st → IsWithin st.state last
       → AreAmong (envelopes_handled (after_step (Ok st) w x)) es → Ran top me last es w → Ran top me last es (after_step (Ok st) w x)
   event_ran w x st ok within among ran =
       let able = event_able w x st ok within among ran in
@@ -155,7 +159,7 @@ module _ (top : TopologyValue) (me : ℕ) (last : ShardState) (es : List Envelop
                 ∙ ap (λ z. is_waiting (shard_run top me (w.events ++ z ∷ [])).state k.asked.from y.number) (sym k.event) ∙ here y has k.asked.from k.from;
           }
         where
-          nothing : (xs ys : List ShardEvent) → [] ≡ xs ++ ys → xs ≡ []
+          nothing : (xs ys : List Event) → [] ≡ xs ++ ys → xs ≡ []
           nothing [] ys e = refl
           nothing (u ∷ us) ys e = absurd (cc)
 
@@ -166,10 +170,14 @@ module _ (top : TopologyValue) (me : ℕ) (last : ShardState) (es : List Envelop
     pub ran : Ran top me last es v
     pub grows : Grows es w.state v.state
 
-  pub continued_ran : (xs : List ShardEvent) (w : ShardRun) → IsWithin (shard_continued top me w xs).state last
+  pub continued_ran : (xs : List Event) (w : ShardRun) → IsWithin (shard_continued top me w xs).state last
       → AreAmong (envelopes_handled (shard_continued top me w xs)) es → Ran top me last es w → RanOn w (shard_continued top me w xs)
   continued_ran [] w within among ran = record { ran = ran; grows = grows_beside w.state w.state (le_refl w.state.clock) (le_refl w.state.low) refl refl }
-  continued_ran (x ∷ xs) w within among ran = go (event_step top me w.state x) refl within among (λ v. continued_ran xs v)
+  continued_ran (x ∷ xs) w within among ran =
+      let q = by_step top me w x in
+      subst (λ (v : ShardRun). RanOn w (shard_continued top me v xs)) (sym q)
+      (go (event_step top me w.state x) refl (subst (λ (v : ShardRun). IsWithin (shard_continued top me v xs).state last) q within)
+      (subst (λ (v : ShardRun). AreAmong (envelopes_handled (shard_continued top me v xs)) es) q among) (λ v. continued_ran xs v))
     where
       go : (r : Result ShardStep Fault) → event_step top me w.state x ≡ r → IsWithin (shard_continued top me (after_step r w x) xs).state last
           → AreAmong (envelopes_handled (shard_continued top me (after_step r w x) xs)) es
@@ -187,31 +195,38 @@ module _ (top : TopologyValue) (me : ℕ) (last : ShardState) (es : List Envelop
   -- the event at which the shard sent this, and what it knew then
   pub record SentAt (w : ShardRun) (e : Envelope) : Type 0 where
     pub before : ShardRun
-    pub event : ShardEvent
-    pub rest : List ShardEvent
+    pub event : Event
+    pub rest : List Event
     pub split : w.events ≡ before.events ++ event ∷ rest
     pub step : ShardStep
-    pub stepped : event_step top me before.state event ≡ Ok step
+    pub now : shard_run top me (before.events ++ event ∷ []) ≡ after_step (Ok step) before event
     pub sends : Contains step.sends e
     pub ran : Ran top me last es before
     pub able : Able top me last (seen_at top me es before.events event) before.state step
     pub grows : Grows es step.state w.state
 
-  events_on : (xs : List ShardEvent) (w : ShardRun) → (more : List ShardEvent) × ((shard_continued top me w xs).events ≡ w.events ++ more)
+  events_on : (xs : List Event) (w : ShardRun) → (more : List Event) × ((shard_continued top me w xs).events ≡ w.events ++ more)
   events_on [] w = ([], sym (append-nil w.events))
-  events_on (x ∷ xs) w = go (event_step top me w.state x) (λ v. events_on xs v)
+  events_on (x ∷ xs) w =
+      subst (λ (v : ShardRun). (more : List Event) × ((shard_continued top me v xs).events ≡ w.events ++ more)) (sym (by_step top me w x))
+      (go (event_step top me w.state x) (λ v. events_on xs v))
     where
-      go : (r : Result ShardStep Fault) → ((v : ShardRun) → (more : List ShardEvent) × ((shard_continued top me v xs).events ≡ v.events ++ more))
-          → (more : List ShardEvent) × ((shard_continued top me (after_step r w x) xs).events ≡ w.events ++ more)
+      go : (r : Result ShardStep Fault) → ((v : ShardRun) → (more : List Event) × ((shard_continued top me v xs).events ≡ v.events ++ more))
+          → (more : List Event) × ((shard_continued top me (after_step r w x) xs).events ≡ w.events ++ more)
       go (Err f) more = more w
       go (Ok st) more =
           let r = more (after_step (Ok st) w x) in (x ∷ r.0, r.1 ∙ append_assoc w.events (x ∷ []) r.0)
 
-  pub sent_at : (xs : List ShardEvent) (w : ShardRun) → IsWithin (shard_continued top me w xs).state last
+  pub sent_at : (xs : List Event) (w : ShardRun) → IsWithin (shard_continued top me w xs).state last
       → AreAmong (envelopes_handled (shard_continued top me w xs)) es → Ran top me last es w → (e : Envelope) → Contains (shard_continued top me w xs).sent e
       → Contains w.sent e ⊎ SentAt (shard_continued top me w xs) e
   sent_at [] w within among ran e has = inl has
-  sent_at (x ∷ xs) w within among ran e has = go (event_step top me w.state x) refl within among has (λ v. sent_at xs v)
+  sent_at (x ∷ xs) w within among ran e has =
+      let q = by_step top me w x in
+      subst (λ (v : ShardRun). Contains w.sent e ⊎ SentAt (shard_continued top me v xs) e) (sym q)
+      (go (event_step top me w.state x) refl (subst (λ (v : ShardRun). IsWithin (shard_continued top me v xs).state last) q within)
+      (subst (λ (v : ShardRun). AreAmong (envelopes_handled (shard_continued top me v xs)) es) q among)
+      (subst (λ (v : ShardRun). Contains (shard_continued top me v xs).sent e) q has) (λ v. sent_at xs v))
     where
       go : (r : Result ShardStep Fault) → event_step top me w.state x ≡ r → IsWithin (shard_continued top me (after_step r w x) xs).state last
           → AreAmong (envelopes_handled (shard_continued top me (after_step r w x) xs)) es → Contains (shard_continued top me (after_step r w x) xs).sent e
@@ -233,7 +248,7 @@ module _ (top : TopologyValue) (me : ℕ) (last : ShardState) (es : List Envelop
                 rest = (events_on xs v).0;
                 split = (events_on xs v).1 ∙ append_assoc w.events (x ∷ []) (events_on xs v).0;
                 step = st;
-                stepped = ok;
+                now = replayed_on w x st ok ran.replayed;
                 sends = now;
                 ran = ran;
                 able = event_able w x st ok first few ran;

@@ -1,5 +1,5 @@
 -- When what one shard sent is right, judged against all that it applied, later events included.
-use Rattle.std.specs.Prelude.{◌≡◌, ℕ, ◌<◌, ◌≤◌, true, false, List, ◌∷◌, ◌++◌, map, Ok, Contains, ◌⊎◌}
+use Rattle.std.specs.Prelude.{◌≡◌, ℕ, ◌<◌, ◌≤◌, true, false, List, [], ◌∷◌, ◌++◌, map, Contains, ◌⊎◌}
 use Rattle.slice.specs.declared.read.Read.{Read}
 use Rattle.store.specs.declared.part.Applied.{Applied}
 use Rattle.store.specs.declared.part.Part.{Part}
@@ -11,11 +11,13 @@ use Rattle.messages.specs.declared.rows_at.AtTime.TheVariants as at
 use Rattle.messages.specs.declared.body.Body.TheVariants as body
 use Rattle.messages.specs.declared.envelope.Envelope.{Envelope}
 use Rattle.messages.specs.Topology.{TopologyValue}
-use Rattle.messages.specs.Shard.{ShardState, ShardStep, Decision}
+use Rattle.messages.specs.Shard.{ShardState, Decision}
 use Rattle.messages.specs.Reads.{is_waiting}
 use Rattle.messages.specs.Honest.{Told, all_told}
 use Rattle.messages.specs.Rows.{row_of}
-use Rattle.shard.specs.Events.{ShardEvent, Handle, ShardRun, event_step, shard_run, envelopes_handled}
+use Rattle.messages.specs.declared.event.Event.{Event}
+use Rattle.messages.specs.declared.event.Event.TheVariants.{Handle}
+use Rattle.shard.specs.Events.{ShardRun, shard_run, envelopes_handled}
 
 -- a row of a first round as a part of what was applied
 abbrev pub part_now : RowNow → Part
@@ -36,33 +38,33 @@ IsRightAt applied read time r = IsRightPart applied (row_of read r.key) read.pre
 
 -- ## Which read an answer is to
 
--- after these events, this event is a step of the shard that sends this
-pub record IsSentBy (top : TopologyValue) (me : ℕ) (before : List ShardEvent) (event : ShardEvent) (e : Envelope) : Type 0 where
-  pub step : ShardStep
-  pub stepped : event_step top me (shard_run top me before).state event ≡ Ok step
-  pub sends : Contains step.sends e
+-- after these events, this event adds this to what the shard sent
+pub record IsSentBy (top : TopologyValue) (me : ℕ) (before : List Event) (event : Event) (e : Envelope) : Type 0 where
+  pub sends : List Envelope
+  pub added : (shard_run top me (before ++ event ∷ [])).sent ≡ (shard_run top me before).sent ++ sends
+  pub has : Contains sends e
 
 -- a Read causes what its own event sends
-pub record CausesNow (top : TopologyValue) (me : ℕ) (events : List ShardEvent) (asked e : Envelope) : Type 0 where
-  pub before : List ShardEvent
-  pub after : List ShardEvent
+pub record CausesNow (top : TopologyValue) (me : ℕ) (events : List Event) (asked e : Envelope) : Type 0 where
+  pub before : List Event
+  pub after : List Event
   pub split : events ≡ before ++ Handle asked ∷ after
   pub sent : IsSentBy top me before (Handle asked) e
 
 -- the read that was asked after those events waits from then on, through further ones, until an event sends this
-pub record IsSentWaiting (top : TopologyValue) (me : ℕ) (before : List ShardEvent) (asked : Envelope) (number : ℕ) (after : List ShardEvent) (e : Envelope) : Type 0 where
-  pub between : List ShardEvent
-  pub event : ShardEvent
-  pub rest : List ShardEvent
+pub record IsSentWaiting (top : TopologyValue) (me : ℕ) (before : List Event) (asked : Envelope) (number : ℕ) (after : List Event) (e : Envelope) : Type 0 where
+  pub between : List Event
+  pub event : Event
+  pub rest : List Event
   pub split : after ≡ between ++ event ∷ rest
-  pub waits : (xs ys : List ShardEvent) → between ≡ xs ++ ys → is_waiting (shard_run top me (before ++ Handle asked ∷ xs)).state asked.from number ≡ true
+  pub waits : (xs ys : List Event) → between ≡ xs ++ ys → is_waiting (shard_run top me (before ++ Handle asked ∷ xs)).state asked.from number ≡ true
   pub sent : IsSentBy top me (before ++ Handle asked ∷ between) event e
 
 -- A ReadAt causes this: none of its session and number waited before it, and its own event sends it, or the read waits until
 -- an event does.
-pub record CausesAt (top : TopologyValue) (me : ℕ) (events : List ShardEvent) (asked : Envelope) (number : ℕ) (e : Envelope) : Type 0 where
-  pub before : List ShardEvent
-  pub after : List ShardEvent
+pub record CausesAt (top : TopologyValue) (me : ℕ) (events : List Event) (asked : Envelope) (number : ℕ) (e : Envelope) : Type 0 where
+  pub before : List Event
+  pub after : List Event
   pub split : events ≡ before ++ Handle asked ∷ after
   pub taken : is_waiting (shard_run top me before).state asked.from number ≡ false
   pub answered : IsSentBy top me before (Handle asked) e ⊎ IsSentWaiting top me before asked number after e

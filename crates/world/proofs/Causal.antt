@@ -7,7 +7,7 @@ use Rattle.messages.specs.declared.op.Op.TheVariants as op
 use Rattle.messages.specs.declared.outcome.Outcome.{Outcome}
 use Rattle.messages.specs.declared.outcome.Outcome.TheVariants as outcome
 use Rattle.messages.specs.Topology.{TopologyValue}
-use Rattle.messages.specs.Session.{Finished, is_idle}
+use Rattle.messages.specs.Session.{is_idle}
 use Rattle.world.specs.Run.{Run, Submission, Completed}
 use Rattle.world.specs.Committed.{time_of, IsNotBelow}
 use Rattle.world.proofs.Among.{Among}
@@ -52,14 +52,6 @@ abbrev pub NamedOnce : List Submission → Type 0
 NamedOnce [] = Unit {0}
 NamedOnce (b ∷ bs) = ((c : Submission) → Among c bs → txn_of c ≡ txn_of b → ⊥) × NamedOnce bs
 
--- what a session finished stands in the transcript
-pub record IsToldOf (w : Run) (session : ℕ) (f : Finished) : Type 0 where
-  pub entry : Completed
-  pub among : Among entry w.transcript
-  pub node : entry.node ≡ session
-  pub number : entry.number ≡ f.number
-  pub outcome : entry.outcome ≡ f.outcome
-
 pub record Causal (top : TopologyValue) (w : Run) : Type 0 where
   pub ended : (c : Completed) → Among c w.transcript → EndCausal c.op c.outcome top w c
   -- the floor is above all times so far
@@ -74,5 +66,4 @@ pub record Causal (top : TopologyValue) (w : Run) : Type 0 where
   -- each operation ends once
   pub once : EndedOnce w.transcript
   pub named : NamedOnce w.submitted
-  pub told : (session : ℕ) (f : Finished) → Among f (w.sessions session).outcomes → IsToldOf w session f
   pub one : (c e : Completed) → Among c w.transcript → Among e w.transcript → txn_ended c ≡ txn_ended e → c ≡ e

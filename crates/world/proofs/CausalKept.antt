@@ -1,8 +1,6 @@
 -- Each event keeps causal order: a shard's step, a session's step, and a submission.
-use Rattle.std.proofs.Common.{◌≡◌, ℕ, ◌+◌, ◌<◌, ◌≤◌, Bool, true, false, cond, List, [], ◌∷◌, ◌++◌, drop, length, Option, Some, None, Ok, ◌⊎◌, inl, inr, refl, sym, ap, ◌∙◌, subst, arith, eqb-true, le_refl, le_trans}
-use Rattle.std.specs.List.{cons_option}
-use Rattle.std.specs.Prelude.{◌==◌, filter_map, option_map}
-use Rattle.std.proofs.Math.Seq.{drop-append_seam, drop-length}
+use Rattle.std.proofs.Common.{◌≡◌, ℕ, ◌+◌, ◌<◌, ◌≤◌, Bool, true, false, cond, List, [], ◌∷◌, ◌++◌, Option, Some, None, Ok, ◌⊎◌, inl, inr, refl, sym, ap, ◌∙◌, subst, arith, eqb-true, le_refl, le_trans}
+use Rattle.std.specs.Prelude.{◌==◌, option_map}
 use Rattle.std.proofs.lemmas.Bool.{false≢true}
 use Rattle.logical_time.specs.Stamps.{TxnValue, WriterValue}
 use Rattle.messages.specs.declared.rows_at.RowAt.{RowAt}
@@ -16,19 +14,19 @@ use Rattle.messages.specs.Words.{is_same_txn}
 use Rattle.messages.specs.Shard.{ShardStep}
 use Rattle.messages.specs.Session.{SessionState, SessionStep, Open, Finished, is_idle}
 use Rattle.messages.specs.Rounds.{with_writers}
-use Rattle.world.specs.Run.{Run, Event, Submission, Completed, submission_of, completed_of, newly_completed, after_shard, after_session, after_submission}
+use Rattle.messages.specs.SessionEvents.{session_taken}
+use Rattle.world.specs.Run.{Run, Event, Submission, Completed, submission_of, completed_of, ended_by, with_ended, after_shard, after_session, after_submission}
 use Rattle.messages.proofs.WritersInOrder.{writers_stay}
 use Rattle.world.specs.Committed.{time_of, IsNotBelow}
-use Rattle.world.proofs.Among.{Among, among_append, among_contains, append_first, append_second, last_or_old, contains_among, find_some, same_txn}
+use Rattle.world.proofs.Among.{Among, among_contains, append_first, append_second, last_or_old, contains_among, find_some, same_txn}
 use Rattle.world.proofs.Growth.{ShardGrows, Grows}
 use Rattle.world.proofs.Facts.{txn_of, lead}
 use Rattle.world.proofs.Invariant.{IsOpen, AnsweredFrom, EndSound, Inv}
 use Rattle.world.proofs.LastingAll.{from_grows}
 use Rattle.world.proofs.ShardSteps.{actor_same, shard_run_grows}
-use Rattle.world.proofs.SessionEnds.{one_given}
 use Rattle.world.proofs.SessionSteps.{Stays, EndLeaves, Ends, SessionAble, session_run_grows}
-use Rattle.world.proofs.Entries.{submission_found}
-use Rattle.world.proofs.Causal.{txn_ended, Covered, direct, via, LaterCovered, writers_in, EndCausal, EndedOnce, NamedOnce, IsToldOf, Causal}
+use Rattle.world.proofs.Transcripts.{ended_or_old, nothing_ended, ended_as_told}
+use Rattle.world.proofs.Causal.{txn_ended, Covered, direct, via, LaterCovered, writers_in, EndCausal, EndedOnce, NamedOnce, Causal}
 
 -- ## What is covered stays so
 
@@ -67,7 +65,6 @@ shard_causal top w node st ev g k =
       begun = k.begun;
       once = k.once;
       named = k.named;
-      told = λ i f m. let t = k.told i f m in record { entry = t.entry; among = t.among; node = t.node; number = t.number; outcome = t.outcome };
       one = k.one;
     }
 
@@ -157,7 +154,7 @@ module _ (top : TopologyValue) (w : Run) (node : ℕ) (st : SessionStep) (ev : E
   same_submitted : (b : Submission) → Among b w.submitted → Among b x.submitted
   same_submitted b m = m
 
-  next_go : (c : Completed) → Among c w.transcript → (t : TxnValue) → LaterCovered w c.node c.number t → (b : Bool) → (c.node == node) ≡ b → Covered w t (cond b st.state (w.sessions c.node)).dependencies
+  next_go : (c : Completed) → Among c w.transcript → (t : TxnValue) → LaterCovered w c.node c.number t → (b : Bool) → (c.node == node) ≡ b → Covered w t (cond b (session_taken st.state) (w.sessions c.node)).dependencies
   next_go c m t l true e = step_covers c m (eqb-true c.node node e) t l able.turn
   next_go c m t l false e = l.next
 
@@ -168,39 +165,20 @@ module _ (top : TopologyValue) (w : Run) (node : ℕ) (st : SessionStep) (ev : E
         next = covered_grows {w = w} {x = x} (x.sessions c.node).dependencies same_submitted (next_go c m t l (c.node == node) refl);
       }
 
-  abbrev added : List Completed
-  added = newly_completed w.submitted node (w.sessions node) st.state
-
   -- ## What is new
 
-  added_new : (c : Completed) → Among c added → (e : Ends top w node st.state) × IsNew w node e.what e.came c
+  abbrev added : Option Completed
+  added = ended_by w.submitted node st
+
+  abbrev told : Ends top w node st.state → Finished
+  told e = record { number = (w.sessions node).count; outcome = e.came }
+
+  added_new : (c : Completed) → added ≡ Some c → (e : Ends top w node st.state) × IsNew w node e.what e.came c
   added_new c m = go able.turn
     where
-      f : Ends top w node st.state → Finished
-      f e = record { number = (w.sessions node).count; outcome = e.came }
-
       go : Stays (w.sessions node) st.state ⊎ Ends top w node st.state → (e : Ends top w node st.state) × IsNew w node e.what e.came c
-      go (inl s) = absurd (subst (λ fs. Among c (filter_map (completed_of w.submitted node) fs)) (ap (drop (length (w.sessions node).outcomes)) s.outcomes ∙ drop-length (w.sessions node).outcomes) m)
-      go (inr e) = (
-        e,
-        found_new top w node e.what e.came inv e.opened c (one_given (completed_of w.submitted node) (f e) c (
-            subst (λ fs. Among c (filter_map (completed_of w.submitted node) fs)) (ap (drop (length (w.sessions node).outcomes)) e.outcomes ∙ drop-append_seam (w.sessions node).outcomes (f e ∷ [])) m)),
-      )
-
-  -- one operation at most
-  added_same : (c d : Completed) → Among c added → Among d added → c ≡ d
-  added_same c d m n = go able.turn
-    where
-      f : Ends top w node st.state → Finished
-      f e = record { number = (w.sessions node).count; outcome = e.came }
-
-      single : (e : Ends top w node st.state) (z : Completed) → Among z added → completed_of w.submitted node (f e) ≡ Some z
-      single e z i = one_given (completed_of w.submitted node) (f e) z (
-          subst (λ fs. Among z (filter_map (completed_of w.submitted node) fs)) (ap (drop (length (w.sessions node).outcomes)) e.outcomes ∙ drop-append_seam (w.sessions node).outcomes (f e ∷ [])) i)
-
-      go : Stays (w.sessions node) st.state ⊎ Ends top w node st.state → c ≡ d
-      go (inl s) = absurd (subst (λ fs. Among c (filter_map (completed_of w.submitted node) fs)) (ap (drop (length (w.sessions node).outcomes)) s.outcomes ∙ drop-length (w.sessions node).outcomes) m)
-      go (inr e) = let p : Some c ≡ Some d = sym (single e c m) ∙ single e d n in cc
+      go (inl s) = absurd (nothing_ended w.submitted node st c s.untaken m)
+      go (inr e) = (e, found_new top w node e.what e.came inv e.opened c (sym (ended_as_told w.submitted node st (told e) e.untaken) ∙ m))
 
   no_later : (c : Completed) → (e : Ends top w node st.state) → IsNew w node e.what e.came c → (b : Submission) → Among b w.submitted → b.session ≡ c.node → c.number < b.number → ⊥
   no_later c e n b i q lt =
@@ -209,8 +187,8 @@ module _ (top : TopologyValue) (w : Run) (node : ℕ) (st : SessionStep) (ev : E
       let same = ap (λ z. (w.sessions z).count) (q ∙ n.node_is) in
       omega arith
 
-  state_at : (c : Completed) → c.node ≡ node → x.sessions c.node ≡ st.state
-  state_at c q = subst (λ i. x.sessions i ≡ st.state) (sym q) (actor_same w.sessions node st.state)
+  state_at : (c : Completed) → c.node ≡ node → x.sessions c.node ≡ session_taken st.state
+  state_at c q = subst (λ i. x.sessions i ≡ session_taken st.state) (sym q) (actor_same w.sessions node (session_taken st.state))
 
   new_later : (c : Completed) (e : Ends top w node st.state) → IsNew w node e.what e.came c → (t : TxnValue) → Covered w t st.state.dependencies → LaterCovered x c.node c.number t
   new_later c e n t d =
@@ -237,7 +215,7 @@ module _ (top : TopologyValue) (w : Run) (node : ℕ) (st : SessionStep) (ev : E
       go (op.Batch batch) outcome.Collected v = absurd v
       go (op.Read read) (outcome.Wrote commit stamp) v = absurd v
 
-  ended_go : (c : Completed) → Among c w.transcript ⊎ Among c added → EndCausal c.op c.outcome top x c
+  ended_go : (c : Completed) → Among c w.transcript ⊎ (added ≡ Some c) → EndCausal c.op c.outcome top x c
   ended_go c (inl m) = end_grows c.op c.outcome top c grows (later_kept c m) (k.ended c m)
   ended_go c (inr m) = let e = added_new c m in ended_new c e.0 e.1
 
@@ -251,14 +229,14 @@ module _ (top : TopologyValue) (w : Run) (node : ℕ) (st : SessionStep) (ev : E
   time_new (op.Batch batch) outcome.Collected floor d v = absurd v
   time_new (op.Read read) (outcome.Wrote commit stamp) floor d v = absurd v
 
-  floor_go : (c : Completed) → Among c w.transcript ⊎ Among c added → time_of c.outcome ≤ (x.sessions c.node).floor
+  floor_go : (c : Completed) → Among c w.transcript ⊎ (added ≡ Some c) → time_of c.outcome ≤ (x.sessions c.node).floor
   floor_go c (inl m) = le_trans (k.floor c m) (grows.sessions c.node).floor
   floor_go c (inr m) =
       let e = added_new c m in
       let le = time_new e.0.what e.0.came st.state.floor st.state.dependencies e.0.leaves in
       subst (λ z. time_of c.outcome ≤ z.floor) (sym (state_at c e.1.node_is)) (subst (λ r. time_of r ≤ st.state.floor) (sym e.1.outcome) le)
 
-  number_go : (c : Completed) → Among c w.transcript ⊎ Among c added → c.number ≤ (x.sessions c.node).count
+  number_go : (c : Completed) → Among c w.transcript ⊎ (added ≡ Some c) → c.number ≤ (x.sessions c.node).count
   number_go c (inl m) = le_trans (k.number c m) (grows.sessions c.node).count
   number_go c (inr m) =
       let e = added_new c m in
@@ -270,7 +248,7 @@ module _ (top : TopologyValue) (w : Run) (node : ℕ) (st : SessionStep) (ev : E
   old_number : (c : Completed) → Among c w.transcript → Ends top w node st.state → c.node ≡ node → c.number < (w.sessions node).count
   old_number c m e q = subst (λ i. c.number < (w.sessions i).count) q (k.closed c m (ap (λ i. is_idle (w.sessions i).current) q ∙ e.busy))
 
-  above_go : (c : Completed) → Among c w.transcript → (e : Ends top w node st.state) → (d : Completed) → Among d added → IsNew w node e.what e.came d → c.node ≡ node → (r : Outcome) → d.outcome ≡ r → e.came ≡ r
+  above_go : (c : Completed) → Among c w.transcript → (e : Ends top w node st.state) → (d : Completed) → added ≡ Some d → IsNew w node e.what e.came d → c.node ≡ node → (r : Outcome) → d.outcome ≡ r → e.came ≡ r
       → (o : Op) → e.what ≡ o → EndLeaves o r top w node st.state.floor st.state.dependencies → IsNotBelow r (time_of c.outcome)
   above_go c m e d n is q (outcome.Read time answer) p s (op.Read read) t v =
       let le = k.floor c m in
@@ -297,7 +275,7 @@ module _ (top : TopologyValue) (w : Run) (node : ℕ) (st : SessionStep) (ev : E
   above_go c m e d n is q (outcome.Read time answer) p s (op.Batch batch) t v = absurd v
   above_go c m e d n is q (outcome.Wrote commit stamp) p s (op.Read read) t v = absurd v
 
-  ordered_go : (c d : Completed) → Among c w.transcript ⊎ Among c added → Among d w.transcript ⊎ Among d added → c.node ≡ d.node → c.number < d.number → IsNotBelow d.outcome (time_of c.outcome)
+  ordered_go : (c d : Completed) → Among c w.transcript ⊎ (added ≡ Some c) → Among d w.transcript ⊎ (added ≡ Some d) → c.node ≡ d.node → c.number < d.number → IsNotBelow d.outcome (time_of c.outcome)
   ordered_go c d (inl m) (inl n) q lt = k.ordered c d m n q lt
   ordered_go c d (inl m) (inr n) q lt =
       let e = added_new d n in
@@ -322,21 +300,21 @@ module _ (top : TopologyValue) (w : Run) (node : ℕ) (st : SessionStep) (ev : E
       omega arith
   closed_turn c m q busy (inr e) = absurd (false≢true (sym busy ∙ e.idle))
 
-  closed_old : (c : Completed) → Among c w.transcript → (b : Bool) → (c.node == node) ≡ b → is_idle (cond b st.state (w.sessions c.node)).current ≡ false → c.number < (cond b st.state (w.sessions c.node)).count
+  closed_old : (c : Completed) → Among c w.transcript → (b : Bool) → (c.node == node) ≡ b → is_idle (cond b (session_taken st.state) (w.sessions c.node)).current ≡ false → c.number < (cond b (session_taken st.state) (w.sessions c.node)).count
   closed_old c m true e busy = closed_turn c m (eqb-true c.node node e) busy able.turn
   closed_old c m false e busy = k.closed c m busy
 
-  closed_go : (c : Completed) → Among c w.transcript ⊎ Among c added → is_idle (x.sessions c.node).current ≡ false → c.number < (x.sessions c.node).count
+  closed_go : (c : Completed) → Among c w.transcript ⊎ (added ≡ Some c) → is_idle (x.sessions c.node).current ≡ false → c.number < (x.sessions c.node).count
   closed_go c (inl m) busy = closed_old c m (c.node == node) refl busy
   closed_go c (inr m) busy =
       let e = added_new c m in
       absurd (false≢true (sym busy ∙ ap (λ z. is_idle z.current) (state_at c e.1.node_is) ∙ e.0.idle))
 
-  begun_go : (b : Submission) (c : Completed) → Among b w.submitted → Among c w.transcript ⊎ Among c added → c.node ≡ b.session → c.number < b.number → time_of c.outcome ≤ b.time
+  begun_go : (b : Submission) (c : Completed) → Among b w.submitted → Among c w.transcript ⊎ (added ≡ Some c) → c.node ≡ b.session → c.number < b.number → time_of c.outcome ≤ b.time
   begun_go b c i (inl m) q lt = k.begun b c i m q lt
   begun_go b c i (inr m) q lt = let e = added_new c m in absurd (no_later c e.0 e.1 b i (sym q) lt)
 
-  one_go : (c d : Completed) → Among c w.transcript ⊎ Among c added → Among d w.transcript ⊎ Among d added → txn_ended c ≡ txn_ended d → c ≡ d
+  one_go : (c d : Completed) → Among c w.transcript ⊎ (added ≡ Some c) → Among d w.transcript ⊎ (added ≡ Some d) → txn_ended c ≡ txn_ended d → c ≡ d
   one_go c d (inl m) (inl n) q = k.one c d m n q
   one_go c d (inl m) (inr n) q =
       let e = added_new d n in
@@ -348,84 +326,39 @@ module _ (top : TopologyValue) (w : Run) (node : ℕ) (st : SessionStep) (ev : E
       let lt = old_number d n e.0 (ap (λ z. z.session) (sym q) ∙ e.1.node_is) in
       let number = ap (λ z. z.number) (sym q) ∙ e.1.number in
       absurd (omega arith)
-  one_go c d (inr m) (inr n) q = added_same c d m n
+  one_go c d (inr m) (inr n) q = let same : Some c ≡ Some d = sym m ∙ n in cc
 
   -- nothing that ended before is of the operation that ends
-  once_after : (cs : List Completed) → ((c : Completed) → Among c cs → Among c w.transcript) → EndedOnce cs → (es : List Completed) → ((e : Completed) → Among e es → Among e added) → EndedOnce es → EndedOnce (cs ++ es)
-  once_after [] f o es g n = n
-  once_after (c ∷ cs) f o es g n = (
-    λ e m q. elim (among_append e cs es m) [
+  once_after : (cs : List Completed) → ((c : Completed) → Among c cs → Among c w.transcript) → EndedOnce cs → (d : Completed) → added ≡ Some d → EndedOnce (cs ++ d ∷ [])
+  once_after [] f o d n = ((λ e m q. m), tt)
+  once_after (c ∷ cs) f o d n = (
+    λ e m q. elim (last_or_old e d cs m) [
       | inl old ↦ o.0 e old q
-      | inr new ↦ let a = added_new e (g e new) in let lt = old_number c (f c (inl refl)) a.0 (ap (λ z. z.session) (sym q) ∙ a.1.node_is) in let same = ap (λ z. z.number) (sym q) ∙ a.1.number in omega arith
+      | inr new ↦
+          let a = added_new e (n ∙ ap Some (sym new)) in
+          let lt = old_number c (f c (inl refl)) a.0 (ap (λ z. z.session) (sym q) ∙ a.1.node_is) in
+          let same = ap (λ z. z.number) (sym q) ∙ a.1.number in
+          omega arith
     ],
-    once_after cs (λ d m. f d (inr m)) o.1 es g n,
+    once_after cs (λ e m. f e (inr m)) o.1 d n,
   )
 
-  -- and it ends once
-  single_once : (es : List Completed) → (f : Finished) → es ≡ filter_map (completed_of w.submitted node) (f ∷ []) → EndedOnce es
-  single_once es f q = subst EndedOnce (sym q) (go (completed_of w.submitted node f))
-    where
-      go : (o : Option Completed) → EndedOnce (cons_option o [])
-      go None = tt
-      go (Some c) = ((λ e m same. m), tt)
-
-  added_once : EndedOnce added
-  added_once = go able.turn
-    where
-      go : Stays (w.sessions node) st.state ⊎ Ends top w node st.state → EndedOnce added
-      go (inl s) = subst (λ fs. EndedOnce (filter_map (completed_of w.submitted node) fs)) (sym (ap (drop (length (w.sessions node).outcomes)) s.outcomes ∙ drop-length (w.sessions node).outcomes)) tt
-      go (inr e) =
-          let f : Finished = record { number = (w.sessions node).count; outcome = e.came } in
-          single_once added f (ap (filter_map (completed_of w.submitted node)) (ap (drop (length (w.sessions node).outcomes)) e.outcomes ∙ drop-append_seam (w.sessions node).outcomes (f ∷ [])))
-
-  -- what the session finished stands in the transcript
-  still_told : (i : ℕ) (f : Finished) → IsToldOf w i f → IsToldOf x i f
-  still_told i f t = record { entry = t.entry; among = append_first t.entry w.transcript added t.among; node = t.node; number = t.number; outcome = t.outcome }
-
-  new_told : (e : Ends top w node st.state) (f : Finished) → f ≡ record { number = (w.sessions node).count; outcome = e.came } → IsToldOf x node f
-  new_told e f q =
-      let s = e.opened.submission in
-      let own : Finished = record { number = (w.sessions node).count; outcome = e.came } in
-      let c : Completed = record { node = node; number = (w.sessions node).count; home = s.home; op = s.op; outcome = e.came } in
-      let txn : txn_of s ≡ record { session = node; number = (w.sessions node).count } = λ j. record { session = e.opened.session j; number = e.opened.number j } in
-      let found = submission_found top w s (record { session = node; number = (w.sessions node).count }) inv.submitted e.opened.among txn in
-      let is : completed_of w.submitted node own ≡ Some c =
-      ap (option_map (λ (z : Submission). let r : Completed = record { node = node; number = (w.sessions node).count; home = z.home; op = z.op; outcome = e.came } in r)) found in
-      let here : added ≡ cons_option (completed_of w.submitted node own) [] =
-      ap (filter_map (completed_of w.submitted node)) (ap (drop (length (w.sessions node).outcomes)) e.outcomes ∙ drop-append_seam (w.sessions node).outcomes (own ∷ [])) in
-      record {
-        entry = c;
-        among = append_second c w.transcript added (subst (λ l. Among c l) (sym (here ∙ ap (λ o. cons_option o []) is)) (inl refl));
-        node = refl;
-        number = sym (ap (λ z. z.number) q);
-        outcome = sym (ap (λ z. z.outcome) q);
-      }
-
-  told_turn : (f : Finished) → Among f st.state.outcomes → Stays (w.sessions node) st.state ⊎ Ends top w node st.state → IsToldOf x node f
-  told_turn f m (inl s) = still_told node f (k.told node f (subst (λ l. Among f l) s.outcomes m))
-  told_turn f m (inr e) =
-      elim (last_or_old f (record { number = (w.sessions node).count; outcome = e.came }) (w.sessions node).outcomes (subst (λ l. Among f l) e.outcomes m)) [
-        | inl old ↦ still_told node f (k.told node f old)
-        | inr new ↦ new_told e f new
-      ]
-
-  told_go : (i : ℕ) (f : Finished) (b : Bool) → (i == node) ≡ b → Among f (cond b st.state (w.sessions i)).outcomes → IsToldOf x i f
-  told_go i f true e m = subst (λ z. IsToldOf x z f) (sym (eqb-true i node e)) (told_turn f m able.turn)
-  told_go i f false e m = still_told i f (k.told i f m)
+  once_go : (o : Option Completed) → added ≡ o → EndedOnce (with_ended w.transcript o)
+  once_go None q = k.once
+  once_go (Some d) q = once_after w.transcript (λ c m. m) k.once d q
 
   pub session_causal : Causal top x
   session_causal =
       record {
-        ended = λ c m. ended_go c (among_append c w.transcript added m);
-        floor = λ c m. floor_go c (among_append c w.transcript added m);
-        ordered = λ c d m n q lt. ordered_go c d (among_append c w.transcript added m) (among_append d w.transcript added n) q lt;
-        number = λ c m. number_go c (among_append c w.transcript added m);
-        closed = λ c m busy. closed_go c (among_append c w.transcript added m) busy;
-        begun = λ b c i m q lt. begun_go b c i (among_append c w.transcript added m) q lt;
-        once = once_after w.transcript (λ c m. m) k.once added (λ c m. m) added_once;
+        ended = λ c m. ended_go c (ended_or_old c w.transcript added m);
+        floor = λ c m. floor_go c (ended_or_old c w.transcript added m);
+        ordered = λ c d m n q lt. ordered_go c d (ended_or_old c w.transcript added m) (ended_or_old d w.transcript added n) q lt;
+        number = λ c m. number_go c (ended_or_old c w.transcript added m);
+        closed = λ c m busy. closed_go c (ended_or_old c w.transcript added m) busy;
+        begun = λ b c i m q lt. begun_go b c i (ended_or_old c w.transcript added m) q lt;
+        once = once_go added refl;
         named = k.named;
-        told = λ i f m. told_go i f (i == node) refl m;
-        one = λ c d m n q. one_go c d (among_append c w.transcript added m) (among_append d w.transcript added n) q;
+        one = λ c d m n q. one_go c d (ended_or_old c w.transcript added m) (ended_or_old d w.transcript added n) q;
       }
 
 -- ## A submission
@@ -505,11 +438,6 @@ module _ (top : TopologyValue) (w : Run) (node n : ℕ) (o : Op) (inv : Inv top 
     named_after bs (λ c m. f c (inr m)) o.1,
   )
 
-  then_told : (i : ℕ) (f : Finished) (b : Bool) → (i == node) ≡ b → Among f (cond b opened.state (w.sessions i)).outcomes → IsToldOf then i f
-  then_told i f b e m =
-      let t = k.told i f (subst (λ l. Among f l) (state_go (λ s. s.outcomes) refl i b e) m) in
-      record { entry = t.entry; among = t.among; node = t.node; number = t.number; outcome = t.outcome }
-
   pub submission_causal : Grows top w then → Causal top then
   submission_causal g =
       record {
@@ -521,6 +449,5 @@ module _ (top : TopologyValue) (w : Run) (node n : ℕ) (o : Op) (inv : Inv top 
         begun = λ b c i m q less. begun_then b c (last_or_old b its w.submitted i) m q less;
         once = k.once;
         named = named_after w.submitted (λ b m. m) k.named;
-        told = λ i f m. then_told i f (i == node) refl m;
         one = k.one;
       }

@@ -103,7 +103,6 @@ opening_causal top =
       begun = λ b c m. absurd m;
       once = tt;
       named = tt;
-      told = λ i f m. absurd m;
       one = λ c d m. absurd m;
     }
 

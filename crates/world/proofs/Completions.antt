@@ -1,7 +1,6 @@
 -- Each entry of the transcript came at an event: the delivery of a message that ended the operation of its session.
-use Rattle.std.proofs.Common.{◌≡◌, ◌∙◌, ℕ, ap, sym, refl, subst, true, inl, inr, List, [], ◌∷◌, ◌++◌, length, drop, Some, slice_get}
+use Rattle.std.proofs.Common.{◌<◌, Option, None, ◌≡◌, ◌∙◌, ℕ, ap, sym, refl, subst, true, inl, inr, List, [], ◌∷◌, ◌++◌, length, drop, Some, slice_get}
 use Rattle.std.specs.Prelude.{◌⊎◌}
-use Rattle.std.proofs.Math.Seq.{drop-length, drop-append_seam}
 use Rattle.slice.specs.declared.read.Read.{Read}
 use Rattle.messages.specs.declared.rows_now.RowNow.{RowNow}
 use Rattle.messages.specs.declared.rows_at.RowAt.{RowAt}
@@ -14,10 +13,14 @@ use Rattle.messages.specs.Topology.{TopologyValue}
 use Rattle.messages.specs.Session.{SessionState, SessionStep, HeardNow, HeardAt, Finished}
 use Rattle.messages.specs.Rounds.{asked_nodes, all_heard}
 use Rattle.messages.specs.SessionEvents.{heard}
-use Rattle.world.specs.Run.{Run, Event, Deliver, Completed, newly_completed, opening, step, continued, run}
+use Rattle.world.specs.Run.{Run, Event, Deliver, Completed, ended_by, with_ended, submission_by, opening, step, continued, run}
 use Rattle.world.proofs.Among.{Among, among_append}
 use Rattle.world.proofs.EventCases.{event_cases}
-use Rattle.world.proofs.HeardRuns.{newly_finished}
+use Rattle.world.proofs.Invariant.{Inv}
+use Rattle.world.proofs.Runs.{opening_holds, step_kept}
+use Rattle.world.proofs.Transcripts.{ended_or_old, submission_ends_nothing}
+use Rattle.world.proofs.HeardRuns.{ended_is_finished}
+use Rattle.messages.specs.Submitting.{begun}
 use Rattle.world.proofs.HeardCases.{FirstAnswer, SecondAnswer, heard_cases}
 
 -- ## What ends an operation
@@ -53,24 +56,22 @@ EndsBy (outcome.Wrote commit stamp) top a from m = Unit {0}
 EndsBy (outcome.Read time answer) top a from m = LastFirst top a from m ⊎ LastSecond top a from m
 EndsBy outcome.Collected top a from m = SaidCollected top a from m
 
-module _ (top : TopologyValue) (me n : ℕ) (a : SessionState) (from : ℕ) (m : Body) where
-  -- what the step finished, with these outcomes after it, is the open operation
-  abbrev Finishes : List Finished → Type 0
-  Finishes outcomes = (f : Finished) → Among f (drop (length a.outcomes) outcomes) → (f.number ≡ a.count) × EndsBy f.outcome top a from m
+module _ (top : TopologyValue) (me n : ℕ) (a : SessionState) (from : ℕ) (m : Body) (taken : a.untaken ≡ None) where
+  -- what the step finished, with this outcome after it, is the open operation
+  abbrev Finishes : Option Finished → Type 0
+  Finishes o = (f : Finished) → o ≡ Some f → (f.number ≡ a.count) × EndsBy f.outcome top a from m
 
-  none : Finishes a.outcomes
-  none f i = absurd (subst (λ (l : List Finished). Among f l) (drop-length a.outcomes) i)
+  none : Finishes a.untaken
+  none f e = let no : None ≡ Some f = sym taken ∙ e in absurd (cc)
 
-  this : (o : Outcome) → EndsBy o top a from m → Finishes (a.outcomes ++ record { number = a.count; outcome = o } ∷ [])
-  this o k f i =
-      elim (subst (λ (l : List Finished). Among f l) (drop-append_seam a.outcomes (record { number = a.count; outcome = o } ∷ [])) i) [
-        | inl q ↦ (ap (λ (z : Finished). z.number) q, subst (λ (z : Finished). EndsBy z.outcome top a from m) (sym q) k)
-        | inr i ↦ absurd i
-      ]
+  this : (o : Outcome) → EndsBy o top a from m → Finishes (Some (record { number = a.count; outcome = o }))
+  this o k f e =
+      let same : record { number = a.count; outcome = o } ≡ f = cc in
+      (ap (λ (z : Finished). z.number) (sym same), subst (λ (z : Finished). EndsBy z.outcome top a from m) same k)
 
-  finishes : Finishes (heard top me n a from m).state.outcomes
+  finishes : Finishes (heard top me n a from m).state.untaken
   finishes =
-      heard_cases top me n a from m (λ (st : SessionStep). Finishes st.state.outcomes)
+      heard_cases top me n a from m (λ (st : SessionStep). Finishes st.state.untaken)
       (record {
         still = none;
         wrote = λ coordinator t commit stamp is. this (outcome.Wrote commit stamp) tt;
@@ -97,26 +98,31 @@ pub record Brings (top : TopologyValue) (w : Run) (x : Event) (c : Completed) : 
   pub count : (w.sessions c.node).count ≡ c.number
   pub ends : EndsBy c.outcome top (w.sessions c.node) message.from message.body
 
-step_brings : (top : TopologyValue) (w : Run) (x : Event) (c : Completed) → Among c (step top w x).transcript → Among c w.transcript ⊎ Brings top w x c
-step_brings top w x c m =
+step_brings : (top : TopologyValue) (w : Run) (x : Event) (c : Completed) → Inv top w → Among c (step top w x).transcript
+    → Among c w.transcript ⊎ Brings top w x c
+step_brings top w x c inv m =
     event_cases top w x (λ v. Among c v.transcript → Among c w.transcript ⊎ Brings top w x c)
     (record {
       nothing = λ i. inl i;
       handled = λ j e n is sent to i. inl i;
-      heard = λ j e n is sent other to i. elim (among_append c w.transcript (newly_completed w.submitted e.to (w.sessions e.to) (heard top e.to n (w.sessions e.to) e.from e.body).state) i) [
+      heard = λ j e n is sent other to i. elim (ended_or_old c w.transcript (ended_by w.submitted e.to (heard top e.to n (w.sessions e.to) e.from e.body)) i) [
         | inl old ↦ inl old
         | inr new ↦ inr (brought j e n is sent new)
       ];
-      begun = λ node o n is to i. inl i;
+      begun =
+          λ node o n is to i.
+          let st = begun top node n (w.sessions node) o in
+          let none = submission_ends_nothing top node n (w.sessions node) o (w.submitted ++ submission_by w node o st ∷ []) node in
+          inl (subst (λ z. Among c (with_ended w.transcript z)) none i);
       collected = λ node time n is i. inl i;
     })
     m
   where
     brought : (j : ℕ) (e : Envelope) (n : ℕ) → x ≡ Deliver j → slice_get w.sent j ≡ Some e
-        → Among c (newly_completed w.submitted e.to (w.sessions e.to) (heard top e.to n (w.sessions e.to) e.from e.body).state) → Brings top w x c
+        → ended_by w.submitted e.to (heard top e.to n (w.sessions e.to) e.from e.body) ≡ Some c → Brings top w x c
     brought j e n is sent new =
-        let f = newly_finished w.submitted e.to (w.sessions e.to) (heard top e.to n (w.sessions e.to) e.from e.body).state c new in
-        let k = finishes top e.to n (w.sessions e.to) e.from e.body f.finished f.among in
+        let f = ended_is_finished w.submitted e.to (heard top e.to n (w.sessions e.to) e.from e.body) c new in
+        let k = finishes top e.to n (w.sessions e.to) e.from e.body (inv.sessions e.to).taken f.finished f.told in
         record {
           k = j;
           delivery = is;
@@ -124,7 +130,9 @@ step_brings top w x c m =
           number = sent;
           to = sym f.node_is;
           count = ap (λ z. (w.sessions z).count) f.node_is ∙ sym k.0 ∙ sym f.number;
-          ends = subst (λ z. EndsBy c.outcome top (w.sessions z) e.from e.body) (sym f.node_is) (subst (λ o. EndsBy o top (w.sessions e.to) e.from e.body) (sym f.outcome) k.1);
+          ends =
+              subst (λ z. EndsBy c.outcome top (w.sessions z) e.from e.body) (sym f.node_is)
+              (subst (λ o. EndsBy o top (w.sessions e.to) e.from e.body) (sym f.outcome) k.1);
         }
 
 record CameIn (top : TopologyValue) (w : Run) (events : List Event) (c : Completed) : Type 0 where
@@ -134,10 +142,11 @@ record CameIn (top : TopologyValue) (w : Run) (events : List Event) (c : Complet
   split : events ≡ before ++ event ∷ after
   brings : Brings top (continued top w before) event c
 
-came_in : (top : TopologyValue) (w : Run) (events : List Event) (c : Completed) → Among c (continued top w events).transcript → Among c w.transcript ⊎ CameIn top w events c
-came_in top w [] c m = inl m
-came_in top w (x ∷ xs) c m = elim (came_in top (step top w x) xs c m) [
-  | inl here ↦ elim (step_brings top w x c here) [
+came_in : (top : TopologyValue) (w : Run) (events : List Event) (c : Completed) → 0 < top.shards → Inv top w → Among c (continued top w events).transcript
+    → Among c w.transcript ⊎ CameIn top w events c
+came_in top w [] c some inv m = inl m
+came_in top w (x ∷ xs) c some inv m = elim (came_in top (step top w x) xs c some (step_kept top w x some inv) m) [
+  | inl here ↦ elim (step_brings top w x c inv here) [
     | inl old ↦ inl old
     | inr new ↦ inr (record { before = []; event = x; after = xs; split = refl; brings = new })
   ]
@@ -152,8 +161,8 @@ pub record CameAt (top : TopologyValue) (w : Run) (c : Completed) : Type 0 where
   pub brings : Brings top (run top before) event c
   pub delivery : w.events ≡ before ++ Deliver brings.k ∷ after
 
-pub came_at : (top : TopologyValue) (w : Run) → run top w.events ≡ w → (c : Completed) → Among c w.transcript → CameAt top w c
-came_at top w replayed c m = elim (came_in top (opening top) w.events c (subst (λ (z : Run). Among c z.transcript) (sym replayed) m)) [
+pub came_at : (top : TopologyValue) (w : Run) → 0 < top.shards → run top w.events ≡ w → (c : Completed) → Among c w.transcript → CameAt top w c
+came_at top w some replayed c m = elim (came_in top (opening top) w.events c some (opening_holds top) (subst (λ (z : Run). Among c z.transcript) (sym replayed) m)) [
   | inl none ↦ absurd none
   | inr r ↦ record {
     before = r.before;

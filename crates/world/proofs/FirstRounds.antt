@@ -53,7 +53,7 @@ module _ (top : TopologyValue) (some : 0 < top.shards) (w : Run) (replayed : run
       let h : HeardNow = record { from = e.from; rows = first.rows } in
       let now = accepted top w replayed first.before (Deliver k) first.after first.delivery in
       let heard : RunHeard (step top (run top first.before) (Deliver k)) session number h =
-      kept_at top w session number k e first (only_sessions top first.before) (every_causal top first.before some).closed
+      kept_at top w session number k e first (only_sessions top first.before) ((every_run top first.before some).sessions e.to).taken (every_causal top first.before some).closed
       (λ g is. one_message top w replayed first.before (Deliver k) first.after first.delivery k e g first.message is) now in
       let is : Deliver k ≡ z =
       next_is first.before (Deliver k) z first.after zs (Deliver j ∷ second.after)
@@ -196,7 +196,7 @@ first_rounds_are_whole top events some c read time answer shard has is end asked
     let w = run top events in
     let replayed = runs_replayed top events in
     let there = contains_among c w.transcript has in
-    let came = came_at top w replayed c there in
+    let came = came_at top w some replayed c there in
     one_kept top some w replayed c.node c.number (shard_node top c.home shard)
     (each_kept top some w replayed (every_run top events some) c there came read is
     (subst (λ o. EndsBy o top ((run top came.before).sessions c.node) came.brings.message.from came.brings.message.body) end came.brings.ends) shard asked)

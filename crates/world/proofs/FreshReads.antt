@@ -180,7 +180,7 @@ module _ (top : TopologyValue) (some : 0 < top.shards) (every : (events : List E
         let among : Among r kept.rows =
         subst (λ (l : List RowNow). Among r l) (sym rows)
         (map_among (row_now answer.clock (then.shards answer.asking.to) answer.read) answer.read.keys key asked) in
-        let heard = kept_heard top w replayed c.node c.number k e kept ((causal kept.before).closed) in
+        let heard = kept_heard top w replayed c.node c.number k e kept ((every kept.before).sessions e.to).taken ((causal kept.before).closed) in
         let ends : EndsTimely c.outcome (record { from = e.from; rows = kept.rows }) = heard.ended c there refl refl in
         let timely : IsTimely (record { from = e.from; rows = kept.rows }) time =
         subst (λ o. EndsTimely o (record { from = e.from; rows = kept.rows })) came ends in

@@ -1,8 +1,7 @@
 -- What a session heard of a shard in the first round of a read stays with it: the effective time isn't below the earliest
 -- valid time of any row that was heard.
-use Rattle.std.proofs.Common.{◌≡◌, ◌∙◌, ℕ, ◌≤◌, ap, sym, subst, arith, Bool, true, false, ◌&&◌, inl, inr, List, [], ◌∷◌, ◌++◌, length, drop, eq-eqb}
+use Rattle.std.proofs.Common.{◌≡◌, ◌∙◌, ℕ, ◌≤◌, ap, refl, sym, subst, arith, Bool, true, false, ◌&&◌, List, [], ◌∷◌, ◌++◌, Option, Some, None, eq-eqb}
 use Rattle.std.specs.Prelude.{◌==◌}
-use Rattle.std.proofs.Math.Seq.{drop-length, drop-append_seam}
 use Rattle.logical_time.specs.Stamps.{StampValue, TxnValue, WriterValue}
 use Rattle.planner.proofs.Members.{contains_flat}
 use Rattle.slice.specs.declared.read.Read.{Read}
@@ -20,7 +19,7 @@ use Rattle.messages.specs.Words.{is_same_txn}
 use Rattle.messages.specs.Session.{SessionState, Open, Idle, Writing, FirstRound, SecondRound, HeardNow, HeardAt, Finished, calm}
 use Rattle.messages.specs.Submitting.{begun}
 use Rattle.messages.specs.Rounds.{asked_nodes, is_missing, all_heard, effective_time, late_nodes, is_missing_at, all_heard_at}
-use Rattle.messages.specs.SessionEvents.{ended, done_if, done_in, second_if, heard_if, heard_now, part_now_if, part_now_in, heard_at_if, taken_at, part_at_if, part_at_in, heard}
+use Rattle.messages.specs.SessionEvents.{ended, done_if, done_in, second_if, heard_if, heard_now, part_now_if, part_now_in, heard_at_if, taken_at, part_at_if, part_at_in, heard, session_taken}
 use Rattle.messages.proofs.Greatest.{effective_above_each}
 use Rattle.world.proofs.Among.{Among, append_first, among_last, among_contains}
 
@@ -45,45 +44,44 @@ EndsTimely outcome.Collected h = Unit {0}
 pub record Heard (a : SessionState) (number : ℕ) (h : HeardNow) : Type 0 where
   pub count : number ≤ a.count
   pub current : number ≡ a.count → HasHeard a.current h
+  -- its last outcome was taken
+  pub taken : a.untaken ≡ None
 
--- after a step it still has, or it ended so
+-- after a step it still has, or it ends so
 pub record StillHeard (a b : SessionState) (number : ℕ) (h : HeardNow) : Type 0 where
-  pub kept : Heard b number h
-  pub ended : (f : Finished) → Among f (drop (length a.outcomes) b.outcomes) → f.number ≡ number → EndsTimely f.outcome h
+  pub kept : Heard (session_taken b) number h
+  pub ended : (f : Finished) → b.untaken ≡ Some f → f.number ≡ number → EndsTimely f.outcome h
 
 -- ## A step that ends nothing, and one that ends the operation
 
-none_ended : (fs : List Finished) (f : Finished) → Among f (drop (length fs) fs) → ⊥
-none_ended fs f m = subst (λ (l : List Finished). Among f l) (drop-length fs) m
-
-one_ended : (fs : List Finished) (e f : Finished) → Among f (drop (length fs) (fs ++ e ∷ [])) → f ≡ e
-one_ended fs e f m = elim (subst (λ (l : List Finished). Among f l) (drop-append_seam fs (e ∷ [])) m) [ inl q ↦ q | inr n ↦ absurd n ]
+tells_none : {o : Option Finished} {f : Finished} → o ≡ None → o ≡ Some f → ⊥
+tells_none none e = absurd (cc)
 
 still_calm : (n : ℕ) (a : SessionState) (number : ℕ) (h : HeardNow) → Heard a number h → StillHeard a (calm n a).state number h
 still_calm n a number h k =
     record {
-      kept = record { count = k.count; current = k.current };
-      ended = λ f m q. absurd (none_ended a.outcomes f m);
+      kept = record { count = k.count; current = k.current; taken = refl };
+      ended = λ f m q. absurd (tells_none k.taken m);
     }
 
 -- it stays open in this way
-still_open : (n : ℕ) (a : SessionState) (o : Open) (number : ℕ) (h : HeardNow) → number ≤ a.count → (number ≡ a.count → HasHeard o h)
+still_open : (n : ℕ) (a : SessionState) (o : Open) (number : ℕ) (h : HeardNow) → a.untaken ≡ None → number ≤ a.count → (number ≡ a.count → HasHeard o h)
     → StillHeard a (record a { clock = n; current = o }) number h
-still_open n a o number h le k =
+still_open n a o number h none le k =
     record {
-      kept = record { count = le; current = k };
-      ended = λ f m q. absurd (none_ended a.outcomes f m);
+      kept = record { count = le; current = k; taken = refl };
+      ended = λ f m q. absurd (tells_none none m);
     }
 
 still_ended : (n : ℕ) (a : SessionState) (floor : ℕ) (deps : List WriterValue) (o : Outcome) (number : ℕ) (h : HeardNow) → number ≤ a.count
     → (number ≡ a.count → EndsTimely o h) → StillHeard a (ended n a floor deps o).state number h
 still_ended n a floor deps o number h le k =
     record {
-      kept = record { count = le; current = λ q. tt };
+      kept = record { count = le; current = λ q. tt; taken = refl };
       ended =
           λ f m q.
-          let same = one_ended a.outcomes (record { number = a.count; outcome = o }) f m in
-          subst (λ (z : Finished). EndsTimely z.outcome h) (sym same) (k (sym q ∙ ap (λ (z : Finished). z.number) same));
+          let same : record { number = a.count; outcome = o } ≡ f = cc in
+          subst (λ (z : Finished). EndsTimely z.outcome h) same (k (sym q ∙ ap (λ (z : Finished). z.number) (sym same)));
     }
 
 -- ## Done
@@ -107,20 +105,20 @@ timely floor hs h m r i =
     effective_above_each floor hs r (contains_flat (λ (z : HeardNow). z.rows) hs h r (among_contains h hs m) (among_contains r h.rows i))
 
 second_still : (nodes : List ℕ) (me n : ℕ) (a : SessionState) (read : Read) (time : ℕ) (hs : List HeardNow) (number : ℕ) (h : HeardNow)
-    → number ≤ a.count
+    → a.untaken ≡ None → number ≤ a.count
     → (number ≡ a.count → IsTimely h time) → StillHeard a (second_if nodes me n a read time hs).state number h
-second_still [] me n a read time hs number h le k = still_ended n a _ _ (outcome.Read time _) number h le k
-second_still (s ∷ ss) me n a read time hs number h le k = still_open n a (SecondRound read time hs []) number h le k
+second_still [] me n a read time hs number h none le k = still_ended n a _ _ (outcome.Read time _) number h le k
+second_still (s ∷ ss) me n a read time hs number h none le k = still_open n a (SecondRound read time hs []) number h none le k
 
-heard_still : (top : TopologyValue) (me n : ℕ) (a : SessionState) (read : Read) (hs : List HeardNow) (number : ℕ) (h : HeardNow) → number ≤ a.count
-    → (number ≡ a.count → Among h hs) → StillHeard a (heard_now top me n a read hs).state number h
-heard_still top me n a read hs number h le k = by (all_heard (asked_nodes top a read) hs)
+heard_still : (top : TopologyValue) (me n : ℕ) (a : SessionState) (read : Read) (hs : List HeardNow) (number : ℕ) (h : HeardNow) → a.untaken ≡ None
+    → number ≤ a.count → (number ≡ a.count → Among h hs) → StillHeard a (heard_now top me n a read hs).state number h
+heard_still top me n a read hs number h none le k = by (all_heard (asked_nodes top a read) hs)
   where
     by : (b : Bool) → StillHeard a (heard_if b top me n a read hs).state number h
     by true =
-        second_still (late_nodes (asked_nodes top a read) (effective_time a.floor hs) hs) me n a read (effective_time a.floor hs) hs number h le
+        second_still (late_nodes (asked_nodes top a read) (effective_time a.floor hs) hs) me n a read (effective_time a.floor hs) hs number h none le
         (λ q. timely a.floor hs h (k q))
-    by false = still_open n a (FirstRound read hs) number h le k
+    by false = still_open n a (FirstRound read hs) number h none le k
 
 part_now_still : (o : Open) (top : TopologyValue) (me n : ℕ) (a : SessionState) (from m : ℕ) (rows : List RowNow) (number : ℕ) (h : HeardNow)
     → Heard a number h
@@ -128,7 +126,7 @@ part_now_still : (o : Open) (top : TopologyValue) (me n : ℕ) (a : SessionState
 part_now_still (FirstRound read hs) top me n a from m rows number h k old = by ((m == a.count) && is_missing (asked_nodes top a read) hs from)
   where
     by : (b : Bool) → StillHeard a (part_now_if b top me n a read hs from rows).state number h
-    by true = heard_still top me n a read (hs ++ record { from = from; rows = rows } ∷ []) number h k.count (λ q. append_first h hs _ (old q))
+    by true = heard_still top me n a read (hs ++ record { from = from; rows = rows } ∷ []) number h k.taken k.count (λ q. append_first h hs _ (old q))
     by false = still_calm n a number h k
 part_now_still Idle top me n a from m rows number h k old = still_calm n a number h k
 part_now_still (Writing coordinator) top me n a from m rows number h k old = still_calm n a number h k
@@ -136,29 +134,29 @@ part_now_still (SecondRound read time first hs) top me n a from m rows number h 
 
 -- what is kept now has been heard
 pub part_now_heard : (top : TopologyValue) (me n : ℕ) (a : SessionState) (from number : ℕ) (rows : List RowNow) (read : Read) (hs : List HeardNow)
-    → a.count ≡ number
+    → a.untaken ≡ None → a.count ≡ number
     → a.current ≡ FirstRound read hs → is_missing (asked_nodes top a read) hs from ≡ true
     → StillHeard a (heard top me n a from (PartNow number rows)).state number (record { from = from; rows = rows })
-part_now_heard top me n a from number rows read hs count current missing =
+part_now_heard top me n a from number rows read hs none count current missing =
     let h : HeardNow = record { from = from; rows = rows } in
     let test : ((number == a.count) && is_missing (asked_nodes top a read) hs from) ≡ true =
     ap (λ b. b && is_missing (asked_nodes top a read) hs from) (eq-eqb number a.count (sym count)) ∙ missing in
     subst (λ o. StillHeard a (part_now_in o top me n a from number rows).state number h) (sym current)
     (subst (λ b. StillHeard a (part_now_if b top me n a read hs from rows).state number h) (sym test)
-    (heard_still top me n a read (hs ++ h ∷ []) number h (omega arith) (λ q. among_last h hs)))
+    (heard_still top me n a read (hs ++ h ∷ []) number h none (omega arith) (λ q. among_last h hs)))
 
 -- ## PartAt
 
 taken_still : (answer : AtTime) (top : TopologyValue) (n : ℕ) (a : SessionState) (read : Read) (time : ℕ) (first : List HeardNow) (hs : List HeardAt)
-    (from number : ℕ) (h : HeardNow) → number ≤ a.count
+    (from number : ℕ) (h : HeardNow) → a.untaken ≡ None → number ≤ a.count
     → (number ≡ a.count → IsTimely h time) → StillHeard a (taken_at answer top n a read time first hs from).state number h
-taken_still at.Collected top n a read time first hs from number h le k = still_ended n a _ _ outcome.Collected number h le (λ q. tt)
-taken_still (at.Rows rows) top n a read time first hs from number h le k =
+taken_still at.Collected top n a read time first hs from number h none le k = still_ended n a _ _ outcome.Collected number h le (λ q. tt)
+taken_still (at.Rows rows) top n a read time first hs from number h none le k =
     by (all_heard_at (asked_nodes top a read) time first (hs ++ record { from = from; rows = rows } ∷ []))
   where
     by : (b : Bool) → StillHeard a (heard_at_if b n a read time first (hs ++ record { from = from; rows = rows } ∷ [])).state number h
     by true = still_ended n a _ _ (outcome.Read time _) number h le k
-    by false = still_open n a (SecondRound read time first (hs ++ record { from = from; rows = rows } ∷ [])) number h le k
+    by false = still_open n a (SecondRound read time first (hs ++ record { from = from; rows = rows } ∷ [])) number h none le k
 
 part_at_still : (o : Open) (top : TopologyValue) (n : ℕ) (a : SessionState) (from m : ℕ) (answer : AtTime) (number : ℕ) (h : HeardNow)
     → Heard a number h
@@ -167,7 +165,7 @@ part_at_still (SecondRound read time first hs) top n a from m answer number h k 
     by ((m == a.count) && is_missing_at (asked_nodes top a read) time first hs from)
   where
     by : (b : Bool) → StillHeard a (part_at_if b top n a read time first hs from answer).state number h
-    by true = taken_still answer top n a read time first hs from number h k.count old
+    by true = taken_still answer top n a read time first hs from number h k.taken k.count old
     by false = still_calm n a number h k
 part_at_still Idle top n a from m answer number h k old = still_calm n a number h k
 part_at_still (Writing coordinator) top n a from m answer number h k old = still_calm n a number h k
@@ -199,6 +197,6 @@ message_still top me n a from (DepOk dependency waiter commit) number h k = stil
 
 -- what the session submits is its next operation
 pub begun_still : (top : TopologyValue) (me n : ℕ) (a : SessionState) (o : Op) (number : ℕ) (h : HeardNow) → Heard a number h
-    → Heard (begun top me n a o).state number h
-begun_still top me n a (op.Batch batch) number h k = let le = k.count in record { count = omega arith; current = λ q. absurd (omega arith) }
-begun_still top me n a (op.Read read) number h k = let le = k.count in record { count = omega arith; current = λ q. absurd (omega arith) }
+    → Heard (session_taken (begun top me n a o).state) number h
+begun_still top me n a (op.Batch batch) number h k = let le = k.count in record { count = omega arith; current = λ q. absurd (omega arith); taken = refl }
+begun_still top me n a (op.Read read) number h k = let le = k.count in record { count = omega arith; current = λ q. absurd (omega arith); taken = refl }

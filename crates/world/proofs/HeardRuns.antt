@@ -1,30 +1,30 @@
 -- What a session kept of a first round stays with the read over a run: its effective time isn't below the earliest valid
 -- time of any row that was kept.
-use Rattle.std.proofs.Common.{◌≡◌, ◌∙◌, ℕ, ◌<◌, ap, sym, refl, subst, arith, Bool, true, false, cond, ◌&&◌, nat_le, nat_lt, inl, inr, List, [], ◌∷◌, ◌++◌, length, drop, Option, Some, None, Ok, slice_get, eqb-true, eq-eqb}
-use Rattle.std.specs.Prelude.{◌==◌, option_map}
+use Rattle.std.proofs.Common.{◌≡◌, ◌∙◌, ℕ, ◌<◌, ap, sym, refl, subst, arith, Bool, true, false, cond, ◌&&◌, nat_le, nat_lt, inl, inr, List, [], ◌∷◌, ◌++◌, Option, Some, None, Ok, slice_get, eqb-true, eq-eqb}
+use Rattle.std.specs.Prelude.{◌==◌, option_map, option_and_then}
 use Rattle.std.proofs.lemmas.Bool.{false≢true}
 use Rattle.std.proofs.lemmas.Bool.Decides.{nat_tests}
-use Rattle.store.proofs.Lists.{given_only}
 use Rattle.messages.specs.declared.body.Body.{Body}
 use Rattle.messages.specs.declared.envelope.Envelope.{Envelope}
 use Rattle.messages.specs.Topology.{TopologyValue, is_shard, is_session, shard_count, node_count}
 use Rattle.messages.specs.Session.{SessionState, SessionStep, Open, Idle, FirstRound, HeardNow, Finished, is_idle}
 use Rattle.messages.specs.Submitting.{begun}
 use Rattle.messages.specs.Rounds.{asked_nodes, is_missing}
-use Rattle.messages.specs.SessionEvents.{heard}
-use Rattle.world.specs.Run.{Run, Event, Deliver, Submission, Completed, opening, submission_of, completed_of, newly_completed, with_actor, after_session, step, continued, run}
+use Rattle.messages.specs.SessionEvents.{heard, session_taken}
+use Rattle.world.specs.Run.{Run, Event, Deliver, Submission, Completed, opening, submission_of, completed_of, ended_by, with_ended, submission_by, with_actor, after_session, step, continued, run}
 use Rattle.world.specs.Fresh.{IsKept}
-use Rattle.world.proofs.Among.{Among, among_append, among_contains, contains_among}
+use Rattle.world.proofs.Among.{Among}
 use Rattle.world.proofs.EventCases.{event_cases}
 use Rattle.world.proofs.HeardFirst.{EndsTimely, Heard, StillHeard, part_now_heard, message_still, begun_still}
+use Rattle.world.proofs.Transcripts.{ended_or_old, submission_ends_nothing}
 use Rattle.world.proofs.Prefixes.{number_later, IsAccepted, not_both, splits, accepted}
 
 -- ## Completed operations
 
--- what a step completed is what the session finished in it
-pub record IsFinished (node : ℕ) (a b : SessionState) (c : Completed) : Type 0 where
+-- what a step ended is what the session tells
+pub record IsFinished (node : ℕ) (st : SessionStep) (c : Completed) : Type 0 where
   pub finished : Finished
-  pub among : Among finished (drop (length a.outcomes) b.outcomes)
+  pub told : st.state.untaken ≡ Some finished
   pub node_is : c.node ≡ node
   pub number : c.number ≡ finished.number
   pub outcome : c.outcome ≡ finished.outcome
@@ -32,28 +32,26 @@ pub record IsFinished (node : ℕ) (a b : SessionState) (c : Completed) : Type 0
 abbrev completion : ℕ → Finished → Submission → Completed
 completion node f s = record { node = node; number = f.number; home = s.home; op = s.op; outcome = f.outcome }
 
-finished_go : (submitted : List Submission) (node : ℕ) (a b : SessionState) (c : Completed) (f : Finished)
-    → Among f (drop (length a.outcomes) b.outcomes)
-    → (o : Option Submission)
-    → option_map (completion node f) o ≡ Some c → IsFinished node a b c
-finished_go submitted node a b c f m None e = absurd (cc)
-finished_go submitted node a b c f m (Some s) e =
+finished_go : (node : ℕ) (st : SessionStep) (c : Completed) (f : Finished) → st.state.untaken ≡ Some f → (o : Option Submission)
+    → option_map (completion node f) o ≡ Some c → IsFinished node st c
+finished_go node st c f told None e = absurd (cc)
+finished_go node st c f told (Some s) e =
     let same : completion node f s ≡ c = cc in
     record {
       finished = f;
-      among = m;
+      told = told;
       node_is = sym (ap (λ (z : Completed). z.node) same);
       number = sym (ap (λ (z : Completed). z.number) same);
       outcome = sym (ap (λ (z : Completed). z.outcome) same);
     }
 
-pub newly_finished : (submitted : List Submission) (node : ℕ) (a b : SessionState) (c : Completed) → Among c (newly_completed submitted node a b)
-    → IsFinished node a b c
-newly_finished submitted node a b c m =
-    let r =
-    given_only (completed_of submitted node) (drop (length a.outcomes) b.outcomes) c (among_contains c (newly_completed submitted node a b) m) in
-    finished_go submitted node a b c r.0 (contains_among r.0 (drop (length a.outcomes) b.outcomes) r.1)
-    (submission_of submitted (record { session = node; number = r.0.number })) r.2
+pub ended_is_finished : (submitted : List Submission) (node : ℕ) (st : SessionStep) (c : Completed) → ended_by submitted node st ≡ Some c
+    → IsFinished node st c
+ended_is_finished submitted node st c e = go st.state.untaken refl e
+  where
+    go : (o : Option Finished) → st.state.untaken ≡ o → option_and_then (completed_of submitted node) o ≡ Some c → IsFinished node st c
+    go None q h = absurd (cc)
+    go (Some f) q h = finished_go node st c f q (submission_of submitted (record { session = node; number = f.number })) h
 
 -- ## One actor changes
 
@@ -106,18 +104,17 @@ session_after : (w : Run) (x : Event) (node : ℕ) (st : SessionStep) (session n
     → RunHeard (after_session (Ok st) w x node) session number h
 session_after w x node st session number h old own other =
     record {
-      heard = changed_actor (λ (a : SessionState). Heard a number h) w.sessions node st.state session (λ same. (own same).kept) other;
-      ended = λ c m p q. elim (among_append c w.transcript (newly_completed w.submitted node (w.sessions node) st.state) m) [
+      heard = changed_actor (λ (a : SessionState). Heard a number h) w.sessions node (session_taken st.state) session (λ same. (own same).kept) other;
+      ended = λ c m p q. elim (ended_or_old c w.transcript (ended_by w.submitted node st) m) [
         | inl o ↦ old c o p q
         | inr new ↦ newly c new p q
       ];
     }
   where
-    newly : (c : Completed) → Among c (newly_completed w.submitted node (w.sessions node) st.state) → c.node ≡ session → c.number ≡ number
-        → EndsTimely c.outcome h
+    newly : (c : Completed) → ended_by w.submitted node st ≡ Some c → c.node ≡ session → c.number ≡ number → EndsTimely c.outcome h
     newly c m p q =
-        let f = newly_finished w.submitted node (w.sessions node) st.state c m in
-        subst (λ o. EndsTimely o h) (sym f.outcome) ((own (sym p ∙ f.node_is)).ended f.finished f.among (sym f.number ∙ q))
+        let f = ended_is_finished w.submitted node st c m in
+        subst (λ o. EndsTimely o h) (sym f.outcome) ((own (sym p ∙ f.node_is)).ended f.finished f.told (sym f.number ∙ q))
 
 heard_step : (top : TopologyValue) (w : Run) (x : Event) (session number : ℕ) (h : HeardNow) → RunHeard w session number h
     → RunHeard (step top w x) session number h
@@ -135,10 +132,14 @@ heard_step top w x session number h k =
           λ node o n is to.
           record {
             heard =
-                changed_actor (λ (a : SessionState). Heard a number h) w.sessions node (begun top node n (w.sessions node) o).state session
+                changed_actor (λ (a : SessionState). Heard a number h) w.sessions node (session_taken (begun top node n (w.sessions node) o).state) session
                 (λ same. begun_still top node n (w.sessions node) o number h (subst (λ z. Heard (w.sessions z) number h) same k.heard))
                 (λ apart. k.heard);
-            ended = k.ended;
+            ended =
+                λ c m.
+                let st = begun top node n (w.sessions node) o in
+                let none = submission_ends_nothing top node n (w.sessions node) o (w.submitted ++ submission_by w node o st ∷ []) node in
+                k.ended c (subst (λ z. Among c (with_ended w.transcript z)) none m);
           };
       collected = λ node time n is. record { heard = k.heard; ended = k.ended };
     })
@@ -167,12 +168,13 @@ not_open top w node o only e busy is = by (is_session top node) refl
 -- the session kept the message at this delivery
 pub kept_at : (top : TopologyValue) (w : Run) (session number k : ℕ) (e : Envelope) (kept : IsKept top w session number k e)
     → OnlySessions top (run top kept.before)
+    → ((run top kept.before).sessions e.to).untaken ≡ None
     → ((c : Completed) → Among c (run top kept.before).transcript → is_idle ((run top kept.before).sessions c.node).current ≡ false
     → c.number < ((run top kept.before).sessions c.node).count)
     → ((f : Envelope) → slice_get (run top kept.before).sent k ≡ Some f → f ≡ e)
     → IsAccepted (run top kept.before) (Deliver k) (step top (run top kept.before) (Deliver k))
     → RunHeard (step top (run top kept.before) (Deliver k)) session number (record { from = e.from; rows = kept.rows })
-kept_at top w session number k e kept only closed same =
+kept_at top w session number k e kept only taken closed same =
     event_cases top u (Deliver k) (λ z. IsAccepted u (Deliver k) z → RunHeard z session number h)
     (record {
       nothing = λ now. absurd (not_both u (Deliver k) now);
@@ -213,7 +215,7 @@ kept_at top w session number k e kept only closed same =
     own : (n : ℕ) → StillHeard (u.sessions e.to) (heard top e.to n (u.sessions e.to) e.from e.body).state number h
     own n =
         subst (λ (b : Body). StillHeard (u.sessions e.to) (heard top e.to n (u.sessions e.to) e.from b).state number h) (sym kept.body)
-        (part_now_heard top e.to n (u.sessions e.to) e.from number kept.rows kept.read kept.heard
+        (part_now_heard top e.to n (u.sessions e.to) e.from number kept.rows kept.read kept.heard taken
         (subst (λ z. (u.sessions z).count ≡ number) (sym kept.address) kept.count)
         (subst (λ z. (u.sessions z).current ≡ FirstRound kept.read kept.heard) (sym kept.address) kept.first_round)
         (subst (λ z. is_missing (asked_nodes top (u.sessions z) kept.read) kept.heard e.from ≡ true) (sym kept.address) kept.missing))
@@ -249,11 +251,12 @@ delivered_sent top v k now =
 -- a read that kept a shard's answer is answered at a time not below the earliest valid time of each of its rows
 pub kept_heard : (top : TopologyValue) (w : Run) → run top w.events ≡ w
     → (session number k : ℕ) (e : Envelope) (kept : IsKept top w session number k e)
+    → ((run top kept.before).sessions e.to).untaken ≡ None
     → ((c : Completed) → Among c (run top kept.before).transcript → is_idle ((run top kept.before).sessions c.node).current ≡ false
     → c.number < ((run top kept.before).sessions c.node).count)
     → RunHeard w session number (record { from = e.from; rows = kept.rows })
-kept_heard top w replayed session number k e kept closed =
-    let now = kept_at top w session number k e kept (only_sessions top kept.before) closed
+kept_heard top w replayed session number k e kept taken closed =
+    let now = kept_at top w session number k e kept (only_sessions top kept.before) taken closed
     (λ f is. one_message top w replayed kept.before (Deliver k) kept.after kept.delivery k e f kept.message is)
     (accepted top w replayed kept.before (Deliver k) kept.after kept.delivery) in
     subst (λ (z : Run). RunHeard z session number (record { from = e.from; rows = kept.rows }))

@@ -180,6 +180,8 @@ pub record SessionSound (top : TopologyValue) (w : Run) (node : ℕ) (a : Sessio
   pub dependencies : (k : WriterValue) → Among k a.dependencies → IsDone top w a.home k.txn (a.floor + 1)
   -- each is of a shard that there is
   pub placed : (k : WriterValue) → Among k a.dependencies → k.shard < top.shards
+  -- its last outcome was taken
+  pub taken : a.untaken ≡ None
 
 -- ## Submissions and completed operations
 

@@ -116,6 +116,7 @@ session_grows {top = top} {node = node} {a = a} g k =
       current = open_grows top node a g a.current k.current;
       dependencies = λ u m. done_grows g (le_refl _) (k.dependencies u m);
       placed = k.placed;
+      taken = k.taken;
     }
 
 pub from_grows : {top : TopologyValue} {w x : Run} {dc time : ℕ} {read : Read} {rows : List RowAt} → Grows top w x → AnsweredFrom top w dc read time rows → AnsweredFrom top x dc read time rows

@@ -1,15 +1,14 @@
 -- What is committed after a read was answered, in a row that it asked for, has a commit time above its effective time.
-use Rattle.std.proofs.Common.{◌≡◌, ℕ, ◌<◌, ◌≤◌, Bool, true, false, List, Some, ◌⊎◌, inl, inr, refl, sym, ap, ◌∙◌, subst, arith, leb-true}
-use Rattle.std.specs.Prelude.{Contains, nat_le, map}
+use Rattle.std.proofs.Common.{◌≡◌, ℕ, ◌<◌, Bool, true, false, List, Some, refl, sym, ap, ◌∙◌, subst, arith, leb-true}
+use Rattle.std.specs.Prelude.{Contains, nat_le}
 use Rattle.std.specs.List.{list_any}
 use Rattle.std.proofs.lemmas.Bool.Decides.{nat_tests}
 use Rattle.column_family.specs.declared.batch.Change.{Change}
 use Rattle.column_family.specs.Location.{Location, touches}
-use Rattle.column_family.specs.History.{last_of}
 use Rattle.slice.specs.declared.read.Read.{Read}
 use Rattle.messages.specs.declared.rows_at.RowAt.{RowAt}
 use Rattle.planner.specs.Partition.{shard_of as shard_of_key}
-use Rattle.messages.specs.Topology.{TopologyValue, dc_of, shard_of, shard_node}
+use Rattle.messages.specs.Topology.{TopologyValue, dc_of, shard_node}
 use Rattle.messages.specs.Shard.{Decision}
 use Rattle.messages.specs.Rows.{row_of}
 use Rattle.messages.proofs.Numbering.{dc_of_shard, number_of_shard}

@@ -10,6 +10,7 @@ use Rattle.messages.specs.declared.op.Op.{Op}
 use Rattle.messages.specs.declared.op.Op.TheVariants as op
 use Rattle.messages.specs.declared.outcome.Outcome.{Outcome}
 use Rattle.messages.specs.declared.outcome.Outcome.TheVariants as outcome
+use Rattle.messages.specs.Actors.{finished_in}
 use Rattle.messages.specs.Topology.{TopologyValue, is_topology, dc_of, shard_of, shard_node}
 use Rattle.messages.proofs.Numbering.{shard_again}
 use Rattle.world.specs.Run.{Run, Event, Submission, Completed, run, opening}
@@ -20,8 +21,8 @@ use Rattle.world.specs.Entries.{named_by, StampsAgree, WritesAreTold, TellsDecid
 use Rattle.world.specs.Quiet.{IsQuiet}
 use Rattle.world.specs.Settled.{Settled}
 use Rattle.world.specs.Each.{EachShardIsRight}
-use Rattle.world.specs.Promises.{number_of, LaterCommitsAreAbove, Fits, EntriesAreOfSubmissions, OutcomesAreListed, ReadsShowOneTable, ReadsShowTheirPast, ReadsAreFresh, StampsFollowCauses, TimesNeverFall, OperationsEndOnce, HistoriesGrow, HandledIsHonest}
-use Rattle.world.proofs.Among.{Among, among_contains, contains_among}
+use Rattle.world.specs.Promises.{number_of, LaterCommitsAreAbove, Fits, EntriesAreOfSubmissions, OutcomesAreListed, ReadsShowOneTable, AnswersStay, ReadsShowTheirPast, ReadsAreFresh, StampsFollowCauses, TimesNeverFall, OperationsEndOnce, HistoriesGrow, HandledIsHonest}
+use Rattle.world.proofs.Among.{Among, among_contains, contains_among, append_first}
 use Rattle.world.proofs.Growth.{Grows}
 use Rattle.world.proofs.Facts.{lead, IsDone}
 use Rattle.world.proofs.Invariant.{AnsweredFrom, EndSound, Inv}
@@ -36,6 +37,7 @@ use Rattle.world.proofs.Causal.{EndedOnce, NamedOnce, writers_in}
 use Rattle.world.proofs.CausalKept.{new_writers}
 use Rattle.world.proofs.CausalRuns.{every_causal}
 use Rattle.world.proofs.Pasts.{past_reached}
+use Rattle.world.proofs.Grown.{runs_only_grow}
 use Rattle.world.proofs.Runs.{every_run, run_grows, run_after}
 use Rattle.world.proofs.KeptEntries.{history_kept, stamps_agree, writes_are_told}
 use Rattle.world.proofs.Histories.{history_tells, coordinators_decide}
@@ -45,6 +47,7 @@ use Rattle.world.proofs.Addresses.{stands}
 use Rattle.world.proofs.LiveEvents.{run_live}
 use Rattle.world.proofs.EachShard.{each_is_right}
 use Rattle.world.proofs.FreshReads.{completed_fresh}
+use Rattle.world.proofs.OwnJournals.{each_is_its_journal}
 
 pub reads_show_one_table : (top : TopologyValue) (events : List Event) → 0 < top.shards → ReadsShowOneTable top (run top events)
 reads_show_one_table top events some c read time answer h is history =
@@ -133,11 +136,22 @@ entries_are_of_submissions top events some c has =
       fits = fits_go c.op c.outcome top w c.home (record { session = c.node; number = c.number }) k.came;
     }
 
-pub outcomes_are_listed : (top : TopologyValue) (events : List Event) → 0 < top.shards → OutcomesAreListed (run top events)
-outcomes_are_listed top events some session f has =
-    let w = run top events in
-    let t = (every_causal top events some).told session f (contains_among f (w.sessions session).outcomes has) in
-    (t.entry, record { completed = among_contains t.entry w.transcript t.among; node = t.node; number = t.number; outcome = t.outcome })
+-- ## Journals
+
+pub outcomes_are_listed : (top : TopologyValue) (events : List Event) → 0 < top.shards → OutcomesAreListed top (run top events)
+outcomes_are_listed top events some node = sym (ap finished_in (each_is_its_journal top events node some))
+
+-- ## Later moments
+
+pub answers_stay : (top : TopologyValue) (before after : List Event) → 0 < top.shards → AnswersStay top before after
+answers_stay top before after some c read time answer h is history =
+    let w = run top before in
+    let v = run top (before ++ after) in
+    let more = (runs_only_grow top before after).transcript in
+    let still : Among c v.transcript =
+    subst (λ l. Among c l) (sym more.1) (append_first c w.transcript more.0 (contains_among c w.transcript is.completed)) in
+    reads_show_one_table top (before ++ after) some c read time answer h
+    (record { completed = among_contains c v.transcript still; op = is.op; outcome = is.outcome }) history
 
 -- ## Histories
 
@@ -181,7 +195,7 @@ pub handled_is_honest : (top : TopologyValue) (events : List Event) → 0 < top.
 handled_is_honest top events some node = handled_honest top (run top events) node (every_run top events some)
 
 pub each_shard_is_right : (top : TopologyValue) (events : List Event) → 0 < top.shards → EachShardIsRight top (run top events)
-each_shard_is_right top events some node here = each_is_right top events node here (handled_is_honest top events some node)
+each_shard_is_right top events some node here = each_is_right top events node some here (handled_is_honest top events some node)
 
 pub reads_are_fresh : (top : TopologyValue) (events : List Event) → 0 < top.shards → ReadsAreFresh top (run top events)
 reads_are_fresh top events some c has =

@@ -9,6 +9,7 @@ pub mod Lasting
 pub mod LastingAll
 pub mod Able
 pub mod ShardSteps
+pub mod Transcripts
 pub mod Causal
 pub mod Pasts
 pub mod About
@@ -72,7 +73,9 @@ pub mod CausalKept
 pub mod CausalRuns
 pub mod FreshShown
 pub mod EventCases
+pub mod Grown
 pub mod Prefixes
+pub mod Refusals
 pub mod HeardFirst
 pub mod HeardRuns
 pub mod HeardCases
@@ -97,7 +100,6 @@ pub mod SteppedLive
 pub mod SubmittedLive
 pub mod LiveEvents
 pub mod LaterCommits
-pub mod EachShard
 pub mod Laws
 pub mod GivenUp
 pub mod KeptAnswers
@@ -108,3 +110,19 @@ pub mod AskedHistory
 pub mod Unfinished
 pub mod PastsDecided
 pub mod NamedStamps
+pub mod OwnSends
+pub mod Ticks
+pub mod Moves
+pub mod Happenings
+pub mod JournalSteps
+pub mod Listed
+pub mod Replays
+pub mod Merged
+pub mod OwnJournals
+pub mod EachShard
+pub mod Links
+pub mod Counted
+pub mod Places
+pub mod Numbered
+pub mod Journaled
+pub mod Threaded

@@ -11,7 +11,7 @@ use Rattle.messages.specs.declared.body.Body.TheVariants.{At, NotBy, Check, Done
 use Rattle.messages.specs.Topology.{TopologyValue}
 use Rattle.messages.specs.Words.{is_same_txn}
 use Rattle.messages.specs.Session.{Open, Idle, Writing, FirstRound, SecondRound, is_idle}
-use Rattle.messages.specs.SessionEvents.{done_if, done_in, heard}
+use Rattle.messages.specs.SessionEvents.{done_if, done_in, heard, session_taken}
 use Rattle.world.specs.Run.{Run, Submission}
 use Rattle.world.proofs.Among.{Among, same_txn, same_txn_self}
 use Rattle.world.proofs.Facts.{txn_of, IsWritten, IsDecided}
@@ -132,12 +132,12 @@ module _ (top : TopologyValue) (w x : Run) (node n : ℕ) (some : 0 < top.shards
       let r = part_now_went top w x node n some inv le homed placed (live.current node) (w.sessions node).current refl
       (inv.sessions node).current from number sent rows early s c in
       let st = heard top node n (w.sessions node) from (PartNow number rows) in
-      let has : NotMissing top st.state number from = record { number = subst (λ m. number ≤ m) (sym r.0.count) k; round = λ q. r.1 (q ∙ r.0.count) } in
+      let has : NotMissing top (session_taken st.state) number from = record { number = subst (λ m. number ≤ m) (sym r.0.count) k; round = λ q. r.1 (q ∙ r.0.count) } in
       (r.0, subst (λ z. NotMissing top z number from) (sym c.state) has)
   heard_left from sent (PartAt number bound answer) e early s k c =
       let r = part_at_went top w x node n some inv le homed placed (live.current node) (w.sessions node).current refl
       (inv.sessions node).current from number bound answer s k c in
       let st = heard top node n (w.sessions node) from (PartAt number bound answer) in
-      let has : NotAwaited top st.state number from = record { number = subst (λ m. number ≤ m) (sym r.0.count) k.number; round = λ q. r.1 (q ∙ r.0.count) } in
+      let has : NotAwaited top (session_taken st.state) number from = record { number = subst (λ m. number ≤ m) (sym r.0.count) k.number; round = λ q. r.1 (q ∙ r.0.count) } in
       (r.0, subst (λ z. NotAwaited top z number from) (sym c.state) has)
   heard_left from sent _ e early s k c = absurd (false≢true (sym e))

@@ -1,5 +1,5 @@
 -- What an answer of a first or a second round leaves under way.
-use Rattle.std.proofs.Common.{◌≡◌, ℕ, ◌<◌, ◌≤◌, Bool, true, false, ◌&&◌, List, [], ◌∷◌, ◌++◌, map, inl, refl, sym, ap, ◌∙◌, subst, eqb-true, eq-eqb, le_refl}
+use Rattle.std.proofs.Common.{◌≡◌, ℕ, ◌<◌, ◌≤◌, Bool, true, false, ◌&&◌, List, [], ◌∷◌, ◌++◌, map, None, inl, refl, sym, ap, ◌∙◌, subst, eqb-true, eq-eqb, le_refl}
 use Rattle.std.specs.Prelude.{◌==◌}
 use Rattle.std.specs.List.{list_all}
 use Rattle.std.proofs.lemmas.Bool.{false≢true, and_parts, and_from}
@@ -58,7 +58,7 @@ module _ (top : TopologyValue) (w x : Run) (node n : ℕ) (some : 0 < top.shards
   module _ (read : Read) (old : List HeardNow) (current : (w.sessions node).current ≡ FirstRound read old)
       (opened : IsOpen w node (w.sessions node).count (w.sessions node).home (op.Read read)) (number from : ℕ)
       (h : HeardNow) (is : h.from ≡ from)
-      (sound : (o : Open) (g : HeardNow) → Among g (old ++ h ∷ []) → HeardNowSound top w (record (w.sessions node) { clock = n; current = o }) read g) where
+      (sound : (o : Open) (g : HeardNow) → Among g (old ++ h ∷ []) → HeardNowSound top w (record (w.sessions node) { clock = n; current = o; untaken = None }) read g) where
     abbrev asked : List ℕ
     asked = asked_nodes top (w.sessions node) read
 
@@ -80,7 +80,7 @@ module _ (top : TopologyValue) (w x : Run) (node n : ℕ) (some : 0 < top.shards
     second_went [] e all c =
         let a = w.sessions node in (
           answered_went top w x node n some inv placed live read time (rows_taken time hs []) opened
-              (taken_answers top w (record a { clock = n; current = Idle }) read hs some (sound Idle) time [] refl (λ g m. absurd m) all
+              (taken_answers top w (record a { clock = n; current = Idle; untaken = None }) read hs some (sound Idle) time [] refl (λ g m. absurd m) all
               (ap (list_all (was_heard_at [])) e)) c,
           λ q. tt,
         )
@@ -97,7 +97,7 @@ module _ (top : TopologyValue) (w x : Run) (node n : ℕ) (some : 0 < top.shards
           asked_at q.0
               (subst (λ l. Among q.0 l) (sym e) q.1),
         ) in
-        let open_it : OpenLive top x node (record a { clock = n; current = o }) o =
+        let open_it : OpenLive top x node (record a { clock = n; current = o; untaken = None }) o =
         record {
           some = (s, late_missing asked time hs s (subst (λ l. Among s l) (sym e) (inl refl)));
           asked = λ m i.
@@ -123,7 +123,7 @@ module _ (top : TopologyValue) (w x : Run) (node n : ℕ) (some : 0 < top.shards
         let on = waits_onward top w x node n some inv placed live o
         (λ m f. heard_after asked old h m (subst (λ z. FirstHas top a z m) current f)) (λ t f. absurd (subst (λ z. SecondIs z t) current f))
         (λ m f. absurd (subst (λ z. SecondHas top a z m) current f)) in
-        let open_it : OpenLive top x node (record a { clock = n; current = o }) o =
+        let open_it : OpenLive top x node (record a { clock = n; current = o; untaken = None }) o =
         record { some = missing_some asked hs all; asked = λ m i. sent_in c.sent (k.asked m (missing_before asked old h m i)) } in
         (waits_went top w x node n some inv placed live o [] c on (λ e m. absurd m) open_it (λ b. refl), λ q. heard_now_has asked old h from is)
 
@@ -172,7 +172,7 @@ module _ (top : TopologyValue) (w x : Run) (node n : ℕ) (some : 0 < top.shards
     asked_first = asked_nodes top (w.sessions node) read
 
     heard_at_went : (h : HeardAt) → h.from ≡ from
-        → ((o : Open) (g : HeardAt) → Among g (old ++ h ∷ []) → HeardAtSound top w (record (w.sessions node) { clock = n; current = o }) read time first g)
+        → ((o : Open) (g : HeardAt) → Among g (old ++ h ∷ []) → HeardAtSound top w (record (w.sessions node) { clock = n; current = o; untaken = None }) read time first g)
         → (b : Bool) → all_heard_at asked_first time first (old ++ h ∷ []) ≡ b
         → Comes w x node (heard_at_if b n (w.sessions node) read time first (old ++ h ∷ []))
         → HeardThen (heard_at_if b n (w.sessions node) read time first (old ++ h ∷ [])) number from
@@ -180,7 +180,7 @@ module _ (top : TopologyValue) (w x : Run) (node n : ℕ) (some : 0 < top.shards
         let a = w.sessions node in
         let hs = old ++ h ∷ [] in (
           answered_went top w x node n some inv placed live read time (rows_taken time first hs) k.opened
-              (taken_answers top w (record a { clock = n; current = Idle }) read first some
+              (taken_answers top w (record a { clock = n; current = Idle; untaken = None }) read first some
               (first_later top w node n some inv le read time first old current k Idle) time hs k.time (sound Idle) k.all all) c,
           λ q. tt,
         )
@@ -191,7 +191,7 @@ module _ (top : TopologyValue) (w x : Run) (node n : ℕ) (some : 0 < top.shards
         let on = waits_onward top w x node n some inv placed live o
         (λ m f. tt) (λ t f. subst (λ z. SecondIs z t) current f) (λ m f. heard_at_after asked_first time first old h m
         (subst (λ z. SecondHas top a z m) current f)) in
-        let open_it : OpenLive top x node (record a { clock = n; current = o }) o =
+        let open_it : OpenLive top x node (record a { clock = n; current = o; untaken = None }) o =
         record {
           some = missing_at_some asked_first time first (old ++ h ∷ []) all;
           asked = λ m i. sent_in c.sent

@@ -1,10 +1,8 @@
 -- What a session's step leaves under way: steps that many messages lead to.
-use Rattle.std.proofs.Common.{◌≡◌, ℕ, ◌<◌, false, List, [], ◌∷◌, Option, Some, ◌⊎◌, inl, inr, refl, sym, ap, subst}
-use Rattle.std.specs.Prelude.{filter_map, option_map}
-use Rattle.std.proofs.Math.Seq.{drop-append_seam}
+use Rattle.std.proofs.Common.{◌≡◌, ℕ, ◌<◌, false, List, [], Option, Some, None, ◌⊎◌, inl, inr, refl, ap, subst}
+use Rattle.std.specs.Prelude.{option_map}
 use Rattle.logical_time.specs.Stamps.{TxnValue, WriterValue}
 use Rattle.slice.specs.declared.read.Read.{Read}
-use Rattle.store.proofs.Lists.{given}
 use Rattle.planner.specs.Partition.{shard_of as shard_of_key}
 use Rattle.messages.specs.declared.rows_at.RowAt.{RowAt}
 use Rattle.messages.specs.declared.op.Op.{Op}
@@ -15,9 +13,9 @@ use Rattle.messages.specs.declared.envelope.Envelope.{Envelope}
 use Rattle.messages.specs.Topology.{TopologyValue, shard_node}
 use Rattle.messages.specs.Session.{SessionStep, Open, Idle, Writing, FirstRound, SecondRound, Finished, calm, is_idle}
 use Rattle.messages.specs.Rounds.{with_writers, answer_of}
-use Rattle.messages.specs.SessionEvents.{ended, answered, given_up}
-use Rattle.world.specs.Run.{Run, Submission, Completed, completed_of, newly_completed}
-use Rattle.world.proofs.Among.{Among, among_contains, contains_among}
+use Rattle.messages.specs.SessionEvents.{ended, answered, given_up, session_taken}
+use Rattle.world.specs.Run.{Run, Submission, Completed, completed_of, ended_by}
+use Rattle.world.proofs.Among.{Among}
 use Rattle.world.proofs.Invariant.{IsOpen, AnsweredFrom, Inv}
 use Rattle.world.proofs.DecidedIn.{found}
 use Rattle.world.proofs.SessionEnds.{open_txn}
@@ -29,20 +27,20 @@ use Rattle.world.proofs.OpenReads.{first_home, second_home, goes_on}
 
 -- the session's step is in the run after it
 pub record Comes (w x : Run) (node : ℕ) (st : SessionStep) : Type 0 where
-  pub state : x.sessions node ≡ st.state
+  pub state : x.sessions node ≡ session_taken st.state
   pub sent : (e : Envelope) → Among e w.sent → Among e x.sent
   pub news : (e : Envelope) → Among e st.sends → Among e x.sent
   pub submitted : (b : Submission) → Among b w.submitted → Among b x.submitted
   pub transcript : (c : Completed) → Among c w.transcript → Among c x.transcript
-  pub ended : (c : Completed) → Among c (newly_completed w.submitted node (w.sessions node) st.state) → Among c x.transcript
+  pub ended : (c : Completed) → ended_by w.submitted node st ≡ Some c → Among c x.transcript
 
 -- what a session's step at a message leaves in the run after it
 pub record Went (top : TopologyValue) (w x : Run) (node : ℕ) (st : SessionStep) : Type 0 where
-  pub onward : SessionOnward top (w.sessions node) st.state
+  pub onward : SessionOnward top (w.sessions node) (session_taken st.state)
   pub count : st.state.count ≡ (w.sessions node).count
   pub sends : (e : Envelope) → Among e st.sends → SaysLive top x e.from e.to (kind_of e.body)
   pub dependencies : (k : WriterValue) → Among k st.state.dependencies → Placed top x k
-  pub current : OpenLive top x node st.state st.state.current
+  pub current : OpenLive top x node (session_taken st.state) st.state.current
   -- the open operation goes on or ends
   pub ends : (is_idle (w.sessions node).current ≡ false → is_idle st.state.current ≡ false) ⊎ HasEnded x
       (record { session = node; number = (w.sessions node).count })
@@ -65,17 +63,17 @@ module _ (top : TopologyValue) (w x : Run) (node n : ℕ) (some : 0 < top.shards
   pub waits_onward : (o : Open) → ((m : ℕ) → FirstHas top (w.sessions node) (w.sessions node).current m → FirstHas top (w.sessions node) o m)
       → ((time : ℕ) → SecondIs (w.sessions node).current time → SecondIs o time)
       → ((m : ℕ) → SecondHas top (w.sessions node) (w.sessions node).current m → SecondHas top (w.sessions node) o m)
-      → SessionOnward top (w.sessions node) (record (w.sessions node) { clock = n; current = o })
+      → SessionOnward top (w.sessions node) (record (w.sessions node) { clock = n; current = o; untaken = None })
   waits_onward o first time second =
       let a = w.sessions node in
-      let b = record a { clock = n; current = o } in
+      let b = record a { clock = n; current = o; untaken = None } in
       goes_on top a b refl (λ m k. first_home top a b refl o m (first m k)) time (λ m k. second_home top a b refl o m (second m k))
 
   pub waits_went : (o : Open) (sends : List Envelope)
       → Comes w x node (record { state = record (w.sessions node) { clock = n; current = o }; sends = sends })
-      → SessionOnward top (w.sessions node) (record (w.sessions node) { clock = n; current = o })
+      → SessionOnward top (w.sessions node) (record (w.sessions node) { clock = n; current = o; untaken = None })
       → ((e : Envelope) → Among e sends → SaysLive top x e.from e.to (kind_of e.body))
-      → OpenLive top x node (record (w.sessions node) { clock = n; current = o }) o
+      → OpenLive top x node (record (w.sessions node) { clock = n; current = o; untaken = None }) o
       → (is_idle (w.sessions node).current ≡ false → is_idle o ≡ false) → Went top w x node
       (record { state = record (w.sessions node) { clock = n; current = o }; sends = sends })
   waits_went o sends c onward f k busy =
@@ -90,7 +88,7 @@ module _ (top : TopologyValue) (w x : Run) (node n : ℕ) (some : 0 < top.shards
 
   -- what is open goes on so
   open_later : (now o : Open) → ((e : Envelope) → Among e w.sent → Among e x.sent) → OpenLive top w node (w.sessions node) o
-      → OpenLive top x node (record (w.sessions node) { clock = n; current = now }) o
+      → OpenLive top x node (record (w.sessions node) { clock = n; current = now; untaken = None }) o
   open_later now Idle f k = tt
   open_later now (Writing coordinator) f k = tt
   open_later now (FirstRound read heard) f k = record { some = k.some; asked = λ shard m. sent_in f (k.asked shard m) }
@@ -116,16 +114,14 @@ module _ (top : TopologyValue) (w x : Run) (node n : ℕ) (some : 0 < top.shards
       let is : completed_of w.submitted node f ≡ Some done =
       ap (λ (z : Option Submission). option_map (λ s. record { node = node; number = f.number; home = s.home; op = s.op; outcome = f.outcome }) z)
       (found top w inv.submitted s t k.among (open_txn k)) in
-      let new : Among done (filter_map (completed_of w.submitted node) (f ∷ [])) =
-      contains_among done _ (given (completed_of w.submitted node) (f ∷ []) f done (among_contains f (f ∷ []) (inl refl)) is) in
-      (done, c.ended done (subst (λ fs. Among done (filter_map (completed_of w.submitted node) fs)) (sym (drop-append_seam a.outcomes (f ∷ []))) new), refl)
+      (done, c.ended done is, refl)
 
   pub ended_went : (floor : ℕ) (dependencies : List WriterValue) (out : Outcome) (dc : ℕ) (o : Op) → IsOpen w node (w.sessions node).count dc o
       → ((k : WriterValue) → Among k dependencies → Placed top x k)
       → Comes w x node (ended n (w.sessions node) floor dependencies out) → Went top w x node (ended n (w.sessions node) floor dependencies out)
   ended_went floor dependencies out dc o k f c =
       record {
-        onward = goes_on top (w.sessions node) (ended n (w.sessions node) floor dependencies out).state refl (λ m q. tt) (λ m q. tt) (λ m q. tt);
+        onward = goes_on top (w.sessions node) (session_taken (ended n (w.sessions node) floor dependencies out).state) refl (λ m q. tt) (λ m q. tt) (λ m q. tt);
         count = refl;
         sends = λ e m. absurd m;
         dependencies = f;

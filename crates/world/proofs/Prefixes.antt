@@ -1,13 +1,13 @@
 -- Prefixes of runs: what was sent stays, and each event that a run keeps was accepted where it stands.
-use Rattle.std.proofs.Common.{◌≡◌, ◌∙◌, ℕ, zero, suc, ◌+◌, ◌<◌, ◌≤◌, ap, sym, refl, arith, inl, inr, List, [], ◌∷◌, ◌++◌, length, Some, slice_get, append-nil}
+use Rattle.std.proofs.Common.{◌≡◌, ◌∙◌, ℕ, zero, suc, ◌+◌, ◌<◌, ◌≤◌, ap, sym, refl, arith, inl, inr, List, [], ◌∷◌, ◌++◌, length, Some, slice_get}
 use Rattle.std.specs.Prelude.{◌⊎◌}
-use Rattle.std.proofs.lemmas.List.{length-append, append_assoc}
+use Rattle.std.proofs.lemmas.List.{length-append}
 use Rattle.messages.specs.declared.envelope.Envelope.{Envelope}
 use Rattle.messages.specs.Topology.{TopologyValue}
 use Rattle.world.specs.Run.{Run, Event, opening, step, continued, run}
 use Rattle.world.proofs.Runs.{run_after}
 use Rattle.world.proofs.Among.{Among}
-use Rattle.world.proofs.EventCases.{event_cases}
+use Rattle.world.proofs.Grown.{run_grew}
 use Rattle.world.proofs.Replayed.{happens}
 
 -- ## Lists
@@ -44,41 +44,16 @@ one_begins (x ∷ xs) ys (u ∷ us) vs e =
 
 -- ## Runs
 
--- what was sent before and more
-abbrev pub HasSent : Run → Run → Type 0
-HasSent w v = (es : List Envelope) × (v.sent ≡ w.sent ++ es)
-
-sent_so : (w : Run) → HasSent w w
-sent_so w = ([], sym (append-nil w.sent))
-
-sent_step : (top : TopologyValue) (w : Run) (x : Event) → HasSent w (step top w x)
-sent_step top w x =
-    event_cases top w x (HasSent w)
-    (record {
-      nothing = sent_so w;
-      handled = λ k e n is sent to. (_, refl);
-      heard = λ k e n is sent other to. (_, refl);
-      begun = λ node o n is to. (_, refl);
-      collected = λ node time n is. (_, refl);
-    })
-
-pub sent_later : (top : TopologyValue) (w : Run) (xs : List Event) → HasSent w (continued top w xs)
-sent_later top w [] = sent_so w
-sent_later top w (x ∷ xs) =
-    let now = sent_step top w x in
-    let later = sent_later top (step top w x) xs in
-    (now.0 ++ later.0, later.1 ∙ ap (λ es. es ++ later.0) now.1 ∙ append_assoc w.sent now.0 later.0)
-
 -- a message keeps its number
 pub number_later : (top : TopologyValue) (w : Run) (xs : List Event) (k : ℕ) (e : Envelope) → slice_get w.sent k ≡ Some e
     → slice_get (continued top w xs).sent k ≡ Some e
 number_later top w xs k e is =
-    let more = sent_later top w xs in
+    let more = (run_grew top w xs).sent in
     ap (λ es. slice_get es k) more.1 ∙ get_first w.sent more.0 k e is
 
 pub sent_no_less : (top : TopologyValue) (w : Run) (xs : List Event) → length w.sent ≤ length (continued top w xs).sent
 sent_no_less top w xs =
-    let more = sent_later top w xs in
+    let more = (run_grew top w xs).sent in
     let count : length (continued top w xs).sent ≡ length w.sent + length more.0 =
     ap (λ (es : List Envelope). length es) more.1 ∙ length-append w.sent more.0 in
     omega arith

@@ -35,6 +35,7 @@ opening_holds top =
             current = tt;
             dependencies = λ k m. absurd m;
             placed = λ k m. absurd m;
+            taken = refl;
           };
       sent = λ e m. absurd m;
       submitted =

@@ -14,7 +14,7 @@ use Rattle.messages.specs.Shard.{ShardStep, new_shard}
 use Rattle.messages.specs.Session.{SessionState, SessionStep, Idle}
 use Rattle.messages.specs.Submitting.{session_submit}
 use Rattle.messages.specs.ShardEvents.{shard_handle, shard_collect}
-use Rattle.messages.specs.SessionEvents.{session_handle}
+use Rattle.messages.specs.SessionEvents.{session_handle, session_taken}
 use Rattle.world.specs.Run.{Run, Event, Submit, Deliver, Collect, Submission, opening, after_shard, after_session, after_submission, submit_if, deliver_if, deliver_for, collect_if, step}
 use Rattle.world.specs.Quiet.{number_delivered, handled}
 use Rattle.world.proofs.Among.{Among, among_append, last_or_old}
@@ -93,7 +93,7 @@ module _ (top : TopologyValue) (w : Run) (k : Seats top w) where
       record {
         handled = handled_go w x s.sends k.handled sent;
         shards = k.shards;
-        sessions = λ m e. session_go s.state node m is (m == node) refl e;
+        sessions = λ m e. session_go (session_taken s.state) node m is (m == node) refl e;
         submitted = k.submitted;
       }
 
@@ -103,7 +103,7 @@ module _ (top : TopologyValue) (w : Run) (k : Seats top w) where
       record {
         handled = handled_go w (Submit node o) s.sends k.handled (λ j e. absurd (cc));
         shards = k.shards;
-        sessions = λ m e. session_go s.state node m is (m == node) refl e;
+        sessions = λ m e. session_go (session_taken s.state) node m is (m == node) refl e;
         submitted = λ b m. elim (last_or_old b _ w.submitted m) [ inl i ↦ k.submitted b i | inr q ↦ ap (λ z. is_session top z.session) q ∙ is ];
       }
 

@@ -1,10 +1,8 @@
 -- A session's step that ends its operation, and one that leaves it open.
-use Rattle.std.proofs.Common.{◌≡◌, ℕ, ◌+◌, ◌<◌, ◌≤◌, false, List, [], ◌∷◌, Option, Some, None, inl, inr, refl, sym, ap, ap₂, ◌∙◌, subst, le_refl, le_trans}
-use Rattle.std.specs.Prelude.{filter_map, option_map, Contains}
-use Rattle.std.proofs.Math.Seq.{drop-append_seam, drop-length}
+use Rattle.std.proofs.Common.{◌≡◌, ℕ, ◌+◌, ◌<◌, ◌≤◌, false, List, [], Option, Some, None, inl, inr, refl, sym, ap, ap₂, ◌∙◌, subst, le_refl, le_trans}
+use Rattle.std.specs.Prelude.{option_map}
 use Rattle.logical_time.specs.Stamps.{TxnValue, WriterValue}
 use Rattle.slice.specs.declared.read.Read.{Read}
-use Rattle.store.proofs.Lists.{given_only}
 use Rattle.messages.specs.declared.op.Op.{Op}
 use Rattle.messages.specs.declared.outcome.Outcome.{Outcome}
 use Rattle.messages.specs.declared.envelope.Envelope.{Envelope}
@@ -13,25 +11,16 @@ use Rattle.messages.specs.Words.{is_same_txn}
 use Rattle.messages.specs.Session.{SessionState, Open, Idle, Writing, FirstRound, SecondRound, HeardNow, HeardAt, calm, is_idle}
 use Rattle.messages.specs.SessionEvents.{ended}
 use Rattle.world.specs.Run.{Run, Submission, Completed, submission_of, completed_of}
-use Rattle.world.proofs.Among.{Among, among_contains, contains_among, find_some, same_txn}
+use Rattle.world.proofs.Among.{Among, find_some, same_txn}
 use Rattle.world.proofs.Growth.{FirstAsked, SecondAsked, Grows}
 use Rattle.world.proofs.Facts.{txn_of, IsDone}
 use Rattle.world.proofs.Invariant.{EnvelopeSound, IsOpen, HeardNowSound, HeardAtSound, OpenSound, SubmittedSound, EndSound, CompletedSound, Inv}
 use Rattle.world.proofs.Lasting.{answers_now_grow}
 use Rattle.world.proofs.Ables.{same_run}
 use Rattle.world.proofs.SessionSteps.{EndLeaves, SessionAble}
+use Rattle.world.proofs.Transcripts.{nothing_ended}
 
--- ## What is newly completed
-
-pub one_given : {X Y : Type 0} (g : X → Option Y) (x : X) (y : Y) → Among y (filter_map g (x ∷ [])) → g x ≡ Some y
-one_given {X} {Y} g x y m = go (given_only g (x ∷ []) y (among_contains y (filter_map g (x ∷ [])) m))
-  where
-    by : (z : X) → Among z (x ∷ []) → g z ≡ Some y → g x ≡ Some y
-    by z (inl q) e = ap g (sym q) ∙ e
-    by z (inr n) e = absurd n
-
-    go : (z : X) × Contains (x ∷ []) z × (g z ≡ Some y) → g x ≡ Some y
-    go (z, has, e) = by z (contains_among z (x ∷ []) has) e
+-- ## What ended
 
 pub open_txn : {w : Run} {node m dc : ℕ} {o : Op} (k : IsOpen w node m dc o) → txn_of k.submission ≡ record { session = node; number = m }
 open_txn k = ap₂ (λ s n. record { session = s; number = n }) k.session k.number
@@ -72,9 +61,9 @@ module _ (top : TopologyValue) (w : Run) (node n : ℕ) (inv : Inv top w) (le : 
   abbrev a : SessionState
   a = w.sessions node
 
-  -- after it, where its operation is open or another
+  -- after it and its outcome taken, where its operation is open or another
   abbrev later : Open → SessionState
-  later o = record (w.sessions node) { clock = n; current = o }
+  later o = record (w.sessions node) { clock = n; current = o; untaken = None }
 
   -- the operation ends
   pub ended_able : (floor : ℕ) (dependencies : List WriterValue) (out : Outcome) (o : Op) → a.floor ≤ floor → floor ≤ n → IsOpen w node a.count a.home o
@@ -93,12 +82,8 @@ module _ (top : TopologyValue) (w : Run) (node n : ℕ) (inv : Inv top w) (le : 
               asked_now = λ number m asked k. record { number = k.number; round = λ q. tt };
               asked_at = λ number time m asked k. record { number = k.number; round = λ q. tt };
             };
-        session = record { home = (inv.sessions node).home; floor = below; current = tt; dependencies = done; placed = placed };
-        completed = λ c m. found_completed top w node a.count a.home o out inv.submitted b came c (
-            one_given (completed_of w.submitted node) (record { number = a.count; outcome = out }) c (
-            subst (λ fs. Among c (filter_map (completed_of w.submitted node) fs)) (drop-append_seam a.outcomes (record { number = a.count; outcome = out } ∷ [])) m
-            )
-            );
+        session = record { home = (inv.sessions node).home; floor = below; current = tt; dependencies = done; placed = placed; taken = refl };
+        completed = found_completed top w node a.count a.home o out inv.submitted b came;
         sends = λ x g at e m. absurd m;
         turn =
             inr
@@ -110,7 +95,7 @@ module _ (top : TopologyValue) (w : Run) (node n : ℕ) (inv : Inv top w) (le : 
               idle = refl;
               count = refl;
               floor = above;
-              outcomes = refl;
+              untaken = refl;
               leaves = leaves;
             });
       }
@@ -119,7 +104,7 @@ module _ (top : TopologyValue) (w : Run) (node n : ℕ) (inv : Inv top w) (le : 
   pub waits_able : (o : Open) (sends : List Envelope) → ((m : ℕ) (asked : Read) → FirstAsked top a.current m asked → FirstAsked top o m asked)
       → ((time m : ℕ) (asked : Read) → SecondAsked a.current time m asked → SecondAsked o time m asked) → OpenSound top w node (later o) o
       → ((x : Run) → Grows top w x → x.sessions node ≡ later o → (e : Envelope) → Among e sends → EnvelopeSound top x e)
-      → is_idle o ≡ is_idle a.current → SessionAble top w node (record { state = later o; sends = sends })
+      → is_idle o ≡ is_idle a.current → SessionAble top w node (record { state = record a { clock = n; current = o }; sends = sends })
   waits_able o sends asked_first asked_second sound send idle =
       record {
         grows =
@@ -137,10 +122,11 @@ module _ (top : TopologyValue) (w : Run) (node n : ℕ) (inv : Inv top w) (le : 
           current = sound;
           dependencies = (inv.sessions node).dependencies;
           placed = (inv.sessions node).placed;
+          taken = refl;
         };
-        completed = λ c m. absurd (subst (λ fs. Among c (filter_map (completed_of w.submitted node) fs)) (drop-length a.outcomes) m);
+        completed = λ c e. absurd (nothing_ended w.submitted node (record { state = record a { clock = n; current = o }; sends = sends }) c (inv.sessions node).taken e);
         sends = send;
-        turn = inl (record { count = refl; floor = refl; dependencies = refl; outcomes = refl; idle = idle });
+        turn = inl (record { count = refl; floor = refl; dependencies = refl; untaken = (inv.sessions node).taken; idle = idle });
       }
 
   -- ## What was heard stays so as the clock moves
@@ -152,7 +138,7 @@ module _ (top : TopologyValue) (w : Run) (node n : ℕ) (inv : Inv top w) (le : 
       → HeardAtSound top w (later o) read time first h
   heard_at_later o read time first h k = record { asked = k.asked; answers = k.answers }
 
-  open_later : (now o : Open) → OpenSound top w node a o → OpenSound top w node (record a { clock = n; current = now }) o
+  open_later : (now o : Open) → OpenSound top w node a o → OpenSound top w node (later now) o
   open_later now Idle k = tt
   open_later now (Writing coordinator) k = record { batch = k.batch; opened = k.opened; coordinator = k.coordinator }
   open_later now (FirstRound read heard) k = record { opened = k.opened; heard = λ h m. heard_now_later now read h (k.heard h m) }

@@ -1,5 +1,5 @@
 -- One session's step keeps all, if what it adds is sound.
-use Rattle.std.proofs.Common.{◌≡◌, ℕ, ◌≤◌, Bool, true, false, cond, List, [], ◌∷◌, ◌++◌, ◌⊎◌, inl, inr, refl, sym, subst, eqb-true, le_trans, Ok}
+use Rattle.std.proofs.Common.{◌≡◌, ℕ, ◌≤◌, Bool, true, false, cond, List, [], ◌∷◌, ◌⊎◌, inl, inr, refl, sym, subst, eqb-true, le_trans, Some, None, Ok}
 use Rattle.std.specs.Prelude.{◌==◌}
 use Rattle.logical_time.specs.Stamps.{WriterValue}
 use Rattle.messages.specs.declared.rows_at.RowAt.{RowAt}
@@ -11,20 +11,22 @@ use Rattle.messages.specs.Rounds.{with_writers}
 use Rattle.messages.specs.declared.envelope.Envelope.{Envelope}
 use Rattle.messages.specs.Topology.{TopologyValue}
 use Rattle.messages.specs.Session.{SessionState, SessionStep, is_idle}
-use Rattle.world.specs.Run.{Run, Event, Completed, with_actor, newly_completed, after_session}
-use Rattle.world.proofs.Among.{Among, among_append, append_first}
+use Rattle.messages.specs.SessionEvents.{session_taken}
+use Rattle.world.specs.Run.{Run, Event, Completed, with_actor, ended_by, after_session}
+use Rattle.world.proofs.Among.{Among, among_append}
 use Rattle.world.proofs.Growth.{SessionGrows, Grows}
 use Rattle.world.proofs.Invariant.{EnvelopeSound, IsOpen, SessionSound, AnsweredFrom, CompletedSound, Inv}
 use Rattle.world.proofs.Lasting.{same_shard_grows, same_session_grows}
 use Rattle.world.proofs.LastingAll.{says_grows, shard_grows, session_grows, completed_grows}
 use Rattle.world.proofs.ShardSteps.{actor_same}
+use Rattle.world.proofs.Transcripts.{old_stays, ended_or_old}
 
--- the step leaves open what is open, and what the session told and depends on as they are
+-- the step leaves open what is open, tells nothing, and what the session depends on is as it was
 pub record Stays (a b : SessionState) : Type 0 where
   pub count : b.count ≡ a.count
   pub floor : b.floor ≡ a.floor
   pub dependencies : b.dependencies ≡ a.dependencies
-  pub outcomes : b.outcomes ≡ a.outcomes
+  pub untaken : b.untaken ≡ None
   pub idle : is_idle b.current ≡ is_idle a.current
 
 -- what an ended operation leaves: the session depends on its write alone, or on what its read rests on besides
@@ -47,15 +49,15 @@ pub record Ends (top : TopologyValue) (w : Run) (node : ℕ) (b : SessionState) 
   pub idle : is_idle b.current ≡ true
   pub count : b.count ≡ (w.sessions node).count
   pub floor : (w.sessions node).floor ≤ b.floor
-  pub outcomes : b.outcomes ≡ (w.sessions node).outcomes ++ record { number = (w.sessions node).count; outcome = came } ∷ []
+  pub untaken : b.untaken ≡ Some (record { number = (w.sessions node).count; outcome = came })
   pub leaves : EndLeaves what came top w node b.floor b.dependencies
 
 -- a session's step at a message that keeps all in every later run where the session is as it leaves it
 pub record SessionAble (top : TopologyValue) (w : Run) (node : ℕ) (st : SessionStep) : Type 0 where
-  pub grows : SessionGrows top (w.sessions node) st.state
-  pub session : SessionSound top w node st.state
-  pub completed : (c : Completed) → Among c (newly_completed w.submitted node (w.sessions node) st.state) → CompletedSound top w c
-  pub sends : (x : Run) → Grows top w x → x.sessions node ≡ st.state → (e : Envelope) → Among e st.sends → EnvelopeSound top x e
+  pub grows : SessionGrows top (w.sessions node) (session_taken st.state)
+  pub session : SessionSound top w node (session_taken st.state)
+  pub completed : (c : Completed) → ended_by w.submitted node st ≡ Some c → CompletedSound top w c
+  pub sends : (x : Run) → Grows top w x → x.sessions node ≡ session_taken st.state → (e : Envelope) → Among e st.sends → EnvelopeSound top x e
   pub turn : Stays (w.sessions node) st.state ⊎ Ends top w node st.state
 
 pub session_actor_grows : (top : TopologyValue) (f : ℕ → SessionState) (node : ℕ) (b : SessionState) → SessionGrows top (f node) b → (m : ℕ)
@@ -74,14 +76,14 @@ session_actor_sound top x f node b k new m = go (m == node) refl
     go true e = subst (λ n. SessionSound top x n b) (sym (eqb-true m node e)) new
     go false e = k m
 
-pub session_run_grows : (top : TopologyValue) (w : Run) (node : ℕ) (st : SessionStep) (ev : Event) → SessionGrows top (w.sessions node) st.state
+pub session_run_grows : (top : TopologyValue) (w : Run) (node : ℕ) (st : SessionStep) (ev : Event) → SessionGrows top (w.sessions node) (session_taken st.state)
     → Grows top w (after_session (Ok st) w ev node)
 session_run_grows top w node st ev g =
     record {
       shards = λ m. same_shard_grows (w.shards m);
-      sessions = session_actor_grows top w.sessions node st.state g;
+      sessions = session_actor_grows top w.sessions node (session_taken st.state) g;
       submitted = λ b m. m;
-      transcript = λ c m. append_first c w.transcript (newly_completed w.submitted node (w.sessions node) st.state) m;
+      transcript = λ c m. old_stays c w.transcript (ended_by w.submitted node st) m;
     }
 
 pub session_step_kept : (top : TopologyValue) (w : Run) (node : ℕ) (st : SessionStep) (ev : Event) → Inv top w → SessionAble top w node st
@@ -92,10 +94,10 @@ session_step_kept top w node st ev inv k =
     record {
       shards = λ m. shard_grows gr (inv.shards m);
       patient = inv.patient;
-      sessions = session_actor_sound top x w.sessions node st.state (λ m. session_grows gr (inv.sessions m)) (session_grows gr k.session);
+      sessions = session_actor_sound top x w.sessions node (session_taken st.state) (λ m. session_grows gr (inv.sessions m)) (session_grows gr k.session);
       sent = λ e m. elim (among_append e w.sent st.sends m) [
         | inl o ↦ says_grows top e.from e.to e.time gr e.body (inv.sent e o)
-        | inr n ↦ k.sends x gr (actor_same w.sessions node st.state) e n
+        | inr n ↦ k.sends x gr (actor_same w.sessions node (session_taken st.state)) e n
       ];
       submitted = record {
         accepted = inv.submitted.accepted;
@@ -104,7 +106,7 @@ session_step_kept top w node st ev inv k =
         one = inv.submitted.one;
         placed = inv.submitted.placed;
       };
-      transcript = λ c m. elim (among_append c w.transcript (newly_completed w.submitted node (w.sessions node) st.state) m) [
+      transcript = λ c m. elim (ended_or_old c w.transcript (ended_by w.submitted node st) m) [
         | inl o ↦ completed_grows gr (inv.transcript c o)
         | inr n ↦ completed_grows gr (k.completed c n)
       ];

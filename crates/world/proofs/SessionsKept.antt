@@ -1,5 +1,5 @@
 -- Each message that a session hears keeps all.
-use Rattle.std.proofs.Common.{◌≡◌, ℕ, ◌+◌, ◌<◌, ◌≤◌, max, Bool, true, false, ◌&&◌, List, [], ◌∷◌, ◌++◌, map, ◌⊎◌, inl, inr, refl, sym, ap, ap₂, ◌∙◌, subst, arith, eqb-true, le_refl, le_trans}
+use Rattle.std.proofs.Common.{◌≡◌, ℕ, ◌+◌, ◌<◌, ◌≤◌, max, Bool, true, false, ◌&&◌, List, [], ◌∷◌, ◌++◌, map, ◌⊎◌, None, inl, inr, refl, sym, ap, ap₂, ◌∙◌, subst, arith, eqb-true, le_refl, le_trans}
 use Rattle.std.specs.Prelude.{◌==◌}
 use Rattle.std.specs.List.{list_all}
 use Rattle.std.proofs.lemmas.Bool.{and_parts}
@@ -40,9 +40,9 @@ module _ (top : TopologyValue) (w : Run) (node n : ℕ) (some : 0 < top.shards) 
   abbrev a : SessionState
   a = w.sessions node
 
-  -- after it, where its operation is open or another
+  -- after it and its outcome taken, where its operation is open or another
   abbrev later : Open → SessionState
-  later o = record (w.sessions node) { clock = n; current = o }
+  later o = record (w.sessions node) { clock = n; current = o; untaken = None }
 
   -- ## Done
 

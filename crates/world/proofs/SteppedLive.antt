@@ -7,9 +7,11 @@ use Rattle.messages.specs.declared.envelope.Envelope.{Envelope}
 use Rattle.messages.specs.Topology.{TopologyValue}
 use Rattle.messages.specs.Shard.{ShardState, ShardStep, WaitingRead}
 use Rattle.messages.specs.Session.{SessionState, SessionStep, is_idle}
-use Rattle.world.specs.Run.{Run, Event, Submission, with_actor, newly_completed, after_shard, after_session}
+use Rattle.messages.specs.SessionEvents.{session_taken}
+use Rattle.world.specs.Run.{Run, Event, Submission, with_actor, ended_by, after_shard, after_session}
 use Rattle.world.specs.Quiet.{number_delivered, handled}
 use Rattle.world.proofs.Among.{Among, among_append, append_first, append_second}
+use Rattle.world.proofs.Transcripts.{old_stays, ended_is_last}
 use Rattle.world.proofs.Facts.{txn_of}
 use Rattle.world.proofs.ShardSteps.{actor_same}
 use Rattle.world.proofs.About.{Kind, OfReadAt, OfPartAt, kind_of, Sent}
@@ -131,12 +133,12 @@ module _ (top : TopologyValue) (w : Run) (node : ℕ) (st : SessionStep) (ev : E
   pub session_comes : Comes w xs node st
   session_comes =
       record {
-        state = actor_same w.sessions node st.state;
+        state = actor_same w.sessions node (session_taken st.state);
         sent = λ e m. append_first e w.sent st.sends m;
         news = λ e m. append_second e w.sent st.sends m;
         submitted = λ b m. m;
-        transcript = λ c m. append_first c w.transcript (newly_completed w.submitted node (w.sessions node) st.state) m;
-        ended = λ c m. append_second c w.transcript (newly_completed w.submitted node (w.sessions node) st.state) m;
+        transcript = λ c m. old_stays c w.transcript (ended_by w.submitted node st) m;
+        ended = λ c e. ended_is_last c w.transcript (ended_by w.submitted node st) e;
       }
 
   module _ (live : Live top w) (went : Went top w xs node st) where
@@ -144,27 +146,27 @@ module _ (top : TopologyValue) (w : Run) (node : ℕ) (st : SessionStep) (ev : E
     session_onward =
         record {
           shards = λ m. same_shard_on (w.shards m);
-          sessions = session_actor_on top w.sessions node st.state went.onward;
+          sessions = session_actor_on top w.sessions node (session_taken st.state) went.onward;
           waits = λ m y i. inl (y, i, refl, refl, refl);
           sent = λ e m. append_first e w.sent st.sends m;
           submitted = λ b m. m;
-          transcript = λ c m. append_first c w.transcript (newly_completed w.submitted node (w.sessions node) st.state) m;
+          transcript = λ c m. old_stays c w.transcript (ended_by w.submitted node st) m;
         }
 
-    dependencies_go : (m : ℕ) (t : Bool) → (m == node) ≡ t → (k : WriterValue) → Among k (cond t st.state (w.sessions m)).dependencies
+    dependencies_go : (m : ℕ) (t : Bool) → (m == node) ≡ t → (k : WriterValue) → Among k (cond t (session_taken st.state) (w.sessions m)).dependencies
         → Placed top xs k
     dependencies_go m true e k i = went.dependencies k i
     dependencies_go m false e k i = placed_on session_onward (live.dependencies m k i)
 
-    current_go : (m : ℕ) (t : Bool) → (m == node) ≡ t → OpenLive top xs m (cond t st.state (w.sessions m)) (cond t st.state (w.sessions m)).current
-    current_go m true e = subst (λ z. OpenLive top xs z st.state st.state.current) (sym (eqb-true m node e)) went.current
+    current_go : (m : ℕ) (t : Bool) → (m == node) ≡ t → OpenLive top xs m (cond t (session_taken st.state) (w.sessions m)) (cond t (session_taken st.state) (w.sessions m)).current
+    current_go m true e = subst (λ z. OpenLive top xs z (session_taken st.state) st.state.current) (sym (eqb-true m node e)) went.current
     current_go m false e = open_on top m (w.sessions m) (w.sessions m).current session_onward (live.current m)
 
     ends_go : (b : Submission) → StillOpen w b → (t : Bool) → (b.session == node) ≡ t → StillOpen xs b ⊎ HasEnded xs (txn_of b)
-    ends_go b o false e = inl (still_so (ap (λ t. cond t st.state (w.sessions b.session)) e) o)
+    ends_go b o false e = inl (still_so (ap (λ t. cond t (session_taken st.state) (w.sessions b.session)) e) o)
     ends_go b o true e =
         let here = eqb-true b.session node e in
-        let is : xs.sessions b.session ≡ st.state = ap (λ t. cond t st.state (w.sessions b.session)) e in
+        let is : xs.sessions b.session ≡ session_taken st.state = ap (λ t. cond t (session_taken st.state) (w.sessions b.session)) e in
         let count : b.number ≡ (w.sessions node).count = o.number ∙ ap (λ i. (w.sessions i).count) here in
         elim (went.ends) [
           | inl f ↦

@@ -83,6 +83,7 @@ module _ (top : TopologyValue) (w : Run) (node n : ℕ) (o : Op) (inv : Inv top 
         current = sound;
         dependencies = λ k m. done_grows submission_grows (le_refl _) ((inv.sessions node).dependencies k m);
         placed = (inv.sessions node).placed;
+        taken = refl;
       }
 
   -- no earlier operation has its number

@@ -8,6 +8,8 @@ pub mod Worked
 pub mod WorkedTimes
 pub mod Committed
 pub mod Entries
+pub mod Refusals
+pub mod Journals
 pub mod Promises
 pub mod Settled
 pub mod Each
@@ -15,3 +17,4 @@ pub mod Collected
 pub mod Lookups
 pub mod Causes
 pub mod Named
+pub mod Threads

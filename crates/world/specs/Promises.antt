@@ -15,12 +15,13 @@ use Rattle.messages.specs.declared.outcome.Outcome.TheVariants as outcome
 use Rattle.messages.specs.Topology.{TopologyValue}
 use Rattle.messages.specs.Honest.{IsHonest}
 use Rattle.messages.specs.Shard.{Decision}
-use Rattle.messages.specs.Session.{Finished}
+use Rattle.messages.specs.Actors.{outcomes_by}
 use Rattle.world.specs.Run.{Run, Event, Submission, Completed, run}
 use Rattle.world.specs.Histories.{batch_submitted, decisions_in, IsHistory}
 use Rattle.world.specs.Before.{Past}
 use Rattle.world.specs.Fresh.{IsFresh}
 use Rattle.world.specs.Met.{envelopes_to}
+use Rattle.world.specs.Journals.{journal_in, ended_at, IsBeginning}
 use Rattle.world.specs.Committed.{IsCommittedBy, time_of, IsNotBelow}
 use Rattle.world.specs.Entries.{IsKeptIn}
 
@@ -55,16 +56,15 @@ pub record IsEndOfSubmitted (w : Run) (c : Completed) : Type 0 where
 abbrev pub EntriesAreOfSubmissions : Run → Type 0
 EntriesAreOfSubmissions w = (c : Completed) → Contains w.transcript c → IsEndOfSubmitted w c
 
--- the entry is what the session finished
-pub record IsEntryOfFinished (w : Run) (session : ℕ) (f : Finished) (c : Completed) : Type 0 where
-  pub completed : Contains w.transcript c
-  pub node : c.node ≡ session
-  pub number : c.number ≡ f.number
-  pub outcome : c.outcome ≡ f.outcome
+-- the entries of each actor are what its journal finishes, in that order
+abbrev pub OutcomesAreListed : TopologyValue → Run → Type 0
+OutcomesAreListed top w = (node : ℕ) → ended_at w node ≡ outcomes_by top node (journal_in w node)
 
--- whatever a session finished stands in the transcript
-abbrev pub OutcomesAreListed : Run → Type 0
-OutcomesAreListed w = (session : ℕ) (f : Finished) → Contains (w.sessions session).outcomes f → (c : Completed) × IsEntryOfFinished w session f c
+-- what was sent, submitted and completed stays, in order, whatever events follow
+pub record RunsGrow (top : TopologyValue) (before after : List Event) : Type 0 where
+  pub sent : IsBeginning (run top before).sent (run top (before ++ after)).sent
+  pub submitted : IsBeginning (run top before).submitted (run top (before ++ after)).submitted
+  pub transcript : IsBeginning (run top before).transcript (run top (before ++ after)).transcript
 
 -- One table: the answer of each completed read is the meaning of its request on the history of its home, in whatever
 -- order, at its effective time. It is the whole answer: the asked keys in order, each with its slice.
@@ -72,6 +72,13 @@ abbrev pub ReadsShowOneTable : TopologyValue → Run → Type 0
 ReadsShowOneTable top w =
     (c : Completed) (read : Read) (time : ℕ) (answer : List AnsweredRow) (h : History)
     → IsAnswered w c read time answer → IsHistory top w c.home h → answer ≡ meaning read h time
+
+-- it stays so: the answer of each completed read is the meaning of its request on the history of its home at any later
+-- moment, too
+abbrev pub AnswersStay : TopologyValue → List Event → List Event → Type 0
+AnswersStay top before after =
+    (c : Completed) (read : Read) (time : ℕ) (answer : List AnsweredRow) (h : History)
+    → IsAnswered (run top before) c read time answer → IsHistory top (run top (before ++ after)) c.home h → answer ≡ meaning read h time
 
 -- the transaction's batch, as submitted, touches a location of a row that the read asks for
 pub record TouchesAsked (w : Run) (t : TxnValue) (read : Read) : Type 0 where

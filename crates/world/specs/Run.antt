@@ -1,28 +1,21 @@
 -- Runs: what a list of events makes of the shards, the sessions and the network between them.
-use Rattle.std.specs.Prelude.{ℕ, Bool, true, false, ◌==◌, if◌then◌else◌, List, [], ◌∷◌, ◌++◌, length, drop, find, filter_map, slice_get, Option, Some, None, option_map, Result, Ok, Err}
+use Rattle.std.specs.Prelude.{ℕ, Bool, true, false, ◌==◌, if◌then◌else◌, List, [], ◌∷◌, ◌++◌, find, slice_get, Option, Some, None, option_map, option_and_then, Result, Ok, Err}
 use Rattle.std.specs.Option.{unwrap_or}
 use Rattle.logical_time.specs.declared.fault.Fault.{Fault}
 use Rattle.logical_time.specs.Stamps.{TxnValue, WriterValue}
 use Rattle.messages.specs.declared.op.Op.{Op}
-use Rattle.messages.specs.declared.outcome.Outcome.{Outcome}
 use Rattle.messages.specs.declared.envelope.Envelope.{Envelope}
 use Rattle.messages.specs.Topology.{TopologyValue, is_shard, is_session, home_of}
 use Rattle.messages.specs.Words.{is_same_txn}
 use Rattle.messages.specs.Shard.{ShardState, ShardStep, new_shard}
 use Rattle.messages.specs.Session.{SessionState, SessionStep, Finished, new_session}
 use Rattle.messages.specs.ShardEvents.{shard_handle, shard_collect}
-use Rattle.messages.specs.SessionEvents.{session_handle}
+use Rattle.messages.specs.SessionEvents.{session_handle, session_taken}
 use Rattle.messages.specs.Submitting.{session_submit}
-
--- ## Events
-
--- An event: a session submits an operation, the message of this number is delivered, or a shard collects up to a
--- time. Messages are numbered from 0 in the order of sending, and delivered in any order, again, or never. Sessions
--- and shards are named by their nodes.
-pub data Event : Type 0 where
-  Submit : (session : ℕ) (op : Op) → Event
-  Deliver : (number : ℕ) → Event
-  Collect : (shard time : ℕ) → Event
+-- the events of a run, and the operations that ended in it, are public types
+pub use Rattle.world.specs.declared.run_event.RunEvent.{RunEvent as Event}
+pub use Rattle.world.specs.declared.run_event.RunEvent.TheVariants.{Submit, Deliver, Collect}
+pub use Rattle.world.specs.declared.completed.Completed.{Completed}
 
 -- an operation that its session accepted, with its number there, the session's home and its clock, and what a write then
 -- depends on
@@ -33,14 +26,6 @@ pub record Submission : Type 0 where
   pub time : ℕ
   pub op : Op
   pub dependencies : List WriterValue
-
--- an operation that ended, with its session's node and home, its number, and what came of it
-pub record Completed : Type 0 where
-  pub node : ℕ
-  pub number : ℕ
-  pub home : ℕ
-  pub op : Op
-  pub outcome : Outcome
 
 -- ## The state of a run
 
@@ -84,10 +69,14 @@ completed_of submitted node f =
     option_map (λ s. record { node = node; number = f.number; home = s.home; op = s.op; outcome = f.outcome })
     (submission_of submitted (record { session = node; number = f.number }))
 
--- what a session finished in a step, from what it had finished before
-abbrev pub newly_completed : List Submission → ℕ → SessionState → SessionState → List Completed
-newly_completed submitted node before after =
-    filter_map (completed_of submitted node) (drop (length before.outcomes) after.outcomes)
+-- the operation that a session's step ended, if it ended one: what its outcome tells that isn't taken yet
+abbrev pub ended_by : List Submission → ℕ → SessionStep → Option Completed
+ended_by submitted node s = option_and_then (completed_of submitted node) s.state.untaken
+
+-- a transcript with what ended, if anything did
+abbrev pub with_ended : List Completed → Option Completed → List Completed
+with_ended transcript None = transcript
+with_ended transcript (Some c) = transcript ++ c ∷ []
 
 -- ## The step of an event
 
@@ -101,27 +90,38 @@ after_shard (Ok s) w x node =
       sent = w.sent ++ s.sends;
     }
 
--- a session's step, in the same way; what it finishes is added to the transcript
-abbrev pub after_session : Result SessionStep Fault → Run → Event → ℕ → Run
-after_session (Err e) w x node = w
-after_session (Ok s) w x node =
+-- A session's step, in the same way, where these operations are accepted by then: its outcome is taken, and what it ended
+-- is added to the transcript.
+abbrev pub with_session : Run → Event → ℕ → List Submission → SessionStep → Run
+with_session w x node submitted s =
     record w {
       events = w.events ++ x ∷ [];
-      sessions = with_actor w.sessions node s.state;
+      sessions = with_actor w.sessions node (session_taken s.state);
       sent = w.sent ++ s.sends;
-      transcript = w.transcript ++ newly_completed w.submitted node (w.sessions node) s.state;
+      submitted = submitted;
+      transcript = with_ended w.transcript (ended_by submitted node s);
+    }
+
+abbrev pub after_session : Result SessionStep Fault → Run → Event → ℕ → Run
+after_session (Err e) w x node = w
+after_session (Ok s) w x node = with_session w x node w.submitted s
+
+-- the operation that a session accepted in this step
+abbrev pub submission_by : Run → ℕ → Op → SessionStep → Submission
+submission_by w node op s =
+    record {
+      session = node;
+      number = s.state.count;
+      home = (w.sessions node).home;
+      time = s.state.clock;
+      op = op;
+      dependencies = (w.sessions node).dependencies;
     }
 
 -- a session's step at a submission: the operation is added to those that were accepted
 abbrev pub after_submission : Result SessionStep Fault → Run → ℕ → Op → Run
 after_submission (Err e) w node op = w
-after_submission (Ok s) w node op =
-    record w {
-      events = w.events ++ Submit node op ∷ [];
-      sessions = with_actor w.sessions node s.state;
-      sent = w.sent ++ s.sends;
-      submitted = w.submitted ++ record { session = node; number = s.state.count; home = (w.sessions node).home; time = s.state.clock; op = op; dependencies = (w.sessions node).dependencies } ∷ [];
-    }
+after_submission (Ok s) w node op = with_session w (Submit node op) node (w.submitted ++ submission_by w node op s ∷ []) s
 
 -- a submission, by whether the node is a session
 abbrev pub submit_if : Bool → TopologyValue → Run → ℕ → Op → Run

@@ -1,6 +1,6 @@
 -- Worked runs, each with what comes of it. Keys, names and values are single letters and digits. Of two shards
 -- the keys b and d lie on shard 0, the key a on shard 1.
-use Rattle.std.specs.Prelude.{ℕ, ◌+◌, false, List, [], ◌∷◌, ◌++◌, map, flat_map, slice_get, Option, Some, None}
+use Rattle.std.specs.Prelude.{ℕ, ◌+◌, false, List, [], ◌∷◌, ◌++◌, ◌==◌, map, filter, flat_map, slice_get, Option, Some, None}
 use Rattle.std.specs.List.{range_with_len}
 use Rattle.logical_time.specs.Stamps.{TxnValue}
 use Rattle.column_family.specs.declared.batch.Change.{Change}
@@ -94,7 +94,7 @@ operation session number = record { session = session; number = number }
 
 -- what came of a session's operations, oldest first
 abbrev pub outcomes_of : Run → ℕ → List Outcome
-outcomes_of w session = map (λ f. f.outcome) (w.sessions session).outcomes
+outcomes_of w session = map (λ c. c.outcome) (filter (λ c. c.node == session) w.transcript)
 
 -- the clocks of all shards, by node
 abbrev pub shard_clocks : TopologyValue → Run → List ℕ

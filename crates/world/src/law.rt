@@ -1,10 +1,11 @@
 //! Laws of runs, and worked runs as laws of the protocol's definitions.
-ghost use Rattle.std.specs.Prelude.{◌≡◌, List, [], ◌∷◌, Some};
+ghost use Rattle.std.specs.Prelude.{◌≡◌, ◌↔◌, List, [], ◌∷◌, ◌++◌, Some, None};
 ghost use Rattle.messages.specs.declared.outcome.Outcome.TheVariants as outcome;
 ghost use Rattle.store.specs.declared.part.Applied.{Applied};
 ghost use Rattle.messages.specs.declared.envelope.Envelope.{Envelope};
 ghost use Rattle.messages.specs.Topology.{TopologyValue};
-ghost use Rattle.world.specs.Run.{Event, run};
+ghost use Rattle.world.specs.Run.{Run, Event, step, run};
+ghost use Rattle.world.specs.Refusals.{Refusal, refusal_of, HaveReasons, IsRun};
 ghost use Rattle.world.specs.Histories.{history_of};
 ghost use Rattle.world.specs.Fresh.{IsKept, WasApplied};
 ghost use Rattle.world.specs.Quiet.{IsQuiet};
@@ -19,6 +20,20 @@ ghost use Rattle.world.specs.WorkedTimes.{two_shards_of_three, both_wait, one_is
 #[tactic(auto, using(crate::proofs::Replayed::runs_replayed))]
 pub fn refused_events_are_left_out()
     ensures { (top : TopologyValue) (events : List Event) → run top (run top events).events ≡ run top events }
+{}
+
+/// An event is refused, for the reason that is told, exactly where a run doesn't add it; then the run stays as it was. Actors
+/// refuse submissions for an open operation and for what the planner refuses, and any event for a spent clock. The lists of
+/// events none of which is refused are those that a run keeps whole; what any run keeps is one, and one goes on by each event
+/// that isn't refused. Does nothing; its contract is the law.
+#[tactic(auto, using(crate::proofs::Refusals::none_if_added, crate::proofs::Refusals::refused_stays, crate::proofs::Refusals::have_reasons, crate::proofs::Refusals::is_run_if_kept, crate::proofs::Refusals::kept_events_are_run, crate::proofs::Refusals::run_goes_on))]
+pub fn refusals_are_told()
+    ensures added { (top : TopologyValue) (w : Run) (x : Event) → (refusal_of top w x ≡ None) ↔ ((step top w x).events ≡ w.events ++ x ∷ []) }
+    ensures refused { (top : TopologyValue) (w : Run) (x : Event) (r : Refusal) → refusal_of top w x ≡ Some r → step top w x ≡ w }
+    ensures reasons { (top : TopologyValue) (w : Run) → HaveReasons top w }
+    ensures kept_whole { (top : TopologyValue) (events : List Event) → IsRun top events ↔ ((run top events).events ≡ events) }
+    ensures kept { (top : TopologyValue) (events : List Event) → IsRun top (run top events).events }
+    ensures goes_on { (top : TopologyValue) (events : List Event) (x : Event) → IsRun top events → refusal_of top (run top events) x ≡ None → IsRun top (events ++ x ∷ []) }
 {}
 
 /// A column is inserted and read back; messages that come again change nothing; a batch is committed on both of its shards.

@@ -4,19 +4,28 @@
 //! No program runs them yet. The worked runs are laws too: each computes to the outcomes, clocks and times that are stated.
 #![tactic(auto)]
 
+mod completed;
+mod journals;
 mod law;
 mod promises;
+mod run_event;
 
+pub use completed::Completed;
+pub use journals::{
+    actors_are_their_journals, journals_tell_what_happened, journals_that_fit_are_a_run,
+    steps_keep_time, threads_keep_the_promises,
+};
 pub use law::{
-    refused_events_are_left_out, worked_collections, worked_dependencies, worked_freshness,
-    worked_inserts_that_meet, worked_pasts, worked_reads, worked_replication, worked_times,
-    worked_writes,
+    refusals_are_told, refused_events_are_left_out, worked_collections, worked_dependencies,
+    worked_freshness, worked_inserts_that_meet, worked_pasts, worked_reads, worked_replication,
+    worked_times, worked_writes,
 };
 pub use promises::{
     completed_writes_are_in_the_history, each_shard_of_a_run_is_right,
     handled_envelopes_are_honest, histories_only_grow, histories_tell_what_is_decided,
     later_commits_are_above_reads, quiet_means_done, reads_are_fresh,
     reads_are_given_up_below_horizons, reads_show_one_table, reads_show_their_past,
-    runs_can_be_looked_up, stamps_agree_everywhere, stamps_follow_causal_order,
+    runs_can_be_looked_up, runs_only_grow, stamps_agree_everywhere, stamps_follow_causal_order,
     times_of_a_session_never_fall, transcript_tells_what_ended,
 };
+pub use run_event::RunEvent;

@@ -14,13 +14,14 @@ ghost use Rattle.world.specs.Causes.{PastsAreDecided};
 ghost use Rattle.world.specs.Collected.{CollectedIsBelowHorizon, HorizonsAreOfCollections};
 ghost use Rattle.world.specs.Each.{EachShardIsRight};
 ghost use Rattle.world.specs.Entries.{TellsDecided, AreNamedOnce, CoordinatorsDecide, StampsAgree, WritesAreTold};
-ghost use Rattle.world.specs.Promises.{EntriesAreOfSubmissions, LaterCommitsAreAbove, OutcomesAreListed, ReadsShowOneTable, ReadsShowTheirPast, ReadsAreFresh, StampsFollowCauses, TimesNeverFall, OperationsEndOnce, HistoriesGrow, HandledIsHonest};
+ghost use Rattle.world.specs.Promises.{EntriesAreOfSubmissions, LaterCommitsAreAbove, OutcomesAreListed, RunsGrow, ReadsShowOneTable, AnswersStay, ReadsShowTheirPast, ReadsAreFresh, StampsFollowCauses, TimesNeverFall, OperationsEndOnce, HistoriesGrow, HandledIsHonest};
 
 /// In every run each completed read is answered with the meaning of its request on one table: the history of its home at
-/// its effective time, as far as the run has come and however the history is ordered. Does nothing; its contract is the
-/// law.
+/// its effective time, as far as the run has come and however the history is ordered; and so it is at any later moment, of
+/// the history as it is then. Does nothing; its contract is the law.
 pub fn reads_show_one_table()
-    ensures { (top : TopologyValue) (events : List Event) → 0 < top.shards → ReadsShowOneTable top (run top events) }
+    ensures now { (top : TopologyValue) (events : List Event) → 0 < top.shards → ReadsShowOneTable top (run top events) }
+    ensures later { (top : TopologyValue) (before after : List Event) → 0 < top.shards → AnswersStay top before after }
 {}
 
 /// In every run each write before a completed read, by sessions and by reads, is committed in the read's home, with a
@@ -62,6 +63,12 @@ pub fn histories_only_grow()
     ensures { (top : TopologyValue) (before after : List Event) → 0 < top.shards → HistoriesGrow top before after }
 {}
 
+/// Runs only grow: what was sent, submitted and completed stays, in order, whatever events follow. Does nothing; its
+/// contract is the law.
+pub fn runs_only_grow()
+    ensures { (top : TopologyValue) (before after : List Event) → RunsGrow top before after }
+{}
+
 /// What is committed in the home of a completed read after it was answered, and touches a row that it asked for, has a commit
 /// time above its effective time: so the table that it showed stays as it was. Does nothing; its contract is the law.
 pub fn later_commits_are_above_reads()
@@ -93,11 +100,11 @@ pub fn completed_writes_are_in_the_history()
 {}
 
 /// In every run each entry of the transcript is of an operation that its session submitted, with an outcome that fits it:
-/// a write is committed, a read is answered or given up; and whatever a session finished stands there. Does nothing; its
-/// contract is the law.
+/// a write is committed, a read is answered or given up; and the entries of a session are exactly what it finished, in that
+/// order. Does nothing; its contract is the law.
 pub fn transcript_tells_what_ended()
     ensures entries { (top : TopologyValue) (events : List Event) → 0 < top.shards → EntriesAreOfSubmissions (run top events) }
-    ensures outcomes { (top : TopologyValue) (events : List Event) → 0 < top.shards → OutcomesAreListed (run top events) }
+    ensures outcomes { (top : TopologyValue) (events : List Event) → 0 < top.shards → OutcomesAreListed top (run top events) }
 {}
 
 /// In every run the commit and effective times of a session never fall, and each of its operations ends once. Does nothing;

@@ -1,0 +1,5 @@
+use Rattle.world.proofs.Grown.{runs_only_grow}
+use Rattle.world.proofs.promises.runs_only_grow.Goals as goal
+
+pub returns : goal.returns
+returns c = runs_only_grow
