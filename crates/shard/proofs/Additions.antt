@@ -1,5 +1,5 @@
 -- What a shard knows goes on holding when a part is prepared or applied, and a ballot begun or decided.
-use Rattle.std.proofs.Common.{◌≡◌, ◌∙◌, sym, ap, subst, refl, ℕ, ◌≤◌, ◌⊎◌, inl, inr, true, false, List, [], ◌∷◌, ◌++◌, arith}
+use Rattle.std.proofs.Common.{◌≡◌, ◌∙◌, sym, ap, subst, refl, ℕ, ◌≤◌, ◌⊎◌, inl, inr, true, false, [], ◌∷◌, ◌++◌, arith}
 use Rattle.std.specs.Prelude.{Contains}
 use Rattle.std.specs.Ordering.{is_eq}
 use Rattle.std.proofs.lemmas.List.Elements.{Contains-append_left, Contains-push_cases}
@@ -8,7 +8,6 @@ use Rattle.column_family.specs.Normal.{IsNormal}
 use Rattle.store.specs.declared.part.Applied.{Applied}
 use Rattle.store.specs.Keeps.{IsNewStamp}
 use Rattle.store.proofs.Apart.{apart_more}
-use Rattle.messages.specs.declared.envelope.Envelope.{Envelope}
 use Rattle.messages.specs.Topology.{TopologyValue}
 use Rattle.messages.specs.Words.{is_same_txn}
 use Rattle.messages.specs.Shard.{ShardState, Own, PreparedPart, BegunBallot, Decision, KeptBallot}
@@ -16,16 +15,16 @@ use Rattle.messages.specs.Known.{is_applied}
 use Rattle.messages.specs.Replication.{is_ready}
 use Rattle.messages.specs.Honest.{IsHonest, StampedTxn, stamps_met}
 use Rattle.shard.specs.Right.{IsAppliedAsDecided}
-use Rattle.shard.specs.Sound.{IsDecided, IsCohorts, IsLed, IsFollowed, Holds, Onward}
+use Rattle.shard.specs.Sound.{Seen, IsDecided, IsCohorts, IsLed, IsFollowed, Holds, Onward}
 use Rattle.shard.proofs.Lists.{any_has, any_none, same_if_equal, same_stamp, no_truth}
 use Rattle.shard.proofs.Grow.{grows_beside, with_prepared, grows_prepared, with_applied, IsLate, grows_applied, wait_grows}
 
 -- ## A part is prepared
 
-pub prepare_one : {top : TopologyValue} {me : ℕ} {last : ShardState} {es : List Envelope} (a : ShardState) (p : PreparedPart) → a.clock ≤ p.time → IsNormal p.rows
+pub prepare_one : {top : TopologyValue} {me : ℕ} {last : ShardState} {es : Seen} (a : ShardState) (p : PreparedPart) → a.clock ≤ p.time → IsNormal p.rows
     → (p.role ≡ Own) ⊎ (IsLed a p.txn → ⊥) → Holds top me last es a → Onward top me last es a (with_prepared a p)
 prepare_one {es = es} a p late normal side h =
-    let g = grows_prepared {es = es} a p late in
+    let g = grows_prepared {es = es.envelopes} a p late in
     record {
       grows = g;
       holds = record {
@@ -68,7 +67,7 @@ with_ballot a b = record a { ballots = a.ballots ++ b ∷ [] }
 abbrev pub AreReady : TopologyValue → ℕ → ShardState → TxnValue → Type 0
 AreReady top me a t = (r : KeptBallot) → Contains a.kept_ballots r → r.txn ≡ t → is_ready top me a r ≡ true
 
-pub begin_one : {top : TopologyValue} {me : ℕ} {last : ShardState} {es : List Envelope} (a : ShardState) (b : BegunBallot) → IsNormal b.rows
+pub begin_one : {top : TopologyValue} {me : ℕ} {last : ShardState} {es : Seen} (a : ShardState) (b : BegunBallot) → IsNormal b.rows
     → (IsFollowed a b.txn → ⊥) → AreReady top me a b.txn → Holds top me last es a → Onward top me last es a (with_ballot a b)
 begin_one a b normal unfollowed ready h =
     let g = grows_beside a (with_ballot a b) (omega arith) (omega arith) refl refl in
@@ -108,7 +107,7 @@ begin_one a b normal unfollowed ready h =
 abbrev pub with_decision : ShardState → Decision → ShardState
 with_decision a d = record a { decided = a.decided ++ d ∷ [] }
 
-pub decide_one : {top : TopologyValue} {me : ℕ} {last : ShardState} {es : List Envelope} (a : ShardState) (d : Decision) → (IsFollowed a d.txn → ⊥)
+pub decide_one : {top : TopologyValue} {me : ℕ} {last : ShardState} {es : Seen} (a : ShardState) (d : Decision) → (IsFollowed a d.txn → ⊥)
     → AreReady top me a d.txn → Holds top me last es a → Onward top me last es a (with_decision a d)
 decide_one a d unfollowed ready h =
     let g = grows_beside a (with_decision a d) (omega arith) (omega arith) refl refl in
@@ -152,8 +151,8 @@ abbrev pub stamped_txn : Applied → StampedTxn
 stamped_txn x = record { txn = x.part.writer.txn; stamp = x.stamp }
 
 -- a transaction that isn't applied has a stamp that no part has
-new_stamp : {top : TopologyValue} {me : ℕ} {last : ShardState} {es : List Envelope} (a : ShardState) (x : Applied) → IsHonest last es → Holds top me last es a
-    → Contains (stamps_met last es) (stamped_txn x) → is_applied x.part.writer.txn a ≡ false → IsNewStamp x.stamp a.applied
+new_stamp : {top : TopologyValue} {me : ℕ} {last : ShardState} {es : Seen} (a : ShardState) (x : Applied) → IsHonest last es.envelopes → Holds top me last es a
+    → Contains (stamps_met last es.envelopes) (stamped_txn x) → is_applied x.part.writer.txn a ≡ false → IsNewStamp x.stamp a.applied
 new_stamp a x honest h met new =
     any_none (λ (y : Applied). is_eq (stamp_cmp x.stamp y.stamp)) a.applied
     (λ y has same.
@@ -163,11 +162,11 @@ new_stamp a x honest h met new =
     (any_has (λ (z : Applied). is_same_txn z.part.writer.txn x.part.writer.txn) a.applied y has (same_if_equal y.part.writer.txn x.part.writer.txn txn))
     new)
 
-pub apply_one : {top : TopologyValue} {me : ℕ} {last : ShardState} {es : List Envelope} (a : ShardState) (x : Applied) → IsHonest last es → IsNormal x.part.batch
-    → Contains (stamps_met last es) (stamped_txn x) → IsDecided a x.part.writer.txn ⊎ IsCohorts a x.part.writer.txn
-    → IsAppliedAsDecided last es x → is_applied x.part.writer.txn a ≡ false → IsLate es a x → Holds top me last es a → Onward top me last es a (with_applied a x)
+pub apply_one : {top : TopologyValue} {me : ℕ} {last : ShardState} {es : Seen} (a : ShardState) (x : Applied) → IsHonest last es.envelopes → IsNormal x.part.batch
+    → Contains (stamps_met last es.envelopes) (stamped_txn x) → IsDecided a x.part.writer.txn ⊎ IsCohorts a x.part.writer.txn
+    → IsAppliedAsDecided last es.envelopes x → is_applied x.part.writer.txn a ≡ false → IsLate es.envelopes a x → Holds top me last es a → Onward top me last es a (with_applied a x)
 apply_one {last = last} {es = es} a x honest normal met origin source new late h =
-    let g = grows_applied {es = es} a x new late in
+    let g = grows_applied {es = es.envelopes} a x new late in
     record {
       grows = g;
       holds = record {
@@ -185,11 +184,11 @@ apply_one {last = last} {es = es} a x honest normal met origin source new late h
         stamped_apart = apart_more a.applied x normal (new_stamp a x honest h met new) h.stamped_apart;
         met = λ y has. elim (Contains-push_cases a.applied x y has) [
           | inl old ↦ h.met y old
-          | inr own ↦ subst (λ (z : Applied). Contains (stamps_met last es) (stamped_txn z)) own met
+          | inr own ↦ subst (λ (z : Applied). Contains (stamps_met last es.envelopes) (stamped_txn z)) own met
         ];
         decided_so = λ y has. elim (Contains-push_cases a.applied x y has) [
           | inl old ↦ h.decided_so y old
-          | inr own ↦ subst (λ (z : Applied). IsAppliedAsDecided last es z) own source
+          | inr own ↦ subst (λ (z : Applied). IsAppliedAsDecided last es.envelopes z) own source
         ];
         waiting = λ y has. wait_grows g (h.waiting y has);
       };

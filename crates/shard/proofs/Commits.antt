@@ -16,7 +16,7 @@ use Rattle.messages.specs.Shard.{ShardState, Role, Own, Cohort, PreparedPart, Be
 use Rattle.messages.specs.Known.{decision_of, prepared_part, kept_part, kept_ballot, is_known, is_applied, all_voted}
 use Rattle.messages.specs.Commits.{applied_part, commits, stamp_for, announcements, dep_oks, decide, hold, begin_if, prepare_part, prepare_if, on_begin, on_prepare}
 use Rattle.messages.specs.Honest.{Told, all_told, IsHonest, StampedTxn}
-use Rattle.shard.specs.Sound.{IsDecided, IsCohorts, IsLed, IsFollowed, BodySound, Holds, Able, IsWithin}
+use Rattle.shard.specs.Sound.{Seen, IsDecided, IsCohorts, IsLed, IsFollowed, BodySound, Holds, Able, IsWithin}
 use Rattle.shard.proofs.Lists.{no_truth, same_txn, same_if_equal, any_has, any_none, found_some, each_joined, each_mapped}
 use Rattle.shard.proofs.Grow.{with_prepared, with_applied}
 use Rattle.shard.proofs.Updates.{aside}
@@ -54,7 +54,7 @@ undecided_none t a none (d, has, is) =
     no_truth _ (found_some (λ (z : Decision). is_same_txn z.txn t) a.decided d has (same_if_equal d.txn t is)) none
 
 -- what is neither decided nor a cohort's isn't applied
-not_applied : {top : TopologyValue} {me : ℕ} {last : ShardState} {es : List Envelope} (a : ShardState) (t : TxnValue) → (IsDecided a t → ⊥) → (IsFollowed a t → ⊥)
+not_applied : {top : TopologyValue} {me : ℕ} {last : ShardState} {es : Seen} (a : ShardState) (t : TxnValue) → (IsDecided a t → ⊥) → (IsFollowed a t → ⊥)
     → Holds top me last es a → is_applied t a ≡ false
 not_applied a t undecided unfollowed h =
     any_none (λ (x : Applied). is_same_txn x.part.writer.txn t) a.applied
@@ -67,14 +67,14 @@ not_applied a t undecided unfollowed h =
 
 -- ## A decision
 
-commits_plain : (es : List Envelope) (top : TopologyValue) (me n : ℕ) (t : TxnValue) (stamp : StampValue) (cohorts : List ℕ) → ArePlain es (commits top me n t stamp cohorts)
+commits_plain : (es : Seen) (top : TopologyValue) (me n : ℕ) (t : TxnValue) (stamp : StampValue) (cohorts : List ℕ) → ArePlain es (commits top me n t stamp cohorts)
 commits_plain es top me n t stamp cohorts b = each_mapped (λ (e : Envelope). BodySound es b e.to e.body) _ cohorts (λ s has. tt)
 
-announcements_plain : (es : List Envelope) (top : TopologyValue) (me n : ℕ) (b : BegunBallot) (o : Option StampValue) → ArePlain es (announcements top me n b o)
+announcements_plain : (es : Seen) (top : TopologyValue) (me n : ℕ) (b : BegunBallot) (o : Option StampValue) → ArePlain es (announcements top me n b o)
 announcements_plain es top me n b None c = (tt, each_mapped (λ (e : Envelope). BodySound es c e.to e.body) _ (other_dcs top me) (λ d has. tt))
 announcements_plain es top me n b (Some stamp) c = tt
 
-dep_oks_plain : (es : List Envelope) (me n : ℕ) (t : TxnValue) (askers : List Asker) → ArePlain es (dep_oks me n t askers)
+dep_oks_plain : (es : Seen) (me n : ℕ) (t : TxnValue) (askers : List Asker) → ArePlain es (dep_oks me n t askers)
 dep_oks_plain es me n t askers b =
     each_mapped (λ (e : Envelope). BodySound es b e.to e.body) _ (filter (λ k. is_same_txn k.dependency t) askers) (λ k has. tt)
 
@@ -83,7 +83,7 @@ is_applied_now a x =
     any_has (λ (y : Applied). is_same_txn y.part.writer.txn x.part.writer.txn) (a.applied ++ x ∷ []) x (Contains-push a.applied x)
     (same_if_equal x.part.writer.txn x.part.writer.txn refl)
 
-pub decide_able : {top : TopologyValue} {me : ℕ} {last : ShardState} {es : List Envelope} (a : ShardState) (n : ℕ) (b : BegunBallot) → IsHonest last es
+pub decide_able : {top : TopologyValue} {me : ℕ} {last : ShardState} {es : Seen} (a : ShardState) (n : ℕ) (b : BegunBallot) → IsHonest last es.envelopes
     → a.clock < n → IsNormal b.rows → (IsFollowed a b.txn → ⊥) → (IsDecided a b.txn → ⊥) → AreReady top me a b.txn
     → IsWithin (decide top me n a b).state last → Holds top me last es a → Able top me last es a (decide top me n a b)
 decide_able {top = top} {me = me} {last = last} {es = es} a n b honest lt normal unfollowed undecided ready within h =
@@ -102,14 +102,14 @@ decide_able {top = top} {me = me} {last = last} {es = es} a n b honest lt normal
     able_after (decide_one a d unfollowed ready h)
     (λ h1. able_after
     (apply_one (with_decision a d) x honest normal
-    (Contains-append_right (map (λ (z : Told). let s : StampedTxn = record { txn = z.txn; stamp = z.stamp } in s) (all_told es)) _ (stamped_txn x) own)
+    (Contains-append_right (map (λ (z : Told). let s : StampedTxn = record { txn = z.txn; stamp = z.stamp } in s) (all_told es.envelopes)) _ (stamped_txn x) own)
     (inl (d, Contains-push a.decided d, refl)) (inr (d, within.decided d (Contains-push a.decided d), refl, refl, refl)) new (inl lt) h1)
     (λ h2. let_go_able (with_applied (with_decision a d) x) n b.txn (λ y. true) sends (omega (arith, lt))
     (λ y has is. inl (is_applied_now (with_decision a d) x)) plain h2))
 
 -- ## Ballots and parts that are prepared
 
-pub hold_able : {top : TopologyValue} {me : ℕ} {last : ShardState} {es : List Envelope} (a : ShardState) (n : ℕ) (b : BegunBallot) (counted : List Vote)
+pub hold_able : {top : TopologyValue} {me : ℕ} {last : ShardState} {es : Seen} (a : ShardState) (n : ℕ) (b : BegunBallot) (counted : List Vote)
     (sends : List Envelope) → a.clock < n → IsNormal b.rows → (IsFollowed a b.txn → ⊥) → AreReady top me a b.txn → ArePlain es sends
     → Holds top me last es a → Able top me last es a (hold top me n a b counted sends)
 hold_able {top = top} {me = me} {last = last} {es = es} a n b counted sends lt normal unfollowed ready plain h =
@@ -122,7 +122,7 @@ hold_able {top = top} {me = me} {last = last} {es = es} a n b counted sends lt n
       sends = plain _;
     }))
 
-pub prepare_part_able : {top : TopologyValue} {me : ℕ} {last : ShardState} {es : List Envelope} (a : ShardState) (n : ℕ) (t : TxnValue) (rows : List Change)
+pub prepare_part_able : {top : TopologyValue} {me : ℕ} {last : ShardState} {es : Seen} (a : ShardState) (n : ℕ) (t : TxnValue) (rows : List Change)
     (coordinator : ℕ) (role : Role) → a.clock < n → IsNormal rows → (IsLed a t → ⊥) → Holds top me last es a
     → Able top me last es a (prepare_part top me n a t rows coordinator role)
 prepare_part_able a n t rows coordinator role lt normal unled h =
@@ -135,8 +135,8 @@ prepare_part_able a n t rows coordinator role lt normal unled h =
 
 -- ## Begin, Prepare, Yes
 
-begin_go : {top : TopologyValue} {me : ℕ} {last : ShardState} {es : List Envelope} (known voted : Bool) (a : ShardState) (n : ℕ) (b : BegunBallot) → is_known b.txn a ≡ known
-    → IsHonest last es → a.clock < n → IsNormal b.rows → IsWithin (begin_if known voted top me n a b).state last → Holds top me last es a
+begin_go : {top : TopologyValue} {me : ℕ} {last : ShardState} {es : Seen} (known voted : Bool) (a : ShardState) (n : ℕ) (b : BegunBallot) → is_known b.txn a ≡ known
+    → IsHonest last es.envelopes → a.clock < n → IsNormal b.rows → IsWithin (begin_if known voted top me n a b).state last → Holds top me last es a
     → Able top me last es a (begin_if known voted top me n a b)
 begin_go true voted a n b e honest lt normal within h = quiet_able a n (omega (arith, lt)) h
 begin_go false true a n b e honest lt normal within h =
@@ -146,18 +146,18 @@ begin_go {es = es} false false a n b e honest lt normal within h =
     hold_able a n b (filter (λ v. is_same_txn v.txn b.txn) a.early) [] lt normal (unknown_unfollowed b.txn a e)
     (λ r has is. absurd (unknown_unled b.txn a e (inr (inr (r, has, is))))) (λ c. tt) h
 
-pub begin_able : {top : TopologyValue} {me : ℕ} {last : ShardState} {es : List Envelope} (a : ShardState) (n : ℕ) (b : BegunBallot)
-    → IsHonest last es → a.clock < n → IsNormal b.rows → IsWithin (on_begin top me n a b).state last → Holds top me last es a
+pub begin_able : {top : TopologyValue} {me : ℕ} {last : ShardState} {es : Seen} (a : ShardState) (n : ℕ) (b : BegunBallot)
+    → IsHonest last es.envelopes → a.clock < n → IsNormal b.rows → IsWithin (on_begin top me n a b).state last → Holds top me last es a
     → Able top me last es a (on_begin top me n a b)
 begin_able {top = top} {me = me} a n b honest lt normal within h =
     begin_go (is_known b.txn a) (all_voted top me b.cohorts a.early b.txn) a n b refl honest lt normal within h
 
-prepare_go : {top : TopologyValue} {me : ℕ} {last : ShardState} {es : List Envelope} (known : Bool) (a : ShardState) (n : ℕ) (t : TxnValue) (rows : List Change) (coordinator : ℕ)
+prepare_go : {top : TopologyValue} {me : ℕ} {last : ShardState} {es : Seen} (known : Bool) (a : ShardState) (n : ℕ) (t : TxnValue) (rows : List Change) (coordinator : ℕ)
     → is_known t a ≡ known → a.clock < n → IsNormal rows → Holds top me last es a
     → Able top me last es a (prepare_if known top me n a t rows coordinator)
 prepare_go true a n t rows coordinator e lt normal h = quiet_able a n (omega (arith, lt)) h
 prepare_go false a n t rows coordinator e lt normal h = prepare_part_able a n t rows coordinator Cohort lt normal (unknown_unled t a e) h
 
-pub prepare_able : {top : TopologyValue} {me : ℕ} {last : ShardState} {es : List Envelope} (a : ShardState) (n : ℕ) (t : TxnValue) (rows : List Change) (coordinator : ℕ)
+pub prepare_able : {top : TopologyValue} {me : ℕ} {last : ShardState} {es : Seen} (a : ShardState) (n : ℕ) (t : TxnValue) (rows : List Change) (coordinator : ℕ)
     → a.clock < n → IsNormal rows → Holds top me last es a → Able top me last es a (on_prepare top me n a t rows coordinator)
 prepare_able a n t rows coordinator lt normal h = prepare_go (is_known t a) a n t rows coordinator refl lt normal h

@@ -20,8 +20,8 @@ use Rattle.messages.specs.Shard.{ShardState, PreparedPart, WaitingRead}
 use Rattle.messages.specs.Known.{is_applied}
 use Rattle.messages.specs.Rows.{row_of}
 use Rattle.messages.specs.Honest.{Told, all_told}
-use Rattle.shard.specs.Sound.{has_row, IsSettled, Grows, RowNowSound, RowAtSound, BodySound, AreSound, WaitSound}
-use Rattle.shard.proofs.Lists.{any_more, each_weaker, no_truth}
+use Rattle.shard.specs.Sound.{Seen, has_row, IsSettled, Grows, RowNowSound, RowAtSound, BodySound, WaitSound}
+use Rattle.shard.proofs.Lists.{any_more, no_truth}
 
 -- ## States
 
@@ -141,7 +141,7 @@ grows_applied {es = es} a x new late =
 
 -- ## What is sent, and what waits
 
-now_grows : {es : List Envelope} {a b : ShardState} {read : Read} {r : RowNow} → Grows es a b → RowNowSound es a read r → RowNowSound es b read r
+pub now_grows : {es : List Envelope} {a b : ShardState} {read : Read} {r : RowNow} → Grows es a b → RowNowSound es a read r → RowNowSound es b read r
 now_grows {read = read} {r = r} g s =
     record {
       seen = s.seen;
@@ -150,60 +150,47 @@ now_grows {read = read} {r = r} g s =
       stamped_apart = s.stamped_apart;
     }
 
-at_grows : {es : List Envelope} {a b : ShardState} {read : Read} {time : ℕ} {r : RowAt} → Grows es a b → RowAtSound es a read time r → RowAtSound es b read time r
+pub at_grows : {es : List Envelope} {a b : ShardState} {read : Read} {time : ℕ} {r : RowAt} → Grows es a b → RowAtSound es a read time r → RowAtSound es b read time r
 at_grows {read = read} {time = time} {r = r} g s =
     record { seen = s.seen; right = s.right; complete = g.complete (row_of read r.key) time s.seen s.complete }
 
-pub body_grows : {es : List Envelope} {a b : ShardState} → Grows es a b → (to : ℕ) (m : Body) → BodySound es a to m → BodySound es b to m
-body_grows g to (body.PartNow number rows) s =
+pub body_grows : (es : Seen) {a b : ShardState} → Grows es.envelopes a b → (to : ℕ) (m : Body) → BodySound es a to m → BodySound es b to m
+body_grows es g to (body.PartNow number rows) s =
     record {
-      asked = s.asked;
       read = s.read;
-      handled = s.handled;
-      from = s.from;
-      body = s.body;
+      asked = s.asked;
       keys = s.keys;
       each = λ r has. now_grows g (s.each r has);
     }
-body_grows g to (body.PartAt number time (at_time.Rows rows)) s =
+body_grows es g to (body.PartAt number time (at_time.Rows rows)) s =
     record {
-      asked = s.asked;
       read = s.read;
-      handled = s.handled;
-      from = s.from;
-      body = s.body;
+      asked = s.asked;
       keys = s.keys;
       each = λ r has. at_grows g (s.each r has);
     }
-body_grows g to (body.PartAt number time at_time.Collected) s = (let low = g.low in omega (arith, s, low))
-body_grows g to (body.Begin t rows cohorts dependencies) s = s
-body_grows g to (body.Prepare t rows coordinator) s = s
-body_grows g to (body.Yes t) s = s
-body_grows g to (body.Commit t commit stamp) s = s
-body_grows g to (body.At t commit stamp) s = s
-body_grows g to (body.NotBy t time) s = s
-body_grows g to (body.Check t time) s = s
-body_grows g to (body.Read number read) s = s
-body_grows g to (body.ReadAt number time read) s = s
-body_grows g to (body.ReplBegin t rows stamp cohorts dependencies) s = s
-body_grows g to (body.ReplPart t rows stamp coordinator) s = s
-body_grows g to (body.Notify t) s = s
-body_grows g to (body.PrepareRemote t) s = s
-body_grows g to (body.DepCheck dependency waiter) s = s
-body_grows g to (body.DepOk dependency waiter commit) s = s
-body_grows g to (body.Done t commit stamp) s = s
+body_grows es g to (body.PartAt number time at_time.Collected) s = (let low = g.low in omega (arith, s, low))
+body_grows es g to (body.Begin t rows cohorts dependencies) s = s
+body_grows es g to (body.Prepare t rows coordinator) s = s
+body_grows es g to (body.Yes t) s = s
+body_grows es g to (body.Commit t commit stamp) s = s
+body_grows es g to (body.At t commit stamp) s = s
+body_grows es g to (body.NotBy t time) s = s
+body_grows es g to (body.Check t time) s = s
+body_grows es g to (body.Read number read) s = s
+body_grows es g to (body.ReadAt number time read) s = s
+body_grows es g to (body.ReplBegin t rows stamp cohorts dependencies) s = s
+body_grows es g to (body.ReplPart t rows stamp coordinator) s = s
+body_grows es g to (body.Notify t) s = s
+body_grows es g to (body.PrepareRemote t) s = s
+body_grows es g to (body.DepCheck dependency waiter) s = s
+body_grows es g to (body.DepOk dependency waiter commit) s = s
+body_grows es g to (body.Done t commit stamp) s = s
 
-pub sends_grow : {es : List Envelope} {a b : ShardState} → Grows es a b → (sends : List Envelope) → AreSound es a sends → AreSound es b sends
-sends_grow {es = es} {a = a} {b = b} g sends h =
-    each_weaker (λ e. BodySound es a e.to e.body) (λ e. BodySound es b e.to e.body) (λ e s. body_grows g e.to e.body s) sends h
-
-pub wait_grows : {es : List Envelope} {a b : ShardState} {x : WaitingRead} → Grows es a b → WaitSound es a x → WaitSound es b x
+pub wait_grows : {es : Seen} {a b : ShardState} {x : WaitingRead} → Grows es.envelopes a b → WaitSound es a x → WaitSound es b x
 wait_grows {x = x} g s =
     record {
       asked = s.asked;
-      handled = s.handled;
-      from = s.from;
-      body = s.body;
       clock = (let before = s.clock in let later = g.clock in omega (arith, before, later));
       settled = λ key has. g.settled (row_of x.read key) x.time x.left s.clock (s.settled key has);
     }

@@ -16,21 +16,21 @@ use Rattle.messages.specs.Shard.{ShardState, ShardStep, WaitingRead, quiet}
 use Rattle.messages.specs.Known.{is_applied}
 use Rattle.messages.specs.Rows.{row_of, row_at}
 use Rattle.messages.specs.Reads.{answer, at_time as rows_or_collected, part_at, without, lessened, is_nothing, is_free, let_go}
-use Rattle.shard.specs.Sound.{IsExcluded, IsSettled, RowAtSound, BodySound, AreSound, WaitSound, Holds, Onward, Able}
+use Rattle.shard.specs.Sound.{Seen, IsExcluded, IsSettled, RowAtSound, BodySound, AreSound, WaitSound, Holds, Onward, Able}
 use Rattle.shard.proofs.Lists.{each_joined, each_mapped, same_txn}
 use Rattle.shard.proofs.Shown.{right_shown}
 use Rattle.shard.proofs.Grow.{body_grows}
 use Rattle.shard.proofs.Updates.{onward_then, moved, now_waiting}
 
-pub able_after : {top : TopologyValue} {me : ℕ} {last : ShardState} {es : List Envelope} {a b : ShardState} {step : ShardStep} → Onward top me last es a b
+pub able_after : {top : TopologyValue} {me : ℕ} {last : ShardState} {es : Seen} {a b : ShardState} {step : ShardStep} → Onward top me last es a b
     → (Holds top me last es b → Able top me last es b step) → Able top me last es a step
 able_after u f = let k = f u.holds in record { onward = onward_then u k.onward; sends = k.sends }
 
-pub quiet_able : {top : TopologyValue} {me : ℕ} {last : ShardState} {es : List Envelope} (a : ShardState) (n : ℕ) → a.clock ≤ n → Holds top me last es a
+pub quiet_able : {top : TopologyValue} {me : ℕ} {last : ShardState} {es : Seen} (a : ShardState) (n : ℕ) → a.clock ≤ n → Holds top me last es a
     → Able top me last es a (quiet n a)
 quiet_able a n le h = record { onward = moved a n le h; sends = tt }
 
-pub answer_able : {top : TopologyValue} {me : ℕ} {last : ShardState} {es : List Envelope} (a : ShardState) (n : ℕ) (e : Envelope) → a.clock ≤ n
+pub answer_able : {top : TopologyValue} {me : ℕ} {last : ShardState} {es : Seen} (a : ShardState) (n : ℕ) (e : Envelope) → a.clock ≤ n
     → BodySound es (record a { clock = n }) e.to e.body → Holds top me last es a → Able top me last es a (answer n a e)
 answer_able a n e le sound h = record { onward = moved a n le h; sends = (sound, tt) }
 
@@ -43,8 +43,8 @@ keys_stay time a x (k ∷ keys) = ap (λ ks. k ∷ ks) (keys_stay time a x keys)
 below : (n m : ℕ) → nat_lt n m ≡ true → n < m
 below n m e = grind (arith, nat_tests)
 
-row_at_sound : (es : List Envelope) (a : ShardState) (x : WaitingRead) → WaitSound es a x → x.left ≡ [] → (key : List ℕ) → Contains x.read.keys key
-    → RowAtSound es a x.read x.time (row_at x.time a x.read key)
+row_at_sound : (es : Seen) (a : ShardState) (x : WaitingRead) → WaitSound es a x → x.left ≡ [] → (key : List ℕ) → Contains x.read.keys key
+    → RowAtSound es.envelopes a x.read x.time (row_at x.time a x.read key)
 row_at_sound es a x s free key has =
     record {
       seen = a.applied;
@@ -54,12 +54,12 @@ row_at_sound es a x s free key has =
         split = sym (append-nil a.applied);
         above = λ y none touches. absurd (none_in_empty y none);
         clock = s.clock;
-        settled = subst (λ left. IsSettled es a (row_of x.read key) x.time left) free (s.settled key has);
+        settled = subst (λ left. IsSettled es.envelopes a (row_of x.read key) x.time left) free (s.settled key has);
       };
     }
 
 -- a read that waits for nothing is answered soundly
-pub free_answer : (es : List Envelope) (a : ShardState) (x : WaitingRead) → WaitSound es a x → x.left ≡ []
+pub free_answer : (es : Seen) (a : ShardState) (x : WaitingRead) → WaitSound es a x → x.left ≡ []
     → BodySound es a x.session (body.PartAt x.number x.time (rows_or_collected a x.time x.read))
 free_answer es a x s free = go (nat_lt x.time a.low) refl
   where
@@ -67,15 +67,12 @@ free_answer es a x s free = go (nat_lt x.time a.low) refl
         → BodySound es a x.session (body.PartAt x.number x.time (if b then at_time.Collected else at_time.Rows (map (row_at x.time a x.read) x.read.keys)))
     go true e = below x.time a.low e
     go false e = record {
-      asked = s.asked;
       read = x.read;
-      handled = s.handled;
-      from = s.from;
-      body = s.body;
+      asked = s.asked;
       keys = keys_stay x.time a x x.read.keys;
       each = λ r has. (
           let at = map_contains (row_at x.time a x.read) x.read.keys r has in
-          subst (RowAtSound es a x.read x.time) at.2 (row_at_sound es a x s free at.0 at.1));
+          subst (RowAtSound es.envelopes a x.read x.time) at.2 (row_at_sound es a x s free at.0 at.1));
     }
 
 -- ## Waiting reads are let go
@@ -104,9 +101,9 @@ still_settled es a t r time left cleared s p has touches =
           | inr excluded ↦ inr (inr (inl (subst (λ u. IsExcluded es u time) (sym same) excluded)))
         ]
 
-lessened_sound : (es : List Envelope) (a : ShardState) (t : TxnValue) (p : WaitingRead → Bool) (ws : List WaitingRead)
+lessened_sound : (es : Seen) (a : ShardState) (t : TxnValue) (p : WaitingRead → Bool) (ws : List WaitingRead)
     → ((x : WaitingRead) → Contains ws x → WaitSound es a x)
-    → ((x : WaitingRead) → Contains ws x → p x ≡ true → IsCleared es a t x.time)
+    → ((x : WaitingRead) → Contains ws x → p x ≡ true → IsCleared es.envelopes a t x.time)
     → (x : WaitingRead) → Contains (lessened t p ws) x → WaitSound es a x
 lessened_sound es a t p ws sound cleared x has =
     let at = map_contains (λ (y : WaitingRead). if p y then record y { left = without t y.left } else y) ws x has in
@@ -118,11 +115,8 @@ lessened_sound es a t p ws sound cleared x has =
         let s = sound y in_it in
         record {
           asked = s.asked;
-          handled = s.handled;
-          from = s.from;
-          body = s.body;
           clock = s.clock;
-          settled = λ key asked. still_settled es a t (row_of y.read key) y.time y.left (cleared y in_it e) (s.settled key asked);
+          settled = λ key asked. still_settled es.envelopes a t (row_of y.read key) y.time y.left (cleared y in_it e) (s.settled key asked);
         }
 
 nothing_left : (ts : List TxnValue) → is_nothing ts ≡ true → ts ≡ []
@@ -130,11 +124,11 @@ nothing_left [] e = refl
 nothing_left (t ∷ ts) e = absurd (cc)
 
 -- these are of other kinds than answers: sound for every state
-abbrev pub ArePlain : List Envelope → List Envelope → Type 0
+abbrev pub ArePlain : Seen → List Envelope → Type 0
 ArePlain es sends = (b : ShardState) → AreSound es b sends
 
-pub let_go_able : {top : TopologyValue} {me : ℕ} {last : ShardState} {es : List Envelope} (a : ShardState) (n : ℕ) (t : TxnValue) (p : WaitingRead → Bool)
-    (sends : List Envelope) → a.clock ≤ n → ((x : WaitingRead) → Contains a.waiting x → p x ≡ true → IsCleared es a t x.time) → ArePlain es sends
+pub let_go_able : {top : TopologyValue} {me : ℕ} {last : ShardState} {es : Seen} (a : ShardState) (n : ℕ) (t : TxnValue) (p : WaitingRead → Bool)
+    (sends : List Envelope) → a.clock ≤ n → ((x : WaitingRead) → Contains a.waiting x → p x ≡ true → IsCleared es.envelopes a t x.time) → ArePlain es sends
     → Holds top me last es a → Able top me last es a (let_go me n a t p sends)
 let_go_able {me = me} {es = es} a n t p sends le cleared plain h =
     let all = lessened t p a.waiting in
@@ -149,6 +143,6 @@ let_go_able {me = me} {es = es} a n t p sends le cleared plain h =
           (each_mapped (λ (e : Envelope). BodySound es b e.to e.body) (part_at me n a) (filter is_free all)
           (λ x has.
           let k = kept_only is_free all x has in
-          body_grows u.grows x.session (body.PartAt x.number x.time (rows_or_collected a x.time x.read))
+          body_grows es u.grows x.session (body.PartAt x.number x.time (rows_or_collected a x.time x.read))
           (free_answer es a x (sound x k.0) (nothing_left x.left k.1))));
     }

@@ -1,7 +1,9 @@
 pub mod Additions
+pub mod Asked
 pub mod Closed
 pub mod Commits
 pub mod Grow
+pub mod Handles
 pub mod LetGo
 pub mod Lists
 pub mod OneShard

@@ -20,7 +20,7 @@ use Rattle.messages.specs.Rows.{row_of, touches_row, marks_on, least_mark, row_n
 use Rattle.messages.specs.Reads.{part_at, marks_below, asked_below, check_of, is_waiting, waiting_read, read_at_of, read_at_if, on_read, on_read_at}
 use Rattle.messages.proofs.Greatest.{mark_below_clock, mark_below_each}
 use Rattle.messages.proofs.WritersInOrder.{writers_stay}
-use Rattle.shard.specs.Sound.{IsExcluded, RowNowSound, BodySound, WaitSound, Holds, Able}
+use Rattle.shard.specs.Sound.{Seen, IsExcluded, RowNowSound, BodySound, WaitSound, Holds, Able}
 use Rattle.shard.proofs.Lists.{any_has, both_hold, each_mapped}
 use Rattle.shard.proofs.Shown.{newest_shown}
 use Rattle.shard.proofs.Updates.{moved, now_waiting}
@@ -32,8 +32,8 @@ keys_stay : (n : ℕ) (a : ShardState) (read : Read) (keys : List (List ℕ)) �
 keys_stay n a read [] = refl
 keys_stay n a read (k ∷ keys) = ap (λ ks. k ∷ ks) (keys_stay n a read keys)
 
-row_sound : {top : TopologyValue} {me : ℕ} {last : ShardState} {es : List Envelope} (a : ShardState) (n : ℕ) (read : Read) (key : List ℕ) → Holds top me last es a
-    → RowNowSound es (record a { clock = n }) read (row_now n a read key)
+pub row_sound : {top : TopologyValue} {me : ℕ} {last : ShardState} {es : Seen} (a : ShardState) (n : ℕ) (read : Read) (key : List ℕ) → Holds top me last es a
+    → RowNowSound es.envelopes (record a { clock = n }) read (row_now n a read key)
 row_sound {es = es} a n read key h =
     record {
       seen = a.applied;
@@ -49,27 +49,24 @@ row_sound {es = es} a n read key h =
     }
   where
     marked : (p : PreparedPart) → Contains a.prepared p → touches_row (row_of read key) p ≡ true → (b : Bool) → is_applied p.txn a ≡ b
-        → (is_applied p.txn a ≡ true) ⊎ (least_mark n (marks_on (row_of read key) a) ≤ p.time) ⊎ IsExcluded es p.txn (least_mark n (marks_on (row_of read key) a)) ⊎ Contains [] p.txn
+        → (is_applied p.txn a ≡ true) ⊎ (least_mark n (marks_on (row_of read key) a) ≤ p.time) ⊎ IsExcluded es.envelopes p.txn (least_mark n (marks_on (row_of read key) a)) ⊎ Contains [] p.txn
     marked p has touches true e = inl e
     marked p has touches false e =
         inr (inl (mark_below_each n (marks_on (row_of read key) a) p
         (kept (λ q. touches_row (row_of read key) q && not (is_applied q.txn a)) a.prepared p has
         (both_hold (touches_row (row_of read key) p) (not (is_applied p.txn a)) touches (ap not e)))))
 
-pub read_able : {top : TopologyValue} {me : ℕ} {last : ShardState} {es : List Envelope} (a : ShardState) (n number : ℕ) (read : Read) (e : Envelope)
-    → a.clock < n → Contains es e → e.body ≡ body.Read number read → Holds top me last es a → Able top me last es a (on_read me n a e.from number read)
-read_able {me = me} {es = es} a n number read e lt has is h =
+pub read_able : {top : TopologyValue} {me : ℕ} {last : ShardState} {es : Seen} (a : ShardState) (n number : ℕ) (read : Read) (e : Envelope)
+    → a.clock < n → es.asks_now e.from number read → Holds top me last es a → Able top me last es a (on_read me n a e.from number read)
+read_able {me = me} {es = es} a n number read e lt asked h =
     answer_able a n (envelope me e.from n (body.PartNow number (map (row_now n a read) read.keys))) (omega (arith, lt))
     (record {
-      asked = e;
       read = read;
-      handled = has;
-      from = refl;
-      body = is;
+      asked = asked;
       keys = keys_stay n a read read.keys;
       each = λ r in_it. (
           let at = map_contains (row_now n a read) read.keys r in_it in
-          subst (RowNowSound es (record a { clock = n }) read) at.2 (row_sound a n read at.0 h));
+          subst (RowNowSound es.envelopes (record a { clock = n }) read) at.2 (row_sound a n read at.0 h));
     })
     h
 
@@ -79,14 +76,11 @@ not_below : (n m : ℕ) → nat_lt n m ≡ false → m ≤ n
 not_below n m e = grind (arith, nat_tests)
 
 -- a read at a time waits for all marks below it in its rows
-wait_made : (es : List Envelope) (a : ShardState) (n number time : ℕ) (read : Read) (e : Envelope) → Contains es e → e.body ≡ body.ReadAt number time read → time ≤ n
+wait_made : (es : Seen) (a : ShardState) (n number time : ℕ) (read : Read) (e : Envelope) → es.asks_at e.from number time read → time ≤ n
     → (ws : List WriterValue) → asked_below a time read ≡ ws → WaitSound es (record a { clock = n }) (waiting_read e.from number time read ws)
-wait_made es a n number time read e has is le ws same =
+wait_made es a n number time read e wanted le ws same =
     record {
-      asked = e;
-      handled = has;
-      from = refl;
-      body = is;
+      asked = wanted;
       clock = le;
       settled = λ key asked p prepared touches. by_applied key asked p prepared touches (is_applied p.txn a) refl;
     }
@@ -95,7 +89,7 @@ wait_made es a n number time read e has is le ws same =
     asks p = record { txn = p.txn; shard = p.coordinator }
 
     by_time : (key : List ℕ) → Contains read.keys key → (p : PreparedPart) → Contains a.prepared p → touches_row (row_of read key) p ≡ true → is_applied p.txn a ≡ false
-        → (b : Bool) → nat_lt p.time time ≡ b → (time ≤ p.time) ⊎ IsExcluded es p.txn time ⊎ Contains (map (λ w. w.txn) ws) p.txn
+        → (b : Bool) → nat_lt p.time time ≡ b → (time ≤ p.time) ⊎ IsExcluded es.envelopes p.txn time ⊎ Contains (map (λ w. w.txn) ws) p.txn
     by_time key asked p prepared touches new false below = inl (not_below p.time time below)
     by_time key asked p prepared touches new true below =
         let rows : list_any (λ k. touches_row (row_of read k) p) read.keys ≡ true = any_has (λ k. touches_row (row_of read k) p) read.keys key asked touches in
@@ -109,20 +103,20 @@ wait_made es a n number time read e has is le ws same =
 
     by_applied : (key : List ℕ) → Contains read.keys key → (p : PreparedPart) → Contains a.prepared p → touches_row (row_of read key) p ≡ true
         → (b : Bool) → is_applied p.txn a ≡ b
-        → (is_applied p.txn a ≡ true) ⊎ (time ≤ p.time) ⊎ IsExcluded es p.txn time ⊎ Contains (map (λ w. w.txn) ws) p.txn
+        → (is_applied p.txn a ≡ true) ⊎ (time ≤ p.time) ⊎ IsExcluded es.envelopes p.txn time ⊎ Contains (map (λ w. w.txn) ws) p.txn
     by_applied key asked p prepared touches true f = inl f
     by_applied key asked p prepared touches false f = inr (by_time key asked p prepared touches f (nat_lt p.time time) refl)
 
-read_at_of_go : {top : TopologyValue} {me : ℕ} {last : ShardState} {es : List Envelope} (ws : List WriterValue) (a : ShardState) (n number time : ℕ) (read : Read) (e : Envelope)
-    → asked_below a time read ≡ ws → a.clock < n → time ≤ n → Contains es e → e.body ≡ body.ReadAt number time read → Holds top me last es a
+read_at_of_go : {top : TopologyValue} {me : ℕ} {last : ShardState} {es : Seen} (ws : List WriterValue) (a : ShardState) (n number time : ℕ) (read : Read) (e : Envelope)
+    → asked_below a time read ≡ ws → a.clock < n → time ≤ n → es.asks_at e.from number time read → Holds top me last es a
     → Able top me last es a (read_at_of ws top me n a e.from number time read)
-read_at_of_go {me = me} {es = es} [] a n number time read e same lt le has is h =
+read_at_of_go {me = me} {es = es} [] a n number time read e same lt le wanted h =
     let x = waiting_read e.from number time read [] in
     answer_able a n (part_at me n a x) (omega (arith, lt))
-    (free_answer es (record a { clock = n }) x (wait_made es a n number time read e has is le [] same) refl) h
-read_at_of_go {top = top} {me = me} {es = es} (w ∷ ws) a n number time read e same lt le has is h =
+    (free_answer es (record a { clock = n }) x (wait_made es a n number time read e wanted le [] same) refl) h
+read_at_of_go {top = top} {me = me} {es = es} (w ∷ ws) a n number time read e same lt le wanted h =
     let x = waiting_read e.from number time read (w ∷ ws) in
-    let sound = wait_made es a n number time read e has is le (w ∷ ws) same in
+    let sound = wait_made es a n number time read e wanted le (w ∷ ws) same in
     let m = record a { clock = n } in
     able_after (moved a n (omega (arith, lt)) h)
     (λ h1. record {
@@ -134,16 +128,16 @@ read_at_of_go {top = top} {me = me} {es = es} (w ∷ ws) a n number time read e 
 below : (n m : ℕ) → nat_lt n m ≡ true → n < m
 below n m e = grind (arith, nat_tests)
 
-read_at_go : {top : TopologyValue} {me : ℕ} {last : ShardState} {es : List Envelope} (waits low : Bool) (a : ShardState) (n number time : ℕ) (read : Read) (e : Envelope)
-    → nat_lt time a.low ≡ low → a.clock < n → time ≤ n → Contains es e → e.body ≡ body.ReadAt number time read → Holds top me last es a
+read_at_go : {top : TopologyValue} {me : ℕ} {last : ShardState} {es : Seen} (waits low : Bool) (a : ShardState) (n number time : ℕ) (read : Read) (e : Envelope)
+    → nat_lt time a.low ≡ low → a.clock < n → time ≤ n → (waits ≡ false → es.asks_at e.from number time read) → Holds top me last es a
     → Able top me last es a (read_at_if waits low top me n a e.from number time read)
-read_at_go true low a n number time read e f lt le has is h = quiet_able a n (omega (arith, lt)) h
-read_at_go {me = me} false true a n number time read e f lt le has is h =
+read_at_go true low a n number time read e f lt le wanted h = quiet_able a n (omega (arith, lt)) h
+read_at_go {me = me} false true a n number time read e f lt le wanted h =
     answer_able a n (envelope me e.from n (body.PartAt number time at_time.Collected)) (omega (arith, lt)) (below time a.low f) h
-read_at_go false false a n number time read e f lt le has is h = read_at_of_go (asked_below a time read) a n number time read e refl lt le has is h
+read_at_go false false a n number time read e f lt le wanted h = read_at_of_go (asked_below a time read) a n number time read e refl lt le (wanted refl) h
 
-pub read_at_able : {top : TopologyValue} {me : ℕ} {last : ShardState} {es : List Envelope} (a : ShardState) (n number time : ℕ) (read : Read) (e : Envelope)
-    → a.clock < n → time ≤ n → Contains es e → e.body ≡ body.ReadAt number time read → Holds top me last es a
+pub read_at_able : {top : TopologyValue} {me : ℕ} {last : ShardState} {es : Seen} (a : ShardState) (n number time : ℕ) (read : Read) (e : Envelope)
+    → a.clock < n → time ≤ n → (is_waiting a e.from number ≡ false → es.asks_at e.from number time read) → Holds top me last es a
     → Able top me last es a (on_read_at top me n a e.from number time read)
-read_at_able a n number time read e lt le has is h =
-    read_at_go (is_waiting a e.from number) (nat_lt time a.low) a n number time read e refl lt le has is h
+read_at_able a n number time read e lt le wanted h =
+    read_at_go (is_waiting a e.from number) (nat_lt time a.low) a n number time read e refl lt le wanted h

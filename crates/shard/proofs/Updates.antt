@@ -5,22 +5,21 @@ use Rattle.std.proofs.lemmas.List.Elements.{Contains-push_cases}
 use Rattle.logical_time.specs.Stamps.{TxnValue}
 use Rattle.column_family.specs.Normal.{IsNormal}
 use Rattle.column_family.proofs.Options.{both_true}
-use Rattle.messages.specs.declared.envelope.Envelope.{Envelope}
 use Rattle.messages.specs.Topology.{TopologyValue, dc_of, shard_node}
 use Rattle.messages.specs.Shard.{ShardState, Vote, KeptPart, KeptBallot, Met, Asker, WaitingRead}
 use Rattle.messages.specs.Known.{has_vote, all_voted, is_met, all_met}
 use Rattle.messages.specs.Replication.{is_ready}
-use Rattle.shard.specs.Sound.{IsLed, IsFollowed, Holds, Onward, WaitSound}
+use Rattle.shard.specs.Sound.{Seen, IsLed, IsFollowed, Holds, Onward, WaitSound}
 use Rattle.shard.proofs.Lists.{any_more, all_weaker, both_hold}
 use Rattle.shard.proofs.Grow.{grows_then, grows_beside, wait_grows}
 
-pub onward_then : {top : TopologyValue} {me : ℕ} {last : ShardState} {es : List Envelope} {a b c : ShardState} → Onward top me last es a b → Onward top me last es b c
+pub onward_then : {top : TopologyValue} {me : ℕ} {last : ShardState} {es : Seen} {a b c : ShardState} → Onward top me last es a b → Onward top me last es b c
     → Onward top me last es a c
 onward_then u v = record { grows = grows_then u.grows v.grows; holds = v.holds }
 
 -- ## The clock, the horizon, and what is only counted
 
-pub aside : {top : TopologyValue} {me : ℕ} {last : ShardState} {es : List Envelope} (a : ShardState) (n low : ℕ) (early votes : List Vote) (askers : List Asker)
+pub aside : {top : TopologyValue} {me : ℕ} {last : ShardState} {es : Seen} (a : ShardState) (n low : ℕ) (early votes : List Vote) (askers : List Asker)
     → a.clock ≤ n → a.low ≤ low → Holds top me last es a
     → Onward top me last es a (record a { clock = n; low = low; early = early; votes = votes; askers = askers })
 aside a n low early votes askers clock lower h =
@@ -44,7 +43,7 @@ aside a n low early votes askers clock lower h =
     }
 
 -- the clock moves
-pub moved : {top : TopologyValue} {me : ℕ} {last : ShardState} {es : List Envelope} (a : ShardState) (n : ℕ) → a.clock ≤ n → Holds top me last es a
+pub moved : {top : TopologyValue} {me : ℕ} {last : ShardState} {es : Seen} (a : ShardState) (n : ℕ) → a.clock ≤ n → Holds top me last es a
     → Onward top me last es a (record a { clock = n })
 moved a n le h = aside a n a.low a.early a.votes a.askers le (omega arith) h
 
@@ -68,7 +67,7 @@ ready_more top me a notices met r votes answers e =
     (all_weaker (λ w. is_met a.met r.txn w.txn) (λ w. is_met met r.txn w.txn) (λ w has. answers r.txn w.txn has) r.dependencies b.1)
 
 -- notices and answers
-more_known : {top : TopologyValue} {me : ℕ} {last : ShardState} {es : List Envelope} (a : ShardState) (notices : List Vote) (met : List Met)
+more_known : {top : TopologyValue} {me : ℕ} {last : ShardState} {es : Seen} (a : ShardState) (notices : List Vote) (met : List Met)
     → HasVotes a.notices notices → HasMet a.met met → Holds top me last es a → Onward top me last es a (with_known a notices met)
 more_known {top = top} {me = me} a notices met votes answers h =
     let g = grows_beside a (with_known a notices met) (omega arith) (omega arith) refl refl in
@@ -90,11 +89,11 @@ more_known {top = top} {me = me} a notices met votes answers h =
       };
     }
 
-pub more_notices : {top : TopologyValue} {me : ℕ} {last : ShardState} {es : List Envelope} (a : ShardState) (v : Vote) → Holds top me last es a
+pub more_notices : {top : TopologyValue} {me : ℕ} {last : ShardState} {es : Seen} (a : ShardState) (v : Vote) → Holds top me last es a
     → Onward top me last es a (record a { notices = a.notices ++ v ∷ [] })
 more_notices a v h = more_known a (a.notices ++ v ∷ []) a.met (λ t node has. any_more _ a.notices (v ∷ []) has) (λ waiter dependency has. has) h
 
-pub more_met : {top : TopologyValue} {me : ℕ} {last : ShardState} {es : List Envelope} (a : ShardState) (m : Met) → Holds top me last es a
+pub more_met : {top : TopologyValue} {me : ℕ} {last : ShardState} {es : Seen} (a : ShardState) (m : Met) → Holds top me last es a
     → Onward top me last es a (record a { met = a.met ++ m ∷ [] })
 more_met a m h = more_known a a.notices (a.met ++ m ∷ []) (λ t node has. has) (λ waiter dependency has. any_more _ a.met (m ∷ []) has) h
 
@@ -103,7 +102,7 @@ more_met a m h = more_known a a.notices (a.met ++ m ∷ []) (λ t node has. has)
 abbrev pub with_kept_part : ShardState → KeptPart → ShardState
 with_kept_part a k = record a { kept_parts = a.kept_parts ++ k ∷ [] }
 
-pub keep_part : {top : TopologyValue} {me : ℕ} {last : ShardState} {es : List Envelope} (a : ShardState) (k : KeptPart) → IsNormal k.rows
+pub keep_part : {top : TopologyValue} {me : ℕ} {last : ShardState} {es : Seen} (a : ShardState) (k : KeptPart) → IsNormal k.rows
     → (IsLed a k.txn → ⊥) → Holds top me last es a → Onward top me last es a (with_kept_part a k)
 keep_part a k normal unled h =
     let g = grows_beside a (with_kept_part a k) (omega arith) (omega arith) refl refl in
@@ -137,7 +136,7 @@ keep_part a k normal unled h =
 abbrev pub with_kept_ballot : ShardState → KeptBallot → ShardState
 with_kept_ballot a r = record a { kept_ballots = a.kept_ballots ++ r ∷ [] }
 
-pub keep_ballot : {top : TopologyValue} {me : ℕ} {last : ShardState} {es : List Envelope} (a : ShardState) (r : KeptBallot) → IsNormal r.rows
+pub keep_ballot : {top : TopologyValue} {me : ℕ} {last : ShardState} {es : Seen} (a : ShardState) (r : KeptBallot) → IsNormal r.rows
     → (IsFollowed a r.txn → ⊥) → (IsLed a r.txn → ⊥) → Holds top me last es a → Onward top me last es a (with_kept_ballot a r)
 keep_ballot a r normal unfollowed unled h =
     let g = grows_beside a (with_kept_ballot a r) (omega arith) (omega arith) refl refl in
@@ -186,7 +185,7 @@ keep_ballot a r normal unfollowed unled h =
 
 -- ## Waiting reads
 
-pub now_waiting : {top : TopologyValue} {me : ℕ} {last : ShardState} {es : List Envelope} (a : ShardState) (ws : List WaitingRead)
+pub now_waiting : {top : TopologyValue} {me : ℕ} {last : ShardState} {es : Seen} (a : ShardState) (ws : List WaitingRead)
     → ((x : WaitingRead) → Contains ws x → WaitSound es a x) → Holds top me last es a → Onward top me last es a (record a { waiting = ws })
 now_waiting a ws sound h =
     let g = grows_beside a (record a { waiting = ws }) (omega arith) (omega arith) refl refl in

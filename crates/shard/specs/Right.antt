@@ -1,5 +1,5 @@
 -- When what one shard sent is right, judged against all that it applied, later events included.
-use Rattle.std.specs.Prelude.{◌≡◌, ℕ, ◌<◌, ◌≤◌, List, map, Contains, ◌⊎◌}
+use Rattle.std.specs.Prelude.{◌≡◌, ℕ, ◌<◌, ◌≤◌, true, false, List, [], ◌∷◌, ◌++◌, map, Contains, ◌⊎◌}
 use Rattle.slice.specs.declared.read.Read.{Read}
 use Rattle.store.specs.declared.part.Applied.{Applied}
 use Rattle.store.specs.declared.part.Part.{Part}
@@ -10,10 +10,14 @@ use Rattle.messages.specs.declared.rows_at.RowAt.{RowAt}
 use Rattle.messages.specs.declared.rows_at.AtTime.TheVariants as at
 use Rattle.messages.specs.declared.body.Body.TheVariants as body
 use Rattle.messages.specs.declared.envelope.Envelope.{Envelope}
+use Rattle.messages.specs.Topology.{TopologyValue}
 use Rattle.messages.specs.Shard.{ShardState, Decision}
+use Rattle.messages.specs.Reads.{is_waiting}
 use Rattle.messages.specs.Honest.{Told, all_told}
 use Rattle.messages.specs.Rows.{row_of}
-use Rattle.shard.specs.Events.{ShardRun, envelopes_handled}
+use Rattle.messages.specs.declared.event.Event.{Event}
+use Rattle.messages.specs.declared.event.Event.TheVariants.{Handle}
+use Rattle.shard.specs.Events.{ShardRun, shard_run, envelopes_handled}
 
 -- a row of a first round as a part of what was applied
 abbrev pub part_now : RowNow → Part
@@ -32,26 +36,63 @@ IsRightNow applied read r =
 abbrev pub IsRightAt : List Applied → Read → ℕ → RowAt → Type 0
 IsRightAt applied read time r = IsRightPart applied (row_of read r.key) read.predicate time (part_then r)
 
--- A first-round answer: the shard handled a read that asked for it, and it has one row for each key of that read, in its
--- order, each right against these parts.
-pub record AnswersNow (applied : List Applied) (envelopes : List Envelope) (e : Envelope) (number : ℕ) (rows : List RowNow) : Type 0 where
+-- ## Which read an answer is to
+
+-- after these events, this event adds this to what the shard sent
+pub record IsSentBy (top : TopologyValue) (me : ℕ) (before : List Event) (event : Event) (e : Envelope) : Type 0 where
+  pub sends : List Envelope
+  pub added : (shard_run top me (before ++ event ∷ [])).sent ≡ (shard_run top me before).sent ++ sends
+  pub has : Contains sends e
+
+-- a Read causes what its own event sends
+pub record CausesNow (top : TopologyValue) (me : ℕ) (events : List Event) (asked e : Envelope) : Type 0 where
+  pub before : List Event
+  pub after : List Event
+  pub split : events ≡ before ++ Handle asked ∷ after
+  pub sent : IsSentBy top me before (Handle asked) e
+
+-- the read that was asked after those events waits from then on, through further ones, until an event sends this
+pub record IsSentWaiting (top : TopologyValue) (me : ℕ) (before : List Event) (asked : Envelope) (number : ℕ) (after : List Event) (e : Envelope) : Type 0 where
+  pub between : List Event
+  pub event : Event
+  pub rest : List Event
+  pub split : after ≡ between ++ event ∷ rest
+  pub waits : (xs ys : List Event) → between ≡ xs ++ ys → is_waiting (shard_run top me (before ++ Handle asked ∷ xs)).state asked.from number ≡ true
+  pub sent : IsSentBy top me (before ++ Handle asked ∷ between) event e
+
+-- A ReadAt causes this: none of its session and number waited before it, and its own event sends it, or the read waits until
+-- an event does.
+pub record CausesAt (top : TopologyValue) (me : ℕ) (events : List Event) (asked : Envelope) (number : ℕ) (e : Envelope) : Type 0 where
+  pub before : List Event
+  pub after : List Event
+  pub split : events ≡ before ++ Handle asked ∷ after
+  pub taken : is_waiting (shard_run top me before).state asked.from number ≡ false
+  pub answered : IsSentBy top me before (Handle asked) e ⊎ IsSentWaiting top me before asked number after e
+
+-- ## Answers
+
+-- A first-round answer: it has one row for each key of the read that caused it, in its order, each right against what the
+-- shard applied.
+pub record AnswersNow (top : TopologyValue) (me : ℕ) (w : ShardRun) (e : Envelope) (number : ℕ) (rows : List RowNow) : Type 0 where
   pub asked : Envelope
   pub read : Read
-  pub handled : Contains envelopes asked
+  pub cause : CausesNow top me w.events asked e
   pub from : asked.from ≡ e.to
   pub body : asked.body ≡ body.Read number read
   pub keys : map (λ r. r.key) rows ≡ read.keys
-  pub right : (r : RowNow) → Contains rows r → IsRightNow applied read r
+  pub right : (r : RowNow) → Contains rows r → IsRightNow w.state.applied read r
 
--- a second-round answer in the same way: it answers a read at this time
-pub record AnswersAt (applied : List Applied) (envelopes : List Envelope) (e : Envelope) (number time : ℕ) (rows : List RowAt) : Type 0 where
+-- a second-round answer in the same way: it answers the read at this time that caused it
+pub record AnswersAt (top : TopologyValue) (me : ℕ) (w : ShardRun) (e : Envelope) (number time : ℕ) (rows : List RowAt) : Type 0 where
   pub asked : Envelope
   pub read : Read
-  pub handled : Contains envelopes asked
+  pub cause : CausesAt top me w.events asked number e
   pub from : asked.from ≡ e.to
   pub body : asked.body ≡ body.ReadAt number time read
   pub keys : map (λ r. r.key) rows ≡ read.keys
-  pub right : (r : RowAt) → Contains rows r → IsRightAt applied read time r
+  pub right : (r : RowAt) → Contains rows r → IsRightAt w.state.applied read time r
+
+-- ## The shard
 
 -- an applied part has the commit time and the stamp that one of these envelopes told of its transaction, or that the shard
 -- itself decided
@@ -63,12 +104,12 @@ IsAppliedAsDecided a envelopes x =
 -- The shard is right: of all that it sent, each answer of a first round is right at each time for which it says so, each
 -- answer at a time is right at that time, both against all that it ever applied; a read is given up only below the
 -- horizon; and parts are applied as they were decided, in normal form, no two with one stamp.
-pub record IsRightShard (w : ShardRun) : Type 0 where
+pub record IsRightShard (top : TopologyValue) (me : ℕ) (w : ShardRun) : Type 0 where
   pub apart : AreApart w.state.applied
   pub applied : (x : Applied) → Contains w.state.applied x → IsAppliedAsDecided w.state (envelopes_handled w) x
   pub now : (e : Envelope) (number : ℕ) (rows : List RowNow) → Contains w.sent e → e.body ≡ body.PartNow number rows
-      → AnswersNow w.state.applied (envelopes_handled w) e number rows
+      → AnswersNow top me w e number rows
   pub then : (e : Envelope) (number time : ℕ) (rows : List RowAt) → Contains w.sent e → e.body ≡ body.PartAt number time (at.Rows rows)
-      → AnswersAt w.state.applied (envelopes_handled w) e number time rows
+      → AnswersAt top me w e number time rows
   pub collected : (e : Envelope) (number time : ℕ) → Contains w.sent e → e.body ≡ body.PartAt number time at.Collected
       → time < w.state.low

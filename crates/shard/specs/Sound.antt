@@ -60,6 +60,13 @@ pub record Grows (es : List Envelope) (a b : ShardState) : Type 0 where
 
 -- ## What is sent
 
+-- The envelopes that the shard handled, later ones included, and which reads it is asked at an event: in a first round, and at
+-- a time, by a session under a number.
+pub record Seen : Type 1 where
+  pub envelopes : List Envelope
+  pub asks_now : (session number : ℕ) (read : Read) → Type 0
+  pub asks_at : (session number time : ℕ) (read : Read) → Type 0
+
 -- a row of a first round shows the newest of parts that are complete up to its latest valid time
 pub record RowNowSound (es : List Envelope) (a : ShardState) (read : Read) (r : RowNow) : Type 0 where
   pub seen : List Applied
@@ -74,44 +81,35 @@ pub record RowAtSound (es : List Envelope) (a : ShardState) (read : Read) (time 
   pub complete : IsComplete es a (row_of read r.key) time seen
 
 -- rows for this node answer a read that it asked, in its order, and each is sound
-pub record NowSound (es : List Envelope) (a : ShardState) (to number : ℕ) (rows : List RowNow) : Type 0 where
-  pub asked : Envelope
+pub record NowSound (es : Seen) (a : ShardState) (to number : ℕ) (rows : List RowNow) : Type 0 where
   pub read : Read
-  pub handled : Contains es asked
-  pub from : asked.from ≡ to
-  pub body : asked.body ≡ body.Read number read
+  pub asked : es.asks_now to number read
   pub keys : map (λ r. r.key) rows ≡ read.keys
-  pub each : (r : RowNow) → Contains rows r → RowNowSound es a read r
+  pub each : (r : RowNow) → Contains rows r → RowNowSound es.envelopes a read r
 
 -- the same of rows at a time
-pub record AtSound (es : List Envelope) (a : ShardState) (to number time : ℕ) (rows : List RowAt) : Type 0 where
-  pub asked : Envelope
+pub record AtSound (es : Seen) (a : ShardState) (to number time : ℕ) (rows : List RowAt) : Type 0 where
   pub read : Read
-  pub handled : Contains es asked
-  pub from : asked.from ≡ to
-  pub body : asked.body ≡ body.ReadAt number time read
+  pub asked : es.asks_at to number time read
   pub keys : map (λ r. r.key) rows ≡ read.keys
-  pub each : (r : RowAt) → Contains rows r → RowAtSound es a read time r
+  pub each : (r : RowAt) → Contains rows r → RowAtSound es.envelopes a read time r
 
 -- what is sent to this node is sound: of other kinds than answers nothing is said
-abbrev pub BodySound : List Envelope → ShardState → ℕ → Body → Type 0
+abbrev pub BodySound : Seen → ShardState → ℕ → Body → Type 0
 BodySound es a to (body.PartNow number rows) = NowSound es a to number rows
 BodySound es a to (body.PartAt number time (at_time.Rows rows)) = AtSound es a to number time rows
 BodySound es a to (body.PartAt number time at_time.Collected) = time < a.low
 BodySound es a to other = ⊤
 
 -- each of these is sound
-abbrev pub AreSound : List Envelope → ShardState → List Envelope → Type 0
+abbrev pub AreSound : Seen → ShardState → List Envelope → Type 0
 AreSound es a sends = AllByRecursion (λ e. BodySound es a e.to e.body) sends
 
 -- a read that waits was asked, and its rows are settled but for what it waits for
-pub record WaitSound (es : List Envelope) (a : ShardState) (x : WaitingRead) : Type 0 where
-  pub asked : Envelope
-  pub handled : Contains es asked
-  pub from : asked.from ≡ x.session
-  pub body : asked.body ≡ body.ReadAt x.number x.time x.read
+pub record WaitSound (es : Seen) (a : ShardState) (x : WaitingRead) : Type 0 where
+  pub asked : es.asks_at x.session x.number x.time x.read
   pub clock : x.time ≤ a.clock
-  pub settled : (key : List ℕ) → Contains x.read.keys key → IsSettled es a (row_of x.read key) x.time x.left
+  pub settled : (key : List ℕ) → Contains x.read.keys key → IsSettled es.envelopes a (row_of x.read key) x.time x.left
 
 -- ## What the shard knows
 
@@ -147,7 +145,7 @@ IsFollowed a t = IsCohorts a t ⊎ IsKeptPart a t
 -- ballot, and one that is begun or decided has all notices and answers; what is applied was decided here or is a
 -- cohort's part; all parts are in normal form; parts that are applied have stamps that were met, no two the same, and are applied as they were decided; and
 -- the waiting reads are sound.
-pub record Holds (top : TopologyValue) (me : ℕ) (last : ShardState) (es : List Envelope) (a : ShardState) : Type 0 where
+pub record Holds (top : TopologyValue) (me : ℕ) (last : ShardState) (es : Seen) (a : ShardState) : Type 0 where
   pub sides : (t : TxnValue) → IsLed a t → IsFollowed a t → ⊥
   pub one : (r s : KeptBallot) → Contains a.kept_ballots r → Contains a.kept_ballots s → r.txn ≡ s.txn → r ≡ s
   pub readied : (r : KeptBallot) → Contains a.kept_ballots r → IsBallot a r.txn ⊎ IsDecided a r.txn → is_ready top me a r ≡ true
@@ -157,17 +155,17 @@ pub record Holds (top : TopologyValue) (me : ℕ) (last : ShardState) (es : List
   pub kept_parts : (k : KeptPart) → Contains a.kept_parts k → IsNormal k.rows
   pub kept_ballots : (r : KeptBallot) → Contains a.kept_ballots r → IsNormal r.rows
   pub stamped_apart : AreApart a.applied
-  pub met : (x : Applied) → Contains a.applied x → Contains (stamps_met last es) (record { txn = x.part.writer.txn; stamp = x.stamp })
-  pub decided_so : (x : Applied) → Contains a.applied x → IsAppliedAsDecided last es x
+  pub met : (x : Applied) → Contains a.applied x → Contains (stamps_met last es.envelopes) (record { txn = x.part.writer.txn; stamp = x.stamp })
+  pub decided_so : (x : Applied) → Contains a.applied x → IsAppliedAsDecided last es.envelopes x
   pub waiting : (x : WaitingRead) → Contains a.waiting x → WaitSound es a x
 
 -- the state that comes of this one: it holds all of this, and what was complete stays so
-pub record Onward (top : TopologyValue) (me : ℕ) (last : ShardState) (es : List Envelope) (a b : ShardState) : Type 0 where
-  pub grows : Grows es a b
+pub record Onward (top : TopologyValue) (me : ℕ) (last : ShardState) (es : Seen) (a b : ShardState) : Type 0 where
+  pub grows : Grows es.envelopes a b
   pub holds : Holds top me last es b
 
 -- a step leads onward, and what it sends is sound
-pub record Able (top : TopologyValue) (me : ℕ) (last : ShardState) (es : List Envelope) (a : ShardState) (step : ShardStep) : Type 0 where
+pub record Able (top : TopologyValue) (me : ℕ) (last : ShardState) (es : Seen) (a : ShardState) (step : ShardStep) : Type 0 where
   pub onward : Onward top me last es a step.state
   pub sends : AreSound es step.state step.sends
 

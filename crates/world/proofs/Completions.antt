@@ -1,5 +1,5 @@
 -- Each entry of the transcript came at an event: the delivery of a message that ended the operation of its session.
-use Rattle.std.proofs.Common.{◌≡◌, ◌∙◌, ℕ, ap, sym, refl, subst, true, inl, inr, List, [], ◌∷◌, ◌++◌, Option, Some, None, slice_get}
+use Rattle.std.proofs.Common.{◌<◌, Option, None, ◌≡◌, ◌∙◌, ℕ, ap, sym, refl, subst, true, inl, inr, List, [], ◌∷◌, ◌++◌, length, drop, Some, slice_get}
 use Rattle.std.specs.Prelude.{◌⊎◌}
 use Rattle.slice.specs.declared.read.Read.{Read}
 use Rattle.messages.specs.declared.rows_now.RowNow.{RowNow}
@@ -12,13 +12,15 @@ use Rattle.messages.specs.declared.envelope.Envelope.{Envelope}
 use Rattle.messages.specs.Topology.{TopologyValue}
 use Rattle.messages.specs.Session.{SessionState, SessionStep, HeardNow, HeardAt, Finished}
 use Rattle.messages.specs.Rounds.{asked_nodes, all_heard}
-use Rattle.messages.specs.Submitting.{begun}
-use Rattle.messages.specs.SessionEvents.{heard, session_taken}
+use Rattle.messages.specs.SessionEvents.{heard}
 use Rattle.world.specs.Run.{Run, Event, Deliver, Completed, ended_by, with_ended, submission_by, opening, step, continued, run}
-use Rattle.world.proofs.Among.{Among}
+use Rattle.world.proofs.Among.{Among, among_append}
 use Rattle.world.proofs.EventCases.{event_cases}
+use Rattle.world.proofs.Invariant.{Inv}
+use Rattle.world.proofs.Runs.{opening_holds, step_kept}
 use Rattle.world.proofs.Transcripts.{ended_or_old, submission_ends_nothing}
-use Rattle.world.proofs.HeardRuns.{ended_is_finished, changed_actor}
+use Rattle.world.proofs.HeardRuns.{ended_is_finished}
+use Rattle.messages.specs.Submitting.{begun}
 use Rattle.world.proofs.HeardCases.{FirstAnswer, SecondAnswer, heard_cases}
 
 -- ## What ends an operation
@@ -54,17 +56,13 @@ EndsBy (outcome.Wrote commit stamp) top a from m = Unit {0}
 EndsBy (outcome.Read time answer) top a from m = LastFirst top a from m ⊎ LastSecond top a from m
 EndsBy outcome.Collected top a from m = SaidCollected top a from m
 
--- an outcome that was taken isn't told
-tells_none : {o : Option Finished} {f : Finished} → o ≡ None → o ≡ Some f → ⊥
-tells_none none e = absurd (cc)
-
 module _ (top : TopologyValue) (me n : ℕ) (a : SessionState) (from : ℕ) (m : Body) (taken : a.untaken ≡ None) where
-  -- what the step finished, by what it then tells, is the open operation
+  -- what the step finished, with this outcome after it, is the open operation
   abbrev Finishes : Option Finished → Type 0
-  Finishes untaken = (f : Finished) → untaken ≡ Some f → (f.number ≡ a.count) × EndsBy f.outcome top a from m
+  Finishes o = (f : Finished) → o ≡ Some f → (f.number ≡ a.count) × EndsBy f.outcome top a from m
 
   none : Finishes a.untaken
-  none f e = absurd (tells_none taken e)
+  none f e = let no : None ≡ Some f = sym taken ∙ e in absurd (cc)
 
   this : (o : Outcome) → EndsBy o top a from m → Finishes (Some (record { number = a.count; outcome = o }))
   this o k f e =
@@ -88,29 +86,6 @@ module _ (top : TopologyValue) (me n : ℕ) (a : SessionState) (from : ℕ) (m :
             λ read time first hs k. this outcome.Collected (record { read = read; time = time; first = first; heard = hs; answer = k });
       })
 
--- ## Taken outcomes
-
--- each session's last outcome was taken
-abbrev pub AllTaken : Run → Type 0
-AllTaken w = (node : ℕ) → (w.sessions node).untaken ≡ None
-
-taken_step : (top : TopologyValue) (w : Run) (x : Event) → AllTaken w → AllTaken (step top w x)
-taken_step top w x k =
-    event_cases top w x AllTaken
-    (record {
-      nothing = k;
-      handled = λ j e n is sent to. k;
-      heard =
-          λ j e n is sent other to m.
-          changed_actor (λ (a : SessionState). a.untaken ≡ None) w.sessions e.to
-          (session_taken (heard top e.to n (w.sessions e.to) e.from e.body).state) m (λ same. refl) (λ apart. k m);
-      begun =
-          λ node o n is to m.
-          changed_actor (λ (a : SessionState). a.untaken ≡ None) w.sessions node (session_taken (begun top node n (w.sessions node) o).state) m
-          (λ same. refl) (λ apart. k m);
-      collected = λ node time n is. k;
-    })
-
 -- ## Where an entry came
 
 -- the event brought this entry
@@ -123,9 +98,9 @@ pub record Brings (top : TopologyValue) (w : Run) (x : Event) (c : Completed) : 
   pub count : (w.sessions c.node).count ≡ c.number
   pub ends : EndsBy c.outcome top (w.sessions c.node) message.from message.body
 
-step_brings : (top : TopologyValue) (w : Run) (x : Event) (c : Completed) → AllTaken w → Among c (step top w x).transcript
+step_brings : (top : TopologyValue) (w : Run) (x : Event) (c : Completed) → Inv top w → Among c (step top w x).transcript
     → Among c w.transcript ⊎ Brings top w x c
-step_brings top w x c taken m =
+step_brings top w x c inv m =
     event_cases top w x (λ v. Among c v.transcript → Among c w.transcript ⊎ Brings top w x c)
     (record {
       nothing = λ i. inl i;
@@ -147,7 +122,7 @@ step_brings top w x c taken m =
         → ended_by w.submitted e.to (heard top e.to n (w.sessions e.to) e.from e.body) ≡ Some c → Brings top w x c
     brought j e n is sent new =
         let f = ended_is_finished w.submitted e.to (heard top e.to n (w.sessions e.to) e.from e.body) c new in
-        let k = finishes top e.to n (w.sessions e.to) e.from e.body (taken e.to) f.finished f.told in
+        let k = finishes top e.to n (w.sessions e.to) e.from e.body (inv.sessions e.to).taken f.finished f.told in
         record {
           k = j;
           delivery = is;
@@ -155,7 +130,9 @@ step_brings top w x c taken m =
           number = sent;
           to = sym f.node_is;
           count = ap (λ z. (w.sessions z).count) f.node_is ∙ sym k.0 ∙ sym f.number;
-          ends = subst (λ z. EndsBy c.outcome top (w.sessions z) e.from e.body) (sym f.node_is) (subst (λ o. EndsBy o top (w.sessions e.to) e.from e.body) (sym f.outcome) k.1);
+          ends =
+              subst (λ z. EndsBy c.outcome top (w.sessions z) e.from e.body) (sym f.node_is)
+              (subst (λ o. EndsBy o top (w.sessions e.to) e.from e.body) (sym f.outcome) k.1);
         }
 
 record CameIn (top : TopologyValue) (w : Run) (events : List Event) (c : Completed) : Type 0 where
@@ -165,11 +142,11 @@ record CameIn (top : TopologyValue) (w : Run) (events : List Event) (c : Complet
   split : events ≡ before ++ event ∷ after
   brings : Brings top (continued top w before) event c
 
-came_in : (top : TopologyValue) (w : Run) (events : List Event) (c : Completed) → AllTaken w → Among c (continued top w events).transcript
+came_in : (top : TopologyValue) (w : Run) (events : List Event) (c : Completed) → 0 < top.shards → Inv top w → Among c (continued top w events).transcript
     → Among c w.transcript ⊎ CameIn top w events c
-came_in top w [] c taken m = inl m
-came_in top w (x ∷ xs) c taken m = elim (came_in top (step top w x) xs c (taken_step top w x taken) m) [
-  | inl here ↦ elim (step_brings top w x c taken here) [
+came_in top w [] c some inv m = inl m
+came_in top w (x ∷ xs) c some inv m = elim (came_in top (step top w x) xs c some (step_kept top w x some inv) m) [
+  | inl here ↦ elim (step_brings top w x c inv here) [
     | inl old ↦ inl old
     | inr new ↦ inr (record { before = []; event = x; after = xs; split = refl; brings = new })
   ]
@@ -184,8 +161,8 @@ pub record CameAt (top : TopologyValue) (w : Run) (c : Completed) : Type 0 where
   pub brings : Brings top (run top before) event c
   pub delivery : w.events ≡ before ++ Deliver brings.k ∷ after
 
-pub came_at : (top : TopologyValue) (w : Run) → run top w.events ≡ w → (c : Completed) → Among c w.transcript → CameAt top w c
-came_at top w replayed c m = elim (came_in top (opening top) w.events c (λ node. refl) (subst (λ (z : Run). Among c z.transcript) (sym replayed) m)) [
+pub came_at : (top : TopologyValue) (w : Run) → 0 < top.shards → run top w.events ≡ w → (c : Completed) → Among c w.transcript → CameAt top w c
+came_at top w some replayed c m = elim (came_in top (opening top) w.events c some (opening_holds top) (subst (λ (z : Run). Among c z.transcript) (sym replayed) m)) [
   | inl none ↦ absurd none
   | inr r ↦ record {
     before = r.before;

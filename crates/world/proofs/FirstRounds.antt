@@ -1,194 +1,33 @@
 -- Of each shard that a completed read asked, its session kept one answer of the first round.
-use Rattle.std.proofs.Common.{◌≡◌, ◌∙◌, ℕ, ◌<◌, ap, sym, refl, subst, true, not, inl, inr, List, [], ◌∷◌, ◌++◌, Some, Ok, slice_get, eqb-true, eq-eqb, append-nil}
+use Rattle.std.proofs.Common.{◌≡◌, ◌∙◌, ℕ, ◌<◌, ap, sym, refl, subst, true, not, inl, inr, List, [], ◌∷◌, ◌++◌, slice_get, eqb-true, eq-eqb, append-nil}
 use Rattle.std.specs.Prelude.{◌==◌, ◌⊎◌, Contains}
 use Rattle.std.specs.List.{list_any}
 use Rattle.std.proofs.lemmas.Bool.{false≢true, and_parts}
 use Rattle.std.proofs.lemmas.List.{append_assoc}
 use Rattle.slice.specs.declared.read.Read.{Read}
 use Rattle.planner.specs.Plan.{shards_asked}
-use Rattle.messages.specs.declared.rows_now.RowNow.{RowNow}
-use Rattle.messages.specs.declared.op.Op.{Op}
 use Rattle.messages.specs.declared.op.Op.TheVariants as op
 use Rattle.messages.specs.declared.body.Body.TheVariants.{PartNow}
 use Rattle.messages.specs.declared.envelope.Envelope.{Envelope}
 use Rattle.messages.specs.Topology.{TopologyValue, shard_node}
-use Rattle.messages.specs.Session.{SessionState, SessionStep, Open, Idle, Writing, FirstRound, SecondRound, HeardNow}
-use Rattle.messages.specs.Submitting.{home_node, begun}
+use Rattle.messages.specs.Session.{SessionState, HeardNow}
+use Rattle.messages.specs.Submitting.{home_node}
 use Rattle.messages.specs.Rounds.{was_heard, asked_nodes, is_missing, all_heard}
-use Rattle.messages.specs.SessionEvents.{heard}
-use Rattle.world.specs.Run.{Run, Event, Submit, Deliver, Completed, opening, after_session, after_submission, step, continued, run}
+use Rattle.world.specs.Run.{Run, Event, Deliver, Completed, opening, step, continued, run}
 use Rattle.world.specs.Fresh.{IsKept, HasOneKept, FirstRoundsAreWhole}
 use Rattle.world.proofs.Among.{Among, contains_among, last_or_old, any_true, any_among, all_among, map_among}
 use Rattle.world.proofs.Growth.{Grows}
 use Rattle.world.proofs.Invariant.{IsOpen, OpenSound, FirstSound, SecondSound, Inv}
-use Rattle.world.proofs.EventCases.{event_cases}
-use Rattle.world.proofs.Prefixes.{get_first, one_begins, number_later, splits, accepted}
-use Rattle.world.proofs.Replayed.{runs_replayed, step_replayed}
+use Rattle.world.proofs.Prefixes.{one_begins, number_later, splits, accepted}
+use Rattle.world.proofs.Replayed.{runs_replayed}
 use Rattle.world.proofs.Runs.{every_run, run_after}
 use Rattle.world.proofs.CausalRuns.{every_causal}
 use Rattle.world.proofs.HeardFirst.{HasHeard}
-use Rattle.world.proofs.HeardRuns.{changed_actor, only_sessions, RunHeard, heard_later, kept_at, one_message}
+use Rattle.world.proofs.HeardRuns.{only_sessions, RunHeard, heard_later, kept_at, one_message}
 use Rattle.world.proofs.FreshReads.{IsOf, open_of}
-use Rattle.world.proofs.HeardCases.{FirstAnswer, heard_cases}
 use Rattle.world.proofs.Completions.{EndsBy, LastFirst, LastSecond, CameAt, came_at}
 use Rattle.world.proofs.Laws.{prefix_grows}
-
--- ## What is kept stays
-
-kept_more : (top : TopologyValue) (w v : Run) (x : Event) (more : List Envelope) → v.events ≡ w.events ++ x ∷ [] → v.sent ≡ w.sent ++ more
-    → (session number k : ℕ) (e : Envelope) → IsKept top w session number k e → IsKept top v session number k e
-kept_more top w v x more events sent session number k e kept =
-    record {
-      before = kept.before;
-      after = kept.after ++ x ∷ [];
-      delivery = events ∙ ap (λ l. l ++ x ∷ []) kept.delivery ∙ append_assoc kept.before (Deliver k ∷ kept.after) (x ∷ []);
-      message = ap (λ l. slice_get l k) sent ∙ get_first w.sent more k e kept.message;
-      address = kept.address;
-      rows = kept.rows;
-      body = kept.body;
-      count = kept.count;
-      read = kept.read;
-      heard = kept.heard;
-      first_round = kept.first_round;
-      missing = kept.missing;
-    }
-
-kept_step : (top : TopologyValue) (w : Run) (x : Event) (session number k : ℕ) (e : Envelope) → IsKept top w session number k e
-    → IsKept top (step top w x) session number k e
-kept_step top w x session number k e kept =
-    event_cases top w x (λ v. IsKept top v session number k e)
-    (record {
-      nothing = kept;
-      handled = λ j f n is sent to. kept_more top w _ x _ refl refl session number k e kept;
-      heard = λ j f n is sent other to. kept_more top w _ x _ refl refl session number k e kept;
-      begun = λ node o n is to. kept_more top w _ (Submit node o) _ refl refl session number k e kept;
-      collected = λ node time n is. kept_more top w _ x [] refl refl session number k e kept;
-    })
-
-kept_later : (top : TopologyValue) (w : Run) (xs : List Event) (session number k : ℕ) (e : Envelope) → IsKept top w session number k e
-    → IsKept top (continued top w xs) session number k e
-kept_later top w [] session number k e kept = kept
-kept_later top w (x ∷ xs) session number k e kept = kept_later top (step top w x) xs session number k e (kept_step top w x session number k e kept)
-
--- ## What an open read has heard was kept
-
--- an answer of this shard was kept
-pub record HasKept (top : TopologyValue) (w : Run) (session number shard : ℕ) : Type 0 where
-  pub k : ℕ
-  pub e : Envelope
-  pub kept : IsKept top w session number k e
-  pub from : e.from ≡ shard
-
-abbrev first_heard : Open → List HeardNow
-first_heard Idle = []
-first_heard (Writing coordinator) = []
-first_heard (FirstRound read hs) = hs
-first_heard (SecondRound read time first hs) = first
-
--- whatever the session's open read has heard in its first round was kept
-abbrev HeardIsKept : TopologyValue → Run → ℕ → SessionState → Type 0
-HeardIsKept top w node a = (h : HeardNow) → Among h (first_heard a.current) → HasKept top w node a.count h.from
-
-abbrev AllKept : TopologyValue → Run → Type 0
-AllKept top w = (node : ℕ) → HeardIsKept top w node (w.sessions node)
-
-has_step : (top : TopologyValue) (w : Run) (x : Event) (session number shard : ℕ) → HasKept top w session number shard
-    → HasKept top (step top w x) session number shard
-has_step top w x session number shard h =
-    record { k = h.k; e = h.e; kept = kept_step top w x session number h.k h.e h.kept; from = h.from }
-
-module _ (top : TopologyValue) (w : Run) (replayed : run top w.events ≡ w) (x : Event) (all : AllKept top w) where
-  later : (v : Run) (more : List Envelope) (y : Event) → v.events ≡ w.events ++ y ∷ [] → v.sent ≡ w.sent ++ more → (session number shard : ℕ)
-      → HasKept top w session number shard → HasKept top v session number shard
-  later v more y events sent session number shard h =
-      record { k = h.k; e = h.e; kept = kept_more top w v y more events sent session number h.k h.e h.kept; from = h.from }
-
-  module _ (j : ℕ) (e : Envelope) (n : ℕ) (is : x ≡ Deliver j) (sent : slice_get w.sent j ≡ Some e) where
-    abbrev a : SessionState
-    a = w.sessions e.to
-
-    abbrev v : Run
-    v = after_session (Ok (heard top e.to n (w.sessions e.to) e.from e.body)) w x e.to
-
-    stays : (o : Open) → a.current ≡ o → (h : HeardNow) → Among h (first_heard o) → HasKept top v e.to a.count h.from
-    stays o q h m = later v _ x refl refl e.to a.count h.from (all e.to h (subst (λ z. Among h (first_heard z)) (sym q) m))
-
-    -- this message is kept now
-    now : (read : Read) (hs : List HeardNow) (rows : List RowNow) → FirstAnswer top a e.from e.body read hs rows → HasKept top v e.to a.count e.from
-    now read hs rows k =
-        record {
-          k = j;
-          e = e;
-          kept =
-              record {
-                before = w.events;
-                after = [];
-                delivery = ap (λ y. w.events ++ y ∷ []) is;
-                message = get_first w.sent _ j e sent;
-                address = refl;
-                rows = rows;
-                body = k.body;
-                count = ap (λ (z : Run). (z.sessions e.to).count) replayed;
-                read = read;
-                heard = hs;
-                first_round = ap (λ (z : Run). (z.sessions e.to).current) replayed ∙ k.current;
-                missing = ap (λ (z : Run). is_missing (asked_nodes top (z.sessions e.to) read) hs e.from) replayed ∙ k.missing;
-              };
-          from = refl;
-        }
-
-    with_now : (read : Read) (hs : List HeardNow) (rows : List RowNow) → FirstAnswer top a e.from e.body read hs rows
-        → (h : HeardNow) → Among h (hs ++ record { from = e.from; rows = rows } ∷ []) → HasKept top v e.to a.count h.from
-    with_now read hs rows k h m = elim (last_or_old h (record { from = e.from; rows = rows }) hs m) [
-      | inl old ↦ stays (FirstRound read hs) k.current h old
-      | inr q ↦ subst (λ (z : HeardNow). HasKept top v e.to a.count z.from) (sym q) (now read hs rows k)
-    ]
-
-    hears : HeardIsKept top v e.to (heard top e.to n a e.from e.body).state
-    hears =
-        heard_cases top e.to n a e.from e.body (λ (st : SessionStep). HeardIsKept top v e.to st.state)
-        (record {
-          still = λ h m. stays a.current refl h m;
-          wrote = λ coordinator t commit stamp q h m. absurd m;
-          kept = λ read hs rows k h m. with_now read hs rows k h m;
-          second = λ read hs rows nodes k whole h m. with_now read hs rows k h m;
-          ends = λ read hs rows taken k whole h m. absurd m;
-          kept_at = λ read time first hs gs rows k h m. stays (SecondRound read time first hs) k.current h m;
-          ends_at = λ read time first hs rows taken k h m. absurd m;
-          gives_up = λ read time first hs k h m. absurd m;
-        })
-
-  begins : (node n : ℕ) (o : Op) (z : Run) → HeardIsKept top z node (begun top node n (w.sessions node) o).state
-  begins node n (op.Batch batch) z h m = absurd m
-  begins node n (op.Read read) z h m = absurd m
-
-  step_keeps : AllKept top (step top w x)
-  step_keeps =
-      event_cases top w x (AllKept top)
-      (record {
-        nothing = all;
-        handled = λ j e n is sent to node h m. later _ _ x refl refl node _ h.from (all node h m);
-        heard =
-            λ j e n is sent other to node.
-            changed_actor (HeardIsKept top (v j e n is sent) node) w.sessions e.to _ node
-            (λ same. subst (λ z. HeardIsKept top (v j e n is sent) z (heard top e.to n (w.sessions e.to) e.from e.body).state) (sym same) (hears j e n is sent))
-            (λ apart h m. later (v j e n is sent) _ x refl refl node _ h.from (all node h m));
-        begun =
-            λ m o n is to node.
-            changed_actor (HeardIsKept top (after_submission (Ok (begun top m n (w.sessions m) o)) w m o) node) w.sessions m _ node
-            (λ same. subst (λ z. HeardIsKept top (after_submission (Ok (begun top m n (w.sessions m) o)) w m o) z (begun top m n (w.sessions m) o).state)
-            (sym same) (begins m n o _))
-            (λ apart h i. later _ _ (Submit m o) refl refl node _ h.from (all node h i));
-        collected = λ m time n is node h i. later _ [] x refl refl node _ h.from (all node h i);
-      })
-
-kept_on : (top : TopologyValue) (w : Run) (xs : List Event) → run top w.events ≡ w → AllKept top w → AllKept top (continued top w xs)
-kept_on top w [] replayed all = all
-kept_on top w (x ∷ xs) replayed all =
-    kept_on top (step top w x) xs (step_replayed top w x replayed) (step_keeps top w replayed x all)
-
-all_kept : (top : TopologyValue) (events : List Event) → AllKept top (run top events)
-all_kept top events = kept_on top (opening top) events refl (λ node h m. absurd m)
+use Rattle.world.proofs.KeptAnswers.{HasKept, first_heard, kept_later, all_kept}
 
 -- ## One answer of each shard
 
@@ -214,7 +53,7 @@ module _ (top : TopologyValue) (some : 0 < top.shards) (w : Run) (replayed : run
       let h : HeardNow = record { from = e.from; rows = first.rows } in
       let now = accepted top w replayed first.before (Deliver k) first.after first.delivery in
       let heard : RunHeard (step top (run top first.before) (Deliver k)) session number h =
-      kept_at top w session number k e first (only_sessions top first.before) (every_causal top first.before some).closed
+      kept_at top w session number k e first (only_sessions top first.before) ((every_run top first.before some).sessions e.to).taken (every_causal top first.before some).closed
       (λ g is. one_message top w replayed first.before (Deliver k) first.after first.delivery k e g first.message is) now in
       let is : Deliver k ≡ z =
       next_is first.before (Deliver k) z first.after zs (Deliver j ∷ second.after)
@@ -357,7 +196,7 @@ first_rounds_are_whole top events some c read time answer shard has is end asked
     let w = run top events in
     let replayed = runs_replayed top events in
     let there = contains_among c w.transcript has in
-    let came = came_at top w replayed c there in
+    let came = came_at top w some replayed c there in
     one_kept top some w replayed c.node c.number (shard_node top c.home shard)
     (each_kept top some w replayed (every_run top events some) c there came read is
     (subst (λ o. EndsBy o top ((run top came.before).sessions c.node) came.brings.message.from came.brings.message.body) end came.brings.ends) shard asked)

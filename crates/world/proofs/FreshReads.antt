@@ -1,10 +1,9 @@
 -- An answered read is fresh: it shows, at each asked location, nothing older than what an asked shard had applied before it
 -- sent the answer that the session kept.
-use Rattle.std.proofs.Common.{◌≡◌, ◌∙◌, ℕ, ◌<◌, ◌≤◌, ap, sym, refl, subst, arith, true, inl, inr, List, ◌∷◌, ◌++◌, map, length, Some, slice_get, eqb-true}
-use Rattle.std.specs.Prelude.{◌==◌, not, ◌⊎◌, Contains}
+use Rattle.std.proofs.Common.{◌≡◌, ◌∙◌, ℕ, ◌<◌, ◌≤◌, ap, sym, refl, subst, true, List, ◌∷◌, ◌++◌, map, eqb-true}
+use Rattle.std.specs.Prelude.{◌==◌, not, Contains}
 use Rattle.std.specs.List.{list_any, range_with_len}
 use Rattle.std.proofs.lemmas.Bool.{and_parts}
-use Rattle.std.proofs.lemmas.Option.{slice_get_within}
 use Rattle.column_family.specs.declared.batch.Row.{Row}
 use Rattle.column_family.specs.declared.batch.Change.{Change}
 use Rattle.column_family.specs.Location.{is_same_row, touches, touches_name}
@@ -32,10 +31,10 @@ use Rattle.messages.specs.Rows.{row_now}
 use Rattle.messages.specs.Session.{SessionState, Open, FirstRound, HeardNow}
 use Rattle.messages.specs.Submitting.{home_node, share_of}
 use Rattle.messages.specs.Rounds.{asked_nodes, was_heard, is_missing}
-use Rattle.world.specs.Run.{Run, Event, Deliver, Submission, Completed, step, continued, run}
+use Rattle.world.specs.Run.{Run, Event, Deliver, Submission, Completed, run}
+use Rattle.world.specs.Collected.{WasSent}
 use Rattle.world.specs.Fresh.{IsKept, WasApplied, IsNoOlder, IsFreshFor, IsFresh}
 use Rattle.messages.proofs.Numbering.{dc_of_shard}
-use Rattle.world.proofs.Runs.{run_after}
 use Rattle.world.proofs.Near.{listed_below}
 use Rattle.world.proofs.Among.{Among, contains_among, any_true, filter_only, map_only, map_among}
 use Rattle.world.proofs.Growth.{FirstAsked, AskedNow, Grows}
@@ -43,11 +42,10 @@ use Rattle.world.proofs.Facts.{part_on}
 use Rattle.world.proofs.Invariant.{Says, IsOpen, OpenSound, FirstSound, Inv}
 use Rattle.world.proofs.Causal.{Causal}
 use Rattle.world.proofs.Replayed.{runs_replayed}
-use Rattle.world.proofs.Prefixes.{get_there, one_begins, number_later, sent_no_less, splits, accepted}
 use Rattle.world.proofs.HeardFirst.{IsTimely, EndsTimely}
-use Rattle.world.proofs.HeardRuns.{one_message, delivered_sent, kept_heard}
-use Rattle.world.proofs.NowSent.{is_now}
-use Rattle.world.proofs.NowSentRuns.{IsNowSent, now_sent_at}
+use Rattle.world.proofs.HeardRuns.{kept_heard}
+use Rattle.world.proofs.Sendings.{sent_then, sent_first}
+use Rattle.world.proofs.NowSent.{is_now, IsNowSent, now_sent_at}
 use Rattle.world.proofs.FreshShown.{covered, shown}
 
 -- ## Rows and shards
@@ -118,35 +116,17 @@ module _ (top : TopologyValue) (some : 0 < top.shards) (every : (events : List E
     to_end : (before after : List Event) → w.events ≡ before ++ after → Grows top (run top before) w
     to_end before after split = subst (λ z. Grows top (run top before) z) (ap (run top) (sym split) ∙ replayed) (grows before after)
 
-    -- the message is among the sends of the event
-    sent_then : slice_get (step top then was.event).sent k ≡ Some e
-    sent_then =
-        let f = get_there (step top then was.event).sent k was.by_then in
-        let whole = splits top w replayed was.before was.event was.after was.sending in
-        let last : slice_get w.sent k ≡ Some f.0 =
-        ap (λ (z : Run). slice_get z.sent k) (sym whole) ∙ number_later top (step top then was.event) was.after k f.0 f.1 in
-        f.1 ∙ sym last ∙ kept.message
-
-    sent_later : slice_get later.sent k ≡ Some e
-    sent_later =
-        let f = delivered_sent top later k (accepted top w replayed kept.before (Deliver k) kept.after kept.delivery) in
-        f.1 ∙ ap Some (one_message top w replayed kept.before (Deliver k) kept.after kept.delivery k e f.0 kept.message f.1)
+    -- the event at which the answer was sent
+    sending : WasSent top w k was.before was.event
+    sending = record { after = was.after; sending = was.sending; not_sent = was.not_sent; by_then = was.by_then }
 
     answer : IsNowSent then e
-    answer = now_sent_at top then was.event k e was.not_sent sent_then (ap is_now kept.body)
+    answer = now_sent_at top then was.event k e was.not_sent (sent_then top w replayed k e kept.message was.before was.event sending) (ap is_now kept.body)
 
     grown : Grows top then later
-    grown = by (one_begins was.before (was.event ∷ was.after) kept.before (Deliver k ∷ kept.after) (sym was.sending ∙ kept.delivery))
-      where
-        by : ((zs : List Event) × (kept.before ≡ was.before ++ zs)) ⊎ ((zs : List Event) × (was.before ≡ kept.before ++ zs)) → Grows top then later
-        by (inl (zs, q)) = subst (λ (es : List Event). Grows top then (run top es)) (sym q) (grows was.before zs)
-        by (inr (zs, q)) =
-            let no_less = sent_no_less top later zs in
-            let same : length then.sent ≡ length (continued top later zs).sent =
-            ap (λ (z : Run). length z.sent) (ap (run top) q ∙ run_after top _ kept.before zs) in
-            let le = was.not_sent in
-            let lt = slice_get_within later.sent k e sent_later in
-            absurd (omega arith)
+    grown =
+        let first = sent_first top w replayed k e kept.message was.before was.event sending kept.before kept.after kept.delivery in
+        subst (λ (es : List Event). Grows top then (run top es)) (sym first.1) (grows was.before first.0)
 
     -- ---- what was asked, and what was answered
     from : e.from ≡ answer.asking.to

@@ -209,6 +209,6 @@ pub collected_in_runs : (top : TopologyValue) (events : List Event) → 0 < top.
 collected_in_runs top events some c has is =
     let w = run top events in
     let there = contains_among c w.transcript has in
-    let came = came_at top w (runs_replayed top events) c there in
+    let came = came_at top w some (runs_replayed top events) c there in
     given_up top some w (runs_replayed top events) (every_run top events some) c there came
     (subst (λ o. EndsBy o top ((run top came.before).sessions c.node) came.brings.message.from came.brings.message.body) is came.brings.ends)

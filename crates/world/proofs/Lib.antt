@@ -85,13 +85,12 @@ pub mod Prefixes
 pub mod Refusals
 pub mod HeardFirst
 pub mod HeardRuns
-pub mod NowSent
-pub mod NowSentRuns
-pub mod FreshReads
 pub mod HeardCases
 pub mod SessionSends
-pub mod Horizons
+pub mod NowSent
 pub mod Sendings
+pub mod FreshReads
+pub mod Horizons
 pub mod Completions
 pub mod Settling
 pub mod SettledAway
@@ -110,6 +109,7 @@ pub mod LiveEvents
 pub mod LaterCommits
 pub mod Laws
 pub mod GivenUp
+pub mod KeptAnswers
 pub mod FirstRounds
 pub mod Addressed
 pub mod Unhandled

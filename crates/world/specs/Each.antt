@@ -11,7 +11,7 @@ use Rattle.world.specs.Journals.{journal_in, sent_from}
 pub record IsRightInRun (top : TopologyValue) (w : Run) (node : ℕ) : Type 0 where
   pub state : (shard_run top node (journal_in w node)).state ≡ w.shards node
   pub sent : (shard_run top node (journal_in w node)).sent ≡ sent_from w node
-  pub right : IsRightShard (shard_run top node (journal_in w node))
+  pub right : IsRightShard top node (shard_run top node (journal_in w node))
 
 -- each shard of the run is right
 abbrev pub EachShardIsRight : TopologyValue → Run → Type 0
