@@ -1,7 +1,8 @@
 -- Worked runs of one shard against forms that resemble its law, and against the law without a clause of honesty.
-use Rattle.std.proofs.Common.{◌≡◌, ap, subst, refl, inl, inr, ℕ, false, List, [], ◌∷◌, length}
+use Rattle.std.proofs.Common.{◌≡◌, ap, sym, subst, refl, inl, inr, ℕ, false, List, [], ◌∷◌, ◌++◌, length}
 use Rattle.std.specs.Prelude.{⊤, ◌==◌, nat_lt, Contains}
 use Rattle.std.specs.List.{AllByRecursion}
+use Rattle.std.proofs.lemmas.List.Elements.{Contains-append_right}
 use Rattle.logical_time.specs.Stamps.{WriterValue}
 use Rattle.slice.specs.declared.column.Column.{Column}
 use Rattle.slice.specs.declared.read.Read.{Read}
@@ -10,19 +11,22 @@ use Rattle.slice.specs.Slice.{slice_of}
 use Rattle.store.specs.declared.part.Applied.{Applied}
 use Rattle.store.specs.declared.part.Part.{Part}
 use Rattle.store.specs.Part.{history_of, applied_by, IsRightPart}
-use Rattle.store.proofs.Lists.{none_in_empty}
+use Rattle.store.proofs.Lists.{none_in_empty, contains_first, given}
 use Rattle.messages.specs.declared.rows_now.RowNow.{RowNow}
 use Rattle.messages.specs.declared.rows_at.RowAt.{RowAt}
 use Rattle.messages.specs.declared.rows_at.AtTime.TheVariants as at_time
 use Rattle.messages.specs.declared.body.Body.{Body}
 use Rattle.messages.specs.declared.body.Body.TheVariants as body
 use Rattle.messages.specs.declared.envelope.Envelope.{Envelope}
+use Rattle.messages.specs.declared.event.Event.{Event}
+use Rattle.messages.specs.declared.event.Event.TheVariants.{Handle}
+use Rattle.messages.specs.Actors.{envelope_of}
 use Rattle.messages.specs.Words.{envelope}
 use Rattle.messages.specs.Honest.{all_told}
 use Rattle.messages.specs.Rows.{row_of}
-use Rattle.shard.specs.Events.{envelopes_handled}
+use Rattle.shard.specs.Events.{ShardRun, envelopes_handled}
 use Rattle.shard.specs.Right.{part_now, part_then}
-use Rattle.shard.specs.Worked.{key_a, key_b, name_x, x_gets, x_of, first_of, stamp, written_then_read, read_then_written, read_at_its_mark, collected_then_read, commit_at_its_mark, excluded_at_its_commit_time, read_above_its_time, two_of_one_stamp}
+use Rattle.shard.specs.Worked.{two_shards, key_a, key_b, name_x, x_gets, x_of, first_of, stamp, written_then_read, read_then_written, read_at_its_mark, collected_then_read, commit_at_its_mark, excluded_at_its_commit_time, read_above_its_time, two_of_one_stamp}
 use Rattle.shard.specs.Lookalikes.{RowsAreRightEarlier, RowsAreRightLater, RowsAtATimeAreRightEarlier, RowsAtATimeAreRightLater, PartsAreAppliedAbove, GivenUpFarBelow, Marks, Exclusions, TimesOfReads, Stamps, IsRightWithout}
 use Rattle.shard.proofs.Lists.{each_contained}
 use Rattle.shard.proofs.Closed.{not_more, not_below, is_below, are_equal, differ, at, none}
@@ -131,38 +135,45 @@ given_up all =
 
 -- ## Envelopes that are honest but for one clause
 
-pub marks : ¬ (IsRightWithout Marks commit_at_its_mark)
+-- what stands in the journal of a shard was handled
+was_handled : (w : ShardRun) (asked : Envelope) (before after : List Event) → w.events ≡ before ++ Handle asked ∷ after → Contains (envelopes_handled w) asked
+was_handled w asked before after split =
+    given envelope_of w.events (Handle asked) asked
+    (subst (λ (xs : List Event). Contains xs (Handle asked)) (sym split)
+    (Contains-append_right before (Handle asked ∷ after) (Handle asked) (contains_first (Handle asked) after))) refl
+
+pub marks : ¬ (IsRightWithout Marks two_shards 1 commit_at_its_mark)
 marks all =
     let w = commit_at_its_mark in
     let row = empty_now key_a 2 in
     let r = (all but_for_marks).now (told_now 1 3 row) 1 (row ∷ []) (at w.sent (told_now 1 3 row) 1 refl refl) refl in
     wrong w.state.applied r.read (x_of key_a) key_a 2 (part_now row)
-    (asked_now (envelopes_handled w) (x_of key_a) (tt, (refl, (tt, tt))) r.asked 1 r.read r.handled r.body) refl
+    (asked_now (envelopes_handled w) (x_of key_a) (tt, (refl, (tt, tt))) r.asked 1 r.read (was_handled w r.asked r.cause.before r.cause.after r.cause.split) r.body) refl
     (r.right row (at (row ∷ []) row 0 refl refl) 2 (not_more 0 2 refl) (not_more 2 2 refl))
 
-pub exclusions : ¬ (IsRightWithout Exclusions excluded_at_its_commit_time)
+pub exclusions : ¬ (IsRightWithout Exclusions two_shards 1 excluded_at_its_commit_time)
 exclusions all =
     let w = excluded_at_its_commit_time in
     let row = empty_then key_a in
     let r = (all but_for_exclusions).then (told_then 1 5 3 row) 1 3 (row ∷ []) (at w.sent (told_then 1 5 3 row) 2 refl refl) refl in
     wrong w.state.applied r.read (x_of key_a) key_a 3 (part_then row)
-    (asked_then (envelopes_handled w) (x_of key_a) (tt, (refl, (tt, (tt, tt)))) r.asked 1 3 r.read r.handled r.body) refl
+    (asked_then (envelopes_handled w) (x_of key_a) (tt, (refl, (tt, (tt, tt)))) r.asked 1 3 r.read (was_handled w r.asked r.cause.before r.cause.after r.cause.split) r.body) refl
     (r.right row (at (row ∷ []) row 0 refl refl))
 
-pub times_of_reads : ¬ (IsRightWithout TimesOfReads read_above_its_time)
+pub times_of_reads : ¬ (IsRightWithout TimesOfReads two_shards 0 read_above_its_time)
 times_of_reads all =
     let w = read_above_its_time in
     let row = empty_then key_b in
     let r = (all but_for_times).then (told_then 0 2 3 row) 1 3 (row ∷ []) (at w.sent (told_then 0 2 3 row) 0 refl refl) refl in
     wrong w.state.applied r.read (x_of key_b) key_b 3 (part_then row)
-    (asked_then (envelopes_handled w) (x_of key_b) (refl, (tt, tt)) r.asked 1 3 r.read r.handled r.body) refl
+    (asked_then (envelopes_handled w) (x_of key_b) (refl, (tt, tt)) r.asked 1 3 r.read (was_handled w r.asked r.cause.before r.cause.after r.cause.split) r.body) refl
     (r.right row (at (row ∷ []) row 0 refl refl))
 
 -- both writers from time 3 on, where only the first has committed
 abbrev both_now : RowNow
 both_now = record { key = key_a; columns = x_shown; writers = writer 2 ∷ writer 3 ∷ []; evt = 3; lvt = 6 }
 
-pub stamps : ¬ (IsRightWithout Stamps two_of_one_stamp)
+pub stamps : ¬ (IsRightWithout Stamps two_shards 1 two_of_one_stamp)
 stamps all =
     let w = two_of_one_stamp in
     let r = (all but_for_stamps).now (told_now 1 6 both_now) 1 (both_now ∷ []) (at w.sent (told_now 1 6 both_now) 2 refl refl) refl in

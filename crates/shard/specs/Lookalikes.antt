@@ -11,6 +11,7 @@ use Rattle.messages.specs.declared.rows_at.AtTime.TheVariants as at
 use Rattle.messages.specs.declared.body.Body.TheVariants as body
 use Rattle.messages.specs.declared.envelope.Envelope.{Envelope}
 use Rattle.messages.specs.Shard.{ShardState, PreparedPart, Decision}
+use Rattle.messages.specs.Topology.{TopologyValue}
 use Rattle.messages.specs.Honest.{Told, StampedTxn, all_told, part_in, stamps_met, IsHonest}
 use Rattle.messages.specs.Rows.{row_of}
 use Rattle.shard.specs.Events.{ShardRun, envelopes_handled}
@@ -118,5 +119,5 @@ pub record IsHonestBut (left_out : Clause) (a : ShardState) (es : List Envelope)
   pub parts : (e : Envelope) → Contains es e → IsNormal (part_in e.body)
 
 -- that is enough for a shard to be right
-abbrev pub IsRightWithout : Clause → ShardRun → Type 0
-IsRightWithout c w = IsHonestBut c w.state (envelopes_handled w) → IsRightShard w
+abbrev pub IsRightWithout : Clause → TopologyValue → ℕ → ShardRun → Type 0
+IsRightWithout c top me w = IsHonestBut c w.state (envelopes_handled w) → IsRightShard top me w

@@ -1,5 +1,5 @@
 //! Forms that resemble the law of one shard and are false: each is refuted by a worked run.
-ghost use Rattle.shard.specs.Worked.{written_then_read, read_then_written, read_at_its_mark, collected_then_read, commit_at_its_mark, excluded_at_its_commit_time, read_above_its_time, two_of_one_stamp};
+ghost use Rattle.shard.specs.Worked.{two_shards, written_then_read, read_then_written, read_at_its_mark, collected_then_read, commit_at_its_mark, excluded_at_its_commit_time, read_above_its_time, two_of_one_stamp};
 ghost use Rattle.shard.specs.Lookalikes.{RowsAreRightEarlier, RowsAreRightLater, RowsAtATimeAreRightEarlier, RowsAtATimeAreRightLater, PartsAreAppliedAbove, GivenUpFarBelow, Marks, Exclusions, TimesOfReads, Stamps, IsRightWithout};
 
 /// With honest envelopes a row is right between its earliest and its latest valid time, and not one before or after; a row
@@ -18,8 +18,8 @@ pub fn lookalikes_of_right_shards_are_false()
 /// a time that a NotBy named, where a ReadAt names a time that isn't there yet, or where two transactions have one stamp.
 /// Does nothing; its contract is the law.
 pub fn shards_need_honest_envelopes()
-    ensures marks { ¬ (IsRightWithout Marks commit_at_its_mark) }
-    ensures exclusions { ¬ (IsRightWithout Exclusions excluded_at_its_commit_time) }
-    ensures times_of_reads { ¬ (IsRightWithout TimesOfReads read_above_its_time) }
-    ensures stamps { ¬ (IsRightWithout Stamps two_of_one_stamp) }
+    ensures marks { ¬ (IsRightWithout Marks two_shards 1 commit_at_its_mark) }
+    ensures exclusions { ¬ (IsRightWithout Exclusions two_shards 1 excluded_at_its_commit_time) }
+    ensures times_of_reads { ¬ (IsRightWithout TimesOfReads two_shards 0 read_above_its_time) }
+    ensures stamps { ¬ (IsRightWithout Stamps two_shards 1 two_of_one_stamp) }
 {}
