@@ -128,5 +128,10 @@ writes_are_told top w some inv c n s has e =
     record {
       batch = r.0;
       op = r.1;
+      decision = r.2.decision;
+      decided = decided_in top w c.home (coordinator_of top.shards r.0) r.2.decision (coordinator_below top.shards r.0 some) r.2.among;
+      txn = r.2.txn;
+      commit_told = r.2.commit;
+      stamp_told = r.2.stamp;
       entry = λ h q. Contains-permutation (history_of top w c.home) h (committed r.0 s n) (IsPermutation-sym h (history_of top w c.home) q) there;
     }

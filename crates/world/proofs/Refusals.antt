@@ -14,7 +14,7 @@ use Rattle.messages.specs.ShardEvents.{handled, shard_handle, collected, shard_c
 use Rattle.messages.specs.SessionEvents.{heard, session_handle}
 use Rattle.messages.specs.Submitting.{begun, submit_fault, submit_if as session_submit_if, session_submit}
 use Rattle.world.specs.Run.{Run, Event, Submit, Deliver, Collect, opening, after_shard, after_session, after_submission, submit_if, deliver_if, deliver_for, collect_if, step, continued, run}
-use Rattle.world.specs.Refusals.{Refusal, Refused, NoSuchActor, refused_by, refusal_of_message, refusal_of, HaveReasons, IsRun}
+use Rattle.world.specs.Refusals.{clock_at, Refusal, Refused, NoSuchActor, refused_by, refusal_of_message, refusal_of, HaveReasons, IsRun}
 use Rattle.world.proofs.Replayed.{continued_push, runs_replayed}
 use Rattle.world.proofs.Prefixes.{IsAccepted, not_both, accepted}
 
@@ -84,8 +84,8 @@ none_if_added top w x = (allowed_is_added top w x, added_is_allowed top w x)
 -- ## Reasons
 
 -- a step at a clock is refused only where the clock is spent
-spent : {X : Type 0} (t : Option ℕ) (f : ℕ → X) (e : Fault) → refused_by (on_clock t f) ≡ Some (Refused e) → e ≡ ClockSpent
-spent None f e h = cc
+spent : {X : Type 0} (t : Option ℕ) (f : ℕ → X) (e : Fault) → refused_by (on_clock t f) ≡ Some (Refused e) → (t ≡ None) × (e ≡ ClockSpent)
+spent None f e h = let is : e ≡ ClockSpent = cc in (refl, is)
 spent (Some n) f e h = absurd (cc)
 
 no_such : (e : Fault) → Some NoSuchActor ≡ Some (Refused e) → ⊥
@@ -95,28 +95,34 @@ module _ (top : TopologyValue) (w : Run) where
   delivery_spent : (f : Envelope) (e : Fault) (shard session : Bool)
       → (if shard then refused_by (shard_handle top f.to (w.shards f.to) f)
       else if session then refused_by (session_handle top f.to (w.sessions f.to) f) else Some NoSuchActor)
-      ≡ Some (Refused e) → e ≡ ClockSpent
+      ≡ Some (Refused e) → (ticked (if shard then (w.shards f.to).clock else (w.sessions f.to).clock) f.time ≡ None) × (e ≡ ClockSpent)
   delivery_spent f e true session h = spent (ticked (w.shards f.to).clock f.time) (λ n. handled top f.to n (w.shards f.to) f.from f.body) e h
   delivery_spent f e false true h = spent (ticked (w.sessions f.to).clock f.time) (λ n. heard top f.to n (w.sessions f.to) f.from f.body) e h
   delivery_spent f e false false h = absurd (no_such e h)
 
-  message_spent : (o : Option Envelope) (e : Fault) → refusal_of_message top w o ≡ Some (Refused e) → e ≡ ClockSpent
-  message_spent None e h = absurd (cc)
-  message_spent (Some f) e h = delivery_spent f e (is_shard top f.to) (is_session top f.to) h
+  message_spent : (k : ℕ) (o : Option Envelope) (e : Fault) → slice_get w.sent k ≡ o → refusal_of_message top w o ≡ Some (Refused e)
+      → (f : Envelope) × (slice_get w.sent k ≡ Some f) × (ticked (clock_at top w f.to) f.time ≡ None) × (e ≡ ClockSpent)
+  message_spent k None e q h = absurd (cc)
+  message_spent k (Some f) e q h = let p = delivery_spent f e (is_shard top f.to) (is_session top f.to) h in (f, q, p.0, p.1)
 
   collection_spent : (b : Bool) (node time : ℕ) (e : Fault)
-      → (if b then refused_by (shard_collect (w.shards node) time) else Some NoSuchActor) ≡ Some (Refused e) → e ≡ ClockSpent
+      → (if b then refused_by (shard_collect (w.shards node) time) else Some NoSuchActor) ≡ Some (Refused e)
+      → (ticked (w.shards node).clock (w.shards node).clock ≡ None) × (e ≡ ClockSpent)
   collection_spent true node time e h = spent (ticked (w.shards node).clock (w.shards node).clock) (λ n. collected n (w.shards node) time) e h
   collection_spent false node time e h = absurd (no_such e h)
 
   fault_or_spent : (f : Option Fault) (node : ℕ) (o : Op) (e : Fault) → refused_by (session_submit_if f top node (w.sessions node) o) ≡ Some (Refused e)
-      → (f ≡ Some e) ⊎ (e ≡ ClockSpent)
+      → (f ≡ Some e) ⊎ ((f ≡ None) × (ticked (w.sessions node).clock (w.sessions node).clock ≡ None) × (e ≡ ClockSpent))
   fault_or_spent (Some fault) node o e h = let same : fault ≡ e = cc in inl (ap Some same)
-  fault_or_spent None node o e h = inr (spent (ticked (w.sessions node).clock (w.sessions node).clock) (λ n. begun top node n (w.sessions node) o) e h)
+  fault_or_spent None node o e h =
+      let p = spent (ticked (w.sessions node).clock (w.sessions node).clock) (λ n. begun top node n (w.sessions node) o) e h in
+      inr (refl, p.0, p.1)
 
   submission_refused : (b : Bool) (node : ℕ) (o : Op) (e : Fault)
       → (if b then refused_by (session_submit top node (w.sessions node) o) else Some NoSuchActor) ≡ Some (Refused e)
-      → (submit_fault (is_idle (w.sessions node).current) top o ≡ Some e) ⊎ (e ≡ ClockSpent)
+      → (submit_fault (is_idle (w.sessions node).current) top o ≡ Some e)
+      ⊎ ((submit_fault (is_idle (w.sessions node).current) top o ≡ None)
+      × (ticked (w.sessions node).clock (w.sessions node).clock ≡ None) × (e ≡ ClockSpent))
   submission_refused true node o e h = fault_or_spent (submit_fault (is_idle (w.sessions node).current) top o) node o e h
   submission_refused false node o e h = absurd (no_such e h)
 
@@ -124,7 +130,7 @@ module _ (top : TopologyValue) (w : Run) where
   have_reasons =
       record {
         submissions = λ node o e. submission_refused (is_session top node) node o e;
-        deliveries = λ k e. message_spent (slice_get w.sent k) e;
+        deliveries = λ k e. message_spent k (slice_get w.sent k) e refl;
         collections = λ node time e. collection_spent (is_shard top node) node time e;
       }
 

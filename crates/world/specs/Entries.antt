@@ -80,10 +80,16 @@ pub record StampsAgree (top : TopologyValue) (w : Run) : Type 0 where
 
 -- ## Completed writes
 
--- a write that ended with this commit time and this stamp stands so in every history of its session's home
+-- A write that ended with this commit time and this stamp was decided so at its session's home, by its own decision there,
+-- and stands so in every history of it.
 pub record IsTold (top : TopologyValue) (w : Run) (c : Completed) (commit : ℕ) (stamp : StampValue) : Type 0 where
   pub batch : List Change
   pub op : c.op ≡ op.Batch batch
+  pub decision : Decision
+  pub decided : Contains (decisions_in top w c.home) decision
+  pub txn : decision.txn ≡ record { session = c.node; number = c.number }
+  pub commit_told : decision.commit ≡ commit
+  pub stamp_told : decision.stamp ≡ stamp
   pub entry : (h : History) → IsHistory top w c.home h → Contains h (committed batch stamp commit)
 
 -- each completed write does

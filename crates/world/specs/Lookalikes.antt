@@ -273,7 +273,7 @@ RunsKeepAllEvents top events = (run top events).events ≡ events
 
 -- ## Shards
 
--- all that was sent is honest towards each shard, not only what it handled
+-- all that was sent, to whatever shard, is honest towards each, not only what it handled
 abbrev pub SentIsHonest : TopologyValue → Run → Type 0
 SentIsHonest top w = (node : ℕ) → IsHonest (w.shards node) w.sent
 
@@ -296,7 +296,7 @@ IsNearlyQuiet w = (k : ℕ) → k + 1 < length w.sent → Contains (handled w) k
 abbrev pub NearlyQuietMeansDone : TopologyValue → Run → Type 0
 NearlyQuietMeansDone top w = IsNearlyQuiet w → Settled top w
 
--- it takes no topology that there is
+-- it holds also where the topology is none that there is
 abbrev pub QuietMeansDoneAnywhere : TopologyValue → Run → Type 0
 QuietMeansDoneAnywhere top w = IsQuiet w → Settled top w
 

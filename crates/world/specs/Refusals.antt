@@ -5,6 +5,7 @@ use Rattle.logical_time.specs.declared.fault.Fault.TheVariants.{ClockSpent}
 use Rattle.messages.specs.declared.op.Op.{Op}
 use Rattle.messages.specs.declared.envelope.Envelope.{Envelope}
 use Rattle.messages.specs.Topology.{TopologyValue, is_shard, is_session}
+use Rattle.messages.specs.Clock.{ticked}
 use Rattle.messages.specs.ShardEvents.{shard_handle, shard_collect}
 use Rattle.messages.specs.SessionEvents.{session_handle}
 use Rattle.messages.specs.Session.{is_idle}
@@ -38,13 +39,21 @@ refusal_of top w (Submit node op) = if is_session top node then refused_by (sess
 refusal_of top w (Deliver k) = refusal_of_message top w (slice_get w.sent k)
 refusal_of top w (Collect node time) = if is_shard top node then refused_by (shard_collect (w.shards node) time) else Some NoSuchActor
 
--- The reasons of actors: a submission is refused for the session's open operation or for what the planner refuses, and any
--- event for a spent clock.
+-- the clock of the actor with this node
+abbrev pub clock_at : TopologyValue → Run → ℕ → ℕ
+clock_at top w node = if is_shard top node then (w.shards node).clock else (w.sessions node).clock
+
+-- The reasons of actors: a submission is refused for the session's open operation or for what the planner refuses; if for
+-- neither, and any other event at all, only where the actor's clock would leave its range.
 pub record HaveReasons (top : TopologyValue) (w : Run) : Type 0 where
   pub submissions : (node : ℕ) (o : Op) (e : Fault) → refusal_of top w (Submit node o) ≡ Some (Refused e)
-      → (submit_fault (is_idle (w.sessions node).current) top o ≡ Some e) ⊎ (e ≡ ClockSpent)
-  pub deliveries : (k : ℕ) (e : Fault) → refusal_of top w (Deliver k) ≡ Some (Refused e) → e ≡ ClockSpent
-  pub collections : (node time : ℕ) (e : Fault) → refusal_of top w (Collect node time) ≡ Some (Refused e) → e ≡ ClockSpent
+      → (submit_fault (is_idle (w.sessions node).current) top o ≡ Some e)
+      ⊎ ((submit_fault (is_idle (w.sessions node).current) top o ≡ None)
+      × (ticked (w.sessions node).clock (w.sessions node).clock ≡ None) × (e ≡ ClockSpent))
+  pub deliveries : (k : ℕ) (e : Fault) → refusal_of top w (Deliver k) ≡ Some (Refused e)
+      → (f : Envelope) × (slice_get w.sent k ≡ Some f) × (ticked (clock_at top w f.to) f.time ≡ None) × (e ≡ ClockSpent)
+  pub collections : (node time : ℕ) (e : Fault) → refusal_of top w (Collect node time) ≡ Some (Refused e)
+      → (ticked (w.shards node).clock (w.shards node).clock ≡ None) × (e ≡ ClockSpent)
 
 -- a list of events none of which is refused by the run of those before it
 abbrev pub IsRun : TopologyValue → List Event → Type 0

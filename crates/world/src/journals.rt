@@ -21,8 +21,8 @@ pub fn actors_are_their_journals()
 
 /// Journals, one for each actor, are a run if each replays without a refusal and what each handles is for it and was sent by
 /// its sender's journal: then some list of events, none of them refused, has each journal as exactly that actor's events, in
-/// that order. So it is where on each link the receipts are a beginning of what was sent. And the journals of every run are
-/// such. Does nothing; its contract is the law.
+/// that order. So it is where on each link the receipts are a beginning of what was sent. And the journals of every run fit
+/// together, though not always link by link, since messages come in any order. Does nothing; its contract is the law.
 pub fn journals_that_fit_are_a_run()
     ensures fit { (top : TopologyValue) (journals : ℕ → List ActorEvent) → DoFit top journals → IsThreadedRun top journals }
     ensures links { (top : TopologyValue) (journals : ℕ → List ActorEvent) → DoLinksFit top journals → IsThreadedRun top journals }
