@@ -5,6 +5,7 @@
 
 mod building;
 mod chains;
+mod command_lines;
 mod marks;
 mod normal_forms;
 mod readers;
@@ -23,6 +24,7 @@ use versions::Chain;
 
 fn tell_steps(rt: &HostRuntime) -> Result<(), Fault> {
     let alloc = rt.alloc();
+    steps::tell(rt, "command_lines.steps", &mut command_lines::Line)?;
     steps::tell(rt, "normal_forms.steps", &mut normal_forms::Normal)?;
     steps::tell(rt, "reads_of_a_table.steps", &mut History::new(alloc))?;
     steps::tell(rt, "worked_chain.steps", &mut Chain::new(alloc))?;
