@@ -4,8 +4,8 @@ use Rattle.logical_time.specs.Stamps.{StampValue, TxnValue}
 use Rattle.txn_state.specs.declared.part.WritePart.{WritePart}
 use Rattle.txn_state.specs.Votes.{VotesValue}
 
--- the coordinator's own part, the stamp of its data centre, the notices of the cohorts, and the dependencies whose answers
--- are missing
+-- the coordinator's own part, the stamp that came from the write's own data centre, the notices of the cohorts, and the
+-- dependencies whose answers are missing
 pub record RemoteValue : Type 0 where
   pub part : WritePart
   pub stamp : StampValue

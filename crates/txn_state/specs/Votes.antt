@@ -2,7 +2,8 @@
 use Rattle.std.specs.Prelude.{ℕ, Bool, not, ◌==◌, List, filter, length}
 use Rattle.std.specs.List.{list_any}
 
--- the cohorts, as nodes, and those of them whose votes are missing, both in order
+-- the cohorts, as nodes in the order in which they were given, and those of them whose votes are missing. That none is given
+-- twice is the caller's: it would be counted, and told, once for each time
 pub record VotesValue : Type 0 where
   pub cohorts : List ℕ
   pub missing : List ℕ
