@@ -1,14 +1,14 @@
 //! A chain of versions, put in an order that isn't that of their stamps.
 use crate::building::{number, stamp, time, txn};
 use crate::steps::Subject;
-use logical_time::{Fault, Writer};
+use logical_time::{Fault, Shard, Writer};
 use std::alloc::Global;
 use versions::{Chain, Version, What};
 
 fn version(first: &str, evt: &str) -> Version {
     let writer = Writer {
         txn: txn(first),
-        shard: 0,
+        shard: Shard::first(),
     };
     Version {
         stamp: stamp(first),

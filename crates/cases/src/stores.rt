@@ -1,7 +1,7 @@
 //! Column x of row b in a store.
 use crate::building::{add_columns, batch, columns_named, row, stamp, time, txn};
 use crate::steps::{Subject, tell as tell_steps};
-use logical_time::{Fault, Time, Writer};
+use logical_time::{Fault, Shard, Time, Writer};
 use std::alloc::Global;
 use store::{Part, Store};
 use txn_state::{Prepared, WritePart};
@@ -14,7 +14,7 @@ fn apply(
 ) -> Result<(), Fault> {
     let writer = Writer {
         txn: txn(first),
-        shard: 0,
+        shard: Shard::first(),
     };
     let batch = batch(alloc, &[change])?;
     store.make_room(&batch)?;

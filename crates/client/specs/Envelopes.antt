@@ -6,8 +6,8 @@ use Rattle.planner.specs.declared.batches.ShardPart.{ShardPart}
 use Rattle.planner.specs.declared.reads.ShardKeys.{ShardKeys}
 use Rattle.messages.specs.declared.body.Body.TheVariants as body
 use Rattle.messages.specs.declared.envelope.Envelope.{Envelope}
+use Rattle.messages.specs.Home.{HomeValue}
 use Rattle.messages.specs.Words.{envelope}
-use Rattle.client.specs.Home.{HomeValue}
 
 -- the node of a shard
 abbrev pub node_in : HomeValue → ℕ → ℕ

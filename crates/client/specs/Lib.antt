@@ -1,7 +1,6 @@
 pub mod Accepted
 pub mod Current
 pub mod Envelopes
-pub mod Home
 pub mod Ignored
 pub mod Ordering
 pub mod Represents

@@ -81,7 +81,7 @@ fn accept(kept: &mut Kept, ready: Ready, current: Current) -> u64
 }
 
 /// Submits a batch that is allowed.
-#[tactic(auto, using(crate::proofs::Planned::planned_coordinator, crate::proofs::Planned::planned_cohorts, crate::proofs::Planned::posted_batch))]
+#[tactic(auto, using(crate::proofs::Planned::posted_batch))]
 fn submit_batch(kept: &mut Kept, batch: &Batch, outbox: &mut Outbox) -> Result<u64, Fault>
     requires counted { kept.old.count ≤ kept.old.clock }
     requires allowed { fault_of kept.old (op.Batch batch.now) ≡ None }
@@ -114,7 +114,7 @@ fn submit_batch(kept: &mut Kept, batch: &Batch, outbox: &mut Outbox) -> Result<u
 }
 
 /// Sends what a read asks, and gives the shards that it asks.
-#[tactic(auto, using(crate::proofs::Planned::planned_shares, crate::proofs::Planned::posted_read, crate::proofs::Planned::asked_read))]
+#[tactic(auto, using(crate::proofs::Planned::posted_read, crate::proofs::Planned::asked_read))]
 fn ask(kept: &Kept, clock: Clock, read: &Read, outbox: &mut Outbox) -> Result<Vec<Node>, Fault>
     requires counted { kept.now.count < 2 ^ 48 }
     requires allowed { fault_of kept.now (op.Read read.now) ≡ None }

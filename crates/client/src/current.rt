@@ -3,14 +3,15 @@ ghost use Rattle.std.specs.Prelude.{◌≡◌};
 ghost use Rattle.messages.specs.Session.{is_idle};
 ghost use Rattle.client.specs.Current.{open_of, coordinator_of};
 
+use logical_time::Shard;
 use read_txn::{FirstRound, SecondRound};
 
 /// The open operation. A round of a read must be spent.
 pub(crate) enum Current {
     /// None.
     Idle,
-    /// A write, with its coordinator, as the number of a shard within a data centre.
-    Write(u16),
+    /// A write, with its coordinator.
+    Write(Shard),
     /// A read in its first round.
     First(FirstRound),
     /// A read in its second round.
@@ -29,7 +30,7 @@ impl Current {
     }
 
     /// The coordinator of the open write, if a write is open.
-    pub(crate) fn coordinator(&self) -> Option<u16>
+    pub(crate) fn coordinator(&self) -> Option<Shard>
         ensures { result ≡ coordinator_of self.now }
     {
         match self {

@@ -1,11 +1,9 @@
 //! The envelopes of submissions.
-ghost use Rattle.std.specs.Prelude.{◌≡◌, ◌<◌, ◌≤◌, ◌++◌, length, map, IfOk, OnOk, OnErr, IfErr};
-ghost use Rattle.std.specs.List.{AllByRecursion};
+ghost use Rattle.std.specs.Prelude.{◌≡◌, ◌≤◌, ◌++◌, length, map, IfOk, OnOk, OnErr, IfErr};
 ghost use Rattle.client.specs.Envelopes.{node_in, prepare_part, batch_envelopes, read_keys};
 
-use crate::home::Home;
-use logical_time::{Fault, Node, Time, TxnId, Writers};
-use messages::{Body, Cohorts, Envelope, Outbox};
+use logical_time::{Fault, Node, Shard, Time, TxnId, Writers};
+use messages::{Body, Cohorts, Envelope, Home, Outbox};
 use planner::{BatchPlan, ShardKeys, ShardPart};
 use slice::{Keys, Read};
 use std::alloc::Global;
@@ -17,10 +15,9 @@ fn add_prepares(
     node: Node,
     time: Time,
     txn: TxnId,
-    coordinator: u16,
+    coordinator: Shard,
     parts: Vec<ShardPart>,
 ) -> Result<(), Fault>
-    requires { AllByRecursion (λ p. p.shard < home.shards) parts.items }
     ensures ok { OnOk result (envelopes.new.items ≡ envelopes.old.items ++ map (prepare_part home node time txn coordinator) parts.items) }
     ensures memory { IfErr result (λ e. e ≡ Fault.Memory) }
 {
@@ -62,7 +59,6 @@ pub(crate) fn reads(
     read: &Read,
     shares: Vec<ShardKeys>,
 ) -> Result<Vec<Envelope>, Fault>
-    requires { AllByRecursion (λ s. s.shard < home.shards) shares.items }
     ensures ok { IfOk result (λ envelopes. envelopes.items ≡ map (read_keys home node time number read.now) shares.items) }
     ensures memory { IfErr result (λ e. e ≡ Fault.Memory) }
 {
@@ -82,7 +78,6 @@ pub(crate) fn reads(
 
 /// The nodes of these shards.
 pub(crate) fn nodes(alloc: Global, home: Home, shares: &[ShardKeys]) -> Result<Vec<Node>, Fault>
-    requires { AllByRecursion (λ s. s.shard < home.shards) shares.now }
     ensures ok { IfOk result (λ nodes. nodes.items ≡ map (λ s. node_in home s.shard) shares.now) }
     ensures memory { IfErr result (λ e. e ≡ Fault.Memory) }
 {
@@ -121,7 +116,7 @@ fn shards_of(alloc: Global, parts: &[ShardPart]) -> Result<Cohorts, Fault>
     ensures ok { IfOk result (λ cohorts. cohorts ≡ map (λ p. p.shard) parts.now) }
     ensures memory { IfErr result (λ e. e ≡ Fault.Memory) }
 {
-    let shards: Vec<u16> = parts.iter().map(|part| part.shard).collect(alloc)?;
+    let shards: Vec<Shard> = parts.iter().map(|part| part.shard).collect(alloc)?;
     Ok(Cohorts::from_vec(shards))
 }
 
@@ -135,8 +130,6 @@ pub(crate) fn writes(
     dependencies: &Writers,
     plan: BatchPlan,
 ) -> Result<Vec<Envelope>, Fault>
-    requires coordinator { plan.coordinator.shard < home.shards }
-    requires cohorts { AllByRecursion (λ p. p.shard < home.shards) plan.cohorts.items }
     ensures ok { IfOk result (λ envelopes. envelopes.items ≡ batch_envelopes home node time txn dependencies.now plan.coordinator plan.cohorts.items) }
     ensures memory { IfErr result (λ e. e ≡ Fault.Memory) }
 {

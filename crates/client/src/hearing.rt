@@ -8,7 +8,7 @@ ghost use Rattle.client.specs.Steps as steps;
 
 use crate::current::Current;
 use crate::kept::Kept;
-use logical_time::{Clock, Fault, Node, Stamp, Time, TxnId, Writer, Writers};
+use logical_time::{Clock, Fault, Node, Shard, Stamp, Time, TxnId, Writer, Writers};
 use messages::{AtTime, Outcome};
 use read_txn::{Answered, SecondRound, SecondTaken};
 use std::mem;
@@ -38,7 +38,7 @@ fn finish(kept: &mut Kept, clock: Clock, floor: Time, writers: (Writers, Writers
 fn written(
     kept: &mut Kept,
     clock: Clock,
-    coordinator: u16,
+    coordinator: Shard,
     txn: TxnId,
     commit: Time,
     stamp: Stamp,

@@ -1,9 +1,8 @@
 //! What a session keeps.
 use crate::current::Current;
-use crate::home::Home;
 use column_family::Schema;
 use logical_time::{Clock, Node, Time, Writers};
-use messages::Outcome;
+use messages::{Home, Outcome};
 use std::alloc::Global;
 
 /// What a session keeps. While an operation is open, no writers are to be put in order.

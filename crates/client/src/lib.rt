@@ -10,7 +10,6 @@ mod envelopes;
 mod first_answers;
 mod handling;
 mod hearing;
-mod home;
 mod kept;
 mod ordering;
 mod session;

@@ -9,11 +9,10 @@ ghost use Rattle.client.specs.Represents.{Represents, IsStepOf, IsRefusalOf};
 ghost use Rattle.client.specs.Right.{AnswersRight};
 
 use crate::current::Current;
-use crate::home::Home;
 use crate::kept::Kept;
 use crate::{accepting, handling};
 use logical_time::{Clock, Fault, Node, Time, Writers};
-use messages::{Envelope, Op, Outbox, Outcome, Refused, Topology};
+use messages::{Envelope, Home, Op, Outbox, Outcome, Refused, Topology};
 use std::alloc::Global;
 use std::marker::Model;
 
@@ -43,9 +42,8 @@ fn home(topology: &Topology, node: Node) -> Home
     ensures shards { result.shards ≡ topology.now.shards }
 {
     let _homes = topology.homes();
-    let _dcs = topology.dcs();
     match topology.home_of(node) {
-        Some(dc) => Home::new(dc, topology.shards()),
+        Some(dc) => topology.home(dc),
         None => unreachable!(),
     }
 }

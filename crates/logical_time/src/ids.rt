@@ -1,6 +1,7 @@
 //! The numbers of actors and transactions, and the stamps that order transactions.
 ghost use Rattle.std.specs.Prelude.{◌≡◌};
 
+use crate::shards::Shard;
 use crate::time::Time;
 use std::marker::Model;
 
@@ -78,8 +79,8 @@ impl Model for TxnId {
 pub struct Writer {
     /// The transaction.
     pub txn: TxnId,
-    /// Its coordinator, as the number of a shard within a data centre.
-    pub shard: u16,
+    /// Its coordinator.
+    pub shard: Shard,
 }
 
 impl Model for Writer {

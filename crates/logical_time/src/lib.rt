@@ -6,11 +6,13 @@
 mod clock;
 mod fault;
 mod ids;
+mod shards;
 mod time;
 mod writers;
 
 pub use clock::Clock;
 pub use fault::Fault;
 pub use ids::{Node, Stamp, TxnId, Writer};
+pub use shards::{AllShards, Shard, Shards};
 pub use time::Time;
 pub use writers::Writers;

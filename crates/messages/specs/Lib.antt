@@ -1,4 +1,5 @@
 pub mod Topology
+pub mod Home
 pub mod Outbox
 pub mod Posting
 pub mod Clock

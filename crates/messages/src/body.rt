@@ -7,16 +7,16 @@ use crate::copies::{
 use crate::rows_at::AtTime;
 use crate::rows_now::RowsNow;
 use column_family::Batch;
-use logical_time::{Stamp, Time, TxnId, Writers};
+use logical_time::{Shard, Stamp, Time, TxnId, Writers};
 use slice::Read;
 use std::alloc::AllocError;
 use std::marker::Model;
 
-/// The cohorts of a transaction: the shards, beside its coordinator, of which it writes rows, by their numbers within a
-/// data centre. The same in all data centres.
+/// The cohorts of a transaction: the shards, beside its coordinator, of which it writes rows. The same in all data
+/// centres.
 #[derive(Drop, Clone)]
 pub struct Cohorts {
-    shards: Vec<u16>,
+    shards: Vec<Shard>,
 }
 
 impl Model for Cohorts {
@@ -29,21 +29,21 @@ impl Model for Cohorts {
 
 impl Cohorts {
     /// These shards.
-    pub fn from_vec(shards: Vec<u16>) -> Cohorts
+    pub fn from_vec(shards: Vec<Shard>) -> Cohorts
         ensures { result ≡ shards.items }
     {
         Cohorts { shards }
     }
 
     /// The shards.
-    pub fn as_slice(&self) -> &[u16]
+    pub fn as_slice(&self) -> &[Shard]
         ensures { result.now ≡ self.now }
     {
         self.shards.as_slice()
     }
 }
 
-/// What a message says. A shard that is named in one is meant by its number within a data centre.
+/// What a message says.
 #[derive(Drop)]
 pub enum Body {
     /// A session submits a write: to its coordinator.
@@ -64,7 +64,7 @@ pub enum Body {
         /// The cohort's part.
         rows: Batch,
         /// The coordinator.
-        coordinator: u16,
+        coordinator: Shard,
     },
     /// A cohort has prepared its part.
     Yes {
@@ -141,7 +141,7 @@ pub enum Body {
         /// The stamp of the transaction.
         stamp: Stamp,
         /// The coordinator.
-        coordinator: u16,
+        coordinator: Shard,
     },
     /// A cohort keeps its replicated part.
     Notify {

@@ -6,7 +6,7 @@ use crate::body::{Body, Cohorts};
 use crate::rows_at::AtTime;
 use crate::rows_now::RowsNow;
 use column_family::Batch;
-use logical_time::{Stamp, Time, TxnId, Writers};
+use logical_time::{Shard, Stamp, Time, TxnId, Writers};
 use slice::Read;
 use std::alloc::AllocError;
 
@@ -26,7 +26,7 @@ pub(crate) fn begin(
     })
 }
 
-pub(crate) fn prepare(txn: TxnId, rows: &Batch, coordinator: u16) -> Result<Body, AllocError>
+pub(crate) fn prepare(txn: TxnId, rows: &Batch, coordinator: Shard) -> Result<Body, AllocError>
     ensures { IfOk result (λ copy. copy ≡ body.Prepare txn rows.now coordinator) }
 {
     Ok(Body::Prepare {
@@ -77,7 +77,7 @@ pub(crate) fn repl_part(
     txn: TxnId,
     rows: &Batch,
     stamp: Stamp,
-    coordinator: u16,
+    coordinator: Shard,
 ) -> Result<Body, AllocError>
     ensures { IfOk result (λ copy. copy ≡ body.ReplPart txn rows.now stamp coordinator) }
 {

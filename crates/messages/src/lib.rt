@@ -8,6 +8,7 @@ mod body;
 mod copies;
 mod envelope;
 mod event;
+mod home;
 mod law;
 mod op;
 mod outbox;
@@ -20,6 +21,7 @@ mod topology;
 pub use body::{Body, Cohorts};
 pub use envelope::{Envelope, Refused};
 pub use event::Event;
+pub use home::Home;
 pub use law::{
     nodes_are_numbered_once, rounds_of_two_rows, times_of_reads, writers_are_rested_on,
     writers_stand_in_order,

@@ -3,14 +3,13 @@ ghost use Rattle.std.specs.Prelude.{◌≡◌, ◌+◌, ◌*◌, ◌<◌, ◌≤
 ghost use Rattle.std.specs.List.{list_all};
 ghost use Rattle.messages.specs.Topology as spec;
 
+use crate::home::{Home, product};
 use column_family::Schema;
-use logical_time::{Fault, Node};
+use logical_time::{Fault, Node, Shard, Shards};
 use std::marker::Model;
 
 /// How many data centres there may be.
 const MOST_DCS: u16 = 4;
-/// How many shards a data centre may have.
-const MOST_SHARDS: u16 = 8;
 /// How many sessions there may be.
 const MOST_SESSIONS: usize = 16;
 
@@ -19,7 +18,7 @@ const MOST_SESSIONS: usize = 16;
 #[derive(Drop)]
 pub struct Topology {
     dcs: u16,
-    shards: u16,
+    shards: Shards,
     schema: Schema,
     homes: Vec<u16>,
 }
@@ -42,37 +41,16 @@ fn are_homes(homes: &[u16], dcs: u16) -> bool
     homes.iter().all(|home| *home < dcs)
 }
 
-// Whether there may be such data centres, shards and sessions.
-fn is_topology(dcs: u16, shards: u16, homes: &[u16]) -> bool
+// Whether there may be such data centres and sessions.
+fn is_topology(dcs: u16, shards: Shards, homes: &[u16]) -> bool
     ensures { result ≡ spec.is_topology dcs shards homes.now }
 {
+    let _limits = shards.get();
     1 <= dcs
         && dcs <= MOST_DCS
-        && 1 <= shards
-        && shards <= MOST_SHARDS
         && 1 <= homes.len()
         && homes.len() <= MOST_SESSIONS
         && are_homes(homes, dcs)
-}
-
-// The product of two numbers within the limits.
-fn product(dcs: u16, shards: u16) -> u16
-    requires dcs { dcs ≤ 4 }
-    requires shards { shards ≤ 8 }
-    ensures value { result ≡ dcs * shards }
-    ensures limit { result ≤ 32 }
-{
-    dcs * shards
-}
-
-// The node so many places after those of the shards of so many data centres.
-fn node_at(dcs: u16, shards: u16, place: u16) -> Node
-    requires dcs { dcs ≤ 4 }
-    requires shards { shards ≤ 8 }
-    requires place { place ≤ 16 }
-    ensures { result ≡ dcs * shards + place }
-{
-    Node::new(product(dcs, shards) + place)
 }
 
 impl Topology {
@@ -84,15 +62,15 @@ impl Topology {
         ensures refused { IsErrOf result Fault.Script ↔ (spec.is_topology dcs shards homes.items ≡ false) }
         ensures only { IfErr result (λ e. e ≡ Fault.Script) }
     {
-        if !is_topology(dcs, shards, homes.as_slice()) {
-            return Err(Fault::Script);
+        match Shards::new(shards) {
+            Some(shards) if is_topology(dcs, shards, homes.as_slice()) => Ok(Topology {
+                dcs,
+                shards,
+                schema,
+                homes,
+            }),
+            _ => Err(Fault::Script),
         }
-        Ok(Topology {
-            dcs,
-            shards,
-            schema,
-            homes,
-        })
     }
 
     /// How many data centres there are.
@@ -104,7 +82,7 @@ impl Topology {
     }
 
     /// How many shards each data centre has.
-    pub fn shards(&self) -> u16
+    pub fn shards(&self) -> Shards
         ensures value { result ≡ self.now.shards }
         ensures limits { (1 ≤ result) × (result ≤ 8) }
     {
@@ -143,13 +121,12 @@ impl Topology {
         self.shard_count() + self.homes.len() as u16
     }
 
-    /// The node of a shard in a data centre.
-    pub fn shard_node(&self, dc: u16, shard: u16) -> Node
-        requires dc { dc < self.now.dcs }
-        requires shard { shard < self.now.shards }
-        ensures { result ≡ spec.shard_node self.now dc shard }
+    /// The shards of a data centre.
+    pub fn home(&self, dc: u16) -> Home
+        requires { dc < self.now.dcs }
+        ensures { result ≡ record { dc = dc; shards = self.now.shards } }
     {
-        node_at(dc, self.shards, shard)
+        Home::new(dc, self.shards)
     }
 
     /// The node of a session.
@@ -157,7 +134,7 @@ impl Topology {
         requires { session < length self.now.homes }
         ensures { result ≡ spec.session_node self.now session }
     {
-        node_at(self.dcs, self.shards, session)
+        Node::new(self.shard_count() + session)
     }
 
     /// Whether the node is a shard.
@@ -171,14 +148,14 @@ impl Topology {
     pub fn dc_of(&self, node: Node) -> u16
         ensures { result ≡ spec.dc_of self.now node }
     {
-        node.get() / self.shards
+        node.get() / self.shards.get()
     }
 
     /// The number of a shard's node within its data centre.
-    pub fn shard_of(&self, node: Node) -> u16
+    pub fn shard_of(&self, node: Node) -> Shard
         ensures { result ≡ spec.shard_of self.now node }
     {
-        node.get() % self.shards
+        self.shards.shard_for(u128::from(node.get()))
     }
 
     /// The session whose node this is, if it is one.

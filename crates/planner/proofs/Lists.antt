@@ -1,9 +1,9 @@
 -- Lists cut by a test, and tests of lists.
-use Rattle.std.proofs.Common.{◌≡◌, ◌∙◌, ℕ, zero, suc, ◌+◌, ap, sym, refl, Bool, true, false, cond, List, [], ◌∷◌, ◌++◌, map, length, arith, add-one, append-nil}
+use Rattle.std.proofs.Common.{◌≡◌, ◌∙◌, ℕ, ap, sym, refl, Bool, true, false, cond, List, [], ◌∷◌, ◌++◌, map, length, arith}
 use Rattle.std.specs.Prelude.{◌||◌, nat_lt}
-use Rattle.std.specs.List.{filter, list_any, range_with_len}
+use Rattle.std.specs.List.{filter, list_any}
 use Rattle.std.proofs.lemmas.Bool.Decides.{nat_tests}
-use Rattle.std.proofs.lemmas.List.Elements.{filter-append}
+use Rattle.std.proofs.lemmas.List.{append_assoc}
 
 -- a test keeps something exactly where something passes it
 pub kept_any : {X : Type 0} (p : X → Bool) (xs : List X) → nat_lt 0 (length (filter p xs)) ≡ list_any p xs
@@ -14,32 +14,13 @@ kept_any p (x ∷ xs) = go (p x) (kept_any p xs)
     go true ih = grind (arith, nat_tests)
     go false ih = ih
 
--- ---- the numbers below a bound
-below_push : (a n : ℕ) → range_with_len a (suc n) ≡ range_with_len a n ++ (a + n) ∷ []
-below_push a zero = let e : a ≡ a + 0 = omega arith in ap (λ i. i ∷ []) e
-below_push a (suc n) = let e : a + 1 + n ≡ a + suc n = omega arith in ap (λ xs. a ∷ xs) (below_push (a + 1) n ∙ ap (λ i. range_with_len (a + 1) n ++ i ∷ []) e)
+-- ---- what is listed so far, then what the numbers to come that pass a test give, is all: still so after one of them
+module _ {X : Type 0} (f : ℕ → X) (p : ℕ → Bool) (n : ℕ) (rest : List ℕ) (xs all : List X) (so_far : xs ++ map f (filter p (n ∷ rest)) ≡ all) where
+  after : (b : Bool) → p n ≡ b → xs ++ map f (cond b (n ∷ filter p rest) (filter p rest)) ≡ all
+  after b e = ap (λ t. xs ++ map f (cond t (n ∷ filter p rest) (filter p rest))) (sym e) ∙ so_far
 
-map_push : {X Y : Type 0} (f : X → Y) (xs ys : List X) → map f (xs ++ ys) ≡ map f xs ++ map f ys
-map_push f [] ys = refl
-map_push f (x ∷ xs) ys = ap (λ zs. f x ∷ zs) (map_push f xs ys)
+  pub listed_kept : (x : X) → p n ≡ true → x ≡ f n → (xs ++ x ∷ []) ++ map f (filter p rest) ≡ all
+  listed_kept x e same = append_assoc xs (x ∷ []) (map f (filter p rest)) ∙ ap (λ y. xs ++ y ∷ map f (filter p rest)) same ∙ after true e
 
-listed_more : {X : Type 0} (f : ℕ → X) (p : ℕ → Bool) (n : ℕ) (b : Bool) → p n ≡ b → map f (filter p (range_with_len 0 (n + 1))) ≡ map f (filter p (range_with_len 0 n)) ++ cond b (f n ∷ []) []
-listed_more f p n b e =
-    let z : 0 + n ≡ n = omega arith in
-    ap (λ i. map f (filter p (range_with_len 0 i))) (add-one n)
-    ∙ ap (λ xs. map f (filter p xs)) (below_push 0 n ∙ ap (λ i. range_with_len 0 n ++ i ∷ []) z)
-    ∙ ap (λ xs. map f xs) (filter-append p (range_with_len 0 n) (n ∷ []))
-    ∙ map_push f (filter p (range_with_len 0 n)) (filter p (n ∷ []))
-    ∙ ap (λ t. map f (filter p (range_with_len 0 n)) ++ map f (cond t (n ∷ []) [])) e
-    ∙ ap (λ ys. map f (filter p (range_with_len 0 n)) ++ ys) (alone b)
-  where
-    alone : (t : Bool) → map f (cond t (n ∷ []) []) ≡ cond t (f n ∷ []) []
-    alone true = refl
-    alone false = refl
-
--- what is listed of the numbers that pass a test, with one number more
-pub listed_kept : {X : Type 0} (f : ℕ → X) (p : ℕ → Bool) (n : ℕ) (x : X) (xs : List X) → p n ≡ true → x ≡ f n → xs ≡ map f (filter p (range_with_len 0 n)) → xs ++ x ∷ [] ≡ map f (filter p (range_with_len 0 (n + 1)))
-listed_kept f p n x xs e same so_far = ap (λ ys. ys ++ x ∷ []) so_far ∙ ap (λ y. map f (filter p (range_with_len 0 n)) ++ y ∷ []) same ∙ sym (listed_more f p n true e)
-
-pub listed_left : {X : Type 0} (f : ℕ → X) (p : ℕ → Bool) (n : ℕ) (xs : List X) → p n ≡ false → xs ≡ map f (filter p (range_with_len 0 n)) → xs ≡ map f (filter p (range_with_len 0 (n + 1)))
-listed_left f p n xs e so_far = so_far ∙ sym (append-nil (map f (filter p (range_with_len 0 n)))) ∙ sym (listed_more f p n false e)
+  pub listed_left : p n ≡ false → xs ++ map f (filter p rest) ≡ all
+  listed_left e = after false e

@@ -1,5 +1,5 @@
 //! The cut of a batch by shards.
-ghost use Rattle.std.specs.Prelude.{◌≡◌, ◌<◌, ◌&&◌, ◌==◌, not, ◌∷◌, map, filter, IfOk, IfErr};
+ghost use Rattle.std.specs.Prelude.{◌≡◌, ◌&&◌, ◌==◌, not, ◌∷◌, map, filter, IfOk, IfErr};
 ghost use Rattle.std.specs.List.{range_with_len};
 ghost use Rattle.column_family.specs.Places.{normal_of};
 ghost use Rattle.planner.specs.Checks.{batch_fault, IsRefusedForOrMemory};
@@ -9,14 +9,14 @@ ghost use Rattle.planner.specs.Planned.{part_on, IsCut};
 use crate::checks::check_batch;
 use crate::partition::shard_of;
 use column_family::{Batch, Change, Schema, normal};
-use logical_time::Fault;
+use logical_time::{Fault, Shard, Shards};
 use std::alloc::Global;
 
 /// The part of a shard in the plan of a batch.
 #[derive(Drop)]
 pub struct ShardPart {
-    /// The shard, as its number within a data centre.
-    pub shard: u16,
+    /// The shard.
+    pub shard: Shard,
     /// The changes of its rows, in normal form.
     pub batch: Batch,
 }
@@ -31,8 +31,7 @@ pub struct BatchPlan {
 }
 
 /// Of a batch in normal form the changes of a shard's rows, in order.
-fn part_of(alloc: Global, changes: &[Change], shard: u16, shards: u16) -> Result<Batch, Fault>
-    requires { 0 < shards }
+fn part_of(alloc: Global, changes: &[Change], shard: Shard, shards: Shards) -> Result<Batch, Fault>
     ensures exact { IfOk result (λ part. part ≡ plans.part_for shards changes.now shard) }
     ensures memory { IfErr result (λ e. e ≡ Fault.Memory) }
 {
@@ -46,8 +45,7 @@ fn part_of(alloc: Global, changes: &[Change], shard: u16, shards: u16) -> Result
 }
 
 /// Whether the batch touches a row of the shard.
-fn is_touched(changes: &[Change], shard: u16, shards: u16) -> bool
-    requires { 0 < shards }
+fn is_touched(changes: &[Change], shard: Shard, shards: Shards) -> bool
     ensures { result ≡ plans.is_touched shards changes.now shard }
 {
     changes
@@ -56,8 +54,7 @@ fn is_touched(changes: &[Change], shard: u16, shards: u16) -> bool
 }
 
 /// Whether the shard is another than the coordinator, and the batch touches one of its rows.
-fn is_cohort(changes: &[Change], shard: u16, coordinator: u16, shards: u16) -> bool
-    requires { 0 < shards }
+fn is_cohort(changes: &[Change], shard: Shard, coordinator: Shard, shards: Shards) -> bool
     ensures { result ≡ (not (shard == coordinator) && plans.is_touched shards changes.now shard) }
 {
     shard != coordinator && is_touched(changes, shard, shards)
@@ -67,15 +64,14 @@ fn is_cohort(changes: &[Change], shard: u16, coordinator: u16, shards: u16) -> b
 fn cohort_parts(
     alloc: Global,
     changes: &[Change],
-    coordinator: u16,
-    shards: u16,
+    coordinator: Shard,
+    shards: Shards,
 ) -> Result<Vec<ShardPart>, Fault>
-    requires { 0 < shards }
     ensures exact { IfOk result (λ parts. parts.items ≡ map (part_on shards changes.now) (filter (λ s. not (s == coordinator) && plans.is_touched shards changes.now s) (range_with_len 0 shards))) }
     ensures memory { IfErr result (λ e. e ≡ Fault.Memory) }
 {
     let mut parts = Vec::new(alloc);
-    for shard in 0..shards {
+    for shard in shards.all() {
         if is_cohort(changes, shard, coordinator, shards) {
             let batch = part_of(alloc, changes, shard, shards)?;
             parts.push(ShardPart { shard, batch })?;
@@ -85,19 +81,17 @@ fn cohort_parts(
 }
 
 /// The shard of the first row.
-fn coordinator_of(changes: &[Change], shards: u16) -> u16
-    requires { 0 < shards }
+fn coordinator_of(changes: &[Change], shards: Shards) -> Shard
     ensures { result ≡ plans.coordinator_of shards changes.now }
 {
     match changes.first() {
         Some(first) => shard_of(&first.row.key, shards),
-        None => 0,
+        None => Shard::first(),
     }
 }
 
 /// The plan of a batch that is accepted.
-fn cut(alloc: Global, batch: &Batch, shards: u16) -> Result<BatchPlan, Fault>
-    requires { 0 < shards }
+fn cut(alloc: Global, batch: &Batch, shards: Shards) -> Result<BatchPlan, Fault>
     ensures coordinator { IfOk result (λ plan. plan.coordinator ≡ part_on shards (normal_of batch.now) (plans.coordinator_of shards batch.now)) }
     ensures cohorts { IfOk result (λ plan. plan.cohorts.items ≡ map (part_on shards (normal_of batch.now)) (filter (λ s. not (s == plans.coordinator_of shards batch.now) && plans.is_touched shards (normal_of batch.now) s) (range_with_len 0 shards))) }
     ensures memory { IfErr result (λ e. e ≡ Fault.Memory) }
@@ -118,14 +112,14 @@ pub fn plan_batch(
     alloc: Global,
     batch: &Batch,
     schema: &Schema,
-    shards: u16,
+    shards: Shards,
 ) -> Result<BatchPlan, Fault>
-    requires { 0 < shards }
     ensures refused { IsRefusedForOrMemory (batch_fault schema.now batch.now) result }
     ensures coordinator { IfOk result (λ plan. plan.coordinator ≡ part_on shards (normal_of batch.now) (plans.coordinator_of shards batch.now)) }
     ensures cohorts { IfOk result (λ plan. plan.cohorts.items ≡ map (part_on shards (normal_of batch.now)) (plans.cohorts_of shards batch.now)) }
     ensures cut { IfOk result (λ plan. IsCut shards (normal_of batch.now) (plan.coordinator ∷ plan.cohorts.items)) }
 {
+    let _some = shards.get();
     check_batch(schema, batch)?;
     cut(alloc, batch, shards)
 }

@@ -3,6 +3,7 @@ ghost use Rattle.std.specs.Prelude.{◌≡◌, ◌<◌, sum};
 ghost use Rattle.planner.specs.Partition as partition;
 
 use column_family::Key;
+use logical_time::{Shard, Shards};
 
 /// The sum of the bytes.
 fn byte_sum(bytes: &[u8]) -> u128
@@ -15,11 +16,11 @@ fn byte_sum(bytes: &[u8]) -> u128
     total
 }
 
-/// The shard of a key, of so many, as the number of a shard within a data centre: the sum of its bytes modulo the
+/// The shard of a key, of so many: the one to which the sum of its bytes falls, so the remainder of the sum by the
 /// number of shards. It is the same in every data centre.
-pub fn shard_of(key: &Key, shards: u16) -> u16
-    requires { 0 < shards }
-    ensures { result ≡ partition.shard_of shards key.now }
+pub fn shard_of(key: &Key, shards: Shards) -> Shard
+    ensures value { result ≡ partition.shard_of shards key.now }
+    ensures below { result < shards }
 {
-    (byte_sum(key.as_slice()) % u128::from(shards)) as u16
+    shards.shard_for(byte_sum(key.as_slice()))
 }

@@ -1,5 +1,5 @@
 //! The cut of a read by shards.
-ghost use Rattle.std.specs.Prelude.{◌≡◌, ◌<◌, List, ℕ, map, filter, IfOk, IfErr};
+ghost use Rattle.std.specs.Prelude.{◌≡◌, List, ℕ, map, filter, IfOk, IfErr};
 ghost use Rattle.planner.specs.Checks.{read_fault, IsRefusedForOrMemory};
 ghost use Rattle.planner.specs.Plan as plans;
 ghost use Rattle.planner.specs.Planned.{keys_on, IsKeyCut};
@@ -7,7 +7,7 @@ ghost use Rattle.planner.specs.Planned.{keys_on, IsKeyCut};
 use crate::checks::check_read;
 use crate::partition::shard_of;
 use column_family::{Key, Schema};
-use logical_time::Fault;
+use logical_time::{Fault, Shard, Shards};
 use slice::{Keys, Read};
 use std::alloc::Global;
 use table::each_once;
@@ -15,8 +15,8 @@ use table::each_once;
 /// The keys that a read asks of a shard.
 #[derive(Drop)]
 pub struct ShardKeys {
-    /// The shard, as its number within a data centre.
-    pub shard: u16,
+    /// The shard.
+    pub shard: Shard,
     /// Its keys among those that the read lists, each once, in the order of first asking.
     pub keys: Keys,
 }
@@ -29,8 +29,7 @@ pub struct ReadPlan {
 }
 
 /// The keys of a shard among these.
-fn keys_of(alloc: Global, keys: &[Key], shard: u16, shards: u16) -> Result<Vec<Key>, Fault>
-    requires { 0 < shards }
+fn keys_of(alloc: Global, keys: &[Key], shard: Shard, shards: Shards) -> Result<Vec<Key>, Fault>
     ensures exact { IfOk result (λ own. own.items ≡ filter (plans.is_on shards shard) keys.now) }
     ensures memory { IfErr result (λ e. e ≡ Fault.Memory) }
 {
@@ -44,14 +43,13 @@ fn keys_of(alloc: Global, keys: &[Key], shard: u16, shards: u16) -> Result<Vec<K
 }
 
 /// The keys of each shard that has some of those that a read lists, ascending by shard.
-fn cut(alloc: Global, keys: &[Key], shards: u16) -> Result<ReadPlan, Fault>
-    requires { 0 < shards }
+fn cut(alloc: Global, keys: &[Key], shards: Shards) -> Result<ReadPlan, Fault>
     ensures exact { IfOk result (λ plan. plan.asked.items ≡ map (keys_on shards keys.now) (plans.shards_asked shards keys.now)) }
     ensures memory { IfErr result (λ e. e ≡ Fault.Memory) }
 {
     let once = each_once(alloc, keys)?;
     let mut asked = Vec::new(alloc);
-    for shard in 0..shards {
+    for shard in shards.all() {
         let own = keys_of(alloc, &once, shard, shards)?;
         if !own.is_empty() {
             asked.push(ShardKeys {
@@ -69,13 +67,13 @@ pub fn plan_read(
     alloc: Global,
     read: &Read,
     schema: &Schema,
-    shards: u16,
+    shards: Shards,
 ) -> Result<ReadPlan, Fault>
-    requires { 0 < shards }
     ensures refused { IsRefusedForOrMemory (read_fault schema.now read.now) result }
     ensures asked { IfOk result (λ plan. plan.asked.items ≡ map (keys_on shards read.now.keys) (plans.shards_asked shards read.now.keys)) }
     ensures cut { IfOk result (λ plan. IsKeyCut shards read.now.keys plan.asked.items) }
 {
+    let _some = shards.get();
     check_read(schema, read)?;
     cut(alloc, read.keys.as_slice(), shards)
 }

@@ -10,14 +10,14 @@ use crate::checks::check_op;
 use crate::script::{Event, Op, Script};
 use crate::transcript::{Entry, Transcript};
 use column_family::{Batch, Key, Row, Schema, normal};
-use logical_time::{Clock, Fault, Node, Stamp, Time, TxnId, Writer};
+use logical_time::{Clock, Fault, Node, Shard, Stamp, Time, TxnId, Writer};
 use slice::{Answer, AnsweredRow, Read};
 use std::alloc::Global;
 use store::Store;
 use table::each_once;
 use txn_state::{Prepared, WritePart};
 
-/// The shard's number, and its node.
+/// The shard's node.
 const SHARD: u16 = 0;
 /// The session's node.
 const SESSION: u16 = 1;
@@ -180,7 +180,10 @@ impl Runner {
             number: self.accepted,
         };
         let part = WritePart {
-            writer: Writer { txn, shard: SHARD },
+            writer: Writer {
+                txn,
+                shard: Shard::first(),
+            },
             batch: normal,
         };
         let prepared = Prepared::new(part, commit);

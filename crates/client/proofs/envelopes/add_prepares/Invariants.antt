@@ -1,12 +1,9 @@
-use Rattle.std.proofs.Common.{◌≡◌, ◌++◌, ◌<◌, map}
-use Rattle.std.specs.List.{AllByRecursion}
+use Rattle.std.proofs.Common.{◌≡◌, ◌++◌, map}
 use Rattle.client.specs.Envelopes.{prepare_part}
 use Rattle.client.proofs.envelopes.add_prepares.Given as goal
 
--- the envelopes so far, then those of the parts that are left, are those of all; and what is left are shards of the home
+-- the envelopes so far, then those of the parts that are left, are those of all
 abbrev pub invariant-loop-part : goal.invariant-loop-part
-invariant-loop-part l = record {
-  all : l.envelopes.items ++ map (prepare_part l.home l.node l.time l.txn l.coordinator) l.part-iterator.rest.items
-      ≡ l.fn.envelopes.items ++ map (prepare_part l.home l.node l.time l.txn l.coordinator) l.fn.parts.items;
-  shards : AllByRecursion (λ p. p.shard < l.home.shards) l.part-iterator.rest.items;
-}
+invariant-loop-part l =
+    l.envelopes.items ++ map (prepare_part l.home l.node l.time l.txn l.coordinator) l.part-iterator.rest.items
+    ≡ l.fn.envelopes.items ++ map (prepare_part l.home l.node l.time l.txn l.coordinator) l.fn.parts.items

@@ -8,5 +8,5 @@ use Rattle.planner.proofs.reads.plan_read.Goals as goal
 pub returns-clause-cut : goal.returns-clause-cut
 returns-clause-cut c =
     IfOk-weaker c.cut.result _ (λ plan. IsKeyCut c.args.shards c.args.read.now.keys plan.asked.items)
-    (λ plan e. keys_cut c.args.shards c.args.read.now.keys plan.asked.items c.requires (e ∙ ap (λ ks. map (keys_on c.args.shards ks) (shards_asked c.args.shards ks)) c.as_slice.ensures))
+    (λ plan e. keys_cut c.args.shards c.args.read.now.keys plan.asked.items c.get-some.ensures.some (e ∙ ap (λ ks. map (keys_on c.args.shards ks) (shards_asked c.args.shards ks)) c.as_slice.ensures))
     c.cut.ensures.exact

@@ -1,4 +1,4 @@
--- The shards of a session's home.
+-- A data centre, by its shards.
 use Rattle.std.specs.Prelude.{ℕ}
 
 -- the number of the data centre, and how many shards it has
