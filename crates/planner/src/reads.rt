@@ -1,5 +1,6 @@
 //! The cut of a read by shards.
 ghost use Rattle.std.specs.Prelude.{◌≡◌, List, ℕ, map, filter, IfOk, IfErr};
+ghost use Rattle.std.specs.List.{list_any};
 ghost use Rattle.planner.specs.Checks.{read_fault, IsRefusedForOrMemory};
 ghost use Rattle.planner.specs.Plan as plans;
 ghost use Rattle.planner.specs.Planned.{keys_on, IsKeyCut};
@@ -42,6 +43,13 @@ fn keys_of(alloc: Global, keys: &[Key], shard: Shard, shards: Shards) -> Result<
     Ok(own)
 }
 
+/// Whether one of the keys is on the shard.
+fn is_asked(keys: &[Key], shard: Shard, shards: Shards) -> bool
+    ensures { result ≡ list_any (plans.is_on shards shard) keys.now }
+{
+    keys.iter().any(|key| shard_of(key, shards) == shard)
+}
+
 /// The keys of each shard that has some of those that a read lists, ascending by shard.
 fn cut(alloc: Global, keys: &[Key], shards: Shards) -> Result<ReadPlan, Fault>
     ensures exact { IfOk result (λ plan. plan.asked.items ≡ map (keys_on shards keys.now) (plans.shards_asked shards keys.now)) }
@@ -50,8 +58,8 @@ fn cut(alloc: Global, keys: &[Key], shards: Shards) -> Result<ReadPlan, Fault>
     let once = each_once(alloc, keys)?;
     let mut asked = Vec::new(alloc);
     for shard in shards.all() {
-        let own = keys_of(alloc, &once, shard, shards)?;
-        if !own.is_empty() {
+        if is_asked(keys, shard, shards) {
+            let own = keys_of(alloc, &once, shard, shards)?;
             asked.push(ShardKeys {
                 shard,
                 keys: Keys::from_vec(own),
@@ -62,7 +70,7 @@ fn cut(alloc: Global, keys: &[Key], shards: Shards) -> Result<ReadPlan, Fault>
 }
 
 /// The plan of a read for so many shards: its keys, each once, cut by shards. In the order of n log n for n keys as
-/// listed, and once through them for each shard. Refused as `check_read` refuses it, and else with `Memory` alone.
+/// listed, and twice through them for each shard. Refused as `check_read` refuses it, and else with `Memory` alone.
 pub fn plan_read(
     alloc: Global,
     read: &Read,

@@ -1,4 +1,4 @@
-use Rattle.std.proofs.Common.{◌≡◌, ◌∙◌, ap, map}
+use Rattle.std.proofs.Common.{◌≡◌, ◌∙◌, ap, map, arith}
 use Rattle.std.proofs.lemmas.Result.{IfOk-weaker}
 use Rattle.column_family.specs.Places.{normal_of}
 use Rattle.planner.specs.Plan.{coordinator_of, cohorts_of}
@@ -17,6 +17,6 @@ returns-clause-cut c =
     plan_cut c.args.shards (normal_of c.args.batch.now) c.cut.result
     (part_on c.args.shards (normal_of c.args.batch.now) (coordinator_of c.args.shards c.args.batch.now))
     (map (part_on c.args.shards (normal_of c.args.batch.now)) (cohorts_of c.args.shards c.args.batch.now))
-    (parts_cut c.args.schema.now c.args.batch.now c.args.shards c.get-some.ensures.some c.in_ok-check_batch.ensures)
+    (parts_cut c.args.schema.now c.args.batch.now c.args.shards (omega (arith, c.get-some.ensures.value, c.get-some.ensures.some)) c.in_ok-check_batch.ensures)
     c.cut.ensures.coordinator
     (returns-clause-cohorts c)

@@ -1,4 +1,4 @@
-use Rattle.std.proofs.Common.{rules, ◌≡◌, ◌∙◌, sym}
+use Rattle.std.proofs.Common.{rules, ◌∙◌, sym}
 use Rattle.logical_time.proofs.Counting.{counted_first, fewer_left}
 use Rattle.logical_time.proofs.shards.AllShardsIterator.next.Goals as goal
 
