@@ -134,7 +134,7 @@ impl Topology {
         requires { session < length self.now.homes }
         ensures { result ≡ spec.session_node self.now session }
     {
-        Node::new(self.shard_count() + session)
+        Node::new(product(self.dcs, self.shards) + session)
     }
 
     /// Whether the node is a shard.
