@@ -1,0 +1,5 @@
+pub mod Roles
+pub mod Ledger
+pub mod Places
+pub mod Next
+pub mod Voters

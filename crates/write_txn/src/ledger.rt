@@ -1,0 +1,166 @@
+//! What a shard knows of each transaction.
+ghost use Rattle.std.specs.Prelude.{◌≡◌, OnOk, OnErr, IfErr, None, Some, is_some};
+ghost use Rattle.std.specs.Option.{option_copied};
+ghost use Rattle.logical_time.specs.declared.fault.Fault.TheVariants as fault;
+ghost use Rattle.logical_time.specs.Stamps.{TxnValue};
+
+use crate::open::Open;
+use crate::status::Status;
+use crate::steps::{
+    add_decided, add_open, answer_in, decided_in, finish_in, notice_in, open_in, prepare_in,
+    ready_in, vote_in,
+};
+use logical_time::{Fault, Node, Stamp, Time, TxnId};
+use std::alloc::Global;
+use std::collections::BTreeMap;
+use std::marker::Model;
+use txn_state::{Complete, Prepared};
+
+/// What a shard knows of each transaction: what is under way of it, or, once that is over, that its part is applied or
+/// how it was decided. What is under way must be spent.
+pub struct Ledger {
+    statuses: BTreeMap<TxnId, Status>,
+    under_way: Vec<Open>,
+}
+
+impl Model for Ledger {
+    ghost use Rattle.write_txn.specs.Ledger.{LedgerValue, IsPlaced};
+
+    ghost Value = { LedgerValue };
+
+    ghost view = { λ l. record { statuses = l.statuses.entries; under_way = l.under_way.items } };
+
+    ghost invariant = { λ l. IsPlaced (record { statuses = l.statuses.entries; under_way = l.under_way.items }) };
+}
+
+impl Ledger {
+    ghost use Rattle.write_txn.specs.Ledger as ledger;
+    ghost use Rattle.write_txn.specs.Ledger.{state_of, txn_of, Holds, IsDecided, Becomes, HaveSameStates, state_prepared, state_applied, part_in, state_voted, completed_by, state_noticed, state_answered, state_ready, readied_by};
+
+    /// Nothing is known.
+    pub fn new(alloc: Global) -> Ledger
+        ensures { (t : TxnValue) → state_of result t ≡ None }
+    {
+        Ledger {
+            statuses: BTreeMap::new(alloc),
+            under_way: Vec::new(alloc),
+        }
+    }
+
+    /// Whether anything is known of the transaction. In the order of log n for n known transactions, as each function
+    /// here is that names one.
+    pub fn knows(&self, txn: TxnId) -> bool
+        ensures { result ≡ is_some (state_of self.now txn) }
+    {
+        self.statuses.contains_key(&txn)
+    }
+
+    /// What is under way of the transaction.
+    pub fn open(&self, txn: TxnId) -> Option<&Open>
+        ensures { option_copied result ≡ ledger.open_in (state_of self.now txn) }
+    {
+        open_in(&self.statuses, self.under_way.as_slice(), txn)
+    }
+
+    /// Its commit time and its stamp, if the transaction is decided here.
+    pub fn decided(&self, txn: TxnId) -> Option<(Time, Stamp)>
+        ensures { result ≡ ledger.decided_in (state_of self.now txn) }
+    {
+        decided_in(&self.statuses, txn)
+    }
+
+    /// All that is under way, in no order that means anything.
+    pub fn as_slice(&self) -> &[Open]
+        ensures { result.now ≡ self.now.under_way }
+    {
+        self.under_way.as_slice()
+    }
+
+    /// Adds what is under way of a transaction. Refused with `Memory` alone, and then it comes back and nothing has
+    /// changed.
+    pub fn add(&mut self, held: Open) -> Result<(), (Fault, Open)>
+        requires { state_of self.old (txn_of held) ≡ None }
+        ensures ok { OnOk result (Becomes (txn_of held) (Some (Holds held)) self.old self.new) }
+        ensures err { OnErr result (HaveSameStates self.old self.new) }
+        ensures memory { IfErr result (λ e. (e.0 ≡ fault.Memory) × (e.1 ≡ held)) }
+    {
+        add_open(&mut self.statuses, &mut self.under_way, held)
+    }
+
+    /// Notes that a transaction was decided of which nothing was under way. Refused with `Memory` alone, and then
+    /// nothing has changed.
+    pub fn add_decided(&mut self, txn: TxnId, commit: Time, stamp: Stamp) -> Result<(), Fault>
+        requires { state_of self.old txn ≡ None }
+        ensures ok { OnOk result (Becomes txn (Some (IsDecided commit stamp)) self.old self.new) }
+        ensures err { OnErr result (HaveSameStates self.old self.new) }
+        ensures memory { IfErr result (λ e. e ≡ fault.Memory) }
+    {
+        add_decided(&mut self.statuses, txn, commit, stamp)
+    }
+
+    /// Prepares the transaction's part at this time, if one is kept. Takes no memory.
+    pub fn prepare(&mut self, txn: TxnId, time: Time)
+        ensures { Becomes txn (state_prepared time (state_of self.old txn)) self.old self.new }
+    {
+        prepare_in(&self.statuses, &mut self.under_way, txn, time);
+    }
+
+    /// Takes the transaction's part out, if one is prepared: for a store that applies it. Takes no memory.
+    pub fn finish(&mut self, txn: TxnId) -> Option<Prepared>
+        ensures part { result ≡ part_in (state_of self.old txn) }
+        ensures applied { Becomes txn (state_applied (state_of self.old txn)) self.old self.new }
+    {
+        finish_in(&mut self.statuses, &mut self.under_way, txn)
+    }
+
+    /// Counts the vote of a node for the transaction, if a ballot of it is held. The last missing vote decides it, at
+    /// this commit time; where the write was submitted here the stamp is that time and this shard. Takes no memory.
+    pub fn vote(&mut self, txn: TxnId, node: Node, me: Node, commit: Time) -> Option<Complete>
+        ensures complete { result ≡ completed_by node (state_of self.old txn) }
+        ensures voted { Becomes txn (state_voted me commit node (state_of self.old txn)) self.old self.new }
+    {
+        vote_in(
+            &mut self.statuses,
+            &mut self.under_way,
+            txn,
+            node,
+            me,
+            commit,
+        )
+    }
+
+    /// Counts the notice of a node for the transaction, if a ballot of it waits. Takes no memory.
+    pub fn notice(&mut self, txn: TxnId, node: Node)
+        ensures { Becomes txn (state_noticed node (state_of self.old txn)) self.old self.new }
+    {
+        notice_in(&self.statuses, &mut self.under_way, txn, node);
+    }
+
+    /// Counts the answer for a dependency of the transaction, if a ballot of it waits. Takes no memory.
+    pub fn answer(&mut self, txn: TxnId, dependency: TxnId)
+        ensures { Becomes txn (state_answered dependency (state_of self.old txn)) self.old self.new }
+    {
+        answer_in(&self.statuses, &mut self.under_way, txn, dependency);
+    }
+
+    /// Prepares the shard's own part at this time, if a ballot of the transaction waits of which nothing is missing: its
+    /// cohorts are to vote, or it is decided at this time if it has none. Takes no memory.
+    pub fn ready(&mut self, txn: TxnId, time: Time) -> Option<Complete>
+        ensures complete { result ≡ readied_by time (state_of self.old txn) }
+        ensures ready { Becomes txn (state_ready time (state_of self.old txn)) self.old self.new }
+    {
+        ready_in(&mut self.statuses, &mut self.under_way, txn, time)
+    }
+
+    /// Surrenders all that is under way.
+    pub fn close(self) {
+        let Ledger {
+            statuses: _,
+            mut under_way,
+        } = self;
+        while let Some(open) = under_way.pop() {
+            let _part = open.surrender();
+        }
+        under_way.destroy_empty();
+    }
+}

@@ -1,0 +1,91 @@
+//! The statuses of transactions, and the places of what is under way.
+//!
+//! What is taken out at a place leaves the last one there: it is put back, which moves the last one to the end again, or
+//! the last one's status gets its new place.
+ghost use Rattle.std.specs.Prelude.{◌≡◌, ◌<◌, ◌≤◌, ◌∷◌, [], ◌++◌, if◌then◌else◌, option_map, slice_get, vec_len, vec_capacity};
+ghost use Rattle.std.specs.List.{swap};
+ghost use Rattle.std.specs.Ordering.{is_eq};
+ghost use Rattle.logical_time.specs.Stamps.{TxnValue, txn_cmp};
+ghost use Rattle.write_txn.specs.Ledger.{status_in};
+ghost use Rattle.write_txn.specs.Places.{place_of, status_set, status_moved, IsPut};
+
+use crate::next::Next;
+use crate::open::Open;
+use crate::status::Status;
+use logical_time::TxnId;
+use std::collections::BTreeMap;
+
+/// The place of what is under way of a transaction.
+pub(crate) fn place_in(statuses: &BTreeMap<TxnId, Status>, txn: TxnId) -> Option<usize>
+    ensures { result ≡ place_of (status_in statuses.now.entries txn) }
+{
+    match statuses.get(&txn) {
+        Some(Status::Open(place)) => Some(*place),
+        _ => None,
+    }
+}
+
+/// Changes the status of a transaction that has one.
+fn set_status(statuses: &mut BTreeMap<TxnId, Status>, txn: TxnId, status: Status)
+    ensures { (u : TxnValue) → status_in statuses.new.entries u ≡ status_set txn status u (status_in statuses.old.entries u) }
+{
+    if let Some(held) = statuses.get_mut(&txn) {
+        *held = status;
+    }
+}
+
+/// Gives what stands at this place, if something does, the place as its status.
+fn close_gap(statuses: &mut BTreeMap<TxnId, Status>, under_way: &[Open], place: usize)
+    ensures { (u : TxnValue) → status_in statuses.new.entries u ≡ status_moved (slice_get under_way.now place) place u (status_in statuses.old.entries u) }
+{
+    if let Some(moved) = under_way.get(place) {
+        set_status(statuses, moved.txn(), Status::Open(place));
+    }
+}
+
+/// Closes the gap at a place, and changes the status of the transaction that left it.
+fn settle(
+    statuses: &mut BTreeMap<TxnId, Status>,
+    under_way: &[Open],
+    place: usize,
+    txn: TxnId,
+    status: Status,
+)
+    ensures { (u : TxnValue) → status_in statuses.new.entries u ≡ status_set txn status u (status_moved (slice_get under_way.now place) place u (status_in statuses.old.entries u)) }
+{
+    close_gap(statuses, under_way, place);
+    set_status(statuses, txn, status);
+}
+
+/// Puts what was taken out at a place back.
+pub(crate) fn put_back(under_way: &mut Vec<Open>, place: usize, held: Open)
+    requires place { place ≤ vec_len under_way.old }
+    requires room { vec_len under_way.old < vec_capacity under_way.old }
+    ensures { under_way.new.items ≡ swap (under_way.old.items ++ held ∷ []) place (vec_len under_way.old) }
+{
+    under_way.push(held).unwrap();
+    let last = under_way.len() - 1;
+    under_way.swap(place, last);
+}
+
+/// Puts what became of a transaction in the place of what was taken out there.
+pub(crate) fn put(
+    statuses: &mut BTreeMap<TxnId, Status>,
+    under_way: &mut Vec<Open>,
+    place: usize,
+    txn: TxnId,
+    next: Next,
+)
+    requires place { place ≤ vec_len under_way.old }
+    requires room { vec_len under_way.old < vec_capacity under_way.old }
+    ensures { IsPut place txn next statuses.old.entries under_way.old.items statuses.new.entries under_way.new.items }
+{
+    match next {
+        Next::Holds(held) => put_back(under_way, place, held),
+        Next::Applied => settle(statuses, under_way.as_slice(), place, txn, Status::Applied),
+        Next::Decided { commit, stamp } => {
+            let status = Status::Decided { commit, stamp };
+            settle(statuses, under_way.as_slice(), place, txn, status);
+        }
+    }
+}

@@ -1,0 +1,200 @@
+//! The steps of what is under way, each over the statuses and the list of what is under way.
+ghost use Rattle.std.specs.Prelude.{◌≡◌, [], if◌then◌else◌, OnOk, OnErr, IfErr, None, Some};
+ghost use Rattle.std.specs.Ordering.{is_eq};
+ghost use Rattle.std.specs.Option.{option_copied};
+ghost use Rattle.logical_time.specs.declared.fault.Fault.TheVariants as fault;
+ghost use Rattle.logical_time.specs.Stamps.{TxnValue, txn_cmp};
+ghost use Rattle.write_txn.specs.declared.status.Status.TheVariants as in_status;
+ghost use Rattle.write_txn.specs.Ledger as ledger;
+ghost use Rattle.write_txn.specs.Places.{ledger_of};
+ghost use Rattle.write_txn.specs.Ledger.{IsPlaced, state_of, status_in, state_at, txn_of, Holds, IsDecided, Becomes, HaveSameStates, state_prepared, state_applied, part_in, state_voted, completed_by, state_noticed, state_answered, state_ready, readied_by};
+
+use crate::next::{answer, finished, notice, prepared, readied, voted};
+use crate::open::Open;
+use crate::places::{place_in, put, put_back};
+use crate::status::Status;
+use logical_time::{Fault, Node, Stamp, Time, TxnId};
+use std::collections::BTreeMap;
+use txn_state::{Complete, Prepared};
+
+/// What is under way of a transaction.
+pub(crate) fn open_in<'a>(
+    statuses: &BTreeMap<TxnId, Status>,
+    under_way: &'a [Open],
+    txn: TxnId,
+) -> Option<&'a Open>
+    ensures { option_copied result ≡ ledger.open_in (state_of (ledger_of statuses.now.entries under_way.now) txn) }
+{
+    match place_in(statuses, txn) {
+        None => None,
+        Some(place) => under_way.get(place),
+    }
+}
+
+/// The commit time and the stamp of a transaction that is decided.
+pub(crate) fn decided_in(statuses: &BTreeMap<TxnId, Status>, txn: TxnId) -> Option<(Time, Stamp)>
+    ensures { result ≡ ledger.decided_in (state_at [] (status_in statuses.now.entries txn)) }
+{
+    match statuses.get(&txn) {
+        Some(Status::Decided { commit, stamp }) => Some((*commit, *stamp)),
+        _ => None,
+    }
+}
+
+/// Adds what is under way of a transaction of which nothing is known.
+pub(crate) fn add_open(
+    statuses: &mut BTreeMap<TxnId, Status>,
+    under_way: &mut Vec<Open>,
+    held: Open,
+) -> Result<(), (Fault, Open)>
+    requires unknown { status_in statuses.old.entries (txn_of held) ≡ None }
+    requires placed { IsPlaced (ledger_of statuses.old.entries under_way.old.items) }
+    ensures placed { IsPlaced (ledger_of statuses.new.entries under_way.new.items) }
+    ensures ok { OnOk result (Becomes (txn_of held) (Some (Holds held)) (ledger_of statuses.old.entries under_way.old.items) (ledger_of statuses.new.entries under_way.new.items)) }
+    ensures err { OnErr result (HaveSameStates (ledger_of statuses.old.entries under_way.old.items) (ledger_of statuses.new.entries under_way.new.items)) }
+    ensures memory { IfErr result (λ e. (e.0 ≡ fault.Memory) × (e.1 ≡ held)) }
+{
+    if under_way.reserve(1).is_err() {
+        return Err((Fault::Memory, held));
+    }
+    let place = under_way.len();
+    if statuses.insert(held.txn(), Status::Open(place)).is_err() {
+        return Err((Fault::Memory, held));
+    }
+    under_way.push(held).unwrap();
+    Ok(())
+}
+
+/// Notes that a transaction is decided of which nothing is known.
+pub(crate) fn add_decided(
+    statuses: &mut BTreeMap<TxnId, Status>,
+    txn: TxnId,
+    commit: Time,
+    stamp: Stamp,
+) -> Result<(), Fault>
+    ensures ok { OnOk result ((u : TxnValue) → status_in statuses.new.entries u ≡ (if is_eq (txn_cmp txn u) then Some (in_status.Decided commit stamp) else status_in statuses.old.entries u)) }
+    ensures err { OnErr result (statuses.new.entries ≡ statuses.old.entries) }
+    ensures memory { IfErr result (λ e. e ≡ fault.Memory) }
+{
+    statuses.insert(txn, Status::Decided { commit, stamp })?;
+    Ok(())
+}
+
+/// Prepares the part of a transaction, if one is kept.
+pub(crate) fn prepare_in(
+    statuses: &BTreeMap<TxnId, Status>,
+    under_way: &mut Vec<Open>,
+    txn: TxnId,
+    time: Time,
+)
+    requires { IsPlaced (ledger_of statuses.now.entries under_way.old.items) }
+    ensures placed { IsPlaced (ledger_of statuses.now.entries under_way.new.items) }
+    ensures becomes { Becomes txn (state_prepared time (state_of (ledger_of statuses.now.entries under_way.old.items) txn)) (ledger_of statuses.now.entries under_way.old.items) (ledger_of statuses.now.entries under_way.new.items) }
+{
+    if let Some(place) = place_in(statuses, txn) {
+        let held = under_way.swap_remove(place);
+        put_back(under_way, place, prepared(held, time));
+    }
+}
+
+/// Takes the part of a transaction out, if one is prepared.
+pub(crate) fn finish_in(
+    statuses: &mut BTreeMap<TxnId, Status>,
+    under_way: &mut Vec<Open>,
+    txn: TxnId,
+) -> Option<Prepared>
+    requires { IsPlaced (ledger_of statuses.old.entries under_way.old.items) }
+    ensures placed { IsPlaced (ledger_of statuses.new.entries under_way.new.items) }
+    ensures part { result ≡ part_in (state_of (ledger_of statuses.old.entries under_way.old.items) txn) }
+    ensures becomes { Becomes txn (state_applied (state_of (ledger_of statuses.old.entries under_way.old.items) txn)) (ledger_of statuses.old.entries under_way.old.items) (ledger_of statuses.new.entries under_way.new.items) }
+{
+    match place_in(statuses, txn) {
+        None => None,
+        Some(place) => {
+            let held = under_way.swap_remove(place);
+            let (next, part) = finished(held);
+            put(statuses, under_way, place, txn, next);
+            part
+        }
+    }
+}
+
+/// Counts a vote for a transaction, if a ballot of it is held.
+pub(crate) fn vote_in(
+    statuses: &mut BTreeMap<TxnId, Status>,
+    under_way: &mut Vec<Open>,
+    txn: TxnId,
+    node: Node,
+    me: Node,
+    commit: Time,
+) -> Option<Complete>
+    requires { IsPlaced (ledger_of statuses.old.entries under_way.old.items) }
+    ensures placed { IsPlaced (ledger_of statuses.new.entries under_way.new.items) }
+    ensures complete { result ≡ completed_by node (state_of (ledger_of statuses.old.entries under_way.old.items) txn) }
+    ensures becomes { Becomes txn (state_voted me commit node (state_of (ledger_of statuses.old.entries under_way.old.items) txn)) (ledger_of statuses.old.entries under_way.old.items) (ledger_of statuses.new.entries under_way.new.items) }
+{
+    match place_in(statuses, txn) {
+        None => None,
+        Some(place) => {
+            let held = under_way.swap_remove(place);
+            let (next, complete) = voted(held, node, me, commit);
+            put(statuses, under_way, place, txn, next);
+            complete
+        }
+    }
+}
+
+/// Counts a notice for a transaction, if a ballot of it waits.
+pub(crate) fn notice_in(
+    statuses: &BTreeMap<TxnId, Status>,
+    under_way: &mut Vec<Open>,
+    txn: TxnId,
+    node: Node,
+)
+    requires { IsPlaced (ledger_of statuses.now.entries under_way.old.items) }
+    ensures placed { IsPlaced (ledger_of statuses.now.entries under_way.new.items) }
+    ensures becomes { Becomes txn (state_noticed node (state_of (ledger_of statuses.now.entries under_way.old.items) txn)) (ledger_of statuses.now.entries under_way.old.items) (ledger_of statuses.now.entries under_way.new.items) }
+{
+    if let Some(place) = place_in(statuses, txn) {
+        notice(&mut under_way[place], node);
+    }
+}
+
+/// Counts an answer for a dependency of a transaction, if a ballot of it waits.
+pub(crate) fn answer_in(
+    statuses: &BTreeMap<TxnId, Status>,
+    under_way: &mut Vec<Open>,
+    txn: TxnId,
+    dependency: TxnId,
+)
+    requires { IsPlaced (ledger_of statuses.now.entries under_way.old.items) }
+    ensures placed { IsPlaced (ledger_of statuses.now.entries under_way.new.items) }
+    ensures becomes { Becomes txn (state_answered dependency (state_of (ledger_of statuses.now.entries under_way.old.items) txn)) (ledger_of statuses.now.entries under_way.old.items) (ledger_of statuses.now.entries under_way.new.items) }
+{
+    if let Some(place) = place_in(statuses, txn) {
+        answer(&mut under_way[place], dependency);
+    }
+}
+
+/// Makes the ballot of a transaction ready, if one waits of which nothing is missing.
+pub(crate) fn ready_in(
+    statuses: &mut BTreeMap<TxnId, Status>,
+    under_way: &mut Vec<Open>,
+    txn: TxnId,
+    time: Time,
+) -> Option<Complete>
+    requires { IsPlaced (ledger_of statuses.old.entries under_way.old.items) }
+    ensures placed { IsPlaced (ledger_of statuses.new.entries under_way.new.items) }
+    ensures complete { result ≡ readied_by time (state_of (ledger_of statuses.old.entries under_way.old.items) txn) }
+    ensures becomes { Becomes txn (state_ready time (state_of (ledger_of statuses.old.entries under_way.old.items) txn)) (ledger_of statuses.old.entries under_way.old.items) (ledger_of statuses.new.entries under_way.new.items) }
+{
+    match place_in(statuses, txn) {
+        None => None,
+        Some(place) => {
+            let held = under_way.swap_remove(place);
+            let (next, complete) = readied(held, time);
+            put(statuses, under_way, place, txn, next);
+            complete
+        }
+    }
+}
