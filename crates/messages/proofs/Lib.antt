@@ -1,6 +1,7 @@
 pub mod Announcing
 pub mod Greatest
 pub mod Numbering
+pub mod Places
 pub mod Rested
 pub mod RowParts
 pub mod WritersInOrder

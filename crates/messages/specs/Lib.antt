@@ -1,5 +1,6 @@
 pub mod Topology
 pub mod Home
+pub mod Place
 pub mod Outbox
 pub mod Posting
 pub mod Clock

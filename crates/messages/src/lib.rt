@@ -13,6 +13,7 @@ mod law;
 mod op;
 mod outbox;
 mod outcome;
+mod place;
 mod posting;
 mod rows_at;
 mod rows_now;
@@ -29,6 +30,7 @@ pub use law::{
 pub use op::Op;
 pub use outbox::Outbox;
 pub use outcome::Outcome;
+pub use place::Place;
 pub use posting::announce;
 pub use rows_at::{AtTime, RowAt, RowsAt};
 pub use rows_now::{RowNow, RowsNow};
