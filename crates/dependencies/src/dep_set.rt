@@ -71,7 +71,7 @@ impl DepSet {
         }
     }
 
-    /// A copy. Refused with `Memory` alone, and never where a write alone is held.
+    /// A copy. After a completed write it takes no memory. Refused with `Memory` alone.
     pub fn copied(&self) -> Result<DepSet, Fault>
         ensures ok { IfOk result (λ copy. copy ≡ self.now) }
         ensures memory { IfErr result (λ e. e ≡ Fault.Memory) }

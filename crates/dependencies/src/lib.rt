@@ -4,7 +4,10 @@
 //! Nothing here knows of clocks, or of when a write may be prepared.
 #![tactic(auto)]
 
+mod askers;
 mod dep_set;
 mod ordering;
+mod waiters;
 
+pub use askers::Askers;
 pub use dep_set::DepSet;
