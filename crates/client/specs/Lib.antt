@@ -3,7 +3,6 @@ pub mod Current
 pub mod Envelopes
 pub mod Home
 pub mod Ignored
-pub mod Ordering
 pub mod Represents
 pub mod Right
 pub mod State

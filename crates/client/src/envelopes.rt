@@ -4,7 +4,8 @@ ghost use Rattle.std.specs.List.{AllByRecursion};
 ghost use Rattle.client.specs.Envelopes.{node_in, prepare_part, batch_envelopes, read_keys};
 
 use crate::home::Home;
-use logical_time::{Fault, Node, Time, TxnId, Writers};
+use dependencies::DepSet;
+use logical_time::{Fault, Node, Time, TxnId};
 use messages::{Body, Cohorts, Envelope, Outbox};
 use planner::{BatchPlan, ShardKeys, ShardPart};
 use slice::{Keys, Read};
@@ -132,7 +133,7 @@ pub(crate) fn writes(
     node: Node,
     time: Time,
     txn: TxnId,
-    dependencies: &Writers,
+    dependencies: &DepSet,
     plan: BatchPlan,
 ) -> Result<Vec<Envelope>, Fault>
     requires coordinator { plan.coordinator.shard < home.shards }
@@ -141,7 +142,7 @@ pub(crate) fn writes(
     ensures memory { IfErr result (λ e. e ≡ Fault.Memory) }
 {
     let others = shards_of(alloc, plan.cohorts.as_slice())?;
-    let dependencies = dependencies.clone()?;
+    let dependencies = dependencies.to_writers()?;
     let BatchPlan {
         coordinator: ShardPart { shard, batch },
         cohorts,

@@ -12,7 +12,6 @@ mod handling;
 mod hearing;
 mod home;
 mod kept;
-mod ordering;
 mod session;
 
 pub use session::Session;

@@ -12,6 +12,7 @@ use crate::current::Current;
 use crate::home::Home;
 use crate::kept::Kept;
 use crate::{accepting, handling};
+use dependencies::DepSet;
 use logical_time::{Clock, Fault, Node, Time, Writers};
 use messages::{Envelope, Op, Outbox, Outcome, Refused, Topology};
 use std::alloc::Global;
@@ -69,7 +70,7 @@ impl Session {
             clock: Clock::new(),
             count: 0,
             floor: Time::zero(),
-            dependencies: Writers::from_vec(Vec::new(alloc)),
+            dependencies: DepSet::new(alloc),
             added: Writers::from_vec(Vec::new(alloc)),
             current: Current::Idle,
             untaken: None,
