@@ -1,5 +1,5 @@
 -- Answers to those that asked for a dependency.
-use Rattle.std.proofs.Common.{◌≡◌, ◌∙◌, ap, sym, refl, List, [], ◌∷◌, ℕ, map, filter}
+use Rattle.std.proofs.Common.{◌≡◌, ◌∙◌, ap, refl, List, [], ◌∷◌, ℕ, map, filter}
 use Rattle.logical_time.specs.Stamps.{TxnValue}
 use Rattle.messages.specs.declared.envelope.Envelope.{Envelope}
 use Rattle.messages.specs.declared.body.Body.TheVariants.{DepOk}
