@@ -1,4 +1,3 @@
-pub mod Ordered
 pub mod Planned
 pub mod Submitted
 pub mod Heard

@@ -16,7 +16,7 @@ use Rattle.client.specs.Accepted.{fault_of, opened, accepted, posted}
 use Rattle.client.specs.Current.{open_of}
 use Rattle.client.specs.Represents.{FitsIn, Represents, IsStep, IsStepOf, IsRefusalOf}
 use Rattle.client.specs.State.{dependencies_of, state_of, topology_of}
-use Rattle.client.proofs.Ordered.{ordered_stay}
+use Rattle.dependencies.proofs.Ordered.{ordered_stay}
 
 -- a topology with what is kept of it
 abbrev pub kept_in : Kept → ℕ → List ℕ → TopologyValue

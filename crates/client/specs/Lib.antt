@@ -2,7 +2,6 @@ pub mod Accepted
 pub mod Current
 pub mod Envelopes
 pub mod Ignored
-pub mod Ordering
 pub mod Represents
 pub mod Right
 pub mod State

@@ -12,8 +12,8 @@ ghost use Rattle.client.specs.Represents.{IsRefusalOf, IsSpentOrMemory};
 use crate::current::Current;
 use crate::envelopes::{nodes, reads, send, writes};
 use crate::kept::Kept;
-use crate::ordering::in_order;
 use column_family::Batch;
+use dependencies::DepSet;
 use logical_time::{Clock, Fault, Node, TxnId, Writers};
 use messages::{Op, Outbox};
 use planner::{check_batch, check_read, plan_batch, plan_read};
@@ -38,7 +38,7 @@ fn check(kept: &Kept, op: &Op) -> Result<(), Fault>
 #[derive(Drop)]
 struct Ready {
     clock: Clock,
-    dependencies: Writers,
+    dependencies: DepSet,
 }
 
 /// The clock that a submission moves to, and the dependencies with the writers of the last read.
@@ -49,11 +49,8 @@ fn make_ready(kept: &Kept) -> Result<Ready, Fault>
 {
     let mut clock = kept.clock;
     clock.receive(kept.clock.now())?;
-    let dependencies = in_order(
-        kept.alloc,
-        kept.dependencies.as_slice(),
-        kept.added.as_slice(),
-    )?;
+    let mut dependencies = kept.dependencies.copied()?;
+    dependencies.completed_read(kept.added.as_slice())?;
     Ok(Ready {
         clock,
         dependencies,

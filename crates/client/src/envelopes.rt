@@ -2,7 +2,8 @@
 ghost use Rattle.std.specs.Prelude.{◌≡◌, ◌≤◌, ◌++◌, length, map, IfOk, OnOk, OnErr, IfErr};
 ghost use Rattle.client.specs.Envelopes.{node_in, prepare_part, batch_envelopes, read_keys};
 
-use logical_time::{Fault, Node, Shard, Time, TxnId, Writers};
+use dependencies::DepSet;
+use logical_time::{Fault, Node, Shard, Time, TxnId};
 use messages::{Body, Cohorts, Envelope, Home, Outbox};
 use planner::{BatchPlan, ShardKeys, ShardPart};
 use slice::{Keys, Read};
@@ -127,14 +128,14 @@ pub(crate) fn writes(
     node: Node,
     time: Time,
     txn: TxnId,
-    dependencies: &Writers,
+    dependencies: &DepSet,
     plan: BatchPlan,
 ) -> Result<Vec<Envelope>, Fault>
     ensures ok { IfOk result (λ envelopes. envelopes.items ≡ batch_envelopes home node time txn dependencies.now plan.coordinator plan.cohorts.items) }
     ensures memory { IfErr result (λ e. e ≡ Fault.Memory) }
 {
     let others = shards_of(alloc, plan.cohorts.as_slice())?;
-    let dependencies = dependencies.clone()?;
+    let dependencies = dependencies.to_writers()?;
     let BatchPlan {
         coordinator: ShardPart { shard, batch },
         cohorts,

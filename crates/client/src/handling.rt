@@ -28,10 +28,10 @@ fn hear(
     ensures back { IfErr result (λ e. e.1 ≡ body) }
 {
     match body {
-        Body::Done { txn, commit, stamp } => match done(kept, clock, txn, commit, stamp) {
-            Ok(()) => Ok(()),
-            Err(fault) => Err((fault, Body::Done { txn, commit, stamp })),
-        },
+        Body::Done { txn, commit, stamp } => {
+            done(kept, clock, txn, commit, stamp);
+            Ok(())
+        }
         Body::PartNow { number, rows } => match part_now(kept, clock, from, number, rows, outbox) {
             Ok(()) => Ok(()),
             Err((fault, rows)) => Err((fault, Body::PartNow { number, rows })),

@@ -3,7 +3,7 @@ ghost use Rattle.std.specs.Prelude.{◌≡◌, true, false, IsOk, OnOk, OnErr, I
 ghost use Rattle.messages.specs.Words.{is_same_txn};
 ghost use Rattle.read_txn.specs.Taken.{second_taken, is_awaited};
 ghost use Rattle.client.specs.declared.current.Current.TheVariants.{Idle, Second};
-ghost use Rattle.client.specs.Ignored.{heeds_done, heeds_at};
+ghost use Rattle.client.specs.Ignored.{heeds_at};
 ghost use Rattle.client.specs.Steps as steps;
 
 use crate::current::Current;
@@ -22,13 +22,11 @@ pub(crate) fn put(kept: &mut Kept, current: Current)
 }
 
 /// Ends the open operation, of which no round is left, with this outcome.
-fn finish(kept: &mut Kept, clock: Clock, floor: Time, writers: (Writers, Writers), outcome: Outcome)
-    ensures { kept.new ≡ steps.finished clock kept.old floor writers.0 writers.1 outcome }
+fn finish(kept: &mut Kept, clock: Clock, floor: Time, added: Writers, outcome: Outcome)
+    ensures { kept.new ≡ steps.finished clock kept.old floor kept.old.dependencies added outcome }
 {
-    let (dependencies, added) = writers;
     kept.clock = clock;
     kept.floor = floor;
-    kept.dependencies = dependencies;
     kept.added = added;
     kept.untaken = Some((kept.count, outcome));
     mem::replace(&mut kept.current, Current::Idle).close();
@@ -42,30 +40,20 @@ fn written(
     txn: TxnId,
     commit: Time,
     stamp: Stamp,
-) -> Result<(), Fault>
-    ensures state { OnOk result (kept.new ≡ steps.done_if true clock kept.old coordinator txn commit stamp) }
-    ensures same { OnErr result (kept.new ≡ kept.old) }
-    ensures memory { IfErr result (λ e. e ≡ Fault.Memory) }
+)
+    ensures { kept.new ≡ steps.done_if true clock kept.old coordinator txn commit stamp }
 {
     let floor = if kept.floor < commit {
         commit
     } else {
         kept.floor
     };
-    let own = Writer {
+    kept.dependencies.completed_write(Writer {
         txn,
         shard: coordinator,
-    };
-    let dependencies = Writers::from_vec(vec![in kept.alloc; own]?);
+    });
     let added = Writers::from_vec(Vec::new(kept.alloc));
-    finish(
-        kept,
-        clock,
-        floor,
-        (dependencies, added),
-        Outcome::Wrote { commit, stamp },
-    );
-    Ok(())
+    finish(kept, clock, floor, added, Outcome::Wrote { commit, stamp });
 }
 
 /// Whether the transaction is the session's last operation.
@@ -80,27 +68,17 @@ fn is_last(kept: &Kept, txn: TxnId) -> bool
 }
 
 /// Done: ends the open write, if it is of this one.
-pub(crate) fn done(
-    kept: &mut Kept,
-    clock: Clock,
-    txn: TxnId,
-    commit: Time,
-    stamp: Stamp,
-) -> Result<(), Fault>
-    ensures state { OnOk result (kept.new ≡ steps.done_in kept.old.current clock kept.old txn commit stamp) }
-    ensures ignored { heeds_done kept.old.current kept.old txn ≡ false → IsOk result }
-    ensures same { OnErr result (kept.new ≡ kept.old) }
-    ensures memory { IfErr result (λ e. e ≡ Fault.Memory) }
+pub(crate) fn done(kept: &mut Kept, clock: Clock, txn: TxnId, commit: Time, stamp: Stamp)
+    ensures { kept.new ≡ steps.done_in kept.old.current clock kept.old txn commit stamp }
 {
     let Some(coordinator) = kept.current.coordinator() else {
         kept.clock = clock;
-        return Ok(());
+        return;
     };
     if is_last(kept, txn) {
-        written(kept, clock, coordinator, txn, commit, stamp)
+        written(kept, clock, coordinator, txn, commit, stamp);
     } else {
         kept.clock = clock;
-        Ok(())
     }
 }
 
@@ -113,13 +91,11 @@ pub(crate) fn complete(kept: &mut Kept, clock: Clock, answered: Answered)
         answer,
         writers,
     } = answered;
-    let none = Writers::from_vec(Vec::new(kept.alloc));
-    let dependencies = mem::replace(&mut kept.dependencies, none);
     finish(
         kept,
         clock,
         effective,
-        (dependencies, Writers::from_vec(writers)),
+        Writers::from_vec(writers),
         Outcome::Read { effective, answer },
     );
 }

@@ -1,11 +1,12 @@
 //! What a session keeps.
 use crate::current::Current;
 use column_family::Schema;
+use dependencies::DepSet;
 use logical_time::{Clock, Node, Time, Writers};
 use messages::{Home, Outcome};
 use std::alloc::Global;
 
-/// What a session keeps. While an operation is open, no writers are to be put in order.
+/// What a session keeps. While an operation is open, no writers are to be added.
 pub(crate) struct Kept {
     /// Where growths come from.
     pub(crate) alloc: Global,
@@ -21,9 +22,9 @@ pub(crate) struct Kept {
     pub(crate) count: u64,
     /// The greatest commit or effective time of its completed operations.
     pub(crate) floor: Time,
-    /// What its next write depends on, in order and each once, but for the writers that are still to be put in order.
-    pub(crate) dependencies: Writers,
-    /// The writers of its last read that are still to be put in order.
+    /// What its next write depends on, but for the writers that are still to be added.
+    pub(crate) dependencies: DepSet,
+    /// The writers of its last read that are still to be added.
     pub(crate) added: Writers,
     /// The open operation.
     pub(crate) current: Current,

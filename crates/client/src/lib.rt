@@ -11,7 +11,6 @@ mod first_answers;
 mod handling;
 mod hearing;
 mod kept;
-mod ordering;
 mod session;
 
 pub use session::Session;

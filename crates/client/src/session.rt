@@ -11,6 +11,7 @@ ghost use Rattle.client.specs.Right.{AnswersRight};
 use crate::current::Current;
 use crate::kept::Kept;
 use crate::{accepting, handling};
+use dependencies::DepSet;
 use logical_time::{Clock, Fault, Node, Time, Writers};
 use messages::{Envelope, Home, Op, Outbox, Outcome, Refused, Topology};
 use std::alloc::Global;
@@ -67,7 +68,7 @@ impl Session {
             clock: Clock::new(),
             count: 0,
             floor: Time::zero(),
-            dependencies: Writers::from_vec(Vec::new(alloc)),
+            dependencies: DepSet::new(alloc),
             added: Writers::from_vec(Vec::new(alloc)),
             current: Current::Idle,
             untaken: None,
