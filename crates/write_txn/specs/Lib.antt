@@ -1,0 +1,6 @@
+pub mod Roles
+pub mod Ledger
+pub mod Voters
+pub mod View
+pub mod Stands
+pub mod Moves
