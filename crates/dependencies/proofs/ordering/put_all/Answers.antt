@@ -1,9 +1,9 @@
 use Rattle.std.proofs.Common.{◌≡◌, ◌∙◌, rules, sym, ap, ◌++◌, ◌∷◌, []}
 use Rattle.std.specs.BTreeSet.{insert_key}
 use Rattle.logical_time.specs.Stamps.{writer_cmp}
-use Rattle.client.specs.Ordering.{put_among}
-use Rattle.client.proofs.Ordered.{put_among_insert}
-use Rattle.client.proofs.ordering.put_all.Goals as goal
+use Rattle.dependencies.specs.Ordering.{put_among}
+use Rattle.dependencies.proofs.Ordered.{put_among_insert}
+use Rattle.dependencies.proofs.ordering.put_all.Goals as goal
 
 pub loop-writer-preserved : goal.loop-writer-preserved
 loop-writer-preserved c =

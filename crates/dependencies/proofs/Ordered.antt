@@ -1,5 +1,5 @@
 -- Writers put in order one by one, from the last to the first.
-use Rattle.std.proofs.Common.{◌≡◌, List, [], ◌∷◌, ◌++◌, refl, ap, ◌∙◌, sym}
+use Rattle.std.proofs.Common.{◌≡◌, List, [], ◌∷◌, ◌++◌, refl, ap, ◌∙◌, sym, append-nil}
 use Rattle.std.specs.declared.cmp.Ordering.{Ordering}
 use Rattle.std.specs.declared.cmp.Ordering.TheVariants.{Less, Equal, Greater}
 use Rattle.std.specs.Ordering.{match_ordering}
@@ -9,7 +9,7 @@ use Rattle.std.specs.BTreeSet.{insert_key}
 use Rattle.logical_time.specs.Stamps.{WriterValue, writer_cmp}
 use Rattle.messages.specs.Words.{placed_writer, with_writer, in_writer_order}
 use Rattle.messages.proofs.WritersInOrder.{writers_ascend}
-use Rattle.client.specs.Ordering.{put_among}
+use Rattle.dependencies.specs.Ordering.{put_among}
 
 pub put_among_none : (ws : List WriterValue) → put_among ws [] ≡ in_writer_order ws
 put_among_none [] = refl
@@ -53,3 +53,11 @@ ascending_stay (w ∷ ws) h = ap (with_writer w) (ascending_stay ws h.1) ∙ fir
 
 pub ordered_stay : (ws : List WriterValue) → in_writer_order (in_writer_order ws) ≡ in_writer_order ws
 ordered_stay ws = ascending_stay (in_writer_order ws) (writers_ascend ws)
+
+-- what was put in order stands in order
+pub ordered_so : (all ws : List WriterValue) → all ≡ in_writer_order ws → in_writer_order all ≡ all
+ordered_so all ws e = ap in_writer_order e ∙ (ordered_stay ws ∙ sym e)
+
+-- with no others, what stands in order stays
+pub none_added : (ws vs : List WriterValue) → in_writer_order ws ≡ ws → vs ≡ [] → ws ≡ in_writer_order (ws ++ vs)
+none_added ws vs ordered none = sym (ap (λ (xs : List WriterValue). in_writer_order (ws ++ xs)) none ∙ (ap in_writer_order (append-nil ws) ∙ ordered))

@@ -1,7 +1,7 @@
 //! Writers put in order.
 ghost use Rattle.std.specs.Prelude.{◌≡◌, ◌++◌, IfOk, OnOk, IfErr};
 ghost use Rattle.messages.specs.Words.{in_writer_order};
-ghost use Rattle.client.specs.Ordering.{put_among};
+ghost use Rattle.dependencies.specs.Ordering.{put_among};
 
 use logical_time::{Fault, Writer, Writers};
 use std::alloc::Global;

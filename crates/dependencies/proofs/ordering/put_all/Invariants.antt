@@ -1,6 +1,6 @@
 use Rattle.std.proofs.Common.{◌≡◌}
-use Rattle.client.specs.Ordering.{put_among}
-use Rattle.client.proofs.ordering.put_all.Given as goal
+use Rattle.dependencies.specs.Ordering.{put_among}
+use Rattle.dependencies.proofs.ordering.put_all.Given as goal
 
 -- what is left of the writers, put into the set, gives the set of all
 abbrev pub invariant-loop-writer : goal.invariant-loop-writer

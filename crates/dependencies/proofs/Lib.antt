@@ -1,0 +1,5 @@
+pub mod Ordered
+pub mod Txns
+pub mod DepOks
+pub mod Remembered
+pub mod KeptAskers

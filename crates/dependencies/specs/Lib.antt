@@ -1,0 +1,4 @@
+pub mod Ordering
+pub mod DepSet
+pub mod Waiting
+pub mod Askers
