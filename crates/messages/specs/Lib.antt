@@ -17,3 +17,4 @@ pub mod SessionEvents
 pub mod Actors
 pub mod Examples
 pub mod Honest
+pub mod Place

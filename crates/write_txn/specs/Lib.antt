@@ -4,3 +4,4 @@ pub mod Voters
 pub mod View
 pub mod Stands
 pub mod Moves
+pub mod Transactions
