@@ -18,3 +18,4 @@ pub mod Updates
 pub mod Votes
 pub mod Within
 mod WorkedHonest
+pub mod Standing

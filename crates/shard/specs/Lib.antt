@@ -4,3 +4,5 @@ pub mod Sound
 pub mod Worked
 pub mod Lookalikes
 pub mod Unfinished
+pub mod Kept
+pub mod Effects

@@ -1,0 +1,119 @@
+-- What is kept goes on standing for the machine, as events come.
+use Rattle.std.proofs.Common.{◌≡◌, ◌∙◌, sym, ap, subst, refl, ℕ, Bool, true, false, if◌then◌else◌, List, [], ◌∷◌, ◌++◌, Option, Some, None, ◌||◌, append-nil, arith}
+use Rattle.std.specs.Prelude.{filter, is_some}
+use Rattle.std.specs.List.{list_any}
+use Rattle.std.specs.Ordering.{is_eq}
+use Rattle.std.proofs.lemmas.List.Folds.{list_any-append}
+use Rattle.std.proofs.lemmas.Bool.Decides.{nat_tests}
+use Rattle.logical_time.specs.Stamps.{StampValue, TxnValue, txn_cmp, stamp_cmp}
+use Rattle.column_family.specs.Normal.{IsNormal}
+use Rattle.column_family.proofs.Options.{by_cases, neither}
+use Rattle.store.specs.declared.part.Applied.{Applied}
+use Rattle.store.specs.Keeps.{Keeps, IsNewStamp, AreApart}
+use Rattle.dependencies.specs.Askers.{AskersValue, askers_of, KeepsAskers}
+use Rattle.messages.specs.Topology.{TopologyValue}
+use Rattle.messages.specs.Place.{PlaceValue, IsPlace}
+use Rattle.messages.specs.Words.{is_same_txn}
+use Rattle.messages.specs.Shard.{ShardState, WaitingRead, Asker}
+use Rattle.messages.specs.Known.{decision_of}
+use Rattle.write_txn.specs.Ledger.{State, state_of}
+use Rattle.write_txn.specs.Voters.{voters_of}
+use Rattle.write_txn.specs.View.{View, view_of}
+use Rattle.write_txn.specs.Stands.{Stands}
+use Rattle.write_txn.specs.Moves.{Moves}
+use Rattle.write_txn.proofs.Finds.{own_txn, same_txn}
+use Rattle.write_txn.proofs.Views.{view_of_others}
+use Rattle.shard.specs.Kept.{KeptValue, Represents}
+use Rattle.shard.specs.Effects.{IsAfter, IsSpared, IsStored}
+
+-- ## Nothing changes
+
+pub spared : (top : TopologyValue) (me : ℕ) (k l : KeptValue) (a : ShardState) → Represents top me k a → IsSpared k l → Represents top me l a
+spared top me k l a r i = record {
+  place = subst (IsPlace top me) (sym i.place) r.place;
+  clock = r.clock ∙ sym i.clock;
+  low = r.low ∙ sym i.low;
+  store = i.store a.applied r.store;
+  stands = λ t. subst (Stands top me t (view_of t a)) (sym (i.states t)) (r.stands t);
+  early = λ t e. i.early t ∙ r.early t (sym (i.states t) ∙ e);
+  notices = λ t e. i.notices t ∙ r.notices t (sym (i.states t) ∙ e);
+  askers = λ t e. i.askers t ∙ r.askers t e;
+  waiting = r.waiting ∙ sym i.waiting;
+  once = r.once;
+}
+
+-- only the clock moves
+pub moves_on : (top : TopologyValue) (me n : ℕ) (k : KeptValue) (a : ShardState) → Represents top me k a → Represents top me (record k { clock = n }) (record a { clock = n })
+moves_on top me n k a r = record {
+  place = r.place;
+  clock = refl;
+  low = r.low;
+  store = r.store;
+  stands = r.stands;
+  early = r.early;
+  notices = r.notices;
+  askers = r.askers;
+  waiting = r.waiting;
+  once = r.once;
+}
+
+-- ## Stamps apart
+
+apart_back : (s t : StampValue) → is_eq (stamp_cmp s t) ≡ false → is_eq (stamp_cmp t s) ≡ false
+apart_back s t h = grind (arith, nat_tests)
+
+-- what is applied last is in normal form, and its stamp is new
+pub apart_last : (xs : List Applied) (x : Applied) → AreApart (xs ++ x ∷ []) → IsNormal x.part.batch × IsNewStamp x.stamp xs
+apart_last [] x h = (h.0, refl)
+apart_last (y ∷ ys) x h =
+    let m = apart_last ys x h.2 in
+    let n = neither (list_any (λ z. is_eq (stamp_cmp y.stamp z.stamp)) ys) (is_eq (stamp_cmp y.stamp x.stamp) || false) (sym (list_any-append (λ z. is_eq (stamp_cmp y.stamp z.stamp)) ys (x ∷ [])) ∙ h.1) in
+    (m.0, ap (λ (b : Bool). b || list_any (λ z. is_eq (stamp_cmp x.stamp z.stamp)) ys) (apart_back y.stamp x.stamp (neither (is_eq (stamp_cmp y.stamp x.stamp)) false n.1).0) ∙ m.1)
+
+abbrev pub listed : Option Applied → List Applied
+listed None = []
+listed (Some x) = x ∷ []
+
+stored : (k l : KeptValue) (a b : ShardState) (x : Option Applied) → b.applied ≡ a.applied ++ listed x → IsStored x k.transactions.store l.transactions.store → Keeps k.transactions.store a.applied → AreApart b.applied
+    → Keeps l.transactions.store b.applied
+stored k l a b None e i h p = subst (Keeps l.transactions.store) (sym (e ∙ append-nil a.applied)) (i a.applied h)
+stored k l a b (Some x) e i h p = let q = apart_last a.applied x (subst AreApart e p) in subst (Keeps l.transactions.store) (sym e) (i a.applied h q.0 q.1)
+
+-- ## One transaction moves
+
+-- What has to be so of the transaction itself, beside how it stands: of an unknown one the early votes and notices are kept,
+-- of an undecided one those that asked for it.
+pub record KeepsOwn (t : TxnValue) (s : Option State) (l : KeptValue) (b : ShardState) : Type 0 where
+  pub early : s ≡ None → voters_of l.transactions.early t ≡ (view_of t b).early
+  pub notices : s ≡ None → voters_of l.notices t ≡ (view_of t b).notices
+  pub askers : decision_of t b ≡ None → askers_of l.askers t ≡ filter (λ k. is_same_txn k.dependency t) b.askers
+
+pub moved : (top : TopologyValue) (me n : ℕ) (t : TxnValue) (s : Option State) (x : Option Applied) (waits : List WaitingRead) (k l : KeptValue) (a b : ShardState)
+    → Represents top me k a → IsAfter t s x n waits k l → Moves top me t s (listed x) a b → KeepsOwn t s l b → b.clock ≡ n → b.waiting ≡ waits → AreApart b.applied
+    → Represents top me l b
+moved top me n t s x waits k l a b r i m own clock waiting apart = record {
+  place = subst (IsPlace top me) (sym i.place) r.place;
+  clock = clock ∙ sym i.clock;
+  low = m.low ∙ (r.low ∙ sym i.low);
+  store = stored k l a b x m.applied i.store r.store apart;
+  stands = λ u. by_cases (is_same_txn t u)
+      (λ yes. subst (λ v. Stands top me v (view_of v b) (state_of l.transactions.ledger v)) (same_txn t u yes) (subst (Stands top me t (view_of t b)) (sym (state_own t (own_txn t))) m.own))
+      (λ no. subst (λ (v : View). Stands top me u v (state_of l.transactions.ledger u)) (sym (view_of_others t u a b no m.about)) (subst (Stands top me u (view_of u a)) (sym (state_other u no)) (r.stands u)));
+  early = λ u e. by_cases (is_same_txn t u)
+      (λ yes. subst (λ v. voters_of l.transactions.early v ≡ (view_of v b).early) (same_txn t u yes) (own.early (sym (state_own u yes) ∙ e)))
+      (λ no. i.early u no ∙ (r.early u (sym (state_other u no) ∙ e) ∙ ap (λ (v : View). v.early) (sym (view_of_others t u a b no m.about))));
+  notices = λ u e. by_cases (is_same_txn t u)
+      (λ yes. subst (λ v. voters_of l.notices v ≡ (view_of v b).notices) (same_txn t u yes) (own.notices (sym (state_own u yes) ∙ e)))
+      (λ no. i.notices u no ∙ (r.notices u (sym (state_other u no) ∙ e) ∙ ap (λ (v : View). v.notices) (sym (view_of_others t u a b no m.about))));
+  askers = λ u e. by_cases (is_same_txn t u)
+      (λ yes. let f = same_txn t u yes in subst (λ v. askers_of l.askers v ≡ filter (λ z. is_same_txn z.dependency v) b.askers) f (own.askers (subst (λ v. decision_of v b ≡ None) (sym f) e)))
+      (λ no. i.askers u no ∙ (r.askers u (ap (λ (v : View). v.decision) (sym (view_of_others t u a b no m.about)) ∙ e) ∙ ap (filter (λ z. is_same_txn z.dependency u)) (sym m.askers)));
+  waiting = waiting ∙ sym i.waiting;
+  once = m.once r.once;
+}
+  where
+    state_own : (u : TxnValue) → is_same_txn t u ≡ true → state_of l.transactions.ledger u ≡ s
+    state_own u e = i.state u ∙ ap (λ (b : Bool). if b then s else state_of k.transactions.ledger u) e
+
+    state_other : (u : TxnValue) → is_same_txn t u ≡ false → state_of l.transactions.ledger u ≡ state_of k.transactions.ledger u
+    state_other u e = i.state u ∙ ap (λ (b : Bool). if b then s else state_of k.transactions.ledger u) e

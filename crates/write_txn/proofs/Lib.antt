@@ -1,0 +1,9 @@
+pub mod Finds
+pub mod Views
+pub mod Counting
+pub mod Moving
+pub mod Leading
+pub mod Bodies
+pub mod Replicas
+pub mod Readying
+pub mod Answering
