@@ -23,12 +23,13 @@ use Rattle.write_txn.specs.Stands.{Stands}
 use Rattle.write_txn.specs.Moves.{Moves}
 use Rattle.write_txn.proofs.Finds.{own_txn, same_txn}
 use Rattle.write_txn.proofs.Views.{view_of_others}
-use Rattle.shard.specs.Kept.{KeptValue, Represents}
+use Rattle.shard.specs.declared.kept.Kept.{Kept}
+use Rattle.shard.specs.Kept.{Represents}
 use Rattle.shard.specs.Effects.{IsAfter, IsSpared, IsStored}
 
 -- ## Nothing changes
 
-pub spared : (top : TopologyValue) (me : ℕ) (k l : KeptValue) (a : ShardState) → Represents top me k a → IsSpared k l → Represents top me l a
+pub spared : (top : TopologyValue) (me : ℕ) (k l : Kept) (a : ShardState) → Represents top me k a → IsSpared k l → Represents top me l a
 spared top me k l a r i = record {
   place = subst (IsPlace top me) (sym i.place) r.place;
   clock = r.clock ∙ sym i.clock;
@@ -43,7 +44,7 @@ spared top me k l a r i = record {
 }
 
 -- only the clock moves
-pub moves_on : (top : TopologyValue) (me n : ℕ) (k : KeptValue) (a : ShardState) → Represents top me k a → Represents top me (record k { clock = n }) (record a { clock = n })
+pub moves_on : (top : TopologyValue) (me n : ℕ) (k : Kept) (a : ShardState) → Represents top me k a → Represents top me (record k { clock = n }) (record a { clock = n })
 moves_on top me n k a r = record {
   place = r.place;
   clock = refl;
@@ -74,7 +75,7 @@ abbrev pub listed : Option Applied → List Applied
 listed None = []
 listed (Some x) = x ∷ []
 
-stored : (k l : KeptValue) (a b : ShardState) (x : Option Applied) → b.applied ≡ a.applied ++ listed x → IsStored x k.transactions.store l.transactions.store → Keeps k.transactions.store a.applied → AreApart b.applied
+stored : (k l : Kept) (a b : ShardState) (x : Option Applied) → b.applied ≡ a.applied ++ listed x → IsStored x k.transactions.store l.transactions.store → Keeps k.transactions.store a.applied → AreApart b.applied
     → Keeps l.transactions.store b.applied
 stored k l a b None e i h p = subst (Keeps l.transactions.store) (sym (e ∙ append-nil a.applied)) (i a.applied h)
 stored k l a b (Some x) e i h p = let q = apart_last a.applied x (subst AreApart e p) in subst (Keeps l.transactions.store) (sym e) (i a.applied h q.0 q.1)
@@ -83,12 +84,12 @@ stored k l a b (Some x) e i h p = let q = apart_last a.applied x (subst AreApart
 
 -- What has to be so of the transaction itself, beside how it stands: of an unknown one the early votes and notices are kept,
 -- of an undecided one those that asked for it.
-pub record KeepsOwn (t : TxnValue) (s : Option State) (l : KeptValue) (b : ShardState) : Type 0 where
+pub record KeepsOwn (t : TxnValue) (s : Option State) (l : Kept) (b : ShardState) : Type 0 where
   pub early : s ≡ None → voters_of l.transactions.early t ≡ (view_of t b).early
   pub notices : s ≡ None → voters_of l.notices t ≡ (view_of t b).notices
   pub askers : decision_of t b ≡ None → askers_of l.askers t ≡ filter (λ k. is_same_txn k.dependency t) b.askers
 
-pub moved : (top : TopologyValue) (me n : ℕ) (t : TxnValue) (s : Option State) (x : Option Applied) (waits : List WaitingRead) (k l : KeptValue) (a b : ShardState)
+pub moved : (top : TopologyValue) (me n : ℕ) (t : TxnValue) (s : Option State) (x : Option Applied) (waits : List WaitingRead) (k l : Kept) (a b : ShardState)
     → Represents top me k a → IsAfter t s x n waits k l → Moves top me t s (listed x) a b → KeepsOwn t s l b → b.clock ≡ n → b.waiting ≡ waits → AreApart b.applied
     → Represents top me l b
 moved top me n t s x waits k l a b r i m own clock waiting apart = record {

@@ -7,3 +7,4 @@ pub mod View
 pub mod Stands
 pub mod Moves
 pub mod Transactions
+pub mod Marking

@@ -7,7 +7,9 @@ use Rattle.store.specs.declared.part.Applied.{Applied}
 use Rattle.store.specs.Kept.{Kept}
 use Rattle.store.specs.Keeps.{Keeps, IsNewStamp}
 use Rattle.pending.specs.Marks.{MarkList, time_at}
+use Rattle.txn_state.specs.declared.part.WritePart.{WritePart}
 use Rattle.txn_state.specs.Prepared.{PreparedValue}
+use Rattle.messages.specs.Shard.{PreparedPart, Cohort}
 use Rattle.write_txn.specs.Ledger.{LedgerValue, State, state_of}
 use Rattle.write_txn.specs.Stands.{mark_of}
 use Rattle.write_txn.specs.Voters.{VoterList, voters_of}
@@ -20,6 +22,11 @@ pub record TransactionsValue : Type 0 where
 -- the marks are those of the parts under way
 abbrev pub AreMarksOf : MarkList → LedgerValue → Type 0
 AreMarksOf marks l = (r : Row) (t : TxnValue) → time_at marks r t ≡ mark_of (state_of l t) r
+
+-- a part of a write that was submitted here, prepared at this time as a cohort's
+abbrev pub cohorts_part : WritePart → ℕ → PreparedPart
+cohorts_part part time =
+    record { txn = part.writer.txn; rows = part.batch; coordinator = part.writer.shard; time = time; role = Cohort }
 
 -- what the store keeps it goes on keeping, and its horizon stays
 pub record GoesOnKeeping (old new : Kept) : Type 0 where
