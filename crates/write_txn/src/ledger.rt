@@ -5,10 +5,10 @@ ghost use Rattle.logical_time.specs.declared.fault.Fault.TheVariants as fault;
 ghost use Rattle.logical_time.specs.Stamps.{TxnValue};
 
 use crate::open::Open;
+use crate::places::add_status;
 use crate::status::Status;
 use crate::steps::{
-    add_decided, add_open, answer_in, decided_in, finish_in, notice_in, open_in, prepare_in,
-    ready_in, vote_in,
+    add_open, answer_in, decided_in, finish_in, notice_in, open_in, prepare_in, ready_in, vote_in,
 };
 use logical_time::{Fault, Node, Stamp, Time, TxnId};
 use std::alloc::Global;
@@ -95,7 +95,7 @@ impl Ledger {
         ensures err { OnErr result (HaveSameStates self.old self.new) }
         ensures memory { IfErr result (λ e. e ≡ fault.Memory) }
     {
-        add_decided(&mut self.statuses, txn, commit, stamp)
+        add_status(&mut self.statuses, txn, Status::Decided { commit, stamp })
     }
 
     /// Prepares the transaction's part at this time, if one is kept. Takes no memory.

@@ -11,7 +11,7 @@ ghost use Rattle.write_txn.specs.Ledger.{IsPlaced, state_of, status_in, state_at
 
 use crate::next::{answer, finished, notice, prepared, readied, voted};
 use crate::open::Open;
-use crate::places::{place_in, put, put_back};
+use crate::places::{add_status, place_in, put, put_back};
 use crate::status::Status;
 use logical_time::{Fault, Node, Stamp, Time, TxnId};
 use std::collections::BTreeMap;
@@ -58,26 +58,13 @@ pub(crate) fn add_open(
         return Err((Fault::Memory, held));
     }
     let place = under_way.len();
-    if statuses.insert(held.txn(), Status::Open(place)).is_err() {
-        return Err((Fault::Memory, held));
+    match add_status(statuses, held.txn(), Status::Open(place)) {
+        Err(fault) => Err((fault, held)),
+        Ok(()) => {
+            under_way.push(held).unwrap();
+            Ok(())
+        }
     }
-    under_way.push(held).unwrap();
-    Ok(())
-}
-
-/// Notes that a transaction is decided of which nothing is known.
-pub(crate) fn add_decided(
-    statuses: &mut BTreeMap<TxnId, Status>,
-    txn: TxnId,
-    commit: Time,
-    stamp: Stamp,
-) -> Result<(), Fault>
-    ensures ok { OnOk result ((u : TxnValue) → status_in statuses.new.entries u ≡ (if is_eq (txn_cmp txn u) then Some (in_status.Decided commit stamp) else status_in statuses.old.entries u)) }
-    ensures err { OnErr result (statuses.new.entries ≡ statuses.old.entries) }
-    ensures memory { IfErr result (λ e. e ≡ fault.Memory) }
-{
-    statuses.insert(txn, Status::Decided { commit, stamp })?;
-    Ok(())
 }
 
 /// Prepares the part of a transaction, if one is kept.
