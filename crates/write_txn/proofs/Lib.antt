@@ -6,3 +6,4 @@ pub mod Taken
 pub mod SameTxn
 pub mod Added
 pub mod Early
+pub mod Listed

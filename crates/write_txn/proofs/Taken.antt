@@ -26,6 +26,10 @@ IsOf t (IsDecided commit stamp) = t ≡ t
 abbrev pub KeepsTxn : (Option State → Option State) → Type 0
 KeepsTxn f = (o : Open) → IfSome (f (Some (Holds o))) (IsOf (txn_of o))
 
+-- what a step answers is of the same transaction
+abbrev pub AnswersTxn : {A : Type 0} → (Option State → Option A) → (A → TxnValue) → Type 0
+AnswersTxn f txn = (o : Open) → IfSome (f (Some (Holds o))) (λ a. txn a ≡ txn_of o)
+
 named_open : (o : Option Status) (place : ℕ) → place_of o ≡ Some place → o ≡ Some (in_status.Open place)
 named_open None place e = absurd (cc)
 named_open (Some (in_status.Open q)) place e = cc
@@ -94,6 +98,10 @@ module _ (es : List (TxnValue × Status)) (os : List Open) (t : TxnValue) (place
 
   pub answer_known : {A : Type 0} (f : Option State → A) (a : A) → a ≡ f (Some (Holds o)) → a ≡ f (state_of (ledger_of es os) t)
   answer_known f a is = is ∙ ap f (sym known)
+
+  pub answer_own : {A : Type 0} (f : Option State → Option A) (txn : A → TxnValue) → AnswersTxn f txn → (a : Option A) → a ≡ f (Some (Holds o)) → IfSome a (λ x. txn x ≡ t)
+  answer_own {A} f txn keeps a is =
+      subst (λ u. IfSome a (λ x. txn x ≡ u)) own (subst (λ b. IfSome b (λ x. txn x ≡ txn_of o)) (sym is) (keeps o))
 
   -- the same of what stays under way
   pub stay_placed : (f : Option State → Option State) → KeepsTxn f → (ps : List Open) (x : Open) → ps ≡ set os place x → Some (Holds x) ≡ f (Some (Holds o)) → IsPlaced (ledger_of es ps)

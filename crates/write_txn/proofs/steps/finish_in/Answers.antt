@@ -1,7 +1,8 @@
 use Rattle.std.proofs.Common.{arith}
+use Rattle.txn_state.specs.Prepared.{PreparedValue}
 use Rattle.write_txn.specs.Ledger.{state_applied, part_in}
-use Rattle.write_txn.proofs.SameTxn.{applied_keeps}
-use Rattle.write_txn.proofs.Taken.{inside, step_placed, step_becomes, answer_known}
+use Rattle.write_txn.proofs.SameTxn.{part_own, applied_keeps}
+use Rattle.write_txn.proofs.Taken.{inside, step_placed, step_becomes, answer_known, answer_own}
 use Rattle.write_txn.proofs.steps.finish_in.Goals as goal
 
 pub put-requires-clause-place : goal.put-requires-clause-place
@@ -22,3 +23,8 @@ pub returns-in-Some-clause-part : goal.returns-in-Some-clause-part
 returns-in-Some-clause-part c =
     answer_known c.args.statuses.now.entries c.args.under_way.now.items c.args.txn c.in-Some.place c.swap_remove-held.result c.requires c.in-Some.ensures c.swap_remove-held.ensures.value
     part_in c.finished-next.result.1 c.finished-next.ensures.part
+
+pub returns-in-Some-clause-own : goal.returns-in-Some-clause-own
+returns-in-Some-clause-own c =
+    answer_own c.args.statuses.now.entries c.args.under_way.now.items c.args.txn c.in-Some.place c.swap_remove-held.result c.requires c.in-Some.ensures c.swap_remove-held.ensures.value
+    part_in (λ (x : PreparedValue). x.part.writer.txn) part_own c.finished-next.result.1 c.finished-next.ensures.part

@@ -1,7 +1,8 @@
 use Rattle.std.proofs.Common.{arith}
+use Rattle.txn_state.specs.Ballot.{CompleteValue}
 use Rattle.write_txn.specs.Ledger.{state_ready, readied_by}
-use Rattle.write_txn.proofs.SameTxn.{ready_keeps}
-use Rattle.write_txn.proofs.Taken.{inside, step_placed, step_becomes, answer_known}
+use Rattle.write_txn.proofs.SameTxn.{ready_own, ready_keeps}
+use Rattle.write_txn.proofs.Taken.{inside, step_placed, step_becomes, answer_known, answer_own}
 use Rattle.write_txn.proofs.steps.ready_in.Goals as goal
 
 pub put-requires-clause-place : goal.put-requires-clause-place
@@ -22,3 +23,8 @@ pub returns-in-Some-clause-complete : goal.returns-in-Some-clause-complete
 returns-in-Some-clause-complete c =
     answer_known c.args.statuses.now.entries c.args.under_way.now.items c.args.txn c.in-Some.place c.swap_remove-held.result c.requires c.in-Some.ensures c.swap_remove-held.ensures.value
     (readied_by c.args.time) c.readied-next.result.1 c.readied-next.ensures.complete
+
+pub returns-in-Some-clause-own : goal.returns-in-Some-clause-own
+returns-in-Some-clause-own c =
+    answer_own c.args.statuses.now.entries c.args.under_way.now.items c.args.txn c.in-Some.place c.swap_remove-held.result c.requires c.in-Some.ensures c.swap_remove-held.ensures.value
+    (readied_by c.args.time) (λ (x : CompleteValue). x.own.part.writer.txn) (ready_own c.args.time) c.readied-next.result.1 c.readied-next.ensures.complete
