@@ -7,3 +7,12 @@ pub mod Bodies
 pub mod Replicas
 pub mod Readying
 pub mod Answering
+pub mod Lists
+pub mod Txns
+pub mod Replaced
+pub mod Settled
+pub mod Taken
+pub mod SameTxn
+pub mod Added
+pub mod Early
+pub mod Listed
