@@ -11,11 +11,9 @@ use Rattle.versions.specs.declared.version.Version.{Version}
 use Rattle.column_family.specs.declared.batch.Row.{Row}
 use Rattle.store.specs.declared.part.Applied.{Applied}
 use Rattle.store.specs.declared.part.Part.{Part}
-use Rattle.store.specs.declared.sight.Moment.{Moment}
 use Rattle.store.specs.declared.sight.Seen.{Seen}
-use Rattle.store.specs.Kept.{Chains}
 use Rattle.store.specs.Part.{greatest_of, IsPartOf}
-use Rattle.store.specs.Sight.{NamedVersion, named, seen_in, AreSeen, is_covered, live_of, evt_or_0, evt_of_sight, writer_of, writers_of, IsPartSeen}
+use Rattle.store.specs.Sight.{Sight, NamedVersion, named, AreSeen, AreAskedFor, is_covered, live_of, evt_or_0, writer_of, writers_of, IsMadeOf, IsPartSeen}
 use Rattle.store.proofs.Lists.{contains_first, contains_rest, given_seen, map_of_map}
 
 asked_value : (p : Predicate) (covered : Bool) (n : List ℕ) (value : Option (List ℕ)) (rest : List Column) → is_asked p n ≡ true → AreAsked p rest
@@ -25,42 +23,42 @@ asked_value p false n None rest asked h = h
 asked_value p false n (Some v) rest asked h = (asked, h)
 
 -- the live columns of those that are asked for are asked for
-live_asked : (p : Predicate) (d : Option Version) (seen : List NamedVersion) → ((n : List ℕ) (v : Version) → Contains seen (n, v) → is_asked p n ≡ true)
-    → AreAsked p (filter_map (live_of d) seen)
+live_asked : (p : Predicate) (d : Option Version) (seen : List NamedVersion) → AreAskedFor p seen → AreAsked p (filter_map (live_of d) seen)
 live_asked p d [] asked = tt
 live_asked p d (s ∷ seen) asked =
     asked_value p (is_covered d s.1) s.0 s.1.what.value (filter_map (live_of d) seen) (asked s.0 s.1 (contains_first s seen))
     (live_asked p d seen (λ n v has. asked n v (contains_rest s (n, v) seen has)))
 
-pub part_seen : (m : Moment) (row : Chains) (p : Predicate) (part : Part) (items : List Seen) (d : Option Version) (live : List Column) (found : List WriterValue)
-    → AreSeen m row p (map named items) → d ≡ seen_in m row.deletions.versions → live ≡ filter_map (λ s. live_of d (named s)) items
+pub part_made : (p : Predicate) (part : Part) (items : List Seen) (d : Option Version) (live : List Column) (found : List WriterValue)
+    → AreAskedFor p (map named items) → live ≡ filter_map (λ s. live_of d (named s)) items
     → (AreAsked p live → part.columns ≡ slice_of p live)
     → found ≡ filter_map (λ s. writer_of p part.columns d (named s)) items ++ option_to_list (option_map (λ v. v.what.writer) d)
     → ((w : WriterValue) → Contains found w → Contains part.writers w) → ((w : WriterValue) → Contains part.writers w → Contains found w)
-    → IsStrictlySortedBy writer_cmp part.writers → part.evt ≡ max (evt_or_0 d) (greatest_of (map (λ s. s.version.now.evt) items)) → IsPartSeen m row p part
-part_seen m row p part items d live found are_seen deletion lives cut writes keeps adds_none in_order evt =
+    → IsStrictlySortedBy writer_cmp part.writers → part.evt ≡ max (evt_or_0 d) (greatest_of (map (λ s. s.version.now.evt) items)) → IsMadeOf d (map named items) p part
+part_made p part items d live found asks lives cut writes keeps adds_none in_order evt =
     let seen = map named items in
-    let e = seen_in m row.deletions.versions in
-    let columns : live ≡ filter_map (live_of e) seen =
-    lives ∙ sym (given_seen (live_of d) named items) ∙ ap (λ (o : Option Version). filter_map (live_of o) seen) deletion in
-    let asked = subst (AreAsked p) (sym columns) (live_asked p e seen (λ n v has. (are_seen.sound n v has).0)) in
-    let writers : found ≡ writers_of p part.columns e seen =
-    writes
-    ∙ ap (λ ws. ws ++ option_to_list (option_map (λ (v : Version). v.what.writer) d)) (sym (given_seen (writer_of p part.columns d) named items))
-    ∙ ap (λ (o : Option Version). writers_of p part.columns o seen) deletion in
+    let columns : live ≡ filter_map (live_of d) seen = lives ∙ sym (given_seen (live_of d) named items) in
+    let asked = subst (AreAsked p) (sym columns) (live_asked p d seen asks) in
+    let writers : found ≡ writers_of p part.columns d seen =
+    writes ∙ ap (λ ws. ws ++ option_to_list (option_map (λ (v : Version). v.what.writer) d)) (sym (given_seen (writer_of p part.columns d) named items)) in
     record {
-      seen = seen;
-      are_seen = are_seen;
       columns = cut asked ∙ ap (slice_of p) columns;
       writers = λ w. (
         λ has. subst (λ ws. Contains ws w) writers (adds_none w has),
         λ has. keeps w (subst (λ ws. Contains ws w) (sym writers) has),
       );
       in_order = in_order;
-      evt = evt
-          ∙ ap (λ ts. max (evt_or_0 d) (greatest_of ts)) (sym (map_of_map (λ (s : NamedVersion). s.1.evt) named items))
-          ∙ ap (λ (o : Option Version). evt_of_sight o seen) deletion;
+      evt = evt ∙ ap (λ ts. max (evt_or_0 d) (greatest_of ts)) (sym (map_of_map (λ (s : NamedVersion). s.1.evt) named items));
     }
+
+-- a part that is made of what is seen is what is seen
+pub made_seen : (f : Sight) (p : Predicate) (part : Part) (seen : List NamedVersion) (d : Option Version) → AreSeen f p seen → d ≡ f None
+    → (AreAskedFor p seen → IsMadeOf d seen p part) → IsPartSeen f p part
+made_seen f p part seen d are_seen is made = record {
+  seen = seen;
+  are_seen = are_seen;
+  made = subst (λ (o : Option Version). IsMadeOf o seen p part) is (made (λ n v has. (are_seen.sound n v has).0));
+}
 
 -- a right part stays right whatever its earliest valid time says
 pub any_evt : (applied : List Applied) (r : Row) (p : Predicate) (part : Part) (evt : ℕ) → IsPartOf applied r p part

@@ -1,18 +1,21 @@
 -- The changes of a batch, one after the other: room for each, and what each leaves.
-use Rattle.std.proofs.Common.{◌≡◌, ℕ, ◌+◌, ◌≤◌, ◌<◌, ◌∙◌, ap, sym, subst, refl, inl, inr, Bool, true, false, ◌||◌, ◌⊎◌, List, [], ◌∷◌, ◌++◌, length, get_or, arith}
-use Rattle.std.specs.Prelude.{if◌then◌else◌}
+use Rattle.std.proofs.Common.{◌≡◌, ℕ, ◌+◌, ◌≤◌, ◌<◌, ◌∙◌, ap, sym, subst, refl, inl, inr, Bool, true, false, ◌||◌, ◌⊎◌, List, [], ◌∷◌, ◌++◌, map, length, get_or, Some, None, arith}
+use Rattle.std.specs.Prelude.{if◌then◌else◌, filter}
 use Rattle.std.specs.List.{list_any}
 use Rattle.std.specs.Ordering.{is_eq}
 use Rattle.std.proofs.lemmas.Bool.Decides.{nat_tests}
+use Rattle.std.proofs.lemmas.List.{map-append}
+use Rattle.std.proofs.lemmas.List.Elements.{filter-append}
 use Rattle.std.proofs.lemmas.List.Folds.{list_any-append, list_any_at}
 use Rattle.logical_time.specs.Stamps.{StampValue, stamp_cmp, is_older}
 use Rattle.column_family.specs.declared.batch.Row.{Row}
 use Rattle.column_family.specs.declared.batch.Change.{Change}
 use Rattle.versions.specs.declared.version.Version.{Version}
-use Rattle.versions.specs.Chain.{put_of}
+use Rattle.column_family.specs.Location.{is_same_row}
+use Rattle.versions.specs.Chain.{Held, put_of}
 use Rattle.versions.specs.Newest.{has_stamp}
 use Rattle.store.specs.declared.origin.Origin.{Origin}
-use Rattle.store.specs.Kept.{Place, Chains, chain_at, is_at, version_of, written, put_all, HasRoom}
+use Rattle.store.specs.Kept.{Place, Chains, chain_of, chain_at, column_held, is_of_place, is_at, version_of, written, put_all, HasRoom}
 use Rattle.store.proofs.Maps.{by_cases}
 use Rattle.store.proofs.Places.{IsReady}
 
@@ -99,3 +102,36 @@ put_rest o old new c cs put r p =
     ap (λ xs. put_all xs (written o r p cs)) (put r p)
     ∙ put_first (is_at r p c) o (chain_at old r p).versions (written o r p cs) c
     ∙ ap (put_all (chain_at old r p).versions) (sym (written_first o r p c cs))
+
+-- ---- what the changes of one row leave
+put_all_after : (xs vs ws : List Version) → put_all xs (vs ++ ws) ≡ put_all (put_all xs vs) ws
+put_all_after xs [] ws = refl
+put_all_after xs (v ∷ vs) ws = put_all_after (put_of xs v) vs ws
+
+-- after one change more
+left_more : (o : Origin) (r : Row) (p : Place) (changes : List Change) (c : Change)
+    → put_all [] (written o r p (changes ++ c ∷ [])) ≡ put_all (put_all [] (written o r p changes)) (written o r p (c ∷ []))
+left_more o r p changes c =
+    ap (λ (cs : List Change). put_all [] (map (λ d. version_of o d.mutation) cs)) (filter-append (is_at r p) changes (c ∷ []))
+    ∙ ap (put_all []) (map-append (λ (d : Change). version_of o d.mutation) (filter (is_at r p) changes) (filter (is_at r p) (c ∷ [])))
+    ∙ put_all_after [] (written o r p changes) (written o r p (c ∷ []))
+
+pub none_left : (held : Chains) (p : Place) → held.columns ≡ [] → held.deletions.versions ≡ [] → (chain_of held p).versions ≡ []
+none_left held None columns deletions = deletions
+none_left held (Some n) columns deletions = ap (λ (es : List (List ℕ × Held)). (column_held es n).versions) columns
+
+-- a change of the row
+pub own_left : (o : Origin) (r : Row) (p : Place) (changes : List Change) (c : Change) (held ready new : Chains) → is_same_row r c.row ≡ true
+    → (chain_of held p).versions ≡ put_all [] (written o r p changes) → (chain_of ready p).versions ≡ (chain_of held p).versions
+    → (chain_of new p).versions ≡ (if is_of_place p c.mutation then put_of (chain_of ready p).versions (version_of o c.mutation) else (chain_of ready p).versions)
+    → (chain_of new p).versions ≡ put_all [] (written o r p (changes ++ c ∷ []))
+own_left o r p changes c held ready new own so_far same put =
+    put
+    ∙ ap (λ (xs : List Version). if is_of_place p c.mutation then put_of xs (version_of o c.mutation) else xs) (same ∙ so_far)
+    ∙ by_cases (is_of_place p c.mutation) (λ yes. rw (own, yes) refl) (λ no. rw (own, no) refl)
+    ∙ sym (left_more o r p changes c)
+
+-- a change of another row
+pub other_left : (o : Origin) (r : Row) (p : Place) (changes : List Change) (c : Change) (held : Chains) → is_same_row r c.row ≡ false
+    → (chain_of held p).versions ≡ put_all [] (written o r p changes) → (chain_of held p).versions ≡ put_all [] (written o r p (changes ++ c ∷ []))
+other_left o r p changes c held other so_far = so_far ∙ rw other refl ∙ sym (left_more o r p changes c)

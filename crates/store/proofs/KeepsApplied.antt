@@ -99,7 +99,7 @@ few batch r p (c ∷ cs) h =
     later apart (inr h) = inr (h.0, h.1, rw apart h.2, rw apart (sym (or_none (last_of (is_at r p) cs)) ∙ h.3))
 
 -- so it leaves no version there, or one
-by_few : (o : Origin) (r : Row) (p : Place) (batch : List Change) → IsNormal batch → (P : List Version → Option Mutation → Type 0) → P [] None
+pub by_few : (o : Origin) (r : Row) (p : Place) (batch : List Change) → IsNormal batch → (P : List Version → Option Mutation → Type 0) → P [] None
     → ((c : Change) → is_at r p c ≡ true → P (version_of o c.mutation ∷ []) (Some c.mutation)) → P (written o r p batch) (last_of (is_at r p) batch)
 by_few o r p batch normal P none one = elim (few batch r p batch normal.1) [
   | inl h ↦
@@ -121,15 +121,15 @@ mutation_back (Some n) (DeleteColumn a) e = ap DeleteColumn (sym ((bytes_eq-Deci
 mutation_back (Some n) DeleteRow e = absurd (cc)
 mutation_back (Some n) (DeleteRange a b) e = absurd (cc)
 
-abbrev origin_of : Applied → Origin
+abbrev pub origin_of : Applied → Origin
 origin_of a = record { writer = a.part.writer; stamp = a.stamp; evt = a.commit }
 
-version_back : (r : Row) (p : Place) (a : Applied) (c : Change) → is_at r p c ≡ true → stamped_of p (version_of (origin_of a) c.mutation) ≡ stamped (committed_of a) c.mutation
+pub version_back : (r : Row) (p : Place) (a : Applied) (c : Change) → is_at r p c ≡ true → stamped_of p (version_of (origin_of a) c.mutation) ≡ stamped (committed_of a) c.mutation
 version_back r p a c is =
     ap (λ (m : Mutation). record { stamp = a.stamp; commit = a.commit; mutation = m })
     (mutation_back p c.mutation (both_true (is_same_row r c.row) (is_of_place p c.mutation) is).1)
 
-newer_alike : (p : Place) (v : Version) (o : Option Version) → option_map (stamped_of p) (newer_version v o) ≡ newer_of (option_map (stamped_of p) o) (Some (stamped_of p v))
+pub newer_alike : (p : Place) (v : Version) (o : Option Version) → option_map (stamped_of p) (newer_version v o) ≡ newer_of (option_map (stamped_of p) o) (Some (stamped_of p v))
 newer_alike p v None = refl
 newer_alike p v (Some u) = by_cases (is_older u.stamp v.stamp) (λ lt. rw lt refl) (λ ge. rw ge refl)
 
@@ -141,7 +141,7 @@ not_held s all new (x ∷ xs) from =
     let apart : is_eq (stamp_cmp s x.stamp) ≡ false = ap (λ (t : StampValue). is_eq (stamp_cmp s t)) (sym b.2) ∙ new_stamp s all b.0 new b.1 in
     rw apart (not_held s all new xs (λ v has. from v (contains_rest x v xs has)))
 
-seen_with_none : (b : Bool) (n : Option Stamped) → n ≡ newer_of n (cond b None None)
+pub seen_with_none : (b : Bool) (n : Option Stamped) → n ≡ newer_of n (cond b None None)
 seen_with_none true n = sym (newer_of_none n)
 seen_with_none false n = sym (newer_of_none n)
 
@@ -163,7 +163,7 @@ seen_with_one r p t a c xs n is falling new e =
         ∙ ap (λ (x : Stamped). newer_of n (Some x)) (version_back r p a c is)
     go false = e ∙ sym (newer_of_none n)
 
-from_more : (all : List Applied) (a : Applied) (v : Version) → IsFrom all v → IsFrom (all ++ a ∷ []) v
+pub from_more : (all : List Applied) (a : Applied) (v : Version) → IsFrom all v → IsFrom (all ++ a ∷ []) v
 from_more all a v (b, has, stamp, commit, writer) = (b, Contains-append_left all (a ∷ []) b has, stamp, commit, writer)
 
 from_put : (all : List Applied) (a : Applied) (c : Change) (xs : List Version) → IsFalling xs → ((v : Version) → Contains xs v → IsFrom all v)

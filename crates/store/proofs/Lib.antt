@@ -18,3 +18,7 @@ pub mod Later
 pub mod Bounds
 pub mod Sights
 pub mod Assembled
+pub mod Merged
+pub mod MergeSteps
+pub mod ReadWith
+pub mod SameParts

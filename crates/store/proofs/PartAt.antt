@@ -16,12 +16,12 @@ use Rattle.store.specs.declared.sight.Moment.TheVariants.{Now, At}
 use Rattle.store.specs.Part.{history_of, applied_by, IsRightPart, IsNewestPart}
 use Rattle.store.specs.Kept.{Place, Kept, held_by, no_row, chain_at, is_at}
 use Rattle.store.specs.Keeps.{stamped_of, IsFrom, Keeps}
-use Rattle.store.specs.Sight.{IsPartSeen}
+use Rattle.store.specs.Sight.{sight_of, IsPartSeen}
 use Rattle.store.proofs.Lists.{kept, none_in_empty, first_or_rest}
 use Rattle.store.proofs.Apart.{apart_by}
 use Rattle.store.proofs.View.{IsView, view_part}
 
-seen_by : (xs : List Version) (t : ℕ) (v : Version) → at_of xs t ≡ Some v → nat_le v.evt t ≡ true
+pub seen_by : (xs : List Version) (t : ℕ) (v : Version) → at_of xs t ≡ Some v → nat_le v.evt t ≡ true
 seen_by [] t v e = absurd (cc)
 seen_by (x ∷ xs) t v e =
     by_cases (nat_le x.evt t)
@@ -29,7 +29,7 @@ seen_by (x ∷ xs) t v e =
     (λ gt. seen_by xs t v (rw gt at e))
 
 -- a version that is seen by a time comes from what was applied by then
-from_by : (all : List Applied) (t : ℕ) (v : Version) → nat_le v.evt t ≡ true → IsFrom all v → IsFrom (applied_by t all) v
+pub from_by : (all : List Applied) (t : ℕ) (v : Version) → nat_le v.evt t ≡ true → IsFrom all v → IsFrom (applied_by t all) v
 from_by all t v le (a, has, stamp, commit, writer) =
     (a, kept (λ (b : Applied). nat_le b.commit t) all a has (ap (λ (n : ℕ). nat_le n t) commit ∙ le), stamp, commit, writer)
 
@@ -42,8 +42,8 @@ view_at s all r t k low = record {
 
 -- what is seen of a row at a time, from the horizon on, is right at the time
 pub part_at : (s : Kept) (all : List Applied) (r : Row) (p : Predicate) (t : ℕ) (part : Part) → Keeps s all → s.low ≤ t
-    → IsPartSeen (At t) (held_by row_cmp no_row s.rows r) p part → IsRightPart all r p t part
-part_at s all r p t part k low seen = (view_part (applied_by t all) r (At t) (held_by row_cmp no_row s.rows r) p part (view_at s all r t k low) seen).0
+    → IsPartSeen (sight_of (At t) (held_by row_cmp no_row s.rows r)) p part → IsRightPart all r p t part
+part_at s all r p t part k low seen = (view_part (applied_by t all) r (sight_of (At t) (held_by row_cmp no_row s.rows r)) p part (view_at s all r t k low) seen).0
 
 -- a time at which all is committed
 last_commit : List Applied → ℕ
@@ -90,7 +90,7 @@ view_now s all r k =
 
 -- what is seen of a row by the newest versions is the part by them
 pub part_now : (s : Kept) (all : List Applied) (r : Row) (p : Predicate) (part : Part) → Keeps s all
-    → IsPartSeen Now (held_by row_cmp no_row s.rows r) p part → IsNewestPart all r p part
+    → IsPartSeen (sight_of Now (held_by row_cmp no_row s.rows r)) p part → IsNewestPart all r p part
 part_now s all r p part k seen =
-    let h = view_part all r Now (held_by row_cmp no_row s.rows r) p part (view_now s all r k) seen in
+    let h = view_part all r (sight_of Now (held_by row_cmp no_row s.rows r)) p part (view_now s all r k) seen in
     record { shown = h.0; evt = h.1 }

@@ -25,8 +25,8 @@ use Rattle.store.specs.declared.sight.Moment.{Moment}
 use Rattle.store.specs.declared.sight.Moment.TheVariants.{Now, At}
 use Rattle.logical_time.specs.Stamps.{writer_cmp}
 use Rattle.store.specs.declared.part.Part.{Part}
-use Rattle.store.specs.Kept.{Chains, no_row, chain_of, name_cmp, column_held, nothing_held}
-use Rattle.store.specs.Sight.{NamedVersion, seen_in, seen_entry, seen_at, AreSeen, is_backwards, writers_of, evt_of_sight, IsPartSeen}
+use Rattle.store.specs.Kept.{Place, Chains, no_row, chain_of, name_cmp, column_held, nothing_held}
+use Rattle.store.specs.Sight.{Sight, NamedVersion, newer_seen, laid_over, seen_in, seen_entry, seen_at, sight_of, AreSeen, is_backwards, writers_of, evt_of_sight, IsPartSeen}
 use Rattle.store.proofs.Bounds.{none_between}
 use Rattle.store.proofs.Lists.{none_in_empty, contains_first, contains_rest, first_or_rest, kept, kept_only, given, given_only}
 use Rattle.store.proofs.Maps.{by_cases, same_name}
@@ -94,7 +94,7 @@ at_keeps_keys m columns n s is = sym (seen_pair n (seen_in m (column_held column
 
 -- what is looked up by the names of a list
 pub names_seen : (m : Moment) (row : Chains) (names : List (List ℕ)) (seen : List NamedVersion)
-    → seen ≡ filter_map (seen_at m row.columns) (in_name_order names) → AreSeen m row (Names names) seen
+    → seen ≡ filter_map (seen_at m row.columns) (in_name_order names) → AreSeen (sight_of m row) (Names names) seen
 names_seen m row names seen is =
     let ns = in_name_order names in
     let f = seen_at m row.columns in
@@ -129,7 +129,7 @@ none_of_nothing (At t) = refl
 
 -- what is walked over between two ends
 pub entries_seen : (m : Moment) (row : Chains) (p : Predicate) (q : List ℕ → Bool) (seen : List NamedVersion) → ((n : List ℕ) → is_asked p n ≡ q n)
-    → IsStrictlySortedBy name_cmp (map (λ e. e.0) row.columns) → seen ≡ filter_map (seen_entry m) (filter (λ e. q e.0) row.columns) → AreSeen m row p seen
+    → IsStrictlySortedBy name_cmp (map (λ e. e.0) row.columns) → seen ≡ filter_map (seen_entry m) (filter (λ e. q e.0) row.columns) → AreSeen (sight_of m row) p seen
 entries_seen m row p q seen asks sorted is =
     let es = row.columns in
     let f = seen_entry m in
@@ -168,7 +168,7 @@ unfolding IsStrictlySortedBy
 sorted_nothing = tt
 
 -- where nothing is asked for nothing is seen
-nothing_seen : (m : Moment) (row : Chains) (p : Predicate) → ((n : List ℕ) → is_asked p n ≡ false) → AreSeen m row p []
+nothing_seen : (m : Moment) (row : Chains) (p : Predicate) → ((n : List ℕ) → is_asked p n ≡ false) → AreSeen (sight_of m row) p []
 nothing_seen m row p none = record {
   in_order = sorted_nothing;
   sound = λ n v has. absurd (none_in_empty (n, v) has);
@@ -182,12 +182,12 @@ none_kept q none (e ∷ es) = rw (none e.0) (none_kept q none es)
 -- whether the range is backwards or not
 pub range_seen : (m : Moment) (row : Chains) (p : Predicate) (low high : List ℕ) (seen : List NamedVersion) → ((n : List ℕ) → is_asked p n ≡ is_between low high n)
     → (is_backwards low high ≡ false → IsStrictlySortedBy name_cmp (map (λ e. e.0) row.columns))
-    → seen ≡ filter_map (seen_entry m) (filter (λ e. is_between low high e.0) row.columns) → AreSeen m row p seen
+    → seen ≡ filter_map (seen_entry m) (filter (λ e. is_between low high e.0) row.columns) → AreSeen (sight_of m row) p seen
 range_seen m row p low high seen asks sorted is =
     by_cases (is_backwards low high)
     (λ backwards.
     let none : filter (λ e. is_between low high e.0) row.columns ≡ [] = none_kept (is_between low high) (none_between low high backwards) row.columns in
-    subst (AreSeen m row p) (sym (is ∙ ap (filter_map (seen_entry m)) none)) (nothing_seen m row p (λ n. asks n ∙ none_between low high backwards n)))
+    subst (AreSeen (sight_of m row) p) (sym (is ∙ ap (filter_map (seen_entry m)) none)) (nothing_seen m row p (λ n. asks n ∙ none_between low high backwards n)))
     (λ onwards. entries_seen m row p (is_between low high) seen asks (sorted onwards) is)
 
 no_slice : (p : Predicate) → slice_of p [] ≡ []
@@ -200,7 +200,7 @@ no_slice (Range start finish false (suc n)) = refl
 no_column : (m : Moment) (n : List ℕ) → seen_in m (chain_of no_row (Some n)).versions ≡ None
 no_column m n = none_of_nothing m
 
-none_seen : (m : Moment) (p : Predicate) → AreSeen m no_row p []
+none_seen : (m : Moment) (p : Predicate) → AreSeen (sight_of m no_row) p []
 none_seen m p = record {
   in_order = sorted_nothing;
   sound = λ n v has. absurd (none_in_empty (n, v) has);
@@ -212,17 +212,33 @@ unfolding IsStrictlySortedBy
 no_writer_sorted = tt
 
 -- of a row of which nothing is kept nothing is seen
-pub nothing_kept : (m : Moment) (p : Predicate) (part : Part) → part.columns ≡ [] → part.writers ≡ [] → part.evt ≡ 0 → IsPartSeen m no_row p part
+pub nothing_kept : (m : Moment) (p : Predicate) (part : Part) → part.columns ≡ [] → part.writers ≡ [] → part.evt ≡ 0 → IsPartSeen (sight_of m no_row) p part
 nothing_kept m p part columns writers evt =
     let none : seen_in m [] ≡ None = none_of_nothing m in
     record {
       seen = [];
       are_seen = none_seen m p;
-      columns = columns ∙ sym (no_slice p);
-      writers = λ w. (
-        λ has. absurd (none_in_empty w (subst (λ ws. Contains ws w) writers has)),
-        λ has. absurd (none_in_empty w (subst (λ (o : Option Version). Contains (writers_of p part.columns o []) w) none has)),
-      );
-      in_order = subst (λ ws. IsStrictlySortedBy writer_cmp ws) (sym writers) no_writer_sorted;
-      evt = evt ∙ ap (λ (o : Option Version). evt_of_sight o []) (sym none);
+      made = record {
+        columns = columns ∙ sym (no_slice p);
+        writers = λ w. (
+          λ has. absurd (none_in_empty w (subst (λ ws. Contains ws w) writers has)),
+          λ has. absurd (none_in_empty w (subst (λ (o : Option Version). Contains (writers_of p part.columns o []) w) none has)),
+        );
+        in_order = subst (λ ws. IsStrictlySortedBy writer_cmp ws) (sym writers) no_writer_sorted;
+        evt = evt ∙ ap (λ (o : Option Version). evt_of_sight o []) (sym none);
+      };
     }
+
+none_there : (m : Moment) (q : Place) → sight_of m no_row q ≡ None
+none_there m None = none_of_nothing m
+none_there m (Some n) = none_of_nothing m
+
+-- what is laid over a row of which nothing is kept is all that is seen
+pub seen_over_nothing : (m : Moment) (g : Sight) (p : Predicate) (part : Part) → IsPartSeen g p part → IsPartSeen (laid_over (sight_of m no_row) g) p part
+seen_over_nothing m g p part seen =
+    let same : g ≡ laid_over (sight_of m no_row) g = λ i. λ q. (alone (g q) ∙ ap (λ (o : Option Version). newer_seen o (g q)) (sym (none_there m q))) i in
+    subst (λ (f : Sight). IsPartSeen f p part) same seen
+  where
+    alone : (o : Option Version) → o ≡ newer_seen None o
+    alone None = refl
+    alone (Some v) = refl

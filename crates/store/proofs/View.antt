@@ -4,7 +4,6 @@ use Rattle.std.specs.Prelude.{filter_map, flat_map, is_some, option_to_list, Con
 use Rattle.std.specs.Ordering.{nat_cmp, is_eq}
 use Rattle.std.specs.Cmp.Lexicographic.{slice_cmp}
 use Rattle.std.specs.List.{cons_option}
-use Rattle.std.specs.List.Sorted.{IsStrictlySortedBy}
 use Rattle.std.proofs.lemmas.List.Elements.{Contains-append_left, Contains-append_right, Contains-append_cases}
 use Rattle.std.proofs.lemmas.Slice.Eq.{bytes_eq-Decides}
 use Rattle.logical_time.specs.Stamps.{StampValue, WriterValue, is_older}
@@ -24,11 +23,10 @@ use Rattle.slice.proofs.NameOrder.{sorted_in_order}
 use Rattle.slice.proofs.Selected.{is_eq_named}
 use Rattle.store.specs.declared.part.Applied.{Applied}
 use Rattle.store.specs.declared.part.Part.{Part}
-use Rattle.store.specs.declared.sight.Moment.{Moment}
 use Rattle.store.specs.Part.{history_of, IsRestedOn, IsPartOf, commit_of, column_evt, greatest_of, evt_of}
-use Rattle.store.specs.Kept.{Place, Chains, chain_of, name_cmp, is_at}
+use Rattle.store.specs.Kept.{Place, is_at}
 use Rattle.store.specs.Keeps.{AreApart, mutation_of, stamped_of, IsFrom}
-use Rattle.store.specs.Sight.{seen_in, NamedVersion, is_covered, live_of, evt_or_0, evt_of_sight, writer_of, writers_of, IsPartSeen}
+use Rattle.store.specs.Sight.{Sight, NamedVersion, AreSeen, is_covered, live_of, evt_or_0, evt_of_sight, writer_of, writers_of, IsPartSeen}
 use Rattle.store.proofs.Lists.{none_in_empty, contains_first, contains_rest, first_or_rest, given, given_only}
 use Rattle.store.proofs.Changed.{among_if_changed}
 use Rattle.store.proofs.Apart.{one_part}
@@ -36,15 +34,10 @@ use Rattle.store.proofs.Touched.{newest_touch}
 use Rattle.store.proofs.Slices.{slice_alike, asked_some, live_keeps_names}
 
 -- what is seen of each place of a row is the newest of these parts there, and comes from them
-pub record IsView (applied : List Applied) (r : Row) (f : Place → Option Version) : Type 0 where
+pub record IsView (applied : List Applied) (r : Row) (f : Sight) : Type 0 where
   pub apart : AreApart applied
   pub newest_there : (q : Place) → option_map (stamped_of q) (f q) ≡ newest_of (is_at r q) (history_of applied)
   pub from : (q : Place) (v : Version) → f q ≡ Some v → IsFrom applied v
-
--- these are the asked columns of which a version is seen
-record AreOf (f : Place → Option Version) (p : Predicate) (seen : List NamedVersion) : Type 0 where
-  pub sound : (n : List ℕ) (v : Version) → Contains seen (n, v) → (is_asked p n ≡ true) × (f (Some n) ≡ Some v)
-  pub whole : (n : List ℕ) (v : Version) → is_asked p n ≡ true → f (Some n) ≡ Some v → Contains seen (n, v)
 
 abbrev names_of : List NamedVersion → List (List ℕ)
 names_of seen = map (λ s. s.0) seen
@@ -69,23 +62,23 @@ live_shown n (Some v) (Some u) =
     (λ lt. rw lt refl)
     (λ ge. rw ge (ap (option_map (λ (w : List ℕ). record { name = n; value = w })) (inserted_of n v.what.value)))
 
-newest_seen : (applied : List Applied) (r : Row) (f : Place → Option Version) → IsView applied r f → (n : List ℕ)
+newest_seen : (applied : List Applied) (r : Row) (f : Sight) → IsView applied r f → (n : List ℕ)
     → newest (history_of applied) (at r n) ≡ newer_of (option_map (stamped_of (Some n)) (f (Some n))) (option_map (stamped_of None) (f None))
 newest_seen applied r f view n =
     newest_touch applied view.apart (at r n)
     ∙ ap (λ (o : Option Stamped). newer_of o (newest_of (is_row_deletion r) (history_of applied))) (sym (view.newest_there (Some n)))
     ∙ ap (newer_of (option_map (stamped_of (Some n)) (f (Some n)))) (sym (view.newest_there None))
 
-live_seen : (applied : List Applied) (r : Row) (f : Place → Option Version) → IsView applied r f → (n : List ℕ)
+live_seen : (applied : List Applied) (r : Row) (f : Sight) → IsView applied r f → (n : List ℕ)
     → live_column (history_of applied) r n ≡ shown (f None) n (f (Some n))
 live_seen applied r f view n =
     ap (λ (o : Option Stamped). option_map (λ (v : List ℕ). record { name = n; value = v }) (value_of o)) (newest_seen applied r f view n)
     ∙ live_shown n (f (Some n)) (f None)
 
-seen_at : (f : Place → Option Version) (p : Predicate) (seen : List NamedVersion) → AreOf f p seen → (s : NamedVersion) → Contains seen s → f (Some s.0) ≡ Some s.1
+seen_at : (f : Sight) (p : Predicate) (seen : List NamedVersion) → AreSeen f p seen → (s : NamedVersion) → Contains seen s → f (Some s.0) ≡ Some s.1
 seen_at f p seen of s has = (of.sound s.0 s.1 has).1
 
-columns_seen : (f : Place → Option Version) (seen : List NamedVersion) → ((s : NamedVersion) → Contains seen s → f (Some s.0) ≡ Some s.1)
+columns_seen : (f : Sight) (seen : List NamedVersion) → ((s : NamedVersion) → Contains seen s → f (Some s.0) ≡ Some s.1)
     → filter_map (live_of (f None)) seen ≡ filter_map (λ n. shown (f None) n (f (Some n))) (names_of seen)
 columns_seen f [] at_each = refl
 columns_seen f (s ∷ rest) at_each =
@@ -110,15 +103,15 @@ some_seen : (d : Option Version) (n : List ℕ) (o : Option Version) → is_some
 some_seen d n None h = absurd (cc)
 some_seen d n (Some v) h = (v, refl)
 
-slice_seen : (applied : List Applied) (r : Row) (f : Place → Option Version) (p : Predicate) (seen : List NamedVersion)
-    → IsView applied r f → AreOf f p seen → IsStrictlySortedBy name_cmp (names_of seen)
+slice_seen : (applied : List Applied) (r : Row) (f : Sight) (p : Predicate) (seen : List NamedVersion)
+    → IsView applied r f → AreSeen f p seen
     → slice_of p (filter_map (live_of (f None)) seen) ≡ slice_of p (live_columns (history_of applied) r)
-slice_seen applied r f p seen view of sorted =
+slice_seen applied r f p seen view of =
     let g = λ (n : List ℕ). shown (f None) n (f (Some n)) in
     let h = history_of applied in
     ap (slice_of p) (columns_seen f seen (seen_at f p seen of))
     ∙ slice_alike p g (live_column h r) (λ n c e. live_keeps_names h r n c (live_seen applied r f view n ∙ e)) (live_keeps_names h r)
-    (names_of seen) (columns_changed h r) sorted (sorted_in_order (flat_map (λ c. filter_map (column_changed r) c.batch) h))
+    (names_of seen) (columns_changed h r) of.in_order (sorted_in_order (flat_map (λ c. filter_map (column_changed r) c.batch) h))
     (λ n asked. sym (live_seen applied r f view n))
     (λ n some.
     let a = asked_some p g n some in
@@ -135,14 +128,14 @@ commit_seen q None = refl
 commit_seen q (Some v) = refl
 
 -- since when the version of a column is seen, if it is asked
-abbrev asked_evt : (Place → Option Version) → Predicate → List ℕ → ℕ
+abbrev asked_evt : Sight → Predicate → List ℕ → ℕ
 asked_evt f p n = if is_asked p n then evt_or_0 (f (Some n)) else 0
 
 map_alike : (f g : List ℕ → ℕ) → ((n : List ℕ) → f n ≡ g n) → (ns : List (List ℕ)) → map f ns ≡ map g ns
 map_alike f g e [] = refl
 map_alike f g e (n ∷ ns) = ap (λ (x : ℕ). x ∷ map f ns) (e n) ∙ ap (λ (xs : List ℕ). g n ∷ xs) (map_alike f g e ns)
 
-evts_seen : (f : Place → Option Version) (p : Predicate) (seen : List NamedVersion) → ((s : NamedVersion) → Contains seen s → (is_asked p s.0 ≡ true) × (f (Some s.0) ≡ Some s.1))
+evts_seen : (f : Sight) (p : Predicate) (seen : List NamedVersion) → ((s : NamedVersion) → Contains seen s → (is_asked p s.0 ≡ true) × (f (Some s.0) ≡ Some s.1))
     → map (λ s. s.1.evt) seen ≡ map (asked_evt f p) (names_of seen)
 evts_seen f p [] at_each = refl
 evts_seen f p (s ∷ rest) at_each =
@@ -178,15 +171,15 @@ some_evt : (o : Option Version) → 0 < evt_or_0 o → (v : Version) × (o ≡ S
 some_evt None lt = absurd (omega (arith, lt))
 some_evt (Some v) lt = (v, refl)
 
-asked_some_evt : (f : Place → Option Version) (p : Predicate) (n : List ℕ) → 0 < asked_evt f p n → (is_asked p n ≡ true) × ((v : Version) × (f (Some n) ≡ Some v))
+asked_some_evt : (f : Sight) (p : Predicate) (n : List ℕ) → 0 < asked_evt f p n → (is_asked p n ≡ true) × ((v : Version) × (f (Some n) ≡ Some v))
 asked_some_evt f p n lt = go (is_asked p n) refl lt
   where
     go : (b : Bool) → is_asked p n ≡ b → 0 < (if b then evt_or_0 (f (Some n)) else 0) → (is_asked p n ≡ true) × ((v : Version) × (f (Some n) ≡ Some v))
     go true e lt = (e, some_evt (f (Some n)) lt)
     go false e lt = absurd (omega (arith, lt))
 
-evt_seen : (applied : List Applied) (r : Row) (f : Place → Option Version) (p : Predicate) (seen : List NamedVersion)
-    → IsView applied r f → AreOf f p seen → evt_of_sight (f None) seen ≡ evt_of (history_of applied) r p
+evt_seen : (applied : List Applied) (r : Row) (f : Sight) (p : Predicate) (seen : List NamedVersion)
+    → IsView applied r f → AreSeen f p seen → evt_of_sight (f None) seen ≡ evt_of (history_of applied) r p
 evt_seen applied r f p seen view of =
     let h = history_of applied in
     let e = asked_evt f p in
@@ -228,8 +221,8 @@ one_writer : (d : Option Version) (w : WriterValue) → Contains (option_to_list
 one_writer None w has = absurd (none_in_empty w has)
 one_writer (Some v) w has = elim (first_or_rest v.what.writer w [] has) [ inl here ↦ (v, refl, here) | inr there ↦ absurd (none_in_empty w there) ]
 
-rested : (applied : List Applied) (r : Row) (f : Place → Option Version) (p : Predicate) (seen : List NamedVersion) (columns : List Column) (w : WriterValue)
-    → IsView applied r f → AreOf f p seen → columns ≡ slice_of p (live_columns (history_of applied) r)
+rested : (applied : List Applied) (r : Row) (f : Sight) (p : Predicate) (seen : List NamedVersion) (columns : List Column) (w : WriterValue)
+    → IsView applied r f → AreSeen f p seen → columns ≡ slice_of p (live_columns (history_of applied) r)
     → Contains (writers_of p columns (f None) seen) w → IsRestedOn applied r p w
 rested applied r f p seen columns w view of is has = elim (Contains-append_cases (filter_map (writer_of p columns (f None)) seen) (option_to_list (option_map (λ (v : Version). v.what.writer) (f None))) w has) [
   | inl column ↦ by_column column
@@ -293,8 +286,8 @@ one_stamp n v (Some u) s h =
     (λ lt. let k = rw lt at h in inr k)
     (λ ge. let k : Some v.stamp ≡ Some s = rw ge at h in inl (ge, cc))
 
-written : (applied : List Applied) (r : Row) (f : Place → Option Version) (p : Predicate) (seen : List NamedVersion) (columns : List Column) (w : WriterValue)
-    → IsView applied r f → AreOf f p seen → columns ≡ slice_of p (live_columns (history_of applied) r)
+written : (applied : List Applied) (r : Row) (f : Sight) (p : Predicate) (seen : List NamedVersion) (columns : List Column) (w : WriterValue)
+    → IsView applied r f → AreSeen f p seen → columns ≡ slice_of p (live_columns (history_of applied) r)
     → IsRestedOn applied r p w → Contains (writers_of p columns (f None) seen) w
 written applied r f p seen columns w view of is (a, has, writes, rests) = elim rests [
   | inl at_column ↦ elim at_column.2 [
@@ -336,20 +329,18 @@ written applied r f p seen columns w view of is (a, has, writes, rests) = elim r
         ]
 
 -- ---- all of it
-pub view_part : (applied : List Applied) (r : Row) (m : Moment) (row : Chains) (p : Predicate) (part : Part)
-    → IsView applied r (λ q. seen_in m (chain_of row q).versions) → IsPartSeen m row p part
+pub view_part : (applied : List Applied) (r : Row) (f : Sight) (p : Predicate) (part : Part) → IsView applied r f → IsPartSeen f p part
     → IsPartOf applied r p part × (part.evt ≡ evt_of (history_of applied) r p)
-view_part applied r m row p part view shows =
-    let f : Place → Option Version = λ q. seen_in m (chain_of row q).versions in
-    let of : AreOf f p shows.seen = record { sound = shows.are_seen.sound; whole = shows.are_seen.whole } in
-    let columns : part.columns ≡ slice_of p (live_columns (history_of applied) r) = shows.columns ∙ slice_seen applied r f p shows.seen view of shows.are_seen.in_order in (
+view_part applied r f p part view shows =
+    let made = shows.made in
+    let columns : part.columns ≡ slice_of p (live_columns (history_of applied) r) = made.columns ∙ slice_seen applied r f p shows.seen view shows.are_seen in (
       record {
         columns = columns;
         writers = λ w. (
-          (λ has. rested applied r f p shows.seen part.columns w view of columns ((shows.writers w).0 has)),
-          (λ rests. (shows.writers w).1 (written applied r f p shows.seen part.columns w view of columns rests)),
+          (λ has. rested applied r f p shows.seen part.columns w view shows.are_seen columns ((made.writers w).0 has)),
+          (λ rests. (made.writers w).1 (written applied r f p shows.seen part.columns w view shows.are_seen columns rests)),
         );
-        in_order = shows.in_order;
+        in_order = made.in_order;
       },
-      shows.evt ∙ evt_seen applied r f p shows.seen view of,
+      made.evt ∙ evt_seen applied r f p shows.seen view shows.are_seen,
     )

@@ -2,7 +2,8 @@
 use Rattle.std.proofs.Common.{◌≡◌, ◌∙◌, sym, ap, Bool, true, ◌&&◌, List, arith}
 use Rattle.std.specs.Prelude.{◌==◌, Contains, IsSorted}
 use Rattle.std.specs.Cmp.{IsTotalOrder, IsEquivalence}
-use Rattle.std.specs.Ordering.{eq_by_cmp}
+use Rattle.std.specs.Ordering.{eq_by_cmp, is_eq}
+use Rattle.std.specs.declared.cmp.Ordering.TheVariants.{Equal}
 use Rattle.std.specs.List.{dedup}
 use Rattle.std.specs.List.Sorted.{IsStrictlySortedBy}
 use Rattle.std.proofs.lemmas.Bool.Decides.{nat_tests}
@@ -17,7 +18,7 @@ same_writer v w = ((v.txn.session == w.txn.session) && (v.txn.number == w.txn.nu
 txn_total : IsTotalOrder txn_cmp
 txn_total = then_total (on_total (λ (t : TxnValue). t.session) nat_cmp_total) (on_total (λ (t : TxnValue). t.number) nat_cmp_total)
 
-writer_total : IsTotalOrder writer_cmp
+pub writer_total : IsTotalOrder writer_cmp
 writer_total = then_total (on_total (λ (w : WriterValue). w.txn) txn_total) (on_total (λ (w : WriterValue). w.shard) nat_cmp_total)
 
 ties : (v w : WriterValue) → same_writer v w ≡ eq_by_cmp writer_cmp v w
@@ -49,6 +50,10 @@ joined v w session number shard =
 
 same : (v w : WriterValue) → same_writer v w ≡ true → v ≡ w
 same v w e = joined v w (same_session v w e) (same_number v w e) (same_shard v w e)
+
+-- writers that compare as equal are the same
+pub exact_writer : (v w : WriterValue) → writer_cmp v w ≡ Equal → v ≡ w
+exact_writer v w e = same v w (ties v w ∙ ap is_eq e)
 
 pub kept_once : (ws : List WriterValue) (w : WriterValue) → Contains ws w → Contains (dedup same_writer ws) w
 kept_once ws w has = Contains-dedup equivalence same ws w has

@@ -8,8 +8,9 @@ ghost use Rattle.column_family.specs.Places.{row_cmp};
 ghost use Rattle.store.specs.Kept.{held_by, no_row};
 ghost use Rattle.store.specs.Part.{greatest_of};
 ghost use Rattle.store.specs.Sight as sight;
-ghost use Rattle.store.specs.Sight.{IsPartSeen, named};
+ghost use Rattle.store.specs.Sight.{AreAskedFor, IsMadeOf, IsPartSeen, laid_over, named, sight_of};
 
+use crate::merging::{merged, newer_seen};
 use crate::part::Part;
 use crate::row::RowChains;
 use crate::sight::{Moment, Seen, asked_columns, seen_in};
@@ -141,6 +142,25 @@ fn in_order(mut writers: Vec<Writer>) -> Writers
     Writers::from_vec(writers)
 }
 
+// The part that is made of these columns and this deletion, where the columns are asked for.
+fn made_of(
+    alloc: Global,
+    predicate: &Predicate,
+    deletion: Option<&Version>,
+    seen: &[Seen],
+) -> Result<Part, Fault>
+    ensures ok { IfOk result (λ part. AreAskedFor predicate.now (map named seen.now) → IsMadeOf (option_copied deletion.entry) (map named seen.now) predicate.now part) }
+    ensures memory { IfErr result (λ e. e ≡ fault.Memory) }
+{
+    let columns = cut(live_columns(alloc, deletion, seen)?, predicate);
+    let writers = writers_of(alloc, predicate, columns.as_slice(), deletion, seen)?;
+    Ok(Part {
+        writers: in_order(writers),
+        evt: evt_of(deletion, seen),
+        columns,
+    })
+}
+
 // What is seen of a row.
 fn part_of(
     alloc: Global,
@@ -148,23 +168,37 @@ fn part_of(
     predicate: &Predicate,
     moment: &Moment,
 ) -> Result<Part, Fault>
-    ensures ok { IfOk result (IsPartSeen moment.now row.now predicate.now) }
+    ensures ok { IfOk result (IsPartSeen (sight_of moment.now row.now) predicate.now) }
     ensures memory { IfErr result (λ e. e ≡ fault.Memory) }
 {
     let seen = asked_columns(alloc, row, predicate, moment)?;
-    let deletion = seen_in(&row.deletions, moment);
-    let columns = cut(live_columns(alloc, deletion, &seen)?, predicate);
-    let writers = writers_of(alloc, predicate, columns.as_slice(), deletion, &seen)?;
-    Ok(Part {
-        writers: in_order(writers),
-        evt: evt_of(deletion, &seen),
-        columns,
-    })
+    made_of(alloc, predicate, seen_in(&row.deletions, moment), &seen)
+}
+
+// What is seen of a row where another is laid over it.
+fn part_over<'s>(
+    alloc: Global,
+    row: &'s RowChains,
+    over: &'s RowChains,
+    predicate: &Predicate,
+    moment: &Moment,
+) -> Result<Part, Fault>
+    ensures ok { IfOk result (IsPartSeen (laid_over (sight_of moment.now row.now) (sight_of moment.now over.now)) predicate.now) }
+    ensures memory { IfErr result (λ e. e ≡ fault.Memory) }
+{
+    let below = asked_columns(alloc, row, predicate, moment)?;
+    let above = asked_columns(alloc, over, predicate, moment)?;
+    let seen = merged(alloc, &below, &above)?;
+    let deletion = newer_seen(
+        seen_in(&row.deletions, moment),
+        seen_in(&over.deletions, moment),
+    );
+    made_of(alloc, predicate, deletion, &seen)
 }
 
 // What is seen of a row of which nothing is kept.
 fn empty_part(alloc: Global, predicate: &Predicate, moment: &Moment) -> Part
-    ensures { IsPartSeen moment.now no_row predicate.now result }
+    ensures { IsPartSeen (sight_of moment.now no_row) predicate.now result }
 {
     Part {
         columns: Columns::new(alloc),
@@ -181,11 +215,29 @@ pub(crate) fn part_in(
     predicate: &Predicate,
     moment: &Moment,
 ) -> Result<Part, Fault>
-    ensures ok { IfOk result (IsPartSeen moment.now (held_by row_cmp no_row rows.now.entries row.now) predicate.now) }
+    ensures ok { IfOk result (IsPartSeen (sight_of moment.now (held_by row_cmp no_row rows.now.entries row.now)) predicate.now) }
     ensures memory { IfErr result (λ e. e ≡ fault.Memory) }
 {
     match rows.get(row) {
         Some(held) => part_of(alloc, held, predicate, moment),
         None => Ok(empty_part(alloc, predicate, moment)),
+    }
+}
+
+/// What is seen of one of the rows where these chains are laid over it.
+pub(crate) fn part_with<'s>(
+    alloc: Global,
+    rows: &'s BTreeMap<Row, RowChains>,
+    over: &'s RowChains,
+    row: &Row,
+    predicate: &Predicate,
+    moment: &Moment,
+) -> Result<Part, Fault>
+    ensures ok { IfOk result (IsPartSeen (laid_over (sight_of moment.now (held_by row_cmp no_row rows.now.entries row.now)) (sight_of moment.now over.now)) predicate.now) }
+    ensures memory { IfErr result (λ e. e ≡ fault.Memory) }
+{
+    match rows.get(row) {
+        Some(held) => part_over(alloc, held, over, predicate, moment),
+        None => part_of(alloc, over, predicate, moment),
     }
 }

@@ -1,5 +1,5 @@
 //! The chains of a row.
-ghost use Rattle.std.specs.Prelude.{◌≡◌, ◌+◌, ◌≤◌, ◌<◌, ◌⊎◌, [], ℕ, List, Some, None, true, if◌then◌else◌, OnOk, IfErr, IsOk};
+ghost use Rattle.std.specs.Prelude.{◌≡◌, ◌+◌, ◌≤◌, ◌<◌, ◌⊎◌, [], ℕ, List, Some, None, true, if◌then◌else◌, OnOk, IfOk, IfErr, IsOk};
 ghost use Rattle.std.specs.Map.{lookup};
 ghost use Rattle.std.specs.Ordering.{is_eq};
 ghost use Rattle.std.specs.Str.{bytes_eq};
@@ -7,10 +7,10 @@ ghost use Rattle.logical_time.specs.declared.fault.Fault.TheVariants as fault;
 ghost use Rattle.versions.specs.Chain.{put_of};
 ghost use Rattle.versions.specs.Newest.{has_stamp};
 ghost use Rattle.store.specs.Kept as kept;
-ghost use Rattle.store.specs.Kept.{Place, chain_of, column_held, is_of_place, name_cmp};
+ghost use Rattle.store.specs.Kept.{Place, chain_of, column_held, is_of_place, name_cmp, put_all, written};
 
 use crate::origin::Origin;
-use column_family::{Mutation, Name, Value};
+use column_family::{Change, Mutation, Name, Row, Value};
 use logical_time::Fault;
 use std::alloc::Global;
 use std::collections::BTreeMap;
@@ -144,4 +144,25 @@ impl RowChains {
             Mutation::DeleteRange { .. } => Ok(()),
         }
     }
+}
+
+/// What the changes of one row leave, as chains of that row alone. Linear in all of the changes, and logarithmic for
+/// each of the row in the columns of these.
+pub(crate) fn row_written(
+    alloc: Global,
+    row: &Row,
+    changes: &[Change],
+    origin: &Origin,
+) -> Result<RowChains, Fault>
+    ensures ok { IfOk result (λ held. (p : Place) → (chain_of held p).versions ≡ put_all [] (written origin.now row.now p changes.now)) }
+    ensures memory { IfErr result (λ e. e ≡ fault.Memory) }
+{
+    let mut held = RowChains::new(alloc);
+    for change in changes {
+        if *row == change.row {
+            held.reserve(alloc, &change.mutation)?;
+            held.put(change.mutation.clone()?, origin);
+        }
+    }
+    Ok(held)
 }

@@ -7,7 +7,7 @@ ghost use Rattle.slice.specs.Slice as slice_words;
 ghost use Rattle.logical_time.specs.declared.fault.Fault.TheVariants as fault;
 ghost use Rattle.store.specs.Kept.{name_cmp};
 ghost use Rattle.store.specs.Sight as sight;
-ghost use Rattle.store.specs.Sight.{AreSeen, named};
+ghost use Rattle.store.specs.Sight.{AreSeen, named, sight_of};
 
 use crate::row::RowChains;
 use column_family::Name;
@@ -28,7 +28,7 @@ pub(crate) enum Moment {
 }
 
 /// A column of which a version is seen.
-#[derive(Drop)]
+#[derive(Clone, Copy)]
 pub(crate) struct Seen<'s> {
     /// The column.
     pub(crate) name: &'s Name,
@@ -133,7 +133,7 @@ pub(crate) fn asked_columns<'s>(
     predicate: &Predicate,
     moment: &Moment,
 ) -> Result<Vec<Seen<'s>>, Fault>
-    ensures ok { IfOk result (λ seen. AreSeen moment.now row.now predicate.now (map named seen.items)) }
+    ensures ok { IfOk result (λ seen. AreSeen (sight_of moment.now row.now) predicate.now (map named seen.items)) }
     ensures memory { IfErr result (λ e. e ≡ fault.Memory) }
 {
     let columns = &row.columns;

@@ -7,16 +7,17 @@ ghost use Rattle.store.specs.declared.part.Applied.{Applied};
 ghost use Rattle.store.specs.Kept.{HasRoom, HaveSameVersions, HavePut};
 ghost use Rattle.store.specs.Keeps.{Keeps, IsNewStamp, IsOvertaken};
 ghost use Rattle.column_family.specs.History.{newest_at};
+ghost use Rattle.store.specs.declared.sight.Moment.TheVariants.{At};
 ghost use Rattle.store.specs.Part.{IsNewestPart, IsRightPart, history_of};
 
 use crate::origin::Origin;
 use crate::part::Part;
-use crate::reading::part_in;
-use crate::row::RowChains;
+use crate::reading::{part_in, part_with};
+use crate::row::{RowChains, row_written};
 use crate::rows::{put_changes, reserve_changes};
 use crate::sight::Moment;
 use column_family::{Batch, Row};
-use logical_time::{Fault, Stamp, Time};
+use logical_time::{Fault, Stamp, Time, Writer};
 use slice::Predicate;
 use std::alloc::Global;
 use std::collections::BTreeMap;
@@ -99,11 +100,7 @@ impl Store {
             Err(fault) => return Err((fault, prepared)),
         }
         let (part, _) = prepared.surrender();
-        let origin = Origin {
-            writer: part.writer,
-            stamp,
-            evt: commit,
-        };
+        let origin = Origin::new(part.writer, stamp, commit);
         put_changes(&mut self.rows, part.batch.into_vec(), &origin);
         Ok(())
     }
@@ -120,6 +117,18 @@ impl Store {
         part_in(self.alloc, &self.rows, row, predicate, &Moment::Now)
     }
 
+    // The moment of a time that isn't below the horizon.
+    fn moment_at(&self, time: Time) -> Result<Moment, Fault>
+        ensures ok { IfOk result (λ moment. (moment ≡ At time) × (self.now.low ≤ time)) }
+        ensures refused { IfErr result (λ e. (e ≡ fault.Collected) × (time < self.now.low)) }
+    {
+        if time < self.low {
+            Err(Fault::Collected)
+        } else {
+            Ok(Moment::At(time))
+        }
+    }
+
     /// The slice of the row at a time, with what it rests on there, and 0 for its earliest valid time: right by
     /// everything that was ever applied, and by whatever is applied later with a greater commit time. Refused with
     /// `Collected` exactly where the time lies below the horizon, else with `Memory` alone. Costs what `read_now`
@@ -132,14 +141,49 @@ impl Store {
         ensures answered { IfOk result (λ part. self.now.low ≤ time) }
         ensures refused { IfErr result (λ e. ((e ≡ fault.Collected) × (time < self.now.low)) ⊎ ((e ≡ fault.Memory) × (self.now.low ≤ time))) }
     {
-        if time < self.low {
-            return Err(Fault::Collected);
-        }
-        let part = part_in(self.alloc, &self.rows, row, predicate, &Moment::At(time))?;
+        let moment = self.moment_at(time)?;
+        let part = part_in(self.alloc, &self.rows, row, predicate, &moment)?;
         Ok(Part {
             evt: Time::zero(),
             ..part
         })
+    }
+
+    /// What `read_at` would answer once a part of this writer were applied with this commit time and this stamp, if
+    /// the part is in normal form and its stamp is new; nothing is applied. Refused as `read_at` is. Costs what
+    /// `read_at` does, and is linear in the batch: the versions that the part leaves in the row are laid over those
+    /// that the read finds, without touching a chain.
+    #[tactic(auto, using(crate::proofs::ReadWith::part_with))]
+    pub fn read_with(
+        &self,
+        writer: Writer,
+        batch: &Batch,
+        commit: Time,
+        stamp: Stamp,
+        row: &Row,
+        predicate: &Predicate,
+        time: Time,
+    ) -> Result<Part, Fault>
+        ensures right { (all : List Applied) → Keeps self.now all → IsNormal batch.now → IsNewStamp stamp all → IfOk result (IsRightPart (all ++ record { part = record { writer = writer; batch = batch.now }; commit = commit; stamp = stamp } ∷ []) row.now predicate.now time) }
+        ensures evt { IfOk result (λ part. part.evt ≡ 0) }
+        ensures answered { IfOk result (λ part. self.now.low ≤ time) }
+        ensures refused { IfErr result (λ e. ((e ≡ fault.Collected) × (time < self.now.low)) ⊎ ((e ≡ fault.Memory) × (self.now.low ≤ time))) }
+    {
+        let moment = self.moment_at(time)?;
+        let origin = Origin::new(writer, stamp, commit);
+        let over = row_written(self.alloc, row, batch.as_slice(), &origin)?;
+        let part = part_with(self.alloc, &self.rows, &over, row, predicate, &moment)?;
+        Ok(Part {
+            evt: Time::zero(),
+            ..part
+        })
+    }
+
+    /// The horizon: the time below which no read is answered any more.
+    pub fn low(&self) -> Time
+        ensures { result ≡ self.now.low }
+    {
+        self.low
     }
 
     /// Raises the horizon to this time if it lies below it. What a read at the new horizon or later answers stays.

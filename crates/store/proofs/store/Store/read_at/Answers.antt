@@ -1,11 +1,11 @@
-use Rattle.std.proofs.Common.{◌≤◌, ap, refl, subst, inl, arith}
-use Rattle.std.proofs.lemmas.Bool.Decides.{nat_tests}
+use Rattle.std.proofs.Common.{subst}
 use Rattle.column_family.specs.Places.{row_cmp}
 use Rattle.store.specs.declared.part.Part.{Part}
+use Rattle.store.specs.declared.sight.Moment.{Moment}
 use Rattle.store.specs.declared.sight.Moment.TheVariants.{At}
 use Rattle.store.specs.Kept.{Kept, held_by, no_row}
 use Rattle.store.specs.Part.{applied_by}
-use Rattle.store.specs.Sight.{IsPartSeen}
+use Rattle.store.specs.Sight.{sight_of, IsPartSeen}
 use Rattle.store.proofs.Assembled.{any_evt}
 use Rattle.store.proofs.Later.{right_lasts}
 use Rattle.store.proofs.PartAt.{part_at}
@@ -17,17 +17,13 @@ returns-clause-right c = λ all keeps.
     let r = c.args.row.now in
     let p = c.args.predicate.now in
     let part = c.in_ok-part.part in
-    let low = ap (λ (k : Kept). k.low) c.self.view_is in
-    let from : s.low ≤ c.args.time = grind (arith, nat_tests, low, c.if-lt.ensures) in
+    let is = c.in_ok-moment.ensures.ok in
     any_evt (applied_by c.args.time all) r p part c.zero.result
-    (part_at s all r p c.args.time part keeps from (subst (λ (k : Kept). IsPartSeen (At c.args.time) (held_by row_cmp no_row k.rows r) p part) c.self.view_is c.in_ok-part.ensures.ok))
+    (part_at s all r p c.args.time part keeps is.1
+    (subst (λ (k : Kept). IsPartSeen (sight_of (At c.args.time) (held_by row_cmp no_row k.rows r)) p part) c.self.view_is
+    (subst (λ (m : Moment). IsPartSeen (sight_of m (held_by row_cmp no_row c.self.inside.rows.entries r)) p part) is.0 c.in_ok-part.ensures.ok)))
 
 pub returns-clause-lasts : goal.returns-clause-lasts
 returns-clause-lasts c = λ all later keeps above.
     let part : Part = record { columns = c.in_ok-part.part.columns; writers = c.in_ok-part.part.writers; evt = c.zero.result } in
     right_lasts all later c.args.row.now c.args.predicate.now c.args.time part above (returns-clause-right c all keeps)
-
-pub returns-then-lt-clause-refused : goal.returns-then-lt-clause-refused
-returns-then-lt-clause-refused c =
-    let low = ap (λ (k : Kept). k.low) c.self.view_is in
-    inl (refl, grind (arith, nat_tests, low, c.if-lt.ensures))

@@ -1,0 +1,7 @@
+use Rattle.std.proofs.Common.{◌≡◌, [], take}
+use Rattle.store.specs.Kept.{Place, chain_of, put_all, written}
+use Rattle.store.proofs.row.row_written.Given as goal
+
+-- what the changes so far leave in the row
+abbrev pub invariant-loop-change : goal.invariant-loop-change
+invariant-loop-change l = (p : Place) → (chain_of l.held p).versions ≡ put_all [] (written l.origin l.row p (take l.change-index l.changes))

@@ -1,0 +1,33 @@
+use Rattle.std.proofs.Common.{◌≡◌, ◌∙◌, ap, subst, [], ◌∷◌, ◌++◌, List}
+use Rattle.column_family.specs.declared.batch.Change.{Change}
+use Rattle.column_family.specs.Places.{row_cmp}
+use Rattle.store.specs.declared.origin.Origin.{Origin}
+use Rattle.store.specs.declared.part.Applied.{Applied}
+use Rattle.store.specs.declared.sight.Moment.{Moment}
+use Rattle.store.specs.declared.sight.Moment.TheVariants.{At}
+use Rattle.store.specs.Kept.{Place, Kept, chain_of, held_by, no_row, put_all, written}
+use Rattle.store.specs.Part.{applied_by}
+use Rattle.store.specs.Sight.{sight_of, laid_over, IsPartSeen}
+use Rattle.store.proofs.Assembled.{any_evt}
+use Rattle.store.proofs.ReadWith.{part_with}
+use Rattle.store.proofs.store.Store.read_with.Goals as goal
+
+pub returns-clause-right : goal.returns-clause-right
+returns-clause-right c = λ all keeps normal fresh.
+    let s = c.args.self.now in
+    let r = c.args.row.now in
+    let p = c.args.predicate.now in
+    let t = c.args.time in
+    let part = c.in_ok-part.part in
+    let over = c.in_ok-over.over in
+    let a : Applied = record { part = record { writer = c.args.writer; batch = c.args.batch.now }; commit = c.args.commit; stamp = c.args.stamp } in
+    let o : Origin = record { writer = c.args.writer; stamp = c.args.stamp; evt = c.args.commit } in
+    let left : (q : Place) → (chain_of over q).versions ≡ put_all [] (written o r q c.args.batch.now) = λ q.
+    c.in_ok-over.ensures.ok q
+    ∙ ap (λ (from : Origin). put_all [] (written from r q c.as_slice.result.now)) c.new-origin.ensures
+    ∙ ap (λ (cs : List Change). put_all [] (written o r q cs)) c.as_slice.ensures in
+    let is = c.in_ok-moment.ensures.ok in
+    any_evt (applied_by t (all ++ a ∷ [])) r p part c.zero.result
+    (part_with s all a over r p t part keeps is.1 normal fresh left
+    (subst (λ (k : Kept). IsPartSeen (laid_over (sight_of (At t) (held_by row_cmp no_row k.rows r)) (sight_of (At t) over)) p part) c.self.view_is
+    (subst (λ (m : Moment). IsPartSeen (laid_over (sight_of m (held_by row_cmp no_row c.self.inside.rows.entries r)) (sight_of m over)) p part) is.0 c.in_ok-part.ensures.ok)))
