@@ -21,7 +21,7 @@ use Rattle.write_txn.specs.Stands.{Stands, IsUnknown, IsWaiting, StandsRemote, k
 use Rattle.write_txn.specs.Moves.{IsAbout, Moves}
 use Rattle.write_txn.proofs.Finds.{own_txn, same_txn, same_back, found_ballot, met_one, nodes_one, adds}
 use Rattle.write_txn.proofs.Counting.{awaited_left, met_among, has_among, all_among_left, among_left}
-use Rattle.write_txn.proofs.Moving.{known_if}
+use Rattle.write_txn.proofs.CohortSteps.{known_if}
 use Rattle.write_txn.proofs.Leading.{same_about}
 use Rattle.write_txn.proofs.Replicas.{all_met_then}
 use Rattle.write_txn.proofs.Readying.{KeepsBallot, readies_later}

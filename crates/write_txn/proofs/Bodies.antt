@@ -21,7 +21,7 @@ use Rattle.write_txn.specs.Stands.{Stands, IsUnknown, StandsPart, StandsLed, Sta
 use Rattle.write_txn.specs.Moves.{IsAbout, Moves}
 use Rattle.write_txn.proofs.Finds.{own_txn, same_txn, nodes_one, found_txn}
 use Rattle.write_txn.proofs.Counting.{voted_left, awaited_left, left_counted, has_among}
-use Rattle.write_txn.proofs.Moving.{known_if}
+use Rattle.write_txn.proofs.CohortSteps.{known_if}
 use Rattle.write_txn.proofs.Leading.{same_about, MayDecide, MayHold, standing, with_vote_about}
 
 -- ## Begin

@@ -1,7 +1,7 @@
 pub mod Finds
 pub mod Views
 pub mod Counting
-pub mod Moving
+pub mod CohortSteps
 pub mod Leading
 pub mod Bodies
 pub mod Replicas

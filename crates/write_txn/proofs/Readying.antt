@@ -27,7 +27,7 @@ use Rattle.write_txn.specs.Stands.{Stands, IsUnled, IsUnknown, IsWaiting, Stands
 use Rattle.write_txn.specs.Moves.{IsExtended, IsAbout, Moves, AreOnce}
 use Rattle.write_txn.proofs.Finds.{own_txn, same_txn, same_back, find_last, nodes_one, met_one, adds, stays}
 use Rattle.write_txn.proofs.Counting.{voted_left, awaited_left, met_among, met_all, left_counted, stranger_left, none_left, has_among}
-use Rattle.write_txn.proofs.Moving.{known_if}
+use Rattle.write_txn.proofs.CohortSteps.{known_if}
 use Rattle.write_txn.proofs.Leading.{same_about, MayDecide, MayHold, decides, holds}
 use Rattle.write_txn.proofs.Replicas.{ready_if_none, ready_in_view}
 

@@ -2,7 +2,7 @@
 ghost use Rattle.std.specs.Prelude.{◌≡◌};
 
 use column_family::Batch;
-use logical_time::{Stamp, Time, TxnId, Writer, Writers};
+use logical_time::{Shard, Stamp, Time, TxnId, Writer, Writers};
 use messages::Cohorts;
 use std::marker::Model;
 use txn_state::{Ballot, Prepared, RemoteBallot, WritePart};
@@ -69,7 +69,7 @@ impl Part {
     }
 
     /// The coordinator, as the number of a shard within a data centre.
-    pub fn coordinator(&self) -> u16
+    pub fn coordinator(&self) -> Shard
         ensures { result ≡ self.now.coordinator }
     {
         self.prepared.writer().shard
