@@ -19,7 +19,7 @@ use Rattle.logical_time.specs.Stamps.{TxnValue, txn_cmp}
 use Rattle.pending.specs.Marks.{RowList, time_in, IsLeast, IsBelow}
 use Rattle.pending.proofs.Maps.{both_equal}
 
-txn_total : IsTotalOrder txn_cmp
+pub txn_total : IsTotalOrder txn_cmp
 txn_total = then_total (on_total (λ (t : TxnValue). t.session) nat_cmp_total) (on_total (λ (t : TxnValue). t.number) nat_cmp_total)
 
 -- transactions that compare as equal are the same

@@ -5,11 +5,12 @@ ghost use Rattle.logical_time.specs.declared.fault.Fault.TheVariants as fault;
 ghost use Rattle.logical_time.specs.Stamps.{TxnValue, txn_cmp};
 ghost use Rattle.column_family.specs.declared.batch.Row.{Row};
 ghost use Rattle.pending.specs.Marks.{time_at, is_same_mark, IsNoted, IsLeast, IsBelow};
+ghost use Rattle.pending.specs.Marked.{AreMarked, AreCleared, AreBelow};
 
 use crate::row_marks::RowMarks;
-use crate::rows::{below_in, clear_rows, least_in, mark_row};
+use crate::rows::{below_in, below_rows, clear_rows, least_in, mark_row};
 use crate::touched::{Touched, note};
-use column_family::Row;
+use column_family::{Change, Row};
 use logical_time::{Fault, Time, TxnId};
 use std::alloc::Global;
 use std::collections::BTreeMap;
@@ -99,6 +100,26 @@ impl Marks {
         )
     }
 
+    /// Marks each row that these changes touch for the transaction with its prepare time, in place of its marks
+    /// there. Refused with `Memory`, and then the transaction has no mark on any row, so that nothing has changed
+    /// for a transaction that had none. In the order of m log n for m changes and n marks.
+    pub fn mark_all(&mut self, changes: &[Change], txn: TxnId, time: Time) -> Result<(), Fault>
+        ensures ok { OnOk result (AreMarked self.old self.new changes.now txn time) }
+        ensures err { OnErr result (AreCleared self.old self.new txn) }
+        ensures memory { IfErr result (λ e. e ≡ fault.Memory) }
+    {
+        for change in changes {
+            match self.mark(&change.row, txn, time) {
+                Ok(()) => {}
+                Err(fault) => {
+                    self.clear(txn);
+                    return Err(fault);
+                }
+            }
+        }
+        Ok(())
+    }
+
     /// Takes away every mark of the transaction, and no other. Takes no memory. In the order of m log n
     /// for m rows that were marked for the transaction among n marks.
     pub fn clear(&mut self, txn: TxnId)
@@ -122,5 +143,14 @@ impl Marks {
         ensures memory { IfErr result (λ e. e ≡ fault.Memory) }
     {
         below_in(self.alloc, &self.rows, row, time)
+    }
+    /// The transactions with marks on one of these rows strictly below the time, each once, in the order of
+    /// their numbers. Its one error is `Memory`. In the order of k log n + m log m for k rows with m marks
+    /// among n.
+    pub fn below_rows(&self, rows: &[Row], time: Time) -> Result<Vec<TxnId>, Fault>
+        ensures ok { IfOk result (λ txns. AreBelow self.now rows.now time txns.items) }
+        ensures memory { IfErr result (λ e. e ≡ fault.Memory) }
+    {
+        below_rows(self.alloc, &self.rows, rows, time)
     }
 }

@@ -1,12 +1,15 @@
 //! The marks of each row.
-ghost use Rattle.std.specs.Prelude.{◌≡◌, if◌then◌else◌, [], ◌&&◌, IfOk, OnOk, OnErr, IfErr, Some, None, true};
+ghost use Rattle.std.specs.Prelude.{◌≡◌, if◌then◌else◌, [], ◌&&◌, IfOk, OnOk, OnErr, IfErr, Some, None, true, ◌↔◌};
 ghost use Rattle.std.specs.Ordering.{is_eq};
 ghost use Rattle.std.specs.Map.{lookup};
 ghost use Rattle.logical_time.specs.declared.fault.Fault.TheVariants as fault;
 ghost use Rattle.logical_time.specs.Stamps.{TxnValue, txn_cmp};
 ghost use Rattle.column_family.specs.declared.batch.Row.{Row};
 ghost use Rattle.column_family.specs.Places.{row_cmp};
+ghost use Rattle.std.specs.List.{Contains};
+ghost use Rattle.std.specs.List.Sorted.{IsStrictlySortedBy};
 ghost use Rattle.pending.specs.Marks.{time_at, marks_of, is_same_mark, is_listed, IsLeast, IsBelow};
+ghost use Rattle.pending.specs.Marked.{IsMarkedBelow, AreBelow};
 
 use crate::row_marks::RowMarks;
 use column_family::Row;
@@ -113,4 +116,45 @@ pub(crate) fn below_in(
         Some(marks) => marks.below(alloc, time),
         None => Ok(Vec::new(alloc)),
     }
+}
+
+/// The transactions with marks in these rows strictly below the time, a row after the other.
+fn below_each(
+    alloc: Global,
+    rows: &BTreeMap<Row, RowMarks>,
+    asked: &[Row],
+    time: Time,
+) -> Result<Vec<TxnId>, Fault>
+    ensures ok { IfOk result (λ txns. (t : TxnValue) → Contains txns.items t ↔ IsMarkedBelow rows.now.entries asked.now time t) }
+    ensures memory { IfErr result (λ e. e ≡ fault.Memory) }
+{
+    let mut txns = Vec::new(alloc);
+    for row in asked {
+        let mut more = below_in(alloc, rows, row, time)?;
+        txns.append(&mut more)?;
+    }
+    Ok(txns)
+}
+
+/// The transactions in the order of their numbers, each once.
+fn in_order(mut txns: Vec<TxnId>) -> Vec<TxnId>
+    ensures same { (t : TxnValue) → Contains result.items t ↔ Contains txns.items t }
+    ensures in_order { IsStrictlySortedBy txn_cmp result.items }
+{
+    txns.sort_unstable();
+    txns.dedup();
+    txns
+}
+
+/// The transactions with marks in one of these rows strictly below the time, in order.
+pub(crate) fn below_rows(
+    alloc: Global,
+    rows: &BTreeMap<Row, RowMarks>,
+    asked: &[Row],
+    time: Time,
+) -> Result<Vec<TxnId>, Fault>
+    ensures ok { IfOk result (λ txns. AreBelow rows.now.entries asked.now time txns.items) }
+    ensures memory { IfErr result (λ e. e ≡ fault.Memory) }
+{
+    Ok(in_order(below_each(alloc, rows, asked, time)?))
 }
