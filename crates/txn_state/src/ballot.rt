@@ -62,6 +62,13 @@ impl Ballot {
         self.own.part()
     }
 
+    /// The prepare time of the coordinator's own part.
+    pub fn time(&self) -> Time
+        ensures { result ≡ self.now.own.time }
+    {
+        self.own.time()
+    }
+
     /// The votes.
     pub fn votes(&self) -> &Votes
         ensures { result.now ≡ self.now.votes }

@@ -42,6 +42,13 @@ impl Prepared {
         &self.part.batch
     }
 
+    /// The prepare time.
+    pub fn time(&self) -> Time
+        ensures { result ≡ self.now.time }
+    {
+        self.time
+    }
+
     /// Hands out the part and its prepare time: for a store that applies it, or a shard that is closed.
     pub fn surrender(self) -> (WritePart, Time)
         ensures { (result.0 ≡ self.part) × (result.1 ≡ self.time) }

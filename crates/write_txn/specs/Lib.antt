@@ -3,3 +3,8 @@ pub mod Ledger
 pub mod Places
 pub mod Next
 pub mod Voters
+pub mod View
+pub mod Stands
+pub mod Moves
+pub mod Transactions
+pub mod Marking

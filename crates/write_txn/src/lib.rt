@@ -1,14 +1,19 @@
 //! Write transactions at their coordinator and at their cohorts, in one data centre.
 #![tactic(auto)]
 
+mod adding;
+mod applying;
 mod ledger;
+mod moving;
 mod next;
 mod open;
 mod places;
 mod status;
 mod steps;
+mod transactions;
 mod voters;
 
 pub use ledger::Ledger;
 pub use open::{Kept, Led, Open, Origin, Part, Remote};
+pub use transactions::Transactions;
 pub use voters::Voters;
