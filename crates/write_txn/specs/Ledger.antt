@@ -37,9 +37,11 @@ pub data State : Type 0 where
   IsApplied : State
   IsDecided : (commit : ℕ) (stamp : StampValue) → State
 
+-- the status of this transaction, if it has one
 abbrev pub status_in : List (TxnValue × Status) → TxnValue → Option Status
 status_in es t = lookup (λ k. is_eq (txn_cmp t k)) es
 
+-- what a status says, where this is under way
 abbrev pub state_at : List Open → Option Status → Option State
 state_at os None = None
 state_at os (Some (in_status.Open place)) = option_map Holds (slice_get os place)
@@ -108,6 +110,7 @@ state_prepared time other = other
 abbrev pub prepared_of : PreparedPart → PreparedValue
 prepared_of p = record { part = record { writer = record { txn = p.txn; shard = p.coordinator }; batch = p.rows }; time = p.time }
 
+-- the prepared part, if there is one
 abbrev pub part_in : Option State → Option PreparedValue
 part_in (Some (Holds (in_open.Part p))) = Some (prepared_of p)
 part_in other = None
@@ -119,6 +122,7 @@ state_applied other = other
 
 -- ## A ballot
 
+-- a ballot after a vote: more votes are missing, or the transaction is decided
 abbrev pub led_after : Led → ℕ → ℕ → Voted → State
 led_after l me commit (More b) = Holds (in_open.Led (record l { ballot = b }))
 led_after l me commit (All c) = IsDecided commit (stamp_for me commit l.stamp)
@@ -128,6 +132,7 @@ abbrev pub state_voted : ℕ → ℕ → ℕ → Option State → Option State
 state_voted me commit node (Some (Holds (in_open.Led l))) = Some (led_after l me commit (voted l.ballot node))
 state_voted me commit node other = other
 
+-- the ballot, once it is complete
 abbrev pub complete_in : Voted → Option CompleteValue
 complete_in (More b) = None
 complete_in (All c) = Some c
@@ -151,6 +156,7 @@ state_answered dependency (Some (Holds (in_open.Remote r))) =
     Some (Holds (in_open.Remote (record r { ballot = record r.ballot { answers = answered r.ballot.answers dependency } })))
 state_answered dependency other = other
 
+-- a ballot of another data centre's write that was made ready: cohorts are to vote, or without any it is decided
 abbrev pub remote_after : Remote → ℕ → Ready → State
 remote_after r time (in_ready.Ballot b) =
     Holds (in_open.Led (record { ballot = b; cohorts = r.cohorts; dependencies = r.dependencies; stamp = Some r.ballot.stamp }))
@@ -162,6 +168,7 @@ state_ready time (Some (Holds (in_open.Remote r))) =
     Some (if missing_in r.ballot == 0 then remote_after r time (ready_at r.ballot time) else Holds (in_open.Remote r))
 state_ready time other = other
 
+-- the ballot, if it is complete at once
 abbrev pub ready_complete : Ready → Option CompleteValue
 ready_complete (in_ready.Ballot b) = None
 ready_complete (in_ready.Complete c) = Some c

@@ -10,6 +10,7 @@ use Rattle.write_txn.specs.declared.next.Next.{Next}
 use Rattle.write_txn.specs.declared.next.Next.TheVariants as in_next
 use Rattle.write_txn.specs.Ledger.{LedgerValue, txn_of, status_in}
 
+-- the ledger with these statuses, where this is under way
 abbrev pub ledger_of : List (TxnValue × Status) → List Open → LedgerValue
 ledger_of es os = record { statuses = es; under_way = os }
 

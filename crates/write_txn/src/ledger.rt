@@ -1,14 +1,14 @@
 //! What a shard knows of each transaction.
-ghost use Rattle.std.specs.Prelude.{◌≡◌, OnOk, OnErr, IfErr, None, Some, is_some};
+ghost use Rattle.std.specs.Prelude.{◌≡◌, ℕ, slice_get, OnOk, OnErr, IfErr, IfSome, None, Some, is_some};
 ghost use Rattle.std.specs.Option.{option_copied};
 ghost use Rattle.logical_time.specs.declared.fault.Fault.TheVariants as fault;
 ghost use Rattle.logical_time.specs.Stamps.{TxnValue};
 
 use crate::open::Open;
+use crate::places::add_status;
 use crate::status::Status;
 use crate::steps::{
-    add_decided, add_open, answer_in, decided_in, finish_in, notice_in, open_in, prepare_in,
-    ready_in, vote_in,
+    add_open, answer_in, decided_in, finish_in, notice_in, open_in, prepare_in, ready_in, vote_in,
 };
 use logical_time::{Fault, Node, Stamp, Time, TxnId};
 use std::alloc::Global;
@@ -34,6 +34,7 @@ impl Model for Ledger {
 }
 
 impl Ledger {
+    ghost use Rattle.write_txn.specs.declared.open.Open.{Open};
     ghost use Rattle.write_txn.specs.Ledger as ledger;
     ghost use Rattle.write_txn.specs.Ledger.{state_of, txn_of, Holds, IsDecided, Becomes, HaveSameStates, state_prepared, state_applied, part_in, state_voted, completed_by, state_noticed, state_answered, state_ready, readied_by};
 
@@ -47,8 +48,8 @@ impl Ledger {
         }
     }
 
-    /// Whether anything is known of the transaction. In the order of log n for n known transactions, as each function
-    /// here is that names one.
+    /// Whether anything is known of the transaction. In the order of log n for n known transactions, as is all that names
+    /// one, beside what counting a vote, a notice or an answer takes.
     pub fn knows(&self, txn: TxnId) -> bool
         ensures { result ≡ is_some (state_of self.now txn) }
     {
@@ -57,7 +58,8 @@ impl Ledger {
 
     /// What is under way of the transaction.
     pub fn open(&self, txn: TxnId) -> Option<&Open>
-        ensures { option_copied result ≡ ledger.open_in (state_of self.now txn) }
+        ensures exact { option_copied result ≡ ledger.open_in (state_of self.now txn) }
+        ensures own { IfSome result (λ held. txn_of held.now ≡ txn) }
     {
         open_in(&self.statuses, self.under_way.as_slice(), txn)
     }
@@ -71,7 +73,9 @@ impl Ledger {
 
     /// All that is under way, in no order that means anything.
     pub fn as_slice(&self) -> &[Open]
-        ensures { result.now ≡ self.now.under_way }
+        ensures exact { result.now ≡ self.now.under_way }
+        ensures listed { (place : ℕ) (held : Open) → slice_get result.now place ≡ Some held → state_of self.now (txn_of held) ≡ Some (Holds held) }
+        ensures all { (t : TxnValue) (held : Open) → state_of self.now t ≡ Some (Holds held) → (place : ℕ) × (slice_get result.now place ≡ Some held) }
     {
         self.under_way.as_slice()
     }
@@ -95,7 +99,7 @@ impl Ledger {
         ensures err { OnErr result (HaveSameStates self.old self.new) }
         ensures memory { IfErr result (λ e. e ≡ fault.Memory) }
     {
-        add_decided(&mut self.statuses, txn, commit, stamp)
+        add_status(&mut self.statuses, txn, Status::Decided { commit, stamp })
     }
 
     /// Prepares the transaction's part at this time, if one is kept. Takes no memory.
@@ -108,6 +112,7 @@ impl Ledger {
     /// Takes the transaction's part out, if one is prepared: for a store that applies it. Takes no memory.
     pub fn finish(&mut self, txn: TxnId) -> Option<Prepared>
         ensures part { result ≡ part_in (state_of self.old txn) }
+        ensures own { IfSome result (λ part. part.part.writer.txn ≡ txn) }
         ensures applied { Becomes txn (state_applied (state_of self.old txn)) self.old self.new }
     {
         finish_in(&mut self.statuses, &mut self.under_way, txn)
@@ -117,6 +122,7 @@ impl Ledger {
     /// this commit time; where the write was submitted here the stamp is that time and this shard. Takes no memory.
     pub fn vote(&mut self, txn: TxnId, node: Node, me: Node, commit: Time) -> Option<Complete>
         ensures complete { result ≡ completed_by node (state_of self.old txn) }
+        ensures own { IfSome result (λ complete. complete.own.part.writer.txn ≡ txn) }
         ensures voted { Becomes txn (state_voted me commit node (state_of self.old txn)) self.old self.new }
     {
         vote_in(
@@ -147,6 +153,7 @@ impl Ledger {
     /// cohorts are to vote, or it is decided at this time if it has none. Takes no memory.
     pub fn ready(&mut self, txn: TxnId, time: Time) -> Option<Complete>
         ensures complete { result ≡ readied_by time (state_of self.old txn) }
+        ensures own { IfSome result (λ complete. complete.own.part.writer.txn ≡ txn) }
         ensures ready { Becomes txn (state_ready time (state_of self.old txn)) self.old self.new }
     {
         ready_in(&mut self.statuses, &mut self.under_way, txn, time)

@@ -2,9 +2,10 @@
 //!
 //! What is taken out at a place leaves the last one there: it is put back, which moves the last one to the end again, or
 //! the last one's status gets its new place.
-ghost use Rattle.std.specs.Prelude.{◌≡◌, ◌<◌, ◌≤◌, ◌∷◌, [], ◌++◌, if◌then◌else◌, option_map, slice_get, vec_len, vec_capacity};
+ghost use Rattle.std.specs.Prelude.{◌≡◌, ◌<◌, ◌≤◌, ◌∷◌, [], ◌++◌, if◌then◌else◌, slice_get, length, vec_len, vec_capacity, Some, OnOk, OnErr, IfErr};
 ghost use Rattle.std.specs.List.{swap};
 ghost use Rattle.std.specs.Ordering.{is_eq};
+ghost use Rattle.logical_time.specs.declared.fault.Fault.TheVariants as fault;
 ghost use Rattle.logical_time.specs.Stamps.{TxnValue, txn_cmp};
 ghost use Rattle.write_txn.specs.Ledger.{status_in};
 ghost use Rattle.write_txn.specs.Places.{place_of, status_set, status_moved, IsPut};
@@ -12,7 +13,7 @@ ghost use Rattle.write_txn.specs.Places.{place_of, status_set, status_moved, IsP
 use crate::next::Next;
 use crate::open::Open;
 use crate::status::Status;
-use logical_time::TxnId;
+use logical_time::{Fault, TxnId};
 use std::collections::BTreeMap;
 
 /// The place of what is under way of a transaction.
@@ -23,6 +24,20 @@ pub(crate) fn place_in(statuses: &BTreeMap<TxnId, Status>, txn: TxnId) -> Option
         Some(Status::Open(place)) => Some(*place),
         _ => None,
     }
+}
+
+/// Gives a transaction this status. Refused with `Memory` alone, and then nothing has changed.
+pub(crate) fn add_status(
+    statuses: &mut BTreeMap<TxnId, Status>,
+    txn: TxnId,
+    status: Status,
+) -> Result<(), Fault>
+    ensures ok { OnOk result ((u : TxnValue) → status_in statuses.new.entries u ≡ (if is_eq (txn_cmp txn u) then Some status else status_in statuses.old.entries u)) }
+    ensures err { OnErr result (statuses.new.entries ≡ statuses.old.entries) }
+    ensures memory { IfErr result (λ e. e ≡ fault.Memory) }
+{
+    statuses.insert(txn, status)?;
+    Ok(())
 }
 
 /// Changes the status of a transaction that has one.
@@ -61,7 +76,7 @@ fn settle(
 pub(crate) fn put_back(under_way: &mut Vec<Open>, place: usize, held: Open)
     requires place { place ≤ vec_len under_way.old }
     requires room { vec_len under_way.old < vec_capacity under_way.old }
-    ensures { under_way.new.items ≡ swap (under_way.old.items ++ held ∷ []) place (vec_len under_way.old) }
+    ensures { under_way.new.items ≡ swap (under_way.old.items ++ held ∷ []) place (length under_way.old.items) }
 {
     under_way.push(held).unwrap();
     let last = under_way.len() - 1;

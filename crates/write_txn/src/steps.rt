@@ -1,17 +1,14 @@
 //! The steps of what is under way, each over the statuses and the list of what is under way.
-ghost use Rattle.std.specs.Prelude.{◌≡◌, [], if◌then◌else◌, OnOk, OnErr, IfErr, None, Some};
-ghost use Rattle.std.specs.Ordering.{is_eq};
+ghost use Rattle.std.specs.Prelude.{◌≡◌, [], OnOk, OnErr, IfErr, IfSome, None, Some};
 ghost use Rattle.std.specs.Option.{option_copied};
 ghost use Rattle.logical_time.specs.declared.fault.Fault.TheVariants as fault;
-ghost use Rattle.logical_time.specs.Stamps.{TxnValue, txn_cmp};
-ghost use Rattle.write_txn.specs.declared.status.Status.TheVariants as in_status;
 ghost use Rattle.write_txn.specs.Ledger as ledger;
 ghost use Rattle.write_txn.specs.Places.{ledger_of};
 ghost use Rattle.write_txn.specs.Ledger.{IsPlaced, state_of, status_in, state_at, txn_of, Holds, IsDecided, Becomes, HaveSameStates, state_prepared, state_applied, part_in, state_voted, completed_by, state_noticed, state_answered, state_ready, readied_by};
 
 use crate::next::{answer, finished, notice, prepared, readied, voted};
 use crate::open::Open;
-use crate::places::{place_in, put, put_back};
+use crate::places::{add_status, place_in, put, put_back};
 use crate::status::Status;
 use logical_time::{Fault, Node, Stamp, Time, TxnId};
 use std::collections::BTreeMap;
@@ -23,7 +20,9 @@ pub(crate) fn open_in<'a>(
     under_way: &'a [Open],
     txn: TxnId,
 ) -> Option<&'a Open>
-    ensures { option_copied result ≡ ledger.open_in (state_of (ledger_of statuses.now.entries under_way.now) txn) }
+    requires { IsPlaced (ledger_of statuses.now.entries under_way.now) }
+    ensures exact { option_copied result ≡ ledger.open_in (state_of (ledger_of statuses.now.entries under_way.now) txn) }
+    ensures own { IfSome result (λ held. txn_of held.now ≡ txn) }
 {
     match place_in(statuses, txn) {
         None => None,
@@ -58,26 +57,13 @@ pub(crate) fn add_open(
         return Err((Fault::Memory, held));
     }
     let place = under_way.len();
-    if statuses.insert(held.txn(), Status::Open(place)).is_err() {
-        return Err((Fault::Memory, held));
+    match add_status(statuses, held.txn(), Status::Open(place)) {
+        Err(fault) => Err((fault, held)),
+        Ok(()) => {
+            under_way.push(held).unwrap();
+            Ok(())
+        }
     }
-    under_way.push(held).unwrap();
-    Ok(())
-}
-
-/// Notes that a transaction is decided of which nothing is known.
-pub(crate) fn add_decided(
-    statuses: &mut BTreeMap<TxnId, Status>,
-    txn: TxnId,
-    commit: Time,
-    stamp: Stamp,
-) -> Result<(), Fault>
-    ensures ok { OnOk result ((u : TxnValue) → status_in statuses.new.entries u ≡ (if is_eq (txn_cmp txn u) then Some (in_status.Decided commit stamp) else status_in statuses.old.entries u)) }
-    ensures err { OnErr result (statuses.new.entries ≡ statuses.old.entries) }
-    ensures memory { IfErr result (λ e. e ≡ fault.Memory) }
-{
-    statuses.insert(txn, Status::Decided { commit, stamp })?;
-    Ok(())
 }
 
 /// Prepares the part of a transaction, if one is kept.
@@ -105,6 +91,7 @@ pub(crate) fn finish_in(
 ) -> Option<Prepared>
     requires { IsPlaced (ledger_of statuses.old.entries under_way.old.items) }
     ensures placed { IsPlaced (ledger_of statuses.new.entries under_way.new.items) }
+    ensures own { IfSome result (λ part. part.part.writer.txn ≡ txn) }
     ensures part { result ≡ part_in (state_of (ledger_of statuses.old.entries under_way.old.items) txn) }
     ensures becomes { Becomes txn (state_applied (state_of (ledger_of statuses.old.entries under_way.old.items) txn)) (ledger_of statuses.old.entries under_way.old.items) (ledger_of statuses.new.entries under_way.new.items) }
 {
@@ -130,6 +117,7 @@ pub(crate) fn vote_in(
 ) -> Option<Complete>
     requires { IsPlaced (ledger_of statuses.old.entries under_way.old.items) }
     ensures placed { IsPlaced (ledger_of statuses.new.entries under_way.new.items) }
+    ensures own { IfSome result (λ complete. complete.own.part.writer.txn ≡ txn) }
     ensures complete { result ≡ completed_by node (state_of (ledger_of statuses.old.entries under_way.old.items) txn) }
     ensures becomes { Becomes txn (state_voted me commit node (state_of (ledger_of statuses.old.entries under_way.old.items) txn)) (ledger_of statuses.old.entries under_way.old.items) (ledger_of statuses.new.entries under_way.new.items) }
 {
@@ -185,6 +173,7 @@ pub(crate) fn ready_in(
 ) -> Option<Complete>
     requires { IsPlaced (ledger_of statuses.old.entries under_way.old.items) }
     ensures placed { IsPlaced (ledger_of statuses.new.entries under_way.new.items) }
+    ensures own { IfSome result (λ complete. complete.own.part.writer.txn ≡ txn) }
     ensures complete { result ≡ readied_by time (state_of (ledger_of statuses.old.entries under_way.old.items) txn) }
     ensures becomes { Becomes txn (state_ready time (state_of (ledger_of statuses.old.entries under_way.old.items) txn)) (ledger_of statuses.old.entries under_way.old.items) (ledger_of statuses.new.entries under_way.new.items) }
 {
