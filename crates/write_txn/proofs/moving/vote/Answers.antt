@@ -1,4 +1,4 @@
-use Rattle.std.proofs.Common.{◌≡◌, ◌∙◌, ap, sym, false}
+use Rattle.std.proofs.Common.{◌≡◌, false}
 use Rattle.std.specs.Prelude.{is_some}
 use Rattle.write_txn.specs.Ledger.{state_of, state_voted, completed_by}
 use Rattle.write_txn.proofs.StepMarks.{same_marks, unfinished_vote}
