@@ -16,3 +16,4 @@ pub mod SameTxn
 pub mod Added
 pub mod Early
 pub mod Listed
+pub mod StepMarks

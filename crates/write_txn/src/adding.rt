@@ -1,12 +1,12 @@
 //! Transactions of which nothing was known: what is under way of them, and their marks.
 //!
 //! Marking can be refused, so the rows are marked first. Where the ledger refuses then, the marks are taken away again.
-ghost use Rattle.std.specs.Prelude.{◌≡◌, true, [], if◌then◌else◌, OnOk, OnErr, IfErr, IfOk, None, Some};
+ghost use Rattle.std.specs.Prelude.{◌≡◌, true, [], if◌then◌else◌, OnOk, OnErr, IfErr, IfOk, IfSome, None, Some};
 ghost use Rattle.logical_time.specs.declared.fault.Fault.TheVariants as fault;
-ghost use Rattle.pending.specs.Marked.{AreMarked, AreCleared};
+ghost use Rattle.pending.specs.Marked.{AreMarked};
 ghost use Rattle.write_txn.specs.declared.open.Open.TheVariants as in_open;
 ghost use Rattle.write_txn.specs.Ledger.{state_of, txn_of, Holds, Becomes, HaveSameStates, state_ready, readied_by};
-ghost use Rattle.write_txn.specs.Marking.{AreMarksBut, AreMarksWith, is_to_vote, is_led, is_kept, is_remote};
+ghost use Rattle.write_txn.specs.Marking.{AreMarksBut, is_to_vote, is_led, is_kept, is_remote};
 ghost use Rattle.write_txn.specs.Transactions.{AreMarksOf, cohorts_part};
 
 use crate::ledger::Ledger;
@@ -168,6 +168,7 @@ pub(crate) fn add_remote(
     requires marks { AreMarksOf marks.old ledger.old }
     ensures marks { AreMarksOf marks.new ledger.new }
     ensures complete { IfOk result (λ c. c ≡ readied_by time (Some (Holds (in_open.Remote remote)))) }
+    ensures own { IfOk result (λ c. IfSome c (λ complete. complete.own.part.writer.txn ≡ remote.ballot.part.writer.txn)) }
     ensures ok { OnOk result (Becomes remote.ballot.part.writer.txn (state_ready time (Some (Holds (in_open.Remote remote)))) ledger.old ledger.new) }
     ensures err { OnErr result (HaveSameStates ledger.old ledger.new) }
     ensures memory { IfErr result (λ e. (e.0 ≡ fault.Memory) × (e.1 ≡ remote)) }

@@ -1,7 +1,7 @@
 //! Steps of transactions of which something is under way, and their marks.
 //!
 //! Where a step prepares a part, its rows are marked first, since that can be refused.
-ghost use Rattle.std.specs.Prelude.{◌≡◌, OnOk, OnErr, IfErr, IfOk, ◌==◌, ◌&&◌, not};
+ghost use Rattle.std.specs.Prelude.{◌≡◌, OnOk, OnErr, IfErr, IfOk, IfSome};
 ghost use Rattle.logical_time.specs.declared.fault.Fault.TheVariants as fault;
 ghost use Rattle.txn_state.specs.Votes.{counted};
 ghost use Rattle.txn_state.specs.Answers.{answered};
@@ -96,6 +96,7 @@ pub(crate) fn notice(
     requires { AreMarksOf marks.old ledger.old }
     ensures marks { AreMarksOf marks.new ledger.new }
     ensures complete { IfOk result (λ c. c ≡ readied_by time (state_noticed node (state_of ledger.old txn))) }
+    ensures own { IfOk result (λ c. IfSome c (λ complete. complete.own.part.writer.txn ≡ txn)) }
     ensures ok { OnOk result (Becomes txn (state_ready time (state_noticed node (state_of ledger.old txn))) ledger.old ledger.new) }
     ensures err { OnErr result (HaveSameStates ledger.old ledger.new) }
     ensures memory { IfErr result (λ e. e ≡ fault.Memory) }
@@ -137,6 +138,7 @@ pub(crate) fn answer(
     requires { AreMarksOf marks.old ledger.old }
     ensures marks { AreMarksOf marks.new ledger.new }
     ensures complete { IfOk result (λ c. c ≡ readied_by time (state_answered dependency (state_of ledger.old txn))) }
+    ensures own { IfOk result (λ c. IfSome c (λ complete. complete.own.part.writer.txn ≡ txn)) }
     ensures ok { OnOk result (Becomes txn (state_ready time (state_answered dependency (state_of ledger.old txn))) ledger.old ledger.new) }
     ensures err { OnErr result (HaveSameStates ledger.old ledger.new) }
     ensures memory { IfErr result (λ e. e ≡ fault.Memory) }
@@ -158,6 +160,7 @@ pub(crate) fn vote(
     requires { AreMarksOf marks.old ledger.old }
     ensures marks { AreMarksOf marks.new ledger.new }
     ensures complete { result ≡ completed_by node (state_of ledger.old txn) }
+    ensures own { IfSome result (λ complete. complete.own.part.writer.txn ≡ txn) }
     ensures voted { Becomes txn (state_voted me commit node (state_of ledger.old txn)) ledger.old ledger.new }
 {
     let complete = ledger.vote(txn, node, me, commit);

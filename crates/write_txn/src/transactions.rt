@@ -1,5 +1,5 @@
 //! What a shard holds of transactions.
-ghost use Rattle.std.specs.Prelude.{◌≡◌, ◌≤◌, ◌+◌, ◌++◌, ◌∷◌, [], length, map, max, ℕ, List, if◌then◌else◌, OnOk, OnErr, IfErr, IfOk, IsOk, true, None, Some};
+ghost use Rattle.std.specs.Prelude.{◌≡◌, ◌≤◌, ◌+◌, ◌++◌, ◌∷◌, [], length, map, max, ℕ, List, if◌then◌else◌, OnOk, OnErr, IfErr, IfOk, IfSome, IsOk, true, None, Some};
 ghost use Rattle.std.specs.Ordering.{is_eq};
 ghost use Rattle.logical_time.specs.declared.fault.Fault.TheVariants as fault;
 ghost use Rattle.logical_time.specs.Stamps.{TxnValue, txn_cmp};
@@ -103,8 +103,8 @@ impl Transactions {
         requires { state_of self.old.ledger part.writer.txn ≡ None }
         ensures ok { OnOk result (Becomes part.writer.txn (Some (Holds (in_open.Part (cohorts_part part time)))) self.old.ledger self.new.ledger) }
         ensures err { OnErr result (HaveSameStates self.old.ledger self.new.ledger) }
-        ensures store { self.new.store ≡ self.old.store }
-        ensures early { self.new.early ≡ self.old.early }
+        ensures store { GoesOnKeeping self.old.store self.new.store }
+        ensures early { HaveSameVoters self.old.early self.new.early }
         ensures memory { IfErr result (λ e. (e.0 ≡ fault.Memory) × (e.1 ≡ part)) }
     {
         add_part(&mut self.ledger, &mut self.marks, part, time)
@@ -115,8 +115,8 @@ impl Transactions {
     pub fn prepare_kept(&mut self, txn: TxnId, time: Time) -> Result<(), Fault>
         ensures ok { OnOk result (Becomes txn (state_prepared time (state_of self.old.ledger txn)) self.old.ledger self.new.ledger) }
         ensures err { OnErr result (HaveSameStates self.old.ledger self.new.ledger) }
-        ensures store { self.new.store ≡ self.old.store }
-        ensures early { self.new.early ≡ self.old.early }
+        ensures store { GoesOnKeeping self.old.store self.new.store }
+        ensures early { HaveSameVoters self.old.early self.new.early }
         ensures memory { IfErr result (λ e. e ≡ fault.Memory) }
     {
         prepare_kept(&mut self.ledger, &mut self.marks, txn, time)
@@ -128,8 +128,8 @@ impl Transactions {
         requires { state_of self.old.ledger led.ballot.own.part.writer.txn ≡ None }
         ensures ok { OnOk result (Becomes led.ballot.own.part.writer.txn (Some (Holds (in_open.Led led))) self.old.ledger self.new.ledger) }
         ensures err { OnErr result (HaveSameStates self.old.ledger self.new.ledger) }
-        ensures store { self.new.store ≡ self.old.store }
-        ensures early { self.new.early ≡ self.old.early }
+        ensures store { GoesOnKeeping self.old.store self.new.store }
+        ensures early { HaveSameVoters self.old.early self.new.early }
         ensures memory { IfErr result (λ e. (e.0 ≡ fault.Memory) × (e.1 ≡ led)) }
     {
         add_led(&mut self.ledger, &mut self.marks, led)
@@ -141,8 +141,8 @@ impl Transactions {
         requires { state_of self.old.ledger kept.part.writer.txn ≡ None }
         ensures ok { OnOk result (Becomes kept.part.writer.txn (Some (Holds (in_open.Kept kept))) self.old.ledger self.new.ledger) }
         ensures err { OnErr result (HaveSameStates self.old.ledger self.new.ledger) }
-        ensures store { self.new.store ≡ self.old.store }
-        ensures early { self.new.early ≡ self.old.early }
+        ensures store { GoesOnKeeping self.old.store self.new.store }
+        ensures early { HaveSameVoters self.old.early self.new.early }
         ensures memory { IfErr result (λ e. (e.0 ≡ fault.Memory) × (e.1 ≡ kept)) }
     {
         add_kept(&mut self.ledger, &mut self.marks, kept)
@@ -154,10 +154,11 @@ impl Transactions {
     pub fn wait(&mut self, remote: Remote, time: Time) -> Result<Option<Complete>, (Fault, Remote)>
         requires { state_of self.old.ledger remote.ballot.part.writer.txn ≡ None }
         ensures complete { IfOk result (λ c. c ≡ readied_by time (Some (Holds (in_open.Remote remote)))) }
+        ensures own { IfOk result (λ c. IfSome c (λ complete. complete.own.part.writer.txn ≡ remote.ballot.part.writer.txn)) }
         ensures ok { OnOk result (Becomes remote.ballot.part.writer.txn (state_ready time (Some (Holds (in_open.Remote remote)))) self.old.ledger self.new.ledger) }
         ensures err { OnErr result (HaveSameStates self.old.ledger self.new.ledger) }
-        ensures store { self.new.store ≡ self.old.store }
-        ensures early { self.new.early ≡ self.old.early }
+        ensures store { GoesOnKeeping self.old.store self.new.store }
+        ensures early { HaveSameVoters self.old.early self.new.early }
         ensures memory { IfErr result (λ e. (e.0 ≡ fault.Memory) × (e.1 ≡ remote)) }
     {
         add_remote(&mut self.ledger, &mut self.marks, remote, time)
@@ -167,10 +168,11 @@ impl Transactions {
     /// made ready at this time, as `wait` does. Refused with `Memory` alone, and then the notice isn't counted.
     pub fn notice(&mut self, txn: TxnId, node: Node, time: Time) -> Result<Option<Complete>, Fault>
         ensures complete { IfOk result (λ c. c ≡ readied_by time (state_noticed node (state_of self.old.ledger txn))) }
+        ensures own { IfOk result (λ c. IfSome c (λ complete. complete.own.part.writer.txn ≡ txn)) }
         ensures ok { OnOk result (Becomes txn (state_ready time (state_noticed node (state_of self.old.ledger txn))) self.old.ledger self.new.ledger) }
         ensures err { OnErr result (HaveSameStates self.old.ledger self.new.ledger) }
-        ensures store { self.new.store ≡ self.old.store }
-        ensures early { self.new.early ≡ self.old.early }
+        ensures store { GoesOnKeeping self.old.store self.new.store }
+        ensures early { HaveSameVoters self.old.early self.new.early }
         ensures memory { IfErr result (λ e. e ≡ fault.Memory) }
     {
         notice(&mut self.ledger, &mut self.marks, txn, node, time)
@@ -185,10 +187,11 @@ impl Transactions {
         time: Time,
     ) -> Result<Option<Complete>, Fault>
         ensures complete { IfOk result (λ c. c ≡ readied_by time (state_answered dependency (state_of self.old.ledger txn))) }
+        ensures own { IfOk result (λ c. IfSome c (λ complete. complete.own.part.writer.txn ≡ txn)) }
         ensures ok { OnOk result (Becomes txn (state_ready time (state_answered dependency (state_of self.old.ledger txn))) self.old.ledger self.new.ledger) }
         ensures err { OnErr result (HaveSameStates self.old.ledger self.new.ledger) }
-        ensures store { self.new.store ≡ self.old.store }
-        ensures early { self.new.early ≡ self.old.early }
+        ensures store { GoesOnKeeping self.old.store self.new.store }
+        ensures early { HaveSameVoters self.old.early self.new.early }
         ensures memory { IfErr result (λ e. e ≡ fault.Memory) }
     {
         answer(&mut self.ledger, &mut self.marks, txn, dependency, time)
@@ -198,9 +201,10 @@ impl Transactions {
     /// missing vote decides it at this commit time, and takes its marks away. Takes no memory.
     pub fn vote(&mut self, txn: TxnId, node: Node, me: Node, commit: Time) -> Option<Complete>
         ensures complete { result ≡ completed_by node (state_of self.old.ledger txn) }
+        ensures own { IfSome result (λ complete. complete.own.part.writer.txn ≡ txn) }
         ensures voted { Becomes txn (state_voted me commit node (state_of self.old.ledger txn)) self.old.ledger self.new.ledger }
-        ensures store { self.new.store ≡ self.old.store }
-        ensures early { self.new.early ≡ self.old.early }
+        ensures store { GoesOnKeeping self.old.store self.new.store }
+        ensures early { HaveSameVoters self.old.early self.new.early }
     {
         vote(&mut self.ledger, &mut self.marks, txn, node, me, commit)
     }
@@ -210,7 +214,7 @@ impl Transactions {
         ensures ok { OnOk result (HasRoom self.new.store.rows batch.now) }
         ensures store { GoesOnKeeping self.old.store self.new.store }
         ensures ledger { self.new.ledger ≡ self.old.ledger }
-        ensures early { self.new.early ≡ self.old.early }
+        ensures early { HaveSameVoters self.old.early self.new.early }
         ensures memory { IfErr result (λ e. e ≡ fault.Memory) }
     {
         self.store.make_room(batch)
@@ -222,7 +226,7 @@ impl Transactions {
         ensures ok { OnOk result ((o : Open) → open_in (state_of self.old.ledger txn) ≡ Some o → HasRoom self.new.store.rows (rows_of o).batch) }
         ensures store { GoesOnKeeping self.old.store self.new.store }
         ensures ledger { self.new.ledger ≡ self.old.ledger }
-        ensures early { self.new.early ≡ self.old.early }
+        ensures early { HaveSameVoters self.old.early self.new.early }
         ensures memory { IfErr result (λ e. e ≡ fault.Memory) }
     {
         match self.ledger.open(txn) {
@@ -237,7 +241,7 @@ impl Transactions {
         requires { (p : PreparedValue) → part_in (state_of self.old.ledger txn) ≡ Some p → HasRoom self.old.store.rows p.part.batch }
         ensures applied { Becomes txn (state_applied (state_of self.old.ledger txn)) self.old.ledger self.new.ledger }
         ensures keeps { KeepsIf (part_in (state_of self.old.ledger txn)) commit stamp self.old.store self.new.store }
-        ensures early { self.new.early ≡ self.old.early }
+        ensures early { HaveSameVoters self.old.early self.new.early }
     {
         commit_part(
             &mut self.ledger,
@@ -261,9 +265,9 @@ impl Transactions {
     )
         requires posts { length complete.cohorts ≤ outbox.old.room }
         requires room { HasRoom self.old.store.rows complete.own.part.batch }
-        ensures same { self.new.ledger ≡ self.old.ledger }
+        ensures same { HaveSameStates self.old.ledger self.new.ledger }
         ensures keeps { KeepsAlso complete.own commit stamp self.old.store self.new.store }
-        ensures early { self.new.early ≡ self.old.early }
+        ensures early { HaveSameVoters self.old.early self.new.early }
         ensures sent { outbox.new.sent ≡ outbox.old.sent ++ map (commit_to me commit complete.own.part.writer.txn commit stamp) complete.cohorts }
         ensures room { outbox.old.room ≤ outbox.new.room + length complete.cohorts }
     {
@@ -275,8 +279,8 @@ impl Transactions {
         requires { state_of self.old.ledger txn ≡ None }
         ensures ok { OnOk result (Becomes txn (Some (IsDecided commit stamp)) self.old.ledger self.new.ledger) }
         ensures err { OnErr result (HaveSameStates self.old.ledger self.new.ledger) }
-        ensures store { self.new.store ≡ self.old.store }
-        ensures early { self.new.early ≡ self.old.early }
+        ensures store { GoesOnKeeping self.old.store self.new.store }
+        ensures early { HaveSameVoters self.old.early self.new.early }
         ensures memory { IfErr result (λ e. e ≡ fault.Memory) }
     {
         self.ledger.add_decided(txn, commit, stamp)
