@@ -1,6 +1,8 @@
-//! Reads at a time: what a shard answers, and the reads that wait until transactions are committed or excluded.
+//! Reads by time that wait until the transactions below their time are known.
 #![tactic(auto)]
 
+mod freeing;
 mod waits;
 
+pub use freeing::{Answers, freed_answers};
 pub use waits::{Wait, Waits};

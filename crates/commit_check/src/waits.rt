@@ -3,9 +3,9 @@ ghost use Rattle.std.specs.Prelude.{◌≡◌, filter, not, if◌then◌else◌}
 ghost use Rattle.std.specs.List.{list_all};
 ghost use Rattle.messages.specs.Words.{is_same_txn};
 ghost use Rattle.messages.specs.Reads.{is_free, lessened, without};
-ghost use Rattle.commit_check.specs.Waiting.{concerns, is_freed, still};
+ghost use Rattle.commit_check.specs.Waiting.{concerns, is_among, is_freed, still};
 
-use logical_time::{Node, Time, TxnId};
+use logical_time::{Fault, Node, Time, TxnId};
 use slice::Read;
 use std::alloc::Global;
 use std::marker::Model;
@@ -13,10 +13,15 @@ use std::marker::Model;
 /// A read by time that waits for transactions.
 #[derive(Drop)]
 pub struct Wait {
+    /// The session that asks.
     pub session: Node,
+    /// The session's number of the read.
     pub number: u64,
+    /// The time.
     pub time: Time,
+    /// What it asks.
     pub read: Read,
+    /// The transactions.
     pub left: Vec<TxnId>,
 }
 
@@ -28,22 +33,8 @@ impl Model for Wait {
     ghost view = { λ w. record { session = w.session; number = w.number; time = w.time; read = w.read; left = w.left.items } };
 }
 
-/// Reads by time that wait, in the order of their arrival.
-#[derive(Drop)]
-pub struct Waits {
-    pub list: Vec<Wait>,
-}
-
-impl Model for Waits {
-    ghost use Rattle.std.specs.Prelude.{List};
-    ghost use Rattle.messages.specs.Shard.{WaitingRead};
-
-    ghost Value = { List WaitingRead };
-
-    ghost view = { λ w. w.list.items };
-}
-
-/// Whether the read is one of those that no longer wait: all, or those at or before a time.
+/// Whether the read no longer waits for a transaction: by none where it is applied, else by the time by which it doesn't
+/// commit.
 fn concerns(wait: &Wait, by: &Option<Time>) -> bool
     ensures { result ≡ concerns by.now wait.now }
 {
@@ -62,7 +53,7 @@ fn is_alone(left: &[TxnId], txn: TxnId) -> bool
 
 /// Whether the read waits for nothing once it no longer waits for the transaction, if this concerns it.
 #[tactic(auto, using(crate::proofs::Freed::freed_alone))]
-pub fn frees(wait: &Wait, txn: TxnId, by: &Option<Time>) -> bool
+pub(crate) fn is_freed(wait: &Wait, txn: TxnId, by: &Option<Time>) -> bool
     ensures { result ≡ is_freed txn by.now wait.now }
 {
     if concerns(wait, by) {
@@ -104,36 +95,79 @@ fn keep_waiting(waits: &mut Vec<Wait>)
     waits.retain(|wait| !wait.left.is_empty());
 }
 
-/// Those reads that this concerns no longer wait for the transaction, and those that wait for nothing are let go.
-fn release(waits: &mut Vec<Wait>, txn: TxnId, by: &Option<Time>)
-    ensures { waits.new.items ≡ still txn by.now waits.old.items }
+/// Whether this read of this session is in the list.
+fn is_among(waits: &[Wait], session: Node, number: u64) -> bool
+    ensures { result ≡ is_among session number waits.now }
 {
-    lessen_all(waits, txn, by);
-    keep_waiting(waits);
+    waits
+        .iter()
+        .any(|wait| wait.session == session && wait.number == number)
+}
+
+/// The reads by time that wait at a shard, in the order of their arrival. It must be closed.
+pub struct Waits {
+    waits: Vec<Wait>,
+}
+
+impl Model for Waits {
+    ghost use Rattle.std.specs.Prelude.{List};
+    ghost use Rattle.messages.specs.Shard.{WaitingRead};
+
+    ghost Value = { List WaitingRead };
+
+    ghost view = { λ w. w.waits.items };
 }
 
 impl Waits {
-    ghost use Rattle.std.specs.Prelude.{◌≡◌, []};
+    ghost use Rattle.std.specs.Prelude.{◌≡◌, [], ◌∷◌, ◌++◌, OnOk, OnErr, IfErr};
 
+    /// No read waits.
     pub fn new(alloc: Global) -> Waits
         ensures { result ≡ [] }
     {
         Waits {
-            list: Vec::new(alloc),
+            waits: Vec::new(alloc),
         }
     }
 
-    /// The reads.
+    /// The reads, in the order of their arrival.
     pub fn as_slice(&self) -> &[Wait]
         ensures { result.now ≡ self.now }
     {
-        self.list.as_slice()
+        self.waits.as_slice()
     }
 
-    /// Those reads that this concerns no longer wait for the transaction, and those that wait for nothing are let go.
+    /// Whether this read of this session waits. In the order of n for n waiting reads.
+    pub fn is_waiting(&self, session: Node, number: u64) -> bool
+        ensures { result ≡ is_among session number self.now }
+    {
+        is_among(self.waits.as_slice(), session, number)
+    }
+
+    /// Lets one more read wait. Refused with `Memory` alone, and then it comes back and nothing has changed.
+    pub fn add(&mut self, wait: Wait) -> Result<(), (Fault, Wait)>
+        ensures ok { OnOk result (self.new ≡ self.old ++ wait ∷ []) }
+        ensures err { OnErr result (self.new ≡ self.old) }
+        ensures memory { IfErr result (λ e. (e.0 ≡ Fault.Memory) × (e.1 ≡ wait)) }
+    {
+        match self.waits.push(wait) {
+            Ok(()) => Ok(()),
+            Err(refused) => Err((Fault::Memory, refused.value)),
+        }
+    }
+
+    /// Where a transaction is applied, no read waits for it any more; where it is known not to commit by a time, those
+    /// whose time isn't above that don't. The reads that wait for nothing more are let go: `freed_answers` has their
+    /// answers. Takes no memory. In the order of m for m transactions that reads wait for, over all reads.
     pub fn release(&mut self, txn: TxnId, by: &Option<Time>)
         ensures { self.new ≡ still txn by.now self.old }
     {
-        release(&mut self.list, txn, by);
+        lessen_all(&mut self.waits, txn, by);
+        keep_waiting(&mut self.waits);
+    }
+
+    /// Gives up the reads that weren't answered: for a shard that is closed.
+    pub fn close(self) {
+        let Waits { waits: _ } = self;
     }
 }

@@ -1,3 +1,4 @@
+-- One read more is lessened.
 use Rattle.std.proofs.Common.{rules, ap, sym, ◌∙◌, if◌then◌else◌, slice_set}
 use Rattle.std.proofs.lemmas.List.Edits.{map_over_more}
 use Rattle.messages.specs.Reads.{without}

@@ -1,3 +1,4 @@
+-- What is kept passes the test.
 use Rattle.std.proofs.Common.{rules}
 use Rattle.std.proofs.lemmas.Fn.{filter_same}
 use Rattle.commit_check.proofs.waits.take_away.Goals as goal
