@@ -19,3 +19,4 @@ pub mod Votes
 pub mod Within
 mod WorkedHonest
 pub mod Standing
+pub mod Prepares

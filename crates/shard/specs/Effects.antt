@@ -9,7 +9,7 @@ use Rattle.store.specs.Keeps.{Keeps, IsNewStamp}
 use Rattle.dependencies.specs.Askers.{AskersValue, askers_of}
 use Rattle.messages.specs.Words.{is_same_txn}
 use Rattle.messages.specs.Shard.{ShardState, WaitingRead}
-use Rattle.write_txn.specs.Ledger.{State, state_of, Becomes}
+use Rattle.write_txn.specs.Ledger.{State, state_of, Becomes, HaveSameStates}
 use Rattle.write_txn.specs.Voters.{VoterList, voters_of}
 use Rattle.shard.specs.declared.kept.Kept.{Kept}
 
@@ -46,3 +46,17 @@ pub record IsSpared (k l : Kept) : Type 0 where
   pub notices : (u : TxnValue) → voters_of l.notices u ≡ voters_of k.notices u
   pub askers : (u : TxnValue) → askers_of l.askers u ≡ askers_of k.askers u
   pub waiting : l.waiting ≡ k.waiting
+
+-- this transaction comes to be so, and the clock shows this; nothing else changes
+pub record MovesTo (t : TxnValue) (s : Option State) (n : ℕ) (k l : Kept) : Type 0 where
+  pub state : Becomes t s k.transactions.ledger l.transactions.ledger
+  pub store : l.transactions.store ≡ k.transactions.store
+  pub early : l.transactions.early ≡ k.transactions.early
+  pub rest : l ≡ record k { clock = n; transactions = l.transactions }
+
+-- nothing changes
+pub record StaysSo (k l : Kept) : Type 0 where
+  pub states : HaveSameStates k.transactions.ledger l.transactions.ledger
+  pub store : l.transactions.store ≡ k.transactions.store
+  pub early : l.transactions.early ≡ k.transactions.early
+  pub rest : l ≡ record k { transactions = l.transactions }

@@ -1,5 +1,5 @@
 //! Prepare.
-ghost use Rattle.std.specs.Prelude.{◌≡◌, ◌++◌, [], ◌∷◌, is_some, IsOk, OnOk, OnErr, IfErr, Some, None};
+ghost use Rattle.std.specs.Prelude.{◌≡◌, ℕ, ◌++◌, [], ◌∷◌, is_some, IsOk, OnOk, OnErr, IfErr, Some, None};
 ghost use Rattle.messages.specs.Topology.{TopologyValue, shard_node, dc_of};
 ghost use Rattle.messages.specs.Words.{envelope};
 ghost use Rattle.messages.specs.Place.{IsPlace};
@@ -10,7 +10,7 @@ ghost use Rattle.write_txn.specs.declared.open.Open.TheVariants as in_open;
 ghost use Rattle.write_txn.specs.Ledger.{state_of, Holds};
 ghost use Rattle.write_txn.specs.Transactions.{cohorts_part};
 ghost use Rattle.shard.specs.Kept.{Represents, IsStep};
-ghost use Rattle.shard.specs.Effects.{IsAfter, IsSpared};
+ghost use Rattle.shard.specs.Effects.{MovesTo, StaysSo};
 
 use crate::kept::Kept;
 use logical_time::{Clock, Fault};
@@ -33,7 +33,6 @@ fn yes(kept: &Kept, clock: Clock, part: &WritePart) -> Envelope
 
 /// Prepares a part of a transaction that isn't known, and sends Yes to its coordinator. Refused with `Memory` alone, and
 /// then all is as it was.
-#[tactic(auto, using(crate::proofs::Preparing::part_prepared, crate::proofs::Preparing::part_refused, crate::proofs::Preparing::room_refused))]
 fn prepare_new(
     kept: &mut Kept,
     clock: Clock,
@@ -41,9 +40,9 @@ fn prepare_new(
     outbox: &mut Outbox,
 ) -> Result<(), (Fault, WritePart)>
     requires { state_of kept.old.transactions.ledger part.writer.txn ≡ None }
-    ensures after { OnOk result (IsAfter part.writer.txn (Some (Holds (in_open.Part (cohorts_part part clock)))) None clock kept.old.waiting kept.old kept.new) }
+    ensures ok { OnOk result (MovesTo part.writer.txn (Some (Holds (in_open.Part (cohorts_part part clock)))) clock kept.old kept.new) }
     ensures sends { (top : TopologyValue) (me : ℕ) → IsPlace top me kept.old.place → OnOk result (outbox.new.sent ≡ outbox.old.sent ++ envelope me (shard_node top (dc_of top me) part.writer.shard) clock (Yes part.writer.txn) ∷ []) }
-    ensures same { OnErr result (IsSpared kept.old kept.new) }
+    ensures same { OnErr result (StaysSo kept.old kept.new) }
     ensures unsent { OnErr result (outbox.new.sent ≡ outbox.old.sent) }
     ensures memory { IfErr result (λ e. (e.0 ≡ Fault.Memory) × (e.1 ≡ part)) }
 {
@@ -72,7 +71,7 @@ fn is_known(kept: &Kept, part: &WritePart) -> bool
 }
 
 /// Prepare: ignored where the transaction is known; else its part is prepared and marked, and Yes goes to the coordinator.
-#[tactic(auto, using(crate::proofs::Preparing::prepare_ignored, crate::proofs::Preparing::prepare_done, crate::proofs::Standing::spared))]
+#[tactic(auto, using(crate::proofs::Prepares::prepare_ignored, crate::proofs::Prepares::prepare_done, crate::proofs::Standing::stays))]
 pub(crate) fn prepare(
     kept: &mut Kept,
     clock: Clock,
