@@ -1,11 +1,11 @@
 -- What is listed is what is under way.
-use Rattle.std.proofs.Common.{◌≡◌, ◌∙◌, ap, sym, refl, ℕ, List, Option, Some, None}
+use Rattle.std.proofs.Common.{◌≡◌, ◌∙◌, ap, refl, ℕ, List, Option, Some, None}
 use Rattle.std.specs.Prelude.{slice_get, option_map}
 use Rattle.logical_time.specs.Stamps.{TxnValue}
 use Rattle.write_txn.specs.declared.open.Open.{Open}
 use Rattle.write_txn.specs.declared.status.Status.{Status}
 use Rattle.write_txn.specs.declared.status.Status.TheVariants as in_status
-use Rattle.write_txn.specs.Ledger.{LedgerValue, State, Holds, IsPlaced, status_in, state_at, state_of, txn_of}
+use Rattle.write_txn.specs.Ledger.{LedgerValue, Holds, IsPlaced, status_in, state_at, state_of, txn_of}
 
 pub listed_held : (l : LedgerValue) → IsPlaced l → (place : ℕ) (o : Open) → slice_get l.under_way place ≡ Some o → state_of l (txn_of o) ≡ Some (Holds o)
 listed_held l placed place o h = ap (state_at l.under_way) (placed.found place o h) ∙ ap (option_map Holds) h

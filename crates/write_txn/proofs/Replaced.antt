@@ -1,5 +1,5 @@
 -- What is known after what is under way at one place was replaced.
-use Rattle.std.proofs.Common.{◌≡◌, ◌≢◌, ◌∙◌, ap, sym, subst, refl, ℕ, Bool, true, false, ◌==◌, List, Option, Some, None}
+use Rattle.std.proofs.Common.{◌≡◌, ◌∙◌, ap, sym, refl, ℕ, true, ◌==◌, List, Option, Some, None}
 use Rattle.std.specs.Prelude.{if◌then◌else◌, slice_get, option_map}
 use Rattle.std.specs.Ordering.{is_eq}
 use Rattle.std.proofs.lemmas.Bool.{eq-eqb}
@@ -8,7 +8,7 @@ use Rattle.logical_time.specs.Stamps.{TxnValue, txn_cmp}
 use Rattle.write_txn.specs.declared.open.Open.{Open}
 use Rattle.write_txn.specs.declared.status.Status.{Status}
 use Rattle.write_txn.specs.declared.status.Status.TheVariants as in_status
-use Rattle.write_txn.specs.Ledger.{LedgerValue, State, Holds, IsPlaced, status_in, state_at, state_of, txn_of, Becomes}
+use Rattle.write_txn.specs.Ledger.{LedgerValue, Holds, IsPlaced, status_in, state_at, txn_of, Becomes}
 use Rattle.write_txn.specs.Places.{ledger_of}
 use Rattle.write_txn.proofs.Lists.{by_equal}
 use Rattle.write_txn.proofs.Txns.{by_txn, equal_txn}

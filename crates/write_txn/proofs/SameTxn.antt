@@ -1,19 +1,17 @@
 -- What a step makes of what is under way is of the same transaction.
-use Rattle.std.proofs.Common.{◌≡◌, refl, ℕ, Bool, true, false, List, [], ◌∷◌, ◌==◌, Option, Some, None, IfSome}
+use Rattle.std.proofs.Common.{◌≡◌, refl, ℕ, Bool, true, false, List, [], ◌∷◌, ◌==◌, None, IfSome}
 use Rattle.std.specs.Prelude.{if◌then◌else◌}
 use Rattle.logical_time.specs.Stamps.{TxnValue}
-use Rattle.txn_state.specs.declared.ballot.Voted.{Voted}
 use Rattle.txn_state.specs.Ballot.{BallotValue, CompleteValue}
 use Rattle.txn_state.specs.Prepared.{PreparedValue}
 use Rattle.txn_state.specs.Votes.{counted, are_all_there}
-use Rattle.txn_state.specs.Voted.{voted_if, voted}
+use Rattle.txn_state.specs.Voted.{voted_if}
 use Rattle.txn_state.specs.Ready.{ready_for, ready_at}
 use Rattle.txn_state.specs.RemoteBallot.{missing_in}
-use Rattle.write_txn.specs.declared.open.Open.{Open}
 use Rattle.write_txn.specs.declared.open.Open.TheVariants as in_open
 use Rattle.write_txn.specs.declared.open.Led.{Led}
 use Rattle.write_txn.specs.declared.open.Remote.{Remote}
-use Rattle.write_txn.specs.Ledger.{State, Holds, txn_of, state_prepared, state_applied, state_voted, led_after, state_noticed, state_answered, state_ready, remote_after, part_in, completed_by, complete_in, readied_by, ready_complete}
+use Rattle.write_txn.specs.Ledger.{Holds, state_prepared, state_applied, state_voted, led_after, state_noticed, state_answered, state_ready, remote_after, part_in, completed_by, complete_in, readied_by, ready_complete}
 use Rattle.write_txn.proofs.Taken.{IsOf, KeepsTxn, AnswersTxn}
 
 pub prepared_keeps : (time : ℕ) → KeepsTxn (state_prepared time)

@@ -1,5 +1,5 @@
 -- What is known after what was under way at one place is over, and the last one has moved there.
-use Rattle.std.proofs.Common.{◌≡◌, ◌≢◌, ◌∙◌, ap, sym, subst, refl, ℕ, ◌+◌, ◌-◌, ◌<◌, Bool, true, false, ◌==◌, nat_lt, List, length, Option, Some, None, IsSome, arith}
+use Rattle.std.proofs.Common.{◌≡◌, ◌≢◌, ◌∙◌, ap, sym, subst, refl, ℕ, ◌-◌, ◌<◌, Bool, true, false, ◌==◌, nat_lt, List, length, Option, Some, None, IsSome, arith}
 use Rattle.std.specs.Prelude.{if◌then◌else◌, slice_get, option_map}
 use Rattle.std.specs.Ordering.{is_eq}
 use Rattle.std.proofs.lemmas.Bool.{eq-eqb, ne_eqb, lt-ltb}
@@ -8,7 +8,7 @@ use Rattle.logical_time.specs.Stamps.{StampValue, TxnValue, txn_cmp}
 use Rattle.write_txn.specs.declared.open.Open.{Open}
 use Rattle.write_txn.specs.declared.status.Status.{Status}
 use Rattle.write_txn.specs.declared.status.Status.TheVariants as in_status
-use Rattle.write_txn.specs.Ledger.{LedgerValue, State, Holds, IsPlaced, status_in, state_at, state_of, txn_of, Becomes}
+use Rattle.write_txn.specs.Ledger.{Holds, IsPlaced, status_in, state_at, txn_of, Becomes}
 use Rattle.write_txn.specs.Places.{ledger_of, status_set, status_moved}
 use Rattle.write_txn.proofs.Lists.{by_equal, by_below}
 use Rattle.write_txn.proofs.Replaced.{one_place, same_state}

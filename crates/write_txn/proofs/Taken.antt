@@ -1,5 +1,5 @@
 -- What is known after what is under way of a transaction was taken out, and what became of it was put there.
-use Rattle.std.proofs.Common.{◌≡◌, ◌∙◌, ap, sym, subst, refl, ℕ, ◌-◌, ◌<◌, ◌==◌, nat_lt, List, [], ◌∷◌, ◌++◌, length, get_or, set, Option, Some, None, IfSome, arith}
+use Rattle.std.proofs.Common.{◌≡◌, ◌∙◌, ap, sym, subst, ℕ, ◌-◌, ◌<◌, ◌==◌, nat_lt, List, [], ◌∷◌, ◌++◌, length, get_or, set, Option, Some, None, IfSome}
 use Rattle.std.specs.Prelude.{if◌then◌else◌, slice_get, option_map}
 use Rattle.std.specs.List.{swap, swap_remove}
 use Rattle.std.proofs.lemmas.Option.{same_Some, slice_get_within, get_or_from_slice_get}
@@ -9,7 +9,7 @@ use Rattle.write_txn.specs.declared.status.Status.{Status}
 use Rattle.write_txn.specs.declared.status.Status.TheVariants as in_status
 use Rattle.write_txn.specs.declared.next.Next.{Next}
 use Rattle.write_txn.specs.declared.next.Next.TheVariants as in_next
-use Rattle.write_txn.specs.Ledger.{LedgerValue, State, Holds, IsApplied, IsDecided, IsPlaced, status_in, state_at, state_of, txn_of, Becomes}
+use Rattle.write_txn.specs.Ledger.{State, Holds, IsApplied, IsDecided, IsPlaced, status_in, state_at, state_of, txn_of, Becomes}
 use Rattle.write_txn.specs.Next.{state_next}
 use Rattle.write_txn.specs.Places.{ledger_of, place_of, IsPut}
 use Rattle.write_txn.proofs.Lists.{read_set, read_taken, put_back_is}

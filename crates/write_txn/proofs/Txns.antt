@@ -1,5 +1,5 @@
 -- Transactions that compare as equal.
-use Rattle.std.proofs.Common.{◌≡◌, ℕ, Bool, true, false, subst, refl, arith}
+use Rattle.std.proofs.Common.{◌≡◌, Bool, true, false, subst, refl, arith}
 use Rattle.std.specs.Ordering.{is_eq, ordering_then, nat_cmp}
 use Rattle.std.specs.declared.cmp.Ordering.{Ordering}
 use Rattle.std.specs.declared.cmp.Ordering.TheVariants.{Less, Equal, Greater}

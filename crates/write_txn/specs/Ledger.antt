@@ -9,13 +9,13 @@ use Rattle.txn_state.specs.declared.ballot.Voted.TheVariants.{More, All}
 use Rattle.txn_state.specs.declared.remote_ballot.Ready.{Ready}
 use Rattle.txn_state.specs.declared.remote_ballot.Ready.TheVariants as in_ready
 use Rattle.txn_state.specs.Prepared.{PreparedValue}
-use Rattle.txn_state.specs.Ballot.{BallotValue, CompleteValue}
+use Rattle.txn_state.specs.Ballot.{CompleteValue}
 use Rattle.txn_state.specs.Votes.{counted}
 use Rattle.txn_state.specs.Answers.{answered}
 use Rattle.txn_state.specs.Voted.{voted}
 use Rattle.txn_state.specs.Ready.{ready_at}
-use Rattle.txn_state.specs.RemoteBallot.{RemoteValue, missing_in}
-use Rattle.messages.specs.Shard.{PreparedPart, Role, Cohort, Replica}
+use Rattle.txn_state.specs.RemoteBallot.{missing_in}
+use Rattle.messages.specs.Shard.{PreparedPart, Replica}
 use Rattle.messages.specs.Commits.{stamp_for}
 use Rattle.write_txn.specs.declared.status.Status.{Status}
 use Rattle.write_txn.specs.declared.status.Status.TheVariants as in_status
