@@ -4,6 +4,7 @@ ghost use Rattle.messages.specs.Topology.{TopologyValue};
 ghost use Rattle.messages.specs.Place.{IsPlace};
 ghost use Rattle.messages.specs.Reads.{check_of};
 
+use crate::near::envelope_near;
 use logical_time::{Fault, Time, Writer};
 use messages::{Body, Envelope, Place};
 use std::alloc::Global;
@@ -20,17 +21,14 @@ pub fn checks(
     ensures envelopes { (top : TopologyValue) (me : ℕ) → IsPlace top me place → IfOk result (λ envelopes. envelopes.items ≡ map (check_of top me time read_time) writers.now) }
     ensures memory { IfErr result (λ e. e ≡ Fault.Memory) }
 {
-    let from = place.node();
     let envelopes: Vec<Envelope> = writers
         .iter()
-        .map(|writer| Envelope {
-            from,
-            to: place.near(writer.shard),
-            time,
-            body: Body::Check {
+        .map(|writer| {
+            let body = Body::Check {
                 txn: writer.txn,
                 time: read_time,
-            },
+            };
+            envelope_near(place, time, writer.shard, body)
         })
         .collect(alloc)?;
     Ok(envelopes)

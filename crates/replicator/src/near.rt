@@ -11,28 +11,30 @@ use logical_time::{Fault, Node, Shard, Time, TxnId, Writers};
 use messages::{Body, Cohorts, Envelope, Place};
 use std::alloc::Global;
 
+/// An envelope to a shard of the same data centre.
+pub(crate) fn envelope_near(place: Place, time: Time, shard: Shard, body: Body) -> Envelope
+    ensures { (top : TopologyValue) (me : ℕ) → IsPlace top me place → result ≡ envelope me (shard_node top (dc_of top me) shard) time body }
+{
+    Envelope {
+        from: place.node(),
+        to: place.near(shard),
+        time,
+        body,
+    }
+}
+
 /// A cohort's vote for a transaction whose part it has prepared: to the coordinator.
 pub fn yes(place: Place, time: Time, txn: TxnId, coordinator: Shard) -> Envelope
     ensures { (top : TopologyValue) (me : ℕ) → IsPlace top me place → result ≡ envelope me (shard_node top (dc_of top me) coordinator) time (body.Yes txn) }
 {
-    Envelope {
-        from: place.node(),
-        to: place.near(coordinator),
-        time,
-        body: Body::Yes { txn },
-    }
+    envelope_near(place, time, coordinator, Body::Yes { txn })
 }
 
 /// A cohort's notice that it keeps its part of another data centre's transaction: to the coordinator.
 pub fn notify(place: Place, time: Time, txn: TxnId, coordinator: Shard) -> Envelope
     ensures { (top : TopologyValue) (me : ℕ) → IsPlace top me place → result ≡ envelope me (shard_node top (dc_of top me) coordinator) time (body.Notify txn) }
 {
-    Envelope {
-        from: place.node(),
-        to: place.near(coordinator),
-        time,
-        body: Body::Notify { txn },
-    }
+    envelope_near(place, time, coordinator, Body::Notify { txn })
 }
 
 /// The nodes of a transaction's cohorts, in their order. Refused with `Memory` alone.
@@ -59,16 +61,10 @@ pub fn prepare_remotes(
     ensures envelopes { (top : TopologyValue) (me : ℕ) → IsPlace top me place → IfOk result (λ envelopes. envelopes.items ≡ map (λ s. envelope me (shard_node top (dc_of top me) s) time (body.PrepareRemote txn)) cohorts.now) }
     ensures memory { IfErr result (λ e. e ≡ Fault.Memory) }
 {
-    let from = place.node();
     let envelopes: Vec<Envelope> = cohorts
         .as_slice()
         .iter()
-        .map(|shard| Envelope {
-            from,
-            to: place.near(*shard),
-            time,
-            body: Body::PrepareRemote { txn },
-        })
+        .map(|shard| envelope_near(place, time, *shard, Body::PrepareRemote { txn }))
         .collect(alloc)?;
     Ok(envelopes)
 }
@@ -85,18 +81,15 @@ pub fn dep_checks(
     ensures envelopes { (top : TopologyValue) (me : ℕ) (r : KeptBallot) → IsPlace top me place → r.txn ≡ txn → r.dependencies ≡ dependencies.now → IfOk result (λ envelopes. envelopes.items ≡ machine.dep_checks top me time r) }
     ensures memory { IfErr result (λ e. e ≡ Fault.Memory) }
 {
-    let from = place.node();
     let envelopes: Vec<Envelope> = dependencies
         .as_slice()
         .iter()
-        .map(|writer| Envelope {
-            from,
-            to: place.near(writer.shard),
-            time,
-            body: Body::DepCheck {
+        .map(|writer| {
+            let body = Body::DepCheck {
                 dependency: writer.txn,
                 waiter: txn,
-            },
+            };
+            envelope_near(place, time, writer.shard, body)
         })
         .collect(alloc)?;
     Ok(envelopes)
