@@ -55,7 +55,8 @@ pub(crate) fn second_round(number: u64, time: Time, read: &Read) -> Result<Body,
     })
 }
 
-pub(crate) fn repl_begin(
+/// A ReplBegin with copies, which share the bytes of keys, names and values. Fails by memory alone.
+pub fn repl_begin(
     txn: TxnId,
     rows: &Batch,
     stamp: Stamp,
@@ -73,7 +74,8 @@ pub(crate) fn repl_begin(
     })
 }
 
-pub(crate) fn repl_part(
+/// A ReplPart with a copy of the rows, which shares the bytes of keys, names and values. Fails by memory alone.
+pub fn repl_part(
     txn: TxnId,
     rows: &Batch,
     stamp: Stamp,

@@ -20,6 +20,7 @@ mod rows_now;
 mod topology;
 
 pub use body::{Body, Cohorts};
+pub use copies::{repl_begin, repl_part};
 pub use envelope::{Envelope, Refused};
 pub use event::Event;
 pub use home::Home;

@@ -1,0 +1,13 @@
+//! What coordinators and cohorts send to other shards beside `Commit`.
+//!
+//! Each function makes envelopes of what it is given, by the place of the shard that sends them; nothing here keeps
+//! anything. What it copies shares the bytes of keys, names and values, and memory alone can refuse it.
+#![tactic(auto)]
+
+mod checking;
+mod near;
+mod replicating;
+
+pub use checking::checks;
+pub use near::{dep_checks, near_nodes, notify, prepare_remotes, yes};
+pub use replicating::{announcements, repl_parts};
