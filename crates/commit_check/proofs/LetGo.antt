@@ -1,5 +1,5 @@
 -- How the machine lets waiting reads go, by what is freed and what goes on waiting.
-use Rattle.std.proofs.Common.{◌≡◌, refl, ℕ, Bool, true, List, ◌++◌, Option, Some, None, map}
+use Rattle.std.proofs.Common.{◌≡◌, refl, ℕ, true, List, ◌++◌, Option, Some, None, map}
 use Rattle.std.specs.Prelude.{nat_le}
 use Rattle.logical_time.specs.Stamps.{TxnValue}
 use Rattle.messages.specs.declared.envelope.Envelope.{Envelope}

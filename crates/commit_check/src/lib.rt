@@ -1,4 +1,6 @@
 //! Reads by time that wait until the transactions below their time are known.
+//!
+//! Nothing here knows of votes or clocks.
 #![tactic(auto)]
 
 mod freeing;

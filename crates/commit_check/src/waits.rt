@@ -33,8 +33,8 @@ impl Model for Wait {
     ghost view = { λ w. record { session = w.session; number = w.number; time = w.time; read = w.read; left = w.left.items } };
 }
 
-/// Whether the read no longer waits for a transaction: by none where it is applied, else by the time by which it doesn't
-/// commit.
+/// Whether the read need not wait for a transaction: where it is applied, or isn't committed by a time, and the read's
+/// isn't above that.
 fn concerns(wait: &Wait, by: &Option<Time>) -> bool
     ensures { result ≡ concerns by.now wait.now }
 {
@@ -51,7 +51,7 @@ fn is_alone(left: &[TxnId], txn: TxnId) -> bool
     left.iter().all(|one| one.cmp(&txn).is_eq())
 }
 
-/// Whether the read waits for nothing once it no longer waits for the transaction, if this concerns it.
+/// Whether the read waits for nothing more once it doesn't wait for the transaction, if this concerns it.
 #[tactic(auto, using(crate::proofs::Freed::freed_alone))]
 pub(crate) fn is_freed(wait: &Wait, txn: TxnId, by: &Option<Time>) -> bool
     ensures { result ≡ is_freed txn by.now wait.now }
@@ -156,9 +156,10 @@ impl Waits {
         }
     }
 
-    /// Where a transaction is applied, no read waits for it any more; where it is known not to commit by a time, those
-    /// whose time isn't above that don't. The reads that wait for nothing more are let go: `freed_answers` has their
-    /// answers. Takes no memory. In the order of m for m transactions that reads wait for, over all reads.
+    /// Reads no longer wait for a transaction: all where it is applied (`None`), and those whose time isn't above a time
+    /// by which it isn't committed (`Some`). Those that wait for nothing more are dropped: `freed_answers` has their
+    /// answers, and is called before. Takes no memory. In the order of m for m transactions that reads wait for, over
+    /// all reads.
     pub fn release(&mut self, txn: TxnId, by: &Option<Time>)
         ensures { self.new ≡ still txn by.now self.old }
     {
