@@ -1,0 +1,2 @@
+pub mod LeastMarks
+pub mod SameRows

@@ -1,0 +1,3 @@
+pub mod Marked
+pub mod Coming
+pub mod Found
