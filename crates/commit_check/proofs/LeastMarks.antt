@@ -1,6 +1,6 @@
 -- The least of a clock and the times of marks, where no two are of one transaction.
-use Rattle.std.proofs.Common.{◌≡◌, ◌∙◌, sym, ap, subst, refl, ℕ, ◌≤◌, min, inl, inr, ◌⊎◌, Bool, true, false, List, [], ◌∷◌, Option, Some, None, option_map, arith}
-use Rattle.std.specs.Prelude.{filter, find}
+use Rattle.std.proofs.Common.{◌≡◌, ◌∙◌, sym, ap, subst, refl, ℕ, ◌≤◌, min, inl, inr, ◌⊎◌, Bool, true, List, [], ◌∷◌, Option, Some, None, arith}
+use Rattle.std.specs.Prelude.{filter}
 use Rattle.std.proofs.lemmas.Bool.Decides.{nat_tests}
 use Rattle.logical_time.specs.Stamps.{TxnValue}
 use Rattle.column_family.specs.declared.batch.Row.{Row}

@@ -1,5 +1,6 @@
 -- Rows that are found are the machine's.
-use Rattle.std.proofs.Common.{◌≡◌, ◌∙◌, sym, ap, ℕ, List, Option}
+use Rattle.std.proofs.Common.{◌≡◌, ◌∙◌, sym, ap, ℕ, ◌+◌, ◌<◌, List, [], ◌∷◌, ◌++◌, map, take, length, get_or, Option}
+use Rattle.std.proofs.lemmas.List.{take_more, map-append}
 use Rattle.logical_time.specs.Stamps.{WriterValue}
 use Rattle.slice.specs.declared.read.Read.{Read}
 use Rattle.slice.specs.declared.column.Column.{Column}
@@ -43,3 +44,14 @@ found_at s coming a time read key part r keeps may found is =
     is
     ∙ ap (λ (x : List Column). record { key = key; columns = x; writers = part.writers }) same.0
     ∙ ap (λ (x : List WriterValue). record { key = key; columns = w.columns; writers = x }) same.1
+
+-- one row more
+pub row_more : (f : List ℕ → RowAt) (keys listed : List (List ℕ)) (i : ℕ) (key : List ℕ) (rows more : List RowAt) (r : RowAt) → listed ≡ keys → i < length listed
+    → key ≡ get_or listed i key → rows ≡ map f (take i keys) → more ≡ rows ++ r ∷ [] → r ≡ f key → more ≡ map f (take (i + 1) keys)
+row_more f keys listed i key rows more r same lt is so_far pushed row =
+    let next : take (i + 1) listed ≡ take i listed ++ key ∷ [] = take_more listed i key lt ∙ ap (λ (k : List ℕ). take i listed ++ k ∷ []) (sym is) in
+    pushed
+    ∙ ap (λ (rs : List RowAt). rs ++ r ∷ []) (so_far ∙ ap (λ (ks : List (List ℕ)). map f (take i ks)) (sym same))
+    ∙ ap (λ (s : RowAt). map f (take i listed) ++ s ∷ []) row
+    ∙ sym (ap (map f) next ∙ map-append f (take i listed) (key ∷ []))
+    ∙ ap (λ (ks : List (List ℕ)). map f (take (i + 1) ks)) same

@@ -19,6 +19,7 @@ use std::alloc::Global;
 use store::{Part, Store};
 
 /// A part that isn't applied yet, with what it is going to be applied with.
+#[derive(Drop)]
 pub(crate) struct ComingPart<'b> {
     /// Its transaction, with its coordinator.
     writer: Writer,
