@@ -1,2 +1,4 @@
 pub mod Freed
 pub mod LetGo
+pub mod LeastMarks
+pub mod SameRows

@@ -1,1 +1,4 @@
 pub mod Waiting
+pub mod Marked
+pub mod Coming
+pub mod Found
