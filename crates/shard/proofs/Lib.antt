@@ -19,4 +19,3 @@ pub mod Votes
 pub mod Within
 mod WorkedHonest
 pub mod Standing
-pub mod Prepares

@@ -23,13 +23,12 @@ use Rattle.write_txn.specs.Stands.{Stands}
 use Rattle.write_txn.specs.Moves.{Moves}
 use Rattle.write_txn.proofs.Finds.{own_txn, same_txn}
 use Rattle.write_txn.proofs.Views.{view_of_others}
-use Rattle.shard.specs.declared.kept.Kept.{Kept}
-use Rattle.shard.specs.Kept.{Represents}
-use Rattle.shard.specs.Effects.{IsAfter, IsSpared, IsStored, MovesTo, StaysSo}
+use Rattle.shard.specs.Kept.{KeptValue, Represents}
+use Rattle.shard.specs.Effects.{IsAfter, IsSpared, IsStored}
 
 -- ## Nothing changes
 
-pub spared : (top : TopologyValue) (me : ℕ) (k l : Kept) (a : ShardState) → Represents top me k a → IsSpared k l → Represents top me l a
+pub spared : (top : TopologyValue) (me : ℕ) (k l : KeptValue) (a : ShardState) → Represents top me k a → IsSpared k l → Represents top me l a
 spared top me k l a r i = record {
   place = subst (IsPlace top me) (sym i.place) r.place;
   clock = r.clock ∙ sym i.clock;
@@ -44,7 +43,7 @@ spared top me k l a r i = record {
 }
 
 -- only the clock moves
-pub moves_on : (top : TopologyValue) (me n : ℕ) (k : Kept) (a : ShardState) → Represents top me k a → Represents top me (record k { clock = n }) (record a { clock = n })
+pub moves_on : (top : TopologyValue) (me n : ℕ) (k : KeptValue) (a : ShardState) → Represents top me k a → Represents top me (record k { clock = n }) (record a { clock = n })
 moves_on top me n k a r = record {
   place = r.place;
   clock = refl;
@@ -75,7 +74,7 @@ abbrev pub listed : Option Applied → List Applied
 listed None = []
 listed (Some x) = x ∷ []
 
-stored : (k l : Kept) (a b : ShardState) (x : Option Applied) → b.applied ≡ a.applied ++ listed x → IsStored x k.transactions.store l.transactions.store → Keeps k.transactions.store a.applied → AreApart b.applied
+stored : (k l : KeptValue) (a b : ShardState) (x : Option Applied) → b.applied ≡ a.applied ++ listed x → IsStored x k.transactions.store l.transactions.store → Keeps k.transactions.store a.applied → AreApart b.applied
     → Keeps l.transactions.store b.applied
 stored k l a b None e i h p = subst (Keeps l.transactions.store) (sym (e ∙ append-nil a.applied)) (i a.applied h)
 stored k l a b (Some x) e i h p = let q = apart_last a.applied x (subst AreApart e p) in subst (Keeps l.transactions.store) (sym e) (i a.applied h q.0 q.1)
@@ -84,12 +83,12 @@ stored k l a b (Some x) e i h p = let q = apart_last a.applied x (subst AreApart
 
 -- What has to be so of the transaction itself, beside how it stands: of an unknown one the early votes and notices are kept,
 -- of an undecided one those that asked for it.
-pub record KeepsOwn (t : TxnValue) (s : Option State) (l : Kept) (b : ShardState) : Type 0 where
+pub record KeepsOwn (t : TxnValue) (s : Option State) (l : KeptValue) (b : ShardState) : Type 0 where
   pub early : s ≡ None → voters_of l.transactions.early t ≡ (view_of t b).early
   pub notices : s ≡ None → voters_of l.notices t ≡ (view_of t b).notices
   pub askers : decision_of t b ≡ None → askers_of l.askers t ≡ filter (λ k. is_same_txn k.dependency t) b.askers
 
-pub moved : (top : TopologyValue) (me n : ℕ) (t : TxnValue) (s : Option State) (x : Option Applied) (waits : List WaitingRead) (k l : Kept) (a b : ShardState)
+pub moved : (top : TopologyValue) (me n : ℕ) (t : TxnValue) (s : Option State) (x : Option Applied) (waits : List WaitingRead) (k l : KeptValue) (a b : ShardState)
     → Represents top me k a → IsAfter t s x n waits k l → Moves top me t s (listed x) a b → KeepsOwn t s l b → b.clock ≡ n → b.waiting ≡ waits → AreApart b.applied
     → Represents top me l b
 moved top me n t s x waits k l a b r i m own clock waiting apart = record {
@@ -110,51 +109,6 @@ moved top me n t s x waits k l a b r i m own clock waiting apart = record {
       (λ yes. let f = same_txn t u yes in subst (λ v. askers_of l.askers v ≡ filter (λ z. is_same_txn z.dependency v) b.askers) f (own.askers (subst (λ v. decision_of v b ≡ None) (sym f) e)))
       (λ no. i.askers u no ∙ (r.askers u (ap (λ (v : View). v.decision) (sym (view_of_others t u a b no m.about)) ∙ e) ∙ ap (filter (λ z. is_same_txn z.dependency u)) (sym m.askers)));
   waiting = waiting ∙ sym i.waiting;
-  once = m.once r.once;
-}
-  where
-    state_own : (u : TxnValue) → is_same_txn t u ≡ true → state_of l.transactions.ledger u ≡ s
-    state_own u e = i.state u ∙ ap (λ (b : Bool). if b then s else state_of k.transactions.ledger u) e
-
-    state_other : (u : TxnValue) → is_same_txn t u ≡ false → state_of l.transactions.ledger u ≡ state_of k.transactions.ledger u
-    state_other u e = i.state u ∙ ap (λ (b : Bool). if b then s else state_of k.transactions.ledger u) e
-
--- ## What is kept, beside one transaction, is as it was
-
-pub stays : (top : TopologyValue) (me : ℕ) (k l : Kept) (a : ShardState) → Represents top me k a → StaysSo k l → Represents top me l a
-stays top me k l a r i = spared top me k l a r (record {
-  place = ap (λ (x : Kept). x.place) i.rest;
-  clock = ap (λ (x : Kept). x.clock) i.rest;
-  low = ap (λ s. s.low) i.store;
-  states = i.states;
-  store = λ all h. subst (λ s. Keeps s all) (sym i.store) h;
-  early = λ u. ap (λ e. voters_of e u) i.early;
-  notices = λ u. ap (λ (x : Kept). voters_of x.notices u) i.rest;
-  askers = λ u. ap (λ (x : Kept). askers_of x.askers u) i.rest;
-  waiting = ap (λ (x : Kept). x.waiting) i.rest;
-})
-
-pub moves_so : (top : TopologyValue) (me n : ℕ) (t : TxnValue) (s : Option State) (k l : Kept) (a b : ShardState) → Represents top me k a → MovesTo t s n k l → Moves top me t s [] a b
-    → (s ≡ None → voters_of k.transactions.early t ≡ (view_of t b).early) → (s ≡ None → voters_of k.notices t ≡ (view_of t b).notices) → (decision_of t b ≡ None → decision_of t a ≡ None)
-    → b.clock ≡ n → b.waiting ≡ a.waiting → Represents top me l b
-moves_so top me n t s k l a b r i m early notices undecided clock waiting = record {
-  place = subst (IsPlace top me) (sym (ap (λ (x : Kept). x.place) i.rest)) r.place;
-  clock = clock ∙ sym (ap (λ (x : Kept). x.clock) i.rest);
-  low = m.low ∙ (r.low ∙ sym (ap (λ x. x.low) i.store));
-  store = subst (λ x. Keeps x b.applied) (sym i.store) (subst (Keeps k.transactions.store) (sym (m.applied ∙ append-nil a.applied)) r.store);
-  stands = λ u. by_cases (is_same_txn t u)
-      (λ yes. subst (λ v. Stands top me v (view_of v b) (state_of l.transactions.ledger v)) (same_txn t u yes) (subst (Stands top me t (view_of t b)) (sym (state_own t (own_txn t))) m.own))
-      (λ no. subst (λ (v : View). Stands top me u v (state_of l.transactions.ledger u)) (sym (view_of_others t u a b no m.about)) (subst (Stands top me u (view_of u a)) (sym (state_other u no)) (r.stands u)));
-  early = λ u e. ap (λ x. voters_of x u) i.early ∙ by_cases (is_same_txn t u)
-      (λ yes. subst (λ v. voters_of k.transactions.early v ≡ (view_of v b).early) (same_txn t u yes) (early (sym (state_own u yes) ∙ e)))
-      (λ no. r.early u (sym (state_other u no) ∙ e) ∙ ap (λ (v : View). v.early) (sym (view_of_others t u a b no m.about)));
-  notices = λ u e. ap (λ (x : Kept). voters_of x.notices u) i.rest ∙ by_cases (is_same_txn t u)
-      (λ yes. subst (λ v. voters_of k.notices v ≡ (view_of v b).notices) (same_txn t u yes) (notices (sym (state_own u yes) ∙ e)))
-      (λ no. r.notices u (sym (state_other u no) ∙ e) ∙ ap (λ (v : View). v.notices) (sym (view_of_others t u a b no m.about)));
-  askers = λ u e. ap (λ (x : Kept). askers_of x.askers u) i.rest ∙ (r.askers u (by_cases (is_same_txn t u)
-      (λ yes. let f = same_txn t u yes in subst (λ v. decision_of v a ≡ None) f (undecided (subst (λ v. decision_of v b ≡ None) (sym f) e)))
-      (λ no. ap (λ (v : View). v.decision) (sym (view_of_others t u a b no m.about)) ∙ e)) ∙ ap (filter (λ z. is_same_txn z.dependency u)) (sym m.askers));
-  waiting = waiting ∙ (r.waiting ∙ sym (ap (λ (x : Kept). x.waiting) i.rest));
   once = m.once r.once;
 }
   where

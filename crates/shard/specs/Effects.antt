@@ -4,17 +4,17 @@ use Rattle.std.specs.Ordering.{is_eq}
 use Rattle.logical_time.specs.Stamps.{TxnValue, txn_cmp}
 use Rattle.column_family.specs.Normal.{IsNormal}
 use Rattle.store.specs.declared.part.Applied.{Applied}
-use Rattle.store.specs.Kept as store
+use Rattle.store.specs.Kept.{Kept}
 use Rattle.store.specs.Keeps.{Keeps, IsNewStamp}
 use Rattle.dependencies.specs.Askers.{AskersValue, askers_of}
 use Rattle.messages.specs.Words.{is_same_txn}
 use Rattle.messages.specs.Shard.{ShardState, WaitingRead}
-use Rattle.write_txn.specs.Ledger.{State, state_of, Becomes, HaveSameStates}
+use Rattle.write_txn.specs.Ledger.{State, state_of, Becomes}
 use Rattle.write_txn.specs.Voters.{VoterList, voters_of}
-use Rattle.shard.specs.declared.kept.Kept.{Kept}
+use Rattle.shard.specs.Kept.{KeptValue}
 
 -- the store keeps what it kept, and what is applied, if something is
-abbrev pub IsStored : Option Applied → store.Kept → store.Kept → Type 0
+abbrev pub IsStored : Option Applied → Kept → Kept → Type 0
 IsStored None old new = (all : List Applied) → Keeps old all → Keeps new all
 IsStored (Some x) old new = (all : List Applied) → Keeps old all → IsNormal x.part.batch → IsNewStamp x.stamp all → Keeps new (all ++ x ∷ [])
 
@@ -24,7 +24,7 @@ OthersHaveSameVoters t old new = (u : TxnValue) → is_same_txn t u ≡ false �
 
 -- Of what is kept this transaction comes to be so, and this part is applied, if one is; the clock shows this and these reads
 -- wait. Nothing of another transaction changes, nor who asked for one.
-pub record IsAfter (t : TxnValue) (s : Option State) (x : Option Applied) (n : ℕ) (waits : List WaitingRead) (k l : Kept) : Type 0 where
+pub record IsAfter (t : TxnValue) (s : Option State) (x : Option Applied) (n : ℕ) (waits : List WaitingRead) (k l : KeptValue) : Type 0 where
   pub place : l.place ≡ k.place
   pub clock : l.clock ≡ n
   pub low : l.transactions.store.low ≡ k.transactions.store.low
@@ -36,7 +36,7 @@ pub record IsAfter (t : TxnValue) (s : Option State) (x : Option Applied) (n : �
   pub waiting : l.waiting ≡ waits
 
 -- nothing changed that matters: rooms may have been made
-pub record IsSpared (k l : Kept) : Type 0 where
+pub record IsSpared (k l : KeptValue) : Type 0 where
   pub place : l.place ≡ k.place
   pub clock : l.clock ≡ k.clock
   pub low : l.transactions.store.low ≡ k.transactions.store.low
@@ -46,17 +46,3 @@ pub record IsSpared (k l : Kept) : Type 0 where
   pub notices : (u : TxnValue) → voters_of l.notices u ≡ voters_of k.notices u
   pub askers : (u : TxnValue) → askers_of l.askers u ≡ askers_of k.askers u
   pub waiting : l.waiting ≡ k.waiting
-
--- this transaction comes to be so, and the clock shows this; nothing else changes
-pub record MovesTo (t : TxnValue) (s : Option State) (n : ℕ) (k l : Kept) : Type 0 where
-  pub state : Becomes t s k.transactions.ledger l.transactions.ledger
-  pub store : l.transactions.store ≡ k.transactions.store
-  pub early : l.transactions.early ≡ k.transactions.early
-  pub rest : l ≡ record k { clock = n; transactions = l.transactions }
-
--- nothing changes
-pub record StaysSo (k l : Kept) : Type 0 where
-  pub states : HaveSameStates k.transactions.ledger l.transactions.ledger
-  pub store : l.transactions.store ≡ k.transactions.store
-  pub early : l.transactions.early ≡ k.transactions.early
-  pub rest : l ≡ record k { transactions = l.transactions }

@@ -3,20 +3,30 @@
 use Rattle.std.specs.Prelude.{◌≡◌, ℕ, ◌+◌, ◌*◌, ◌<◌, List, [], ◌∷◌, ◌++◌, Option, None}
 use Rattle.logical_time.specs.Stamps.{TxnValue}
 use Rattle.store.specs.Keeps.{Keeps}
-use Rattle.dependencies.specs.Askers.{KeepsAskers}
+use Rattle.dependencies.specs.Askers.{AskersValue, KeepsAskers}
 use Rattle.messages.specs.declared.envelope.Envelope.{Envelope}
 use Rattle.messages.specs.Topology.{TopologyValue}
-use Rattle.messages.specs.Shard.{ShardState, ShardStep}
-use Rattle.messages.specs.Place.{IsPlace}
+use Rattle.messages.specs.Shard.{ShardState, ShardStep, WaitingRead}
+use Rattle.messages.specs.Place.{PlaceValue, IsPlace}
 use Rattle.write_txn.specs.Ledger.{state_of}
-use Rattle.write_txn.specs.Voters.{voters_of}
+use Rattle.write_txn.specs.Voters.{VoterList, voters_of}
 use Rattle.write_txn.specs.View.{view_of}
 use Rattle.write_txn.specs.Stands.{Stands}
 use Rattle.write_txn.specs.Moves.{AreOnce}
-use Rattle.shard.specs.declared.kept.Kept.{Kept}
+use Rattle.write_txn.specs.Transactions.{TransactionsValue}
+
+-- a shard's place and clock, its transactions, the notices of replicated parts that came early, the writes that asked for what
+-- isn't decided, and the reads that wait
+pub record KeptValue : Type 0 where
+  pub place : PlaceValue
+  pub clock : ℕ
+  pub transactions : TransactionsValue
+  pub notices : VoterList
+  pub askers : AskersValue
+  pub waiting : List WaitingRead
 
 -- What is kept stands for this state of the shard with this node.
-pub record Represents (top : TopologyValue) (me : ℕ) (k : Kept) (a : ShardState) : Type 0 where
+pub record Represents (top : TopologyValue) (me : ℕ) (k : KeptValue) (a : ShardState) : Type 0 where
   pub place : IsPlace top me k.place
   pub clock : a.clock ≡ k.clock
   pub low : a.low ≡ k.transactions.store.low
@@ -32,6 +42,6 @@ pub record Represents (top : TopologyValue) (me : ℕ) (k : Kept) (a : ShardStat
   pub once : AreOnce a.prepared
 
 -- a call did this step of the machine: what is kept then stands for its state, and its envelopes were sent, in order
-pub record IsStep (top : TopologyValue) (me : ℕ) (step : ShardStep) (k : Kept) (before after : List Envelope) : Type 0 where
+pub record IsStep (top : TopologyValue) (me : ℕ) (step : ShardStep) (k : KeptValue) (before after : List Envelope) : Type 0 where
   pub state : Represents top me k step.state
   pub sends : after ≡ before ++ step.sends

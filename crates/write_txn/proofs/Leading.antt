@@ -16,7 +16,7 @@ use Rattle.write_txn.specs.declared.open.Open.TheVariants as in_open
 use Rattle.write_txn.specs.declared.open.Led.{Led}
 use Rattle.write_txn.specs.Ledger.{State, Holds, IsApplied, IsDecided, led_after, state_voted}
 use Rattle.write_txn.specs.View.{View, view_of, near_nodes, left_of, nodes_for, is_ready_by}
-use Rattle.write_txn.specs.Stands.{Stands, IsUnled, IsUnknown, StandsLed, StandsDecided, begun_of, own_part}
+use Rattle.write_txn.specs.Stands.{Stands, IsUnled, IsUnknown, StandsLed, StandsDecided, begun_of, own_part, with_counted}
 use Rattle.write_txn.specs.Moves.{IsExtended, IsAbout, Moves, AreOnce}
 use Rattle.write_txn.proofs.Finds.{own_txn, same_txn, find_last, find_same, any_last, nodes_append, nodes_one, stays, adds, adds_those, others_if_none, once_more}
 use Rattle.write_txn.proofs.Counting.{voted_left, awaited_left, left_counted, stranger_left, none_left}
@@ -202,10 +202,6 @@ with_vote_about a t node =
 
 pub standing : (top : TopologyValue) (me : ℕ) (a : ShardState) (t : TxnValue) (l : Led) → StandsLed top me (view_of t a) l → standing_ballot t a ≡ Some (begun_of l)
 standing top me a t l h = rw h.decision h.ballot
-
--- the votes of the ballot once this node's is counted too
-abbrev pub with_counted : Led → ℕ → Led
-with_counted l node = record l { ballot = record l.ballot { votes = counted l.ballot.votes node } }
 
 -- a vote that isn't awaited, and one that isn't the last
 pub counts : (top : TopologyValue) (me n : ℕ) (a : ShardState) (t : TxnValue) (l : Led) (node : ℕ) → (begun_of l).txn ≡ t → StandsLed top me (view_of t a) l → are_all_there (counted l.ballot.votes node) ≡ false

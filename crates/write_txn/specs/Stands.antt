@@ -5,7 +5,7 @@ use Rattle.logical_time.specs.Stamps.{StampValue, TxnValue}
 use Rattle.column_family.specs.declared.batch.Row.{Row}
 use Rattle.txn_state.specs.Answers.{is_unanswered, is_dependency}
 use Rattle.txn_state.specs.RemoteBallot.{missing_in}
-use Rattle.txn_state.specs.Votes.{are_all_there}
+use Rattle.txn_state.specs.Votes.{counted, are_all_there}
 use Rattle.messages.specs.Topology.{TopologyValue, shard_of}
 use Rattle.messages.specs.Rows.{touches_row}
 use Rattle.messages.specs.Shard.{PreparedPart, Role, Own, Cohort, Replica, BegunBallot, Decision, KeptPart, KeptBallot}
@@ -131,6 +131,10 @@ pub record StandsDecided (top : TopologyValue) (me : ℕ) (t : TxnValue) (v : Vi
   pub applied : v.applied ≡ true
   pub kept_part : v.kept_part ≡ None
   pub readied : (r : KeptBallot) → v.kept_ballot ≡ Some r → is_ready_by top me v r ≡ true
+
+-- the votes of the ballot once this node's is counted too
+abbrev pub with_counted : Led → ℕ → Led
+with_counted l node = record l { ballot = record l.ballot { votes = counted l.ballot.votes node } }
 
 -- what is known of a transaction stands for what this shard's state says of it
 abbrev pub Stands : TopologyValue → ℕ → TxnValue → View → Option State → Type 0

@@ -3,6 +3,7 @@
 
 mod adding;
 mod applying;
+mod law;
 mod ledger;
 mod moving;
 mod next;
@@ -13,6 +14,7 @@ mod steps;
 mod transactions;
 mod voters;
 
+pub use law::{parts_move_on, transactions_stand, votes_are_counted};
 pub use ledger::Ledger;
 pub use open::{Kept, Led, Open, Origin, Part, Remote};
 pub use transactions::Transactions;
