@@ -14,9 +14,9 @@ use crate::envelopes::{nodes, reads, send, writes};
 use crate::kept::Kept;
 use column_family::Batch;
 use dependencies::DepSet;
-use logical_time::{Clock, Fault, Node, TxnId, Writers};
+use logical_time::{Clock, Fault, Node, Shard, TxnId, Writers};
 use messages::{Op, Outbox};
-use planner::{check_batch, check_read, plan_batch, plan_read};
+use planner::{BatchPlan, check_batch, check_read, plan_batch, plan_read};
 use read_txn::FirstRound;
 use slice::Read;
 use std::mem;
@@ -77,6 +77,13 @@ fn accept(kept: &mut Kept, ready: Ready, current: Current) -> u64
     kept.count
 }
 
+/// The coordinator of a plan.
+fn coordinator_of(plan: &BatchPlan) -> Shard
+    ensures { result ≡ plan.now.coordinator.shard }
+{
+    plan.coordinator.shard
+}
+
 /// Submits a batch that is allowed.
 #[tactic(auto, using(crate::proofs::Planned::posted_batch))]
 fn submit_batch(kept: &mut Kept, batch: &Batch, outbox: &mut Outbox) -> Result<u64, Fault>
@@ -92,7 +99,7 @@ fn submit_batch(kept: &mut Kept, batch: &Batch, outbox: &mut Outbox) -> Result<u
 {
     let ready = make_ready(kept)?;
     let plan = plan_batch(kept.alloc, batch, &kept.schema, kept.home.shards())?;
-    let coordinator = plan.coordinator.shard;
+    let coordinator = coordinator_of(&plan);
     let txn = TxnId {
         session: kept.node,
         number: kept.count + 1,
