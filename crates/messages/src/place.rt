@@ -2,12 +2,14 @@
 ghost use Rattle.std.specs.Prelude.{◌≡◌, ◌+◌, ◌*◌, ◌<◌, ◌≤◌, ℕ, map, is_some, IfSome, IfOk, IfErr};
 ghost use Rattle.messages.specs.Topology as spec;
 ghost use Rattle.messages.specs.Topology.{TopologyValue};
-ghost use Rattle.messages.specs.Words.{other_dcs};
+ghost use Rattle.messages.specs.Words.{envelope, other_dcs};
 ghost use Rattle.messages.specs.Place.{IsPlace, others_of};
 
+use crate::body::Body;
+use crate::envelope::Envelope;
 use crate::home::Home;
 use crate::topology::Topology;
-use logical_time::{Fault, Node, Shard};
+use logical_time::{Fault, Node, Shard, Time};
 use std::alloc::Global;
 use std::marker::Model;
 
@@ -90,6 +92,18 @@ impl Place {
         ensures place { (top : TopologyValue) (me : ℕ) → IsPlace top me self → result ≡ spec.shard_node top (spec.dc_of top me) shard }
     {
         self.home.node_of(shard)
+    }
+
+    /// An envelope from the shard to one of the same data centre.
+    pub fn envelope_near(self, time: Time, shard: Shard, body: Body) -> Envelope
+        ensures { (top : TopologyValue) (me : ℕ) → IsPlace top me self → result ≡ envelope me (spec.shard_node top (spec.dc_of top me) shard) time body }
+    {
+        Envelope {
+            from: self.node(),
+            to: self.near(shard),
+            time,
+            body,
+        }
     }
 
     /// The nodes of the shards of the same number in the other data centres, ascending. Refused with `Memory` alone.

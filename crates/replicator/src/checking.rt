@@ -4,7 +4,6 @@ ghost use Rattle.messages.specs.Topology.{TopologyValue};
 ghost use Rattle.messages.specs.Place.{IsPlace};
 ghost use Rattle.messages.specs.Reads.{check_of};
 
-use crate::near::envelope_near;
 use logical_time::{Fault, Time, Writer};
 use messages::{Body, Envelope, Place};
 use std::alloc::Global;
@@ -28,7 +27,7 @@ pub fn checks(
                 txn: writer.txn,
                 time: read_time,
             };
-            envelope_near(place, time, writer.shard, body)
+            place.envelope_near(time, writer.shard, body)
         })
         .collect(alloc)?;
     Ok(envelopes)

@@ -11,30 +11,18 @@ use logical_time::{Fault, Node, Shard, Time, TxnId, Writers};
 use messages::{Body, Cohorts, Envelope, Place};
 use std::alloc::Global;
 
-/// An envelope to a shard of the same data centre.
-pub(crate) fn envelope_near(place: Place, time: Time, shard: Shard, body: Body) -> Envelope
-    ensures { (top : TopologyValue) (me : ℕ) → IsPlace top me place → result ≡ envelope me (shard_node top (dc_of top me) shard) time body }
-{
-    Envelope {
-        from: place.node(),
-        to: place.near(shard),
-        time,
-        body,
-    }
-}
-
 /// A cohort's vote for a transaction whose part it has prepared: to the coordinator.
 pub fn yes(place: Place, time: Time, txn: TxnId, coordinator: Shard) -> Envelope
     ensures { (top : TopologyValue) (me : ℕ) → IsPlace top me place → result ≡ envelope me (shard_node top (dc_of top me) coordinator) time (body.Yes txn) }
 {
-    envelope_near(place, time, coordinator, Body::Yes { txn })
+    place.envelope_near(time, coordinator, Body::Yes { txn })
 }
 
 /// A cohort's notice that it keeps its part of another data centre's transaction: to the coordinator.
 pub fn notify(place: Place, time: Time, txn: TxnId, coordinator: Shard) -> Envelope
     ensures { (top : TopologyValue) (me : ℕ) → IsPlace top me place → result ≡ envelope me (shard_node top (dc_of top me) coordinator) time (body.Notify txn) }
 {
-    envelope_near(place, time, coordinator, Body::Notify { txn })
+    place.envelope_near(time, coordinator, Body::Notify { txn })
 }
 
 /// The nodes of a transaction's cohorts, in their order. Refused with `Memory` alone.
@@ -64,7 +52,7 @@ pub fn prepare_remotes(
     let envelopes: Vec<Envelope> = cohorts
         .as_slice()
         .iter()
-        .map(|shard| envelope_near(place, time, *shard, Body::PrepareRemote { txn }))
+        .map(|shard| place.envelope_near(time, *shard, Body::PrepareRemote { txn }))
         .collect(alloc)?;
     Ok(envelopes)
 }
@@ -89,7 +77,7 @@ pub fn dep_checks(
                 dependency: writer.txn,
                 waiter: txn,
             };
-            envelope_near(place, time, writer.shard, body)
+            place.envelope_near(time, writer.shard, body)
         })
         .collect(alloc)?;
     Ok(envelopes)
