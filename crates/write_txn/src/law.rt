@@ -1,5 +1,5 @@
 //! Laws of what is known of transactions, by the protocol's definitions.
-ghost use Rattle.std.specs.Prelude.{◌≡◌, ◌×◌, ℕ, true, false, List, [], ◌∷◌, ◌++◌, Option, Some, None, is_some, option_map};
+ghost use Rattle.std.specs.Prelude.{◌≡◌, ℕ, true, false, List, [], ◌∷◌, ◌++◌, Option, Some, None, is_some, option_map};
 ghost use Rattle.logical_time.specs.Stamps.{StampValue, TxnValue};
 ghost use Rattle.column_family.specs.declared.batch.Change.{Change};
 ghost use Rattle.txn_state.specs.Votes.{counted, are_all_there};
