@@ -1,26 +1,24 @@
 -- Notices and answers that find no ballot waiting, and answers that do.
-use Rattle.std.proofs.Common.{◌≡◌, ◌∙◌, sym, ap, subst, refl, ℕ, Bool, true, false, ◌&&◌, ◌||◌, not, if◌then◌else◌, List, [], ◌∷◌, ◌++◌, Option, Some, None, map, length, append-nil, arith}
-use Rattle.std.specs.Prelude.{filter, find, is_some, ◌==◌}
-use Rattle.std.specs.List.{list_any, list_all}
-use Rattle.std.specs.Ordering.{is_eq}
+use Rattle.std.proofs.Common.{◌≡◌, ◌∙◌, sym, ap, subst, refl, ℕ, Bool, true, false, ◌&&◌, ◌||◌, not, List, [], ◌∷◌, ◌++◌, Option, Some, None, length, arith}
+use Rattle.std.specs.Prelude.{◌==◌}
+use Rattle.std.specs.List.{list_all}
 use Rattle.std.proofs.lemmas.Bool.Decides.{nat_tests}
-use Rattle.logical_time.specs.Stamps.{StampValue, TxnValue, WriterValue, txn_cmp}
+use Rattle.logical_time.specs.Stamps.{TxnValue}
 use Rattle.column_family.proofs.Options.{by_cases, both_true, neither}
 use Rattle.txn_state.specs.Votes.{is_among}
 use Rattle.txn_state.specs.Answers.{is_unanswered, is_dependency, answered}
 use Rattle.messages.specs.Topology.{TopologyValue}
 use Rattle.messages.specs.Words.{is_same_txn}
-use Rattle.messages.specs.Shard.{ShardState, BegunBallot, KeptBallot, Vote, Met, quiet}
-use Rattle.messages.specs.Known.{is_known, kept_ballot, has_vote, is_awaited, is_met}
-use Rattle.messages.specs.Replication.{ready, with_notice, notice_if, early_notice_if, notify_for, on_notify, is_unmet, with_met, met_if, dep_ok_for, on_dep_ok}
+use Rattle.messages.specs.Shard.{ShardState, KeptBallot, quiet}
+use Rattle.messages.specs.Known.{kept_ballot, has_vote, is_met}
+use Rattle.messages.specs.Replication.{ready, notice_if, early_notice_if, notify_for, on_notify, is_unmet, with_met, met_if, dep_ok_for, on_dep_ok}
 use Rattle.write_txn.specs.declared.open.Open.TheVariants as in_open
 use Rattle.write_txn.specs.declared.open.Remote.{Remote}
 use Rattle.write_txn.specs.Ledger.{State, Holds, IsApplied, IsDecided}
-use Rattle.write_txn.specs.View.{View, view_of, near_nodes, left_of, nodes_for, met_for, is_ready_by}
-use Rattle.write_txn.specs.Stands.{Stands, IsUnknown, IsWaiting, StandsRemote, kept_ballot_of}
-use Rattle.write_txn.specs.Moves.{IsAbout, Moves}
-use Rattle.write_txn.proofs.Finds.{own_txn, same_txn, same_back, found_ballot, met_one, nodes_one, adds}
-use Rattle.write_txn.proofs.Counting.{awaited_left, met_among, has_among, all_among_left, among_left}
+use Rattle.write_txn.specs.View.{view_of, near_nodes, left_of, nodes_for, met_for, is_ready_by}
+use Rattle.write_txn.specs.Stands.{Stands, IsWaiting, StandsRemote, kept_ballot_of}
+use Rattle.write_txn.proofs.Finds.{own_txn, same_txn, same_back, found_ballot, met_one, adds}
+use Rattle.write_txn.proofs.Counting.{awaited_left, met_among, has_among, all_among_left}
 use Rattle.write_txn.proofs.CohortSteps.{known_if}
 use Rattle.write_txn.proofs.Leading.{same_about}
 use Rattle.write_txn.proofs.Replicas.{all_met_then}
@@ -68,8 +66,8 @@ notice_ignored top me n a t node s h e = go (kept_ballot t a) refl
     go (Some r) f = ap (λ (b : Bool). notice_if b top me n a r node)
         (awaited_left top me r.cohorts a.notices t node
         ∙ nobody_is_among (left_of (near_nodes top me r.cohorts) (nodes_for a.notices t)) node
-          (sym (all_among_left (near_nodes top me r.cohorts) (nodes_for a.notices t))
-          ∙ (both_true (list_all (λ x. is_among (nodes_for a.notices t) x) (near_nodes top me r.cohorts)) (list_all (λ w. is_unanswered (met_for a.met t) w.txn) r.dependencies) (not_waiting top me a t (Some s) h e r f)).0))
+        (sym (all_among_left (near_nodes top me r.cohorts) (nodes_for a.notices t))
+        ∙ (both_true (list_all (λ x. is_among (nodes_for a.notices t) x) (near_nodes top me r.cohorts)) (list_all (λ w. is_unanswered (met_for a.met t) w.txn) r.dependencies) (not_waiting top me a t (Some s) h e r f)).0))
 
 pub notice_early : (top : TopologyValue) (me n : ℕ) (a : ShardState) (t : TxnValue) (node : ℕ) → Stands top me t (view_of t a) None
     → on_notify top me n a node t ≡ early_notice_if false (is_among (view_of t a).notices node) n a t node
@@ -97,17 +95,17 @@ answer_ignored top me n a t d s h e = go (kept_ballot t a) refl
     go (Some r) f = ap (λ (b : Bool). met_if b top me n a r d)
         (unmet_is a t d r (found_ballot a.kept_ballots t r f)
         ∙ all_met_then (met_for a.met t) r.dependencies d
-          (both_true (list_all (λ x. is_among (nodes_for a.notices t) x) (near_nodes top me r.cohorts)) (list_all (λ w. is_unanswered (met_for a.met t) w.txn) r.dependencies) (not_waiting top me a t s h e r f)).1)
+        (both_true (list_all (λ x. is_among (nodes_for a.notices t) x) (near_nodes top me r.cohorts)) (list_all (λ w. is_unanswered (met_for a.met t) w.txn) r.dependencies) (not_waiting top me a t s h e r f)).1)
 
 answered_others : (us : List TxnValue) (d t : TxnValue) → is_unanswered (answered us d) t ≡ (is_unanswered us t && not (is_same_txn d t))
 answered_others [] d t = refl
 answered_others (u ∷ us) d t = by_cases (is_same_txn u d)
     (λ same. rw same (answered_others us d t ∙ by_cases (is_same_txn u t)
-        (λ it. rw (it, subst (λ (x : TxnValue). is_same_txn x t ≡ true) (same_txn u d same) it) (go (is_unanswered us t)))
-        (λ other. rw other refl)))
+    (λ it. rw (it, subst (λ (x : TxnValue). is_same_txn x t ≡ true) (same_txn u d same) it) (go (is_unanswered us t)))
+    (λ other. rw other refl)))
     (λ differs. rw differs (ap (λ (b : Bool). is_same_txn u t || b) (answered_others us d t) ∙ by_cases (is_same_txn u t)
-        (λ it. rw (it, sym (ap (is_same_txn d) (same_txn u t it)) ∙ (same_back d u ∙ differs)) refl)
-        (λ other. rw other refl)))
+    (λ it. rw (it, sym (ap (is_same_txn d) (same_txn u t it)) ∙ (same_back d u ∙ differs)) refl)
+    (λ other. rw other refl)))
   where
     go : (b : Bool) → (b && false) ≡ false
     go true = refl
@@ -143,51 +141,56 @@ answer_counts top me n a t d r is h waits = by_cases (is_unanswered r.ballot.ans
 
     passed_over : is_unanswered r.ballot.answers d ≡ false
         → (c : ShardState) × (on_dep_ok top me n a d t ≡ ready top me n c (kept_ballot_of r)) × KeepsBallot top me t (with_answered r d) a c × (c.waiting ≡ a.waiting)
-    passed_over absent = (a,
-        at_it ∙ (ap (λ (b : Bool). met_if b top me n a (kept_ballot_of r) d) absent ∙ sym (readies_later top me n t r a a same_kept waits)),
-        subst (λ (x : Remote). KeepsBallot top me t x a a)
-        (ap (λ (us : List TxnValue). record r { ballot = record r.ballot { answers = us } }) (sym (absent_answer r.ballot.answers d absent)))
-        same_kept, refl)
+    passed_over absent = (
+      a,
+      at_it ∙ (ap (λ (b : Bool). met_if b top me n a (kept_ballot_of r) d) absent ∙ sym (readies_later top me n t r a a same_kept waits)),
+      subst (λ (x : Remote). KeepsBallot top me t x a a)
+          (ap (λ (us : List TxnValue). record r { ballot = record r.ballot { answers = us } }) (sym (absent_answer r.ballot.answers d absent)))
+          same_kept,
+      refl,
+    )
 
     missing : is_unanswered r.ballot.answers d ≡ true
         → (c : ShardState) × (on_dep_ok top me n a d t ≡ ready top me n c (kept_ballot_of r)) × KeepsBallot top me t (with_answered r d) a c × (c.waiting ≡ a.waiting)
     missing there =
-        let s = same_about t a in
-        (with_met a t d,
-        at_it ∙ (ap (λ (b : Bool). met_if b top me n a (kept_ballot_of r) d) there ∙ ap (λ (u : TxnValue). ready top me n (with_met a u d) (kept_ballot_of r)) is),
-        record {
-          about = record {
-            prepared = s.prepared;
-            ballots = s.ballots;
-            kept_parts = s.kept_parts;
-            kept_ballots = s.kept_ballots;
-            decided = s.decided;
-            applied = s.applied;
-            early = s.early;
-            votes = s.votes;
-            notices = s.notices;
-            met = adds (λ m. is_same_txn m.waiter t) a.met (record { waiter = t; dependency = d }) (own_txn t);
-          };
-          applied = refl;
-          low = refl;
-          askers = refl;
-          same_parts = refl;
-          stands = record {
-            kept_ballot = h.kept_ballot;
-            own = h.own;
-            cohorts = h.cohorts;
-            missing = h.missing;
-            answers = λ u.
-                answered_others r.ballot.answers d u
-                ∙ (ap (λ (b : Bool). b && not (is_same_txn d u)) (h.answers u)
-                ∙ (and_so (is_dependency r.dependencies u) (is_unanswered (met_for a.met t) u) (is_same_txn d u)
-                ∙ ap (λ (b : Bool). is_dependency r.dependencies u && not b) (sym (ap (λ (us : List TxnValue). is_unanswered us u) (met_one t d a.met) ∙ more_met (met_for a.met t) d u))));
-            ballot = h.ballot;
-            decision = h.decision;
-            prepared = h.prepared;
-            kept_part = h.kept_part;
-            applied = h.applied;
-            votes = h.votes;
-          };
-          is = is;
-        }, refl)
+        let s = same_about t a in (
+          with_met a t d,
+          at_it ∙ (ap (λ (b : Bool). met_if b top me n a (kept_ballot_of r) d) there ∙ ap (λ (u : TxnValue). ready top me n (with_met a u d) (kept_ballot_of r)) is),
+          record {
+            about = record {
+              prepared = s.prepared;
+              ballots = s.ballots;
+              kept_parts = s.kept_parts;
+              kept_ballots = s.kept_ballots;
+              decided = s.decided;
+              applied = s.applied;
+              early = s.early;
+              votes = s.votes;
+              notices = s.notices;
+              met = adds (λ m. is_same_txn m.waiter t) a.met (record { waiter = t; dependency = d }) (own_txn t);
+            };
+            applied = refl;
+            low = refl;
+            askers = refl;
+            same_parts = refl;
+            stands = record {
+              kept_ballot = h.kept_ballot;
+              own = h.own;
+              cohorts = h.cohorts;
+              missing = h.missing;
+              answers = λ u.
+                  answered_others r.ballot.answers d u
+                  ∙ (ap (λ (b : Bool). b && not (is_same_txn d u)) (h.answers u)
+                  ∙ (and_so (is_dependency r.dependencies u) (is_unanswered (met_for a.met t) u) (is_same_txn d u)
+                  ∙ ap (λ (b : Bool). is_dependency r.dependencies u && not b) (sym (ap (λ (us : List TxnValue). is_unanswered us u) (met_one t d a.met) ∙ more_met (met_for a.met t) d u))));
+              ballot = h.ballot;
+              decision = h.decision;
+              prepared = h.prepared;
+              kept_part = h.kept_part;
+              applied = h.applied;
+              votes = h.votes;
+            };
+            is = is;
+          },
+          refl,
+        )

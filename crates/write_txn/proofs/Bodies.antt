@@ -1,7 +1,6 @@
 -- What the bodies of a two-phase commit are, by what is known of their transaction.
-use Rattle.std.proofs.Common.{◌≡◌, ◌∙◌, sym, ap, subst, refl, ℕ, Bool, true, false, ◌&&◌, ◌||◌, not, if◌then◌else◌, List, [], ◌∷◌, ◌++◌, Option, Some, None, map, length, append-nil, arith}
-use Rattle.std.specs.Prelude.{filter, find, is_some, ◌==◌, option_map}
-use Rattle.std.specs.List.{list_any, list_all}
+use Rattle.std.proofs.Common.{◌≡◌, ◌∙◌, sym, ap, refl, ℕ, Bool, true, false, not, List, [], ◌∷◌, Option, Some, None, length, arith}
+use Rattle.std.specs.Prelude.{filter, ◌==◌, option_map}
 use Rattle.std.proofs.lemmas.Bool.Decides.{nat_tests}
 use Rattle.logical_time.specs.Stamps.{StampValue, TxnValue}
 use Rattle.column_family.specs.declared.batch.Change.{Change}
@@ -9,17 +8,15 @@ use Rattle.column_family.proofs.Options.{by_cases}
 use Rattle.txn_state.specs.Votes.{is_among, counted, are_all_there}
 use Rattle.messages.specs.Topology.{TopologyValue}
 use Rattle.messages.specs.Words.{is_same_txn}
-use Rattle.messages.specs.Shard.{ShardState, PreparedPart, Role, Own, Cohort, Replica, BegunBallot, KeptBallot, Vote, ShardStep, quiet}
-use Rattle.messages.specs.Known.{is_known, prepared_part, decision_of, standing_ballot, is_awaited, all_voted, has_vote, is_applied}
-use Rattle.messages.specs.Commits.{stamp_for, decide, hold, with_vote, yes_for, on_yes, vote_if, counted_if, early_if, begin_if, on_begin, prepare_if, prepare_part, on_prepare, commit_if, commit_for, on_commit, apply_part}
-use Rattle.write_txn.specs.declared.open.Open.{Open}
+use Rattle.messages.specs.Shard.{ShardState, PreparedPart, Role, Own, Cohort, Replica, BegunBallot, Vote, quiet}
+use Rattle.messages.specs.Known.{prepared_part, decision_of, standing_ballot, all_voted, has_vote, is_applied}
+use Rattle.messages.specs.Commits.{decide, hold, with_vote, yes_for, on_yes, vote_if, counted_if, early_if, begin_if, on_begin, prepare_if, prepare_part, on_prepare, commit_if, commit_for, on_commit, apply_part}
 use Rattle.write_txn.specs.declared.open.Open.TheVariants as in_open
 use Rattle.write_txn.specs.declared.open.Led.{Led}
 use Rattle.write_txn.specs.Ledger.{State, Holds, IsApplied, IsDecided, decided_in}
-use Rattle.write_txn.specs.View.{View, view_of, near_nodes, left_of, nodes_for}
-use Rattle.write_txn.specs.Stands.{Stands, IsUnknown, StandsPart, StandsLed, StandsDecided, StandsApplied, begun_of, own_part, is_cohorts}
-use Rattle.write_txn.specs.Moves.{IsAbout, Moves}
-use Rattle.write_txn.proofs.Finds.{own_txn, same_txn, nodes_one, found_txn}
+use Rattle.write_txn.specs.View.{view_of, near_nodes, left_of, nodes_for}
+use Rattle.write_txn.specs.Stands.{Stands, IsUnknown, StandsPart, StandsLed, begun_of, own_part, is_cohorts}
+use Rattle.write_txn.proofs.Finds.{nodes_one, found_txn}
 use Rattle.write_txn.proofs.Counting.{voted_left, awaited_left, left_counted, has_among}
 use Rattle.write_txn.proofs.CohortSteps.{known_if}
 use Rattle.write_txn.proofs.Leading.{same_about, MayDecide, MayHold, standing, with_vote_about}
@@ -147,7 +144,7 @@ pub yes_decides : (top : TopologyValue) (me n : ℕ) (a : ShardState) (t : TxnVa
 yes_decides top me n a t l node is h all =
     ap (λ o. yes_for o top me n a t node) (standing top me a t l h)
     ∙ (ap (λ (b : Bool). vote_if b top me n a (begun_of l) node)
-      (awaited_left top me l.cohorts a.votes t node ∙ (ap (λ (ns : List ℕ). is_among ns node) (sym h.missing) ∙ last_awaited l.ballot.votes.missing node h.open_yet all))
+    (awaited_left top me l.cohorts a.votes t node ∙ (ap (λ (ns : List ℕ). is_among ns node) (sym h.missing) ∙ last_awaited l.ballot.votes.missing node h.open_yet all))
     ∙ (ap (λ (u : TxnValue). counted_if (all_voted top me l.cohorts (with_vote a u node).votes u) top me n (with_vote a u node) (begun_of l)) is
     ∙ ap (λ (b : Bool). counted_if b top me n (with_vote a t node) (begun_of l)) (all_is ∙ all)))
   where

@@ -1,28 +1,19 @@
 -- Steps by which a transaction comes to stand otherwise, while it is in one data centre alone.
-use Rattle.std.proofs.Common.{◌≡◌, ◌∙◌, sym, ap, subst, refl, ℕ, Bool, true, false, ◌&&◌, ◌||◌, not, if◌then◌else◌, List, [], ◌∷◌, ◌++◌, Option, Some, None, map, length, append-nil}
-use Rattle.std.specs.Prelude.{filter, find, is_some, ◌==◌}
-use Rattle.std.specs.List.{list_any, list_all}
+use Rattle.std.proofs.Common.{◌≡◌, ◌∙◌, sym, ap, subst, refl, ℕ, Bool, true, false, ◌||◌, [], ◌∷◌, ◌++◌, Option, Some, None, append-nil}
+use Rattle.std.specs.Prelude.{is_some}
 use Rattle.logical_time.specs.Stamps.{StampValue, TxnValue}
-use Rattle.column_family.specs.declared.batch.Change.{Change}
-use Rattle.column_family.proofs.Options.{by_cases}
 use Rattle.store.specs.declared.part.Applied.{Applied}
-use Rattle.txn_state.specs.Votes.{is_among, counted, are_all_there}
-use Rattle.messages.specs.declared.envelope.Envelope.{Envelope}
-use Rattle.messages.specs.Topology.{TopologyValue, dc_of, shard_of, shard_node}
+use Rattle.messages.specs.Topology.{TopologyValue}
 use Rattle.messages.specs.Words.{is_same_txn}
-use Rattle.messages.specs.Shard.{ShardState, PreparedPart, Role, Own, Cohort, Replica, BegunBallot, Decision, KeptPart, KeptBallot, Vote, ShardStep}
+use Rattle.messages.specs.Shard.{ShardState, PreparedPart}
 use Rattle.messages.specs.Known.{is_known, prepared_part, kept_part, kept_ballot, decision_of, is_applied}
-use Rattle.messages.specs.Commits.{applied_part, stamp_for, decide, hold, prepare_part, apply_part, with_vote}
-use Rattle.messages.specs.Reads.{let_go}
+use Rattle.messages.specs.Commits.{applied_part, apply_part}
 use Rattle.write_txn.specs.declared.open.Open.TheVariants as in_open
-use Rattle.write_txn.specs.declared.open.Kept.{Kept}
-use Rattle.write_txn.specs.declared.open.Led.{Led}
-use Rattle.write_txn.specs.declared.open.Remote.{Remote}
 use Rattle.write_txn.specs.Ledger.{State, Holds, IsApplied, IsDecided}
-use Rattle.write_txn.specs.View.{View, view_of, near_nodes, left_of, nodes_for, is_ready_by}
-use Rattle.write_txn.specs.Stands.{Stands, IsUnled, IsUnknown, StandsKept, StandsPart, StandsApplied, StandsLed, StandsRemote, StandsDecided, begun_of, own_part, kept_part_of, is_cohorts}
-use Rattle.write_txn.specs.Moves.{IsExtended, IsAbout, Moves, AreOnce}
-use Rattle.write_txn.proofs.Finds.{own_txn, same_txn, find_last, find_same, any_last, any_found, nodes_one, stays, adds, adds_those, others_if_none, once_more}
+use Rattle.write_txn.specs.View.{view_of}
+use Rattle.write_txn.specs.Stands.{Stands, IsUnled, StandsPart, is_cohorts}
+use Rattle.write_txn.specs.Moves.{IsAbout, Moves}
+use Rattle.write_txn.proofs.Finds.{own_txn, find_last, any_last, any_found, stays, adds, others_if_none, once_more}
 
 -- ## What is known
 

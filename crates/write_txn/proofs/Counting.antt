@@ -1,12 +1,12 @@
 -- Votes, notices and answers, as the state counts them and as ballots do.
-use Rattle.std.proofs.Common.{◌≡◌, ◌∙◌, sym, ap, subst, refl, ℕ, Bool, true, false, ◌&&◌, ◌||◌, not, if◌then◌else◌, List, [], ◌∷◌, ◌++◌, Option, Some, None, map, length, arith}
-use Rattle.std.specs.Prelude.{filter, ◌==◌, ◌+◌}
-use Rattle.std.specs.List.{list_any, list_all}
+use Rattle.std.proofs.Common.{◌≡◌, ◌∙◌, sym, ap, refl, ℕ, Bool, true, false, ◌&&◌, ◌||◌, not, if◌then◌else◌, List, [], ◌∷◌, ◌++◌, length, arith}
+use Rattle.std.specs.Prelude.{filter, ◌==◌}
+use Rattle.std.specs.List.{list_all}
 use Rattle.std.proofs.lemmas.Bool.Decides.{nat_tests}
 use Rattle.logical_time.specs.Stamps.{TxnValue, WriterValue}
-use Rattle.column_family.proofs.Options.{by_cases, both_true, neither}
-use Rattle.txn_state.specs.Votes.{is_among, counted, are_all_there}
-use Rattle.txn_state.specs.Answers.{is_unanswered, is_dependency, answered}
+use Rattle.column_family.proofs.Options.{by_cases, neither}
+use Rattle.txn_state.specs.Votes.{is_among}
+use Rattle.txn_state.specs.Answers.{is_unanswered}
 use Rattle.messages.specs.Topology.{TopologyValue, dc_of, shard_node}
 use Rattle.messages.specs.Words.{is_same_txn}
 use Rattle.messages.specs.Shard.{Vote, Met}
@@ -43,11 +43,11 @@ pub among_left : (nodes voters : List ℕ) (node : ℕ) → is_among (left_of no
 among_left [] voters node = refl
 among_left (n ∷ ns) voters node = by_cases (is_among voters n)
     (λ yes. rw yes (among_left ns voters node ∙ by_cases (n == node)
-        (λ is. rw (is, sym (ap (is_among voters) (same_number n node is)), yes) (go (is_among ns node)))
-        (λ isnt. rw isnt refl)))
+    (λ is. rw (is, sym (ap (is_among voters) (same_number n node is)), yes) (go (is_among ns node)))
+    (λ isnt. rw isnt refl)))
     (λ no. rw no (ap (λ (b : Bool). (n == node) || b) (among_left ns voters node) ∙ by_cases (n == node)
-        (λ is. rw (is, sym (ap (is_among voters) (same_number n node is)), no) refl)
-        (λ isnt. rw isnt refl)))
+    (λ is. rw (is, sym (ap (is_among voters) (same_number n node is)), no) refl)
+    (λ isnt. rw isnt refl)))
   where
     go : (b : Bool) → (b && false) ≡ false
     go true = refl
@@ -109,8 +109,8 @@ left_counted (n ∷ ns) voters node =
     ∙ by_cases (is_among voters n)
     (λ yes. rw yes (left_counted ns voters node))
     (λ no. rw no (by_cases (n == node)
-        (λ is. rw (number_back node n, is) (left_counted ns voters node))
-        (λ isnt. rw (number_back node n, isnt) (ap (λ (xs : List ℕ). n ∷ xs) (left_counted ns voters node)))))
+    (λ is. rw (number_back node n, is) (left_counted ns voters node))
+    (λ isnt. rw (number_back node n, isnt) (ap (λ (xs : List ℕ). n ∷ xs) (left_counted ns voters node)))))
 
 -- who isn't missing is passed over
 pub stranger_left : (nodes : List ℕ) (node : ℕ) → is_among nodes node ≡ false → filter (λ n. not (n == node)) nodes ≡ nodes

@@ -1,11 +1,10 @@
 -- What is found in lists that are extended.
-use Rattle.std.proofs.Common.{◌≡◌, ◌∙◌, sym, ap, subst, refl, ℕ, Bool, true, false, ◌&&◌, ◌||◌, not, if◌then◌else◌, List, [], ◌∷◌, ◌++◌, Option, Some, None, map, append-nil, arith}
+use Rattle.std.proofs.Common.{◌≡◌, ◌∙◌, sym, ap, subst, refl, ℕ, Bool, true, false, if◌then◌else◌, List, [], ◌∷◌, ◌++◌, Some, None, map, append-nil, arith}
 use Rattle.std.specs.Prelude.{filter, find, is_some}
 use Rattle.std.specs.List.{list_any, list_all}
-use Rattle.std.proofs.lemmas.List.Folds.{list_any-append}
 use Rattle.std.proofs.lemmas.Bool.Decides.{nat_tests}
 use Rattle.logical_time.specs.Stamps.{TxnValue}
-use Rattle.column_family.proofs.Options.{by_cases, both_true, neither}
+use Rattle.column_family.proofs.Options.{by_cases, both_true}
 use Rattle.messages.specs.Words.{is_same_txn}
 use Rattle.messages.specs.Shard.{PreparedPart, KeptBallot, Vote, Met}
 use Rattle.write_txn.specs.View.{nodes_for, met_for}

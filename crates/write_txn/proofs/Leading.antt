@@ -1,25 +1,24 @@
 -- Steps of a coordinator: a ballot is held, a vote is counted, the transaction is decided.
-use Rattle.std.proofs.Common.{◌≡◌, ◌∙◌, sym, ap, subst, refl, ℕ, Bool, true, false, ◌&&◌, ◌||◌, not, if◌then◌else◌, List, [], ◌∷◌, ◌++◌, Option, Some, None, map, length, append-nil}
-use Rattle.std.specs.Prelude.{filter, find, is_some, ◌==◌}
-use Rattle.std.specs.List.{list_any, list_all}
-use Rattle.logical_time.specs.Stamps.{StampValue, TxnValue}
+use Rattle.std.proofs.Common.{◌≡◌, ◌∙◌, sym, ap, subst, refl, ℕ, Bool, true, false, not, List, [], ◌∷◌, ◌++◌, Some, None, length, append-nil}
+use Rattle.std.specs.Prelude.{filter, ◌==◌}
+use Rattle.std.specs.List.{list_all}
+use Rattle.logical_time.specs.Stamps.{TxnValue}
 use Rattle.column_family.proofs.Options.{by_cases}
-use Rattle.store.specs.declared.part.Applied.{Applied}
 use Rattle.txn_state.specs.Votes.{is_among, counted, are_all_there}
 use Rattle.messages.specs.declared.envelope.Envelope.{Envelope}
-use Rattle.messages.specs.Topology.{TopologyValue, dc_of, shard_of, shard_node}
+use Rattle.messages.specs.Topology.{TopologyValue, shard_of}
 use Rattle.messages.specs.Words.{is_same_txn}
-use Rattle.messages.specs.Shard.{ShardState, PreparedPart, Role, Own, BegunBallot, Decision, KeptBallot, Vote, ShardStep, quiet}
-use Rattle.messages.specs.Known.{is_known, prepared_part, decision_of, standing_ballot, is_awaited, all_voted, has_vote}
+use Rattle.messages.specs.Shard.{ShardState, PreparedPart, Own, BegunBallot, KeptBallot, Vote, quiet}
+use Rattle.messages.specs.Known.{prepared_part, decision_of, standing_ballot, is_awaited, all_voted}
 use Rattle.messages.specs.Commits.{applied_part, stamp_for, decide, hold, with_vote, yes_for, on_yes, vote_if, counted_if}
 use Rattle.write_txn.specs.declared.open.Open.TheVariants as in_open
 use Rattle.write_txn.specs.declared.open.Led.{Led}
-use Rattle.write_txn.specs.Ledger.{State, Holds, IsApplied, IsDecided, led_after, state_voted}
-use Rattle.write_txn.specs.View.{View, view_of, near_nodes, left_of, nodes_for, is_ready_by}
-use Rattle.write_txn.specs.Stands.{Stands, IsUnled, IsUnknown, StandsLed, StandsDecided, begun_of, own_part, with_counted}
+use Rattle.write_txn.specs.Ledger.{Holds, IsDecided}
+use Rattle.write_txn.specs.View.{view_of, near_nodes, left_of, nodes_for, is_ready_by}
+use Rattle.write_txn.specs.Stands.{StandsLed, begun_of, own_part, with_counted}
 use Rattle.write_txn.specs.Moves.{IsExtended, IsAbout, Moves, AreOnce}
-use Rattle.write_txn.proofs.Finds.{own_txn, same_txn, find_last, find_same, any_last, nodes_append, nodes_one, stays, adds, adds_those, others_if_none, once_more}
-use Rattle.write_txn.proofs.Counting.{voted_left, awaited_left, left_counted, stranger_left, none_left}
+use Rattle.write_txn.proofs.Finds.{own_txn, find_last, any_last, nodes_append, nodes_one, stays, adds, others_if_none, once_more}
+use Rattle.write_txn.proofs.Counting.{voted_left, awaited_left, left_counted, stranger_left}
 
 -- ## One list after another
 
@@ -216,10 +215,14 @@ counts top me n a t l node is h left = by_cases (is_among l.ballot.votes.missing
 
     passed_over : is_among l.ballot.votes.missing node ≡ false
         → (b : ShardState) × (on_yes top me n a node t ≡ quiet n b) × Moves top me t (Some (Holds (in_open.Led (with_counted l node)))) [] a b × (b.waiting ≡ a.waiting)
-    passed_over absent = (a, at_it ∙ ap (λ (b : Bool). vote_if b top me n a (begun_of l) node) (awaited_is ∙ absent),
-        subst (λ (x : Led). Moves top me t (Some (Holds (in_open.Led x))) [] a a)
-        (ap (λ (ns : List ℕ). record l { ballot = record l.ballot { votes = record l.ballot.votes { missing = ns } } }) (sym (stranger_left l.ballot.votes.missing node absent)))
-        (record { about = same_about t a; own = h; applied = sym (append-nil a.applied); low = refl; askers = refl; once = λ o. o }), refl)
+    passed_over absent = (
+      a,
+      at_it ∙ ap (λ (b : Bool). vote_if b top me n a (begun_of l) node) (awaited_is ∙ absent),
+      subst (λ (x : Led). Moves top me t (Some (Holds (in_open.Led x))) [] a a)
+          (ap (λ (ns : List ℕ). record l { ballot = record l.ballot { votes = record l.ballot.votes { missing = ns } } }) (sym (stranger_left l.ballot.votes.missing node absent)))
+          (record { about = same_about t a; own = h; applied = sym (append-nil a.applied); low = refl; askers = refl; once = λ o. o }),
+      refl,
+    )
 
     missing_is : (counted l.ballot.votes node).missing ≡ left_of (near_nodes top me l.cohorts) (view_of t (with_vote a t node)).votes
     missing_is = ap (filter (λ n. not (n == node))) h.missing
@@ -230,25 +233,29 @@ counts top me n a t l node is h left = by_cases (is_among l.ballot.votes.missing
 
     awaited : is_among l.ballot.votes.missing node ≡ true
         → (b : ShardState) × (on_yes top me n a node t ≡ quiet n b) × Moves top me t (Some (Holds (in_open.Led (with_counted l node)))) [] a b × (b.waiting ≡ a.waiting)
-    awaited there = (with_vote a t node, at_it ∙ (ap (λ (b : Bool). vote_if b top me n a (begun_of l) node) (awaited_is ∙ there)
-        ∙ (ap (λ (u : TxnValue). counted_if (all_voted top me l.cohorts (with_vote a u node).votes u) top me n (with_vote a u node) (begun_of l)) is
-        ∙ ap (λ (b : Bool). counted_if b top me n (with_vote a t node) (begun_of l)) (all_is ∙ left))),
-        record {
-          about = with_vote_about a t node;
-          own = record {
-            ballot = h.ballot;
-            prepared = h.prepared;
-            own = h.own;
-            cohorts = h.cohorts;
-            missing = missing_is;
-            open_yet = left;
-            decision = h.decision;
-            applied = h.applied;
-            kept_part = h.kept_part;
-            readied = h.readied;
-          };
-          applied = sym (append-nil a.applied);
-          low = refl;
-          askers = refl;
-          once = λ o. o;
-        }, refl)
+    awaited there = (
+      with_vote a t node,
+      at_it ∙ (ap (λ (b : Bool). vote_if b top me n a (begun_of l) node) (awaited_is ∙ there)
+          ∙ (ap (λ (u : TxnValue). counted_if (all_voted top me l.cohorts (with_vote a u node).votes u) top me n (with_vote a u node) (begun_of l)) is
+          ∙ ap (λ (b : Bool). counted_if b top me n (with_vote a t node) (begun_of l)) (all_is ∙ left))),
+      record {
+        about = with_vote_about a t node;
+        own = record {
+          ballot = h.ballot;
+          prepared = h.prepared;
+          own = h.own;
+          cohorts = h.cohorts;
+          missing = missing_is;
+          open_yet = left;
+          decision = h.decision;
+          applied = h.applied;
+          kept_part = h.kept_part;
+          readied = h.readied;
+        };
+        applied = sym (append-nil a.applied);
+        low = refl;
+        askers = refl;
+        once = λ o. o;
+      },
+      refl,
+    )

@@ -1,34 +1,31 @@
 -- A ballot of another data centre's write, as what is missing of it comes.
-use Rattle.std.proofs.Common.{◌≡◌, ◌∙◌, sym, ap, subst, refl, ℕ, Bool, true, false, ◌&&◌, ◌||◌, not, if◌then◌else◌, List, [], ◌∷◌, ◌++◌, Option, Some, None, map, length, append-nil, arith}
-use Rattle.std.specs.Prelude.{filter, find, is_some, ◌==◌, ◌+◌}
-use Rattle.std.specs.List.{list_any, list_all}
+use Rattle.std.proofs.Common.{◌≡◌, ◌∙◌, sym, ap, subst, refl, ℕ, Bool, true, false, ◌&&◌, not, List, [], ◌∷◌, Some, None, map, length, append-nil, arith}
+use Rattle.std.specs.Prelude.{filter, ◌==◌}
 use Rattle.std.proofs.lemmas.Bool.Decides.{nat_tests}
-use Rattle.logical_time.specs.Stamps.{StampValue, TxnValue, WriterValue, txn_cmp}
-use Rattle.column_family.proofs.Options.{by_cases, both_true, neither}
-use Rattle.store.specs.declared.part.Applied.{Applied}
-use Rattle.txn_state.specs.Votes.{is_among, counted, are_all_there}
-use Rattle.txn_state.specs.Answers.{is_unanswered, is_dependency, answered}
-use Rattle.txn_state.specs.RemoteBallot.{RemoteValue, missing_in}
-use Rattle.txn_state.specs.Ready.{ready_at, ready_for}
+use Rattle.logical_time.specs.Stamps.{TxnValue}
+use Rattle.column_family.proofs.Options.{by_cases}
+use Rattle.txn_state.specs.Votes.{is_among, counted}
+use Rattle.txn_state.specs.Answers.{is_unanswered, is_dependency}
+use Rattle.txn_state.specs.RemoteBallot.{missing_in}
+use Rattle.txn_state.specs.Ready.{ready_for}
 use Rattle.messages.specs.Topology.{TopologyValue, shard_of, shard_node, dc_of}
 use Rattle.messages.specs.Words.{is_same_txn, envelope}
-use Rattle.messages.specs.declared.body.Body.TheVariants.{Notify, PrepareRemote}
+use Rattle.messages.specs.declared.body.Body.TheVariants.{PrepareRemote}
 use Rattle.messages.specs.declared.envelope.Envelope.{Envelope}
-use Rattle.messages.specs.Shard.{ShardState, ShardStep, PreparedPart, Own, BegunBallot, KeptPart, KeptBallot, Vote, Met, quiet}
-use Rattle.messages.specs.Known.{is_known, prepared_part, kept_part, kept_ballot, decision_of, has_vote, is_awaited, all_voted, is_met, all_met}
-use Rattle.messages.specs.Commits.{decide, hold, applied_part}
-use Rattle.messages.specs.Replication.{ballot_of, remote_prepare, is_ready, ready_if, ready, with_ballot, dep_checks, sent_before, repl_begin_if, on_repl_begin, with_notice, notice_if, early_notice_if, notify_for, on_notify, is_unmet, with_met, met_if, dep_ok_for, on_dep_ok}
+use Rattle.messages.specs.Shard.{ShardState, KeptBallot, quiet}
+use Rattle.messages.specs.Commits.{decide, hold}
+use Rattle.messages.specs.Replication.{ballot_of, remote_prepare, ready_if, ready, with_ballot, dep_checks, sent_before, repl_begin_if, on_repl_begin, with_notice, notice_if, notify_for, on_notify}
 use Rattle.write_txn.specs.declared.open.Open.TheVariants as in_open
 use Rattle.write_txn.specs.declared.open.Led.{Led}
 use Rattle.write_txn.specs.declared.open.Remote.{Remote}
-use Rattle.write_txn.specs.Ledger.{State, Holds, IsApplied, IsDecided, state_ready, remote_after}
-use Rattle.write_txn.specs.View.{View, view_of, near_nodes, left_of, nodes_for, met_for, is_ready_by}
-use Rattle.write_txn.specs.Stands.{Stands, IsUnled, IsUnknown, IsWaiting, StandsLed, StandsRemote, StandsDecided, begun_of, own_part, kept_ballot_of}
-use Rattle.write_txn.specs.Moves.{IsExtended, IsAbout, Moves, AreOnce}
-use Rattle.write_txn.proofs.Finds.{own_txn, same_txn, same_back, find_last, nodes_one, met_one, adds, stays}
-use Rattle.write_txn.proofs.Counting.{voted_left, awaited_left, met_among, met_all, left_counted, stranger_left, none_left, has_among}
+use Rattle.write_txn.specs.Ledger.{State, Holds, IsDecided, state_ready, remote_after}
+use Rattle.write_txn.specs.View.{view_of, near_nodes, left_of, nodes_for, is_ready_by}
+use Rattle.write_txn.specs.Stands.{Stands, IsUnknown, IsWaiting, StandsRemote, begun_of, kept_ballot_of}
+use Rattle.write_txn.specs.Moves.{IsAbout, Moves, AreOnce}
+use Rattle.write_txn.proofs.Finds.{own_txn, find_last, nodes_one, adds}
+use Rattle.write_txn.proofs.Counting.{awaited_left, left_counted, stranger_left, none_left}
 use Rattle.write_txn.proofs.CohortSteps.{known_if}
-use Rattle.write_txn.proofs.Leading.{same_about, MayDecide, MayHold, decides, holds}
+use Rattle.write_txn.proofs.Leading.{same_about, MayDecide, MayHold, holds}
 use Rattle.write_txn.proofs.Replicas.{ready_if_none, ready_in_view}
 
 -- a state that keeps this ballot, after another one, and about its transaction alone
@@ -244,48 +241,53 @@ notice_counts top me n a t r node is h waits = by_cases (is_among r.ballot.notic
 
     passed_over : is_among r.ballot.notices.missing node ≡ false
         → (c : ShardState) × (on_notify top me n a node t ≡ ready top me n c (kept_ballot_of r)) × KeepsBallot top me t (with_noticed r node) a c × (c.waiting ≡ a.waiting)
-    passed_over absent = (a,
-        at_it ∙ (ap (λ (b : Bool). notice_if b top me n a (kept_ballot_of r) node) absent ∙ sym (readies_later top me n t r a a same_kept waits)),
-        subst (λ (x : Remote). KeepsBallot top me t x a a)
-        (ap (λ (ns : List ℕ). record r { ballot = record r.ballot { notices = record r.ballot.notices { missing = ns } } }) (sym (stranger_left r.ballot.notices.missing node absent)))
-        same_kept, refl)
+    passed_over absent = (
+      a,
+      at_it ∙ (ap (λ (b : Bool). notice_if b top me n a (kept_ballot_of r) node) absent ∙ sym (readies_later top me n t r a a same_kept waits)),
+      subst (λ (x : Remote). KeepsBallot top me t x a a)
+          (ap (λ (ns : List ℕ). record r { ballot = record r.ballot { notices = record r.ballot.notices { missing = ns } } }) (sym (stranger_left r.ballot.notices.missing node absent)))
+          same_kept,
+      refl,
+    )
 
     awaited : is_among r.ballot.notices.missing node ≡ true
         → (c : ShardState) × (on_notify top me n a node t ≡ ready top me n c (kept_ballot_of r)) × KeepsBallot top me t (with_noticed r node) a c × (c.waiting ≡ a.waiting)
     awaited there =
-        let s = same_about t a in
-        (with_notice a t node,
-        at_it ∙ (ap (λ (b : Bool). notice_if b top me n a (kept_ballot_of r) node) there ∙ ap (λ (u : TxnValue). ready top me n (with_notice a u node) (kept_ballot_of r)) is),
-        record {
-          about = record {
-            prepared = s.prepared;
-            ballots = s.ballots;
-            kept_parts = s.kept_parts;
-            kept_ballots = s.kept_ballots;
-            decided = s.decided;
-            applied = s.applied;
-            early = s.early;
-            votes = s.votes;
-            notices = adds (λ v. is_same_txn v.txn t) a.notices (record { txn = t; node = node }) (own_txn t);
-            met = s.met;
-          };
-          applied = refl;
-          low = refl;
-          askers = refl;
-          same_parts = refl;
-          stands = record {
-            kept_ballot = h.kept_ballot;
-            own = h.own;
-            cohorts = h.cohorts;
-            missing = ap (filter (λ n. not (n == node))) h.missing
-                ∙ (sym (left_counted (near_nodes top me r.cohorts) (nodes_for a.notices t) node) ∙ ap (left_of (near_nodes top me r.cohorts)) (sym (nodes_one t a.notices node)));
-            answers = h.answers;
-            ballot = h.ballot;
-            decision = h.decision;
-            prepared = h.prepared;
-            kept_part = h.kept_part;
-            applied = h.applied;
-            votes = h.votes;
-          };
-          is = is;
-        }, refl)
+        let s = same_about t a in (
+          with_notice a t node,
+          at_it ∙ (ap (λ (b : Bool). notice_if b top me n a (kept_ballot_of r) node) there ∙ ap (λ (u : TxnValue). ready top me n (with_notice a u node) (kept_ballot_of r)) is),
+          record {
+            about = record {
+              prepared = s.prepared;
+              ballots = s.ballots;
+              kept_parts = s.kept_parts;
+              kept_ballots = s.kept_ballots;
+              decided = s.decided;
+              applied = s.applied;
+              early = s.early;
+              votes = s.votes;
+              notices = adds (λ v. is_same_txn v.txn t) a.notices (record { txn = t; node = node }) (own_txn t);
+              met = s.met;
+            };
+            applied = refl;
+            low = refl;
+            askers = refl;
+            same_parts = refl;
+            stands = record {
+              kept_ballot = h.kept_ballot;
+              own = h.own;
+              cohorts = h.cohorts;
+              missing = ap (filter (λ n. not (n == node))) h.missing
+                  ∙ (sym (left_counted (near_nodes top me r.cohorts) (nodes_for a.notices t) node) ∙ ap (left_of (near_nodes top me r.cohorts)) (sym (nodes_one t a.notices node)));
+              answers = h.answers;
+              ballot = h.ballot;
+              decision = h.decision;
+              prepared = h.prepared;
+              kept_part = h.kept_part;
+              applied = h.applied;
+              votes = h.votes;
+            };
+            is = is;
+          },
+          refl,
+        )

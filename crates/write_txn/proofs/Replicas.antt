@@ -1,35 +1,32 @@
 -- Steps for writes of other data centres, by what is known of their transactions.
-use Rattle.std.proofs.Common.{◌≡◌, ◌∙◌, sym, ap, subst, refl, ℕ, Bool, true, false, ◌&&◌, ◌||◌, not, if◌then◌else◌, List, [], ◌∷◌, ◌++◌, Option, Some, None, map, length, append-nil, arith}
-use Rattle.std.specs.Prelude.{filter, find, is_some, ◌==◌, ◌+◌}
-use Rattle.std.specs.List.{list_any, list_all}
-use Rattle.std.specs.Ordering.{is_eq}
+use Rattle.std.proofs.Common.{◌≡◌, ◌∙◌, sym, ap, subst, refl, ℕ, Bool, true, false, ◌&&◌, ◌||◌, not, List, [], ◌∷◌, ◌++◌, Option, Some, None, length, append-nil, arith}
+use Rattle.std.specs.Prelude.{is_some, ◌==◌, ◌+◌}
+use Rattle.std.specs.List.{list_all}
 use Rattle.std.proofs.lemmas.Bool.Decides.{nat_tests}
-use Rattle.logical_time.specs.Stamps.{StampValue, TxnValue, WriterValue, txn_cmp}
-use Rattle.column_family.proofs.Options.{by_cases, both_true, neither}
-use Rattle.txn_state.specs.Votes.{is_among, counted, are_all_there}
-use Rattle.txn_state.specs.Answers.{is_unanswered, is_dependency, answered}
-use Rattle.txn_state.specs.RemoteBallot.{RemoteValue, missing_in}
-use Rattle.txn_state.specs.Ready.{ready_at, ready_for}
-use Rattle.messages.specs.Topology.{TopologyValue, shard_of, shard_node, dc_of}
+use Rattle.logical_time.specs.Stamps.{TxnValue, WriterValue}
+use Rattle.column_family.proofs.Options.{by_cases, both_true}
+use Rattle.txn_state.specs.Votes.{is_among}
+use Rattle.txn_state.specs.Answers.{is_unanswered, is_dependency}
+use Rattle.txn_state.specs.RemoteBallot.{missing_in}
+use Rattle.messages.specs.Topology.{TopologyValue, shard_node, dc_of}
 use Rattle.messages.specs.Words.{is_same_txn, envelope}
-use Rattle.messages.specs.declared.body.Body.TheVariants.{Notify, PrepareRemote}
-use Rattle.messages.specs.Shard.{ShardState, ShardStep, PreparedPart, Role, Own, Cohort, Replica, BegunBallot, KeptPart, KeptBallot, Vote, Met, quiet}
-use Rattle.messages.specs.Known.{is_known, prepared_part, kept_part, kept_ballot, decision_of, has_vote, is_awaited, all_voted, is_met, all_met}
-use Rattle.messages.specs.Commits.{decide, hold, prepare_part}
+use Rattle.messages.specs.declared.body.Body.TheVariants.{Notify}
+use Rattle.messages.specs.Shard.{ShardState, PreparedPart, Replica, KeptPart, KeptBallot, quiet}
+use Rattle.messages.specs.Known.{prepared_part, kept_part, all_voted, all_met}
+use Rattle.messages.specs.Commits.{prepare_part}
 use Rattle.messages.specs.Reads.{answer}
-use Rattle.messages.specs.Replication.{ballot_of, remote_prepare, is_ready, ready_if, ready, with_ballot, dep_checks, sent_before, repl_begin_if, on_repl_begin, with_notice, notice_if, early_notice_if, notify_for, on_notify, repl_part_if, on_repl_part, prepare_remote_for, on_prepare_remote, is_unmet, with_met, met_if, dep_ok_for, on_dep_ok}
+use Rattle.messages.specs.Replication.{is_ready, repl_part_if, on_repl_part, prepare_remote_for, on_prepare_remote}
 use Rattle.write_txn.specs.declared.open.Open.TheVariants as in_open
 use Rattle.write_txn.specs.declared.open.Kept.{Kept}
-use Rattle.write_txn.specs.declared.open.Led.{Led}
 use Rattle.write_txn.specs.declared.open.Remote.{Remote}
-use Rattle.write_txn.specs.Ledger.{State, Holds, IsApplied, IsDecided, replica_of, remote_after, state_ready}
-use Rattle.write_txn.specs.View.{View, view_of, near_nodes, left_of, nodes_for, met_for, is_ready_by}
-use Rattle.write_txn.specs.Stands.{Stands, IsUnled, IsUnknown, IsWaiting, StandsKept, StandsPart, StandsLed, StandsRemote, StandsDecided, StandsApplied, begun_of, own_part, kept_part_of, kept_ballot_of, is_cohorts}
-use Rattle.write_txn.specs.Moves.{IsExtended, IsAbout, Moves, AreOnce}
-use Rattle.write_txn.proofs.Finds.{own_txn, same_txn, same_back, find_last, nodes_one, met_one, adds, stays}
-use Rattle.write_txn.proofs.Counting.{voted_left, voted_near, awaited_left, met_among, met_all, left_counted, stranger_left, none_left, has_among, all_among_left}
+use Rattle.write_txn.specs.Ledger.{State, Holds, IsApplied, IsDecided, replica_of}
+use Rattle.write_txn.specs.View.{view_of, near_nodes, nodes_for, met_for, is_ready_by}
+use Rattle.write_txn.specs.Stands.{Stands, IsUnknown, StandsKept, StandsRemote, kept_part_of, kept_ballot_of}
+use Rattle.write_txn.specs.Moves.{Moves}
+use Rattle.write_txn.proofs.Finds.{own_txn, same_txn, find_last, adds}
+use Rattle.write_txn.proofs.Counting.{voted_left, voted_near, met_all}
 use Rattle.write_txn.proofs.CohortSteps.{known_if, cohort_prepares}
-use Rattle.write_txn.proofs.Leading.{same_about, MayDecide, MayHold, decides, holds}
+use Rattle.write_txn.proofs.Leading.{same_about}
 
 -- ## A part is kept
 

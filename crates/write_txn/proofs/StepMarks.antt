@@ -6,12 +6,11 @@ use Rattle.std.specs.Ordering.{is_eq}
 use Rattle.logical_time.specs.Stamps.{StampValue, TxnValue, txn_cmp}
 use Rattle.column_family.specs.declared.batch.Row.{Row}
 use Rattle.pending.specs.Marks.{MarkList, time_at}
-use Rattle.pending.specs.Marked.{AreMarked, AreCleared, touches}
+use Rattle.pending.specs.Marked.{AreMarked, touches}
 use Rattle.txn_state.specs.Votes.{counted, are_all_there}
 use Rattle.txn_state.specs.Voted.{voted_if}
 use Rattle.txn_state.specs.RemoteBallot.{missing_in}
 use Rattle.txn_state.specs.Ready.{ready_for}
-use Rattle.write_txn.specs.declared.open.Open.{Open}
 use Rattle.write_txn.specs.declared.open.Open.TheVariants as in_open
 use Rattle.write_txn.specs.declared.open.Remote.{Remote}
 use Rattle.write_txn.specs.Ledger.{LedgerValue, State, Holds, IsApplied, IsDecided, state_of, Becomes, HaveSameStates, led_after, complete_in, completed_by, state_voted, part_in, state_applied, remote_after, state_ready}

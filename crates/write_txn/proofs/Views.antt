@@ -1,9 +1,9 @@
 -- A step that is about one transaction leaves what the state says of the others.
-use Rattle.std.proofs.Common.{◌≡◌, ◌∙◌, sym, ap, subst, refl, ℕ, Bool, true, false, List, map, Option}
+use Rattle.std.proofs.Common.{◌≡◌, ap, false, List, map}
 use Rattle.logical_time.specs.Stamps.{TxnValue}
 use Rattle.messages.specs.Words.{is_same_txn}
-use Rattle.messages.specs.Shard.{ShardState, PreparedPart, BegunBallot, KeptPart, KeptBallot, Decision, Vote, Met}
-use Rattle.write_txn.specs.View.{View, view_of, nodes_for, met_for}
+use Rattle.messages.specs.Shard.{ShardState, Vote, Met}
+use Rattle.write_txn.specs.View.{view_of, nodes_for, met_for}
 use Rattle.write_txn.specs.Moves.{IsExtended, IsAbout}
 use Rattle.write_txn.proofs.Finds.{of_another, find_extended, filter_extended, any_extended}
 

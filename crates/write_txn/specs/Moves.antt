@@ -7,7 +7,7 @@ use Rattle.messages.specs.Topology.{TopologyValue}
 use Rattle.messages.specs.Words.{is_same_txn}
 use Rattle.messages.specs.Shard.{ShardState, PreparedPart}
 use Rattle.write_txn.specs.Ledger.{State}
-use Rattle.write_txn.specs.View.{View, view_of}
+use Rattle.write_txn.specs.View.{view_of}
 use Rattle.write_txn.specs.Stands.{Stands}
 use Rattle.std.specs.Prelude.{◌∷◌}
 

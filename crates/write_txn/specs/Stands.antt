@@ -1,6 +1,6 @@
 -- When what is known of a transaction stands for what a shard's state says of it. The state keeps more: parts that were applied,
 -- votes that were counted.
-use Rattle.std.specs.Prelude.{◌≡◌, ℕ, ◌==◌, Bool, true, false, ◌&&◌, not, if◌then◌else◌, List, [], Option, Some, None, is_some}
+use Rattle.std.specs.Prelude.{◌≡◌, ℕ, ◌==◌, Bool, true, false, ◌&&◌, not, if◌then◌else◌, [], Option, Some, None, is_some}
 use Rattle.logical_time.specs.Stamps.{StampValue, TxnValue}
 use Rattle.column_family.specs.declared.batch.Row.{Row}
 use Rattle.txn_state.specs.Answers.{is_unanswered, is_dependency}
@@ -8,7 +8,7 @@ use Rattle.txn_state.specs.RemoteBallot.{missing_in}
 use Rattle.txn_state.specs.Votes.{counted, are_all_there}
 use Rattle.messages.specs.Topology.{TopologyValue, shard_of}
 use Rattle.messages.specs.Rows.{touches_row}
-use Rattle.messages.specs.Shard.{PreparedPart, Role, Own, Cohort, Replica, BegunBallot, Decision, KeptPart, KeptBallot}
+use Rattle.messages.specs.Shard.{PreparedPart, Role, Own, Cohort, Replica, BegunBallot, KeptPart, KeptBallot}
 use Rattle.write_txn.specs.declared.open.Open.TheVariants as in_open
 use Rattle.write_txn.specs.declared.open.Kept.{Kept}
 use Rattle.write_txn.specs.declared.open.Led.{Led}

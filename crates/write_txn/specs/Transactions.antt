@@ -10,7 +10,7 @@ use Rattle.pending.specs.Marks.{MarkList, time_at}
 use Rattle.txn_state.specs.declared.part.WritePart.{WritePart}
 use Rattle.txn_state.specs.Prepared.{PreparedValue}
 use Rattle.messages.specs.Shard.{PreparedPart, Cohort}
-use Rattle.write_txn.specs.Ledger.{LedgerValue, State, state_of}
+use Rattle.write_txn.specs.Ledger.{LedgerValue, state_of}
 use Rattle.write_txn.specs.Stands.{mark_of}
 use Rattle.write_txn.specs.Voters.{VoterList, voters_of}
 
