@@ -103,8 +103,8 @@ impl Transactions {
         requires { state_of self.old.ledger part.writer.txn ≡ None }
         ensures ok { OnOk result (Becomes part.writer.txn (Some (Holds (in_open.Part (cohorts_part part time)))) self.old.ledger self.new.ledger) }
         ensures err { OnErr result (HaveSameStates self.old.ledger self.new.ledger) }
-        ensures store { GoesOnKeeping self.old.store self.new.store }
-        ensures early { HaveSameVoters self.old.early self.new.early }
+        ensures store { self.new.store ≡ self.old.store }
+        ensures early { self.new.early ≡ self.old.early }
         ensures memory { IfErr result (λ e. (e.0 ≡ fault.Memory) × (e.1 ≡ part)) }
     {
         add_part(&mut self.ledger, &mut self.marks, part, time)
@@ -115,8 +115,8 @@ impl Transactions {
     pub fn prepare_kept(&mut self, txn: TxnId, time: Time) -> Result<(), Fault>
         ensures ok { OnOk result (Becomes txn (state_prepared time (state_of self.old.ledger txn)) self.old.ledger self.new.ledger) }
         ensures err { OnErr result (HaveSameStates self.old.ledger self.new.ledger) }
-        ensures store { GoesOnKeeping self.old.store self.new.store }
-        ensures early { HaveSameVoters self.old.early self.new.early }
+        ensures store { self.new.store ≡ self.old.store }
+        ensures early { self.new.early ≡ self.old.early }
         ensures memory { IfErr result (λ e. e ≡ fault.Memory) }
     {
         prepare_kept(&mut self.ledger, &mut self.marks, txn, time)
@@ -128,8 +128,8 @@ impl Transactions {
         requires { state_of self.old.ledger led.ballot.own.part.writer.txn ≡ None }
         ensures ok { OnOk result (Becomes led.ballot.own.part.writer.txn (Some (Holds (in_open.Led led))) self.old.ledger self.new.ledger) }
         ensures err { OnErr result (HaveSameStates self.old.ledger self.new.ledger) }
-        ensures store { GoesOnKeeping self.old.store self.new.store }
-        ensures early { HaveSameVoters self.old.early self.new.early }
+        ensures store { self.new.store ≡ self.old.store }
+        ensures early { self.new.early ≡ self.old.early }
         ensures memory { IfErr result (λ e. (e.0 ≡ fault.Memory) × (e.1 ≡ led)) }
     {
         add_led(&mut self.ledger, &mut self.marks, led)
@@ -141,8 +141,8 @@ impl Transactions {
         requires { state_of self.old.ledger kept.part.writer.txn ≡ None }
         ensures ok { OnOk result (Becomes kept.part.writer.txn (Some (Holds (in_open.Kept kept))) self.old.ledger self.new.ledger) }
         ensures err { OnErr result (HaveSameStates self.old.ledger self.new.ledger) }
-        ensures store { GoesOnKeeping self.old.store self.new.store }
-        ensures early { HaveSameVoters self.old.early self.new.early }
+        ensures store { self.new.store ≡ self.old.store }
+        ensures early { self.new.early ≡ self.old.early }
         ensures memory { IfErr result (λ e. (e.0 ≡ fault.Memory) × (e.1 ≡ kept)) }
     {
         add_kept(&mut self.ledger, &mut self.marks, kept)
@@ -157,8 +157,8 @@ impl Transactions {
         ensures own { IfOk result (λ c. IfSome c (λ complete. complete.own.part.writer.txn ≡ remote.ballot.part.writer.txn)) }
         ensures ok { OnOk result (Becomes remote.ballot.part.writer.txn (state_ready time (Some (Holds (in_open.Remote remote)))) self.old.ledger self.new.ledger) }
         ensures err { OnErr result (HaveSameStates self.old.ledger self.new.ledger) }
-        ensures store { GoesOnKeeping self.old.store self.new.store }
-        ensures early { HaveSameVoters self.old.early self.new.early }
+        ensures store { self.new.store ≡ self.old.store }
+        ensures early { self.new.early ≡ self.old.early }
         ensures memory { IfErr result (λ e. (e.0 ≡ fault.Memory) × (e.1 ≡ remote)) }
     {
         add_remote(&mut self.ledger, &mut self.marks, remote, time)
@@ -171,8 +171,8 @@ impl Transactions {
         ensures own { IfOk result (λ c. IfSome c (λ complete. complete.own.part.writer.txn ≡ txn)) }
         ensures ok { OnOk result (Becomes txn (state_ready time (state_noticed node (state_of self.old.ledger txn))) self.old.ledger self.new.ledger) }
         ensures err { OnErr result (HaveSameStates self.old.ledger self.new.ledger) }
-        ensures store { GoesOnKeeping self.old.store self.new.store }
-        ensures early { HaveSameVoters self.old.early self.new.early }
+        ensures store { self.new.store ≡ self.old.store }
+        ensures early { self.new.early ≡ self.old.early }
         ensures memory { IfErr result (λ e. e ≡ fault.Memory) }
     {
         notice(&mut self.ledger, &mut self.marks, txn, node, time)
@@ -190,8 +190,8 @@ impl Transactions {
         ensures own { IfOk result (λ c. IfSome c (λ complete. complete.own.part.writer.txn ≡ txn)) }
         ensures ok { OnOk result (Becomes txn (state_ready time (state_answered dependency (state_of self.old.ledger txn))) self.old.ledger self.new.ledger) }
         ensures err { OnErr result (HaveSameStates self.old.ledger self.new.ledger) }
-        ensures store { GoesOnKeeping self.old.store self.new.store }
-        ensures early { HaveSameVoters self.old.early self.new.early }
+        ensures store { self.new.store ≡ self.old.store }
+        ensures early { self.new.early ≡ self.old.early }
         ensures memory { IfErr result (λ e. e ≡ fault.Memory) }
     {
         answer(&mut self.ledger, &mut self.marks, txn, dependency, time)
@@ -203,8 +203,8 @@ impl Transactions {
         ensures complete { result ≡ completed_by node (state_of self.old.ledger txn) }
         ensures own { IfSome result (λ complete. complete.own.part.writer.txn ≡ txn) }
         ensures voted { Becomes txn (state_voted me commit node (state_of self.old.ledger txn)) self.old.ledger self.new.ledger }
-        ensures store { GoesOnKeeping self.old.store self.new.store }
-        ensures early { HaveSameVoters self.old.early self.new.early }
+        ensures store { self.new.store ≡ self.old.store }
+        ensures early { self.new.early ≡ self.old.early }
     {
         vote(&mut self.ledger, &mut self.marks, txn, node, me, commit)
     }
@@ -214,7 +214,7 @@ impl Transactions {
         ensures ok { OnOk result (HasRoom self.new.store.rows batch.now) }
         ensures store { GoesOnKeeping self.old.store self.new.store }
         ensures ledger { self.new.ledger ≡ self.old.ledger }
-        ensures early { HaveSameVoters self.old.early self.new.early }
+        ensures early { self.new.early ≡ self.old.early }
         ensures memory { IfErr result (λ e. e ≡ fault.Memory) }
     {
         self.store.make_room(batch)
@@ -226,7 +226,7 @@ impl Transactions {
         ensures ok { OnOk result ((o : Open) → open_in (state_of self.old.ledger txn) ≡ Some o → HasRoom self.new.store.rows (rows_of o).batch) }
         ensures store { GoesOnKeeping self.old.store self.new.store }
         ensures ledger { self.new.ledger ≡ self.old.ledger }
-        ensures early { HaveSameVoters self.old.early self.new.early }
+        ensures early { self.new.early ≡ self.old.early }
         ensures memory { IfErr result (λ e. e ≡ fault.Memory) }
     {
         match self.ledger.open(txn) {
@@ -241,7 +241,7 @@ impl Transactions {
         requires { (p : PreparedValue) → part_in (state_of self.old.ledger txn) ≡ Some p → HasRoom self.old.store.rows p.part.batch }
         ensures applied { Becomes txn (state_applied (state_of self.old.ledger txn)) self.old.ledger self.new.ledger }
         ensures keeps { KeepsIf (part_in (state_of self.old.ledger txn)) commit stamp self.old.store self.new.store }
-        ensures early { HaveSameVoters self.old.early self.new.early }
+        ensures early { self.new.early ≡ self.old.early }
     {
         commit_part(
             &mut self.ledger,
@@ -265,9 +265,9 @@ impl Transactions {
     )
         requires posts { length complete.cohorts ≤ outbox.old.room }
         requires room { HasRoom self.old.store.rows complete.own.part.batch }
-        ensures same { HaveSameStates self.old.ledger self.new.ledger }
+        ensures same { self.new.ledger ≡ self.old.ledger }
         ensures keeps { KeepsAlso complete.own commit stamp self.old.store self.new.store }
-        ensures early { HaveSameVoters self.old.early self.new.early }
+        ensures early { self.new.early ≡ self.old.early }
         ensures sent { outbox.new.sent ≡ outbox.old.sent ++ map (commit_to me commit complete.own.part.writer.txn commit stamp) complete.cohorts }
         ensures room { outbox.old.room ≤ outbox.new.room + length complete.cohorts }
     {
@@ -279,8 +279,8 @@ impl Transactions {
         requires { state_of self.old.ledger txn ≡ None }
         ensures ok { OnOk result (Becomes txn (Some (IsDecided commit stamp)) self.old.ledger self.new.ledger) }
         ensures err { OnErr result (HaveSameStates self.old.ledger self.new.ledger) }
-        ensures store { GoesOnKeeping self.old.store self.new.store }
-        ensures early { HaveSameVoters self.old.early self.new.early }
+        ensures store { self.new.store ≡ self.old.store }
+        ensures early { self.new.early ≡ self.old.early }
         ensures memory { IfErr result (λ e. e ≡ fault.Memory) }
     {
         self.ledger.add_decided(txn, commit, stamp)
