@@ -1,5 +1,5 @@
 //! The envelopes of submissions.
-ghost use Rattle.std.specs.Prelude.{◌≡◌, ◌≤◌, ◌++◌, length, map, IfOk, OnOk, OnErr, IfErr};
+ghost use Rattle.std.specs.Prelude.{◌≡◌, ◌++◌, map, IfOk, OnOk, OnErr, IfErr};
 ghost use Rattle.client.specs.Envelopes.{node_in, prepare_part, batch_envelopes, read_keys};
 
 use dependencies::DepSet;
@@ -91,16 +91,6 @@ pub(crate) fn nodes(alloc: Global, home: Home, shares: &[ShardKeys]) -> Result<V
     Ok(nodes)
 }
 
-/// Posts envelopes for which there is room.
-fn post_all(outbox: &mut Outbox, envelopes: Vec<Envelope>)
-    requires { length envelopes.items ≤ outbox.old.room }
-    ensures { outbox.new.sent ≡ outbox.old.sent ++ envelopes.items }
-{
-    for envelope in envelopes {
-        outbox.post(envelope).unwrap();
-    }
-}
-
 /// Sends all of these envelopes, or none.
 pub(crate) fn send(outbox: &mut Outbox, envelopes: Vec<Envelope>) -> Result<(), Fault>
     ensures sends { OnOk result (outbox.new.sent ≡ outbox.old.sent ++ envelopes.items) }
@@ -108,7 +98,7 @@ pub(crate) fn send(outbox: &mut Outbox, envelopes: Vec<Envelope>) -> Result<(), 
     ensures memory { IfErr result (λ e. e ≡ Fault.Memory) }
 {
     outbox.reserve(envelopes.len())?;
-    post_all(outbox, envelopes);
+    outbox.post_all(envelopes);
     Ok(())
 }
 

@@ -1,5 +1,5 @@
 -- One read more, that is let go or goes on waiting.
-use Rattle.std.proofs.Common.{◌≡◌, ◌∙◌, sym, ap, refl, ℕ, Bool, true, false, if◌then◌else◌, List, [], ◌∷◌, ◌++◌, Option, map, append-nil}
+use Rattle.std.proofs.Common.{◌≡◌, ◌∙◌, sym, ap, refl, ℕ, Bool, true, false, if◌then◌else◌, List, [], ◌∷◌, ◌++◌, map, append-nil}
 use Rattle.std.specs.Prelude.{filter}
 use Rattle.std.specs.List.{list_all}
 use Rattle.logical_time.specs.Stamps.{TxnValue}
@@ -10,6 +10,7 @@ use Rattle.messages.specs.declared.envelope.Envelope.{Envelope}
 use Rattle.messages.specs.Words.{is_same_txn}
 use Rattle.messages.specs.Reads.{is_nothing, is_free, without}
 use Rattle.messages.specs.Shard.{WaitingRead}
+use Rattle.commit_check.specs.declared.cause.Cause.{Cause}
 use Rattle.commit_check.specs.Waiting.{concerns, is_freed, freed, reply}
 
 alone : (t : TxnValue) (us : List TxnValue) → list_all (λ u. is_same_txn u t) us ≡ is_nothing (without t us)
@@ -17,11 +18,11 @@ alone t [] = refl
 alone t (u ∷ us) = by_cases (is_same_txn u t) (λ yes. rw yes (alone t us)) (λ no. rw no refl)
 
 -- a read that is concerned waits for nothing more where all that it waits for is the transaction
-pub freed_alone : (t : TxnValue) (by : Option ℕ) (x : WaitingRead) → concerns by x ≡ true → list_all (λ u. is_same_txn u t) x.left ≡ is_freed t by x
+pub freed_alone : (t : TxnValue) (by : Cause) (x : WaitingRead) → concerns by x ≡ true → list_all (λ u. is_same_txn u t) x.left ≡ is_freed t by x
 freed_alone t by x is = alone t x.left ∙ ap (λ (b : Bool). is_free (if b then record x { left = without t x.left } else x)) (sym is)
 
 -- the answers with that of one read more
-freed_more : (t : TxnValue) (by : Option ℕ) (me n : ℕ) (f : ℕ → Read → AtTime) (xs : List WaitingRead) (x : WaitingRead)
+freed_more : (t : TxnValue) (by : Cause) (me n : ℕ) (f : ℕ → Read → AtTime) (xs : List WaitingRead) (x : WaitingRead)
     → map (reply me n f) (freed t by (xs ++ x ∷ [])) ≡ map (reply me n f) (freed t by xs) ++ (if is_freed t by x then reply me n f x ∷ [] else [])
 freed_more t by me n f [] x = go (concerns by x)
   where
@@ -41,7 +42,7 @@ freed_more t by me n f (y ∷ ys) x = go (is_freed t by y) (freed_more t by me n
     go false e = e
 
 -- a read more is let go, and answered
-pub answered_one : (t : TxnValue) (by : Option ℕ) (me n : ℕ) (f : ℕ → Read → AtTime) (xs zs : List WaitingRead) (x : WaitingRead) (e : Envelope) (before after : List Envelope)
+pub answered_one : (t : TxnValue) (by : Cause) (me n : ℕ) (f : ℕ → Read → AtTime) (xs zs : List WaitingRead) (x : WaitingRead) (e : Envelope) (before after : List Envelope)
     → before ≡ map (reply me n f) (freed t by xs) → zs ≡ xs ++ x ∷ [] → is_freed t by x ≡ true → e ≡ reply me n f x → after ≡ before ++ e ∷ []
     → after ≡ map (reply me n f) (freed t by zs)
 answered_one t by me n f xs zs x e before after so more is same added =
@@ -50,7 +51,7 @@ answered_one t by me n f xs zs x e before after so more is same added =
     ∙ (sym (freed_more t by me n f xs x) ∙ ap (λ ws. map (reply me n f) (freed t by ws)) (sym more)))))
 
 -- a read more goes on waiting
-pub answered_none : (t : TxnValue) (by : Option ℕ) (me n : ℕ) (f : ℕ → Read → AtTime) (xs zs : List WaitingRead) (x : WaitingRead) (before after : List Envelope)
+pub answered_none : (t : TxnValue) (by : Cause) (me n : ℕ) (f : ℕ → Read → AtTime) (xs zs : List WaitingRead) (x : WaitingRead) (before after : List Envelope)
     → before ≡ map (reply me n f) (freed t by xs) → zs ≡ xs ++ x ∷ [] → is_freed t by x ≡ false → after ≡ before
     → after ≡ map (reply me n f) (freed t by zs)
 answered_none t by me n f xs zs x before after so more is same =

@@ -10,22 +10,23 @@ use Rattle.pending.proofs.Times.{same_txn}
 use Rattle.messages.specs.Words.{is_same_txn}
 use Rattle.messages.specs.Shard.{ShardState, PreparedPart}
 use Rattle.messages.specs.Rows.{least_mark, marks_on}
-use Rattle.commit_check.specs.Marked.{mark_in, AreMarksOf, AreOfOthers, AreOnce, IsLatest}
+use Rattle.commit_check.specs.Marked.{mark_in, AreMarksOf, IsLatest}
+use Rattle.messages.specs.Known.{AreOfOthers, AreOnce}
 
 own_txn : (t : TxnValue) → is_same_txn t t ≡ true
 own_txn t = grind (arith, nat_tests)
 
 -- ---- parts that are chosen stand once too
-others_kept : (q : PreparedPart → Bool) (t : TxnValue) (ps : List PreparedPart) → AreOfOthers t ps → AreOfOthers t (filter q ps)
+others_kept : (q : PreparedPart → Bool) (t : TxnValue) (ps : List PreparedPart) → AreOfOthers (λ (x : PreparedPart). x.txn) t ps → AreOfOthers (λ (x : PreparedPart). x.txn) t (filter q ps)
 others_kept q t [] h = tt
 others_kept q t (p ∷ ps) h = by_cases (q p) (λ yes. rw yes (h.0, others_kept q t ps h.1)) (λ no. rw no (others_kept q t ps h.1))
 
-once_kept : (q : PreparedPart → Bool) (ps : List PreparedPart) → AreOnce ps → AreOnce (filter q ps)
+once_kept : (q : PreparedPart → Bool) (ps : List PreparedPart) → AreOnce (λ (x : PreparedPart). x.txn) ps → AreOnce (λ (x : PreparedPart). x.txn) (filter q ps)
 once_kept q [] h = tt
 once_kept q (p ∷ ps) h = by_cases (q p) (λ yes. rw yes (others_kept q p.txn ps h.0, once_kept q ps h.1)) (λ no. rw no (once_kept q ps h.1))
 
 -- a transaction of none of the parts has no mark
-unmarked : (t : TxnValue) (ps : List PreparedPart) → AreOfOthers t ps → mark_in ps t ≡ None
+unmarked : (t : TxnValue) (ps : List PreparedPart) → AreOfOthers (λ (x : PreparedPart). x.txn) t ps → mark_in ps t ≡ None
 unmarked t [] h = refl
 unmarked t (p ∷ ps) h = rw h.0 (unmarked t ps h.1)
 
@@ -53,12 +54,12 @@ IsReached n ps t = (t ≡ n) ⊎ ((u : TxnValue) × (mark_in ps u ≡ Some t))
 marked_first : (p : PreparedPart) (ps : List PreparedPart) → mark_in (p ∷ ps) p.txn ≡ Some p.time
 marked_first p ps = rw (own_txn p.txn) refl
 
-marked_rest : (p : PreparedPart) (ps : List PreparedPart) (u : TxnValue) (m : ℕ) → AreOfOthers p.txn ps → mark_in ps u ≡ Some m → mark_in (p ∷ ps) u ≡ Some m
+marked_rest : (p : PreparedPart) (ps : List PreparedPart) (u : TxnValue) (m : ℕ) → AreOfOthers (λ (x : PreparedPart). x.txn) p.txn ps → mark_in ps u ≡ Some m → mark_in (p ∷ ps) u ≡ Some m
 marked_rest p ps u m others e = by_cases (is_same_txn p.txn u)
-    (λ same. absurd (let none = unmarked u ps (subst (λ (t : TxnValue). AreOfOthers t ps) (same_txn p.txn u same) others) in cc))
+    (λ same. absurd (let none = unmarked u ps (subst (λ (t : TxnValue). AreOfOthers (λ (x : PreparedPart). x.txn) t ps) (same_txn p.txn u same) others) in cc))
     (λ other. rw other e)
 
-least_reached : (n : ℕ) (ps : List PreparedPart) → AreOnce ps → IsReached n ps (least_mark n ps)
+least_reached : (n : ℕ) (ps : List PreparedPart) → AreOnce (λ (x : PreparedPart). x.txn) ps → IsReached n ps (least_mark n ps)
 least_reached n [] once = inl refl
 least_reached n (p ∷ ps) once = go (min_either p.time (least_mark n ps)) (least_reached n ps once.1)
   where
@@ -77,7 +78,7 @@ one_latest times n t s i j = go i.reached j.reached
     go (inr e) (inr g) = let b = j.least e.0 t e.1 in let c = i.least g.0 s g.1 in omega (arith, b, c)
 
 -- by the marks of a shard, the latest time is the machine's
-pub latest_is : (ms : MarkList) (a : ShardState) (r : Row) (n t : ℕ) → AreMarksOf ms a → AreOnce a.prepared → IsLatest (time_at ms r) n t → t ≡ least_mark n (marks_on r a)
+pub latest_is : (ms : MarkList) (a : ShardState) (r : Row) (n t : ℕ) → AreMarksOf ms a → AreOnce (λ (x : PreparedPart). x.txn) a.prepared → IsLatest (time_at ms r) n t → t ≡ least_mark n (marks_on r a)
 latest_is ms a r n t marked once i =
     one_latest (time_at ms r) n t (least_mark n ps) i
     (record {

@@ -12,16 +12,17 @@ use Rattle.store.proofs.SameParts.{same_part}
 use Rattle.pending.specs.Marks.{MarkList}
 use Rattle.messages.specs.declared.rows_at.RowAt.{RowAt}
 use Rattle.messages.specs.declared.rows_now.RowNow.{RowNow}
-use Rattle.messages.specs.Shard.{ShardState}
+use Rattle.messages.specs.Shard.{ShardState, PreparedPart}
 use Rattle.messages.specs.Rows.{row_of, row_now, row_at}
 use Rattle.messages.proofs.RowParts.{row_now_shown, row_at_shown}
 use Rattle.commit_check.specs.declared.reading_at.ComingPart.{ComingPart}
 use Rattle.commit_check.specs.Coming.{MayCome, after}
 use Rattle.commit_check.specs.Found.{part_of, IsFoundNow, IsFoundAt}
-use Rattle.commit_check.specs.Marked.{AreMarksOf, AreOnce}
+use Rattle.commit_check.specs.Marked.{AreMarksOf}
+use Rattle.messages.specs.Known.{AreOnce}
 use Rattle.commit_check.proofs.LeastMarks.{latest_is}
 
-pub found_now : (s : Kept) (ms : MarkList) (a : ShardState) (n : ℕ) (read : Read) (key : List ℕ) (r : RowNow) → Keeps s a.applied → AreMarksOf ms a → AreOnce a.prepared
+pub found_now : (s : Kept) (ms : MarkList) (a : ShardState) (n : ℕ) (read : Read) (key : List ℕ) (r : RowNow) → Keeps s a.applied → AreMarksOf ms a → AreOnce (λ (x : PreparedPart). x.txn) a.prepared
     → IsFoundNow s ms n read key r → r ≡ row_now n a read key
 found_now s ms a n read key r keeps marked once found =
     let w = row_now n a read key in

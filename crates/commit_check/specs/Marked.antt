@@ -1,5 +1,5 @@
 -- What the marks of a shard stand for, and until when a row is known to be valid.
-use Rattle.std.specs.Prelude.{◌≡◌, ◌≤◌, ◌⊎◌, ℕ, false, List, [], ◌∷◌, Option, Some, option_map, find, ⊤}
+use Rattle.std.specs.Prelude.{◌≡◌, ◌≤◌, ◌⊎◌, ℕ, List, Option, Some, option_map, find}
 use Rattle.logical_time.specs.Stamps.{TxnValue}
 use Rattle.column_family.specs.declared.batch.Row.{Row}
 use Rattle.pending.specs.Marks.{MarkList, time_at}
@@ -14,16 +14,6 @@ mark_in ps t = option_map (λ p. p.time) (find (λ p. is_same_txn p.txn t) ps)
 -- the marks of each row are those of the parts that mark it
 abbrev pub AreMarksOf : MarkList → ShardState → Type 0
 AreMarksOf ms a = (r : Row) (t : TxnValue) → time_at ms r t ≡ mark_in (marks_on r a) t
-
--- none of the parts is of the transaction
-abbrev pub AreOfOthers : TxnValue → List PreparedPart → Type 0
-AreOfOthers t [] = ⊤
-AreOfOthers t (p ∷ ps) = (is_same_txn p.txn t ≡ false) × AreOfOthers t ps
-
--- no two parts are of one transaction
-abbrev pub AreOnce : List PreparedPart → Type 0
-AreOnce [] = ⊤
-AreOnce (p ∷ ps) = AreOfOthers p.txn ps × AreOnce ps
 
 -- the least of a clock and the times of the marks
 pub record IsLatest (times : TxnValue → Option ℕ) (n : ℕ) (t : ℕ) : Type 0 where

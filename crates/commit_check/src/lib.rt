@@ -5,13 +5,16 @@
 //! Nothing here sends.
 #![tactic(auto)]
 
+mod cause;
 mod freeing;
 mod reading_at;
 mod reading_now;
 mod row;
 mod waits;
 
-pub use freeing::{Answers, freed_answers};
+pub use cause::Cause;
+pub use freeing::{AnswersAt, freed_answers};
 pub use reading_at::{answer_at, answer_with};
 pub use reading_now::rows_now;
+pub use row::rows_of;
 pub use waits::{Wait, Waits};

@@ -5,7 +5,8 @@ ghost use Rattle.store.specs.Keeps.{Keeps};
 ghost use Rattle.pending.specs.Marks.{time_at};
 ghost use Rattle.messages.specs.Shard.{ShardState};
 ghost use Rattle.messages.specs.Rows.{row_now};
-ghost use Rattle.commit_check.specs.Marked.{AreMarksOf, AreOnce, IsLatest};
+ghost use Rattle.messages.specs.Known.{AreOnce};
+ghost use Rattle.commit_check.specs.Marked.{AreMarksOf, IsLatest};
 ghost use Rattle.commit_check.specs.Found.{IsFoundNow};
 
 use crate::row::row_of;
@@ -57,7 +58,7 @@ fn one_now(
     read: &Read,
     key: &Key,
 ) -> Result<RowNow, Fault>
-    ensures ok { (a : ShardState) → Keeps store.now a.applied → AreMarksOf marks.now a → AreOnce a.prepared → IfOk result (λ row. row ≡ row_now clock a read.now key.now) }
+    ensures ok { (a : ShardState) → Keeps store.now a.applied → AreMarksOf marks.now a → AreOnce (λ p. p.txn) a.prepared → IfOk result (λ row. row ≡ row_now clock a read.now key.now) }
     ensures memory { IfErr result (λ e. e ≡ fault.Memory) }
 {
     found_now(store, marks, clock, read, key)
@@ -74,7 +75,7 @@ pub fn rows_now(
     clock: Time,
     read: &Read,
 ) -> Result<RowsNow, Fault>
-    ensures ok { (a : ShardState) → Keeps store.now a.applied → AreMarksOf marks.now a → AreOnce a.prepared → IfOk result (λ rows. rows ≡ map (row_now clock a read.now) read.now.keys) }
+    ensures ok { (a : ShardState) → Keeps store.now a.applied → AreMarksOf marks.now a → AreOnce (λ p. p.txn) a.prepared → IfOk result (λ rows. rows ≡ map (row_now clock a read.now) read.now.keys) }
     ensures memory { IfErr result (λ e. e ≡ fault.Memory) }
 {
     let mut rows = Vec::new(alloc);

@@ -5,6 +5,7 @@ ghost use Rattle.messages.specs.Words.{is_same_txn};
 ghost use Rattle.messages.specs.Reads.{is_free, lessened, without};
 ghost use Rattle.commit_check.specs.Waiting.{concerns, is_among, is_freed, still};
 
+use crate::cause::Cause;
 use logical_time::{Fault, Node, Time, TxnId};
 use slice::Read;
 use std::alloc::Global;
@@ -35,12 +36,12 @@ impl Model for Wait {
 
 /// Whether the read need not wait for a transaction: where it is applied, or isn't committed by a time, and the read's
 /// isn't above that.
-fn concerns(wait: &Wait, by: &Option<Time>) -> bool
-    ensures { result ≡ concerns by.now wait.now }
+fn concerns(wait: &Wait, cause: &Cause) -> bool
+    ensures { result ≡ concerns cause.now wait.now }
 {
-    match by {
-        None => true,
-        Some(time) => wait.time <= *time,
+    match cause {
+        Cause::Applied => true,
+        Cause::NotBy(time) => wait.time <= *time,
     }
 }
 
@@ -53,10 +54,10 @@ fn is_alone(left: &[TxnId], txn: TxnId) -> bool
 
 /// Whether the read waits for nothing more once it doesn't wait for the transaction, if this concerns it.
 #[tactic(auto, using(crate::proofs::Freed::freed_alone))]
-pub(crate) fn is_freed(wait: &Wait, txn: TxnId, by: &Option<Time>) -> bool
-    ensures { result ≡ is_freed txn by.now wait.now }
+pub(crate) fn is_freed(wait: &Wait, txn: TxnId, cause: &Cause) -> bool
+    ensures { result ≡ is_freed txn cause.now wait.now }
 {
-    if concerns(wait, by) {
+    if concerns(wait, cause) {
         is_alone(wait.left.as_slice(), txn)
     } else {
         wait.left.is_empty()
@@ -71,20 +72,20 @@ fn take_away(left: &mut Vec<TxnId>, txn: TxnId)
 }
 
 /// The read no longer waits for the transaction, if this concerns it.
-fn lessen(wait: &mut Wait, txn: TxnId, by: &Option<Time>)
-    ensures { wait.new ≡ (if concerns by.now wait.old then record wait.old { left = without txn wait.old.left } else wait.old) }
+fn lessen(wait: &mut Wait, txn: TxnId, cause: &Cause)
+    ensures { wait.new ≡ (if concerns cause.now wait.old then record wait.old { left = without txn wait.old.left } else wait.old) }
 {
-    if concerns(wait, by) {
+    if concerns(wait, cause) {
         take_away(&mut wait.left, txn);
     }
 }
 
 /// Those reads that this concerns no longer wait for the transaction.
-fn lessen_all(waits: &mut Vec<Wait>, txn: TxnId, by: &Option<Time>)
-    ensures { waits.new.items ≡ lessened txn (concerns by.now) waits.old.items }
+fn lessen_all(waits: &mut Vec<Wait>, txn: TxnId, cause: &Cause)
+    ensures { waits.new.items ≡ lessened txn (concerns cause.now) waits.old.items }
 {
     for wait in waits.iter_mut() {
-        lessen(wait, txn, by);
+        lessen(wait, txn, cause);
     }
 }
 
@@ -156,14 +157,13 @@ impl Waits {
         }
     }
 
-    /// Reads no longer wait for a transaction: all where it is applied (`None`), and those whose time isn't above a time
-    /// by which it isn't committed (`Some`). Those that wait for nothing more are dropped: `freed_answers` has their
-    /// answers, and is called before. Takes no memory. In the order of m for m transactions that reads wait for, over
+    /// The reads that this concerns no longer wait for a transaction. Those that wait for nothing more are dropped:
+    /// `freed_answers` has their answers, and is called before. Takes no memory. In the order of m for m transactions that reads wait for, over
     /// all reads.
-    pub fn release(&mut self, txn: TxnId, by: &Option<Time>)
-        ensures { self.new ≡ still txn by.now self.old }
+    pub fn release(&mut self, txn: TxnId, cause: &Cause)
+        ensures { self.new ≡ still txn cause.now self.old }
     {
-        lessen_all(&mut self.waits, txn, by);
+        lessen_all(&mut self.waits, txn, cause);
         keep_waiting(&mut self.waits);
     }
 

@@ -1,5 +1,5 @@
 -- What a shard knows of a transaction, by what it kept.
-use Rattle.std.specs.Prelude.{ℕ, Bool, ◌&&◌, ◌||◌, not, ◌==◌, if◌then◌else◌, List, find, Option, None, is_some}
+use Rattle.std.specs.Prelude.{◌≡◌, ℕ, Bool, false, ◌&&◌, ◌||◌, not, ◌==◌, if◌then◌else◌, List, [], ◌∷◌, find, Option, None, is_some, ⊤}
 use Rattle.std.specs.List.{list_any, list_all}
 use Rattle.logical_time.specs.Stamps.{TxnValue, WriterValue}
 use Rattle.messages.specs.Topology.{TopologyValue, dc_of, shard_node}
@@ -60,3 +60,13 @@ all_met met waiter dependencies = list_all (λ w. is_met met waiter w.txn) depen
 abbrev pub is_asker : List Asker → TxnValue → TxnValue → ℕ → Bool
 is_asker askers dependency waiter from =
     list_any (λ k. is_same_txn k.dependency dependency && is_same_txn k.waiter waiter && (k.from == from)) askers
+
+-- none of these is of the transaction
+abbrev pub AreOfOthers : {T : Type 0} → (T → TxnValue) → TxnValue → List T → Type 0
+AreOfOthers txn_of t [] = ⊤
+AreOfOthers txn_of t (x ∷ xs) = (is_same_txn (txn_of x) t ≡ false) × AreOfOthers txn_of t xs
+
+-- no two of these are of one transaction
+abbrev pub AreOnce : {T : Type 0} → (T → TxnValue) → List T → Type 0
+AreOnce txn_of [] = ⊤
+AreOnce txn_of (x ∷ xs) = AreOfOthers txn_of (txn_of x) xs × AreOnce txn_of xs

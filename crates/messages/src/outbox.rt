@@ -62,6 +62,16 @@ impl Outbox {
         }
     }
 
+    /// Adds envelopes at the end, in their order. There is room for them. Takes no memory.
+    pub fn post_all(&mut self, envelopes: Vec<Envelope>)
+        requires { length envelopes.items ≤ self.old.room }
+        ensures { self.new.sent ≡ self.old.sent ++ envelopes.items }
+    {
+        for envelope in envelopes {
+            self.post(envelope).unwrap();
+        }
+    }
+
     /// How many more envelopes fit without memory.
     pub fn room(&self) -> usize
         ensures { result ≡ self.now.room }

@@ -1,20 +1,19 @@
 -- What an event makes of what a shard keeps, as far as one transaction is concerned.
-use Rattle.std.specs.Prelude.{◌≡◌, ℕ, false, if◌then◌else◌, List, [], ◌∷◌, ◌++◌, Option, Some, None, ⊤, is_some}
-use Rattle.std.specs.Ordering.{is_eq}
-use Rattle.logical_time.specs.Stamps.{TxnValue, txn_cmp}
+use Rattle.std.specs.Prelude.{◌≡◌, ℕ, false, List, [], ◌∷◌, ◌++◌, Option, Some, None}
+use Rattle.logical_time.specs.Stamps.{TxnValue}
 use Rattle.column_family.specs.Normal.{IsNormal}
 use Rattle.store.specs.declared.part.Applied.{Applied}
-use Rattle.store.specs.Kept.{Kept}
+use Rattle.store.specs.Kept as store
 use Rattle.store.specs.Keeps.{Keeps, IsNewStamp}
-use Rattle.dependencies.specs.Askers.{AskersValue, askers_of}
+use Rattle.dependencies.specs.Askers.{askers_of}
 use Rattle.messages.specs.Words.{is_same_txn}
-use Rattle.messages.specs.Shard.{ShardState, WaitingRead}
-use Rattle.write_txn.specs.Ledger.{State, state_of, Becomes}
+use Rattle.messages.specs.Shard.{WaitingRead}
+use Rattle.write_txn.specs.Ledger.{State, state_of, Becomes, decided_in}
 use Rattle.write_txn.specs.Voters.{VoterList, voters_of}
-use Rattle.shard.specs.Kept.{KeptValue}
+use Rattle.shard.specs.declared.kept.Kept.{Kept}
 
 -- the store keeps what it kept, and what is applied, if something is
-abbrev pub IsStored : Option Applied → Kept → Kept → Type 0
+abbrev pub IsStored : Option Applied → store.Kept → store.Kept → Type 0
 IsStored None old new = (all : List Applied) → Keeps old all → Keeps new all
 IsStored (Some x) old new = (all : List Applied) → Keeps old all → IsNormal x.part.batch → IsNewStamp x.stamp all → Keeps new (all ++ x ∷ [])
 
@@ -22,21 +21,22 @@ IsStored (Some x) old new = (all : List Applied) → Keeps old all → IsNormal 
 abbrev pub OthersHaveSameVoters : TxnValue → VoterList → VoterList → Type 0
 OthersHaveSameVoters t old new = (u : TxnValue) → is_same_txn t u ≡ false → voters_of new u ≡ voters_of old u
 
--- Of what is kept this transaction comes to be so, and this part is applied, if one is; the clock shows this and these reads
--- wait. Nothing of another transaction changes, nor who asked for one.
-pub record IsAfter (t : TxnValue) (s : Option State) (x : Option Applied) (n : ℕ) (waits : List WaitingRead) (k l : KeptValue) : Type 0 where
+-- This transaction comes to be known so, and this part is applied, if one is; the clock shows this and these reads wait. Nothing
+-- of another transaction changes, nor who asked for one; who asked for this one is kept until it is decided.
+pub record IsAfter (t : TxnValue) (s : State) (x : Option Applied) (n : ℕ) (waits : List WaitingRead) (k l : Kept) : Type 0 where
   pub place : l.place ≡ k.place
   pub clock : l.clock ≡ n
   pub low : l.transactions.store.low ≡ k.transactions.store.low
-  pub state : Becomes t s k.transactions.ledger l.transactions.ledger
+  pub state : Becomes t (Some s) k.transactions.ledger l.transactions.ledger
   pub store : IsStored x k.transactions.store l.transactions.store
   pub early : OthersHaveSameVoters t k.transactions.early l.transactions.early
   pub notices : OthersHaveSameVoters t k.notices l.notices
   pub askers : (u : TxnValue) → is_same_txn t u ≡ false → askers_of l.askers u ≡ askers_of k.askers u
+  pub own_askers : decided_in (Some s) ≡ None → askers_of l.askers t ≡ askers_of k.askers t
   pub waiting : l.waiting ≡ waits
 
 -- nothing changed that matters: rooms may have been made
-pub record IsSpared (k l : KeptValue) : Type 0 where
+pub record IsSpared (k l : Kept) : Type 0 where
   pub place : l.place ≡ k.place
   pub clock : l.clock ≡ k.clock
   pub low : l.transactions.store.low ≡ k.transactions.store.low

@@ -137,7 +137,7 @@ answer_counts top me n a t d r is h waits = by_cases (is_unanswered r.ballot.ans
         ∙ ap (λ (b : Bool). met_if b top me n a (kept_ballot_of r) d) (unmet_is a t d (kept_ballot_of r) is ∙ sym (h.answers d))
 
     same_kept : KeepsBallot top me t r a a
-    same_kept = record { about = same_about t a; applied = refl; low = refl; askers = refl; same_parts = refl; stands = h; is = is }
+    same_kept = record { about = same_about t a; applied = refl; low = refl; askers = refl; same_parts = refl; same_kept = refl; stands = h; is = is }
 
     passed_over : is_unanswered r.ballot.answers d ≡ false
         → (c : ShardState) × (on_dep_ok top me n a d t ≡ ready top me n c (kept_ballot_of r)) × KeepsBallot top me t (with_answered r d) a c × (c.waiting ≡ a.waiting)
@@ -173,6 +173,7 @@ answer_counts top me n a t d r is h waits = by_cases (is_unanswered r.ballot.ans
             low = refl;
             askers = refl;
             same_parts = refl;
+            same_kept = refl;
             stands = record {
               kept_ballot = h.kept_ballot;
               own = h.own;

@@ -5,7 +5,7 @@ use Rattle.logical_time.specs.Stamps.{StampValue, TxnValue}
 use Rattle.store.specs.declared.part.Applied.{Applied}
 use Rattle.messages.specs.Topology.{TopologyValue}
 use Rattle.messages.specs.Words.{is_same_txn}
-use Rattle.messages.specs.Shard.{ShardState, PreparedPart}
+use Rattle.messages.specs.Shard.{ShardState, PreparedPart, KeptPart}
 use Rattle.messages.specs.Known.{is_known, prepared_part, kept_part, kept_ballot, decision_of, is_applied}
 use Rattle.messages.specs.Commits.{applied_part, apply_part}
 use Rattle.write_txn.specs.declared.open.Open.TheVariants as in_open
@@ -56,19 +56,22 @@ prepared_about a p n = record {
 }
 
 pub cohort_prepares : (top : TopologyValue) (me n : ℕ) (a : ShardState) (p : PreparedPart) → IsUnled (view_of p.txn a) → prepared_part p.txn a ≡ None → is_applied p.txn a ≡ false → is_cohorts p.role ≡ true
+    → ((k : KeptPart) → kept_part p.txn a ≡ Some k → k.coordinator ≡ p.coordinator)
     → Moves top me p.txn (Some (Holds (in_open.Part p))) [] a (record a { clock = n; prepared = a.prepared ++ p ∷ [] })
-cohort_prepares top me n a p unled none unapplied role = record {
+cohort_prepares top me n a p unled none unapplied role kept = record {
   about = prepared_about a p n;
   own = record {
     unled = record { ballot = unled.ballot; kept_ballot = unled.kept_ballot; decision = unled.decision };
     prepared = find_last (λ q. is_same_txn q.txn p.txn) a.prepared p none (own_txn p.txn);
     cohorts = role;
     applied = unapplied;
+    kept_part = kept;
   };
   applied = sym (append-nil a.applied);
   low = refl;
   askers = refl;
-  once = λ o. once_more a.prepared p o (others_if_none a.prepared p.txn none);
+  once = λ o. once_more (λ (x : PreparedPart). x.txn) a.prepared p o (others_if_none (λ (x : PreparedPart). x.txn) a.prepared p.txn none);
+  kept_once = λ o. o;
 }
 
 -- ## A part is applied
@@ -104,4 +107,5 @@ cohort_applies top me n a t p commit stamp is h = record {
   low = refl;
   askers = refl;
   once = λ o. o;
+  kept_once = λ o. o;
 }

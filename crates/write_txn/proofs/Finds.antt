@@ -8,7 +8,8 @@ use Rattle.column_family.proofs.Options.{by_cases, both_true}
 use Rattle.messages.specs.Words.{is_same_txn}
 use Rattle.messages.specs.Shard.{PreparedPart, KeptBallot, Vote, Met}
 use Rattle.write_txn.specs.View.{nodes_for, met_for}
-use Rattle.write_txn.specs.Moves.{IsExtended, AreOfOthers, AreOnce}
+use Rattle.write_txn.specs.Moves.{IsExtended}
+use Rattle.messages.specs.Known.{AreOfOthers, AreOnce}
 
 -- ## Transactions
 
@@ -117,19 +118,19 @@ any_found q (x ∷ xs) = by_cases (q x) (λ yes. rw yes refl) (λ no. rw no (any
 
 -- ## Parts of one transaction
 
-pub others_if_none : (hs : List PreparedPart) (t : TxnValue) → find (λ p. is_same_txn p.txn t) hs ≡ None → AreOfOthers t hs
-others_if_none [] t e = tt
-others_if_none (h ∷ hs) t e = by_cases (is_same_txn h.txn t)
-    (λ yes. absurd (let f : Some h ≡ None = rw yes at e in cc))
-    (λ no. (no, others_if_none hs t (rw no at e)))
+pub others_if_none : {T : Type 0} (f : T → TxnValue) (xs : List T) (t : TxnValue) → find (λ x. is_same_txn (f x) t) xs ≡ None → AreOfOthers f t xs
+others_if_none f [] t e = tt
+others_if_none f (x ∷ xs) t e = by_cases (is_same_txn (f x) t)
+    (λ yes. absurd (let g : Some x ≡ None = rw yes at e in cc))
+    (λ no. (no, others_if_none f xs t (rw no at e)))
 
-pub once_more : (hs : List PreparedPart) (h : PreparedPart) → AreOnce hs → AreOfOthers h.txn hs → AreOnce (hs ++ h ∷ [])
-once_more [] h a o = (tt, tt)
-once_more (x ∷ xs) h a o = (others_more xs x.txn a.0 (same_back h.txn x.txn ∙ o.0), once_more xs h a.1 o.1)
+pub once_more : {T : Type 0} (f : T → TxnValue) (xs : List T) (x : T) → AreOnce f xs → AreOfOthers f (f x) xs → AreOnce f (xs ++ x ∷ [])
+once_more {T} f [] x a o = (tt, tt)
+once_more {T} f (y ∷ ys) x a o = (others_more ys (f y) a.0 (same_back (f x) (f y) ∙ o.0), once_more f ys x a.1 o.1)
   where
-    others_more : (ys : List PreparedPart) (t : TxnValue) → AreOfOthers t ys → is_same_txn h.txn t ≡ false → AreOfOthers t (ys ++ h ∷ [])
+    others_more : (zs : List T) (t : TxnValue) → AreOfOthers f t zs → is_same_txn (f x) t ≡ false → AreOfOthers f t (zs ++ x ∷ [])
     others_more [] t p n = (n, tt)
-    others_more (y ∷ ys) t p n = (p.0, others_more ys t p.1 n)
+    others_more (z ∷ zs) t p n = (p.0, others_more zs t p.1 n)
 
 -- the part that is found for a transaction is of it
 pub found_txn : (hs : List PreparedPart) (t : TxnValue) (p : PreparedPart) → find (λ h. is_same_txn h.txn t) hs ≡ Some p → p.txn ≡ t

@@ -8,7 +8,7 @@ use Rattle.txn_state.specs.Votes.{is_among, counted, are_all_there}
 use Rattle.messages.specs.declared.envelope.Envelope.{Envelope}
 use Rattle.messages.specs.Topology.{TopologyValue, shard_of}
 use Rattle.messages.specs.Words.{is_same_txn}
-use Rattle.messages.specs.Shard.{ShardState, PreparedPart, Own, BegunBallot, KeptBallot, Vote, quiet}
+use Rattle.messages.specs.Shard.{ShardState, PreparedPart, Own, BegunBallot, KeptPart, KeptBallot, Vote, quiet}
 use Rattle.messages.specs.Known.{prepared_part, decision_of, standing_ballot, is_awaited, all_voted}
 use Rattle.messages.specs.Commits.{applied_part, stamp_for, decide, hold, with_vote, yes_for, on_yes, vote_if, counted_if}
 use Rattle.write_txn.specs.declared.open.Open.TheVariants as in_open
@@ -16,7 +16,8 @@ use Rattle.write_txn.specs.declared.open.Led.{Led}
 use Rattle.write_txn.specs.Ledger.{Holds, IsDecided}
 use Rattle.write_txn.specs.View.{view_of, near_nodes, left_of, nodes_for, is_ready_by}
 use Rattle.write_txn.specs.Stands.{StandsLed, begun_of, own_part, with_counted}
-use Rattle.write_txn.specs.Moves.{IsExtended, IsAbout, Moves, AreOnce}
+use Rattle.write_txn.specs.Moves.{IsExtended, IsAbout, Moves}
+use Rattle.messages.specs.Known.{AreOnce}
 use Rattle.write_txn.proofs.Finds.{own_txn, find_last, any_last, nodes_append, nodes_one, stays, adds, others_if_none, once_more}
 use Rattle.write_txn.proofs.Counting.{voted_left, awaited_left, left_counted, stranger_left}
 
@@ -87,7 +88,8 @@ pub record MayDecide (top : TopologyValue) (me : ℕ) (t : TxnValue) (a c : Shar
   pub applied : c.applied ≡ a.applied
   pub low : c.low ≡ a.low
   pub askers : c.askers ≡ a.askers
-  pub once : AreOnce a.prepared → AreOnce c.prepared
+  pub once : AreOnce (λ (x : PreparedPart). x.txn) a.prepared → AreOnce (λ (x : PreparedPart). x.txn) c.prepared
+  pub same_kept : c.kept_parts ≡ a.kept_parts
   pub undecided : decision_of t c ≡ None
   pub own : (p : PreparedPart) → prepared_part t c ≡ Some p → p.role ≡ Own
   pub kept_part : (view_of t c).kept_part ≡ None
@@ -108,6 +110,7 @@ decides top me n a c b h = record {
   low = h.low;
   askers = h.askers;
   once = h.once;
+  kept_once = λ o. subst (AreOnce (λ (x : KeptPart). x.txn)) (sym h.same_kept) o;
 }
 
 -- ## A ballot is held
@@ -134,6 +137,7 @@ pub record MayHold (top : TopologyValue) (me : ℕ) (t : TxnValue) (a c : ShardS
   pub low : c.low ≡ a.low
   pub askers : c.askers ≡ a.askers
   pub same_parts : c.prepared ≡ a.prepared
+  pub same_kept : c.kept_parts ≡ a.kept_parts
   pub unbegun : (view_of t c).ballot ≡ None
   pub undecided : decision_of t c ≡ None
   pub unprepared : prepared_part t c ≡ None
@@ -165,7 +169,8 @@ holds top me n a c l counted sends h e shard time cohorts missing left = record 
   applied = h.applied ∙ sym (append-nil a.applied);
   low = h.low;
   askers = h.askers;
-  once = λ o. once_more c.prepared own (subst AreOnce (sym h.same_parts) o) (others_if_none c.prepared t h.unprepared);
+  once = λ o. once_more (λ (x : PreparedPart). x.txn) c.prepared own (subst (AreOnce (λ (x : PreparedPart). x.txn)) (sym h.same_parts) o) (others_if_none (λ (x : PreparedPart). x.txn) c.prepared t h.unprepared);
+  kept_once = λ o. subst (AreOnce (λ (x : KeptPart). x.txn)) (sym h.same_kept) o;
 }
   where
     t : TxnValue
@@ -220,7 +225,7 @@ counts top me n a t l node is h left = by_cases (is_among l.ballot.votes.missing
       at_it ∙ ap (λ (b : Bool). vote_if b top me n a (begun_of l) node) (awaited_is ∙ absent),
       subst (λ (x : Led). Moves top me t (Some (Holds (in_open.Led x))) [] a a)
           (ap (λ (ns : List ℕ). record l { ballot = record l.ballot { votes = record l.ballot.votes { missing = ns } } }) (sym (stranger_left l.ballot.votes.missing node absent)))
-          (record { about = same_about t a; own = h; applied = sym (append-nil a.applied); low = refl; askers = refl; once = λ o. o }),
+          (record { about = same_about t a; own = h; applied = sym (append-nil a.applied); low = refl; askers = refl; once = λ o. o; kept_once = λ o. o }),
       refl,
     )
 
@@ -256,6 +261,7 @@ counts top me n a t l node is h left = by_cases (is_among l.ballot.votes.missing
         low = refl;
         askers = refl;
         once = λ o. o;
+        kept_once = λ o. o;
       },
       refl,
     )

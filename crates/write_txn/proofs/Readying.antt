@@ -12,7 +12,7 @@ use Rattle.messages.specs.Topology.{TopologyValue, shard_of, shard_node, dc_of}
 use Rattle.messages.specs.Words.{is_same_txn, envelope}
 use Rattle.messages.specs.declared.body.Body.TheVariants.{PrepareRemote}
 use Rattle.messages.specs.declared.envelope.Envelope.{Envelope}
-use Rattle.messages.specs.Shard.{ShardState, KeptBallot, quiet}
+use Rattle.messages.specs.Shard.{ShardState, PreparedPart, KeptPart, KeptBallot, quiet}
 use Rattle.messages.specs.Commits.{decide, hold}
 use Rattle.messages.specs.Replication.{ballot_of, remote_prepare, ready_if, ready, with_ballot, dep_checks, sent_before, repl_begin_if, on_repl_begin, with_notice, notice_if, notify_for, on_notify}
 use Rattle.write_txn.specs.declared.open.Open.TheVariants as in_open
@@ -21,7 +21,8 @@ use Rattle.write_txn.specs.declared.open.Remote.{Remote}
 use Rattle.write_txn.specs.Ledger.{State, Holds, IsDecided, state_ready, remote_after}
 use Rattle.write_txn.specs.View.{view_of, near_nodes, left_of, nodes_for, is_ready_by}
 use Rattle.write_txn.specs.Stands.{Stands, IsUnknown, IsWaiting, StandsRemote, begun_of, kept_ballot_of}
-use Rattle.write_txn.specs.Moves.{IsAbout, Moves, AreOnce}
+use Rattle.write_txn.specs.Moves.{IsAbout, Moves}
+use Rattle.messages.specs.Known.{AreOnce}
 use Rattle.write_txn.proofs.Finds.{own_txn, find_last, nodes_one, adds}
 use Rattle.write_txn.proofs.Counting.{awaited_left, left_counted, stranger_left, none_left}
 use Rattle.write_txn.proofs.CohortSteps.{known_if}
@@ -35,6 +36,7 @@ pub record KeepsBallot (top : TopologyValue) (me : ℕ) (t : TxnValue) (r : Remo
   pub low : c.low ≡ a.low
   pub askers : c.askers ≡ a.askers
   pub same_parts : c.prepared ≡ a.prepared
+  pub same_kept : c.kept_parts ≡ a.kept_parts
   pub stands : StandsRemote top me (view_of t c) r
   pub is : (kept_ballot_of r).txn ≡ t
 
@@ -55,7 +57,8 @@ ready_decides top me t r a c k e = record {
   applied = k.applied;
   low = k.low;
   askers = k.askers;
-  once = λ o. subst AreOnce (sym k.same_parts) o;
+  once = λ o. subst (AreOnce (λ (x : PreparedPart). x.txn)) (sym k.same_parts) o;
+  same_kept = k.same_kept;
   undecided = k.stands.decision;
   own = λ p f. absurd (let g : None ≡ Some p = sym k.stands.prepared ∙ f in cc);
   kept_part = k.stands.kept_part;
@@ -69,6 +72,7 @@ ready_holds top me t r a c k e = record {
   low = k.low;
   askers = k.askers;
   same_parts = k.same_parts;
+  same_kept = k.same_kept;
   unbegun = k.stands.ballot;
   undecided = k.stands.decision;
   unprepared = k.stands.prepared;
@@ -166,7 +170,8 @@ waits_on top me n t r a c k e = record {
   applied = k.applied ∙ sym (append-nil a.applied);
   low = k.low;
   askers = k.askers;
-  once = λ o. subst AreOnce (sym k.same_parts) o;
+  once = λ o. subst (AreOnce (λ (x : PreparedPart). x.txn)) (sym k.same_parts) o;
+  kept_once = λ o. subst (AreOnce (λ (x : KeptPart). x.txn)) (sym k.same_kept) o;
 }
 
 -- ## ReplBegin
@@ -206,6 +211,7 @@ ballot_is_kept top me a r h shard cohorts missing answers =
       low = refl;
       askers = refl;
       same_parts = refl;
+      same_kept = refl;
       stands = record {
         kept_ballot = find_last (λ x. is_same_txn x.txn t) a.kept_ballots (kept_ballot_of r) h.unled.kept_ballot (own_txn t);
         own = shard;
@@ -237,7 +243,7 @@ notice_counts top me n a t r node is h waits = by_cases (is_among r.ballot.notic
         ∙ ap (λ (b : Bool). notice_if b top me n a (kept_ballot_of r) node) (awaited_left top me r.cohorts a.notices t node ∙ ap (λ (ns : List ℕ). is_among ns node) (sym h.missing))
 
     same_kept : KeepsBallot top me t r a a
-    same_kept = record { about = same_about t a; applied = refl; low = refl; askers = refl; same_parts = refl; stands = h; is = is }
+    same_kept = record { about = same_about t a; applied = refl; low = refl; askers = refl; same_parts = refl; same_kept = refl; stands = h; is = is }
 
     passed_over : is_among r.ballot.notices.missing node ≡ false
         → (c : ShardState) × (on_notify top me n a node t ≡ ready top me n c (kept_ballot_of r)) × KeepsBallot top me t (with_noticed r node) a c × (c.waiting ≡ a.waiting)
@@ -273,6 +279,7 @@ notice_counts top me n a t r node is h waits = by_cases (is_among r.ballot.notic
             low = refl;
             askers = refl;
             same_parts = refl;
+            same_kept = refl;
             stands = record {
               kept_ballot = h.kept_ballot;
               own = h.own;

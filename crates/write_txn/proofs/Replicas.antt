@@ -23,7 +23,7 @@ use Rattle.write_txn.specs.Ledger.{State, Holds, IsApplied, IsDecided, replica_o
 use Rattle.write_txn.specs.View.{view_of, near_nodes, nodes_for, met_for, is_ready_by}
 use Rattle.write_txn.specs.Stands.{Stands, IsUnknown, StandsKept, StandsRemote, kept_part_of, kept_ballot_of}
 use Rattle.write_txn.specs.Moves.{Moves}
-use Rattle.write_txn.proofs.Finds.{own_txn, same_txn, find_last, adds}
+use Rattle.write_txn.proofs.Finds.{own_txn, same_txn, find_last, adds, others_if_none, once_more}
 use Rattle.write_txn.proofs.Counting.{voted_left, voted_near, met_all}
 use Rattle.write_txn.proofs.CohortSteps.{known_if, cohort_prepares}
 use Rattle.write_txn.proofs.Leading.{same_about}
@@ -64,6 +64,7 @@ part_is_kept top me n a k h =
       low = refl;
       askers = refl;
       once = λ o. o;
+      kept_once = λ o. once_more (λ (x : KeptPart). x.txn) a.kept_parts (kept_part_of k) o (others_if_none (λ (x : KeptPart). x.txn) a.kept_parts k.part.writer.txn h.kept_part);
     }
 
 -- ## A kept part is prepared
@@ -77,8 +78,8 @@ prepare_remote_kept top me n a t k h =
 pub kept_is_prepared : (top : TopologyValue) (me n : ℕ) (a : ShardState) (k : Kept) → StandsKept (view_of k.part.writer.txn a) k
     → Moves top me k.part.writer.txn (Some (Holds (in_open.Part (replica_of k n)))) [] a (prepare_part top me n a k.part.writer.txn k.part.batch k.part.writer.shard Replica).state
 kept_is_prepared top me n a k h =
-    let m = cohort_prepares top me n a (replica_of k n) h.unled h.prepared h.applied refl in
-    record { about = m.about; own = m.own; applied = m.applied; low = m.low; askers = m.askers; once = m.once }
+    let m = cohort_prepares top me n a (replica_of k n) h.unled h.prepared h.applied refl (λ x e. let f : Some (kept_part_of k) ≡ Some x = sym h.kept_part ∙ e in let g : kept_part_of k ≡ x = cc in ap (λ (y : KeptPart). y.coordinator) (sym g)) in
+    record { about = m.about; own = m.own; applied = m.applied; low = m.low; askers = m.askers; once = m.once; kept_once = m.kept_once }
 
 -- whether a part is kept
 abbrev pub is_kept : Option State → Bool

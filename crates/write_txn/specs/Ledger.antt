@@ -59,12 +59,12 @@ txn_of (in_open.Part p) = p.txn
 txn_of (in_open.Led l) = l.ballot.own.part.writer.txn
 txn_of (in_open.Remote r) = r.ballot.part.writer.txn
 
--- the changes of the shard's own part
-abbrev pub rows_of : Open → WritePart
-rows_of (in_open.Kept k) = k.part
-rows_of (in_open.Part p) = record { writer = record { txn = p.txn; shard = p.coordinator }; batch = p.rows }
-rows_of (in_open.Led l) = l.ballot.own.part
-rows_of (in_open.Remote r) = r.ballot.part
+-- the shard's own part
+abbrev pub part_of : Open → WritePart
+part_of (in_open.Kept k) = k.part
+part_of (in_open.Part p) = record { writer = record { txn = p.txn; shard = p.coordinator }; batch = p.rows }
+part_of (in_open.Led l) = l.ballot.own.part
+part_of (in_open.Remote r) = r.ballot.part
 
 -- each status that names a place names that of its transaction, and what is under way stands where its status says
 pub record IsPlaced (l : LedgerValue) : Type 0 where

@@ -27,6 +27,10 @@ abbrev pub is_kept : Open → Bool
 is_kept (in_open.Kept k) = true
 is_kept other = false
 
+abbrev pub is_part : Open → Bool
+is_part (in_open.Part p) = true
+is_part other = false
+
 abbrev pub is_led : Open → Bool
 is_led (in_open.Led l) = true
 is_led other = false

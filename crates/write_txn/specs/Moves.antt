@@ -1,15 +1,15 @@
 -- Steps that concern one transaction.
-use Rattle.std.specs.Prelude.{◌≡◌, ℕ, Bool, true, false, List, [], ◌++◌, Option, ⊤}
+use Rattle.std.specs.Prelude.{◌≡◌, ℕ, Bool, true, List, ◌++◌, Option}
 use Rattle.std.specs.List.{list_all}
 use Rattle.logical_time.specs.Stamps.{TxnValue}
 use Rattle.store.specs.declared.part.Applied.{Applied}
 use Rattle.messages.specs.Topology.{TopologyValue}
 use Rattle.messages.specs.Words.{is_same_txn}
-use Rattle.messages.specs.Shard.{ShardState, PreparedPart}
+use Rattle.messages.specs.Shard.{ShardState}
+use Rattle.messages.specs.Known.{AreOnce}
 use Rattle.write_txn.specs.Ledger.{State}
 use Rattle.write_txn.specs.View.{view_of}
 use Rattle.write_txn.specs.Stands.{Stands}
-use Rattle.std.specs.Prelude.{◌∷◌}
 
 -- a list was extended by such elements alone
 pub record IsExtended {T : Type 0} (about : T → Bool) (xs ys : List T) : Type 0 where
@@ -30,15 +30,6 @@ pub record IsAbout (t : TxnValue) (a b : ShardState) : Type 0 where
   pub notices : IsExtended (λ v. is_same_txn v.txn t) a.notices b.notices
   pub met : IsExtended (λ m. is_same_txn m.waiter t) a.met b.met
 
-abbrev pub AreOfOthers : TxnValue → List PreparedPart → Type 0
-AreOfOthers t [] = ⊤
-AreOfOthers t (p ∷ ps) = (is_same_txn p.txn t ≡ false) × AreOfOthers t ps
-
--- no two parts are of one transaction
-abbrev pub AreOnce : List PreparedPart → Type 0
-AreOnce [] = ⊤
-AreOnce (p ∷ ps) = AreOfOthers p.txn ps × AreOnce ps
-
 -- From the one state to the other this transaction comes to stand so, and these parts are applied; of the others nothing
 -- changes.
 pub record Moves (top : TopologyValue) (me : ℕ) (t : TxnValue) (s : Option State) (more : List Applied) (a b : ShardState) : Type 0 where
@@ -47,4 +38,5 @@ pub record Moves (top : TopologyValue) (me : ℕ) (t : TxnValue) (s : Option Sta
   pub applied : b.applied ≡ a.applied ++ more
   pub low : b.low ≡ a.low
   pub askers : b.askers ≡ a.askers
-  pub once : AreOnce a.prepared → AreOnce b.prepared
+  pub once : AreOnce (λ p. p.txn) a.prepared → AreOnce (λ p. p.txn) b.prepared
+  pub kept_once : AreOnce (λ k. k.txn) a.kept_parts → AreOnce (λ k. k.txn) b.kept_parts

@@ -79,12 +79,13 @@ pub record StandsKept (v : View) (k : Kept) : Type 0 where
   pub prepared : v.prepared ≡ None
   pub applied : v.applied ≡ false
 
--- a cohort's part is prepared
+-- a cohort's part is prepared; one that is kept beside it has the same coordinator
 pub record StandsPart (v : View) (p : PreparedPart) : Type 0 where
   pub unled : IsUnled v
   pub prepared : v.prepared ≡ Some p
   pub cohorts : is_cohorts p.role ≡ true
   pub applied : v.applied ≡ false
+  pub kept_part : (k : KeptPart) → v.kept_part ≡ Some k → k.coordinator ≡ p.coordinator
 
 -- a cohort's part is applied
 pub record StandsApplied (v : View) : Type 0 where

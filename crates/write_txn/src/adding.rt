@@ -5,8 +5,8 @@ ghost use Rattle.std.specs.Prelude.{◌≡◌, true, [], if◌then◌else◌, On
 ghost use Rattle.logical_time.specs.declared.fault.Fault.TheVariants as fault;
 ghost use Rattle.pending.specs.Marked.{AreMarked};
 ghost use Rattle.write_txn.specs.declared.open.Open.TheVariants as in_open;
-ghost use Rattle.write_txn.specs.Ledger.{state_of, txn_of, Holds, Becomes, HaveSameStates, state_ready, readied_by};
-ghost use Rattle.write_txn.specs.Marking.{AreMarksBut, is_to_vote, is_led, is_kept, is_remote};
+ghost use Rattle.write_txn.specs.Ledger.{state_of, txn_of, part_of, Holds, Becomes, HaveSameStates, state_ready, readied_by};
+ghost use Rattle.write_txn.specs.Marking.{AreMarksBut, is_to_vote, is_part, is_led, is_kept, is_remote};
 ghost use Rattle.write_txn.specs.Transactions.{AreMarksOf, cohorts_part};
 
 use crate::ledger::Ledger;
@@ -14,6 +14,18 @@ use crate::open::{Kept, Led, Open, Origin, Part, Remote};
 use logical_time::{Fault, Time};
 use pending::Marks;
 use txn_state::{Complete, RemoteBallot, WritePart};
+
+/// The part of a cohort that is prepared.
+fn into_part(held: Open) -> WritePart
+    requires { is_part held ≡ true }
+    ensures { result ≡ part_of held }
+{
+    let Open::Part(part) = held else {
+        unreachable!()
+    };
+    let (part, _) = part.into_prepared().surrender();
+    part
+}
 
 /// The ballot that is under way.
 fn into_led(held: Open) -> Led
@@ -88,7 +100,7 @@ pub(crate) fn add_part(
     let held = Open::Part(Part::new(part, time, Origin::Submitted));
     match add_marked(ledger, marks, held) {
         Ok(()) => Ok(()),
-        Err((fault, held)) => Err((fault, held.surrender())),
+        Err((fault, held)) => Err((fault, into_part(held))),
     }
 }
 

@@ -5,8 +5,8 @@ ghost use Rattle.column_family.specs.declared.batch.Change.{Change};
 ghost use Rattle.txn_state.specs.Votes.{counted, are_all_there};
 ghost use Rattle.messages.specs.Topology.{TopologyValue};
 ghost use Rattle.messages.specs.Words.{is_same_txn};
-ghost use Rattle.messages.specs.Shard.{ShardState, PreparedPart, Cohort, quiet};
-ghost use Rattle.messages.specs.Known.{is_known, is_applied, prepared_part, decision_of};
+ghost use Rattle.messages.specs.Shard.{ShardState, PreparedPart, KeptPart, Cohort, quiet};
+ghost use Rattle.messages.specs.Known.{is_known, is_applied, prepared_part, kept_part, decision_of};
 ghost use Rattle.messages.specs.Commits.{applied_part, apply_part, on_prepare, prepare_part, on_commit, on_yes};
 ghost use Rattle.write_txn.specs.declared.open.Open.TheVariants as in_open;
 ghost use Rattle.write_txn.specs.declared.open.Led.{Led};
@@ -29,7 +29,7 @@ pub fn transactions_stand()
 pub fn parts_move_on()
     ensures unknown { (top : TopologyValue) (me n : ℕ) (a : ShardState) (t : TxnValue) (rows : List Change) (coordinator : ℕ) → Stands top me t (view_of t a) None → on_prepare top me n a t rows coordinator ≡ prepare_part top me n a t rows coordinator Cohort }
     ensures known { (top : TopologyValue) (me n : ℕ) (a : ShardState) (t : TxnValue) (rows : List Change) (coordinator : ℕ) (s : State) → Stands top me t (view_of t a) (Some s) → on_prepare top me n a t rows coordinator ≡ quiet n a }
-    ensures prepared { (top : TopologyValue) (me n : ℕ) (a : ShardState) (p : PreparedPart) → IsUnled (view_of p.txn a) → prepared_part p.txn a ≡ None → is_applied p.txn a ≡ false → is_cohorts p.role ≡ true → Moves top me p.txn (Some (Holds (in_open.Part p))) [] a (record a { clock = n; prepared = a.prepared ++ p ∷ [] }) }
+    ensures prepared { (top : TopologyValue) (me n : ℕ) (a : ShardState) (p : PreparedPart) → IsUnled (view_of p.txn a) → prepared_part p.txn a ≡ None → is_applied p.txn a ≡ false → is_cohorts p.role ≡ true → ((k : KeptPart) → kept_part p.txn a ≡ Some k → k.coordinator ≡ p.coordinator) → Moves top me p.txn (Some (Holds (in_open.Part p))) [] a (record a { clock = n; prepared = a.prepared ++ p ∷ [] }) }
     ensures commit { (top : TopologyValue) (me n : ℕ) (a : ShardState) (t : TxnValue) (p : PreparedPart) (commit : ℕ) (stamp : StampValue) → p.txn ≡ t → StandsPart (view_of t a) p → on_commit top me n a t commit stamp ≡ apply_part top me n a p commit stamp }
     ensures applied { (top : TopologyValue) (me n : ℕ) (a : ShardState) (t : TxnValue) (p : PreparedPart) (commit : ℕ) (stamp : StampValue) → p.txn ≡ t → StandsPart (view_of t a) p → Moves top me t (Some IsApplied) (applied_part p.txn p.coordinator p.rows commit stamp ∷ []) a (apply_part top me n a p commit stamp).state }
 {}

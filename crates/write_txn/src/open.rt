@@ -137,7 +137,7 @@ pub enum Open {
 
 impl Open {
     ghost use Rattle.std.specs.Prelude.{◌≡◌};
-    ghost use Rattle.write_txn.specs.Ledger.{txn_of, rows_of};
+    ghost use Rattle.write_txn.specs.Ledger.{txn_of, part_of};
 
     /// The transaction.
     pub fn txn(&self) -> TxnId
@@ -153,7 +153,7 @@ impl Open {
 
     /// The transaction, with its coordinator.
     pub fn writer(&self) -> Writer
-        ensures { result ≡ (rows_of self.now).writer }
+        ensures { result ≡ (part_of self.now).writer }
     {
         match self {
             Open::Kept(kept) => kept.part.writer,
@@ -165,7 +165,7 @@ impl Open {
 
     /// The changes of the shard's own part.
     pub fn rows(&self) -> &Batch
-        ensures { result.now ≡ (rows_of self.now).batch }
+        ensures { result.now ≡ (part_of self.now).batch }
     {
         match self {
             Open::Kept(kept) => &kept.part.batch,
@@ -177,7 +177,7 @@ impl Open {
 
     /// Hands out the shard's own part: for a shard that is closed.
     pub fn surrender(self) -> WritePart
-        ensures { result ≡ rows_of self }
+        ensures { result ≡ part_of self }
     {
         match self {
             Open::Kept(Kept { part, stamp: _ }) => part,

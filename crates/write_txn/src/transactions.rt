@@ -13,7 +13,7 @@ ghost use Rattle.txn_state.specs.Prepared.{PreparedValue};
 ghost use Rattle.txn_state.specs.Votes.{is_among};
 ghost use Rattle.write_txn.specs.declared.open.Open.{Open};
 ghost use Rattle.write_txn.specs.declared.open.Open.TheVariants as in_open;
-ghost use Rattle.write_txn.specs.Ledger.{state_of, Holds, IsDecided, Becomes, HaveSameStates, open_in, rows_of, state_prepared, state_applied, part_in, state_voted, completed_by, state_noticed, state_answered, state_ready, readied_by};
+ghost use Rattle.write_txn.specs.Ledger.{state_of, Holds, IsDecided, Becomes, HaveSameStates, open_in, decided_in, part_of, state_prepared, state_applied, part_in, state_voted, completed_by, state_noticed, state_answered, state_ready, readied_by};
 ghost use Rattle.write_txn.specs.Stands.{mark_of};
 ghost use Rattle.write_txn.specs.Voters.{voters_of};
 ghost use Rattle.write_txn.specs.Transactions.{AreMarksOf, GoesOnKeeping, KeepsAlso, KeepsIf, HaveSameVoters, cohorts_part};
@@ -223,7 +223,7 @@ impl Transactions {
     /// Makes room in the store for the changes of the shard's own part of the transaction, if something is under way of
     /// it. Refused with `Memory` alone.
     pub fn make_room_for(&mut self, txn: TxnId) -> Result<(), Fault>
-        ensures ok { OnOk result ((o : Open) → open_in (state_of self.old.ledger txn) ≡ Some o → HasRoom self.new.store.rows (rows_of o).batch) }
+        ensures ok { OnOk result ((o : Open) → open_in (state_of self.old.ledger txn) ≡ Some o → HasRoom self.new.store.rows (part_of o).batch) }
         ensures store { GoesOnKeeping self.old.store self.new.store }
         ensures ledger { self.new.ledger ≡ self.old.ledger }
         ensures early { self.new.early ≡ self.old.early }
@@ -253,8 +253,9 @@ impl Transactions {
         );
     }
 
-    /// Decides a ballot that is complete, on the shard with the node `me`: posts a `Commit` to each cohort, in order, and
-    /// applies the coordinator's own part with this commit time and this stamp. There is room for both. Takes no memory.
+    /// Tells of a ballot that is complete and decided with this commit time and this stamp, on the shard with the node
+    /// `me`: posts a `Commit` to each cohort, in order, and applies the coordinator's own part. There is room for both.
+    /// Takes no memory.
     pub fn decide(
         &mut self,
         complete: Complete,
@@ -263,6 +264,7 @@ impl Transactions {
         stamp: Stamp,
         outbox: &mut Outbox,
     )
+        requires decided { decided_in (state_of self.old.ledger complete.own.part.writer.txn) ≡ Some (commit, stamp) }
         requires posts { length complete.cohorts ≤ outbox.old.room }
         requires room { HasRoom self.old.store.rows complete.own.part.batch }
         ensures same { self.new.ledger ≡ self.old.ledger }

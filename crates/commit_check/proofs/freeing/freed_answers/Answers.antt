@@ -18,7 +18,7 @@ loop-wait-preserved g c = λ f by.
     (take_more ws i x c.loop-wait-test.true ∙ ap (λ (y : WaitingRead). take i ws ++ y ∷ []) (sym c.wait-item.is)) in
     elim c.if-is_freed.branch [
       | then-is_freed+in_ok-answer_to+in_ok-push w ↦
-          answered_one c.args.txn c.args.by.now c.args.me c.args.time f xs zs x w.in_ok-answer_to.field-0 c.loop-wait.envelopes.items c.if-is_freed.envelopes.items (c.loop-wait.invariant f by) more (search rules) (w.in_ok-answer_to.ensures.ok f by) (search rules)
+          answered_one c.args.txn c.args.cause.now c.args.me c.args.time f xs zs x w.in_ok-answer_to.field-0 c.loop-wait.envelopes.items c.if-is_freed.envelopes.items (c.loop-wait.invariant f by) more (search rules) (w.in_ok-answer_to.ensures.ok f by) (search rules)
       | else-is_freed w ↦
-          answered_none c.args.txn c.args.by.now c.args.me c.args.time f xs zs x c.loop-wait.envelopes.items c.if-is_freed.envelopes.items (c.loop-wait.invariant f by) more (search rules) (search rules)
+          answered_none c.args.txn c.args.cause.now c.args.me c.args.time f xs zs x c.loop-wait.envelopes.items c.if-is_freed.envelopes.items (c.loop-wait.invariant f by) more (search rules) (search rules)
     ]

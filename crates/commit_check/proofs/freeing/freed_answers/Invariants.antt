@@ -6,5 +6,5 @@ use Rattle.commit_check.proofs.freeing.freed_answers.Given as goal
 
 -- the reads so far that are let go are answered
 abbrev pub invariant-loop-wait : goal.invariant-loop-wait
-invariant-loop-wait g l = (f : ℕ → Read → AtTime) → AnswersBy (g.A.Answers.answered l.answers) f
-    → l.envelopes.items ≡ map (reply l.me l.time f) (freed l.txn l.by (take l.wait-index l.waits))
+invariant-loop-wait g l = (f : ℕ → Read → AtTime) → AnswersBy (g.A.AnswersAt.answered l.answers) f
+    → l.envelopes.items ≡ map (reply l.me l.time f) (freed l.txn l.cause (take l.wait-index l.waits))

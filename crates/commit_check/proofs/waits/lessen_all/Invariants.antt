@@ -5,4 +5,4 @@ use Rattle.commit_check.proofs.waits.lessen_all.Given as goal
 
 -- the reads so far are lessened, and the others are as they were
 abbrev pub invariant-loop-wait : goal.invariant-loop-wait
-invariant-loop-wait l = l.wait-items ≡ lessened l.txn (concerns l.by) (take l.wait-index l.fn.waits.items) ++ drop l.wait-index l.fn.waits.items
+invariant-loop-wait l = l.wait-items ≡ lessened l.txn (concerns l.cause) (take l.wait-index l.fn.waits.items) ++ drop l.wait-index l.fn.waits.items
