@@ -4,9 +4,11 @@ pub mod Closed
 pub mod Commits
 pub mod Grow
 pub mod Handles
+pub mod InPlace
 pub mod LetGo
 pub mod Lists
 pub mod OneShard
+pub mod PartSteps
 pub mod ReadSteps
 mod Refuted
 pub mod Remotes

@@ -1,7 +1,7 @@
 //! What a shard keeps.
 use commit_check::Waits;
 use dependencies::Askers;
-use logical_time::Clock;
+use logical_time::{Clock, TxnId};
 use messages::Place;
 use std::alloc::Global;
 use write_txn::{Transactions, Voters};
@@ -22,4 +22,16 @@ pub(crate) struct Kept {
     pub(crate) askers: Askers,
     /// The reads that wait.
     pub(crate) waiting: Waits,
+}
+
+impl Kept {
+    ghost use Rattle.std.specs.Prelude.{◌≡◌, is_some};
+    ghost use Rattle.write_txn.specs.Ledger.{state_of};
+
+    /// Whether anything is known of the transaction.
+    pub(crate) fn knows(&self, txn: TxnId) -> bool
+        ensures { result ≡ is_some (state_of self.now.transactions.ledger txn) }
+    {
+        self.transactions.ledger().knows(txn)
+    }
 }

@@ -23,13 +23,14 @@ pub(crate) fn prepare(
     ensures unsent { OnErr result (outbox.new.sent ≡ outbox.old.sent) }
     ensures memory { IfErr result (λ e. (e.0 ≡ fault.Memory) × (e.1 ≡ part)) }
 {
-    if kept.transactions.ledger().knows(part.writer.txn) {
+    let writer = part.writer;
+    if kept.knows(writer.txn) {
         drop(part);
         kept.clock = clock;
         return Ok(());
     }
     let time = clock.now();
-    let vote = yes(kept.place, time, part.writer.txn, part.writer.shard);
+    let vote = yes(kept.place, time, writer.txn, writer.shard);
     match outbox.reserve(1) {
         Ok(()) => {}
         Err(fault) => return Err((fault, part)),

@@ -1,0 +1,72 @@
+-- Steps by which one transaction comes to stand otherwise, and nothing is applied or let go.
+use Rattle.std.proofs.Common.{◌≡◌, ◌∙◌, sym, ap, subst, refl, ℕ, List, [], ◌++◌, Option, Some, None}
+use Rattle.logical_time.specs.Stamps.{TxnValue}
+use Rattle.store.specs.Keeps.{Keeps, AreApart}
+use Rattle.store.specs.Kept as in_store
+use Rattle.messages.specs.declared.envelope.Envelope.{Envelope}
+use Rattle.messages.specs.Topology.{TopologyValue}
+use Rattle.messages.specs.Shard.{ShardState, ShardStep}
+use Rattle.write_txn.specs.Ledger.{State, state_of, Becomes, HaveSameStates}
+use Rattle.write_txn.specs.View.{view_of}
+use Rattle.write_txn.specs.Stands.{Stands}
+use Rattle.write_txn.specs.Moves.{Moves}
+use Rattle.write_txn.specs.Voters.{voters_of}
+use Rattle.write_txn.specs.Transactions.{TransactionsValue}
+use Rattle.shard.specs.declared.kept.Kept.{Kept}
+use Rattle.shard.specs.Kept.{Represents, IsStep, GoesOn}
+use Rattle.shard.specs.Effects.{IsAfter, IsSpared}
+use Rattle.shard.proofs.Standing.{spared, moved}
+
+-- what is kept with these transactions, at this clock
+abbrev pub with_transactions : Kept → TransactionsValue → ℕ → Kept
+with_transactions k ts n = record k { clock = n; transactions = ts }
+
+pub after_in_place : (t : TxnValue) (s : State) (n : ℕ) (k : Kept) (ts : TransactionsValue) → Becomes t (Some s) k.transactions.ledger ts.ledger → ts.store ≡ k.transactions.store → ts.early ≡ k.transactions.early
+    → IsAfter t s None n k.waiting k (with_transactions k ts n)
+after_in_place t s n k ts becomes store early = record {
+  place = refl;
+  clock = refl;
+  low = ap (λ (x : in_store.Kept). x.low) store;
+  state = becomes;
+  store = λ all keeps. subst (λ x. Keeps x all) (sym store) keeps;
+  early = λ u e. ap (λ v. voters_of v u) early;
+  notices = λ u e. refl;
+  askers = λ u e. refl;
+  own_askers = λ e. refl;
+  waiting = refl;
+}
+
+-- the step of a transaction that comes to stand so in place
+pub moves_so : (top : TopologyValue) (me n : ℕ) (t : TxnValue) (s : State) (k : Kept) (ts : TransactionsValue) (a b : ShardState)
+    → Represents top me k a → Becomes t (Some s) k.transactions.ledger ts.ledger → ts.store ≡ k.transactions.store → ts.early ≡ k.transactions.early
+    → Moves top me t (Some s) [] a b → b.clock ≡ n → b.waiting ≡ a.waiting → AreApart b.applied
+    → Represents top me (with_transactions k ts n) b
+moves_so top me n t s k ts a b r becomes store early m clock waiting apart =
+    moved top me n t s None k.waiting k (with_transactions k ts n) a b r (after_in_place t s n k ts becomes store early) m clock (waiting ∙ r.waiting) apart
+
+-- where the transactions stay, all goes on
+pub goes_on : (k : Kept) (ts : TransactionsValue) → HaveSameStates k.transactions.ledger ts.ledger → ts.store ≡ k.transactions.store → ts.early ≡ k.transactions.early
+    → GoesOn k (record k { transactions = ts })
+goes_on k ts states store early = spared k (record k { transactions = ts }) (record {
+  place = refl;
+  clock = refl;
+  low = ap (λ (x : in_store.Kept). x.low) store;
+  states = states;
+  store = λ all keeps. subst (λ x. Keeps x all) (sym store) keeps;
+  early = λ u. ap (λ v. voters_of v u) early;
+  notices = λ u. refl;
+  askers = λ u. refl;
+  waiting = refl;
+})
+
+-- the step of a call by which a transaction comes to stand so in place
+pub step_in_place : (top : TopologyValue) (me n : ℕ) (t : TxnValue) (s : State) (k : Kept) (ts : TransactionsValue) (a : ShardState) (step : ShardStep) (before after : List Envelope)
+    → Represents top me k a → Becomes t (Some s) k.transactions.ledger ts.ledger → ts.store ≡ k.transactions.store → ts.early ≡ k.transactions.early
+    → Moves top me t (Some s) [] a step.state → step.state.clock ≡ n → step.state.waiting ≡ a.waiting → AreApart step.state.applied → after ≡ before ++ step.sends
+    → IsStep top me step (with_transactions k ts n) before after
+step_in_place top me n t s k ts a step before after r becomes store early m clock waiting apart sends =
+    record { state = moves_so top me n t s k ts a step.state r becomes store early m clock waiting apart; sends = sends }
+
+-- how a transaction stands whose state is this
+pub stands_so : (top : TopologyValue) (me : ℕ) (k : Kept) (a : ShardState) (t : TxnValue) (o : Option State) → Represents top me k a → state_of k.transactions.ledger t ≡ o → Stands top me t (view_of t a) o
+stands_so top me k a t o r e = subst (Stands top me t (view_of t a)) e (r.stands t)
