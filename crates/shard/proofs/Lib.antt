@@ -1,6 +1,7 @@
 pub mod Additions
 pub mod Asked
 pub mod Closed
+pub mod ComingAnswers
 pub mod Commits
 pub mod Grow
 pub mod Handles

@@ -4,6 +4,7 @@
 //! refuted.
 #![tactic(auto)]
 
+mod coming;
 mod kept;
 mod law;
 mod lookalikes;
