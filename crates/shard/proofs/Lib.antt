@@ -3,6 +3,7 @@ pub mod Asked
 pub mod Closed
 pub mod ComingAnswers
 pub mod Commits
+pub mod Decisions
 pub mod Grow
 pub mod Handles
 pub mod InPlace

@@ -7,3 +7,4 @@ pub mod Unfinished
 pub mod Kept
 pub mod Effects
 pub mod Coming
+pub mod Deciding

@@ -5,6 +5,7 @@
 #![tactic(auto)]
 
 mod coming;
+mod deciding;
 mod kept;
 mod law;
 mod lookalikes;
