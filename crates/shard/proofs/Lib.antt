@@ -1,4 +1,5 @@
 pub mod Additions
+pub mod Applying
 pub mod Asked
 pub mod Closed
 pub mod ComingAnswers

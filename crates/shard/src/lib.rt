@@ -5,6 +5,7 @@
 #![tactic(auto)]
 
 mod coming;
+mod committing;
 mod deciding;
 mod kept;
 mod law;
