@@ -1,4 +1,5 @@
 pub mod Additions
+pub mod AskerSteps
 pub mod Asked
 pub mod Closed
 pub mod Commits

@@ -4,6 +4,7 @@
 //! refuted.
 #![tactic(auto)]
 
+mod checking;
 mod kept;
 mod law;
 mod lookalikes;
