@@ -3,6 +3,7 @@ pub mod AskerSteps
 pub mod Asked
 pub mod Closed
 pub mod Commits
+pub mod EarlySteps
 pub mod Grow
 pub mod Handles
 pub mod InPlace

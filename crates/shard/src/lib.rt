@@ -5,6 +5,7 @@
 #![tactic(auto)]
 
 mod checking;
+mod early;
 mod kept;
 mod law;
 mod lookalikes;
