@@ -1,10 +1,12 @@
 pub mod Additions
 pub mod Applying
+pub mod AskerSteps
 pub mod Asked
 pub mod Closed
 pub mod ComingAnswers
 pub mod Commits
 pub mod Decisions
+pub mod EarlySteps
 pub mod Grow
 pub mod Handles
 pub mod InPlace

@@ -7,6 +7,8 @@
 mod coming;
 mod committing;
 mod deciding;
+mod checking;
+mod early;
 mod kept;
 mod law;
 mod lookalikes;

@@ -2,13 +2,16 @@
 ghost use Rattle.std.specs.Prelude.{◌≡◌, OnOk, OnErr, IfErr};
 ghost use Rattle.logical_time.specs.declared.fault.Fault.TheVariants as fault;
 ghost use Rattle.messages.specs.Commits.{on_prepare};
+ghost use Rattle.messages.specs.Replication.{on_repl_part, on_prepare_remote};
+ghost use Rattle.write_txn.specs.Stands.{kept_part_of};
 ghost use Rattle.shard.specs.Kept.{Does, GoesOn};
 
 use crate::kept::Kept;
-use logical_time::{Clock, Fault};
+use logical_time::{Clock, Fault, TxnId};
 use messages::Outbox;
-use replicator::yes;
+use replicator::{notify, yes};
 use txn_state::WritePart;
+use write_txn::{Kept as KeptPart, Open};
 
 /// Prepare: ignored where the transaction is known; else the part is prepared and its rows are marked, and a Yes goes to
 /// its coordinator. Refused with `Memory` alone, and then the part comes back.
@@ -36,6 +39,65 @@ pub(crate) fn prepare(
         Err(fault) => return Err((fault, part)),
     }
     kept.transactions.prepare(part, time)?;
+    outbox.post(vote).unwrap();
+    kept.clock = clock;
+    Ok(())
+}
+
+/// ReplPart: ignored where the transaction is known; else the part is kept, without a mark, and a Notify goes to its
+/// coordinator in this data centre. Refused with `Memory` alone, and then the part comes back.
+pub(crate) fn repl_part(
+    kept: &mut Kept,
+    clock: Clock,
+    held: KeptPart,
+    outbox: &mut Outbox,
+) -> Result<(), (Fault, KeptPart)>
+    ensures step { OnOk result (Does (λ top me a. on_repl_part top me clock a (kept_part_of held)) kept.old kept.new outbox.old.sent outbox.new.sent) }
+    ensures same { OnErr result (GoesOn kept.old kept.new) }
+    ensures unsent { OnErr result (outbox.new.sent ≡ outbox.old.sent) }
+    ensures memory { IfErr result (λ e. (e.0 ≡ fault.Memory) × (e.1 ≡ held)) }
+{
+    let KeptPart { part, stamp } = held;
+    let writer = part.writer;
+    if kept.knows(writer.txn) {
+        drop(part);
+        kept.clock = clock;
+        return Ok(());
+    }
+    let notice = notify(kept.place, clock.now(), writer.txn, writer.shard);
+    match outbox.reserve(1) {
+        Ok(()) => {}
+        Err(fault) => return Err((fault, KeptPart { part, stamp })),
+    }
+    kept.transactions.keep(KeptPart { part, stamp })?;
+    outbox.post(notice).unwrap();
+    kept.clock = clock;
+    Ok(())
+}
+
+/// PrepareRemote: a part that is kept is prepared and its rows are marked, and a Yes goes to its coordinator; else
+/// ignored. Refused with `Memory` alone.
+pub(crate) fn prepare_remote(
+    kept: &mut Kept,
+    clock: Clock,
+    txn: TxnId,
+    outbox: &mut Outbox,
+) -> Result<(), Fault>
+    ensures step { OnOk result (Does (λ top me a. on_prepare_remote top me clock a txn) kept.old kept.new outbox.old.sent outbox.new.sent) }
+    ensures same { OnErr result (GoesOn kept.old kept.new) }
+    ensures unsent { OnErr result (outbox.new.sent ≡ outbox.old.sent) }
+    ensures memory { IfErr result (λ e. e ≡ fault.Memory) }
+{
+    let time = clock.now();
+    let vote = match kept.transactions.ledger().open(txn) {
+        Some(Open::Kept(held)) => yes(kept.place, time, txn, held.part.writer.shard),
+        _ => {
+            kept.clock = clock;
+            return Ok(());
+        }
+    };
+    outbox.reserve(1)?;
+    kept.transactions.prepare_kept(txn, time)?;
     outbox.post(vote).unwrap();
     kept.clock = clock;
     Ok(())

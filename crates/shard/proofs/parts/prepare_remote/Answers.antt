@@ -1,0 +1,15 @@
+use Rattle.std.proofs.Common.{rules}
+use Rattle.shard.proofs.PartSteps.{prepares_kept, prepares_nothing}
+use Rattle.shard.proofs.parts.prepare_remote.Goals.{in_default-via-in-Some+in_default, in_default-via-in_default}
+use Rattle.shard.proofs.parts.prepare_remote.Goals as goal
+
+pub returns-in_default-clause-step : goal.returns-in_default-clause-step
+returns-in_default-clause-step c = λ top me a r apart.
+    elim c.in_default.branch [
+      | in_default-via-in-Some+in_default w ↦ rw w.kept-is (prepares_nothing top me c.args.clock c.args.kept.now a c.args.txn c.args.outbox.now.sent r (search rules))
+      | in_default-via-in_default w ↦ rw w.kept-is (prepares_nothing top me c.args.clock c.args.kept.now a c.args.txn c.args.outbox.now.sent r (search rules))
+    ]
+
+pub returns-clause-step : goal.returns-clause-step
+returns-clause-step c = λ top me a r apart.
+    prepares_kept top me c.args.clock c.args.kept.now c.prepare_kept.new.self a c.args.txn c.in-Some-Kept.held c.args.outbox.now.sent c.post.new.self.sent r (search rules) apart (search rules) (search rules) c.prepare_kept.ensures.store c.prepare_kept.ensures.early (search rules)
