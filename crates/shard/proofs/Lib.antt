@@ -21,3 +21,5 @@ pub mod Votes
 pub mod Within
 mod WorkedHonest
 pub mod Standing
+pub mod Ascending
+pub mod BelowTime

@@ -6,3 +6,4 @@ pub mod Lookalikes
 pub mod Unfinished
 pub mod Kept
 pub mod Effects
+pub mod UnderWay

@@ -4,6 +4,7 @@
 //! refuted.
 #![tactic(auto)]
 
+mod below;
 mod kept;
 mod law;
 mod lookalikes;
