@@ -26,3 +26,5 @@ pub mod Votes
 pub mod Within
 mod WorkedHonest
 pub mod Standing
+pub mod Ascending
+pub mod BelowTime

@@ -8,3 +8,4 @@ pub mod Kept
 pub mod Effects
 pub mod Coming
 pub mod Deciding
+pub mod UnderWay

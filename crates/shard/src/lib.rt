@@ -9,6 +9,7 @@ mod committing;
 mod deciding;
 mod checking;
 mod early;
+mod below;
 mod kept;
 mod law;
 mod lookalikes;
