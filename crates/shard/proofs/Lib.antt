@@ -7,6 +7,7 @@ pub mod Handles
 pub mod InPlace
 pub mod LetGo
 pub mod Lists
+pub mod MarksOn
 pub mod OneShard
 pub mod PartSteps
 pub mod ReadSteps
