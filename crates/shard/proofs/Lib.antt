@@ -11,6 +11,7 @@ pub mod MarksOn
 pub mod OneShard
 pub mod PartSteps
 pub mod ReadSteps
+pub mod ReadsAnswered
 mod Refuted
 pub mod Remotes
 pub mod Run
