@@ -12,9 +12,11 @@ pub mod Handles
 pub mod InPlace
 pub mod LetGo
 pub mod Lists
+pub mod MarksOn
 pub mod OneShard
 pub mod PartSteps
 pub mod ReadSteps
+pub mod ReadsAnswered
 mod Refuted
 pub mod Remotes
 pub mod Run
