@@ -10,6 +10,7 @@ pub mod EarlySteps
 pub mod Grow
 pub mod Handles
 pub mod InPlace
+pub mod LastVotes
 pub mod LetGo
 pub mod Lists
 pub mod MarksOn

@@ -1,11 +1,12 @@
 -- What a decision tells beside Commit, and what it makes of what is kept.
-use Rattle.std.specs.Prelude.{◌≡◌, ℕ, if◌then◌else◌, List, [], ◌++◌, map}
+use Rattle.std.specs.Prelude.{◌≡◌, ℕ, ◌+◌, ◌*◌, if◌then◌else◌, List, [], ◌++◌, map}
 use Rattle.logical_time.specs.Stamps.{StampValue, TxnValue}
 use Rattle.store.specs.declared.part.Applied.{Applied}
 use Rattle.txn_state.specs.Prepared.{PreparedValue}
 use Rattle.dependencies.specs.Askers.{askers_of}
 use Rattle.messages.specs.declared.envelope.Envelope.{Envelope}
 use Rattle.messages.specs.Topology.{TopologyValue, shard_of}
+use Rattle.messages.specs.Place.{PlaceValue}
 use Rattle.messages.specs.Words.{is_same_txn}
 use Rattle.messages.specs.Shard.{ShardState, BegunBallot}
 use Rattle.messages.specs.Commits.{announcements, applied_part, dep_oks, stamp_for}
@@ -17,6 +18,10 @@ use Rattle.write_txn.specs.Voters.{voters_of}
 use Rattle.shard.specs.declared.kept.Kept.{Kept}
 use Rattle.shard.specs.declared.deciding.Deciding.{Deciding}
 use Rattle.shard.specs.Coming.{with_applied}
+
+-- the node of the shard that stands at this place
+abbrev pub node_at : PlaceValue → ℕ
+node_at p = p.dc * p.shards + p.shard
 
 -- the ballot that is going to be decided
 abbrev pub ballot_in : Deciding → BegunBallot
