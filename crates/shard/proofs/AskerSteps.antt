@@ -8,9 +8,8 @@ use Rattle.messages.specs.declared.body.Body.TheVariants.{DepOk}
 use Rattle.messages.specs.declared.envelope.Envelope.{Envelope}
 use Rattle.messages.specs.Topology.{TopologyValue}
 use Rattle.messages.specs.Words.{is_same_txn, envelope}
-use Rattle.messages.specs.Shard.{ShardState, ShardStep, Asker, Decision}
+use Rattle.messages.specs.Shard.{ShardState, Asker, Decision}
 use Rattle.messages.specs.Known.{decision_of, is_asker}
-use Rattle.messages.specs.Reads.{answer}
 use Rattle.messages.specs.Replication.{remember_if, dep_check_for, on_dep_check}
 use Rattle.write_txn.specs.Ledger.{state_of, decided_in}
 use Rattle.write_txn.proofs.Finds.{own_txn, same_txn, filter_extended, adds, of_another}

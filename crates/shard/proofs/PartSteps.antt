@@ -1,14 +1,13 @@
 -- The steps of a cohort's part, as what is kept takes them.
 use Rattle.std.proofs.Common.{◌≡◌, ◌∙◌, sym, ap, subst, refl, ℕ, Bool, true, false, List, [], ◌∷◌, ◌++◌, Option, Some, None, is_some}
 use Rattle.logical_time.specs.Stamps.{TxnValue}
-use Rattle.column_family.specs.declared.batch.Change.{Change}
 use Rattle.store.specs.Keeps.{AreApart}
 use Rattle.txn_state.specs.declared.part.WritePart.{WritePart}
 use Rattle.messages.specs.declared.body.Body.TheVariants.{Yes, Notify}
 use Rattle.messages.specs.declared.envelope.Envelope.{Envelope}
 use Rattle.messages.specs.Topology.{TopologyValue, dc_of, shard_node}
 use Rattle.messages.specs.Words.{envelope}
-use Rattle.messages.specs.Shard.{ShardState, ShardStep, KeptPart, Cohort, Replica}
+use Rattle.messages.specs.Shard.{ShardState, ShardStep, Cohort, Replica}
 use Rattle.messages.specs.Commits.{on_prepare, prepare_part}
 use Rattle.messages.specs.Reads.{answer}
 use Rattle.messages.specs.Replication.{repl_part_if, on_repl_part, on_prepare_remote}
