@@ -1,5 +1,5 @@
 -- Steps by which one transaction comes to stand otherwise, and nothing is applied or let go.
-use Rattle.std.proofs.Common.{◌≡◌, ◌∙◌, sym, ap, subst, refl, ℕ, List, [], ◌++◌, Option, Some, None}
+use Rattle.std.proofs.Common.{◌≡◌, ◌∙◌, sym, ap, subst, refl, ℕ, Bool, false, List, [], ◌++◌, Option, Some, None, is_some, Result, Ok, Err, OnOk}
 use Rattle.logical_time.specs.Stamps.{TxnValue}
 use Rattle.store.specs.Keeps.{Keeps, AreApart}
 use Rattle.store.specs.Kept as in_store
@@ -70,3 +70,12 @@ step_in_place top me n t s k ts a step before after r becomes store early m cloc
 -- how a transaction stands whose state is this
 pub stands_so : (top : TopologyValue) (me : ℕ) (k : Kept) (a : ShardState) (t : TxnValue) (o : Option State) → Represents top me k a → state_of k.transactions.ledger t ≡ o → Stands top me t (view_of t a) o
 stands_so top me k a t o r e = subst (Stands top me t (view_of t a)) e (r.stands t)
+
+-- what follows from what a success gives
+pub on_ok : {A E P Q : Type 0} (r : Result A E) → (P → Q) → OnOk r P → OnOk r Q
+on_ok (Ok x) f p = f p
+on_ok (Err e) f p = tt
+
+pub nothing_known : (o : Option State) → is_some o ≡ false → o ≡ None
+nothing_known None e = refl
+nothing_known (Some s) e = absurd (cc)

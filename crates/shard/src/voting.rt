@@ -16,7 +16,7 @@ ghost use Rattle.shard.specs.Deciding.{node_at, told};
 use crate::deciding::{Deciding, settle, stamp_at, tell};
 use crate::early::note_vote;
 use crate::kept::Kept;
-use logical_time::{Clock, Fault, Node, Stamp, Time, TxnId};
+use logical_time::{Clock, Fault, Node, Stamp, TxnId};
 use messages::{Envelope, Outbox};
 use write_txn::{Led as Held, Open};
 
@@ -41,12 +41,12 @@ fn is_last(kept: &Kept, txn: TxnId, node: Node) -> bool
 }
 
 /// What the decision of this ballot is going to send.
-fn told_with(kept: &Kept, time: Time, txn: TxnId, led: &Held) -> Result<Told, Fault>
+fn told_with(kept: &Kept, clock: Clock, txn: TxnId, led: &Held) -> Result<Told, Fault>
     requires { led.now.ballot.own.part.writer.txn ≡ txn }
     ensures ok { (top : TopologyValue) (me : ℕ) (a : ShardState) → Represents top me kept.now a → state_of kept.now.transactions.ledger txn ≡ Some (Holds (in_open.Led led.now))
-        → AreApart (decide top me time a (begun_of led.now)).state.applied
-        → IfOk result (λ all. all.envelopes.items ≡ told top me time a (begun_of led.now)) }
-    ensures stamp { IfOk result (λ all. all.stamp ≡ stamp_for (node_at kept.now.place) time led.now.stamp) }
+        → AreApart (decide top me clock a (begun_of led.now)).state.applied
+        → IfOk result (λ all. all.envelopes.items ≡ told top me clock a (begun_of led.now)) }
+    ensures stamp { IfOk result (λ all. all.stamp ≡ stamp_for (node_at kept.now.place) clock led.now.stamp) }
     ensures commits { IfOk result (λ all. all.commits ≡ length led.now.ballot.votes.cohorts) }
     ensures small { IfOk result (λ all. all.commits < 2 ^ 63) }
     ensures memory { IfErr result (λ e. e ≡ fault.Memory) }
@@ -58,27 +58,27 @@ fn told_with(kept: &Kept, time: Time, txn: TxnId, led: &Held) -> Result<Told, Fa
         dependencies: &led.dependencies,
         stamp: led.stamp,
     };
-    let envelopes = tell(kept, time, &deciding)?;
+    let envelopes = tell(kept, clock.now(), &deciding)?;
     Ok(Told {
-        stamp: stamp_at(&led.stamp, kept.place.node(), time),
+        stamp: stamp_at(&led.stamp, kept.place.node(), clock.now()),
         commits: led.ballot.votes().cohorts().len(),
         envelopes,
     })
 }
 
 /// What the decision of the transaction's ballot is going to send.
-fn told_of(kept: &Kept, time: Time, txn: TxnId, node: Node) -> Result<Told, Fault>
+fn told_of(kept: &Kept, clock: Clock, txn: TxnId, node: Node) -> Result<Told, Fault>
     requires { is_some (completed_by node (state_of kept.now.transactions.ledger txn)) ≡ true }
     ensures ok { (top : TopologyValue) (me : ℕ) (a : ShardState) (l : Led) → Represents top me kept.now a → state_of kept.now.transactions.ledger txn ≡ Some (Holds (in_open.Led l))
-        → AreApart (decide top me time a (begun_of l)).state.applied
-        → IfOk result (λ all. all.envelopes.items ≡ told top me time a (begun_of l)) }
-    ensures stamp { (l : Led) → state_of kept.now.transactions.ledger txn ≡ Some (Holds (in_open.Led l)) → IfOk result (λ all. all.stamp ≡ stamp_for (node_at kept.now.place) time l.stamp) }
+        → AreApart (decide top me clock a (begun_of l)).state.applied
+        → IfOk result (λ all. all.envelopes.items ≡ told top me clock a (begun_of l)) }
+    ensures stamp { (l : Led) → state_of kept.now.transactions.ledger txn ≡ Some (Holds (in_open.Led l)) → IfOk result (λ all. all.stamp ≡ stamp_for (node_at kept.now.place) clock l.stamp) }
     ensures commits { (l : Led) → state_of kept.now.transactions.ledger txn ≡ Some (Holds (in_open.Led l)) → IfOk result (λ all. all.commits ≡ length l.ballot.votes.cohorts) }
     ensures small { IfOk result (λ all. all.commits < 2 ^ 63) }
     ensures memory { IfErr result (λ e. e ≡ fault.Memory) }
 {
     match kept.transactions.ledger().open(txn) {
-        Some(Open::Led(led)) => told_with(kept, time, txn, led),
+        Some(Open::Led(led)) => told_with(kept, clock, txn, led),
         _ => unreachable!(),
     }
 }
@@ -101,7 +101,7 @@ fn decide_by(
         stamp,
         commits,
         envelopes,
-    } = told_of(kept, clock.now(), txn, node)?;
+    } = told_of(kept, clock, txn, node)?;
     outbox.reserve(commits + envelopes.len())?;
     kept.transactions.make_room_for(txn)?;
     let here = kept.place.node();
