@@ -4,6 +4,7 @@
 //! refuted.
 #![tactic(auto)]
 
+mod beginning;
 mod coming;
 mod committing;
 mod deciding;
