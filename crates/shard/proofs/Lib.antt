@@ -2,6 +2,7 @@ pub mod Additions
 pub mod Applying
 pub mod AskerSteps
 pub mod Asked
+pub mod Begins
 pub mod Closed
 pub mod ComingAnswers
 pub mod Commits
