@@ -35,11 +35,11 @@ mark_found : (q : PreparedPart → Bool) (t : TxnValue) (ps : List PreparedPart)
 mark_found q t [] once = refl
 mark_found q t (p ∷ ps) once = by_cases (is_same_txn p.txn t)
     (λ same. by_cases (q p)
-        (λ yes. rw (yes, same, yes) refl)
-        (λ no. rw (no, same, no) (unmarked q t ps (subst (λ u. AreOfOthers (λ (x : PreparedPart). x.txn) u ps) (same_txn p.txn t same) once.0))))
+    (λ yes. rw (yes, same, yes) refl)
+    (λ no. rw (no, same, no) (unmarked q t ps (subst (λ u. AreOfOthers (λ (x : PreparedPart). x.txn) u ps) (same_txn p.txn t same) once.0))))
     (λ other. by_cases (q p)
-        (λ yes. rw (yes, other) (mark_found q t ps once.1))
-        (λ no. rw (no, other) (mark_found q t ps once.1)))
+    (λ yes. rw (yes, other) (mark_found q t ps once.1))
+    (λ no. rw (no, other) (mark_found q t ps once.1)))
 
 found_txn : (t : TxnValue) (ps : List PreparedPart) (p : PreparedPart) → find (λ (x : PreparedPart). is_same_txn x.txn t) ps ≡ Some p → p.txn ≡ t
 found_txn t [] p e = absurd (cc)

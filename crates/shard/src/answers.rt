@@ -33,8 +33,8 @@ impl AnswersAt for AsItIs<'_> {
     }
 }
 
-/// The answers, at this time, to the reads that a NotBy of the transaction lets go, in the order of their arrival. Refused
-/// with `Memory` alone.
+/// The answers at this time, by the store as it is, to the reads that this cause lets go, in the order of their arrival. Costs
+/// what `freed_answers` costs. Refused with `Memory` alone.
 pub(crate) fn answers_as_it_is(
     kept: &Kept,
     time: Time,

@@ -32,7 +32,13 @@ pub(crate) fn read(
 {
     let time = clock.now();
     let transactions = &kept.transactions;
-    let rows = rows_now(kept.alloc, transactions.store(), transactions.marks(), time, asked)?;
+    let rows = rows_now(
+        kept.alloc,
+        transactions.store(),
+        transactions.marks(),
+        time,
+        asked,
+    )?;
     outbox.reserve(1)?;
     let part = Envelope {
         from: kept.place.node(),
@@ -89,10 +95,7 @@ fn asking(
     ensures checks { (top : TopologyValue) (me : ℕ) → IsPlace top me kept.now.place → IfOk result (λ r. r.1.items ≡ map (check_of top me now time) writers.now) }
     ensures memory { IfErr result (λ e. e ≡ fault.Memory) }
 {
-    let txns: Vec<TxnId> = writers
-        .iter()
-        .map(|writer| writer.txn)
-        .collect(kept.alloc)?;
+    let txns: Vec<TxnId> = writers.iter().map(|writer| writer.txn).collect(kept.alloc)?;
     let checks = checks(kept.alloc, kept.place, now, time, writers)?;
     Ok((txns, checks))
 }
@@ -176,7 +179,16 @@ pub(crate) fn read_at(
         Err(fault) => return Err((fault, asked)),
     };
     if !writers.is_empty() {
-        return waits(kept, clock, from, number, time, asked, writers.as_slice(), outbox);
+        return waits(
+            kept,
+            clock,
+            from,
+            number,
+            time,
+            asked,
+            writers.as_slice(),
+            outbox,
+        );
     }
     match answered(kept, clock, from, number, time, &asked, outbox) {
         Ok(()) => Ok(()),
