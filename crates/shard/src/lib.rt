@@ -9,6 +9,7 @@ mod kept;
 mod law;
 mod lookalikes;
 mod parts;
+mod unfinished;
 
 pub use law::one_shard_is_right;
 pub use lookalikes::{lookalikes_of_right_shards_are_false, shards_need_honest_envelopes};
