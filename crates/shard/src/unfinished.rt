@@ -44,11 +44,7 @@ fn part_of(open: &Open) -> Result<WritePart, AllocError>
 }
 
 // The shard's own parts of these transactions, without those of which nothing is under way.
-fn parts_of(
-    alloc: Global,
-    ledger: &Ledger,
-    txns: &BTreeSet<TxnId>,
-) -> Result<Vec<WritePart>, Fault>
+fn parts_of(alloc: Global, ledger: &Ledger, txns: &BTreeSet<TxnId>) -> Result<Vec<WritePart>, Fault>
     ensures ok { IfOk result (λ parts. parts.items ≡ filter_map (part_under_way ledger.now) txns.now.keys) }
     ensures memory { IfErr result (λ e. e ≡ fault.Memory) }
 {
