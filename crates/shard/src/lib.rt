@@ -19,6 +19,7 @@ mod lookalikes;
 mod parts;
 mod reading;
 mod voting;
+mod unfinished;
 
 pub use law::one_shard_is_right;
 pub use lookalikes::{lookalikes_of_right_shards_are_false, shards_need_honest_envelopes};
