@@ -33,13 +33,14 @@ pub(crate) fn prepare(
         return Ok(());
     }
     let time = clock.now();
-    let vote = yes(kept.place, time, writer.txn, writer.shard);
     match outbox.reserve(1) {
         Ok(()) => {}
         Err(fault) => return Err((fault, part)),
     }
     kept.transactions.prepare(part, time)?;
-    outbox.post(vote).unwrap();
+    outbox
+        .post(yes(kept.place, time, writer.txn, writer.shard))
+        .unwrap();
     kept.clock = clock;
     Ok(())
 }
@@ -64,13 +65,14 @@ pub(crate) fn repl_part(
         kept.clock = clock;
         return Ok(());
     }
-    let notice = notify(kept.place, clock.now(), writer.txn, writer.shard);
     match outbox.reserve(1) {
         Ok(()) => {}
         Err(fault) => return Err((fault, KeptPart { part, stamp })),
     }
     kept.transactions.keep(KeptPart { part, stamp })?;
-    outbox.post(notice).unwrap();
+    outbox
+        .post(notify(kept.place, clock.now(), writer.txn, writer.shard))
+        .unwrap();
     kept.clock = clock;
     Ok(())
 }
@@ -89,8 +91,8 @@ pub(crate) fn prepare_remote(
     ensures memory { IfErr result (λ e. e ≡ fault.Memory) }
 {
     let time = clock.now();
-    let vote = match kept.transactions.ledger().open(txn) {
-        Some(Open::Kept(held)) => yes(kept.place, time, txn, held.part.writer.shard),
+    let coordinator = match kept.transactions.ledger().open(txn) {
+        Some(Open::Kept(held)) => held.part.writer.shard,
         _ => {
             kept.clock = clock;
             return Ok(());
@@ -98,7 +100,9 @@ pub(crate) fn prepare_remote(
     };
     outbox.reserve(1)?;
     kept.transactions.prepare_kept(txn, time)?;
-    outbox.post(vote).unwrap();
+    outbox
+        .post(yes(kept.place, time, txn, coordinator))
+        .unwrap();
     kept.clock = clock;
     Ok(())
 }
