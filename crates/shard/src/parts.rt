@@ -27,7 +27,8 @@ pub(crate) fn prepare(
     ensures memory { IfErr result (λ e. (e.0 ≡ fault.Memory) × (e.1 ≡ part)) }
 {
     let writer = part.writer;
-    if kept.knows(writer.txn) {
+    let txn = writer.txn;
+    if kept.knows(txn) {
         drop(part);
         kept.clock = clock;
         return Ok(());
@@ -39,7 +40,7 @@ pub(crate) fn prepare(
     }
     kept.transactions.prepare(part, time)?;
     outbox
-        .post(yes(kept.place, time, writer.txn, writer.shard))
+        .post(yes(kept.place, time, txn, writer.shard))
         .unwrap();
     kept.clock = clock;
     Ok(())
