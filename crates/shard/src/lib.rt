@@ -1,7 +1,10 @@
-//! One shard: what is promised of all that it answers, by the protocol's definitions.
+//! One shard of a data centre: it handles envelopes, each by the step of the protocol's definitions, and what it answers is
+//! right.
 //!
-//! No program runs it yet. That one shard is right is a law of the definitions, and forms that resemble it and are false are
-//! refuted.
+//! What it keeps is less than the definitions' state, which keeps everything for good: what it knows of each transaction, the
+//! parts and ballots under way, what was applied, and whoever waits. Each event makes all its room first, so what is refused
+//! changes nothing. That one shard is right is also a law of the definitions alone, and forms that resemble it and are false
+//! are refuted. No program has a shard yet.
 #![tactic(auto)]
 
 mod beginning;
