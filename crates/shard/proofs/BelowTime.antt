@@ -1,4 +1,4 @@
--- The transactions with a mark below a time, by what is under way of them.
+-- The transactions with a mark below a time are those that the machine asks for.
 use Rattle.std.proofs.Common.{◌≡◌, ◌∙◌, sym, ap, subst, refl, ℕ, ◌<◌, Bool, true, false, ◌&&◌, not, inl, inr, List, [], ◌∷◌, map, Option, Some, None, Contains, arith}
 use Rattle.std.specs.Prelude.{if◌then◌else◌, nat_lt, filter_map, find, option_map}
 use Rattle.std.specs.List.{list_any}
@@ -24,34 +24,11 @@ use Rattle.write_txn.specs.View.{view_of}
 use Rattle.write_txn.specs.Stands.{Stands, own_part, kept_part_of, kept_ballot_of, mark_of}
 use Rattle.write_txn.proofs.Finds.{own_txn, same_back}
 use Rattle.shard.specs.UnderWay.{writer_under_way}
-use Rattle.shard.proofs.Lists.{no_truth, both_hold, any_found, any_has, found, same_txn}
-use Rattle.shard.proofs.Ascending.{GivesOwn, given_in_order}
+use Rattle.shard.proofs.Lists.{no_truth, not_true, both_hold, any_found, any_has, found, same_txn}
+use Rattle.shard.proofs.Ascending.{given_in_order}
+use Rattle.shard.proofs.HeldParts.{AllStand, false_not, find_once, writer_of, marking, one_some, own_writers}
 
--- each transaction stands as it is known
-abbrev pub AllStand : TopologyValue → ℕ → LedgerValue → ShardState → Type 0
-AllStand top me l a = (t : TxnValue) → Stands top me t (view_of t a) (state_of l t)
-
--- ## A part among those of which no two are of one transaction
-
-others_apart : {T : Type 0} (f : T → TxnValue) (t : TxnValue) (xs : List T) (x : T) → AreOfOthers f t xs → Contains xs x → is_same_txn (f x) t ≡ false
-others_apart f t [] x others has = absurd (none_in_empty x has)
-others_apart f t (y ∷ ys) x others has = elim (first_or_rest y x ys has) [
-  | inl here ↦ subst (λ z. is_same_txn (f z) t ≡ false) here others.0
-  | inr later ↦ others_apart f t ys x others.1 later
-]
-
-pub find_once : {T : Type 0} (f : T → TxnValue) (xs : List T) (x : T) → AreOnce f xs → Contains xs x → find (λ y. is_same_txn (f y) (f x)) xs ≡ Some x
-find_once f [] x once has = absurd (none_in_empty x has)
-find_once f (y ∷ ys) x once has = elim (first_or_rest y x ys has) [
-  | inl here ↦ rw (ap (λ z. is_same_txn (f z) (f x)) here ∙ own_txn (f x)) (ap Some here)
-  | inr later ↦ rw (same_back (f y) (f x) ∙ others_apart f (f y) ys x once.0 later) (find_once f ys x once.1 later)
-]
-
--- ## What is under way, and marks
-
--- a prepared part's transaction, with its coordinator
-abbrev pub writer_of : PreparedPart → WriterValue
-writer_of p = record { txn = p.txn; shard = p.coordinator }
+-- ## Marks
 
 -- a mark is that of a prepared part that isn't applied, and whose coordinator is known
 record IsMark (a : ShardState) (t : TxnValue) (s : Option State) (r : Row) (n : ℕ) : Type 0 where
@@ -78,61 +55,11 @@ mark_is top me a t (Some (Holds (in_open.Remote r'))) r n h e = absurd (cc)
 mark_is top me a t (Some IsApplied) r n h e = absurd (cc)
 mark_is top me a t (Some (IsDecided commit stamp)) r n h e = absurd (cc)
 
--- a prepared part that isn't applied is under way, and marks the rows that it touches
-record IsMarking (s : Option State) (p : PreparedPart) : Type 0 where
-  marks : (r : Row) → touches_row r p ≡ true → mark_of s r ≡ Some p.time
-  writer : option_map (λ o. (part_of o).writer) (open_in s) ≡ Some (writer_of p)
-
-none_or_some : {T P : Type 0} (o : Option T) (x : T) → o ≡ None → o ≡ Some x → P
-none_or_some o x e f = absurd (let g : None ≡ Some x = sym e ∙ f in cc)
-
-one_some : {T : Type 0} (o : Option T) (x y : T) → o ≡ Some x → o ≡ Some y → x ≡ y
-one_some o x y e f = let g : Some x ≡ Some y = sym e ∙ f in cc
-
-marking : (top : TopologyValue) (me : ℕ) (a : ShardState) (t : TxnValue) (s : Option State) (p : PreparedPart) → Stands top me t (view_of t a) s
-    → prepared_part t a ≡ Some p → is_applied t a ≡ false → IsMarking s p
-marking top me a t None p h e u = none_or_some (prepared_part t a) p h.prepared e
-marking top me a t (Some (Holds (in_open.Kept k))) p h e u = none_or_some (prepared_part t a) p h.prepared e
-marking top me a t (Some (Holds (in_open.Part q))) p h e u =
-    subst (IsMarking (Some (Holds (in_open.Part q)))) (one_some (prepared_part t a) q p h.prepared e)
-    (record { marks = λ r touches. rw touches refl; writer = refl })
-marking top me a t (Some (Holds (in_open.Led l))) p h e u =
-    subst (IsMarking (Some (Holds (in_open.Led l)))) (one_some (prepared_part t a) (own_part l) p h.prepared e)
-    (record { marks = λ r touches. rw touches refl; writer = refl })
-marking top me a t (Some (Holds (in_open.Remote r))) p h e u = none_or_some (prepared_part t a) p h.0.prepared e
-marking top me a t (Some IsApplied) p h e u = no_truth (is_applied t a) h.applied u
-marking top me a t (Some (IsDecided commit stamp)) p h e u = no_truth (is_applied t a) h.applied u
-
--- ## Whose it is
-
-own_txn_of : (top : TopologyValue) (me : ℕ) (a : ShardState) (t : TxnValue) (o : Open) → Stands top me t (view_of t a) (Some (Holds o)) → (part_of o).writer.txn ≡ t
-own_txn_of top me a t (in_open.Kept k) h = same_txn k.part.writer.txn t (found (λ q. is_same_txn q.txn t) a.kept_parts (kept_part_of k) h.kept_part).1
-own_txn_of top me a t (in_open.Part p) h = same_txn p.txn t (found (λ q. is_same_txn q.txn t) a.prepared p h.prepared).1
-own_txn_of top me a t (in_open.Led l) h = same_txn (own_part l).txn t (found (λ q. is_same_txn q.txn t) a.prepared (own_part l) h.prepared).1
-own_txn_of top me a t (in_open.Remote r) h = same_txn r.ballot.part.writer.txn t (found (λ q. is_same_txn q.txn t) a.kept_ballots (kept_ballot_of r) h.0.kept_ballot).1
-
-own_writer : (top : TopologyValue) (me : ℕ) (a : ShardState) (t : TxnValue) (s : Option State) (w : WriterValue) → Stands top me t (view_of t a) s
-    → option_map (λ o. (part_of o).writer) (open_in s) ≡ Some w → w.txn ≡ t
-own_writer top me a t None w h e = absurd (cc)
-own_writer top me a t (Some (Holds o)) w h e =
-    let same : (part_of o).writer ≡ w = cc in
-    sym (ap (λ (x : WriterValue). x.txn) same) ∙ own_txn_of top me a t o h
-own_writer top me a t (Some IsApplied) w h e = absurd (cc)
-own_writer top me a t (Some (IsDecided commit stamp)) w h e = absurd (cc)
-
--- what is under way of a transaction is its own
-pub own_writers : (top : TopologyValue) (me : ℕ) (a : ShardState) (l : LedgerValue) → AllStand top me l a → GivesOwn (writer_under_way l)
-own_writers top me a l stand t w e = own_writer top me a t (state_of l t) w (stand t) e
-
 -- ## The asked transactions
 
 -- whether a part has a mark below the time on an asked row
 abbrev is_below : ShardState → ℕ → Read → PreparedPart → Bool
 is_below a time read p = list_any (λ key. touches_row (row_of read key) p) read.keys && not (is_applied p.txn a) && nat_lt p.time time
-
-false_not : (b : Bool) → b ≡ false → not b ≡ true
-false_not true e = absurd (cc)
-false_not false e = refl
 
 -- a transaction with a mark below the time on one of the rows is asked for
 marked_asked : (top : TopologyValue) (me : ℕ) (a : ShardState) (l : LedgerValue) (time : ℕ) (read : Read) (t : TxnValue) (w : WriterValue) (r : Row) (n : ℕ)
@@ -153,10 +80,6 @@ marked_asked top me a l time read t w r n h has is below under_way =
     (both_hold (list_any (λ key. touches_row (row_of read key) m.part) read.keys && not (is_applied m.part.txn a)) (nat_lt m.part.time time)
     (both_hold (list_any (λ key. touches_row (row_of read key) m.part) read.keys) (not (is_applied m.part.txn a)) touches unapplied) early)))
 
-not_so : (b : Bool) → not b ≡ true → b ≡ false
-not_so true e = absurd (cc)
-not_so false e = refl
-
 -- one that is asked for has such a mark
 record IsAsked (l : LedgerValue) (time : ℕ) (read : Read) (w : WriterValue) : Type 0 where
   row : Row
@@ -173,7 +96,7 @@ part_asked top me a l time read p stand once has =
     let b = both_true (list_any (λ key. touches_row (row_of read key) p) read.keys && not (is_applied p.txn a)) (nat_lt p.time time) k.1 in
     let u = both_true (list_any (λ key. touches_row (row_of read key) p) read.keys) (not (is_applied p.txn a)) b.0 in
     let key = any_found (λ key. touches_row (row_of read key) p) read.keys u.0 in
-    let m = marking top me a p.txn (state_of l p.txn) p (stand p.txn) (find_once (λ (q : PreparedPart). q.txn) a.prepared p once k.0) (not_so (is_applied p.txn a) u.1) in
+    let m = marking top me a p.txn (state_of l p.txn) p (stand p.txn) (find_once (λ (q : PreparedPart). q.txn) a.prepared p once k.0) (not_true (is_applied p.txn a) u.1) in
     record {
       row = row_of read key.0;
       asked = contains_map (row_of read) read.keys key.0 key.1;

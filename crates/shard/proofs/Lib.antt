@@ -30,4 +30,9 @@ pub mod Within
 mod WorkedHonest
 pub mod Standing
 pub mod Ascending
+pub mod HeldParts
 pub mod BelowTime
+pub mod FoundParts
+pub mod FirstHeld
+pub mod UnfinishedParts
+pub mod TxnsListed

@@ -17,6 +17,7 @@ mod law;
 mod lookalikes;
 mod parts;
 mod reading;
+mod unfinished;
 mod voting;
 
 pub use law::one_shard_is_right;
