@@ -8,6 +8,7 @@ pub mod Commits
 pub mod Decisions
 pub mod EarlySteps
 pub mod Grow
+pub mod HandledSteps
 pub mod Handles
 pub mod InPlace
 pub mod LastVotes

@@ -9,3 +9,4 @@ pub mod Effects
 pub mod Coming
 pub mod Deciding
 pub mod UnderWay
+pub mod Handled

@@ -9,14 +9,17 @@ mod committing;
 mod deciding;
 mod checking;
 mod early;
+mod beginning;
 mod below;
 mod answers;
 mod excluding;
+mod handling;
 mod kept;
 mod law;
 mod lookalikes;
 mod parts;
 mod reading;
+mod replicas;
 mod unfinished;
 mod voting;
 
