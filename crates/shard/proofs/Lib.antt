@@ -21,8 +21,10 @@ pub mod ReadSteps
 pub mod ReadsAnswered
 mod Refuted
 pub mod Remotes
+pub mod RightSends
 pub mod Run
 pub mod Sending
+pub mod ShardSteps
 pub mod Shown
 pub mod Untouched
 pub mod Updates

@@ -20,8 +20,10 @@ mod lookalikes;
 mod parts;
 mod reading;
 mod replicas;
+mod shard;
 mod unfinished;
 mod voting;
 
 pub use law::one_shard_is_right;
 pub use lookalikes::{lookalikes_of_right_shards_are_false, shards_need_honest_envelopes};
+pub use shard::Shard;
