@@ -1,30 +1,28 @@
 -- The transactions with a mark below a time are those that the machine asks for.
-use Rattle.std.proofs.Common.{◌≡◌, ◌∙◌, sym, ap, subst, refl, ℕ, ◌<◌, Bool, true, false, ◌&&◌, not, inl, inr, List, [], ◌∷◌, map, Option, Some, None, Contains, arith}
-use Rattle.std.specs.Prelude.{if◌then◌else◌, nat_lt, filter_map, find, option_map}
+use Rattle.std.proofs.Common.{◌≡◌, ◌∙◌, sym, ap, subst, refl, ℕ, ◌<◌, Bool, true, false, ◌&&◌, not, List, map, Option, Some, None, Contains, arith}
+use Rattle.std.specs.Prelude.{if◌then◌else◌, nat_lt, filter_map, option_map}
 use Rattle.std.specs.List.{list_any}
 use Rattle.std.proofs.lemmas.Bool.{lt-ltb, ltb-true}
 use Rattle.logical_time.specs.Stamps.{TxnValue, WriterValue}
 use Rattle.column_family.specs.declared.batch.Row.{Row}
 use Rattle.column_family.proofs.Options.{both_true}
 use Rattle.slice.specs.declared.read.Read.{Read}
-use Rattle.store.proofs.Lists.{none_in_empty, first_or_rest, kept, kept_only}
+use Rattle.store.proofs.Lists.{kept, kept_only}
 use Rattle.planner.proofs.Members.{contains_map, map_contains}
 use Rattle.pending.specs.Marks.{MarkList, time_at}
 use Rattle.pending.specs.Marked.{AreBelow}
 use Rattle.messages.specs.Topology.{TopologyValue}
 use Rattle.messages.specs.Words.{is_same_txn}
 use Rattle.messages.specs.Shard.{ShardState, PreparedPart}
-use Rattle.messages.specs.Known.{prepared_part, is_applied, AreOnce, AreOfOthers}
+use Rattle.messages.specs.Known.{prepared_part, is_applied, AreOnce}
 use Rattle.messages.specs.Rows.{row_of, touches_row}
 use Rattle.messages.specs.Reads.{marks_below, asked_below}
-use Rattle.write_txn.specs.declared.open.Open.{Open}
 use Rattle.write_txn.specs.declared.open.Open.TheVariants as in_open
 use Rattle.write_txn.specs.Ledger.{LedgerValue, State, Holds, IsApplied, IsDecided, state_of, open_in, part_of}
 use Rattle.write_txn.specs.View.{view_of}
-use Rattle.write_txn.specs.Stands.{Stands, own_part, kept_part_of, kept_ballot_of, mark_of}
-use Rattle.write_txn.proofs.Finds.{own_txn, same_back}
+use Rattle.write_txn.specs.Stands.{Stands, own_part, mark_of}
 use Rattle.shard.specs.UnderWay.{writer_under_way}
-use Rattle.shard.proofs.Lists.{no_truth, not_true, both_hold, any_found, any_has, found, same_txn}
+use Rattle.shard.proofs.Lists.{not_true, both_hold, any_found, any_has, found, same_txn}
 use Rattle.shard.proofs.Ascending.{given_in_order}
 use Rattle.shard.proofs.HeldParts.{AllStand, false_not, find_once, writer_of, marking, one_some, own_writers}
 

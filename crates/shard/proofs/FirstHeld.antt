@@ -1,5 +1,5 @@
 -- What is under way of a transaction is the first that the shard holds of it.
-use Rattle.std.proofs.Common.{◌≡◌, ◌∙◌, sym, ap, refl, ℕ, Bool, List, [], ◌∷◌, map, Option, Some, None}
+use Rattle.std.proofs.Common.{◌≡◌, ◌∙◌, sym, ap, refl, ℕ, Bool, map, Some, None}
 use Rattle.std.specs.Prelude.{find}
 use Rattle.std.specs.Ordering.{is_eq}
 use Rattle.logical_time.specs.Stamps.{TxnValue, WriterValue, writer_cmp}

@@ -1,5 +1,5 @@
 -- What is found in lists of parts.
-use Rattle.std.proofs.Common.{◌≡◌, ◌∙◌, sym, ap, subst, refl, Bool, true, false, inl, inr, List, [], ◌∷◌, ◌++◌, map, Option, Some, None, Contains, arith}
+use Rattle.std.proofs.Common.{◌≡◌, ◌∙◌, sym, ap, subst, refl, Bool, true, inl, inr, List, [], ◌∷◌, ◌++◌, map, Some, None, Contains, arith}
 use Rattle.std.specs.Prelude.{filter, find, option_map}
 use Rattle.std.specs.Ordering.{is_eq}
 use Rattle.std.proofs.lemmas.Bool.Decides.{nat_tests}
@@ -35,16 +35,16 @@ find_narrower q r [] x all e is = absurd (cc)
 find_narrower q r (z ∷ zs) x all e is = by_cases (r z)
     (λ yes_z. rw yes_z (rw (all z yes_z) at e))
     (λ no_z. by_cases (q z)
-      (λ first. let f : Some z ≡ Some x = rw first at e in let same : z ≡ x = cc in no_truth (r z) (ap r same ∙ is) no_z)
-      (λ later. rw no_z (find_narrower q r zs x all (rw later at e) is)))
+    (λ first. let f : Some z ≡ Some x = rw first at e in let same : z ≡ x = cc in no_truth (r z) (ap r same ∙ is) no_z)
+    (λ later. rw no_z (find_narrower q r zs x all (rw later at e) is)))
 
 none_narrower : {X : Type 0} (q r : X → Bool) (xs : List X) → ((z : X) → r z ≡ true → q z ≡ true) → find q xs ≡ None → find r xs ≡ None
 none_narrower q r [] all e = refl
 none_narrower q r (z ∷ zs) all e = by_cases (r z)
     (λ yes_z. absurd (let f : Some z ≡ None = rw (all z yes_z) at e in cc))
     (λ no_z. by_cases (q z)
-      (λ first. absurd (let f : Some z ≡ None = rw first at e in cc))
-      (λ later. rw no_z (none_narrower q r zs all (rw later at e))))
+    (λ first. absurd (let f : Some z ≡ None = rw first at e in cc))
+    (λ later. rw no_z (none_narrower q r zs all (rw later at e))))
 
 -- ## By writer
 
@@ -88,8 +88,8 @@ pub one_of_four : {X P : Type 0} (xs ys zs vs : List X) (x : X) → (Contains xs
     → Contains (xs ++ ys ++ zs ++ vs) x → P
 one_of_four xs ys zs vs x in_xs in_bs in_cs in_ds has = elim (Contains-append_cases (xs ++ ys ++ zs) vs x has) [
   | inl l ↦ elim (Contains-append_cases (xs ++ ys) zs x l) [
-      | inl m ↦ elim (Contains-append_cases xs ys x m) [ inl a ↦ in_xs a | inr b ↦ in_bs b ]
-      | inr c ↦ in_cs c
-    ]
+    | inl m ↦ elim (Contains-append_cases xs ys x m) [ inl a ↦ in_xs a | inr b ↦ in_bs b ]
+    | inr c ↦ in_cs c
+  ]
   | inr d ↦ in_ds d
 ]

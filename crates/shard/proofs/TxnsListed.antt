@@ -28,10 +28,10 @@ listed_more os o before after put listed x has = contained after (txn_of x) (eli
       put (txn_of x) ∙ ap (λ (b : Bool). cond (is_eq (txn_cmp (txn_of o) (txn_of x))) true b) (any_has (λ u. is_eq (txn_cmp (txn_of x) u)) before (txn_of x) (listed x old) (own_txn (txn_of x)))
       ∙ either_way (is_eq (txn_cmp (txn_of o) (txn_of x)))
   | inr new ↦ elim (first_or_rest o x [] new) [
-      | inl here ↦
-          put (txn_of x) ∙ ap (λ (b : Bool). cond b true (list_any (λ u. is_eq (txn_cmp (txn_of x) u)) before)) (ap (λ (z : Open). is_eq (txn_cmp (txn_of z) (txn_of x))) here ∙ own_txn (txn_of x))
-      | inr none ↦ absurd (none_in_empty x none)
-    ]
+    | inl here ↦
+        put (txn_of x) ∙ ap (λ (b : Bool). cond b true (list_any (λ u. is_eq (txn_cmp (txn_of x) u)) before)) (ap (λ (z : Open). is_eq (txn_cmp (txn_of z) (txn_of x))) here ∙ own_txn (txn_of x))
+    | inr none ↦ absurd (none_in_empty x none)
+  ]
 ])
 
 pub placed : {X : Type 0} (xs : List X) (x : X) → (place : _) × (slice_get xs place ≡ Some x) → Contains xs x

@@ -1,25 +1,24 @@
 -- What is under way, put in order, is what the machine hasn't finished.
-use Rattle.std.proofs.Common.{◌≡◌, ◌∙◌, sym, ap, subst, refl, ℕ, Bool, true, false, not, List, [], ◌∷◌, map, Option, Some, None, Contains, is_some}
+use Rattle.std.proofs.Common.{◌≡◌, ◌∙◌, sym, ap, subst, refl, ℕ, true, false, not, List, [], ◌∷◌, map, Option, Some, None, Contains, is_some}
 use Rattle.std.specs.Prelude.{filter_map, find, option_map}
 use Rattle.std.specs.List.{cons_option}
 use Rattle.std.specs.List.Sorted.{IsStrictlySortedBy}
-use Rattle.std.specs.Ordering.{is_eq}
-use Rattle.logical_time.specs.Stamps.{TxnValue, txn_cmp, WriterValue, writer_cmp}
+use Rattle.logical_time.specs.Stamps.{TxnValue, txn_cmp, WriterValue}
 use Rattle.store.proofs.Lists.{kept_only}
 use Rattle.planner.proofs.Members.{contains_map, map_contains}
 use Rattle.txn_state.specs.declared.part.WritePart.{WritePart}
 use Rattle.messages.specs.Topology.{TopologyValue, shard_of}
 use Rattle.messages.specs.Words.{is_same_txn, in_writer_order}
-use Rattle.messages.specs.Shard.{ShardState, PreparedPart, BegunBallot, KeptPart, KeptBallot}
+use Rattle.messages.specs.Shard.{ShardState, PreparedPart, KeptPart}
 use Rattle.messages.specs.Known.{is_applied, AreOnce}
 use Rattle.write_txn.specs.declared.open.Open.{Open}
 use Rattle.write_txn.specs.declared.open.Open.TheVariants as in_open
 use Rattle.write_txn.specs.Ledger.{LedgerValue, State, Holds, IsApplied, IsDecided, state_of, open_in}
 use Rattle.write_txn.specs.Ledger as ledger
 use Rattle.write_txn.specs.View.{view_of}
-use Rattle.write_txn.specs.Stands.{Stands, own_part, kept_part_of, kept_ballot_of}
+use Rattle.write_txn.specs.Stands.{Stands, kept_part_of}
 use Rattle.write_txn.proofs.Finds.{own_txn}
-use Rattle.shard.specs.Unfinished.{part_of, parts_held, parts_unapplied, unfinished_of}
+use Rattle.shard.specs.Unfinished.{parts_held, parts_unapplied, unfinished_of}
 use Rattle.shard.specs.UnderWay.{part_under_way, writer_under_way}
 use Rattle.shard.proofs.Lists.{no_truth, not_true, found, found_some, same_txn}
 use Rattle.shard.proofs.Ascending.{given_in_order}
@@ -162,6 +161,6 @@ parts_are_unfinished top me a l ts stand once kept_once sorted all =
         (λ w has. let m = map_contains (λ (p : WritePart). p.writer) (parts_unapplied top me a) w has in
         let k = kept_only (λ (p : WritePart). not (is_applied p.writer.txn a)) (parts_held top me a) m.0 m.1 in
         let e : writer_under_way l w.txn ≡ Some w =
-            subst (λ (v : WriterValue). writer_under_way l v.txn ≡ Some v) m.2 (writer_held top me a l m.0 stand once kept_once k.0 (not_true (is_applied m.0.writer.txn a) k.1)) in
+        subst (λ (v : WriterValue). writer_under_way l v.txn ≡ Some v) m.2 (writer_held top me a l m.0 stand once kept_once k.0 (not_true (is_applied m.0.writer.txn a) k.1)) in
         let o = some_mapped (λ o. (ledger.part_of o).writer) (open_in (state_of l w.txn)) w e in
         (subst (Contains ts) (txn_of_writer o.0 ∙ ap (λ (v : WriterValue). v.txn) o.2) (all w.txn o.0 (holds (state_of l w.txn) o.0 o.1)), e))

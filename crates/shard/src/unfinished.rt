@@ -44,11 +44,7 @@ fn part_of(open: &Open) -> Result<WritePart, AllocError>
 }
 
 // The shard's own parts of these transactions, without those of which nothing is under way.
-fn parts_of(
-    alloc: Global,
-    ledger: &Ledger,
-    txns: &BTreeSet<TxnId>,
-) -> Result<Vec<WritePart>, Fault>
+fn parts_of(alloc: Global, ledger: &Ledger, txns: &BTreeSet<TxnId>) -> Result<Vec<WritePart>, Fault>
     ensures ok { IfOk result (λ parts. parts.items ≡ filter_map (part_under_way ledger.now) txns.now.keys) }
     ensures memory { IfErr result (λ e. e ≡ fault.Memory) }
 {
@@ -62,8 +58,8 @@ fn parts_of(
 }
 
 /// The parts that are kept or prepared and not applied, in the order of their transactions' numbers. They share the
-/// bytes of keys, names and values. In the order of n log n for n of them, beside their copies. Refused with `Memory`
-/// alone.
+/// bytes of keys, names and values. In the order of m log n for m of them among n known transactions, beside their copies.
+/// Refused with `Memory` alone.
 pub(crate) fn unfinished(kept: &Kept) -> Result<Vec<WritePart>, Fault>
     ensures ok { (top : TopologyValue) (me : ℕ) (a : ShardState) → Represents top me kept.now a → IfOk result (λ parts. parts.items ≡ unfinished_of top me a) }
     ensures memory { IfErr result (λ e. e ≡ fault.Memory) }
