@@ -9,6 +9,7 @@ pub mod Commits
 pub mod Decisions
 pub mod EarlySteps
 pub mod Grow
+pub mod HandledSteps
 pub mod Handles
 pub mod InPlace
 pub mod LastVotes
@@ -21,8 +22,10 @@ pub mod ReadSteps
 pub mod ReadsAnswered
 mod Refuted
 pub mod Remotes
+pub mod RightSends
 pub mod Run
 pub mod Sending
+pub mod ShardSteps
 pub mod Shown
 pub mod Untouched
 pub mod Updates

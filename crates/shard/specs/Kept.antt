@@ -60,3 +60,8 @@ IsStepOf top me (Err e) k before after = ⊥
 abbrev pub IsRefusalOf : Result ShardStep Fault → Fault → Type 0
 IsRefusalOf (Ok step) e = e ≡ Memory
 IsRefusalOf (Err f) e = e ≡ f
+
+-- an event at this clock was refused because the clock is spent, or else for want of memory
+abbrev pub IsSpentOrMemory : Option ℕ → Fault → Type 0
+IsSpentOrMemory None e = e ≡ ClockSpent
+IsSpentOrMemory (Some n) e = e ≡ Memory

@@ -113,3 +113,17 @@ pub record IsRightShard (top : TopologyValue) (me : ℕ) (w : ShardRun) : Type 0
       → AnswersAt top me w e number time rows
   pub collected : (e : Envelope) (number time : ℕ) → Contains w.sent e → e.body ≡ body.PartAt number time at.Collected
       → time < w.state.low
+
+-- ## What one event sends
+
+-- of this envelope holds what of all that a right shard sent: an answer is right, and a read is given up only below the horizon
+pub record IsRightlySent (top : TopologyValue) (me : ℕ) (w : ShardRun) (e : Envelope) : Type 0 where
+  pub now : (number : ℕ) (rows : List RowNow) → e.body ≡ body.PartNow number rows → AnswersNow top me w e number rows
+  pub then : (number time : ℕ) (rows : List RowAt) → e.body ≡ body.PartAt number time (at.Rows rows) → AnswersAt top me w e number time rows
+  pub collected : (number time : ℕ) → e.body ≡ body.PartAt number time at.Collected → time < w.state.low
+
+-- what was added to what was sent is right in this run, in which further events may come after it
+pub record SendsRight (top : TopologyValue) (me : ℕ) (w : ShardRun) (before after : List Envelope) : Type 0 where
+  pub sends : List Envelope
+  pub added : after ≡ before ++ sends
+  pub each : (e : Envelope) → Contains sends e → IsRightlySent top me w e

@@ -16,6 +16,7 @@ mod early;
 mod below;
 mod answers;
 mod excluding;
+mod handling;
 mod kept;
 mod law;
 mod lookalikes;
@@ -23,6 +24,9 @@ mod parts;
 mod reading;
 mod voting;
 mod unfinished;
+mod replicas;
+mod shard;
 
 pub use law::one_shard_is_right;
 pub use lookalikes::{lookalikes_of_right_shards_are_false, shards_need_honest_envelopes};
+pub use shard::Shard;

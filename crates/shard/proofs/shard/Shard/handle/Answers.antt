@@ -1,0 +1,44 @@
+use Rattle.std.proofs.Common.{sym, subst}
+use Rattle.std.specs.Prelude.{OnErr}
+use Rattle.messages.specs.Shard.{ShardState}
+use Rattle.messages.specs.Topology.{TopologyValue}
+use Rattle.shard.specs.declared.kept.Kept.{Kept}
+use Rattle.shard.specs.Events.{shard_run}
+use Rattle.shard.specs.Kept.{Represents, GoesOn}
+use Rattle.shard.proofs.RightSends.{handles_right}
+use Rattle.shard.proofs.ShardSteps.{both_ok, if_err, handles, refuses}
+use Rattle.shard.proofs.shard.Shard.handle.Goals as goal
+
+pub returns-clause-step : goal.returns-clause-step
+returns-clause-step c = λ top me a r.
+    both_ok c.handle.result
+    (λ lt does. handles c.self.inside.kept c.handle.new.kept c.args.envelope c.args.outbox.now.sent c.handle.new.outbox.sent lt does top me a
+    (subst (λ (k : Kept). Represents top me k a) (sym c.self.view_is) r))
+    c.handle.ensures.time c.handle.ensures.step
+
+pub returns-clause-refused : goal.returns-clause-refused
+returns-clause-refused c = λ top me a r.
+    if_err c.handle.result
+    (λ e spent. refuses c.self.inside.kept c.args.envelope e.fault spent top me a (subst (λ (k : Kept). Represents top me k a) (sym c.self.view_is) r))
+    c.handle.ensures.refused
+
+pub returns-clause-right : goal.returns-clause-right
+returns-clause-right c = λ top me before after r honest.
+    let a = (shard_run top me before).state in
+    both_ok c.handle.result
+    (λ lt does. (handles_right top me before after c.args.envelope c.handle.new.kept c.args.outbox.now.sent c.handle.new.outbox.sent honest
+    (handles c.self.inside.kept c.handle.new.kept c.args.envelope c.args.outbox.now.sent c.handle.new.outbox.sent lt does top me a
+    (subst (λ (k : Kept). Represents top me k a) (sym c.self.view_is) r))).sends)
+    c.handle.ensures.time c.handle.ensures.step
+
+pub returns-clause-leads : goal.returns-clause-leads
+returns-clause-leads c = λ top me before after r honest.
+    let a = (shard_run top me before).state in
+    both_ok c.handle.result
+    (λ lt does. (handles_right top me before after c.args.envelope c.handle.new.kept c.args.outbox.now.sent c.handle.new.outbox.sent honest
+    (handles c.self.inside.kept c.handle.new.kept c.args.envelope c.args.outbox.now.sent c.handle.new.outbox.sent lt does top me a
+    (subst (λ (k : Kept). Represents top me k a) (sym c.self.view_is) r))).state)
+    c.handle.ensures.time c.handle.ensures.step
+
+pub returns-clause-same : goal.returns-clause-same
+returns-clause-same c = subst (λ (k : Kept). OnErr c.handle.result (GoesOn k c.handle.new.kept)) c.self.view_is c.handle.ensures.same

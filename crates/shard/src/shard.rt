@@ -1,0 +1,138 @@
+//! Shards.
+ghost use Rattle.std.specs.Prelude.{◌≡◌, ℕ, List, [], ◌∷◌, ◌++◌, Err, is_some, option_map, IfSome, IfOk, OnOk, IfErr, OnErr};
+ghost use Rattle.logical_time.specs.declared.fault.Fault.TheVariants as fault;
+ghost use Rattle.messages.specs.declared.event.Event.{Event};
+ghost use Rattle.messages.specs.declared.event.Event.TheVariants.{Handle, Collect};
+ghost use Rattle.messages.specs.Topology.{TopologyValue, is_shard};
+ghost use Rattle.messages.specs.Shard.{ShardState, Decision, new_shard};
+ghost use Rattle.messages.specs.ShardEvents.{shard_handle, shard_collect};
+ghost use Rattle.messages.specs.Known.{decision_of};
+ghost use Rattle.messages.specs.Honest.{IsHonest};
+ghost use Rattle.shard.specs.Events.{shard_run, envelopes_handled};
+ghost use Rattle.shard.specs.Kept.{Represents, IsStepOf, IsRefusalOf, GoesOn};
+ghost use Rattle.shard.specs.Right.{SendsRight};
+ghost use Rattle.shard.specs.Unfinished.{unfinished_of};
+
+use crate::kept::Kept;
+use crate::{handling, unfinished};
+use commit_check::Waits;
+use dependencies::Askers;
+use logical_time::{Clock, Fault, Node, Stamp, Time, TxnId};
+use messages::{Envelope, Outbox, Place, Refused, Topology};
+use std::alloc::Global;
+use std::marker::Model;
+use txn_state::WritePart;
+use write_txn::{Transactions, Voters};
+
+/// A shard: it holds rows and transactions, and answers the sessions of its data centre and other shards. It is the
+/// protocol's machine: for every state of the machine that it stands for, a call does that state's step. It must be
+/// closed.
+pub struct Shard {
+    kept: Kept,
+}
+
+impl Model for Shard {
+    ghost use Rattle.shard.specs.declared.kept.Kept.{Kept};
+
+    ghost Value = { Kept };
+
+    ghost view = { λ s. s.kept };
+}
+
+impl Shard {
+    /// A shard before its first event, if the node is a shard's.
+    pub fn new(alloc: Global, topology: &Topology, node: Node) -> Option<Shard>
+        ensures some { is_some result ≡ is_shard topology.now node }
+        ensures state { IfSome result (λ s. Represents topology.now node s new_shard) }
+    {
+        let place = Place::new(topology, node)?;
+        let kept = Kept {
+            alloc,
+            place,
+            clock: Clock::new(),
+            transactions: Transactions::new(alloc),
+            notices: Voters::new(alloc),
+            askers: Askers::new(alloc),
+            waiting: Waits::new(alloc),
+        };
+        Some(Shard { kept })
+    }
+
+    /// Handles an envelope, at one past the later of the shard's clock and the envelope's time: what comes again, or is for
+    /// a session, moves the clock alone. Refused with `ClockSpent` where the clock would leave its range, and with `Memory`;
+    /// then the shard stands for what it stood for, nothing is sent, and the envelope is handed back.
+    pub fn handle(&mut self, envelope: Envelope, outbox: &mut Outbox) -> Result<(), Refused>
+        ensures step { (top : TopologyValue) (me : ℕ) (a : ShardState) → Represents top me self.old a
+            → OnOk result (IsStepOf top me (shard_handle top me a envelope) self.new outbox.old.sent outbox.new.sent) }
+        ensures refused { (top : TopologyValue) (me : ℕ) (a : ShardState) → Represents top me self.old a
+            → IfErr result (λ r. IsRefusalOf (shard_handle top me a envelope) r.fault) }
+        // in a run whose envelopes are honest, later ones included, it sends what is right, and goes on to the run's state
+        ensures right { (top : TopologyValue) (me : ℕ) (before after : List Event) → Represents top me self.old (shard_run top me before).state
+            → IsHonest (shard_run top me (before ++ Handle envelope ∷ after)).state (envelopes_handled (shard_run top me (before ++ Handle envelope ∷ after)))
+            → OnOk result (SendsRight top me (shard_run top me (before ++ Handle envelope ∷ after)) outbox.old.sent outbox.new.sent) }
+        ensures leads { (top : TopologyValue) (me : ℕ) (before after : List Event) → Represents top me self.old (shard_run top me before).state
+            → IsHonest (shard_run top me (before ++ Handle envelope ∷ after)).state (envelopes_handled (shard_run top me (before ++ Handle envelope ∷ after)))
+            → OnOk result (Represents top me self.new (shard_run top me (before ++ Handle envelope ∷ [])).state) }
+        ensures same { OnErr result (GoesOn self.old self.new) }
+        ensures unsent { OnErr result (outbox.new.sent ≡ outbox.old.sent) }
+        ensures back { IfErr result (λ r. r.envelope ≡ envelope) }
+    {
+        handling::handle(&mut self.kept, envelope, outbox)
+    }
+
+    /// Raises the horizon to this time, unless it is there: versions that no read from there on sees may be dropped, and a
+    /// read at a time below it may be given up. It is an event without a message. Refused with `ClockSpent` where the clock
+    /// would leave its range, and then nothing changes.
+    pub fn collect(&mut self, time: Time) -> Result<(), Fault>
+        ensures step { (top : TopologyValue) (me : ℕ) (a : ShardState) → Represents top me self.old a
+            → OnOk result (IsStepOf top me (shard_collect a time) self.new [] []) }
+        ensures refused { (top : TopologyValue) (me : ℕ) (a : ShardState) → Represents top me self.old a
+            → IfErr result (λ e. shard_collect a time ≡ Err e) }
+        ensures leads { (top : TopologyValue) (me : ℕ) (before : List Event) → Represents top me self.old (shard_run top me before).state
+            → OnOk result (Represents top me self.new (shard_run top me (before ++ Collect time ∷ [])).state) }
+        ensures spent { IfErr result (λ e. e ≡ fault.ClockSpent) }
+        ensures same { OnErr result (self.new ≡ self.old) }
+    {
+        let mut clock = self.kept.clock;
+        let now = clock.now();
+        let _moved = clock.receive(now)?;
+        self.kept.transactions.collect(time);
+        self.kept.clock = clock;
+        Ok(())
+    }
+
+    /// The commit time and the stamp with which the shard decided the transaction as its coordinator, if it did. In the
+    /// order of log n for n known transactions.
+    pub fn decided(&self, txn: TxnId) -> Option<(Time, Stamp)>
+        ensures { (top : TopologyValue) (me : ℕ) (a : ShardState) → Represents top me self.now a → option_map (λ (d : Decision). (d.commit, d.stamp)) (decision_of txn a) ≡ result }
+    {
+        unfinished::decided(&self.kept, txn)
+    }
+
+    /// The parts that the shard holds, kept or prepared, and hasn't applied, in the order of their transactions' numbers.
+    /// They share the bytes of keys, names and values. In the order of n log n for n of them, beside their copies. Refused
+    /// with `Memory` alone.
+    pub fn unfinished(&self) -> Result<Vec<WritePart>, Fault>
+        ensures ok { (top : TopologyValue) (me : ℕ) (a : ShardState) → Represents top me self.now a → IfOk result (λ parts. parts.items ≡ unfinished_of top me a) }
+        ensures memory { IfErr result (λ e. e ≡ fault.Memory) }
+    {
+        unfinished::unfinished(&self.kept)
+    }
+
+    /// Ends the shard, and gives up what it hasn't finished.
+    pub fn close(self) {
+        let Shard { kept } = self;
+        let Kept {
+            alloc: _,
+            place: _,
+            clock: _,
+            transactions,
+            notices: _,
+            askers,
+            waiting,
+        } = kept;
+        transactions.close();
+        askers.close();
+        waiting.close();
+    }
+}
