@@ -98,9 +98,9 @@ fn add_told(seen: &mut String, body: &Body) -> Result<(), Fault> {
 fn add_message(seen: &mut String, place: usize, envelope: &Envelope) -> Result<(), Fault> {
     let (from, to) = (envelope.from.get(), envelope.to.get());
     let (time, kind) = (envelope.time.get(), kind(&envelope.body));
-    write!(seen, "m{place} {from}>{to} @{time} {kind}")?;
+    write!(seen, " m{place} {from}>{to} @{time} {kind}")?;
     add_told(seen, &envelope.body)?;
-    Ok(seen.push_str("; ")?)
+    Ok(seen.push_str(";")?)
 }
 
 fn add_outcome(seen: &mut String, outcome: &Outcome) -> Result<(), Fault> {
@@ -308,6 +308,8 @@ fn tell_in(
 pub(crate) fn tell(rt: &HostRuntime) -> Result<(), Fault> {
     tell_in(rt, "prepare_after_commit.steps", (1, 2), &[0])?;
     tell_in(rt, "early_vote.steps", (1, 2), &[0])?;
+    tell_in(rt, "each_message_twice.steps", (1, 2), &[0])?;
+    tell_in(rt, "two_reads_wait.steps", (1, 2), &[0, 0, 0])?;
     tell_in(rt, "read_asks_coordinator.steps", (1, 2), &[0, 0])?;
     tell_in(rt, "undecided_is_excluded.steps", (1, 2), &[0, 0])?;
     tell_in(rt, "second_round_collected.steps", (1, 2), &[0, 0])?;
