@@ -2,6 +2,8 @@ pub mod Additions
 pub mod Applying
 pub mod AskerSteps
 pub mod Asked
+pub mod BallotSteps
+pub mod BegunSteps
 pub mod Closed
 pub mod ComingAnswers
 pub mod Commits
@@ -13,6 +15,7 @@ pub mod InPlace
 pub mod LetGo
 pub mod Lists
 pub mod MarksOn
+pub mod NoticeSteps
 pub mod OneShard
 pub mod PartSteps
 pub mod ReadSteps

@@ -9,3 +9,5 @@ pub mod Effects
 pub mod Coming
 pub mod Deciding
 pub mod UnderWay
+pub mod Concluding
+pub mod Begun

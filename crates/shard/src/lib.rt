@@ -11,12 +11,14 @@ mod checking;
 mod early;
 mod below;
 mod answers;
+mod begun;
 mod excluding;
 mod kept;
 mod law;
 mod lookalikes;
 mod parts;
 mod reading;
+mod replicas;
 
 pub use law::one_shard_is_right;
 pub use lookalikes::{lookalikes_of_right_shards_are_false, shards_need_honest_envelopes};
