@@ -3,6 +3,8 @@ pub mod Applying
 pub mod AskerSteps
 pub mod Asked
 pub mod Begins
+pub mod BallotSteps
+pub mod BegunSteps
 pub mod Closed
 pub mod ComingAnswers
 pub mod Commits
@@ -16,6 +18,7 @@ pub mod LastVotes
 pub mod LetGo
 pub mod Lists
 pub mod MarksOn
+pub mod NoticeSteps
 pub mod OneShard
 pub mod PartSteps
 pub mod ReadSteps

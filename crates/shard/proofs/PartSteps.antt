@@ -66,7 +66,7 @@ drops_part top me n k a h before r known =
     (ap (λ (b : Bool). repl_part_if b top me n a (kept_part_of h)) (known_if top me h.part.writer.txn a (state_of k.transactions.ledger h.part.writer.txn) (r.stands h.part.writer.txn) ∙ known))
 
 -- what is under way is what is known
-known_open : (s : Option State) (o : Open) → open_in s ≡ Some o → s ≡ Some (Holds o)
+pub known_open : (s : Option State) (o : Open) → open_in s ≡ Some o → s ≡ Some (Holds o)
 known_open None o e = absurd (cc)
 known_open (Some (Holds held)) o e = let same : held ≡ o = cc in ap (λ (x : Open). Some (Holds x)) same
 known_open (Some IsApplied) o e = absurd (cc)

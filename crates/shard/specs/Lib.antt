@@ -11,3 +11,5 @@ pub mod Deciding
 pub mod UnderWay
 pub mod Beginning
 pub mod Handled
+pub mod Concluding
+pub mod Begun

@@ -15,6 +15,7 @@ mod checking;
 mod early;
 mod below;
 mod answers;
+mod begun;
 mod excluding;
 mod handling;
 mod kept;

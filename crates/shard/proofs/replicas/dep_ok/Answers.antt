@@ -1,0 +1,33 @@
+use Rattle.std.proofs.Common.{rules, ◌≡◌, ◌∙◌, ◌++◌, ap, List}
+use Rattle.messages.specs.declared.envelope.Envelope.{Envelope}
+use Rattle.write_txn.specs.Ledger.{state_of, state_answered}
+use Rattle.write_txn.proofs.Answering.{with_answered}
+use Rattle.shard.proofs.NoticeSteps.{counted_settles, ready_room, answers_so, answer_passes}
+use Rattle.shard.proofs.replicas.dep_ok.Goals.{in_default-via-in-Some+in_default, in_default-via-in_default}
+use Rattle.shard.proofs.replicas.dep_ok.Goals as goal
+
+pub returns-in_default-clause-step : goal.returns-in_default-clause-step
+returns-in_default-clause-step c = λ top me a r apart.
+    elim c.in_default.branch [
+      | in_default-via-in-Some+in_default w ↦ answer_passes top me c.args.clock c.args.kept.now a c.args.waiter c.args.dependency c.args.outbox.now.sent r (search rules)
+      | in_default-via-in_default w ↦ answer_passes top me c.args.clock c.args.kept.now a c.args.waiter c.args.dependency c.args.outbox.now.sent r (search rules)
+    ]
+
+pub conclude-requires-clause-settles : goal.conclude-requires-clause-settles
+conclude-requires-clause-settles c =
+    let remote = c.in-Some-Remote.remote in
+    let room = c.make_room_if.new.transactions in
+    counted_settles c.args.waiter c.args.clock c.now-time.result (with_answered remote c.args.dependency) (record c.args.kept.now { transactions = c.answer.new.self }) room.ledger
+    (state_answered c.args.dependency (state_of room.ledger c.args.waiter)) c.stamp.result c.in_ok-complete.complete (search rules) c.now-time.ensures (search rules) c.stamp.ensures
+    c.in_ok-complete.ensures.complete c.in_ok-complete.ensures.ok
+    (ready_room c.args.waiter remote c.args.kept.now.transactions.ledger room c.answer.new.self c.is_last_answer-is_ready.result _ c.is_last_answer-is_ready.ensures (search rules) c.answer.ensures.store c.in_ok-make_room_if.ensures.ok)
+
+pub returns-clause-step : goal.returns-clause-step
+returns-clause-step c = λ top me a r apart.
+    let remote = c.in-Some-Remote.remote in
+    let es = c.in_ok-envelopes-in-Some-Remote.envelopes.items in
+    answers_so top me c.args.clock c.now-time.result c.args.waiter c.args.dependency remote c.args.kept.now c.make_room_if.new.transactions c.answer.new.self c.stamp.result c.is_last_answer-is_ready.result
+    c.in_ok-complete.complete c.conclude.new.kept a c.args.outbox.now.sent es c.conclude.new.outbox.sent c.now-time.ensures (search rules) (search rules) c.stamp.ensures c.is_last_answer-is_ready.ensures
+    r apart c.make_room_if.ensures.store c.make_room_if.ensures.ledger c.make_room_if.ensures.early c.in_ok-complete.ensures.ok c.answer.ensures.store c.answer.ensures.early c.in_ok-complete.ensures.complete
+    c.conclude.ensures.concluded (λ undecided there. c.in_ok-envelopes-in-Some-Remote.ensures.ok top me a r undecided there)
+    (c.conclude.ensures.sent top me r.place ∙ ap (λ (xs : List Envelope). xs ++ es) c.reserve.ensures.same)

@@ -1,0 +1,37 @@
+use Rattle.std.proofs.Common.{rules, ◌≡◌, ◌∙◌, ◌++◌, ap, List}
+use Rattle.store.proofs.Places.{on_ok}
+use Rattle.messages.specs.declared.envelope.Envelope.{Envelope}
+use Rattle.write_txn.specs.Ledger.{state_of, state_noticed}
+use Rattle.write_txn.proofs.Readying.{with_noticed}
+use Rattle.shard.proofs.NoticeSteps.{counted_settles, ready_room, notices_so, notice_passes}
+use Rattle.shard.proofs.replicas.notice.Goals.{in_default-via-in-Some+in_default, in_default-via-in_default}
+use Rattle.shard.proofs.replicas.notice.Goals as goal
+
+pub returns-then-not-knows-clause-step : goal.returns-then-not-knows-clause-step
+returns-then-not-knows-clause-step c = on_ok c.note_notice.result (λ step. λ top me a r apart. step top me a c.args.outbox.now.sent r (search rules)) c.note_notice.ensures.step
+
+pub returns-in_default-clause-step : goal.returns-in_default-clause-step
+returns-in_default-clause-step c = λ top me a r apart.
+    elim c.in_default.branch [
+      | in_default-via-in-Some+in_default w ↦ notice_passes top me c.args.clock c.args.kept.now a c.args.txn c.args.node c.args.outbox.now.sent r (search rules) (search rules)
+      | in_default-via-in_default w ↦ notice_passes top me c.args.clock c.args.kept.now a c.args.txn c.args.node c.args.outbox.now.sent r (search rules) (search rules)
+    ]
+
+pub conclude-requires-clause-settles : goal.conclude-requires-clause-settles
+conclude-requires-clause-settles c =
+    let remote = c.in-Some-Remote.remote in
+    let room = c.make_room_if.new.transactions in
+    counted_settles c.args.txn c.args.clock c.now-time.result (with_noticed remote c.args.node) (record c.args.kept.now { transactions = c.notice.new.self }) room.ledger
+    (state_noticed c.args.node (state_of room.ledger c.args.txn)) c.stamp.result c.in_ok-complete.complete (search rules) c.now-time.ensures (search rules) c.stamp.ensures
+    c.in_ok-complete.ensures.complete c.in_ok-complete.ensures.ok
+    (ready_room c.args.txn remote c.args.kept.now.transactions.ledger room c.notice.new.self c.is_last_notice-is_ready.result _ c.is_last_notice-is_ready.ensures (search rules) c.notice.ensures.store c.in_ok-make_room_if.ensures.ok)
+
+pub returns-clause-step : goal.returns-clause-step
+returns-clause-step c = λ top me a r apart.
+    let remote = c.in-Some-Remote.remote in
+    let es = c.in_ok-envelopes-in-Some-Remote.envelopes.items in
+    notices_so top me c.args.clock c.now-time.result c.args.txn c.args.node remote c.args.kept.now c.make_room_if.new.transactions c.notice.new.self c.stamp.result c.is_last_notice-is_ready.result
+    c.in_ok-complete.complete c.conclude.new.kept a c.args.outbox.now.sent es c.conclude.new.outbox.sent c.now-time.ensures (search rules) (search rules) c.stamp.ensures c.is_last_notice-is_ready.ensures
+    r apart c.make_room_if.ensures.store c.make_room_if.ensures.ledger c.make_room_if.ensures.early c.in_ok-complete.ensures.ok c.notice.ensures.store c.notice.ensures.early c.in_ok-complete.ensures.complete
+    c.conclude.ensures.concluded (λ undecided there. c.in_ok-envelopes-in-Some-Remote.ensures.ok top me a r undecided there)
+    (c.conclude.ensures.sent top me r.place ∙ ap (λ (xs : List Envelope). xs ++ es) c.reserve.ensures.same)

@@ -1,0 +1,31 @@
+-- What the event of a ballot makes of what is kept, where nothing or the last thing is missing.
+use Rattle.std.specs.Prelude.{◌≡◌, ℕ, if◌then◌else◌, [], Option, Some, None}
+use Rattle.logical_time.specs.Stamps.{StampValue, TxnValue}
+use Rattle.store.specs.Kept.{HasRoom}
+use Rattle.txn_state.specs.Ballot.{CompleteValue}
+use Rattle.messages.specs.Words.{is_same_txn}
+use Rattle.write_txn.specs.Ledger.{state_of, decided_in}
+use Rattle.write_txn.specs.Voters.{voters_of}
+use Rattle.shard.specs.declared.kept.Kept.{Kept}
+use Rattle.shard.specs.Deciding.{IsSettled}
+
+-- the transaction is decided with this commit time and this stamp, it has no cohorts, and there is room for its part
+pub record MaySettle (t : TxnValue) (commit : ℕ) (stamp : StampValue) (k : Kept) (c : CompleteValue) : Type 0 where
+  pub own : c.own.part.writer.txn ≡ t
+  pub alone : c.cohorts ≡ []
+  pub decided : decided_in (state_of k.transactions.ledger t) ≡ Some (commit, stamp)
+  pub room : HasRoom k.transactions.store.rows c.own.part.batch
+
+-- the transaction goes on being under way: no notice is kept of it that came early, and the clock shows this
+pub record IsUnderWay (t : TxnValue) (n : ℕ) (k l : Kept) : Type 0 where
+  pub place : l.place ≡ k.place
+  pub clock : l.clock ≡ n
+  pub transactions : l.transactions ≡ k.transactions
+  pub notices : (u : TxnValue) → voters_of l.notices u ≡ (if is_same_txn t u then [] else voters_of k.notices u)
+  pub askers : l.askers ≡ k.askers
+  pub waiting : l.waiting ≡ k.waiting
+
+-- the event is concluded, by what it completed
+abbrev pub IsConcluded : TxnValue → StampValue → ℕ → Option CompleteValue → Kept → Kept → Type 0
+IsConcluded t stamp n None k l = IsUnderWay t n k l
+IsConcluded t stamp n (Some c) k l = IsSettled t c.own n stamp k l

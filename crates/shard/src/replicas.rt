@@ -1,0 +1,176 @@
+//! The ballot of another data centre's write, once its coordinator keeps it: Notify and DepOk.
+ghost use Rattle.std.specs.Prelude.{◌≡◌, ◌≤◌, ◌++◌, ◌==◌, ℕ, length, true, None, Some, IfOk, IfSome, OnOk, OnErr, IfErr};
+ghost use Rattle.logical_time.specs.declared.fault.Fault.TheVariants as fault;
+ghost use Rattle.store.specs.Keeps.{AreApart};
+ghost use Rattle.store.specs.Kept.{HasRoom};
+ghost use Rattle.txn_state.specs.Votes.{counted};
+ghost use Rattle.txn_state.specs.Answers.{answered};
+ghost use Rattle.txn_state.specs.RemoteBallot.{missing_in};
+ghost use Rattle.messages.specs.Topology.{TopologyValue};
+ghost use Rattle.messages.specs.Place.{IsPlace};
+ghost use Rattle.messages.specs.Shard.{ShardState};
+ghost use Rattle.messages.specs.Known.{decision_of};
+ghost use Rattle.messages.specs.Replication.{ready_if, on_notify, on_dep_ok};
+ghost use Rattle.write_txn.specs.declared.open.Open.{Open};
+ghost use Rattle.write_txn.specs.Ledger.{state_of, open_in, part_of};
+ghost use Rattle.write_txn.specs.Stands.{kept_ballot_of};
+ghost use Rattle.write_txn.specs.Transactions.{GoesOnKeeping};
+ghost use Rattle.shard.specs.Kept.{Represents, Does, GoesOn};
+ghost use Rattle.shard.specs.Concluding.{MaySettle, IsConcluded};
+
+use crate::deciding::{Deciding, settle, tell};
+use crate::early::note_notice;
+use crate::kept::Kept;
+use logical_time::{Clock, Fault, Node, Stamp, Time, TxnId};
+use messages::{Envelope, Outbox};
+use replicator::prepare_remotes;
+use txn_state::{Complete, RemoteBallot};
+use write_txn::{Open, Remote, Transactions};
+
+/// What a ballot that waits sends, by whether it becomes ready: PrepareRemote to each cohort, or without any what its
+/// decision tells; while something is missing nothing.
+pub(crate) fn told_by(kept: &Kept, time: Time, remote: &Remote, is_ready: bool) -> Result<Vec<Envelope>, Fault>
+    ensures ok { (top : TopologyValue) (me : ℕ) (a : ShardState) → Represents top me kept.now a → decision_of (kept_ballot_of remote.now).txn a ≡ None
+        → AreApart (ready_if is_ready top me time a (kept_ballot_of remote.now)).state.applied
+        → IfOk result (λ envelopes. envelopes.items ≡ (ready_if is_ready top me time a (kept_ballot_of remote.now)).sends) }
+    ensures memory { IfErr result (λ e. e ≡ fault.Memory) }
+{
+    if !is_ready {
+        return Ok(Vec::new(kept.alloc));
+    }
+    let txn = remote.ballot.writer().txn;
+    if !remote.cohorts.as_slice().is_empty() {
+        return prepare_remotes(kept.alloc, kept.place, time, txn, &remote.cohorts);
+    }
+    let deciding = Deciding {
+        txn,
+        rows: remote.ballot.part(),
+        cohorts: &remote.cohorts,
+        dependencies: &remote.dependencies,
+        stamp: Some(remote.ballot.stamp()),
+    };
+    tell(kept, time, &deciding)
+}
+
+/// Makes room in the store for the own part of a ballot that waits, if it becomes ready.
+fn make_room_if(transactions: &mut Transactions, is_ready: bool, txn: TxnId) -> Result<(), Fault>
+    ensures ok { OnOk result (is_ready ≡ true → (o : Open) → open_in (state_of transactions.old.ledger txn) ≡ Some o → HasRoom transactions.new.store.rows (part_of o).batch) }
+    ensures store { GoesOnKeeping transactions.old.store transactions.new.store }
+    ensures ledger { transactions.new.ledger ≡ transactions.old.ledger }
+    ensures early { transactions.new.early ≡ transactions.old.early }
+    ensures memory { IfErr result (λ e. e ≡ fault.Memory) }
+{
+    if !is_ready {
+        return Ok(());
+    }
+    transactions.make_room_for(txn)
+}
+
+/// Concludes an event of a ballot: sends these envelopes, and settles the transaction where that decided it. There is room
+/// for all of it. Takes no memory.
+pub(crate) fn conclude(
+    kept: &mut Kept,
+    clock: Clock,
+    txn: TxnId,
+    complete: Option<Complete>,
+    stamp: Stamp,
+    envelopes: Vec<Envelope>,
+    outbox: &mut Outbox,
+)
+    requires settles { IfSome complete (λ c. MaySettle txn clock stamp kept.old c) }
+    requires posts { length envelopes.items ≤ outbox.old.room }
+    ensures concluded { IsConcluded txn stamp clock complete kept.old kept.new }
+    ensures sent { (top : TopologyValue) (me : ℕ) → IsPlace top me kept.old.place → outbox.new.sent ≡ outbox.old.sent ++ envelopes.items }
+{
+    match complete {
+        Some(complete) => settle(kept, clock, txn, complete, stamp, envelopes, outbox),
+        None => {
+            kept.notices.forget(txn);
+            outbox.post_all(envelopes);
+            kept.clock = clock;
+        }
+    }
+}
+
+/// Whether the notice of this node is the last thing that is missing of a ballot.
+fn is_last_notice(ballot: &RemoteBallot, node: Node) -> bool
+    ensures { result ≡ (missing_in (record ballot.now { notices = counted ballot.now.notices node }) == 0) }
+{
+    ballot.notices().is_last(node) && ballot.answers().len() == 0
+}
+
+/// Whether the answer for this dependency is the last thing that is missing of a ballot.
+fn is_last_answer(ballot: &RemoteBallot, dependency: TxnId) -> bool
+    ensures { result ≡ (missing_in (record ballot.now { answers = answered ballot.now.answers dependency }) == 0) }
+{
+    ballot.answers().is_last(dependency) && ballot.notices().missing().is_empty()
+}
+
+/// Notify: an early notice is kept, once for each node; one of a cohort that isn't yet counted is counted, and the last
+/// missing thing makes the ballot ready; else ignored. Refused with `Memory` alone.
+pub(crate) fn notice(
+    kept: &mut Kept,
+    clock: Clock,
+    txn: TxnId,
+    node: Node,
+    outbox: &mut Outbox,
+) -> Result<(), Fault>
+    ensures step { OnOk result (Does (λ top me a. on_notify top me clock a node txn) kept.old kept.new outbox.old.sent outbox.new.sent) }
+    ensures same { OnErr result (GoesOn kept.old kept.new) }
+    ensures unsent { OnErr result (outbox.new.sent ≡ outbox.old.sent) }
+    ensures memory { IfErr result (λ e. e ≡ fault.Memory) }
+{
+    if !kept.knows(txn) {
+        return note_notice(kept, clock, txn, node);
+    }
+    let time = clock.now();
+    let (stamp, is_ready, envelopes) = match kept.transactions.ledger().open(txn) {
+        Some(Open::Remote(remote)) => {
+            let is_ready = is_last_notice(&remote.ballot, node);
+            let envelopes = told_by(kept, time, remote, is_ready)?;
+            (remote.ballot.stamp(), is_ready, envelopes)
+        }
+        _ => {
+            kept.clock = clock;
+            return Ok(());
+        }
+    };
+    outbox.reserve(envelopes.len())?;
+    make_room_if(&mut kept.transactions, is_ready, txn)?;
+    let complete = kept.transactions.notice(txn, node, time)?;
+    conclude(kept, clock, txn, complete, stamp, envelopes, outbox);
+    Ok(())
+}
+
+/// DepOk: a missing answer of the waiter is counted, and the last missing thing makes its ballot ready; else ignored.
+/// Refused with `Memory` alone.
+pub(crate) fn dep_ok(
+    kept: &mut Kept,
+    clock: Clock,
+    dependency: TxnId,
+    waiter: TxnId,
+    outbox: &mut Outbox,
+) -> Result<(), Fault>
+    ensures step { OnOk result (Does (λ top me a. on_dep_ok top me clock a dependency waiter) kept.old kept.new outbox.old.sent outbox.new.sent) }
+    ensures same { OnErr result (GoesOn kept.old kept.new) }
+    ensures unsent { OnErr result (outbox.new.sent ≡ outbox.old.sent) }
+    ensures memory { IfErr result (λ e. e ≡ fault.Memory) }
+{
+    let time = clock.now();
+    let (stamp, is_ready, envelopes) = match kept.transactions.ledger().open(waiter) {
+        Some(Open::Remote(remote)) => {
+            let is_ready = is_last_answer(&remote.ballot, dependency);
+            let envelopes = told_by(kept, time, remote, is_ready)?;
+            (remote.ballot.stamp(), is_ready, envelopes)
+        }
+        _ => {
+            kept.clock = clock;
+            return Ok(());
+        }
+    };
+    outbox.reserve(envelopes.len())?;
+    make_room_if(&mut kept.transactions, is_ready, waiter)?;
+    let complete = kept.transactions.answer(waiter, dependency, time)?;
+    conclude(kept, clock, waiter, complete, stamp, envelopes, outbox);
+    Ok(())
+}
