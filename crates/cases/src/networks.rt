@@ -78,10 +78,19 @@ fn add_answer_at(seen: &mut String, answer: &AtTime) -> Result<(), Fault> {
     }
 }
 
+/// Adds a space, unless nothing was seen.
+fn add_space(seen: &mut String) -> Result<(), Fault> {
+    if !seen.is_empty() {
+        seen.push_str(" ")?;
+    }
+    Ok(())
+}
+
 /// Adds a commit time and a stamp.
 fn add_commit(seen: &mut String, commit: Time, stamp: Stamp) -> Result<(), Fault> {
     let (commit, at, node) = (commit.get(), stamp.time.get(), stamp.node.get());
-    Ok(write!(seen, " {commit} {at}.{node}")?)
+    add_space(seen)?;
+    Ok(write!(seen, "{commit} {at}.{node}")?)
 }
 
 /// Adds what a message tells beside its kind.
@@ -98,7 +107,8 @@ fn add_told(seen: &mut String, body: &Body) -> Result<(), Fault> {
 fn add_message(seen: &mut String, place: usize, envelope: &Envelope) -> Result<(), Fault> {
     let (from, to) = (envelope.from.get(), envelope.to.get());
     let (time, kind) = (envelope.time.get(), kind(&envelope.body));
-    write!(seen, " m{place} {from}>{to} @{time} {kind}")?;
+    add_space(seen)?;
+    write!(seen, "m{place} {from}>{to} @{time} {kind}")?;
     add_told(seen, &envelope.body)?;
     Ok(seen.push_str(";")?)
 }
@@ -314,5 +324,6 @@ pub(crate) fn tell(rt: &HostRuntime) -> Result<(), Fault> {
     tell_in(rt, "undecided_is_excluded.steps", (1, 2), &[0, 0])?;
     tell_in(rt, "second_round_collected.steps", (1, 2), &[0, 0])?;
     tell_in(rt, "dependency_holds_back.steps", (2, 1), &[0, 1])?;
+    tell_in(rt, "read_before_dependency.steps", (2, 1), &[0, 1])?;
     tell_in(rt, "write_is_replicated.steps", (2, 2), &[0])
 }
