@@ -4,14 +4,14 @@
 //! refuted.
 #![tactic(auto)]
 
+mod answers;
+mod beginning;
+mod below;
+mod checking;
 mod coming;
 mod committing;
 mod deciding;
-mod checking;
 mod early;
-mod beginning;
-mod below;
-mod answers;
 mod excluding;
 mod handling;
 mod kept;
