@@ -1,7 +1,8 @@
-//! One shard: what is promised of all that it answers, by the protocol's definitions.
+//! One shard: it holds rows and transactions, and answers sessions and other shards.
 //!
-//! No program runs it yet. That one shard is right is a law of the definitions, and forms that resemble it and are false are
-//! refuted.
+//! A shard does the steps of the protocol's machine. That what it sends is right is a law of the definitions, for every run of
+//! honest envelopes, and a clause of the program; forms that resemble the law and are false are refuted. No program runs it
+//! yet.
 #![tactic(auto)]
 
 mod answers;
