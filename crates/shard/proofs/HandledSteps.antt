@@ -1,12 +1,11 @@
--- What a shard hears of the bodies that only move its clock, and what an envelope makes of it.
-use Rattle.std.proofs.Common.{◌≡◌, ◌∙◌, sym, ap, subst, refl, ℕ, ◌+◌, ◌^◌, ◌<◌, max, false, List, Option, Some, None}
-use Rattle.logical_time.specs.declared.fault.Fault.{Fault}
+-- What a shard hears of the bodies that only move its clock.
+use Rattle.std.proofs.Common.{◌≡◌, refl, ℕ, false}
 use Rattle.logical_time.specs.Stamps.{StampValue, TxnValue}
 use Rattle.slice.specs.declared.read.Read.{Read}
 use Rattle.messages.specs.declared.body.Body.{Body}
 use Rattle.messages.specs.declared.body.Body.TheVariants as body
 use Rattle.messages.specs.Topology.{TopologyValue}
-use Rattle.messages.specs.Shard.{ShardState, ShardStep, quiet}
+use Rattle.messages.specs.Shard.{ShardState, quiet}
 use Rattle.messages.specs.ShardEvents.{handled}
 use Rattle.shard.specs.Handled.{is_handed_over}
 

@@ -1,20 +1,19 @@
 -- A shard that does the machine's step in a run of honest envelopes sends what is right, and goes on to the run's state.
-use Rattle.std.proofs.Common.{◌≡◌, ◌∙◌, sym, ap, subst, refl, ℕ, ◌+◌, ◌^◌, ◌<◌, max, inl, inr, List, [], ◌∷◌, ◌++◌, Result, Ok, Err}
+use Rattle.std.proofs.Common.{◌≡◌, sym, subst, refl, ℕ, ◌+◌, List, [], ◌∷◌, ◌++◌, Result, Ok, Err}
 use Rattle.std.specs.Prelude.{Contains}
 use Rattle.std.proofs.lemmas.List.Elements.{Contains-append_left, Contains-append_right}
 use Rattle.logical_time.specs.declared.fault.Fault.{Fault}
 use Rattle.store.specs.Keeps.{AreApart}
 use Rattle.messages.specs.declared.envelope.Envelope.{Envelope}
 use Rattle.messages.specs.declared.event.Event.{Event}
-use Rattle.messages.specs.declared.event.Event.TheVariants.{Handle, Collect}
+use Rattle.messages.specs.declared.event.Event.TheVariants.{Handle}
 use Rattle.messages.specs.Topology.{TopologyValue}
-use Rattle.messages.specs.Clock.{ticked, on_clock}
-use Rattle.messages.specs.Shard.{ShardState, ShardStep}
-use Rattle.messages.specs.ShardEvents.{handled, shard_handle, collected, shard_collect}
+use Rattle.messages.specs.Shard.{ShardStep}
+use Rattle.messages.specs.ShardEvents.{shard_handle, collected}
 use Rattle.messages.specs.Honest.{IsHonest}
 use Rattle.shard.specs.declared.kept.Kept.{Kept}
 use Rattle.shard.specs.Events.{ShardRun, fresh_shard, after_step, after_event, shard_continued, shard_run, envelopes_handled}
-use Rattle.shard.specs.Kept.{Represents, IsStep, IsStepOf}
+use Rattle.shard.specs.Kept.{Represents, IsStepOf}
 use Rattle.shard.specs.Right.{IsRightShard, IsRightlySent, SendsRight}
 use Rattle.shard.specs.Sound.{IsWithin}
 use Rattle.shard.proofs.Handles.{AreAmong, event_step, by_step, run_push, continued_within, continued_stay}

@@ -3,10 +3,8 @@ use Rattle.std.proofs.Common.{◌≡◌, ◌∙◌, sym, ap, subst, refl, ℕ, �
 use Rattle.std.specs.Prelude.{if◌then◌else◌, OnOk, IfErr}
 use Rattle.std.proofs.lemmas.Bool.Decides.{nat_tests}
 use Rattle.logical_time.specs.declared.fault.Fault.{Fault}
-use Rattle.logical_time.specs.declared.fault.Fault.TheVariants.{ClockSpent}
 use Rattle.logical_time.specs.Stamps.{TxnValue}
 use Rattle.store.specs.declared.part.Applied.{Applied}
-use Rattle.store.specs.Kept as in_store
 use Rattle.store.specs.Keeps.{Keeps}
 use Rattle.dependencies.specs.Askers.{askers_of}
 use Rattle.messages.specs.declared.envelope.Envelope.{Envelope}
@@ -14,7 +12,7 @@ use Rattle.messages.specs.Topology.{TopologyValue}
 use Rattle.messages.specs.Place.{IsPlace}
 use Rattle.messages.specs.Clock.{ticked, on_clock}
 use Rattle.messages.specs.Shard.{ShardState, ShardStep, new_shard}
-use Rattle.messages.specs.ShardEvents.{handled, shard_handle, collected, shard_collect}
+use Rattle.messages.specs.ShardEvents.{handled, shard_handle, collected}
 use Rattle.messages.specs.declared.event.Event.{Event}
 use Rattle.messages.specs.declared.event.Event.TheVariants.{Collect}
 use Rattle.write_txn.specs.Ledger.{state_of}
@@ -24,7 +22,7 @@ use Rattle.write_txn.specs.Stands.{Stands}
 use Rattle.shard.specs.declared.kept.Kept.{Kept}
 use Rattle.shard.specs.Events.{ShardRun, fresh_shard, after_step, after_event, shard_run}
 use Rattle.shard.proofs.Handles.{run_push}
-use Rattle.shard.specs.Kept.{Represents, IsStep, IsStepOf, IsRefusalOf, IsSpentOrMemory, Does}
+use Rattle.shard.specs.Kept.{Represents, IsStepOf, IsRefusalOf, IsSpentOrMemory, Does}
 
 -- ## Before the first event
 

@@ -62,10 +62,13 @@ fn act(kept: &mut Kept, clock: Clock, from: Node, body: Body, outbox: &mut Outbo
             Ok(()) => Ok(()),
             Err((fault, Begun { txn, rows, cohorts, dependencies })) => Err((fault, Body::Begin { txn, rows, cohorts, dependencies })),
         },
-        Body::Prepare { txn, rows, coordinator } => match prepare(kept, clock, WritePart { writer: Writer { txn, shard: coordinator }, batch: rows }, outbox) {
-            Ok(()) => Ok(()),
-            Err((fault, WritePart { writer: _, batch })) => Err((fault, Body::Prepare { txn, rows: batch, coordinator })),
-        },
+        Body::Prepare { txn, rows, coordinator } => {
+            let writer = Writer { txn, shard: coordinator };
+            match prepare(kept, clock, WritePart { writer, batch: rows }, outbox) {
+                Ok(()) => Ok(()),
+                Err((fault, WritePart { writer: _, batch })) => Err((fault, Body::Prepare { txn, rows: batch, coordinator })),
+            }
+        }
         Body::ReadAt { number, time, read } => match read_at(kept, clock, from, number, time, read, outbox) {
             Ok(()) => Ok(()),
             Err((fault, read)) => Err((fault, Body::ReadAt { number, time, read })),
@@ -74,10 +77,13 @@ fn act(kept: &mut Kept, clock: Clock, from: Node, body: Body, outbox: &mut Outbo
             Ok(()) => Ok(()),
             Err((fault, ReplBegun { txn, rows, stamp, cohorts, dependencies })) => Err((fault, Body::ReplBegin { txn, rows, stamp, cohorts, dependencies })),
         },
-        Body::ReplPart { txn, rows, stamp, coordinator } => match repl_part(kept, clock, KeptPart { part: WritePart { writer: Writer { txn, shard: coordinator }, batch: rows }, stamp }, outbox) {
-            Ok(()) => Ok(()),
-            Err((fault, KeptPart { part: WritePart { writer: _, batch }, stamp })) => Err((fault, Body::ReplPart { txn, rows: batch, stamp, coordinator })),
-        },
+        Body::ReplPart { txn, rows, stamp, coordinator } => {
+            let part = WritePart { writer: Writer { txn, shard: coordinator }, batch: rows };
+            match repl_part(kept, clock, KeptPart { part, stamp }, outbox) {
+                Ok(()) => Ok(()),
+                Err((fault, KeptPart { part, stamp })) => Err((fault, Body::ReplPart { txn, rows: part.batch, stamp, coordinator })),
+            }
+        }
         other => match hear(kept, clock, from, &other, outbox) {
             Ok(()) => Ok(()),
             Err(fault) => Err((fault, other)),

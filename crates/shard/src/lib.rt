@@ -7,15 +7,15 @@
 //! are refuted. No program has a shard yet.
 #![tactic(auto)]
 
+mod answers;
 mod beginning;
+mod begun;
+mod below;
+mod checking;
 mod coming;
 mod committing;
 mod deciding;
-mod checking;
 mod early;
-mod below;
-mod answers;
-mod begun;
 mod excluding;
 mod handling;
 mod kept;
@@ -23,10 +23,10 @@ mod law;
 mod lookalikes;
 mod parts;
 mod reading;
-mod voting;
-mod unfinished;
 mod replicas;
 mod shard;
+mod unfinished;
+mod voting;
 
 pub use law::one_shard_is_right;
 pub use lookalikes::{lookalikes_of_right_shards_are_false, shards_need_honest_envelopes};

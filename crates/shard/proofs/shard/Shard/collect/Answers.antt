@@ -1,5 +1,4 @@
 use Rattle.std.proofs.Common.{rules, refl, sym, subst}
-use Rattle.messages.specs.Topology.{TopologyValue}
 use Rattle.shard.specs.declared.kept.Kept.{Kept}
 use Rattle.shard.specs.Events.{shard_run}
 use Rattle.shard.specs.Kept.{Represents}

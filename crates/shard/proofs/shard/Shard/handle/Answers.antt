@@ -1,7 +1,5 @@
 use Rattle.std.proofs.Common.{sym, subst}
 use Rattle.std.specs.Prelude.{OnErr}
-use Rattle.messages.specs.Shard.{ShardState}
-use Rattle.messages.specs.Topology.{TopologyValue}
 use Rattle.shard.specs.declared.kept.Kept.{Kept}
 use Rattle.shard.specs.Events.{shard_run}
 use Rattle.shard.specs.Kept.{Represents, GoesOn}
