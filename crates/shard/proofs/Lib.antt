@@ -20,6 +20,7 @@ pub mod PartSteps
 pub mod ReadSteps
 pub mod ReadsAnswered
 mod Refuted
+pub mod QuietSteps
 pub mod Remotes
 pub mod Run
 pub mod Sending

@@ -10,3 +10,4 @@ pub mod Coming
 pub mod Deciding
 pub mod UnderWay
 pub mod Beginning
+pub mod Ignored

@@ -4,22 +4,22 @@
 //! refuted.
 #![tactic(auto)]
 
+mod answers;
 mod beginning;
+mod below;
+mod checking;
 mod coming;
 mod committing;
 mod deciding;
-mod checking;
 mod early;
-mod below;
-mod answers;
 mod excluding;
 mod kept;
 mod law;
 mod lookalikes;
 mod parts;
 mod reading;
-mod voting;
 mod unfinished;
+mod voting;
 
 pub use law::one_shard_is_right;
 pub use lookalikes::{lookalikes_of_right_shards_are_false, shards_need_honest_envelopes};
