@@ -1,5 +1,5 @@
 -- One read more, that is let go or goes on waiting.
-use Rattle.std.proofs.Common.{◌≡◌, ◌∙◌, sym, ap, refl, ℕ, Bool, true, false, if◌then◌else◌, List, [], ◌∷◌, ◌++◌, map, append-nil}
+use Rattle.std.proofs.Common.{◌≡◌, ◌∙◌, sym, ap, refl, ℕ, Bool, true, false, if◌then◌else◌, List, [], ◌∷◌, ◌++◌, map, append-nil, ◌+◌, ◌<◌, zero, suc, length, get_or, arith}
 use Rattle.std.specs.Prelude.{filter}
 use Rattle.std.specs.List.{list_all}
 use Rattle.logical_time.specs.Stamps.{TxnValue}
@@ -58,3 +58,27 @@ answered_none t by me n f xs zs x before after so more is same =
     same ∙ (so ∙ (sym (append-nil (map (reply me n f) (freed t by xs)))
     ∙ (ap (λ (b : Bool). map (reply me n f) (freed t by xs) ++ (if b then reply me n f x ∷ [] else [])) (sym is)
     ∙ (sym (freed_more t by me n f xs x) ∙ ap (λ ws. map (reply me n f) (freed t by ws)) (sym more)))))
+
+-- ## None is let go
+
+-- where none is let go, no read among them waits for nothing more
+pub none_freed : (t : TxnValue) (by : Cause) (ws : List WaitingRead) (i : ℕ) (d : WaitingRead) → i < length ws → freed t by ws ≡ [] → is_freed t by (get_or ws i d) ≡ false
+none_freed t by [] i d lt e = absurd (omega arith)
+none_freed t by (y ∷ ys) i d lt e = at i lt (both (is_freed t by y) e) (λ j less none. none_freed t by ys j d less none)
+  where
+    z : WaitingRead
+    z = if concerns by y then record y { left = without t y.left } else y
+
+    both : (b : Bool) → (if b then z ∷ freed t by ys else freed t by ys) ≡ [] → (b ≡ false) × (freed t by ys ≡ [])
+    both true f = absurd (cc)
+    both false f = (refl, f)
+
+    at : (j : ℕ) → j < length (y ∷ ys) → (is_freed t by y ≡ false) × (freed t by ys ≡ [])
+        → ((k : ℕ) → k < length ys → freed t by ys ≡ [] → is_freed t by (get_or ys k d) ≡ false) → is_freed t by (get_or (y ∷ ys) j d) ≡ false
+    at zero lt f rest = f.0
+    at (suc j) lt f rest = rest j (omega arith) f.1
+
+-- so nothing is answered
+pub unanswered : {P : Type 0} (t : TxnValue) (by : Cause) (ws : List WaitingRead) (i : ℕ) (x : WaitingRead) → i < length ws → x ≡ get_or ws i x → is_freed t by x ≡ true → freed t by ws ≡ [] → P
+unanswered t by ws i x lt is free none =
+    absurd (let f : is_freed t by x ≡ false = ap (is_freed t by) is ∙ none_freed t by ws i x lt none in cc)

@@ -1,5 +1,5 @@
 //! Answers to reads by time that waited.
-ghost use Rattle.std.specs.Prelude.{◌≡◌, ℕ, map, IfOk, IfErr};
+ghost use Rattle.std.specs.Prelude.{◌≡◌, ℕ, [], map, IsOk, IfOk, IfErr};
 ghost use Rattle.slice.specs.declared.read.Read.{Read};
 ghost use Rattle.messages.specs.declared.rows_at.AtTime.{AtTime};
 ghost use Rattle.commit_check.specs.Waiting.{AnswersBy, freed, reply};
@@ -23,7 +23,12 @@ pub trait AnswersAt {
 }
 
 /// The answer to a read that waited.
-fn answer_to<A: AnswersAt>(wait: &Wait, me: Node, time: Time, answers: &A) -> Result<Envelope, Fault>
+fn answer_to<A: AnswersAt>(
+    wait: &Wait,
+    me: Node,
+    time: Time,
+    answers: &A,
+) -> Result<Envelope, Fault>
     ensures ok { (f : ℕ → Read → AtTime) → AnswersBy (A.answered answers.now) f → IfOk result (λ e. e ≡ reply me time f wait.now) }
     ensures memory { IfErr result (λ e. e ≡ Fault.Memory) }
 {
@@ -54,6 +59,8 @@ pub fn freed_answers<A: AnswersAt>(
 ) -> Result<Vec<Envelope>, Fault>
     ensures ok { (f : ℕ → Read → AtTime) → AnswersBy (A.answered answers.now) f
         → IfOk result (λ envelopes. envelopes.items ≡ map (reply me time f) (freed txn cause.now waits.now)) }
+    // it takes no memory where no read is let go
+    ensures none { freed txn cause.now waits.now ≡ [] → IsOk result }
     ensures memory { IfErr result (λ e. e ≡ Fault.Memory) }
 {
     let mut envelopes = Vec::new(alloc);

@@ -37,6 +37,8 @@ impl Outbox {
     pub fn reserve(&mut self, additional: usize) -> Result<(), Fault>
         ensures same { self.new.sent ≡ self.old.sent }
         ensures ok { OnOk result (additional ≤ self.new.room) }
+        // it takes no memory where there is room
+        ensures succeeds { additional ≤ self.old.room → IsOk result }
         ensures room { self.old.room ≤ self.new.room }
         ensures memory { IfErr result (λ e. e ≡ Fault.Memory) }
     {

@@ -34,7 +34,7 @@ answers_asker top me n k a q commit stamp before after r decided sends =
 -- ## Remembered
 
 -- whether one asked is whether it is among those that asked for the same
-own_askers : (ks : List Asker) (q : Asker) → is_asker (filter (λ z. is_same_txn z.dependency q.dependency) ks) q.dependency q.waiter q.from ≡ is_asker ks q.dependency q.waiter q.from
+pub own_askers : (ks : List Asker) (q : Asker) → is_asker (filter (λ z. is_same_txn z.dependency q.dependency) ks) q.dependency q.waiter q.from ≡ is_asker ks q.dependency q.waiter q.from
 own_askers [] q = refl
 own_askers (x ∷ xs) q = by_cases (is_same_txn x.dependency q.dependency)
     (λ yes. rw (yes, yes) (ap (λ (b : Bool). (is_same_txn x.waiter q.waiter && (x.from == q.from)) || b) (own_askers xs q)))

@@ -43,7 +43,7 @@ pub record IsLast (node here n : ℕ) (t : TxnValue) (l m : LedgerValue) : Type 
   pub becomes : Becomes t (Some (IsDecided n (stamp_for here n led.stamp))) l m
 
 -- which ballot a vote completes
-which_ballot : (node : ℕ) (s : Option State) → is_some (completed_by node s) ≡ true → (l : Led) × (s ≡ Some (Holds (in_open.Led l))) × (are_all_there (counted l.ballot.votes node) ≡ true)
+pub which_ballot : (node : ℕ) (s : Option State) → is_some (completed_by node s) ≡ true → (l : Led) × (s ≡ Some (Holds (in_open.Led l))) × (are_all_there (counted l.ballot.votes node) ≡ true)
 which_ballot node None e = absurd (cc)
 which_ballot node (Some (Holds (in_open.Kept k))) e = absurd (cc)
 which_ballot node (Some (Holds (in_open.Part p))) e = absurd (cc)

@@ -24,6 +24,7 @@ pub mod PartSteps
 pub mod ReadSteps
 pub mod ReadsAnswered
 mod Refuted
+pub mod QuietSteps
 pub mod Remotes
 pub mod RightSends
 pub mod Run

@@ -13,3 +13,4 @@ pub mod Beginning
 pub mod Handled
 pub mod Concluding
 pub mod Begun
+pub mod Ignored

@@ -1,5 +1,5 @@
 //! Answers to reads at a time that waited.
-ghost use Rattle.std.specs.Prelude.{◌≡◌, ℕ, map, IfOk, IfErr};
+ghost use Rattle.std.specs.Prelude.{◌≡◌, ℕ, [], map, IsOk, IfOk, IfErr};
 ghost use Rattle.logical_time.specs.declared.fault.Fault.TheVariants as fault;
 ghost use Rattle.store.specs.Keeps.{Keeps};
 ghost use Rattle.slice.specs.declared.read.Read.{Read};
@@ -42,6 +42,8 @@ pub(crate) fn answers_as_it_is(
     cause: &Cause,
 ) -> Result<Vec<Envelope>, Fault>
     ensures ok { (top : TopologyValue) (me : ℕ) (a : ShardState) → Represents top me kept.now a → IfOk result (λ envelopes. envelopes.items ≡ map (reply me time (at_time a)) (freed txn cause.now a.waiting)) }
+    // it takes no memory where no read is let go
+    ensures none { freed txn cause.now kept.now.waiting ≡ [] → IsOk result }
     ensures memory { IfErr result (λ e. e ≡ fault.Memory) }
 {
     let answers = AsItIs {

@@ -1,5 +1,5 @@
 //! Begin.
-ghost use Rattle.std.specs.Prelude.{◌≡◌, ◌<◌, ◌≤◌, ◌+◌, ◌^◌, ℕ, List, [], length, None, IfOk, OnOk, OnErr, IfErr};
+ghost use Rattle.std.specs.Prelude.{◌≡◌, ◌<◌, ◌≤◌, ◌+◌, ◌^◌, ℕ, List, [], length, None, IsOk, IfOk, OnOk, OnErr, IfErr};
 ghost use Rattle.logical_time.specs.declared.fault.Fault.TheVariants as fault;
 ghost use Rattle.store.specs.Keeps.{AreApart};
 ghost use Rattle.store.specs.Kept.{HasRoom};
@@ -10,6 +10,7 @@ ghost use Rattle.messages.specs.Known.{decision_of};
 ghost use Rattle.messages.specs.Commits.{decide, on_begin};
 ghost use Rattle.write_txn.specs.Ledger.{state_of};
 ghost use Rattle.shard.specs.Kept.{Represents, Does, GoesOn};
+ghost use Rattle.shard.specs.Ignored.{IfIgnored};
 ghost use Rattle.shard.specs.Deciding.{node_at, told};
 ghost use Rattle.shard.specs.Beginning.{ballot_of, IsDecidedNow, AreVotes};
 
@@ -79,12 +80,7 @@ fn own_part(kept: &Kept, clock: Clock, txn: TxnId, rows: Batch) -> Prepared
 }
 
 /// Begin, where votes are missing: the ballot is held, and the rows of the coordinator's own part are marked.
-fn hold(
-    kept: &mut Kept,
-    clock: Clock,
-    begun: Begun,
-    votes: Votes,
-) -> Result<(), (Fault, Begun)>
+fn hold(kept: &mut Kept, clock: Clock, begun: Begun, votes: Votes) -> Result<(), (Fault, Begun)>
     requires unknown { state_of kept.old.transactions.ledger begun.txn ≡ None }
     requires votes { AreVotes kept.old begun votes }
     requires missing { 0 < length votes.missing }
@@ -200,6 +196,8 @@ pub(crate) fn begin(
     ensures step { OnOk result (Does (λ top me a. on_begin top me clock a (ballot_of begun)) kept.old kept.new outbox.old.sent outbox.new.sent) }
     ensures same { OnErr result (GoesOn kept.old kept.new) }
     ensures unsent { OnErr result (outbox.new.sent ≡ outbox.old.sent) }
+    // it takes no memory where only the clock moves
+    ensures quiet { IfIgnored (λ top me a. on_begin top me clock a (ballot_of begun)) clock kept.old (IsOk result) }
     ensures memory { IfErr result (λ e. (e.0 ≡ fault.Memory) × (e.1 ≡ begun)) }
 {
     if kept.knows(begun.txn) {

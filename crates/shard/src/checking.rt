@@ -1,9 +1,10 @@
 //! What other shards ask about decisions: Check and DepCheck.
-ghost use Rattle.std.specs.Prelude.{◌≡◌, OnOk, OnErr, IfErr};
+ghost use Rattle.std.specs.Prelude.{◌≡◌, IsOk, OnOk, OnErr, IfErr};
 ghost use Rattle.logical_time.specs.declared.fault.Fault.TheVariants as fault;
 ghost use Rattle.messages.specs.Commits.{on_check};
 ghost use Rattle.messages.specs.Replication.{on_dep_check};
 ghost use Rattle.shard.specs.Kept.{Does, GoesOn};
+ghost use Rattle.shard.specs.Ignored.{IfIgnored};
 
 use crate::kept::Kept;
 use logical_time::{Clock, Fault, Node, Time, TxnId};
@@ -22,6 +23,8 @@ pub(crate) fn check(
     ensures step { OnOk result (Does (λ top me a. on_check me clock a from txn time) kept.old kept.new outbox.old.sent outbox.new.sent) }
     ensures same { OnErr result (GoesOn kept.old kept.new) }
     ensures unsent { OnErr result (outbox.new.sent ≡ outbox.old.sent) }
+    // it takes no memory where only the clock moves
+    ensures quiet { IfIgnored (λ top me a. on_check me clock a from txn time) clock kept.old (IsOk result) }
     ensures memory { IfErr result (λ e. e ≡ fault.Memory) }
 {
     outbox.reserve(1)?;
@@ -53,6 +56,8 @@ pub(crate) fn dep_check(
     ensures step { OnOk result (Does (λ top me a. on_dep_check me clock a (record { dependency = dependency; waiter = waiter; from = from })) kept.old kept.new outbox.old.sent outbox.new.sent) }
     ensures same { OnErr result (GoesOn kept.old kept.new) }
     ensures unsent { OnErr result (outbox.new.sent ≡ outbox.old.sent) }
+    // it takes no memory where only the clock moves
+    ensures quiet { IfIgnored (λ top me a. on_dep_check me clock a (record { dependency = dependency; waiter = waiter; from = from })) clock kept.old (IsOk result) }
     ensures memory { IfErr result (λ e. e ≡ fault.Memory) }
 {
     let decided = kept.transactions.ledger().decided(dependency);

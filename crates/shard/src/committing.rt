@@ -1,5 +1,5 @@
 //! Commit, and At in the same way.
-ghost use Rattle.std.specs.Prelude.{◌≡◌, ℕ, Some, is_some, IfOk, OnOk, OnErr, IfErr};
+ghost use Rattle.std.specs.Prelude.{◌≡◌, ℕ, Some, is_some, IsOk, IfOk, OnOk, OnErr, IfErr};
 ghost use Rattle.logical_time.specs.declared.fault.Fault.TheVariants as fault;
 ghost use Rattle.store.specs.Keeps.{AreApart};
 ghost use Rattle.messages.specs.Topology.{TopologyValue};
@@ -8,6 +8,7 @@ ghost use Rattle.messages.specs.Commits.{apply_part, on_commit};
 ghost use Rattle.write_txn.specs.declared.open.Open.TheVariants as in_open;
 ghost use Rattle.write_txn.specs.Ledger.{state_of, Holds, part_in};
 ghost use Rattle.shard.specs.Kept.{Represents, Does, GoesOn};
+ghost use Rattle.shard.specs.Ignored.{IfIgnored};
 
 use crate::coming::{Coming, answers_with};
 use crate::kept::Kept;
@@ -93,6 +94,8 @@ pub(crate) fn commit(
     ensures step { OnOk result (Does (λ top me a. on_commit top me clock a txn commit stamp) kept.old kept.new outbox.old.sent outbox.new.sent) }
     ensures same { OnErr result (GoesOn kept.old kept.new) }
     ensures unsent { OnErr result (outbox.new.sent ≡ outbox.old.sent) }
+    // it takes no memory where only the clock moves
+    ensures quiet { IfIgnored (λ top me a. on_commit top me clock a txn commit stamp) clock kept.old (IsOk result) }
     ensures memory { IfErr result (λ e. e ≡ fault.Memory) }
 {
     if !has_part(kept, txn) {

@@ -83,9 +83,7 @@ pub(crate) fn tell(kept: &Kept, time: Time, deciding: &Deciding) -> Result<Vec<E
         deciding.dependencies,
         &deciding.stamp,
     )?;
-    let mut oks = kept
-        .askers
-        .dep_oks(kept.place.node(), time, deciding.txn)?;
+    let mut oks = kept.askers.dep_oks(kept.place.node(), time, deciding.txn)?;
     let coming = own_part(kept, time, deciding);
     let mut freed = answers_with(kept, time, &coming)?;
     envelopes.append(&mut oks)?;

@@ -1,10 +1,11 @@
 //! A cohort's parts: Prepare, PrepareRemote and ReplPart.
-ghost use Rattle.std.specs.Prelude.{◌≡◌, OnOk, OnErr, IfErr};
+ghost use Rattle.std.specs.Prelude.{◌≡◌, IsOk, OnOk, OnErr, IfErr};
 ghost use Rattle.logical_time.specs.declared.fault.Fault.TheVariants as fault;
 ghost use Rattle.messages.specs.Commits.{on_prepare};
 ghost use Rattle.messages.specs.Replication.{on_repl_part, on_prepare_remote};
 ghost use Rattle.write_txn.specs.Stands.{kept_part_of};
 ghost use Rattle.shard.specs.Kept.{Does, GoesOn};
+ghost use Rattle.shard.specs.Ignored.{IfIgnored};
 
 use crate::kept::Kept;
 use logical_time::{Clock, Fault, TxnId};
@@ -24,6 +25,8 @@ pub(crate) fn prepare(
     ensures step { OnOk result (Does (λ top me a. on_prepare top me clock a part.writer.txn part.batch part.writer.shard) kept.old kept.new outbox.old.sent outbox.new.sent) }
     ensures same { OnErr result (GoesOn kept.old kept.new) }
     ensures unsent { OnErr result (outbox.new.sent ≡ outbox.old.sent) }
+    // it takes no memory where only the clock moves
+    ensures quiet { IfIgnored (λ top me a. on_prepare top me clock a part.writer.txn part.batch part.writer.shard) clock kept.old (IsOk result) }
     ensures memory { IfErr result (λ e. (e.0 ≡ fault.Memory) × (e.1 ≡ part)) }
 {
     let writer = part.writer;
@@ -57,6 +60,8 @@ pub(crate) fn repl_part(
     ensures step { OnOk result (Does (λ top me a. on_repl_part top me clock a (kept_part_of held)) kept.old kept.new outbox.old.sent outbox.new.sent) }
     ensures same { OnErr result (GoesOn kept.old kept.new) }
     ensures unsent { OnErr result (outbox.new.sent ≡ outbox.old.sent) }
+    // it takes no memory where only the clock moves
+    ensures quiet { IfIgnored (λ top me a. on_repl_part top me clock a (kept_part_of held)) clock kept.old (IsOk result) }
     ensures memory { IfErr result (λ e. (e.0 ≡ fault.Memory) × (e.1 ≡ held)) }
 {
     let KeptPart { part, stamp } = held;
@@ -89,6 +94,8 @@ pub(crate) fn prepare_remote(
     ensures step { OnOk result (Does (λ top me a. on_prepare_remote top me clock a txn) kept.old kept.new outbox.old.sent outbox.new.sent) }
     ensures same { OnErr result (GoesOn kept.old kept.new) }
     ensures unsent { OnErr result (outbox.new.sent ≡ outbox.old.sent) }
+    // it takes no memory where only the clock moves
+    ensures quiet { IfIgnored (λ top me a. on_prepare_remote top me clock a txn) clock kept.old (IsOk result) }
     ensures memory { IfErr result (λ e. e ≡ fault.Memory) }
 {
     let time = clock.now();

@@ -1,10 +1,11 @@
 //! Read and ReadAt.
-ghost use Rattle.std.specs.Prelude.{◌≡◌, ℕ, nat_lt, if◌then◌else◌, ◌++◌, [], ◌∷◌, map, IfOk, IfErr, OnOk, OnErr};
+ghost use Rattle.std.specs.Prelude.{◌≡◌, ℕ, nat_lt, if◌then◌else◌, ◌++◌, [], ◌∷◌, map, IsOk, IfOk, IfErr, OnOk, OnErr};
 ghost use Rattle.logical_time.specs.declared.fault.Fault.TheVariants as fault;
 ghost use Rattle.messages.specs.Topology.{TopologyValue};
 ghost use Rattle.messages.specs.Place.{IsPlace};
 ghost use Rattle.messages.specs.Shard.{ShardState};
 ghost use Rattle.messages.specs.Reads.{answer, asked_below, check_of, on_read, on_read_at, part_at, waiting_read};
+ghost use Rattle.shard.specs.Ignored.{IfIgnored};
 ghost use Rattle.shard.specs.Kept.{Does, GoesOn, Represents};
 
 use crate::below::writers_below;
@@ -28,6 +29,8 @@ pub(crate) fn read(
     ensures step { OnOk result (Does (λ top me a. on_read me clock a from number asked.now) kept.old kept.new outbox.old.sent outbox.new.sent) }
     ensures same { OnErr result (GoesOn kept.old kept.new) }
     ensures unsent { OnErr result (outbox.new.sent ≡ outbox.old.sent) }
+    // it takes no memory where only the clock moves
+    ensures quiet { IfIgnored (λ top me a. on_read me clock a from number asked.now) clock kept.old (IsOk result) }
     ensures memory { IfErr result (λ e. e ≡ fault.Memory) }
 {
     let time = clock.now();
@@ -168,6 +171,8 @@ pub(crate) fn read_at(
     ensures step { OnOk result (Does (λ top me a. on_read_at top me clock a from number time asked) kept.old kept.new outbox.old.sent outbox.new.sent) }
     ensures same { OnErr result (GoesOn kept.old kept.new) }
     ensures unsent { OnErr result (outbox.new.sent ≡ outbox.old.sent) }
+    // it takes no memory where only the clock moves
+    ensures quiet { IfIgnored (λ top me a. on_read_at top me clock a from number time asked) clock kept.old (IsOk result) }
     ensures memory { IfErr result (λ e. (e.0 ≡ fault.Memory) × (e.1 ≡ asked)) }
 {
     if kept.waiting.is_waiting(from, number) {

@@ -1,5 +1,5 @@
 //! Yes.
-ghost use Rattle.std.specs.Prelude.{◌≡◌, ◌<◌, ◌^◌, ℕ, List, length, Some, true, false, is_some, IfOk, OnOk, OnErr, IfErr};
+ghost use Rattle.std.specs.Prelude.{◌≡◌, ◌<◌, ◌^◌, ℕ, List, length, Some, true, false, is_some, IsOk, IfOk, OnOk, OnErr, IfErr};
 ghost use Rattle.logical_time.specs.declared.fault.Fault.TheVariants as fault;
 ghost use Rattle.store.specs.Keeps.{AreApart};
 ghost use Rattle.messages.specs.declared.envelope.Envelope.{Envelope};
@@ -11,6 +11,7 @@ ghost use Rattle.write_txn.specs.declared.open.Led.{Led};
 ghost use Rattle.write_txn.specs.Ledger.{state_of, Holds, completed_by};
 ghost use Rattle.write_txn.specs.Stands.{begun_of};
 ghost use Rattle.shard.specs.Kept.{Represents, Does, GoesOn};
+ghost use Rattle.shard.specs.Ignored.{IfIgnored};
 ghost use Rattle.shard.specs.Deciding.{node_at, told};
 
 use crate::deciding::{Deciding, settle, stamp_at, tell};
@@ -140,6 +141,8 @@ pub(crate) fn yes(
     ensures step { OnOk result (Does (λ top me a. on_yes top me clock a node txn) kept.old kept.new outbox.old.sent outbox.new.sent) }
     ensures same { OnErr result (GoesOn kept.old kept.new) }
     ensures unsent { OnErr result (outbox.new.sent ≡ outbox.old.sent) }
+    // it takes no memory where only the clock moves
+    ensures quiet { IfIgnored (λ top me a. on_yes top me clock a node txn) clock kept.old (IsOk result) }
     ensures memory { IfErr result (λ e. e ≡ fault.Memory) }
 {
     if !kept.knows(txn) {

@@ -2,7 +2,8 @@
 use Rattle.std.proofs.Common.{rules, ap, subst, sym, ◌∙◌, take, ◌++◌, [], ◌∷◌, ◌≡◌, ◌+◌, List}
 use Rattle.std.proofs.lemmas.List.{take_more}
 use Rattle.messages.specs.Shard.{WaitingRead}
-use Rattle.commit_check.proofs.Freed.{answered_one, answered_none}
+use Rattle.commit_check.specs.Waiting.{freed}
+use Rattle.commit_check.proofs.Freed.{answered_one, answered_none, unanswered}
 use Rattle.commit_check.proofs.freeing.freed_answers.Goals as goal
 use Rattle.commit_check.proofs.freeing.freed_answers.Goals.{then-is_freed+in_ok-answer_to+in_ok-push, else-is_freed}
 
@@ -22,3 +23,15 @@ loop-wait-preserved g c = λ f by.
       | else-is_freed w ↦
           answered_none c.args.txn c.args.cause.now c.args.me c.args.time f xs zs x c.loop-wait.envelopes.items c.if-is_freed.envelopes.items (c.loop-wait.invariant f by) more (search rules) (search rules)
     ]
+
+pub returns-in_err-answer_to-clause-none : goal.returns-in_err-answer_to-clause-none
+returns-in_err-answer_to-clause-none g c = λ none.
+    let ws = c.as_slice-wait-items.result.now in
+    unanswered c.args.txn c.args.cause.now ws c.loop-wait.wait-index c.wait-item.result c.loop-wait-test.true c.wait-item.is (search rules)
+    (subst (λ (vs : List WaitingRead). freed c.args.txn c.args.cause.now vs ≡ []) (sym c.as_slice-wait-items.ensures) none)
+
+pub returns-in_err-push-clause-none : goal.returns-in_err-push-clause-none
+returns-in_err-push-clause-none g c = λ none.
+    let ws = c.as_slice-wait-items.result.now in
+    unanswered c.args.txn c.args.cause.now ws c.loop-wait.wait-index c.wait-item.result c.loop-wait-test.true c.wait-item.is (search rules)
+    (subst (λ (vs : List WaitingRead). freed c.args.txn c.args.cause.now vs ≡ []) (sym c.as_slice-wait-items.ensures) none)

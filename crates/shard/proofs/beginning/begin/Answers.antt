@@ -1,5 +1,22 @@
 use Rattle.shard.proofs.InPlace.{on_ok}
+use Rattle.std.proofs.Common.{rules}
+use Rattle.std.specs.Prelude.{is_some}
+use Rattle.write_txn.specs.Ledger.{state_of}
+use Rattle.shard.specs.Beginning.{ballot_of}
+use Rattle.shard.proofs.QuietSteps.{contrary, begun_before}
 use Rattle.shard.proofs.beginning.begin.Goals as goal
 
 pub returns-else-is_empty-clause-step : goal.returns-else-is_empty-clause-step
 returns-else-is_empty-clause-step c = on_ok c.hold.result (λ f. f c.args.outbox.now.sent) c.hold.ensures.step
+
+pub returns-in-Err-clause-quiet : goal.returns-in-Err-clause-quiet
+returns-in-Err-clause-quiet c = λ top me a r e.
+    contrary (is_some (state_of c.args.kept.now.transactions.ledger c.args.begun.txn)) (begun_before top me c.args.clock c.args.kept.now a (ballot_of c.args.begun) r e) (search rules)
+
+pub returns-then-is_empty-clause-quiet : goal.returns-then-is_empty-clause-quiet
+returns-then-is_empty-clause-quiet c = λ top me a r e.
+    contrary (is_some (state_of c.args.kept.now.transactions.ledger c.args.begun.txn)) (begun_before top me c.args.clock c.args.kept.now a (ballot_of c.args.begun) r e) (search rules)
+
+pub returns-else-is_empty-clause-quiet : goal.returns-else-is_empty-clause-quiet
+returns-else-is_empty-clause-quiet c = λ top me a r e.
+    contrary (is_some (state_of c.args.kept.now.transactions.ledger c.args.begun.txn)) (begun_before top me c.args.clock c.args.kept.now a (ballot_of c.args.begun) r e) (search rules)

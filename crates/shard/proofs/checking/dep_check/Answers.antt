@@ -1,7 +1,8 @@
-use Rattle.std.proofs.Common.{rules}
+use Rattle.std.proofs.Common.{rules, refl, false}
 use Rattle.messages.specs.Shard.{Asker}
 use Rattle.shard.proofs.AskerSteps.{answers_asker, remembers_asker}
 use Rattle.shard.proofs.checking.dep_check.Goals.{in-None+in_ok-remember-in-None, in-Some+in_ok-reserve-in-Some}
+use Rattle.shard.proofs.QuietSteps.{contrary, asked_before}
 use Rattle.shard.proofs.checking.dep_check.Goals as goal
 
 pub returns-clause-step : goal.returns-clause-step
@@ -13,3 +14,8 @@ returns-clause-step c = λ top me a r apart.
       | in-Some+in_ok-reserve-in-Some w ↦
           rw (w.kept-is, w.outbox-is) (answers_asker top me c.args.clock c.args.kept.now a asker w.in-Some.commit w.in-Some.field-0-1 c.args.outbox.now.sent w.post.new.self.sent r (search rules) (search rules))
     ]
+
+pub returns-in_err-remember-in-None-clause-quiet : goal.returns-in_err-remember-in-None-clause-quiet
+returns-in_err-remember-in-None-clause-quiet c = λ top me a r e.
+    let asker : Asker = record { dependency = c.args.dependency; waiter = c.args.waiter; from = c.args.from } in
+    contrary false (c.in_err-remember-in-None.ensures.known (asked_before top me c.args.clock c.args.kept.now a asker r e).kept) refl

@@ -3,8 +3,10 @@ use Rattle.messages.specs.declared.envelope.Envelope.{Envelope}
 use Rattle.messages.specs.Topology.{TopologyValue}
 use Rattle.messages.specs.Shard.{ShardState, PreparedPart}
 use Rattle.messages.specs.Commits.{apply_part}
-use Rattle.write_txn.specs.Ledger.{state_of}
+use Rattle.write_txn.specs.Ledger.{state_of, part_in}
 use Rattle.shard.proofs.Applying.{which_part, applies_so, commit_passes, has_room}
+use Rattle.std.specs.Prelude.{is_some}
+use Rattle.shard.proofs.QuietSteps.{contrary, unprepared}
 use Rattle.shard.proofs.committing.commit.Goals as goal
 
 pub returns-then-not-has_part-clause-step : goal.returns-then-not-has_part-clause-step
@@ -23,3 +25,15 @@ returns-clause-step c = λ top me a r apart.
     posted : (top : TopologyValue) (me : ℕ) (a : ShardState) (p : PreparedPart) → c.in_ok-envelopes.envelopes.items ≡ (apply_part top me c.args.clock a p c.args.commit c.args.stamp).sends
         → c.post_all.new.self.sent ≡ c.args.outbox.now.sent ++ (apply_part top me c.args.clock a p c.args.commit c.args.stamp).sends
     posted top me a p e = c.post_all.ensures ∙ (ap (λ (es : List Envelope). es ++ c.in_ok-envelopes.envelopes.items) c.reserve.ensures.same ∙ ap (λ (es : List Envelope). c.args.outbox.now.sent ++ es) e)
+
+pub returns-in_err-envelopes-clause-quiet : goal.returns-in_err-envelopes-clause-quiet
+returns-in_err-envelopes-clause-quiet c = λ top me a r e.
+    contrary (is_some (part_in (state_of c.args.kept.now.transactions.ledger c.args.txn))) (search rules) (unprepared top me c.args.clock c.args.kept.now a c.args.txn c.args.commit c.args.stamp r e)
+
+pub returns-in_err-reserve-clause-quiet : goal.returns-in_err-reserve-clause-quiet
+returns-in_err-reserve-clause-quiet c = λ top me a r e.
+    contrary (is_some (part_in (state_of c.args.kept.now.transactions.ledger c.args.txn))) (search rules) (unprepared top me c.args.clock c.args.kept.now a c.args.txn c.args.commit c.args.stamp r e)
+
+pub returns-in_err-make_room_for-clause-quiet : goal.returns-in_err-make_room_for-clause-quiet
+returns-in_err-make_room_for-clause-quiet c = λ top me a r e.
+    contrary (is_some (part_in (state_of c.args.kept.now.transactions.ledger c.args.txn))) (search rules) (unprepared top me c.args.clock c.args.kept.now a c.args.txn c.args.commit c.args.stamp r e)
