@@ -1,13 +1,12 @@
 -- The steps of a ballot of another data centre's write, as what is kept takes them.
 use Rattle.std.proofs.Common.{◌≡◌, ◌∙◌, sym, ap, subst, refl, ℕ, Bool, true, false, if◌then◌else◌, List, [], ◌∷◌, ◌++◌, Option, Some, None, map, IfSome}
 use Rattle.std.specs.Prelude.{◌==◌}
-use Rattle.logical_time.specs.Stamps.{StampValue, TxnValue}
+use Rattle.logical_time.specs.Stamps.{TxnValue}
 use Rattle.column_family.proofs.Options.{by_cases}
 use Rattle.store.specs.declared.part.Applied.{Applied}
 use Rattle.store.specs.Keeps.{Keeps, AreApart}
 use Rattle.store.specs.Kept as in_store
 use Rattle.txn_state.specs.declared.part.WritePart.{WritePart}
-use Rattle.txn_state.specs.Prepared.{PreparedValue}
 use Rattle.txn_state.specs.Ballot.{CompleteValue}
 use Rattle.txn_state.specs.Ready.{ready_for}
 use Rattle.txn_state.specs.RemoteBallot.{missing_in}
@@ -15,8 +14,8 @@ use Rattle.dependencies.specs.Askers.{askers_of}
 use Rattle.messages.specs.declared.envelope.Envelope.{Envelope}
 use Rattle.messages.specs.declared.body.Body.TheVariants.{PrepareRemote}
 use Rattle.messages.specs.Topology.{TopologyValue, shard_of, dc_of, shard_node}
-use Rattle.messages.specs.Words.{is_same_txn, envelope}
-use Rattle.messages.specs.Shard.{ShardState, ShardStep, KeptBallot, BegunBallot, WaitingRead, quiet}
+use Rattle.messages.specs.Words.{envelope}
+use Rattle.messages.specs.Shard.{ShardState, ShardStep, KeptBallot, WaitingRead, quiet}
 use Rattle.messages.specs.Commits.{applied_part, commits, decide, hold}
 use Rattle.messages.specs.Replication.{ballot_of, remote_prepare, ready_if, ready}
 use Rattle.commit_check.specs.declared.cause.Cause.TheVariants as cause
@@ -35,7 +34,7 @@ use Rattle.write_txn.proofs.Readying.{KeepsBallot, ready_decides, is_alone, led_
 use Rattle.shard.specs.declared.kept.Kept.{Kept}
 use Rattle.shard.specs.Kept.{Represents, IsStep}
 use Rattle.shard.specs.Effects.{IsAfter}
-use Rattle.shard.specs.Deciding.{told, IsSettled}
+use Rattle.shard.specs.Deciding.{told}
 use Rattle.shard.specs.Concluding.{MaySettle, IsUnderWay, IsConcluded}
 use Rattle.shard.proofs.Standing.{moved}
 use Rattle.shard.proofs.Decisions.{decision_sends, settled_after}

@@ -2,7 +2,7 @@
 use Rattle.std.proofs.Common.{◌≡◌, ◌∙◌, sym, ap, subst, refl, ℕ, Bool, List, ◌++◌, Option, Some, None, is_some, true}
 use Rattle.std.specs.Prelude.{◌==◌}
 use Rattle.std.proofs.lemmas.List.{append_assoc}
-use Rattle.logical_time.specs.Stamps.{StampValue, TxnValue}
+use Rattle.logical_time.specs.Stamps.{StampValue}
 use Rattle.store.specs.Keeps.{AreApart}
 use Rattle.txn_state.specs.Votes.{VotesValue}
 use Rattle.txn_state.specs.Ballot.{CompleteValue}

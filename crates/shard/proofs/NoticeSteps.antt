@@ -3,7 +3,6 @@ use Rattle.std.proofs.Common.{◌≡◌, ◌∙◌, sym, ap, subst, refl, ℕ, B
 use Rattle.std.specs.Prelude.{◌==◌}
 use Rattle.std.proofs.lemmas.Bool.Decides.{nat_tests}
 use Rattle.logical_time.specs.Stamps.{StampValue, TxnValue}
-use Rattle.store.specs.declared.part.Applied.{Applied}
 use Rattle.store.specs.Keeps.{AreApart}
 use Rattle.store.specs.Kept.{HasRoom}
 use Rattle.store.specs.Kept as in_store

@@ -29,7 +29,12 @@ use write_txn::{Open, Remote, Transactions};
 
 /// What a ballot that waits sends, by whether it becomes ready: PrepareRemote to each cohort, or without any what its
 /// decision tells; while something is missing nothing.
-pub(crate) fn told_by(kept: &Kept, time: Time, remote: &Remote, is_ready: bool) -> Result<Vec<Envelope>, Fault>
+pub(crate) fn told_by(
+    kept: &Kept,
+    time: Time,
+    remote: &Remote,
+    is_ready: bool,
+) -> Result<Vec<Envelope>, Fault>
     ensures ok { (top : TopologyValue) (me : ℕ) (a : ShardState) → Represents top me kept.now a → decision_of (kept_ballot_of remote.now).txn a ≡ None
         → AreApart (ready_if is_ready top me time a (kept_ballot_of remote.now)).state.applied
         → IfOk result (λ envelopes. envelopes.items ≡ (ready_if is_ready top me time a (kept_ballot_of remote.now)).sends) }

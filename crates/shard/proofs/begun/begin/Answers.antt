@@ -1,4 +1,4 @@
-use Rattle.std.proofs.Common.{rules, ◌≡◌, ◌∙◌, ◌++◌, ◌==◌, ap, subst, ℕ, List}
+use Rattle.std.proofs.Common.{rules, ◌∙◌, ◌++◌, ◌==◌, ap, subst, ℕ, List}
 use Rattle.logical_time.specs.Stamps.{TxnValue}
 use Rattle.messages.specs.declared.envelope.Envelope.{Envelope}
 use Rattle.shard.specs.Concluding.{IsConcluded}

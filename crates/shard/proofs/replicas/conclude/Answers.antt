@@ -1,5 +1,4 @@
 use Rattle.std.proofs.Common.{subst, IfSome}
-use Rattle.txn_state.specs.Ballot.{CompleteValue}
 use Rattle.messages.specs.Posting.{commit_to}
 use Rattle.shard.specs.Concluding.{MaySettle}
 use Rattle.shard.proofs.NoticeSteps.{alone_sent}

@@ -1,4 +1,5 @@
-use Rattle.std.proofs.Common.{rules, ◌≡◌, ◌∙◌, ◌++◌, ap, List}
+use Rattle.std.proofs.Common.{rules, ◌∙◌, ◌++◌, ◌==◌, ap, List}
+use Rattle.txn_state.specs.RemoteBallot.{missing_in}
 use Rattle.messages.specs.declared.envelope.Envelope.{Envelope}
 use Rattle.write_txn.specs.Ledger.{state_of, state_answered}
 use Rattle.write_txn.proofs.Answering.{with_answered}
@@ -20,7 +21,7 @@ conclude-requires-clause-settles c =
     counted_settles c.args.waiter c.args.clock c.now-time.result (with_answered remote c.args.dependency) (record c.args.kept.now { transactions = c.answer.new.self }) room.ledger
     (state_answered c.args.dependency (state_of room.ledger c.args.waiter)) c.stamp.result c.in_ok-complete.complete (search rules) c.now-time.ensures (search rules) c.stamp.ensures
     c.in_ok-complete.ensures.complete c.in_ok-complete.ensures.ok
-    (ready_room c.args.waiter remote c.args.kept.now.transactions.ledger room c.answer.new.self c.is_last_answer-is_ready.result _ c.is_last_answer-is_ready.ensures (search rules) c.answer.ensures.store c.in_ok-make_room_if.ensures.ok)
+    (ready_room c.args.waiter remote c.args.kept.now.transactions.ledger room c.answer.new.self c.is_last_answer-is_ready.result (missing_in (with_answered remote c.args.dependency).ballot == 0) c.is_last_answer-is_ready.ensures (search rules) c.answer.ensures.store c.in_ok-make_room_if.ensures.ok)
 
 pub returns-clause-step : goal.returns-clause-step
 returns-clause-step c = λ top me a r apart.

@@ -1,5 +1,6 @@
-use Rattle.std.proofs.Common.{rules, ◌≡◌, ◌∙◌, ◌++◌, ap, List}
+use Rattle.std.proofs.Common.{rules, ◌∙◌, ◌++◌, ◌==◌, ap, List}
 use Rattle.store.proofs.Places.{on_ok}
+use Rattle.txn_state.specs.RemoteBallot.{missing_in}
 use Rattle.messages.specs.declared.envelope.Envelope.{Envelope}
 use Rattle.write_txn.specs.Ledger.{state_of, state_noticed}
 use Rattle.write_txn.proofs.Readying.{with_noticed}
@@ -24,7 +25,7 @@ conclude-requires-clause-settles c =
     counted_settles c.args.txn c.args.clock c.now-time.result (with_noticed remote c.args.node) (record c.args.kept.now { transactions = c.notice.new.self }) room.ledger
     (state_noticed c.args.node (state_of room.ledger c.args.txn)) c.stamp.result c.in_ok-complete.complete (search rules) c.now-time.ensures (search rules) c.stamp.ensures
     c.in_ok-complete.ensures.complete c.in_ok-complete.ensures.ok
-    (ready_room c.args.txn remote c.args.kept.now.transactions.ledger room c.notice.new.self c.is_last_notice-is_ready.result _ c.is_last_notice-is_ready.ensures (search rules) c.notice.ensures.store c.in_ok-make_room_if.ensures.ok)
+    (ready_room c.args.txn remote c.args.kept.now.transactions.ledger room c.notice.new.self c.is_last_notice-is_ready.result (missing_in (with_noticed remote c.args.node).ballot == 0) c.is_last_notice-is_ready.ensures (search rules) c.notice.ensures.store c.in_ok-make_room_if.ensures.ok)
 
 pub returns-clause-step : goal.returns-clause-step
 returns-clause-step c = λ top me a r apart.

@@ -1,4 +1,4 @@
-use Rattle.std.proofs.Common.{rules, ◌≡◌, ◌∙◌, ap, sym, subst, List, Some, IfOk}
+use Rattle.std.proofs.Common.{rules, ◌≡◌, subst, List, Some, IfOk}
 use Rattle.messages.specs.declared.envelope.Envelope.{Envelope}
 use Rattle.messages.specs.Shard.{BegunBallot}
 use Rattle.messages.specs.Replication.{ballot_of}
