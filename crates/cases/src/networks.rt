@@ -299,12 +299,7 @@ impl Subject for Network {
 }
 
 /// Tells the steps of a network of this topology.
-fn tell_in(
-    rt: &HostRuntime,
-    file: &str,
-    size: (u16, u16),
-    homes: &[u16],
-) -> Result<(), Fault> {
+fn tell_in(rt: &HostRuntime, file: &str, size: (u16, u16), homes: &[u16]) -> Result<(), Fault> {
     let topology = topology(rt.alloc(), size, homes)?;
     let mut network = Network::new(rt.alloc());
     let told = match network.open(rt.alloc(), &topology) {

@@ -1,11 +1,11 @@
 -- A cohort's part is applied, as what is kept takes it.
-use Rattle.std.proofs.Common.{◌≡◌, ◌∙◌, sym, ap, subst, refl, ℕ, Bool, true, false, List, [], ◌∷◌, ◌++◌, Option, Some, None, map, is_some}
+use Rattle.std.proofs.Common.{◌≡◌, ◌∙◌, sym, ap, subst, refl, ℕ, true, false, List, ◌++◌, Option, Some, None, map, is_some}
 use Rattle.logical_time.specs.Stamps.{StampValue, TxnValue}
 use Rattle.column_family.specs.declared.batch.Row.{Row}
 use Rattle.store.specs.declared.part.Applied.{Applied}
 use Rattle.store.specs.Kept.{Chains, HasRoom}
 use Rattle.txn_state.specs.Prepared.{PreparedValue}
-use Rattle.store.specs.Keeps.{Keeps, AreApart}
+use Rattle.store.specs.Keeps.{AreApart}
 use Rattle.messages.specs.declared.envelope.Envelope.{Envelope}
 use Rattle.messages.specs.Topology.{TopologyValue}
 use Rattle.messages.specs.Shard.{ShardState, ShardStep, PreparedPart, WaitingRead}
@@ -20,7 +20,6 @@ use Rattle.write_txn.specs.Transactions.{TransactionsValue, GoesOnKeeping, Keeps
 use Rattle.write_txn.specs.Voters.{VoterList, voters_of}
 use Rattle.write_txn.specs.View.{view_of}
 use Rattle.write_txn.specs.Stands.{StandsPart}
-use Rattle.write_txn.specs.Moves.{Moves}
 use Rattle.write_txn.proofs.Finds.{found_txn}
 use Rattle.write_txn.proofs.CohortSteps.{cohort_applies}
 use Rattle.write_txn.proofs.Bodies.{is_part, commit_applies, commit_ignored}

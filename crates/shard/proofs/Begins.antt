@@ -1,16 +1,16 @@
 -- Begin, as what is kept takes it.
-use Rattle.std.proofs.Common.{◌≡◌, ◌∙◌, sym, ap, subst, refl, ℕ, ◌<◌, Bool, true, false, if◌then◌else◌, List, [], ◌∷◌, ◌++◌, Option, Some, None, map, length, append-nil, arith}
+use Rattle.std.proofs.Common.{◌≡◌, ◌∙◌, sym, ap, subst, refl, ℕ, ◌<◌, Bool, true, false, if◌then◌else◌, List, [], ◌∷◌, ◌++◌, Some, None, map, length, append-nil, arith}
 use Rattle.std.specs.Prelude.{filter, ◌==◌}
 use Rattle.std.specs.List.{list_all}
 use Rattle.std.proofs.lemmas.Bool.Decides.{nat_tests}
-use Rattle.logical_time.specs.Stamps.{StampValue, TxnValue}
+use Rattle.logical_time.specs.Stamps.{TxnValue}
 use Rattle.column_family.proofs.Options.{by_cases}
 use Rattle.store.specs.Kept as in_store
 use Rattle.store.specs.Keeps.{Keeps, AreApart}
 use Rattle.txn_state.specs.Ballot.{CompleteValue}
 use Rattle.txn_state.specs.Votes.{VotesValue, votes_after}
 use Rattle.messages.specs.declared.envelope.Envelope.{Envelope}
-use Rattle.messages.specs.Topology.{TopologyValue, shard_of}
+use Rattle.messages.specs.Topology.{TopologyValue}
 use Rattle.messages.specs.Posting.{commit_to}
 use Rattle.messages.specs.Words.{is_same_txn}
 use Rattle.messages.specs.Shard.{ShardState, ShardStep, Vote}
@@ -22,8 +22,8 @@ use Rattle.write_txn.specs.declared.open.Led.{Led}
 use Rattle.write_txn.specs.Ledger.{Holds, IsDecided, LedgerValue, state_of, Becomes}
 use Rattle.write_txn.specs.Transactions.{TransactionsValue}
 use Rattle.write_txn.specs.Voters.{VoterList, voters_of}
-use Rattle.write_txn.specs.View.{view_of, near_nodes, left_of, nodes_for}
-use Rattle.write_txn.specs.Stands.{Stands, IsUnknown, begun_of}
+use Rattle.write_txn.specs.View.{view_of, near_nodes, left_of}
+use Rattle.write_txn.specs.Stands.{IsUnknown}
 use Rattle.write_txn.specs.Moves.{Moves}
 use Rattle.write_txn.proofs.Leading.{holds}
 use Rattle.write_txn.proofs.Bodies.{begin_voted, begin_unvoted, early_nodes, unknown_decides, unknown_holds}

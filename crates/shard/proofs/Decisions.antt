@@ -1,11 +1,9 @@
 -- A decision, as what is kept takes it.
-use Rattle.std.proofs.Common.{◌≡◌, ◌∙◌, sym, ap, subst, refl, ℕ, Bool, true, false, if◌then◌else◌, List, [], ◌∷◌, ◌++◌, Some, None, map}
+use Rattle.std.proofs.Common.{◌≡◌, ◌∙◌, sym, ap, subst, refl, ℕ, Bool, if◌then◌else◌, List, [], ◌∷◌, ◌++◌, Some, map}
 use Rattle.std.proofs.lemmas.List.{append_assoc}
 use Rattle.logical_time.specs.Stamps.{StampValue, TxnValue}
-use Rattle.column_family.specs.Normal.{IsNormal}
 use Rattle.store.specs.declared.part.Applied.{Applied}
-use Rattle.store.specs.Keeps.{Keeps, AreApart, IsNewStamp}
-use Rattle.store.specs.Kept as in_store
+use Rattle.store.specs.Keeps.{AreApart}
 use Rattle.txn_state.specs.Prepared.{PreparedValue}
 use Rattle.dependencies.specs.Askers.{askers_of}
 use Rattle.messages.specs.declared.body.Body.TheVariants.{Commit}
@@ -14,12 +12,12 @@ use Rattle.messages.specs.Topology.{TopologyValue, shard_of, dc_of, shard_node}
 use Rattle.messages.specs.Words.{envelope}
 use Rattle.messages.specs.Posting.{commit_to}
 use Rattle.messages.specs.Shard.{ShardState, BegunBallot, WaitingRead, new_shard}
-use Rattle.messages.specs.Commits.{announcements, applied_part, commits, decide, dep_oks, stamp_for}
-use Rattle.messages.specs.Reads.{part_at, is_free, lessened}
+use Rattle.messages.specs.Commits.{announcements, commits, decide, dep_oks, stamp_for}
+use Rattle.messages.specs.Reads.{part_at}
 use Rattle.commit_check.specs.declared.cause.Cause.TheVariants as cause
 use Rattle.commit_check.specs.Waiting.{freed, still}
 use Rattle.write_txn.specs.Ledger.{IsDecided, Becomes, state_of}
-use Rattle.write_txn.specs.Transactions.{TransactionsValue, GoesOnKeeping, KeepsAlso}
+use Rattle.write_txn.specs.Transactions.{TransactionsValue, GoesOnKeeping}
 use Rattle.write_txn.specs.Voters.{voters_of}
 use Rattle.write_txn.specs.View.{near_nodes}
 use Rattle.write_txn.specs.Moves.{Moves}

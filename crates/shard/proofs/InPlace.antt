@@ -1,5 +1,5 @@
 -- Steps by which one transaction comes to stand otherwise, and nothing is applied or let go.
-use Rattle.std.proofs.Common.{◌≡◌, ◌∙◌, sym, ap, subst, refl, ℕ, Bool, false, List, [], ◌++◌, Option, Some, None, is_some, Result, Ok, Err, OnOk}
+use Rattle.std.proofs.Common.{◌≡◌, ◌∙◌, sym, ap, subst, refl, ℕ, false, List, [], ◌++◌, Option, Some, None, is_some, Result, Ok, Err, OnOk}
 use Rattle.logical_time.specs.Stamps.{TxnValue}
 use Rattle.store.specs.Keeps.{Keeps, AreApart}
 use Rattle.store.specs.Kept as in_store
@@ -14,7 +14,7 @@ use Rattle.write_txn.specs.Voters.{voters_of}
 use Rattle.write_txn.specs.Transactions.{TransactionsValue}
 use Rattle.shard.specs.declared.kept.Kept.{Kept}
 use Rattle.shard.specs.Kept.{Represents, IsStep, GoesOn}
-use Rattle.shard.specs.Effects.{IsAfter, IsSpared}
+use Rattle.shard.specs.Effects.{IsAfter}
 use Rattle.shard.proofs.Standing.{spared, moved}
 
 -- what is kept with these transactions, at this clock

@@ -1,5 +1,5 @@
 -- Votes, as what is kept takes them.
-use Rattle.std.proofs.Common.{◌≡◌, ◌∙◌, sym, ap, subst, refl, ℕ, ◌+◌, ◌≤◌, Bool, true, false, if◌then◌else◌, List, [], ◌∷◌, ◌++◌, Option, Some, None, map, length, is_some, append-nil}
+use Rattle.std.proofs.Common.{◌≡◌, ◌∙◌, sym, ap, subst, refl, ℕ, Bool, true, false, if◌then◌else◌, List, [], ◌++◌, Option, Some, None, map, is_some, append-nil}
 use Rattle.logical_time.specs.Stamps.{StampValue, TxnValue}
 use Rattle.column_family.specs.declared.batch.Row.{Row}
 use Rattle.column_family.proofs.Options.{by_cases}
@@ -12,7 +12,7 @@ use Rattle.messages.specs.declared.envelope.Envelope.{Envelope}
 use Rattle.messages.specs.Topology.{TopologyValue}
 use Rattle.messages.specs.Posting.{commit_to}
 use Rattle.messages.specs.Words.{is_same_txn}
-use Rattle.messages.specs.Shard.{ShardState, ShardStep, BegunBallot, WaitingRead, quiet}
+use Rattle.messages.specs.Shard.{ShardState, ShardStep, quiet}
 use Rattle.messages.specs.Commits.{decide, on_yes, stamp_for, with_vote}
 use Rattle.write_txn.specs.declared.open.Open.{Open}
 use Rattle.write_txn.specs.declared.open.Open.TheVariants as in_open
@@ -23,7 +23,7 @@ use Rattle.write_txn.specs.View.{view_of}
 use Rattle.write_txn.specs.Stands.{StandsLed, begun_of, own_part, with_counted}
 use Rattle.write_txn.specs.Moves.{Moves}
 use Rattle.write_txn.proofs.Finds.{own_txn, same_txn, found_txn}
-use Rattle.write_txn.proofs.Leading.{MayDecide, counts}
+use Rattle.write_txn.proofs.Leading.{counts}
 use Rattle.write_txn.proofs.Bodies.{yes_decides, yes_ignored, voted_decides, is_led}
 use Rattle.shard.specs.declared.kept.Kept.{Kept}
 use Rattle.shard.specs.Kept.{Represents, IsStep}

@@ -1,5 +1,5 @@
 -- A shard that does the machine's step in a run of honest envelopes sends what is right, and goes on to the run's state.
-use Rattle.std.proofs.Common.{◌≡◌, sym, subst, refl, ℕ, ◌+◌, List, [], ◌∷◌, ◌++◌, Result, Ok, Err}
+use Rattle.std.proofs.Common.{◌≡◌, sym, subst, refl, ℕ, List, [], ◌∷◌, ◌++◌, Result, Ok, Err}
 use Rattle.std.specs.Prelude.{Contains}
 use Rattle.std.proofs.lemmas.List.Elements.{Contains-append_left, Contains-append_right}
 use Rattle.logical_time.specs.declared.fault.Fault.{Fault}
@@ -9,7 +9,7 @@ use Rattle.messages.specs.declared.event.Event.{Event}
 use Rattle.messages.specs.declared.event.Event.TheVariants.{Handle}
 use Rattle.messages.specs.Topology.{TopologyValue}
 use Rattle.messages.specs.Shard.{ShardStep}
-use Rattle.messages.specs.ShardEvents.{shard_handle, collected}
+use Rattle.messages.specs.ShardEvents.{shard_handle}
 use Rattle.messages.specs.Honest.{IsHonest}
 use Rattle.shard.specs.declared.kept.Kept.{Kept}
 use Rattle.shard.specs.Events.{ShardRun, fresh_shard, after_step, after_event, shard_continued, shard_run, envelopes_handled}

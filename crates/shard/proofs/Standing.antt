@@ -18,7 +18,6 @@ use Rattle.messages.specs.Words.{is_same_txn}
 use Rattle.messages.specs.Shard.{ShardState, ShardStep, WaitingRead, Decision, quiet}
 use Rattle.messages.specs.Known.{decision_of}
 use Rattle.write_txn.specs.Ledger.{State, state_of, decided_in}
-use Rattle.write_txn.specs.Voters.{voters_of}
 use Rattle.write_txn.specs.View.{View, view_of}
 use Rattle.write_txn.specs.Stands.{Stands}
 use Rattle.write_txn.specs.Moves.{Moves}

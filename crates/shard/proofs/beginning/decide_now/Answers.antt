@@ -1,6 +1,5 @@
 use Rattle.std.proofs.Common.{◌≡◌, ◌∙◌, ◌++◌, ap, sym, subst, ℕ, List, map}
 use Rattle.logical_time.specs.Stamps.{StampValue}
-use Rattle.txn_state.specs.Ballot.{CompleteValue}
 use Rattle.txn_state.specs.Prepared.{PreparedValue}
 use Rattle.messages.specs.declared.envelope.Envelope.{Envelope}
 use Rattle.messages.specs.Place.{IsPlace}

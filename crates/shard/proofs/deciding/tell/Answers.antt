@@ -1,9 +1,9 @@
-use Rattle.std.proofs.Common.{rules, ◌≡◌, ◌∙◌, ◌++◌, ap, subst, sym}
+use Rattle.std.proofs.Common.{rules, ◌∙◌, ap, subst, sym}
 use Rattle.store.specs.Keeps.{AreApart}
 use Rattle.store.specs.declared.part.Applied.{Applied}
 use Rattle.messages.specs.Commits.{dep_oks}
 use Rattle.shard.specs.Coming.{applied_of, with_applied}
-use Rattle.shard.specs.Deciding.{ballot_in, own_applied}
+use Rattle.shard.specs.Deciding.{ballot_in}
 use Rattle.shard.proofs.Decisions.{told_is}
 use Rattle.shard.proofs.deciding.tell.Goals as goal
 
