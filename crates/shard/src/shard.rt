@@ -58,8 +58,9 @@ impl Shard {
         Some(Shard { kept })
     }
 
-    /// Handles an envelope, at one past the later of the shard's clock and the envelope's time: what comes again, or is for
-    /// a session, moves the clock alone. Refused with `ClockSpent` where the clock would leave its range, and with `Memory`;
+    /// Handles an envelope, at one past the later of the shard's clock and the envelope's time. A part, a ballot or a vote that
+    /// comes again, and what is for a session, moves the clock alone; a read that doesn't wait, and a check, is answered
+    /// again. Refused with `ClockSpent` where the clock would leave its range, and with `Memory`;
     /// then the shard stands for what it stood for, nothing is sent, and the envelope is handed back.
     pub fn handle(&mut self, envelope: Envelope, outbox: &mut Outbox) -> Result<(), Refused>
         ensures step { (top : TopologyValue) (me : ℕ) (a : ShardState) → Represents top me self.old a
@@ -110,8 +111,8 @@ impl Shard {
     }
 
     /// The parts that the shard holds, kept or prepared, and hasn't applied, in the order of their transactions' numbers.
-    /// They share the bytes of keys, names and values. In the order of n log n for n of them, beside their copies. Refused
-    /// with `Memory` alone.
+    /// They share the bytes of keys, names and values. In the order of m log n for m of them among n known transactions,
+    /// beside their copies. Refused with `Memory` alone.
     pub fn unfinished(&self) -> Result<Vec<WritePart>, Fault>
         ensures ok { (top : TopologyValue) (me : ℕ) (a : ShardState) → Represents top me self.now a → IfOk result (λ parts. parts.items ≡ unfinished_of top me a) }
         ensures memory { IfErr result (λ e. e ≡ fault.Memory) }
