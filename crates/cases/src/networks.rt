@@ -267,10 +267,10 @@ impl Network {
         while let Some(shard) = shards.pop() {
             shard.close();
         }
+        shards.destroy_empty();
         while let Some(session) = sessions.pop() {
             session.close();
         }
-        shards.destroy_empty();
         sessions.destroy_empty();
     }
 }
