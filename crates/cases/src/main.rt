@@ -7,6 +7,7 @@ mod building;
 mod chains;
 mod command_lines;
 mod marks;
+mod networks;
 mod normal_forms;
 mod readers;
 mod refusals;
@@ -30,7 +31,8 @@ fn tell_steps(rt: &HostRuntime) -> Result<(), Fault> {
     steps::tell(rt, "worked_chain.steps", &mut Chain::new(alloc))?;
     steps::tell(rt, "worked_marks.steps", &mut Marks::new(alloc))?;
     stores::tell(rt)?;
-    sessions::tell(rt)
+    sessions::tell(rt)?;
+    networks::tell(rt)
 }
 
 fn tell_scripts(rt: &HostRuntime) -> io::Result<()> {
