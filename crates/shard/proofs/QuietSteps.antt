@@ -5,25 +5,29 @@ use Rattle.logical_time.specs.Stamps.{StampValue, TxnValue, WriterValue}
 use Rattle.column_family.specs.declared.batch.Change.{Change}
 use Rattle.column_family.proofs.Options.{by_cases}
 use Rattle.slice.specs.declared.read.Read.{Read}
+use Rattle.store.specs.declared.part.Applied.{Applied}
+use Rattle.txn_state.specs.RemoteBallot.{missing_in}
 use Rattle.txn_state.specs.Votes.{is_among}
 use Rattle.dependencies.specs.Askers.{askers_of}
 use Rattle.messages.specs.declared.envelope.Envelope.{Envelope}
 use Rattle.messages.specs.Topology.{TopologyValue, shard_of}
-use Rattle.messages.specs.Shard.{ShardState, ShardStep, BegunBallot, Decision, Asker, KeptPart, Own, quiet}
+use Rattle.messages.specs.Shard.{ShardState, ShardStep, BegunBallot, PreparedPart, Decision, Asker, KeptPart, KeptBallot, Own, quiet}
 use Rattle.messages.specs.Known.{decision_of, is_asker}
 use Rattle.messages.specs.Commits.{applied_part, check_for, early_if, on_begin, on_check, on_commit, on_not_by, on_prepare, on_yes, stamp_for}
 use Rattle.messages.specs.Reads.{asked_below, at_time, on_read, on_read_at, part_at, read_at_if, read_at_of}
-use Rattle.messages.specs.Replication.{early_notice_if, on_dep_check, on_notify, on_prepare_remote, on_repl_part, dep_check_for, remember_if}
+use Rattle.messages.specs.Replication.{early_notice_if, is_ready, on_dep_check, on_dep_ok, on_notify, on_prepare_remote, on_repl_begin, on_repl_part, dep_check_for, ready, ready_if, remember_if, remote_prepare, with_ballot}
 use Rattle.commit_check.specs.declared.cause.Cause.TheVariants.{NotBy}
 use Rattle.commit_check.specs.Waiting as in_waiting
 use Rattle.write_txn.specs.declared.open.Open.TheVariants as in_open
-use Rattle.write_txn.specs.Ledger.{State, Holds, IsApplied, IsDecided, state_of, decided_in, part_in, completed_by}
+use Rattle.write_txn.specs.declared.open.Remote.{Remote}
+use Rattle.write_txn.specs.Ledger.{LedgerValue, State, Holds, IsApplied, IsDecided, state_of, open_in, decided_in, part_in, completed_by, lacks_nothing, state_noticed, state_answered}
 use Rattle.write_txn.specs.Voters.{voters_of}
 use Rattle.write_txn.specs.View.{nodes_for, near_nodes, left_of, view_of}
-use Rattle.write_txn.specs.Stands.{begun_of, own_part}
+use Rattle.write_txn.specs.Stands.{begun_of, kept_ballot_of, own_part}
 use Rattle.write_txn.proofs.Finds.{found_txn}
 use Rattle.write_txn.proofs.Bodies.{begin_unvoted, begin_voted, commit_applies, decision_if, prepare_unknown, yes_decides, yes_early}
-use Rattle.write_txn.proofs.Answering.{notice_early}
+use Rattle.write_txn.proofs.Answering.{answer_counts, notice_early, with_answered}
+use Rattle.write_txn.proofs.Readying.{KeepsBallot, is_alone, notice_counts, readies_alone, readies_with_cohorts, repl_begin_unknown, with_noticed}
 use Rattle.write_txn.proofs.Replicas.{is_kept, prepare_remote_kept, repl_part_unknown}
 use Rattle.shard.specs.declared.kept.Kept.{Kept}
 use Rattle.shard.specs.Kept.{Represents}
@@ -31,6 +35,7 @@ use Rattle.shard.proofs.Applying.{which_part}
 use Rattle.shard.proofs.AskerSteps.{own_askers}
 use Rattle.shard.proofs.InPlace.{stands_so}
 use Rattle.shard.proofs.LastVotes.{which_ballot}
+use Rattle.shard.proofs.PartSteps.{known_open}
 
 -- ## Growth
 
@@ -156,6 +161,76 @@ noticed_before top me n node k a t r e unknown =
     go : (b : Bool) → early_notice_if false b n a t node ≡ quiet n a → b ≡ true
     go true f = refl
     go false f = absurd (grown a.notices (record { txn = t; node = node }) (ap (λ (s : ShardStep). s.state.notices) f))
+
+-- a ballot of which nothing is missing is decided, or its own part is prepared
+not_readied : (top : TopologyValue) (me n : ℕ) (t : TxnValue) (r : Remote) (a c : ShardState) → KeepsBallot top me t r a c → ready top me n c (kept_ballot_of r) ≡ quiet n a → (missing_in r.ballot == 0) ≡ false
+not_readied top me n t r a c keeps e = false_else (missing_in r.ballot == 0) impossible
+  where
+    kr : KeptBallot
+    kr = kept_ballot_of r
+
+    applied : Applied
+    applied = applied_part kr.txn (shard_of top me) kr.rows n kr.stamp
+
+    own : PreparedPart
+    own = record { txn = kr.txn; rows = kr.rows; coordinator = shard_of top me; time = n; role = Own }
+
+    impossible : (missing_in r.ballot == 0) ≡ true → ⊥
+    impossible none = by_cases (is_alone r.ballot.notices.cohorts)
+        (λ alone. grown a.applied applied (ap (λ (xs : List Applied). xs ++ applied ∷ []) (sym keeps.applied)
+        ∙ ap (λ (s : ShardStep). s.state.applied) (sym (readies_alone top me n t r a c keeps none alone) ∙ e)))
+        (λ more. grown a.prepared own (ap (λ (ps : List PreparedPart). ps ++ own ∷ []) (sym keeps.same_parts)
+        ∙ ap (λ (s : ShardStep). s.state.prepared) (sym (readies_with_cohorts top me n t r a c keeps none more) ∙ e)))
+
+-- the last notice readies the ballot
+pub not_last_notice : (top : TopologyValue) (me n node : ℕ) (k : Kept) (a : ShardState) (t : TxnValue) (r : Remote)
+    → Represents top me k a → on_notify top me n a node t ≡ quiet n a → (kept_ballot_of r).txn ≡ t → open_in (state_of k.transactions.ledger t) ≡ Some (in_open.Remote r)
+    → (missing_in (with_noticed r node).ballot == 0) ≡ false
+not_last_notice top me n node k a t r represents e own is =
+    let h = stands_so top me k a t (Some (Holds (in_open.Remote r))) represents (known_open (state_of k.transactions.ledger t) (in_open.Remote r) is) in
+    let it = notice_counts top me n a t r node own h.0 h.1 in
+    not_readied top me n t (with_noticed r node) a it.0 it.2 (sym it.1 ∙ e)
+
+-- and counting another one doesn't
+pub notice_waits : (node : ℕ) (t : TxnValue) (l m : LedgerValue) (r : Remote) → m ≡ l → open_in (state_of l t) ≡ Some (in_open.Remote r) → (missing_in (with_noticed r node).ballot == 0) ≡ false
+    → lacks_nothing (state_noticed node (state_of m t)) ≡ false
+notice_waits node t l m r same is more =
+    ap (λ (s : Option State). lacks_nothing (state_noticed node s)) (ap (λ (x : LedgerValue). state_of x t) same ∙ known_open (state_of l t) (in_open.Remote r) is) ∙ more
+
+-- ## DepOk
+
+-- the last answer readies the ballot
+pub not_last_answer : (top : TopologyValue) (me n : ℕ) (k : Kept) (a : ShardState) (t d : TxnValue) (r : Remote)
+    → Represents top me k a → on_dep_ok top me n a d t ≡ quiet n a → (kept_ballot_of r).txn ≡ t → open_in (state_of k.transactions.ledger t) ≡ Some (in_open.Remote r)
+    → (missing_in (with_answered r d).ballot == 0) ≡ false
+not_last_answer top me n k a t d r represents e own is =
+    let h = stands_so top me k a t (Some (Holds (in_open.Remote r))) represents (known_open (state_of k.transactions.ledger t) (in_open.Remote r) is) in
+    let it = answer_counts top me n a t d r own h.0 h.1 in
+    not_readied top me n t (with_answered r d) a it.0 it.2 (sym it.1 ∙ e)
+
+-- and counting another one doesn't
+pub answer_waits : (d t : TxnValue) (l m : LedgerValue) (r : Remote) → m ≡ l → open_in (state_of l t) ≡ Some (in_open.Remote r) → (missing_in (with_answered r d).ballot == 0) ≡ false
+    → lacks_nothing (state_answered d (state_of m t)) ≡ false
+answer_waits d t l m r same is more =
+    ap (λ (s : Option State). lacks_nothing (state_answered d s)) (ap (λ (x : LedgerValue). state_of x t) same ∙ known_open (state_of l t) (in_open.Remote r) is) ∙ more
+
+-- ## ReplBegin
+
+ballots_stay : (b : Bool) (top : TopologyValue) (me n : ℕ) (c : ShardState) (r : KeptBallot) → (ready_if b top me n c r).state.kept_ballots ≡ c.kept_ballots
+ballots_stay false top me n c r = refl
+ballots_stay true top me n c r = go r.cohorts
+  where
+    go : (cs : List ℕ) → (remote_prepare cs top me n c r).state.kept_ballots ≡ c.kept_ballots
+    go [] = refl
+    go (x ∷ xs) = refl
+
+-- the ballot of an unknown transaction is kept
+pub ballot_before : (top : TopologyValue) (me n : ℕ) (k : Kept) (a : ShardState) (b : KeptBallot)
+    → Represents top me k a → on_repl_begin top me n a b ≡ quiet n a → is_some (state_of k.transactions.ledger b.txn) ≡ true
+ballot_before top me n k a b r e = known_else (state_of k.transactions.ledger b.txn)
+    (λ unknown. let is = repl_begin_unknown top me n a b (stands_so top me k a b.txn None r unknown) in
+    let c = with_ballot a b in
+    grown a.kept_ballots b (sym (ballots_stay (is_ready top me c b) top me n c b) ∙ ap (λ (s : ShardStep). s.state.kept_ballots) (sym is ∙ e)))
 
 -- ## Reads
 

@@ -1,5 +1,5 @@
 //! The ballot of another data centre's write as it comes to its coordinator: ReplBegin.
-ghost use Rattle.std.specs.Prelude.{◌≡◌, ◌++◌, ℕ, true, None, IfOk, OnOk, OnErr, IfErr};
+ghost use Rattle.std.specs.Prelude.{◌≡◌, ◌++◌, ℕ, true, None, IsOk, IfOk, OnOk, OnErr, IfErr};
 ghost use Rattle.logical_time.specs.Stamps.{TxnValue};
 ghost use Rattle.logical_time.specs.declared.fault.Fault.TheVariants as fault;
 ghost use Rattle.store.specs.Keeps.{AreApart};
@@ -17,6 +17,7 @@ ghost use Rattle.write_txn.specs.Transactions.{GoesOnKeeping};
 ghost use Rattle.write_txn.specs.View as view;
 ghost use Rattle.write_txn.specs.Voters.{voters_of};
 ghost use Rattle.shard.specs.Kept.{Represents, IsStep, Does, GoesOn};
+ghost use Rattle.shard.specs.Ignored.{IfIgnored};
 ghost use Rattle.shard.specs.Begun.{ballot_begun, IsBegun};
 
 use crate::kept::Kept;
@@ -188,6 +189,8 @@ pub(crate) fn repl_begin(
     ensures step { OnOk result (Does (λ top me a. machine.on_repl_begin top me clock a (ballot_begun begun)) kept.old kept.new outbox.old.sent outbox.new.sent) }
     ensures same { OnErr result (GoesOn kept.old kept.new) }
     ensures unsent { OnErr result (outbox.new.sent ≡ outbox.old.sent) }
+    // it takes no memory where only the clock moves
+    ensures quiet { IfIgnored (λ top me a. machine.on_repl_begin top me clock a (ballot_begun begun)) clock kept.old (IsOk result) }
     ensures memory { IfErr result (λ e. (e.0 ≡ fault.Memory) × (e.1 ≡ begun)) }
 {
     if kept.knows(begun.txn) {

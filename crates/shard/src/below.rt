@@ -14,7 +14,7 @@ use slice::Read;
 use std::alloc::Global;
 use write_txn::Ledger;
 
-// These transactions with their coordinators, without those of which nothing is under way.
+/// These transactions with their coordinators, without those of which nothing is under way.
 fn writers_of(alloc: Global, ledger: &Ledger, txns: &[TxnId]) -> Result<Vec<Writer>, Fault>
     ensures ok { IfOk result (λ writers. writers.items ≡ filter_map (writer_under_way ledger.now) txns.now) }
     ensures memory { IfErr result (λ e. e ≡ fault.Memory) }

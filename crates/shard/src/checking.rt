@@ -23,7 +23,7 @@ pub(crate) fn check(
     ensures step { OnOk result (Does (λ top me a. on_check me clock a from txn time) kept.old kept.new outbox.old.sent outbox.new.sent) }
     ensures same { OnErr result (GoesOn kept.old kept.new) }
     ensures unsent { OnErr result (outbox.new.sent ≡ outbox.old.sent) }
-    // it takes no memory where only the clock moves
+    // it takes no memory where only the clock moves, which is nowhere: it always answers
     ensures quiet { IfIgnored (λ top me a. on_check me clock a from txn time) clock kept.old (IsOk result) }
     ensures memory { IfErr result (λ e. e ≡ fault.Memory) }
 {

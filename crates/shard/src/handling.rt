@@ -1,10 +1,13 @@
 //! Envelopes.
-ghost use Rattle.std.specs.Prelude.{◌≡◌, ◌+◌, ◌^◌, ◌<◌, max, false, OnOk, OnErr, IfErr};
+ghost use Rattle.std.specs.Prelude.{◌≡◌, ◌+◌, ◌^◌, ◌<◌, max, ℕ, false, IsOk, OnOk, OnErr, IfErr};
 ghost use Rattle.logical_time.specs.declared.fault.Fault.TheVariants as fault;
+ghost use Rattle.messages.specs.Topology.{TopologyValue};
 ghost use Rattle.messages.specs.Clock.{ticked};
+ghost use Rattle.messages.specs.Shard.{ShardState};
 ghost use Rattle.messages.specs.ShardEvents.{handled};
 ghost use Rattle.shard.specs.Handled.{is_handed_over};
-ghost use Rattle.shard.specs.Kept.{Does, GoesOn, IsSpentOrMemory};
+ghost use Rattle.shard.specs.Ignored.{IfIgnored, IsIgnored};
+ghost use Rattle.shard.specs.Kept.{Represents, Does, GoesOn, IsSpentOrMemory};
 
 use crate::beginning::{Begun, begin};
 use crate::begun::{ReplBegun, repl_begin};
@@ -29,6 +32,8 @@ fn hear(kept: &mut Kept, clock: Clock, from: Node, body: &Body, outbox: &mut Out
     ensures step { OnOk result (Does (λ top me a. handled top me clock a from body.now) kept.old kept.new outbox.old.sent outbox.new.sent) }
     ensures same { OnErr result (GoesOn kept.old kept.new) }
     ensures unsent { OnErr result (outbox.new.sent ≡ outbox.old.sent) }
+    // it takes no memory where only the clock moves
+    ensures quiet { IfIgnored (λ top me a. handled top me clock a from body.now) clock kept.old (IsOk result) }
     ensures memory { IfErr result (λ e. e ≡ fault.Memory) }
 {
     match *body {
@@ -55,6 +60,8 @@ fn act(kept: &mut Kept, clock: Clock, from: Node, body: Body, outbox: &mut Outbo
     ensures step { OnOk result (Does (λ top me a. handled top me clock a from body) kept.old kept.new outbox.old.sent outbox.new.sent) }
     ensures same { OnErr result (GoesOn kept.old kept.new) }
     ensures unsent { OnErr result (outbox.new.sent ≡ outbox.old.sent) }
+    // it takes no memory where only the clock moves
+    ensures quiet { IfIgnored (λ top me a. handled top me clock a from body) clock kept.old (IsOk result) }
     ensures memory { IfErr result (λ e. (e.0 ≡ fault.Memory) × (e.1 ≡ body)) }
 {
     match body {
@@ -103,6 +110,7 @@ pub(crate) fn handle(
     ensures same { OnErr result (GoesOn kept.old kept.new) }
     ensures unsent { OnErr result (outbox.new.sent ≡ outbox.old.sent) }
     ensures refused { IfErr result (λ r. IsSpentOrMemory (ticked kept.old.clock envelope.time) r.fault) }
+    ensures ignored { (top : TopologyValue) (me : ℕ) (a : ShardState) → Represents top me kept.old a → IsIgnored top me a envelope → IfErr result (λ r. r.fault ≡ fault.ClockSpent) }
     ensures back { IfErr result (λ r. r.envelope ≡ envelope) }
 {
     let mut clock = kept.clock;

@@ -29,7 +29,7 @@ pub(crate) fn read(
     ensures step { OnOk result (Does (λ top me a. on_read me clock a from number asked.now) kept.old kept.new outbox.old.sent outbox.new.sent) }
     ensures same { OnErr result (GoesOn kept.old kept.new) }
     ensures unsent { OnErr result (outbox.new.sent ≡ outbox.old.sent) }
-    // it takes no memory where only the clock moves
+    // it takes no memory where only the clock moves, which is nowhere: it always answers
     ensures quiet { IfIgnored (λ top me a. on_read me clock a from number asked.now) clock kept.old (IsOk result) }
     ensures memory { IfErr result (λ e. e ≡ fault.Memory) }
 {

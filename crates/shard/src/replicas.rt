@@ -1,5 +1,5 @@
 //! The ballot of another data centre's write, once its coordinator keeps it: Notify and DepOk.
-ghost use Rattle.std.specs.Prelude.{◌≡◌, ◌≤◌, ◌++◌, ◌==◌, ℕ, length, true, None, Some, IfOk, IfSome, OnOk, OnErr, IfErr};
+ghost use Rattle.std.specs.Prelude.{◌≡◌, ◌≤◌, ◌++◌, ◌==◌, ℕ, [], length, true, false, None, Some, IsOk, IfOk, IfSome, OnOk, OnErr, IfErr};
 ghost use Rattle.logical_time.specs.declared.fault.Fault.TheVariants as fault;
 ghost use Rattle.store.specs.Keeps.{AreApart};
 ghost use Rattle.store.specs.Kept.{HasRoom};
@@ -16,6 +16,7 @@ ghost use Rattle.write_txn.specs.Ledger.{state_of, open_in, part_of};
 ghost use Rattle.write_txn.specs.Stands.{kept_ballot_of};
 ghost use Rattle.write_txn.specs.Transactions.{GoesOnKeeping};
 ghost use Rattle.shard.specs.Kept.{Represents, Does, GoesOn};
+ghost use Rattle.shard.specs.Ignored.{IfIgnored};
 ghost use Rattle.shard.specs.Concluding.{MaySettle, IsConcluded};
 
 use crate::deciding::{Deciding, settle, tell};
@@ -38,6 +39,9 @@ pub(crate) fn told_by(
     ensures ok { (top : TopologyValue) (me : ℕ) (a : ShardState) → Represents top me kept.now a → decision_of (kept_ballot_of remote.now).txn a ≡ None
         → AreApart (ready_if is_ready top me time a (kept_ballot_of remote.now)).state.applied
         → IfOk result (λ envelopes. envelopes.items ≡ (ready_if is_ready top me time a (kept_ballot_of remote.now)).sends) }
+    // while something is missing it takes no memory
+    ensures waits { is_ready ≡ false → IsOk result }
+    ensures none { is_ready ≡ false → IfOk result (λ envelopes. envelopes.items ≡ []) }
     ensures memory { IfErr result (λ e. e ≡ fault.Memory) }
 {
     if !is_ready {
@@ -60,6 +64,7 @@ pub(crate) fn told_by(
 /// Makes room in the store for the own part of a ballot that waits, if it becomes ready.
 fn make_room_if(transactions: &mut Transactions, is_ready: bool, txn: TxnId) -> Result<(), Fault>
     ensures ok { OnOk result (is_ready ≡ true → (o : Open) → open_in (state_of transactions.old.ledger txn) ≡ Some o → HasRoom transactions.new.store.rows (part_of o).batch) }
+    ensures waits { is_ready ≡ false → IsOk result }
     ensures store { GoesOnKeeping transactions.old.store transactions.new.store }
     ensures ledger { transactions.new.ledger ≡ transactions.old.ledger }
     ensures early { transactions.new.early ≡ transactions.old.early }
@@ -123,6 +128,8 @@ pub(crate) fn notice(
     ensures step { OnOk result (Does (λ top me a. on_notify top me clock a node txn) kept.old kept.new outbox.old.sent outbox.new.sent) }
     ensures same { OnErr result (GoesOn kept.old kept.new) }
     ensures unsent { OnErr result (outbox.new.sent ≡ outbox.old.sent) }
+    // it takes no memory where only the clock moves
+    ensures quiet { IfIgnored (λ top me a. on_notify top me clock a node txn) clock kept.old (IsOk result) }
     ensures memory { IfErr result (λ e. e ≡ fault.Memory) }
 {
     if !kept.knows(txn) {
@@ -159,6 +166,8 @@ pub(crate) fn dep_ok(
     ensures step { OnOk result (Does (λ top me a. on_dep_ok top me clock a dependency waiter) kept.old kept.new outbox.old.sent outbox.new.sent) }
     ensures same { OnErr result (GoesOn kept.old kept.new) }
     ensures unsent { OnErr result (outbox.new.sent ≡ outbox.old.sent) }
+    // it takes no memory where only the clock moves
+    ensures quiet { IfIgnored (λ top me a. on_dep_ok top me clock a dependency waiter) clock kept.old (IsOk result) }
     ensures memory { IfErr result (λ e. e ≡ fault.Memory) }
 {
     let time = clock.now();

@@ -9,6 +9,7 @@ ghost use Rattle.messages.specs.ShardEvents.{shard_handle, shard_collect};
 ghost use Rattle.messages.specs.Known.{decision_of};
 ghost use Rattle.messages.specs.Honest.{IsHonest};
 ghost use Rattle.shard.specs.Events.{shard_run, envelopes_handled};
+ghost use Rattle.shard.specs.Ignored.{IsIgnored};
 ghost use Rattle.shard.specs.Kept.{Represents, IsStepOf, IsRefusalOf, GoesOn};
 ghost use Rattle.shard.specs.Right.{SendsRight};
 ghost use Rattle.shard.specs.Unfinished.{unfinished_of};
@@ -60,13 +61,16 @@ impl Shard {
 
     /// Handles an envelope, at one past the later of the shard's clock and the envelope's time. A part, a ballot or a vote that
     /// comes again, and what is for a session, moves the clock alone; a read that doesn't wait, and a check, is answered
-    /// again. Refused with `ClockSpent` where the clock would leave its range, and with `Memory`;
-    /// then the shard stands for what it stood for, nothing is sent, and the envelope is handed back.
+    /// again. Refused with `ClockSpent` where the clock would leave its range, and with `Memory`, but not what moves the
+    /// clock alone; then the shard stands for what it stood for, nothing is sent, and the envelope is handed back.
     pub fn handle(&mut self, envelope: Envelope, outbox: &mut Outbox) -> Result<(), Refused>
         ensures step { (top : TopologyValue) (me : ℕ) (a : ShardState) → Represents top me self.old a
             → OnOk result (IsStepOf top me (shard_handle top me a envelope) self.new outbox.old.sent outbox.new.sent) }
         ensures refused { (top : TopologyValue) (me : ℕ) (a : ShardState) → Represents top me self.old a
             → IfErr result (λ r. IsRefusalOf (shard_handle top me a envelope) r.fault) }
+        // what is ignored needs no memory
+        ensures ignored { (top : TopologyValue) (me : ℕ) (a : ShardState) → Represents top me self.old a → IsIgnored top me a envelope
+            → IfErr result (λ r. r.fault ≡ fault.ClockSpent) }
         // in a run whose envelopes are honest, later ones included, it sends what is right, and goes on to the run's state
         ensures right { (top : TopologyValue) (me : ℕ) (before after : List Event) → Represents top me self.old (shard_run top me before).state
             → IsHonest (shard_run top me (before ++ Handle envelope ∷ after)).state (envelopes_handled (shard_run top me (before ++ Handle envelope ∷ after)))

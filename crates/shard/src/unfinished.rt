@@ -20,7 +20,7 @@ use std::collections::BTreeSet;
 use txn_state::WritePart;
 use write_txn::{Ledger, Open};
 
-// The transactions of which something is under way, in the order of their numbers.
+/// The transactions of which something is under way, in the order of their numbers.
 fn txns_under_way(alloc: Global, ledger: &Ledger) -> Result<BTreeSet<TxnId>, Fault>
     ensures all { IfOk result (λ txns. (t : TxnValue) (held : Open) → state_of ledger.now t ≡ Some (Holds held) → Contains txns.keys (txn_of held)) }
     ensures ordered { IfOk result (λ txns. IsStrictlySortedBy txn_cmp txns.keys) }
@@ -33,7 +33,7 @@ fn txns_under_way(alloc: Global, ledger: &Ledger) -> Result<BTreeSet<TxnId>, Fau
     Ok(txns)
 }
 
-// The shard's own part of what is under way, which shares its bytes.
+/// The shard's own part of what is under way, which shares its bytes.
 fn part_of(open: &Open) -> Result<WritePart, AllocError>
     ensures { IfOk result (λ part. part ≡ ledger.part_of open.now) }
 {
@@ -43,7 +43,7 @@ fn part_of(open: &Open) -> Result<WritePart, AllocError>
     })
 }
 
-// The shard's own parts of these transactions, without those of which nothing is under way.
+/// The shard's own parts of these transactions, without those of which nothing is under way.
 fn parts_of(alloc: Global, ledger: &Ledger, txns: &BTreeSet<TxnId>) -> Result<Vec<WritePart>, Fault>
     ensures ok { IfOk result (λ parts. parts.items ≡ filter_map (part_under_way ledger.now) txns.now.keys) }
     ensures memory { IfErr result (λ e. e ≡ fault.Memory) }

@@ -1,5 +1,5 @@
 -- What a shard knows of each transaction, as its code keeps it.
-use Rattle.std.specs.Prelude.{◌≡◌, ℕ, ◌==◌, if◌then◌else◌, List, Option, Some, None, slice_get, option_map}
+use Rattle.std.specs.Prelude.{◌≡◌, ℕ, ◌==◌, Bool, false, if◌then◌else◌, List, Option, Some, None, slice_get, option_map}
 use Rattle.std.specs.Ordering.{is_eq}
 use Rattle.std.specs.Map.{lookup}
 use Rattle.logical_time.specs.Stamps.{StampValue, TxnValue, txn_cmp}
@@ -155,6 +155,11 @@ abbrev pub state_answered : TxnValue → Option State → Option State
 state_answered dependency (Some (Holds (in_open.Remote r))) =
     Some (Holds (in_open.Remote (record r { ballot = record r.ballot { answers = answered r.ballot.answers dependency } })))
 state_answered dependency other = other
+
+-- whether a ballot waits of which nothing is missing
+abbrev pub lacks_nothing : Option State → Bool
+lacks_nothing (Some (Holds (in_open.Remote r))) = missing_in r.ballot == 0
+lacks_nothing other = false
 
 -- a ballot of another data centre's write that was made ready: cohorts are to vote, or without any it is decided
 abbrev pub remote_after : Remote → ℕ → Ready → State

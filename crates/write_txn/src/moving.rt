@@ -1,11 +1,11 @@
 //! Steps of transactions of which something is under way, and their marks.
 //!
 //! Where a step prepares a part, its rows are marked first, since that can be refused.
-ghost use Rattle.std.specs.Prelude.{◌≡◌, OnOk, OnErr, IfErr, IfOk, IfSome};
+ghost use Rattle.std.specs.Prelude.{◌≡◌, false, IsOk, OnOk, OnErr, IfErr, IfOk, IfSome};
 ghost use Rattle.logical_time.specs.declared.fault.Fault.TheVariants as fault;
 ghost use Rattle.txn_state.specs.Votes.{counted};
 ghost use Rattle.txn_state.specs.Answers.{answered};
-ghost use Rattle.write_txn.specs.Ledger.{state_of, Becomes, HaveSameStates, state_prepared, state_noticed, state_answered, state_ready, readied_by, state_voted, completed_by};
+ghost use Rattle.write_txn.specs.Ledger.{state_of, Becomes, HaveSameStates, state_prepared, state_noticed, state_answered, state_ready, readied_by, lacks_nothing, state_voted, completed_by};
 ghost use Rattle.write_txn.specs.Marking.{AreMarksWith, is_to_vote};
 ghost use Rattle.write_txn.specs.Transactions.{AreMarksOf};
 
@@ -74,6 +74,8 @@ fn mark_noticed(
 ) -> Result<(), Fault>
     requires { AreMarksOf marks.old ledger.now }
     ensures ok { OnOk result (AreMarksWith txn (state_ready time (state_noticed node (state_of ledger.now txn))) marks.new ledger.now) }
+    // it takes no memory where nothing is made ready
+    ensures waits { lacks_nothing (state_noticed node (state_of ledger.now txn)) ≡ false → IsOk result }
     ensures err { OnErr result (AreMarksOf marks.new ledger.now) }
     ensures memory { IfErr result (λ e. e ≡ fault.Memory) }
 {
@@ -98,6 +100,8 @@ pub(crate) fn notice(
     ensures complete { IfOk result (λ c. c ≡ readied_by time (state_noticed node (state_of ledger.old txn))) }
     ensures own { IfOk result (λ c. IfSome c (λ complete. complete.own.part.writer.txn ≡ txn)) }
     ensures ok { OnOk result (Becomes txn (state_ready time (state_noticed node (state_of ledger.old txn))) ledger.old ledger.new) }
+    // it takes no memory where nothing is made ready
+    ensures waits { lacks_nothing (state_noticed node (state_of ledger.old txn)) ≡ false → IsOk result }
     ensures err { OnErr result (HaveSameStates ledger.old ledger.new) }
     ensures memory { IfErr result (λ e. e ≡ fault.Memory) }
 {
@@ -116,6 +120,8 @@ fn mark_answered(
 ) -> Result<(), Fault>
     requires { AreMarksOf marks.old ledger.now }
     ensures ok { OnOk result (AreMarksWith txn (state_ready time (state_answered dependency (state_of ledger.now txn))) marks.new ledger.now) }
+    // it takes no memory where nothing is made ready
+    ensures waits { lacks_nothing (state_answered dependency (state_of ledger.now txn)) ≡ false → IsOk result }
     ensures err { OnErr result (AreMarksOf marks.new ledger.now) }
     ensures memory { IfErr result (λ e. e ≡ fault.Memory) }
 {
@@ -140,6 +146,8 @@ pub(crate) fn answer(
     ensures complete { IfOk result (λ c. c ≡ readied_by time (state_answered dependency (state_of ledger.old txn))) }
     ensures own { IfOk result (λ c. IfSome c (λ complete. complete.own.part.writer.txn ≡ txn)) }
     ensures ok { OnOk result (Becomes txn (state_ready time (state_answered dependency (state_of ledger.old txn))) ledger.old ledger.new) }
+    // it takes no memory where nothing is made ready
+    ensures waits { lacks_nothing (state_answered dependency (state_of ledger.old txn)) ≡ false → IsOk result }
     ensures err { OnErr result (HaveSameStates ledger.old ledger.new) }
     ensures memory { IfErr result (λ e. e ≡ fault.Memory) }
 {

@@ -1,5 +1,5 @@
 //! What a shard holds of transactions.
-ghost use Rattle.std.specs.Prelude.{◌≡◌, ◌≤◌, ◌+◌, ◌++◌, ◌∷◌, [], length, map, max, ℕ, List, if◌then◌else◌, OnOk, OnErr, IfErr, IfOk, IfSome, IsOk, true, None, Some};
+ghost use Rattle.std.specs.Prelude.{◌≡◌, ◌≤◌, ◌+◌, ◌++◌, ◌∷◌, [], length, map, max, ℕ, List, if◌then◌else◌, OnOk, OnErr, IfErr, IfOk, IfSome, IsOk, true, false, None, Some};
 ghost use Rattle.std.specs.Ordering.{is_eq};
 ghost use Rattle.logical_time.specs.declared.fault.Fault.TheVariants as fault;
 ghost use Rattle.logical_time.specs.Stamps.{TxnValue, txn_cmp};
@@ -13,7 +13,7 @@ ghost use Rattle.txn_state.specs.Prepared.{PreparedValue};
 ghost use Rattle.txn_state.specs.Votes.{is_among};
 ghost use Rattle.write_txn.specs.declared.open.Open.{Open};
 ghost use Rattle.write_txn.specs.declared.open.Open.TheVariants as in_open;
-ghost use Rattle.write_txn.specs.Ledger.{state_of, Holds, IsDecided, Becomes, HaveSameStates, open_in, decided_in, part_of, state_prepared, state_applied, part_in, state_voted, completed_by, state_noticed, state_answered, state_ready, readied_by};
+ghost use Rattle.write_txn.specs.Ledger.{state_of, Holds, IsDecided, Becomes, HaveSameStates, open_in, decided_in, part_of, state_prepared, state_applied, part_in, state_voted, completed_by, state_noticed, state_answered, state_ready, readied_by, lacks_nothing};
 ghost use Rattle.write_txn.specs.Stands.{mark_of};
 ghost use Rattle.write_txn.specs.Voters.{voters_of};
 ghost use Rattle.write_txn.specs.Transactions.{AreMarksOf, GoesOnKeeping, KeepsAlso, KeepsIf, HaveSameVoters, cohorts_part};
@@ -170,6 +170,8 @@ impl Transactions {
         ensures complete { IfOk result (λ c. c ≡ readied_by time (state_noticed node (state_of self.old.ledger txn))) }
         ensures own { IfOk result (λ c. IfSome c (λ complete. complete.own.part.writer.txn ≡ txn)) }
         ensures ok { OnOk result (Becomes txn (state_ready time (state_noticed node (state_of self.old.ledger txn))) self.old.ledger self.new.ledger) }
+        // it takes no memory where nothing is made ready
+        ensures waits { lacks_nothing (state_noticed node (state_of self.old.ledger txn)) ≡ false → IsOk result }
         ensures err { OnErr result (HaveSameStates self.old.ledger self.new.ledger) }
         ensures store { self.new.store ≡ self.old.store }
         ensures early { self.new.early ≡ self.old.early }
@@ -189,6 +191,8 @@ impl Transactions {
         ensures complete { IfOk result (λ c. c ≡ readied_by time (state_answered dependency (state_of self.old.ledger txn))) }
         ensures own { IfOk result (λ c. IfSome c (λ complete. complete.own.part.writer.txn ≡ txn)) }
         ensures ok { OnOk result (Becomes txn (state_ready time (state_answered dependency (state_of self.old.ledger txn))) self.old.ledger self.new.ledger) }
+        // it takes no memory where nothing is made ready
+        ensures waits { lacks_nothing (state_answered dependency (state_of self.old.ledger txn)) ≡ false → IsOk result }
         ensures err { OnErr result (HaveSameStates self.old.ledger self.new.ledger) }
         ensures store { self.new.store ≡ self.old.store }
         ensures early { self.new.early ≡ self.old.early }

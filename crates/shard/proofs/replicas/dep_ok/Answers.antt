@@ -1,9 +1,10 @@
-use Rattle.std.proofs.Common.{rules, ◌∙◌, ◌++◌, ◌==◌, ap, List}
+use Rattle.std.proofs.Common.{rules, ◌∙◌, ◌++◌, ◌==◌, ap, refl, false, List}
 use Rattle.txn_state.specs.RemoteBallot.{missing_in}
 use Rattle.messages.specs.declared.envelope.Envelope.{Envelope}
 use Rattle.write_txn.specs.Ledger.{state_of, state_answered}
 use Rattle.write_txn.proofs.Answering.{with_answered}
 use Rattle.shard.proofs.NoticeSteps.{counted_settles, ready_room, answers_so, answer_passes}
+use Rattle.shard.proofs.QuietSteps.{answer_waits, contrary, fits, not_last_answer}
 use Rattle.shard.proofs.replicas.dep_ok.Goals.{in_default-via-in-Some+in_default, in_default-via-in_default}
 use Rattle.shard.proofs.replicas.dep_ok.Goals as goal
 
@@ -32,3 +33,24 @@ returns-clause-step c = λ top me a r apart.
     r apart c.make_room_if.ensures.store c.make_room_if.ensures.ledger c.make_room_if.ensures.early c.in_ok-complete.ensures.ok c.answer.ensures.store c.answer.ensures.early c.in_ok-complete.ensures.complete
     c.conclude.ensures.concluded (λ undecided there. c.in_ok-envelopes-in-Some-Remote.ensures.ok top me a r undecided there)
     (c.conclude.ensures.sent top me r.place ∙ ap (λ (xs : List Envelope). xs ++ es) c.reserve.ensures.same)
+
+pub returns-in_err-envelopes-in-Some-Remote-clause-quiet : goal.returns-in_err-envelopes-in-Some-Remote-clause-quiet
+returns-in_err-envelopes-in-Some-Remote-clause-quiet c = λ top me a r e.
+    let more = not_last_answer top me c.args.clock c.args.kept.now a c.args.waiter c.args.dependency c.in-Some-Remote.remote r e (search rules) (search rules) in
+    contrary false (c.in_err-envelopes-in-Some-Remote.ensures.waits (c.is_last_answer-is_ready.ensures ∙ more)) refl
+
+pub returns-in_err-reserve-clause-quiet : goal.returns-in_err-reserve-clause-quiet
+returns-in_err-reserve-clause-quiet c = λ top me a r e.
+    let more = not_last_answer top me c.args.clock c.args.kept.now a c.args.waiter c.args.dependency c.in-Some-Remote.remote r e (search rules) (search rules) in
+    let envelopes = c.in_ok-envelopes-in-Some-Remote in
+    contrary false (c.in_err-reserve.ensures.succeeds (fits envelopes.envelopes.items c.len.result c.args.outbox.now.room (envelopes.ensures.none (c.is_last_answer-is_ready.ensures ∙ more)) (search rules))) refl
+
+pub returns-in_err-make_room_if-clause-quiet : goal.returns-in_err-make_room_if-clause-quiet
+returns-in_err-make_room_if-clause-quiet c = λ top me a r e.
+    let more = not_last_answer top me c.args.clock c.args.kept.now a c.args.waiter c.args.dependency c.in-Some-Remote.remote r e (search rules) (search rules) in
+    contrary false (c.in_err-make_room_if.ensures.waits (c.is_last_answer-is_ready.ensures ∙ more)) refl
+
+pub returns-in_err-complete-clause-quiet : goal.returns-in_err-complete-clause-quiet
+returns-in_err-complete-clause-quiet c = λ top me a r e.
+    let more = not_last_answer top me c.args.clock c.args.kept.now a c.args.waiter c.args.dependency c.in-Some-Remote.remote r e (search rules) (search rules) in
+    contrary false (c.in_err-complete.ensures.waits (answer_waits c.args.dependency c.args.waiter c.args.kept.now.transactions.ledger c.make_room_if.new.transactions.ledger c.in-Some-Remote.remote c.make_room_if.ensures.ledger (search rules) more)) refl

@@ -20,6 +20,9 @@ returns-clause-refused c = λ top me a r.
     (λ e spent. refuses c.self.inside.kept c.args.envelope e.fault spent top me a (subst (λ (k : Kept). Represents top me k a) (sym c.self.view_is) r))
     c.handle.ensures.refused
 
+pub returns-clause-ignored : goal.returns-clause-ignored
+returns-clause-ignored c = λ top me a r ignored. c.handle.ensures.ignored top me a (subst (λ (k : Kept). Represents top me k a) (sym c.self.view_is) r) ignored
+
 pub returns-clause-right : goal.returns-clause-right
 returns-clause-right c = λ top me before after r honest.
     let a = (shard_run top me before).state in
