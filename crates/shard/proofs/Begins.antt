@@ -28,11 +28,11 @@ use Rattle.write_txn.specs.Moves.{Moves}
 use Rattle.write_txn.proofs.Leading.{holds}
 use Rattle.write_txn.proofs.Bodies.{begin_voted, begin_unvoted, early_nodes, unknown_decides, unknown_holds}
 use Rattle.shard.specs.declared.kept.Kept.{Kept}
-use Rattle.shard.specs.declared.beginning.Begun.{Begun}
+use Rattle.shard.specs.declared.begun.Begun.{Begun}
 use Rattle.shard.specs.Kept.{Represents, IsStep}
 use Rattle.shard.specs.Effects.{IsAfter}
 use Rattle.shard.specs.Deciding.{node_at, told, IsSettled}
-use Rattle.shard.specs.Beginning.{ballot_of, IsDecidedNow}
+use Rattle.shard.specs.Begun.{ballot_of, IsDecidedNow}
 use Rattle.shard.proofs.Standing.{moved}
 use Rattle.shard.proofs.InPlace.{with_transactions, stands_so}
 use Rattle.shard.proofs.Decisions.{decides_so, settled_after}

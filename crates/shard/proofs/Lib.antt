@@ -4,7 +4,7 @@ pub mod AskerSteps
 pub mod Asked
 pub mod Begins
 pub mod BallotSteps
-pub mod BegunSteps
+pub mod ReplBegunSteps
 pub mod Closed
 pub mod ComingAnswers
 pub mod Commits

@@ -1,20 +1,28 @@
--- The ballot of another data centre's write as it comes to its coordinator.
-use Rattle.std.specs.Prelude.{◌≡◌, ℕ, List}
-use Rattle.logical_time.specs.Stamps.{TxnValue}
-use Rattle.txn_state.specs.Votes.{votes_after}
-use Rattle.txn_state.specs.Answers.{is_unanswered, is_dependency}
-use Rattle.messages.specs.Topology.{TopologyValue, shard_of}
-use Rattle.messages.specs.Shard.{KeptBallot}
-use Rattle.write_txn.specs.declared.open.Remote.{Remote}
+-- What a Begin says, its votes, and a decision that is noted.
+use Rattle.std.specs.Prelude.{◌≡◌, ℕ, Some, None}
+use Rattle.logical_time.specs.Stamps.{StampValue, TxnValue}
+use Rattle.txn_state.specs.Votes.{VotesValue, votes_after}
+use Rattle.messages.specs.Topology.{TopologyValue}
+use Rattle.messages.specs.Place.{IsPlace}
+use Rattle.messages.specs.Shard.{BegunBallot}
+use Rattle.write_txn.specs.Ledger.{IsDecided, Becomes}
+use Rattle.write_txn.specs.Transactions.{GoesOnKeeping}
 use Rattle.write_txn.specs.View.{near_nodes}
-use Rattle.shard.specs.declared.begun.ReplBegun.{ReplBegun}
+use Rattle.write_txn.specs.Voters.{voters_of}
+use Rattle.shard.specs.declared.kept.Kept.{Kept}
+use Rattle.shard.specs.declared.begun.Begun.{Begun}
 
--- the ballot that a ReplBegin brings
-abbrev pub ballot_begun : ReplBegun → KeptBallot
-ballot_begun b = record { txn = b.txn; rows = b.rows; stamp = b.stamp; cohorts = b.cohorts; dependencies = b.dependencies }
+-- the ballot of a write that was submitted here
+abbrev pub ballot_of : Begun → BegunBallot
+ballot_of b = record { txn = b.txn; rows = b.rows; cohorts = b.cohorts; dependencies = b.dependencies; stamp = None }
 
--- a ballot that has just come to this shard: the notices of these nodes are counted, which came early, and no answer is
-pub record IsBegun (top : TopologyValue) (me : ℕ) (early : List ℕ) (r : Remote) : Type 0 where
-  pub own : r.ballot.part.writer.shard ≡ shard_of top me
-  pub notices : r.ballot.notices ≡ votes_after (near_nodes top me r.cohorts) early
-  pub answers : (t : TxnValue) → is_unanswered r.ballot.answers t ≡ is_dependency r.dependencies t
+-- the votes are those of the transaction's cohorts, those that came early counted
+abbrev pub AreVotes : Kept → Begun → VotesValue → Type 0
+AreVotes k b votes = (top : TopologyValue) (me : ℕ) → IsPlace top me k.place → votes ≡ votes_after (near_nodes top me b.cohorts) (voters_of k.transactions.early b.txn)
+
+-- the transaction is noted as decided with this commit time and this stamp; room may have been made, and nothing else changed
+pub record IsDecidedNow (t : TxnValue) (commit : ℕ) (stamp : StampValue) (k l : Kept) : Type 0 where
+  pub rest : l ≡ record k { transactions = l.transactions }
+  pub becomes : Becomes t (Some (IsDecided commit stamp)) k.transactions.ledger l.transactions.ledger
+  pub store : GoesOnKeeping k.transactions.store l.transactions.store
+  pub early : l.transactions.early ≡ k.transactions.early

@@ -9,8 +9,8 @@ pub mod Effects
 pub mod Coming
 pub mod Deciding
 pub mod UnderWay
-pub mod Beginning
+pub mod Begun
 pub mod Handled
 pub mod Concluding
-pub mod Begun
+pub mod ReplBegun
 pub mod Ignored

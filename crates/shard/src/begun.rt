@@ -1,196 +1,203 @@
-//! The ballot of another data centre's write as it comes to its coordinator: ReplBegin.
-ghost use Rattle.std.specs.Prelude.{◌≡◌, ◌++◌, ℕ, true, None, IsOk, IfOk, OnOk, OnErr, IfErr};
-ghost use Rattle.logical_time.specs.Stamps.{TxnValue};
+//! Begin.
+ghost use Rattle.std.specs.Prelude.{◌≡◌, ◌<◌, ◌≤◌, ◌+◌, ◌^◌, ℕ, List, [], length, None, IsOk, IfOk, OnOk, OnErr, IfErr};
 ghost use Rattle.logical_time.specs.declared.fault.Fault.TheVariants as fault;
 ghost use Rattle.store.specs.Keeps.{AreApart};
 ghost use Rattle.store.specs.Kept.{HasRoom};
-ghost use Rattle.txn_state.specs.Votes.{votes_after};
-ghost use Rattle.txn_state.specs.Answers.{is_unanswered, is_dependency};
+ghost use Rattle.messages.specs.declared.envelope.Envelope.{Envelope};
 ghost use Rattle.messages.specs.Topology.{TopologyValue};
-ghost use Rattle.messages.specs.Place.{IsPlace};
 ghost use Rattle.messages.specs.Shard.{ShardState};
 ghost use Rattle.messages.specs.Known.{decision_of};
-ghost use Rattle.messages.specs.Replication as machine;
+ghost use Rattle.messages.specs.Commits.{decide, on_begin};
 ghost use Rattle.write_txn.specs.Ledger.{state_of};
-ghost use Rattle.write_txn.specs.Stands.{kept_ballot_of};
-ghost use Rattle.write_txn.specs.Transactions.{GoesOnKeeping};
-ghost use Rattle.write_txn.specs.View as view;
-ghost use Rattle.write_txn.specs.Voters.{voters_of};
-ghost use Rattle.shard.specs.Kept.{Represents, IsStep, Does, GoesOn};
+ghost use Rattle.shard.specs.Kept.{Represents, Does, GoesOn};
 ghost use Rattle.shard.specs.Ignored.{IfIgnored};
-ghost use Rattle.shard.specs.Begun.{ballot_begun, IsBegun};
+ghost use Rattle.shard.specs.Deciding.{node_at, told};
+ghost use Rattle.shard.specs.Begun.{ballot_of, IsDecidedNow, AreVotes};
 
+use crate::deciding::{Deciding, settle, tell};
 use crate::kept::Kept;
-use crate::replicas::{conclude, told_by};
 use column_family::Batch;
-use logical_time::{Clock, Fault, Stamp, Time, TxnId, Writer, Writers};
+use logical_time::{Clock, Fault, Stamp, TxnId, Writer, Writers};
 use messages::{Cohorts, Envelope, Outbox};
-use replicator::{dep_checks, near_nodes};
-use txn_state::{Answers, RemoteBallot, Votes, WritePart};
-use write_txn::{Remote, Transactions};
+use replicator::near_nodes;
+use txn_state::{Ballot, Complete, Prepared, Votes, WritePart};
+use write_txn::Led;
 
-/// What a ReplBegin brings: another data centre's write, with the stamp that it has there.
+/// What a Begin says.
 #[derive(Drop)]
-pub(crate) struct ReplBegun {
+pub(crate) struct Begun {
     /// The transaction.
     pub(crate) txn: TxnId,
     /// The coordinator's own part.
     pub(crate) rows: Batch,
-    /// The stamp.
-    pub(crate) stamp: Stamp,
     /// The other shards.
     pub(crate) cohorts: Cohorts,
     /// What the write depends on.
     pub(crate) dependencies: Writers,
 }
 
-/// What is missing of a ballot that has just come: notices, of which some may have come early, and all answers.
-fn missing_of(kept: &Kept, begun: &ReplBegun) -> Result<(Votes, Answers), Fault>
-    ensures notices { (top : TopologyValue) (me : ℕ) → IsPlace top me kept.now.place
-        → IfOk result (λ missing. missing.0 ≡ votes_after (view.near_nodes top me begun.now.cohorts) (voters_of kept.now.notices begun.now.txn)) }
-    ensures answers { IfOk result (λ missing. (t : TxnValue) → is_unanswered missing.1 t ≡ is_dependency begun.now.dependencies t) }
+/// The votes of a transaction's cohorts, those that came early counted.
+fn votes_of(kept: &Kept, begun: &Begun) -> Result<Votes, Fault>
+    ensures ok { IfOk result (AreVotes kept.now begun.now) }
     ensures memory { IfErr result (λ e. e ≡ fault.Memory) }
 {
     let nodes = near_nodes(kept.alloc, kept.place, &begun.cohorts)?;
-    let notices = Votes::new(kept.alloc, nodes, kept.notices.of(begun.txn))?;
-    let answers = Answers::new(kept.alloc, begun.dependencies.as_slice())?;
-    Ok((notices, answers))
+    Votes::new(kept.alloc, nodes, kept.transactions.early(begun.txn))
 }
 
-/// The ballot as it has just come. Refused with `Memory` alone, and then all comes back.
-fn remote_of(kept: &Kept, begun: ReplBegun) -> Result<Remote, (Fault, ReplBegun)>
-    ensures begun { (top : TopologyValue) (me : ℕ) → IsPlace top me kept.now.place → IfOk result (λ remote. IsBegun top me (voters_of kept.now.notices begun.txn) remote) }
-    ensures ballot { IfOk result (λ remote. kept_ballot_of remote ≡ ballot_begun begun) }
-    ensures memory { IfErr result (λ e. (e.0 ≡ fault.Memory) × (e.1 ≡ begun)) }
+/// What a Begin said, from the ballot that was made of it.
+fn begun_again(led: Led) -> Begun
+    ensures { result ≡ record { txn = led.ballot.own.part.writer.txn; rows = led.ballot.own.part.batch; cohorts = led.cohorts; dependencies = led.dependencies } }
 {
-    let (notices, answers) = match missing_of(kept, &begun) {
-        Ok(missing) => missing,
-        Err(fault) => return Err((fault, begun)),
-    };
-    let ReplBegun {
-        txn,
-        rows,
-        stamp,
-        cohorts,
-        dependencies,
-    } = begun;
-    let shard = kept.place.shard();
-    let part = WritePart {
-        writer: Writer { txn, shard },
-        batch: rows,
-    };
-    Ok(Remote {
-        ballot: RemoteBallot::new(part, stamp, notices, answers),
-        cohorts,
-        dependencies,
-    })
-}
-
-/// Takes a ballot apart that was refused.
-fn taken_apart(remote: Remote) -> ReplBegun
-    ensures { ballot_begun result ≡ kept_ballot_of remote }
-{
-    let Remote {
+    let Led {
         ballot,
         cohorts,
         dependencies,
-    } = remote;
-    let stamp = ballot.stamp();
-    let WritePart { writer, batch } = ballot.surrender();
-    ReplBegun {
-        txn: writer.txn,
-        rows: batch,
-        stamp,
+        stamp: _,
+    } = led;
+    let part = ballot.surrender();
+    Begun {
+        txn: part.writer.txn,
+        rows: part.batch,
         cohorts,
         dependencies,
     }
 }
 
-/// What a ballot sends that has just come, by whether nothing is missing: a DepCheck for each dependency, and what it sends
-/// where it becomes ready.
-fn told_at_once(
-    kept: &Kept,
-    time: Time,
-    remote: &Remote,
-    is_ready: bool,
-) -> Result<Vec<Envelope>, Fault>
-    ensures ok { (top : TopologyValue) (me : ℕ) (a : ShardState) → Represents top me kept.now a → decision_of (kept_ballot_of remote.now).txn a ≡ None
-        → AreApart (machine.ready_if is_ready top me time a (kept_ballot_of remote.now)).state.applied
-        → IfOk result (λ envelopes. envelopes.items ≡ machine.dep_checks top me time (kept_ballot_of remote.now) ++ (machine.ready_if is_ready top me time a (kept_ballot_of remote.now)).sends) }
-    ensures memory { IfErr result (λ e. e ≡ fault.Memory) }
+/// The coordinator's own part, prepared.
+fn own_part(kept: &Kept, clock: Clock, txn: TxnId, rows: Batch) -> Prepared
+    ensures { result ≡ record { part = record { writer = record { txn = txn; shard = kept.now.place.shard }; batch = rows }; time = clock } }
 {
-    let txn = remote.ballot.writer().txn;
-    let mut envelopes = dep_checks(kept.alloc, kept.place, time, txn, &remote.dependencies)?;
-    let mut told = told_by(kept, time, remote, is_ready)?;
-    envelopes.append(&mut told)?;
-    Ok(envelopes)
-}
-
-/// Makes room in the store for a ballot's own part, if it becomes ready.
-fn make_room_if(transactions: &mut Transactions, is_ready: bool, rows: &Batch) -> Result<(), Fault>
-    ensures ok { OnOk result (is_ready ≡ true → HasRoom transactions.new.store.rows rows.now) }
-    ensures store { GoesOnKeeping transactions.old.store transactions.new.store }
-    ensures ledger { transactions.new.ledger ≡ transactions.old.ledger }
-    ensures early { transactions.new.early ≡ transactions.old.early }
-    ensures memory { IfErr result (λ e. e ≡ fault.Memory) }
-{
-    if !is_ready {
-        return Ok(());
-    }
-    transactions.make_room(rows)
-}
-
-/// Keeps a ballot of an unknown transaction, and makes it ready if nothing is missing. Refused with `Memory` alone, and then
-/// the ballot comes back.
-fn begin(
-    kept: &mut Kept,
-    clock: Clock,
-    remote: Remote,
-    outbox: &mut Outbox,
-) -> Result<(), (Fault, Remote)>
-    requires unknown { state_of kept.old.transactions.ledger remote.ballot.part.writer.txn ≡ None }
-    ensures step { OnOk result ((top : TopologyValue) (me : ℕ) (a : ShardState) → Represents top me kept.old a → IsBegun top me (voters_of kept.old.notices (kept_ballot_of remote).txn) remote
-        → AreApart (machine.on_repl_begin top me clock a (kept_ballot_of remote)).state.applied
-        → IsStep top me (machine.on_repl_begin top me clock a (kept_ballot_of remote)) kept.new outbox.old.sent outbox.new.sent) }
-    ensures same { OnErr result (GoesOn kept.old kept.new) }
-    ensures unsent { OnErr result (outbox.new.sent ≡ outbox.old.sent) }
-    ensures memory { IfErr result (λ e. (e.0 ≡ fault.Memory) × (e.1 ≡ remote)) }
-{
-    let time = clock.now();
-    let txn = remote.ballot.writer().txn;
-    let stamp = remote.ballot.stamp();
-    let is_ready = remote.ballot.missing() == 0;
-    let envelopes = match told_at_once(kept, time, &remote, is_ready) {
-        Ok(envelopes) => envelopes,
-        Err(fault) => return Err((fault, remote)),
+    let writer = Writer {
+        txn,
+        shard: kept.place.shard(),
     };
-    match outbox.reserve(envelopes.len()) {
+    let part = WritePart {
+        writer,
+        batch: rows,
+    };
+    Prepared::new(part, clock.now())
+}
+
+/// Begin, where votes are missing: the ballot is held, and the rows of the coordinator's own part are marked.
+fn hold(kept: &mut Kept, clock: Clock, begun: Begun, votes: Votes) -> Result<(), (Fault, Begun)>
+    requires unknown { state_of kept.old.transactions.ledger begun.txn ≡ None }
+    requires votes { AreVotes kept.old begun votes }
+    requires missing { 0 < length votes.missing }
+    ensures step { OnOk result ((sent : List Envelope) → Does (λ top me a. on_begin top me clock a (ballot_of begun)) kept.old kept.new sent sent) }
+    ensures same { OnErr result (GoesOn kept.old kept.new) }
+    ensures memory { IfErr result (λ e. (e.0 ≡ fault.Memory) × (e.1 ≡ begun)) }
+{
+    let Begun {
+        txn,
+        rows,
+        cohorts,
+        dependencies,
+    } = begun;
+    let own = own_part(kept, clock, txn, rows);
+    let led = Led {
+        ballot: Ballot::new(own, votes),
+        cohorts,
+        dependencies,
+        stamp: None,
+    };
+    match kept.transactions.hold(led) {
         Ok(()) => {}
-        Err(fault) => return Err((fault, remote)),
+        Err((fault, led)) => return Err((fault, begun_again(led))),
     }
-    match make_room_if(&mut kept.transactions, is_ready, remote.ballot.part()) {
-        Ok(()) => {}
-        Err(fault) => return Err((fault, remote)),
-    }
-    let complete = kept.transactions.wait(remote, time)?;
-    conclude(kept, clock, txn, complete, stamp, envelopes, outbox);
+    kept.transactions.forget_votes(txn);
+    kept.clock = clock;
     Ok(())
 }
 
-/// ReplBegin: ignored where the transaction is known; else its ballot is kept with the notices that came early counted, a
-/// DepCheck goes to each dependency, and if nothing is missing it is made ready. Refused with `Memory` alone, and then
-/// all comes back.
-pub(crate) fn repl_begin(
+/// Makes all the room that a decision needs, notes it, and gives what is sent after the Commits.
+fn note_decision(
     kept: &mut Kept,
     clock: Clock,
-    begun: ReplBegun,
+    begun: &Begun,
+    commits: usize,
     outbox: &mut Outbox,
-) -> Result<(), (Fault, ReplBegun)>
-    ensures step { OnOk result (Does (λ top me a. machine.on_repl_begin top me clock a (ballot_begun begun)) kept.old kept.new outbox.old.sent outbox.new.sent) }
+) -> Result<Vec<Envelope>, Fault>
+    requires unknown { state_of kept.old.transactions.ledger begun.now.txn ≡ None }
+    requires small { commits < 2 ^ 63 }
+    ensures noted { OnOk result (IsDecidedNow begun.now.txn clock (record { time = clock; node = node_at kept.old.place }) kept.old kept.new) }
+    ensures room { OnOk result (HasRoom kept.new.transactions.store.rows begun.now.rows) }
+    ensures posts { IfOk result (λ envelopes. commits + length envelopes.items ≤ outbox.new.room) }
+    ensures told { (top : TopologyValue) (me : ℕ) (a : ShardState) → Represents top me kept.old a → decision_of begun.now.txn a ≡ None
+        → AreApart (decide top me clock a (ballot_of begun.now)).state.applied
+        → IfOk result (λ envelopes. envelopes.items ≡ told top me clock a (ballot_of begun.now)) }
+    ensures same { OnErr result (GoesOn kept.old kept.new) }
+    ensures unsent { outbox.new.sent ≡ outbox.old.sent }
+    ensures memory { IfErr result (λ e. e ≡ fault.Memory) }
+{
+    let deciding = Deciding {
+        txn: begun.txn,
+        rows: &begun.rows,
+        cohorts: &begun.cohorts,
+        dependencies: &begun.dependencies,
+        stamp: None,
+    };
+    let envelopes = tell(kept, clock.now(), &deciding)?;
+    outbox.reserve(commits + envelopes.len())?;
+    kept.transactions.make_room(&begun.rows)?;
+    let stamp = Stamp {
+        time: clock.now(),
+        node: kept.place.node(),
+    };
+    kept.transactions
+        .note_decided(begun.txn, clock.now(), stamp)?;
+    Ok(envelopes)
+}
+
+/// Begin, where no vote is missing: the transaction is decided.
+fn decide_now(
+    kept: &mut Kept,
+    clock: Clock,
+    begun: Begun,
+    votes: Votes,
+    outbox: &mut Outbox,
+) -> Result<(), (Fault, Begun)>
+    requires unknown { state_of kept.old.transactions.ledger begun.txn ≡ None }
+    requires votes { AreVotes kept.old begun votes }
+    requires none { votes.missing ≡ [] }
+    ensures step { OnOk result (Does (λ top me a. on_begin top me clock a (ballot_of begun)) kept.old kept.new outbox.old.sent outbox.new.sent) }
+    ensures same { OnErr result (GoesOn kept.old kept.new) }
+    ensures unsent { OnErr result (outbox.new.sent ≡ outbox.old.sent) }
+    ensures memory { IfErr result (λ e. (e.0 ≡ fault.Memory) × (e.1 ≡ begun)) }
+{
+    let commits = votes.cohorts().len();
+    let envelopes = match note_decision(kept, clock, &begun, commits, outbox) {
+        Ok(envelopes) => envelopes,
+        Err(fault) => return Err((fault, begun)),
+    };
+    let Begun {
+        txn,
+        rows,
+        cohorts: _,
+        dependencies: _,
+    } = begun;
+    let stamp = Stamp {
+        time: clock.now(),
+        node: kept.place.node(),
+    };
+    let complete = Complete::new(own_part(kept, clock, txn, rows), votes);
+    settle(kept, clock, txn, complete, stamp, envelopes, outbox);
+    Ok(())
+}
+
+/// Begin: ignored where the transaction is known. Where all cohorts have voted, or there are none, it is decided; else its
+/// ballot is held, with the early votes counted. Refused with `Memory` alone, and then what it says comes back.
+pub(crate) fn begin(
+    kept: &mut Kept,
+    clock: Clock,
+    begun: Begun,
+    outbox: &mut Outbox,
+) -> Result<(), (Fault, Begun)>
+    ensures step { OnOk result (Does (λ top me a. on_begin top me clock a (ballot_of begun)) kept.old kept.new outbox.old.sent outbox.new.sent) }
     ensures same { OnErr result (GoesOn kept.old kept.new) }
     ensures unsent { OnErr result (outbox.new.sent ≡ outbox.old.sent) }
     // it takes no memory where only the clock moves
-    ensures quiet { IfIgnored (λ top me a. machine.on_repl_begin top me clock a (ballot_begun begun)) clock kept.old (IsOk result) }
+    ensures quiet { IfIgnored (λ top me a. on_begin top me clock a (ballot_of begun)) clock kept.old (IsOk result) }
     ensures memory { IfErr result (λ e. (e.0 ≡ fault.Memory) × (e.1 ≡ begun)) }
 {
     if kept.knows(begun.txn) {
@@ -198,9 +205,13 @@ pub(crate) fn repl_begin(
         kept.clock = clock;
         return Ok(());
     }
-    let remote = remote_of(kept, begun)?;
-    match begin(kept, clock, remote, outbox) {
-        Ok(()) => Ok(()),
-        Err((fault, remote)) => Err((fault, taken_apart(remote))),
+    let votes = match votes_of(kept, &begun) {
+        Ok(votes) => votes,
+        Err(fault) => return Err((fault, begun)),
+    };
+    if votes.missing().is_empty() {
+        decide_now(kept, clock, begun, votes, outbox)
+    } else {
+        hold(kept, clock, begun, votes)
     }
 }

@@ -9,14 +9,14 @@ ghost use Rattle.shard.specs.Handled.{is_handed_over};
 ghost use Rattle.shard.specs.Ignored.{IfIgnored, IsIgnored};
 ghost use Rattle.shard.specs.Kept.{Represents, Does, GoesOn, IsSpentOrMemory};
 
-use crate::beginning::{Begun, begin};
-use crate::begun::{ReplBegun, repl_begin};
+use crate::begun::{Begun, begin};
 use crate::checking::{check, dep_check};
 use crate::committing::commit;
 use crate::excluding::not_by;
 use crate::kept::Kept;
 use crate::parts::{prepare, prepare_remote, repl_part};
 use crate::reading::{read, read_at};
+use crate::repl_begun::{ReplBegun, repl_begin};
 use crate::replicas::{dep_ok, notice};
 use crate::voting::yes;
 use logical_time::{Clock, Fault, Node, Writer};

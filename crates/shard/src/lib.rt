@@ -8,7 +8,6 @@
 #![tactic(auto)]
 
 mod answers;
-mod beginning;
 mod begun;
 mod below;
 mod checking;
@@ -23,6 +22,7 @@ mod law;
 mod lookalikes;
 mod parts;
 mod reading;
+mod repl_begun;
 mod replicas;
 mod shard;
 mod unfinished;

@@ -1,16 +1,22 @@
-use Rattle.std.proofs.Common.{rules, ◌∙◌, ◌++◌, ◌==◌, ap, subst, ℕ, List}
-use Rattle.logical_time.specs.Stamps.{TxnValue}
-use Rattle.messages.specs.declared.envelope.Envelope.{Envelope}
-use Rattle.shard.specs.Concluding.{IsConcluded}
-use Rattle.shard.proofs.BegunSteps.{begins_so}
+use Rattle.shard.proofs.InPlace.{on_ok}
+use Rattle.std.proofs.Common.{rules}
+use Rattle.std.specs.Prelude.{is_some}
+use Rattle.write_txn.specs.Ledger.{state_of}
+use Rattle.shard.specs.Begun.{ballot_of}
+use Rattle.shard.proofs.QuietSteps.{contrary, begun_before}
 use Rattle.shard.proofs.begun.begin.Goals as goal
 
-pub returns-clause-step : goal.returns-clause-step
-returns-clause-step c = λ top me a r begun apart.
-    let es = c.in-Ok.envelopes.items in
-    begins_so top me c.args.clock c.now-time.result c.args.remote c.args.kept.now c.make_room_if.new.transactions c.wait.new.self c.stamp-stamp.result (c.missing-is_ready.result == 0)
-    c.in_ok-complete.complete c.conclude.new.kept a c.args.outbox.now.sent es c.conclude.new.outbox.sent c.now-time.ensures c.requires.unknown begun c.stamp-stamp.ensures (ap (λ (n : ℕ). n == 0) c.missing-is_ready.ensures)
-    r apart c.make_room_if.ensures.store c.make_room_if.ensures.ledger c.make_room_if.ensures.early c.in_ok-complete.ensures.ok c.wait.ensures.store c.wait.ensures.early c.in_ok-complete.ensures.complete
-    (subst (λ (t : TxnValue). IsConcluded t c.stamp-stamp.result c.args.clock c.in_ok-complete.complete (record c.args.kept.now { transactions = c.wait.new.self }) c.conclude.new.kept) (search rules) c.conclude.ensures.concluded)
-    (λ undecided there. c.in-Ok.ensures.ok top me a r undecided there)
-    (c.conclude.ensures.sent top me r.place ∙ ap (λ (xs : List Envelope). xs ++ es) c.reserve.ensures.same)
+pub returns-else-is_empty-clause-step : goal.returns-else-is_empty-clause-step
+returns-else-is_empty-clause-step c = on_ok c.hold.result (λ f. f c.args.outbox.now.sent) c.hold.ensures.step
+
+pub returns-in-Err-clause-quiet : goal.returns-in-Err-clause-quiet
+returns-in-Err-clause-quiet c = λ top me a r e.
+    contrary (is_some (state_of c.args.kept.now.transactions.ledger c.args.begun.txn)) (begun_before top me c.args.clock c.args.kept.now a (ballot_of c.args.begun) r e) (search rules)
+
+pub returns-then-is_empty-clause-quiet : goal.returns-then-is_empty-clause-quiet
+returns-then-is_empty-clause-quiet c = λ top me a r e.
+    contrary (is_some (state_of c.args.kept.now.transactions.ledger c.args.begun.txn)) (begun_before top me c.args.clock c.args.kept.now a (ballot_of c.args.begun) r e) (search rules)
+
+pub returns-else-is_empty-clause-quiet : goal.returns-else-is_empty-clause-quiet
+returns-else-is_empty-clause-quiet c = λ top me a r e.
+    contrary (is_some (state_of c.args.kept.now.transactions.ledger c.args.begun.txn)) (begun_before top me c.args.clock c.args.kept.now a (ballot_of c.args.begun) r e) (search rules)

@@ -7,9 +7,9 @@ use Rattle.messages.specs.Replication as machine
 use Rattle.write_txn.specs.Ledger.{state_of}
 use Rattle.write_txn.specs.Voters.{voters_of}
 use Rattle.shard.specs.Kept.{IsStep}
-use Rattle.shard.specs.Begun.{ballot_begun, IsBegun}
+use Rattle.shard.specs.ReplBegun.{ballot_begun, IsBegun}
 use Rattle.shard.proofs.QuietSteps.{contrary, ballot_before}
-use Rattle.shard.proofs.begun.repl_begin.Goals as goal
+use Rattle.shard.proofs.repl_begun.repl_begin.Goals as goal
 
 pub returns-in-Ok-clause-step : goal.returns-in-Ok-clause-step
 returns-in-Ok-clause-step c = λ top me a r apart.

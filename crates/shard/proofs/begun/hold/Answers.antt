@@ -5,7 +5,7 @@ use Rattle.write_txn.specs.declared.open.Led.{Led}
 use Rattle.write_txn.specs.declared.open.Open.TheVariants as in_open
 use Rattle.write_txn.specs.Ledger.{Holds, Becomes}
 use Rattle.shard.proofs.Begins.{holds_begun}
-use Rattle.shard.proofs.beginning.hold.Goals as goal
+use Rattle.shard.proofs.begun.hold.Goals as goal
 
 pub returns-clause-step : goal.returns-clause-step
 returns-clause-step c = λ sent top me a r apart.

@@ -2,7 +2,7 @@ use Rattle.std.proofs.Common.{rules, ◌≡◌, ◌∙◌, ◌++◌, ap, List}
 use Rattle.messages.specs.declared.envelope.Envelope.{Envelope}
 use Rattle.messages.specs.Replication as machine
 use Rattle.write_txn.specs.Stands.{kept_ballot_of}
-use Rattle.shard.proofs.begun.told_at_once.Goals as goal
+use Rattle.shard.proofs.repl_begun.told_at_once.Goals as goal
 
 pub returns-clause-ok : goal.returns-clause-ok
 returns-clause-ok c = λ top me a r undecided apart.

@@ -23,7 +23,7 @@ use Rattle.write_txn.proofs.CohortSteps.{known_if}
 use Rattle.write_txn.proofs.Readying.{KeepsBallot, repl_begin_unknown, ballot_is_kept}
 use Rattle.shard.specs.declared.kept.Kept.{Kept}
 use Rattle.shard.specs.Kept.{Represents, IsStep}
-use Rattle.shard.specs.Begun.{IsBegun}
+use Rattle.shard.specs.ReplBegun.{IsBegun}
 use Rattle.shard.specs.Concluding.{IsConcluded}
 use Rattle.shard.proofs.Standing.{is_quiet}
 use Rattle.shard.proofs.InPlace.{stands_so}
