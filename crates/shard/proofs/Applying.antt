@@ -1,5 +1,5 @@
 -- A cohort's part is applied, as what is kept takes it.
-use Rattle.std.proofs.Common.{◌≡◌, ◌∙◌, sym, ap, subst, refl, ℕ, true, false, List, ◌++◌, Option, Some, None, map, is_some}
+use Rattle.std.proofs.Common.{◌≡◌, ◌∙◌, sym, ap, subst, refl, ℕ, Bool, true, false, List, ◌++◌, Option, Some, None, map, is_some}
 use Rattle.logical_time.specs.Stamps.{StampValue, TxnValue}
 use Rattle.column_family.specs.declared.batch.Row.{Row}
 use Rattle.store.specs.declared.part.Applied.{Applied}
@@ -29,6 +29,7 @@ use Rattle.shard.specs.Effects.{IsAfter}
 use Rattle.shard.specs.Coming.{with_applied}
 use Rattle.shard.proofs.Standing.{moved, is_quiet}
 use Rattle.shard.proofs.InPlace.{stands_so}
+use Rattle.shard.proofs.PartSteps.{known_open}
 
 pub part_stands : (s : Option State) → is_some (part_in s) ≡ is_part s
 part_stands None = refl
@@ -48,6 +49,26 @@ which_part (Some (Holds (in_open.Led l))) e = absurd (cc)
 which_part (Some (Holds (in_open.Remote r))) e = absurd (cc)
 which_part (Some IsApplied) e = absurd (cc)
 which_part (Some (IsDecided commit stamp)) e = absurd (cc)
+
+-- whether this is a part that is prepared
+abbrev pub is_part_open : Option Open → Bool
+is_part_open None = false
+is_part_open (Some (in_open.Kept k)) = false
+is_part_open (Some (in_open.Part p)) = true
+is_part_open (Some (in_open.Led l)) = false
+is_part_open (Some (in_open.Remote r)) = false
+
+pub no_part : (s : Option State) → is_part_open (open_in s) ≡ false → is_some (part_in s) ≡ false
+no_part None e = refl
+no_part (Some (Holds (in_open.Kept k))) e = refl
+no_part (Some (Holds (in_open.Part p))) e = absurd (cc)
+no_part (Some (Holds (in_open.Led l))) e = refl
+no_part (Some (Holds (in_open.Remote r))) e = refl
+no_part (Some IsApplied) e = refl
+no_part (Some (IsDecided commit stamp)) e = refl
+
+pub some_part : (s : Option State) (p : PreparedPart) → open_in s ≡ Some (in_open.Part p) → is_some (part_in s) ≡ true
+some_part s p e = ap (λ (o : Option State). is_some (part_in o)) (known_open s (in_open.Part p) e)
 
 -- what an application sends
 pub application_sends : (top : TopologyValue) (me n : ℕ) (a : ShardState) (p : PreparedPart) (commit : ℕ) (stamp : StampValue) (x : Applied) (es fs all : List Envelope)
