@@ -16,18 +16,22 @@ use Rattle.messages.specs.Shard.{ShardState, ShardStep, KeptBallot, BegunBallot}
 use Rattle.messages.specs.Known.{decision_of}
 use Rattle.messages.specs.Commits.{decide}
 use Rattle.messages.specs.Replication.{ballot_of, remote_prepare, ready_if, ready, on_notify, on_dep_ok}
+use Rattle.write_txn.specs.declared.open.Missing.{Missing}
+use Rattle.write_txn.specs.declared.open.Missing.TheVariants as in_missing
 use Rattle.write_txn.specs.declared.open.Open.{Open}
 use Rattle.write_txn.specs.declared.open.Open.TheVariants as in_open
 use Rattle.write_txn.specs.declared.open.Remote.{Remote}
-use Rattle.write_txn.specs.Ledger.{State, Holds, IsApplied, IsDecided, LedgerValue, state_of, open_in, part_of, Becomes, state_noticed, state_answered, state_ready, readied_by}
+use Rattle.write_txn.specs.Ledger.{State, Holds, IsApplied, IsDecided, LedgerValue, state_of, open_in, part_of, Becomes, remote_with, state_with, state_ready, readied_by}
 use Rattle.write_txn.specs.Transactions.{TransactionsValue, GoesOnKeeping}
-use Rattle.write_txn.specs.Stands.{kept_ballot_of}
-use Rattle.write_txn.proofs.Readying.{KeepsBallot, with_noticed, notice_counts}
-use Rattle.write_txn.proofs.Answering.{is_remote, notice_ignored, with_answered, answer_ignored, answer_counts}
+use Rattle.write_txn.specs.Stands.{IsWaiting, StandsRemote, kept_ballot_of}
+use Rattle.write_txn.specs.View.{view_of}
+use Rattle.write_txn.proofs.Readying.{KeepsBallot, notice_counts}
+use Rattle.write_txn.proofs.Answering.{is_remote, notice_ignored, answer_ignored, answer_counts}
 use Rattle.shard.specs.declared.kept.Kept.{Kept}
 use Rattle.shard.specs.Kept.{Represents, IsStep}
 use Rattle.shard.specs.Deciding.{told}
 use Rattle.shard.specs.Concluding.{MaySettle, IsConcluded}
+use Rattle.shard.specs.Counting.{IsInTime, on_missing}
 use Rattle.shard.proofs.Standing.{is_quiet}
 use Rattle.shard.proofs.InPlace.{stands_so}
 use Rattle.shard.proofs.PartSteps.{known_open}
@@ -100,24 +104,44 @@ counts_so top me n m t r k room ts s stamp b complete l a c step before after st
     (subst (λ (x : ℕ). AreApart (ready_if (missing_in r.ballot == 0) top me x a (kept_ballot_of r)).state.applied → after ≡ before ++ (ready_if (missing_in r.ballot == 0) top me x a (kept_ballot_of r)).sends) same_time
     (subst (λ (x : Bool). AreApart (ready_if x top me m a (kept_ballot_of r)).state.applied → after ≡ before ++ (ready_if x top me m a (kept_ballot_of r)).sends) ready_now sent)))
 
--- ## Notices
+-- the ballot is the same
+same_ballot : (r : Remote) (missing : Missing) → kept_ballot_of (remote_with r missing) ≡ kept_ballot_of r
+same_ballot r (in_missing.Notice node) = refl
+same_ballot r (in_missing.Answer dependency) = refl
 
-pub notices_so : (top : TopologyValue) (me n m : ℕ) (t : TxnValue) (node : ℕ) (r : Remote) (k : Kept) (room ts : TransactionsValue) (stamp : StampValue) (b : Bool) (complete : Option CompleteValue) (l : Kept) (a : ShardState) (before es after : List Envelope)
-    → m ≡ n → (kept_ballot_of r).txn ≡ t → open_in (state_of k.transactions.ledger t) ≡ Some (in_open.Remote r) → stamp ≡ r.ballot.stamp → b ≡ (missing_in (with_noticed r node).ballot == 0)
-    → Represents top me k a → AreApart (on_notify top me n a node t).state.applied
+pub missing_counts : (missing : Missing) (top : TopologyValue) (me n : ℕ) (a : ShardState) (t : TxnValue) (r : Remote) → (kept_ballot_of r).txn ≡ t → StandsRemote top me (view_of t a) r → IsWaiting r
+    → (c : ShardState) × (on_missing missing top me n a t ≡ ready top me n c (kept_ballot_of (remote_with r missing))) × KeepsBallot top me t (remote_with r missing) a c × (c.waiting ≡ a.waiting)
+missing_counts (in_missing.Notice node) top me n a t r own h waits = notice_counts top me n a t r node own h waits
+missing_counts (in_missing.Answer dependency) top me n a t r own h waits = answer_counts top me n a t dependency r own h waits
+
+-- what it completes may be settled
+pub missing_settles : (missing : Missing) (t : TxnValue) (n m : ℕ) (r : Remote) (k : Kept) (room : LedgerValue) (s : Option State) (stamp : StampValue) (complete : Option CompleteValue)
+    → (kept_ballot_of r).txn ≡ t → m ≡ n → s ≡ state_with missing (Some (Holds (in_open.Remote r))) → stamp ≡ r.ballot.stamp
+    → complete ≡ readied_by m s → Becomes t (state_ready m s) room k.transactions.ledger → ((missing_in (remote_with r missing).ballot == 0) ≡ true → HasRoom k.transactions.store.rows r.ballot.part.batch)
+    → IfSome complete (λ c. MaySettle t n stamp k c)
+missing_settles (in_missing.Notice node) t n m r = counted_settles t n m (remote_with r (in_missing.Notice node))
+missing_settles (in_missing.Answer dependency) t n m r = counted_settles t n m (remote_with r (in_missing.Answer dependency))
+
+pub missing_so : (missing : Missing) (top : TopologyValue) (me n m : ℕ) (t : TxnValue) (r : Remote) (k : Kept) (room ts : TransactionsValue) (stamp : StampValue) (b : Bool) (complete : Option CompleteValue) (l : Kept) (a : ShardState) (before es after : List Envelope)
+    → m ≡ n → (kept_ballot_of r).txn ≡ t → open_in (state_of k.transactions.ledger t) ≡ Some (in_open.Remote r) → stamp ≡ r.ballot.stamp → b ≡ (missing_in (remote_with r missing).ballot == 0)
+    → Represents top me k a → AreApart (on_missing missing top me n a t).state.applied
     → GoesOnKeeping k.transactions.store room.store → room.ledger ≡ k.transactions.ledger → room.early ≡ k.transactions.early
-    → Becomes t (state_ready m (state_noticed node (state_of room.ledger t))) room.ledger ts.ledger → ts.store ≡ room.store → ts.early ≡ room.early
-    → complete ≡ readied_by m (state_noticed node (state_of room.ledger t)) → IsConcluded t stamp n complete (record k { transactions = ts }) l
+    → Becomes t (state_ready m (state_with missing (state_of room.ledger t))) room.ledger ts.ledger → ts.store ≡ room.store → ts.early ≡ room.early
+    → complete ≡ readied_by m (state_with missing (state_of room.ledger t)) → IsConcluded t stamp n complete (record k { transactions = ts }) l
     → (decision_of (kept_ballot_of r).txn a ≡ None → AreApart (ready_if b top me m a (kept_ballot_of r)).state.applied → es ≡ (ready_if b top me m a (kept_ballot_of r)).sends)
     → after ≡ before ++ es
-    → IsStep top me (on_notify top me n a node t) l before after
-notices_so top me n m t node r k room ts stamp b complete l a before es after same_time own is same_stamp ready_now represents apart grown ledger room_early becomes store early completes concluded sends sent =
+    → IsStep top me (on_missing missing top me n a t) l before after
+missing_so missing top me n m t r k room ts stamp b complete l a before es after same_time own is same_stamp ready_now represents apart grown ledger room_early becomes store early completes concluded sends sent =
     let known = known_open (state_of k.transactions.ledger t) (in_open.Remote r) is in
     let h = stands_so top me k a t (Some (Holds (in_open.Remote r))) represents known in
-    let it = notice_counts top me n a t r node own h.0 h.1 in
-    counts_so top me n m t (with_noticed r node) k room ts (state_noticed node (state_of room.ledger t)) stamp b complete l a it.0 (on_notify top me n a node t) before after it.1 same_time
-    (ap (state_noticed node) (ap (λ (x : LedgerValue). state_of x t) ledger ∙ known)) same_stamp ready_now represents it.2 it.3 apart grown ledger room_early becomes store early completes concluded
-    (λ there. sent ∙ ap (λ (ys : List Envelope). before ++ ys) (sends (subst (λ (u : TxnValue). decision_of u a ≡ None) (sym own) h.0.decision) there))
+    let it = missing_counts missing top me n a t r own h.0 h.1 in
+    let same = same_ballot r missing in
+    counts_so top me n m t (remote_with r missing) k room ts (state_with missing (state_of room.ledger t)) stamp b complete l a it.0 (on_missing missing top me n a t) before after it.1 same_time
+    (ap (state_with missing) (ap (λ (x : LedgerValue). state_of x t) ledger ∙ known)) (same_stamp ∙ sym (ap (λ (x : KeptBallot). x.stamp) same)) ready_now represents it.2 it.3 apart grown ledger room_early becomes store early completes concluded
+    (subst (λ (x : KeptBallot). AreApart (ready_if b top me m a x).state.applied → after ≡ before ++ (ready_if b top me m a x).sends) (sym same)
+    (λ there. sent ∙ ap (λ (ys : List Envelope). before ++ ys) (sends (subst (λ (u : TxnValue). decision_of u a ≡ None) (sym own) h.0.decision) there)))
+
+-- ## None waits
 
 -- whether a ballot of another data centre's write waits
 abbrev pub is_remote_open : Option Open → Bool
@@ -146,31 +170,18 @@ notice_passes top me n k a t node before r known e = go (state_of k.transactions
     go None f g h = absurd (cc)
     go (Some s) f g h = is_quiet top me n k a (on_notify top me n a node t) before r (notice_ignored top me n a t node s (stands_so top me k a t (Some s) r f) h)
 
--- ## Answers
-
-pub answers_so : (top : TopologyValue) (me n m : ℕ) (t d : TxnValue) (r : Remote) (k : Kept) (room ts : TransactionsValue) (stamp : StampValue) (b : Bool) (complete : Option CompleteValue) (l : Kept) (a : ShardState) (before es after : List Envelope)
-    → m ≡ n → (kept_ballot_of r).txn ≡ t → open_in (state_of k.transactions.ledger t) ≡ Some (in_open.Remote r) → stamp ≡ r.ballot.stamp → b ≡ (missing_in (with_answered r d).ballot == 0)
-    → Represents top me k a → AreApart (on_dep_ok top me n a d t).state.applied
-    → GoesOnKeeping k.transactions.store room.store → room.ledger ≡ k.transactions.ledger → room.early ≡ k.transactions.early
-    → Becomes t (state_ready m (state_answered d (state_of room.ledger t))) room.ledger ts.ledger → ts.store ≡ room.store → ts.early ≡ room.early
-    → complete ≡ readied_by m (state_answered d (state_of room.ledger t)) → IsConcluded t stamp n complete (record k { transactions = ts }) l
-    → (decision_of (kept_ballot_of r).txn a ≡ None → AreApart (ready_if b top me m a (kept_ballot_of r)).state.applied → es ≡ (ready_if b top me m a (kept_ballot_of r)).sends)
-    → after ≡ before ++ es
-    → IsStep top me (on_dep_ok top me n a d t) l before after
-answers_so top me n m t d r k room ts stamp b complete l a before es after same_time own is same_stamp ready_now represents apart grown ledger room_early becomes store early completes concluded sends sent =
-    let known = known_open (state_of k.transactions.ledger t) (in_open.Remote r) is in
-    let h = stands_so top me k a t (Some (Holds (in_open.Remote r))) represents known in
-    let it = answer_counts top me n a t d r own h.0 h.1 in
-    counts_so top me n m t (with_answered r d) k room ts (state_answered d (state_of room.ledger t)) stamp b complete l a it.0 (on_dep_ok top me n a d t) before after it.1 same_time
-    (ap (state_answered d) (ap (λ (x : LedgerValue). state_of x t) ledger ∙ known)) same_stamp ready_now represents it.2 it.3 apart grown ledger room_early becomes store early completes concluded
-    (λ there. sent ∙ ap (λ (ys : List Envelope). before ++ ys) (sends (subst (λ (u : TxnValue). decision_of u a ≡ None) (sym own) h.0.decision) there))
-
 -- where none waits, the clock alone moves
 pub answer_passes : (top : TopologyValue) (me n : ℕ) (k : Kept) (a : ShardState) (t d : TxnValue) (before : List Envelope)
     → Represents top me k a → is_remote_open (open_in (state_of k.transactions.ledger t)) ≡ false
     → IsStep top me (on_dep_ok top me n a d t) (record k { clock = n }) before before
 answer_passes top me n k a t d before r e =
     is_quiet top me n k a (on_dep_ok top me n a d t) before r (answer_ignored top me n a t d (state_of k.transactions.ledger t) (r.stands t) (none_waits (state_of k.transactions.ledger t) e))
+
+pub missing_passes : (missing : Missing) (top : TopologyValue) (me n : ℕ) (k : Kept) (a : ShardState) (t : TxnValue) (before : List Envelope)
+    → Represents top me k a → IsInTime missing (state_of k.transactions.ledger t) → is_remote_open (open_in (state_of k.transactions.ledger t)) ≡ false
+    → IsStep top me (on_missing missing top me n a t) (record k { clock = n }) before before
+missing_passes (in_missing.Notice node) top me n k a t before r known e = notice_passes top me n k a t node before r known e
+missing_passes (in_missing.Answer dependency) top me n k a t before r known e = answer_passes top me n k a t dependency before r e
 
 -- ## Room
 

@@ -15,26 +15,29 @@ use Rattle.messages.specs.Shard.{ShardState, ShardStep, BegunBallot, PreparedPar
 use Rattle.messages.specs.Known.{decision_of, is_asker}
 use Rattle.messages.specs.Commits.{applied_part, check_for, early_if, on_begin, on_check, on_commit, on_not_by, on_prepare, on_yes, stamp_for}
 use Rattle.messages.specs.Reads.{asked_below, at_time, on_read, on_read_at, part_at, read_at_if, read_at_of}
-use Rattle.messages.specs.Replication.{early_notice_if, is_ready, on_dep_check, on_dep_ok, on_notify, on_prepare_remote, on_repl_begin, on_repl_part, dep_check_for, ready, ready_if, remember_if, remote_prepare, with_ballot}
+use Rattle.messages.specs.Replication.{early_notice_if, is_ready, on_dep_check, on_notify, on_prepare_remote, on_repl_begin, on_repl_part, dep_check_for, ready, ready_if, remember_if, remote_prepare, with_ballot}
 use Rattle.commit_check.specs.declared.cause.Cause.TheVariants.{NotBy}
 use Rattle.commit_check.specs.Waiting as in_waiting
+use Rattle.write_txn.specs.declared.open.Missing.{Missing}
 use Rattle.write_txn.specs.declared.open.Open.TheVariants as in_open
 use Rattle.write_txn.specs.declared.open.Remote.{Remote}
-use Rattle.write_txn.specs.Ledger.{LedgerValue, State, Holds, IsApplied, IsDecided, state_of, open_in, decided_in, part_in, completed_by, lacks_nothing, state_noticed, state_answered}
+use Rattle.write_txn.specs.Ledger.{LedgerValue, State, Holds, IsApplied, IsDecided, state_of, open_in, decided_in, part_in, completed_by, lacks_nothing, remote_with, state_with}
 use Rattle.write_txn.specs.Voters.{voters_of}
 use Rattle.write_txn.specs.View.{nodes_for, near_nodes, left_of, view_of}
 use Rattle.write_txn.specs.Stands.{begun_of, kept_ballot_of, own_part}
 use Rattle.write_txn.proofs.Finds.{found_txn}
 use Rattle.write_txn.proofs.Bodies.{begin_unvoted, begin_voted, commit_applies, decision_if, prepare_unknown, yes_decides, yes_early}
-use Rattle.write_txn.proofs.Answering.{answer_counts, notice_early, with_answered}
-use Rattle.write_txn.proofs.Readying.{KeepsBallot, is_alone, notice_counts, readies_alone, readies_with_cohorts, repl_begin_unknown, with_noticed}
+use Rattle.write_txn.proofs.Answering.{notice_early}
+use Rattle.write_txn.proofs.Readying.{KeepsBallot, is_alone, readies_alone, readies_with_cohorts, repl_begin_unknown}
 use Rattle.write_txn.proofs.Replicas.{is_kept, prepare_remote_kept, repl_part_unknown}
 use Rattle.shard.specs.declared.kept.Kept.{Kept}
+use Rattle.shard.specs.Counting.{on_missing}
 use Rattle.shard.specs.Kept.{Represents}
 use Rattle.shard.proofs.Applying.{which_part}
 use Rattle.shard.proofs.AskerSteps.{own_askers}
 use Rattle.shard.proofs.InPlace.{stands_so}
 use Rattle.shard.proofs.LastVotes.{which_ballot}
+use Rattle.shard.proofs.NoticeSteps.{missing_counts}
 use Rattle.shard.proofs.PartSteps.{known_open}
 
 -- ## Growth
@@ -182,37 +185,20 @@ not_readied top me n t r a c keeps e = false_else (missing_in r.ballot == 0) imp
         (λ more. grown a.prepared own (ap (λ (ps : List PreparedPart). ps ++ own ∷ []) (sym keeps.same_parts)
         ∙ ap (λ (s : ShardStep). s.state.prepared) (sym (readies_with_cohorts top me n t r a c keeps none more) ∙ e)))
 
--- the last notice readies the ballot
-pub not_last_notice : (top : TopologyValue) (me n node : ℕ) (k : Kept) (a : ShardState) (t : TxnValue) (r : Remote)
-    → Represents top me k a → on_notify top me n a node t ≡ quiet n a → (kept_ballot_of r).txn ≡ t → open_in (state_of k.transactions.ledger t) ≡ Some (in_open.Remote r)
-    → (missing_in (with_noticed r node).ballot == 0) ≡ false
-not_last_notice top me n node k a t r represents e own is =
+-- the last missing thing readies the ballot
+pub not_last_missing : (missing : Missing) (top : TopologyValue) (me n : ℕ) (k : Kept) (a : ShardState) (t : TxnValue) (r : Remote)
+    → Represents top me k a → on_missing missing top me n a t ≡ quiet n a → (kept_ballot_of r).txn ≡ t → open_in (state_of k.transactions.ledger t) ≡ Some (in_open.Remote r)
+    → (missing_in (remote_with r missing).ballot == 0) ≡ false
+not_last_missing missing top me n k a t r represents e own is =
     let h = stands_so top me k a t (Some (Holds (in_open.Remote r))) represents (known_open (state_of k.transactions.ledger t) (in_open.Remote r) is) in
-    let it = notice_counts top me n a t r node own h.0 h.1 in
-    not_readied top me n t (with_noticed r node) a it.0 it.2 (sym it.1 ∙ e)
+    let it = missing_counts missing top me n a t r own h.0 h.1 in
+    not_readied top me n t (remote_with r missing) a it.0 it.2 (sym it.1 ∙ e)
 
--- and counting another one doesn't
-pub notice_waits : (node : ℕ) (t : TxnValue) (l m : LedgerValue) (r : Remote) → m ≡ l → open_in (state_of l t) ≡ Some (in_open.Remote r) → (missing_in (with_noticed r node).ballot == 0) ≡ false
-    → lacks_nothing (state_noticed node (state_of m t)) ≡ false
-notice_waits node t l m r same is more =
-    ap (λ (s : Option State). lacks_nothing (state_noticed node s)) (ap (λ (x : LedgerValue). state_of x t) same ∙ known_open (state_of l t) (in_open.Remote r) is) ∙ more
-
--- ## DepOk
-
--- the last answer readies the ballot
-pub not_last_answer : (top : TopologyValue) (me n : ℕ) (k : Kept) (a : ShardState) (t d : TxnValue) (r : Remote)
-    → Represents top me k a → on_dep_ok top me n a d t ≡ quiet n a → (kept_ballot_of r).txn ≡ t → open_in (state_of k.transactions.ledger t) ≡ Some (in_open.Remote r)
-    → (missing_in (with_answered r d).ballot == 0) ≡ false
-not_last_answer top me n k a t d r represents e own is =
-    let h = stands_so top me k a t (Some (Holds (in_open.Remote r))) represents (known_open (state_of k.transactions.ledger t) (in_open.Remote r) is) in
-    let it = answer_counts top me n a t d r own h.0 h.1 in
-    not_readied top me n t (with_answered r d) a it.0 it.2 (sym it.1 ∙ e)
-
--- and counting another one doesn't
-pub answer_waits : (d t : TxnValue) (l m : LedgerValue) (r : Remote) → m ≡ l → open_in (state_of l t) ≡ Some (in_open.Remote r) → (missing_in (with_answered r d).ballot == 0) ≡ false
-    → lacks_nothing (state_answered d (state_of m t)) ≡ false
-answer_waits d t l m r same is more =
-    ap (λ (s : Option State). lacks_nothing (state_answered d s)) (ap (λ (x : LedgerValue). state_of x t) same ∙ known_open (state_of l t) (in_open.Remote r) is) ∙ more
+-- and another one doesn't
+pub missing_waits : (missing : Missing) (t : TxnValue) (l m : LedgerValue) (r : Remote) → m ≡ l → open_in (state_of l t) ≡ Some (in_open.Remote r) → (missing_in (remote_with r missing).ballot == 0) ≡ false
+    → lacks_nothing (state_with missing (state_of m t)) ≡ false
+missing_waits missing t l m r same is more =
+    ap (λ (s : Option State). lacks_nothing (state_with missing s)) (ap (λ (x : LedgerValue). state_of x t) same ∙ known_open (state_of l t) (in_open.Remote r) is) ∙ more
 
 -- ## ReplBegin
 

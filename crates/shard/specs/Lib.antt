@@ -12,5 +12,6 @@ pub mod UnderWay
 pub mod Begun
 pub mod Handled
 pub mod Concluding
+pub mod Counting
 pub mod ReplBegun
 pub mod Ignored

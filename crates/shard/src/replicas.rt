@@ -1,11 +1,8 @@
 //! The ballot of another data centre's write, once its coordinator keeps it: Notify and DepOk.
-ghost use Rattle.std.specs.Prelude.{◌≡◌, ◌≤◌, ◌++◌, ◌==◌, ℕ, [], length, true, false, None, Some, IsOk, IfOk, IfSome, OnOk, OnErr, IfErr};
+ghost use Rattle.std.specs.Prelude.{◌≡◌, ◌≤◌, ◌++◌, ℕ, [], length, true, false, None, Some, IsOk, IfOk, IfSome, OnOk, OnErr, IfErr};
 ghost use Rattle.logical_time.specs.declared.fault.Fault.TheVariants as fault;
 ghost use Rattle.store.specs.Keeps.{AreApart};
 ghost use Rattle.store.specs.Kept.{HasRoom};
-ghost use Rattle.txn_state.specs.Votes.{counted};
-ghost use Rattle.txn_state.specs.Answers.{answered};
-ghost use Rattle.txn_state.specs.RemoteBallot.{missing_in};
 ghost use Rattle.messages.specs.Topology.{TopologyValue};
 ghost use Rattle.messages.specs.Place.{IsPlace};
 ghost use Rattle.messages.specs.Shard.{ShardState};
@@ -18,6 +15,7 @@ ghost use Rattle.write_txn.specs.Transactions.{GoesOnKeeping};
 ghost use Rattle.shard.specs.Kept.{Represents, Does, GoesOn};
 ghost use Rattle.shard.specs.Ignored.{IfIgnored};
 ghost use Rattle.shard.specs.Concluding.{MaySettle, IsConcluded};
+ghost use Rattle.shard.specs.Counting.{IsInTime, on_missing};
 
 use crate::deciding::{Deciding, settle, tell};
 use crate::early::note_notice;
@@ -25,8 +23,8 @@ use crate::kept::Kept;
 use logical_time::{Clock, Fault, Node, Stamp, Time, TxnId};
 use messages::{Envelope, Outbox};
 use replicator::prepare_remotes;
-use txn_state::{Complete, RemoteBallot};
-use write_txn::{Open, Remote, Transactions};
+use txn_state::Complete;
+use write_txn::{Missing, Open, Remote, Transactions};
 
 /// What a ballot that waits sends, by whether it becomes ready: PrepareRemote to each cohort, or without any what its
 /// decision tells; while something is missing nothing.
@@ -102,18 +100,40 @@ pub(crate) fn conclude(
     }
 }
 
-/// Whether the notice of this node is the last thing that is missing of a ballot.
-fn is_last_notice(ballot: &RemoteBallot, node: Node) -> bool
-    ensures { result ≡ (missing_in (record ballot.now { notices = counted ballot.now.notices node }) == 0) }
+/// A notice or an answer: counted if a ballot of the transaction waits that misses it, and the last missing thing makes the
+/// ballot ready; else ignored. Refused with `Memory` alone.
+fn count(
+    kept: &mut Kept,
+    clock: Clock,
+    txn: TxnId,
+    missing: Missing,
+    outbox: &mut Outbox,
+) -> Result<(), Fault>
+    requires { IsInTime missing (state_of kept.old.transactions.ledger txn) }
+    ensures step { OnOk result (Does (λ top me a. on_missing missing top me clock a txn) kept.old kept.new outbox.old.sent outbox.new.sent) }
+    ensures same { OnErr result (GoesOn kept.old kept.new) }
+    ensures unsent { OnErr result (outbox.new.sent ≡ outbox.old.sent) }
+    // it takes no memory where only the clock moves
+    ensures quiet { IfIgnored (λ top me a. on_missing missing top me clock a txn) clock kept.old (IsOk result) }
+    ensures memory { IfErr result (λ e. e ≡ fault.Memory) }
 {
-    ballot.notices().is_last(node) && ballot.answers().len() == 0
-}
-
-/// Whether the answer for this dependency is the last thing that is missing of a ballot.
-fn is_last_answer(ballot: &RemoteBallot, dependency: TxnId) -> bool
-    ensures { result ≡ (missing_in (record ballot.now { answers = answered ballot.now.answers dependency }) == 0) }
-{
-    ballot.answers().is_last(dependency) && ballot.notices().missing().is_empty()
+    let time = clock.now();
+    let (stamp, is_ready, envelopes) = match kept.transactions.ledger().open(txn) {
+        Some(Open::Remote(remote)) => {
+            let is_ready = remote.is_last(missing);
+            let envelopes = told_by(kept, time, remote, is_ready)?;
+            (remote.ballot.stamp(), is_ready, envelopes)
+        }
+        _ => {
+            kept.clock = clock;
+            return Ok(());
+        }
+    };
+    outbox.reserve(envelopes.len())?;
+    make_room_if(&mut kept.transactions, is_ready, txn)?;
+    let complete = kept.transactions.count(txn, missing, time)?;
+    conclude(kept, clock, txn, complete, stamp, envelopes, outbox);
+    Ok(())
 }
 
 /// Notify: an early notice is kept, once for each node; one of a cohort that isn't yet counted is counted, and the last
@@ -135,23 +155,7 @@ pub(crate) fn notice(
     if !kept.knows(txn) {
         return note_notice(kept, clock, txn, node);
     }
-    let time = clock.now();
-    let (stamp, is_ready, envelopes) = match kept.transactions.ledger().open(txn) {
-        Some(Open::Remote(remote)) => {
-            let is_ready = is_last_notice(&remote.ballot, node);
-            let envelopes = told_by(kept, time, remote, is_ready)?;
-            (remote.ballot.stamp(), is_ready, envelopes)
-        }
-        _ => {
-            kept.clock = clock;
-            return Ok(());
-        }
-    };
-    outbox.reserve(envelopes.len())?;
-    make_room_if(&mut kept.transactions, is_ready, txn)?;
-    let complete = kept.transactions.notice(txn, node, time)?;
-    conclude(kept, clock, txn, complete, stamp, envelopes, outbox);
-    Ok(())
+    count(kept, clock, txn, Missing::Notice(node), outbox)
 }
 
 /// DepOk: a missing answer of the waiter is counted, and the last missing thing makes its ballot ready; else ignored.
@@ -170,21 +174,5 @@ pub(crate) fn dep_ok(
     ensures quiet { IfIgnored (λ top me a. on_dep_ok top me clock a dependency waiter) clock kept.old (IsOk result) }
     ensures memory { IfErr result (λ e. e ≡ fault.Memory) }
 {
-    let time = clock.now();
-    let (stamp, is_ready, envelopes) = match kept.transactions.ledger().open(waiter) {
-        Some(Open::Remote(remote)) => {
-            let is_ready = is_last_answer(&remote.ballot, dependency);
-            let envelopes = told_by(kept, time, remote, is_ready)?;
-            (remote.ballot.stamp(), is_ready, envelopes)
-        }
-        _ => {
-            kept.clock = clock;
-            return Ok(());
-        }
-    };
-    outbox.reserve(envelopes.len())?;
-    make_room_if(&mut kept.transactions, is_ready, waiter)?;
-    let complete = kept.transactions.answer(waiter, dependency, time)?;
-    conclude(kept, clock, waiter, complete, stamp, envelopes, outbox);
-    Ok(())
+    count(kept, clock, waiter, Missing::Answer(dependency), outbox)
 }

@@ -1,7 +1,6 @@
 -- What a step makes of what is under way is of the same transaction.
 use Rattle.std.proofs.Common.{◌≡◌, refl, ℕ, Bool, true, false, List, [], ◌∷◌, ◌==◌, None, IfSome}
 use Rattle.std.specs.Prelude.{if◌then◌else◌}
-use Rattle.logical_time.specs.Stamps.{TxnValue}
 use Rattle.txn_state.specs.Ballot.{BallotValue, CompleteValue}
 use Rattle.txn_state.specs.Prepared.{PreparedValue}
 use Rattle.txn_state.specs.Votes.{counted, are_all_there}
@@ -10,8 +9,10 @@ use Rattle.txn_state.specs.Ready.{ready_for, ready_at}
 use Rattle.txn_state.specs.RemoteBallot.{missing_in}
 use Rattle.write_txn.specs.declared.open.Open.TheVariants as in_open
 use Rattle.write_txn.specs.declared.open.Led.{Led}
+use Rattle.write_txn.specs.declared.open.Missing.{Missing}
+use Rattle.write_txn.specs.declared.open.Missing.TheVariants as in_missing
 use Rattle.write_txn.specs.declared.open.Remote.{Remote}
-use Rattle.write_txn.specs.Ledger.{Holds, state_prepared, state_applied, state_voted, led_after, state_noticed, state_answered, state_ready, remote_after, part_in, completed_by, complete_in, readied_by, ready_complete}
+use Rattle.write_txn.specs.Ledger.{Holds, state_prepared, state_applied, state_voted, led_after, state_with, state_ready, remote_after, part_in, completed_by, complete_in, readied_by, ready_complete}
 use Rattle.write_txn.proofs.Taken.{IsOf, KeepsTxn, AnswersTxn}
 
 pub prepared_keeps : (time : ℕ) → KeepsTxn (state_prepared time)
@@ -26,17 +27,12 @@ applied_keeps (in_open.Part p) = refl
 applied_keeps (in_open.Led l) = refl
 applied_keeps (in_open.Remote r) = refl
 
-pub noticed_keeps : (node : ℕ) → KeepsTxn (state_noticed node)
-noticed_keeps node (in_open.Kept k) = refl
-noticed_keeps node (in_open.Part p) = refl
-noticed_keeps node (in_open.Led l) = refl
-noticed_keeps node (in_open.Remote r) = refl
-
-pub answered_keeps : (dependency : TxnValue) → KeepsTxn (state_answered dependency)
-answered_keeps dependency (in_open.Kept k) = refl
-answered_keeps dependency (in_open.Part p) = refl
-answered_keeps dependency (in_open.Led l) = refl
-answered_keeps dependency (in_open.Remote r) = refl
+pub with_keeps : (missing : Missing) → KeepsTxn (state_with missing)
+with_keeps missing (in_open.Kept k) = refl
+with_keeps missing (in_open.Part p) = refl
+with_keeps missing (in_open.Led l) = refl
+with_keeps (in_missing.Notice node) (in_open.Remote r) = refl
+with_keeps (in_missing.Answer dependency) (in_open.Remote r) = refl
 
 led_keeps : (l : Led) (me commit : ℕ) (b : Bool) (c : BallotValue) → c.own.part.writer.txn ≡ l.ballot.own.part.writer.txn → IsOf l.ballot.own.part.writer.txn (led_after l me commit (voted_if b c))
 led_keeps l me commit true c same = refl

@@ -22,6 +22,8 @@ use Rattle.write_txn.specs.declared.status.Status.TheVariants as in_status
 use Rattle.write_txn.specs.declared.open.Open.{Open}
 use Rattle.write_txn.specs.declared.open.Open.TheVariants as in_open
 use Rattle.write_txn.specs.declared.open.Kept.{Kept}
+use Rattle.write_txn.specs.declared.open.Missing.{Missing}
+use Rattle.write_txn.specs.declared.open.Missing.TheVariants as in_missing
 use Rattle.write_txn.specs.declared.open.Led.{Led}
 use Rattle.write_txn.specs.declared.open.Remote.{Remote}
 
@@ -144,17 +146,15 @@ completed_by node other = None
 
 -- ## A ballot of another data centre's write
 
--- the notice of a node is counted
-abbrev pub state_noticed : ℕ → Option State → Option State
-state_noticed node (Some (Holds (in_open.Remote r))) =
-    Some (Holds (in_open.Remote (record r { ballot = record r.ballot { notices = counted r.ballot.notices node } })))
-state_noticed node other = other
+-- a ballot that waits, once this is there too
+abbrev pub remote_with : Remote → Missing → Remote
+remote_with r (in_missing.Notice node) = record r { ballot = record r.ballot { notices = counted r.ballot.notices node } }
+remote_with r (in_missing.Answer dependency) = record r { ballot = record r.ballot { answers = answered r.ballot.answers dependency } }
 
--- the answer for a dependency is counted
-abbrev pub state_answered : TxnValue → Option State → Option State
-state_answered dependency (Some (Holds (in_open.Remote r))) =
-    Some (Holds (in_open.Remote (record r { ballot = record r.ballot { answers = answered r.ballot.answers dependency } })))
-state_answered dependency other = other
+-- what a ballot that waits becomes by that; nothing else changes
+abbrev pub state_with : Missing → Option State → Option State
+state_with missing (Some (Holds (in_open.Remote r))) = Some (Holds (in_open.Remote (remote_with r missing)))
+state_with missing other = other
 
 -- whether a ballot waits of which nothing is missing
 abbrev pub lacks_nothing : Option State → Bool

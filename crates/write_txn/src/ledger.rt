@@ -4,11 +4,11 @@ ghost use Rattle.std.specs.Option.{option_copied};
 ghost use Rattle.logical_time.specs.declared.fault.Fault.TheVariants as fault;
 ghost use Rattle.logical_time.specs.Stamps.{TxnValue};
 
-use crate::open::Open;
+use crate::open::{Missing, Open};
 use crate::places::add_status;
 use crate::status::Status;
 use crate::steps::{
-    add_open, answer_in, decided_in, finish_in, notice_in, open_in, prepare_in, ready_in, vote_in,
+    add_open, count_in, decided_in, finish_in, open_in, prepare_in, ready_in, vote_in,
 };
 use logical_time::{Fault, Node, Stamp, Time, TxnId};
 use std::alloc::Global;
@@ -36,7 +36,7 @@ impl Model for Ledger {
 impl Ledger {
     ghost use Rattle.write_txn.specs.declared.open.Open.{Open};
     ghost use Rattle.write_txn.specs.Ledger as ledger;
-    ghost use Rattle.write_txn.specs.Ledger.{state_of, txn_of, Holds, IsDecided, Becomes, HaveSameStates, state_prepared, state_applied, part_in, state_voted, completed_by, state_noticed, state_answered, state_ready, readied_by};
+    ghost use Rattle.write_txn.specs.Ledger.{state_of, txn_of, Holds, IsDecided, Becomes, HaveSameStates, state_prepared, state_applied, part_in, state_voted, completed_by, state_with, state_ready, readied_by};
 
     /// Nothing is known.
     pub fn new(alloc: Global) -> Ledger
@@ -135,18 +135,11 @@ impl Ledger {
         )
     }
 
-    /// Counts the notice of a node for the transaction, if a ballot of it waits. Takes no memory.
-    pub fn notice(&mut self, txn: TxnId, node: Node)
-        ensures { Becomes txn (state_noticed node (state_of self.old txn)) self.old self.new }
+    /// Counts what was missing of the transaction's ballot, if one waits. Takes no memory.
+    pub fn count(&mut self, txn: TxnId, missing: Missing)
+        ensures { Becomes txn (state_with missing (state_of self.old txn)) self.old self.new }
     {
-        notice_in(&self.statuses, &mut self.under_way, txn, node);
-    }
-
-    /// Counts the answer for a dependency of the transaction, if a ballot of it waits. Takes no memory.
-    pub fn answer(&mut self, txn: TxnId, dependency: TxnId)
-        ensures { Becomes txn (state_answered dependency (state_of self.old txn)) self.old self.new }
-    {
-        answer_in(&self.statuses, &mut self.under_way, txn, dependency);
+        count_in(&self.statuses, &mut self.under_way, txn, missing);
     }
 
     /// Prepares the shard's own part at this time, if a ballot of the transaction waits of which nothing is missing: its

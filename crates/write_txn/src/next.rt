@@ -4,11 +4,11 @@ ghost use Rattle.messages.specs.Commits.{stamp_for};
 ghost use Rattle.txn_state.specs.RemoteBallot.{missing_in};
 ghost use Rattle.txn_state.specs.Ready.{ready_at};
 ghost use Rattle.txn_state.specs.Voted.{voted};
-ghost use Rattle.write_txn.specs.Ledger.{Holds, state_prepared, state_noticed, state_answered, state_applied, part_in, state_voted, completed_by, led_after, complete_in, state_ready, readied_by, remote_after, ready_complete};
+ghost use Rattle.write_txn.specs.Ledger.{Holds, state_prepared, state_with, state_applied, part_in, state_voted, completed_by, led_after, complete_in, state_ready, readied_by, remote_after, ready_complete};
 ghost use Rattle.write_txn.specs.Next.{state_next};
 
-use crate::open::{Kept, Led, Open, Origin, Part, Remote};
-use logical_time::{Node, Stamp, Time, TxnId};
+use crate::open::{Kept, Led, Missing, Open, Origin, Part, Remote};
+use logical_time::{Node, Stamp, Time};
 use txn_state::{Complete, Prepared, Ready, Voted};
 
 /// What becomes of what was under way. It must be spent.
@@ -54,21 +54,15 @@ pub(crate) fn prepared(held: Open, time: Time) -> Open
     }
 }
 
-/// Counts a notice for a ballot that waits.
-pub(crate) fn notice(held: &mut Open, node: Node)
-    ensures { Some (Holds held.new) ≡ state_noticed node (Some (Holds held.old)) }
+/// Counts what was missing of a ballot that waits.
+pub(crate) fn count(held: &mut Open, missing: Missing)
+    ensures { Some (Holds held.new) ≡ state_with missing (Some (Holds held.old)) }
 {
     if let Open::Remote(remote) = held {
-        remote.ballot.notice(node);
-    }
-}
-
-/// Counts an answer for a ballot that waits.
-pub(crate) fn answer(held: &mut Open, dependency: TxnId)
-    ensures { Some (Holds held.new) ≡ state_answered dependency (Some (Holds held.old)) }
-{
-    if let Open::Remote(remote) = held {
-        remote.ballot.dep_ok(dependency);
+        match missing {
+            Missing::Notice(node) => remote.ballot.notice(node),
+            Missing::Answer(dependency) => remote.ballot.dep_ok(dependency),
+        }
     }
 }
 

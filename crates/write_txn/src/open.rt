@@ -2,7 +2,7 @@
 ghost use Rattle.std.specs.Prelude.{◌≡◌};
 
 use column_family::Batch;
-use logical_time::{Shard, Stamp, Time, TxnId, Writer, Writers};
+use logical_time::{Node, Shard, Stamp, Time, TxnId, Writer, Writers};
 use messages::Cohorts;
 use std::marker::Model;
 use txn_state::{Ballot, Prepared, RemoteBallot, WritePart};
@@ -121,6 +121,36 @@ pub struct Remote {
     pub cohorts: Cohorts,
     /// What the write depends on.
     pub dependencies: Writers,
+}
+
+/// What such a ballot may miss.
+#[derive(Clone, Copy)]
+pub enum Missing {
+    /// The notice of this node.
+    Notice(Node),
+    /// The answer for this dependency.
+    Answer(TxnId),
+}
+
+impl Remote {
+    ghost use Rattle.std.specs.Prelude.{◌≡◌, ◌==◌};
+    ghost use Rattle.txn_state.specs.RemoteBallot.{missing_in};
+    ghost use Rattle.write_txn.specs.Ledger.{remote_with};
+
+    /// Whether this is the last thing that is missing.
+    pub fn is_last(&self, missing: Missing) -> bool
+        ensures { result ≡ (missing_in (remote_with self.now missing).ballot == 0) }
+    {
+        let ballot = &self.ballot;
+        match missing {
+            Missing::Notice(node) => {
+                ballot.notices().is_last(node) && ballot.answers().len() == 0
+            }
+            Missing::Answer(dependency) => {
+                ballot.answers().is_last(dependency) && ballot.notices().missing().is_empty()
+            }
+        }
+    }
 }
 
 /// What is under way of a transaction. It must be spent.

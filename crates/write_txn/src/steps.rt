@@ -4,10 +4,10 @@ ghost use Rattle.std.specs.Option.{option_copied};
 ghost use Rattle.logical_time.specs.declared.fault.Fault.TheVariants as fault;
 ghost use Rattle.write_txn.specs.Ledger as ledger;
 ghost use Rattle.write_txn.specs.Places.{ledger_of};
-ghost use Rattle.write_txn.specs.Ledger.{IsPlaced, state_of, status_in, state_at, txn_of, Holds, IsDecided, Becomes, HaveSameStates, state_prepared, state_applied, part_in, state_voted, completed_by, state_noticed, state_answered, state_ready, readied_by};
+ghost use Rattle.write_txn.specs.Ledger.{IsPlaced, state_of, status_in, state_at, txn_of, Holds, IsDecided, Becomes, HaveSameStates, state_prepared, state_applied, part_in, state_voted, completed_by, state_with, state_ready, readied_by};
 
-use crate::next::{answer, finished, notice, prepared, readied, voted};
-use crate::open::Open;
+use crate::next::{count, finished, prepared, readied, voted};
+use crate::open::{Missing, Open};
 use crate::places::{add_status, place_in, put, put_back};
 use crate::status::Status;
 use logical_time::{Fault, Node, Stamp, Time, TxnId};
@@ -132,35 +132,19 @@ pub(crate) fn vote_in(
     }
 }
 
-/// Counts a notice for a transaction, if a ballot of it waits.
-pub(crate) fn notice_in(
+/// Counts what was missing of a transaction's ballot, if one waits.
+pub(crate) fn count_in(
     statuses: &BTreeMap<TxnId, Status>,
     under_way: &mut Vec<Open>,
     txn: TxnId,
-    node: Node,
+    missing: Missing,
 )
     requires { IsPlaced (ledger_of statuses.now.entries under_way.old.items) }
     ensures placed { IsPlaced (ledger_of statuses.now.entries under_way.new.items) }
-    ensures becomes { Becomes txn (state_noticed node (state_of (ledger_of statuses.now.entries under_way.old.items) txn)) (ledger_of statuses.now.entries under_way.old.items) (ledger_of statuses.now.entries under_way.new.items) }
+    ensures becomes { Becomes txn (state_with missing (state_of (ledger_of statuses.now.entries under_way.old.items) txn)) (ledger_of statuses.now.entries under_way.old.items) (ledger_of statuses.now.entries under_way.new.items) }
 {
     if let Some(place) = place_in(statuses, txn) {
-        notice(&mut under_way[place], node);
-    }
-}
-
-/// Counts an answer for a dependency of a transaction, if a ballot of it waits.
-pub(crate) fn answer_in(
-    statuses: &BTreeMap<TxnId, Status>,
-    under_way: &mut Vec<Open>,
-    txn: TxnId,
-    dependency: TxnId,
-)
-    requires { IsPlaced (ledger_of statuses.now.entries under_way.old.items) }
-    ensures placed { IsPlaced (ledger_of statuses.now.entries under_way.new.items) }
-    ensures becomes { Becomes txn (state_answered dependency (state_of (ledger_of statuses.now.entries under_way.old.items) txn)) (ledger_of statuses.now.entries under_way.old.items) (ledger_of statuses.now.entries under_way.new.items) }
-{
-    if let Some(place) = place_in(statuses, txn) {
-        answer(&mut under_way[place], dependency);
+        count(&mut under_way[place], missing);
     }
 }
 

@@ -13,7 +13,7 @@ ghost use Rattle.txn_state.specs.Prepared.{PreparedValue};
 ghost use Rattle.txn_state.specs.Votes.{is_among};
 ghost use Rattle.write_txn.specs.declared.open.Open.{Open};
 ghost use Rattle.write_txn.specs.declared.open.Open.TheVariants as in_open;
-ghost use Rattle.write_txn.specs.Ledger.{state_of, Holds, IsDecided, Becomes, HaveSameStates, open_in, decided_in, part_of, state_prepared, state_applied, part_in, state_voted, completed_by, state_noticed, state_answered, state_ready, readied_by, lacks_nothing};
+ghost use Rattle.write_txn.specs.Ledger.{state_of, Holds, IsDecided, Becomes, HaveSameStates, open_in, decided_in, part_of, state_prepared, state_applied, part_in, state_voted, completed_by, state_with, state_ready, readied_by, lacks_nothing};
 ghost use Rattle.write_txn.specs.Stands.{mark_of};
 ghost use Rattle.write_txn.specs.Voters.{voters_of};
 ghost use Rattle.write_txn.specs.Transactions.{AreMarksOf, GoesOnKeeping, KeepsAlso, KeepsIf, HaveSameVoters, cohorts_part};
@@ -21,8 +21,8 @@ ghost use Rattle.write_txn.specs.Transactions.{AreMarksOf, GoesOnKeeping, KeepsA
 use crate::adding::{add_kept, add_led, add_part, add_remote};
 use crate::applying::{commit_part, decide_own};
 use crate::ledger::Ledger;
-use crate::moving::{answer, notice, prepare_kept, vote};
-use crate::open::{Kept, Led, Remote};
+use crate::moving::{count, prepare_kept, vote};
+use crate::open::{Kept, Led, Missing, Remote};
 use crate::voters::Voters;
 use column_family::Batch;
 use logical_time::{Fault, Node, Stamp, Time, TxnId};
@@ -164,41 +164,25 @@ impl Transactions {
         add_remote(&mut self.ledger, &mut self.marks, remote, time)
     }
 
-    /// Counts the notice of a node for the transaction, if a ballot of it waits. With the last missing thing the ballot is
-    /// made ready at this time, as `wait` does. Refused with `Memory` alone, and then the notice isn't counted.
-    pub fn notice(&mut self, txn: TxnId, node: Node, time: Time) -> Result<Option<Complete>, Fault>
-        ensures complete { IfOk result (λ c. c ≡ readied_by time (state_noticed node (state_of self.old.ledger txn))) }
-        ensures own { IfOk result (λ c. IfSome c (λ complete. complete.own.part.writer.txn ≡ txn)) }
-        ensures ok { OnOk result (Becomes txn (state_ready time (state_noticed node (state_of self.old.ledger txn))) self.old.ledger self.new.ledger) }
-        // it takes no memory where nothing is made ready
-        ensures waits { lacks_nothing (state_noticed node (state_of self.old.ledger txn)) ≡ false → IsOk result }
-        ensures err { OnErr result (HaveSameStates self.old.ledger self.new.ledger) }
-        ensures store { self.new.store ≡ self.old.store }
-        ensures early { self.new.early ≡ self.old.early }
-        ensures memory { IfErr result (λ e. e ≡ fault.Memory) }
-    {
-        notice(&mut self.ledger, &mut self.marks, txn, node, time)
-    }
-
-    /// Counts the answer for a dependency of the transaction, if a ballot of it waits. With the last missing thing the
-    /// ballot is made ready at this time, as `wait` does. Refused with `Memory` alone, and then the answer isn't counted.
-    pub fn answer(
+    /// Counts what was missing of the transaction's ballot, if one waits. With the last missing thing the ballot is made
+    /// ready at this time, as `wait` does; else this takes no memory. Refused with `Memory` alone, and then nothing is
+    /// counted.
+    pub fn count(
         &mut self,
         txn: TxnId,
-        dependency: TxnId,
+        missing: Missing,
         time: Time,
     ) -> Result<Option<Complete>, Fault>
-        ensures complete { IfOk result (λ c. c ≡ readied_by time (state_answered dependency (state_of self.old.ledger txn))) }
+        ensures complete { IfOk result (λ c. c ≡ readied_by time (state_with missing (state_of self.old.ledger txn))) }
         ensures own { IfOk result (λ c. IfSome c (λ complete. complete.own.part.writer.txn ≡ txn)) }
-        ensures ok { OnOk result (Becomes txn (state_ready time (state_answered dependency (state_of self.old.ledger txn))) self.old.ledger self.new.ledger) }
-        // it takes no memory where nothing is made ready
-        ensures waits { lacks_nothing (state_answered dependency (state_of self.old.ledger txn)) ≡ false → IsOk result }
+        ensures ok { OnOk result (Becomes txn (state_ready time (state_with missing (state_of self.old.ledger txn))) self.old.ledger self.new.ledger) }
+        ensures waits { lacks_nothing (state_with missing (state_of self.old.ledger txn)) ≡ false → IsOk result }
         ensures err { OnErr result (HaveSameStates self.old.ledger self.new.ledger) }
         ensures store { self.new.store ≡ self.old.store }
         ensures early { self.new.early ≡ self.old.early }
         ensures memory { IfErr result (λ e. e ≡ fault.Memory) }
     {
-        answer(&mut self.ledger, &mut self.marks, txn, dependency, time)
+        count(&mut self.ledger, &mut self.marks, txn, missing, time)
     }
 
     /// Counts the vote of a node for the transaction, if a ballot of it is held on the shard with the node `me`. The last

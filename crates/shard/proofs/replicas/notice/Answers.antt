@@ -1,67 +1,14 @@
-use Rattle.std.proofs.Common.{rules, ◌∙◌, ◌++◌, ◌==◌, ap, refl, false, List}
+use Rattle.std.proofs.Common.{rules}
 use Rattle.store.proofs.Places.{on_ok}
-use Rattle.txn_state.specs.RemoteBallot.{missing_in}
-use Rattle.messages.specs.declared.envelope.Envelope.{Envelope}
-use Rattle.write_txn.specs.Ledger.{state_of, state_noticed}
-use Rattle.write_txn.proofs.Readying.{with_noticed}
+use Rattle.write_txn.specs.Ledger.{state_of}
 use Rattle.shard.proofs.InPlace.{nothing_known}
-use Rattle.shard.proofs.NoticeSteps.{counted_settles, ready_room, notices_so, notice_passes}
-use Rattle.shard.proofs.QuietSteps.{contrary, fits, not_last_notice, notice_waits, noticed_before}
-use Rattle.shard.proofs.replicas.notice.Goals.{in_default-via-in-Some+in_default, in_default-via-in_default}
+use Rattle.shard.proofs.QuietSteps.{noticed_before}
 use Rattle.shard.proofs.replicas.notice.Goals as goal
 
 pub returns-then-not-knows-clause-step : goal.returns-then-not-knows-clause-step
 returns-then-not-knows-clause-step c = on_ok c.note_notice.result (λ step. λ top me a r apart. step top me a c.args.outbox.now.sent r (search rules)) c.note_notice.ensures.step
 
-pub returns-in_default-clause-step : goal.returns-in_default-clause-step
-returns-in_default-clause-step c = λ top me a r apart.
-    elim c.in_default.branch [
-      | in_default-via-in-Some+in_default w ↦ notice_passes top me c.args.clock c.args.kept.now a c.args.txn c.args.node c.args.outbox.now.sent r (search rules) (search rules)
-      | in_default-via-in_default w ↦ notice_passes top me c.args.clock c.args.kept.now a c.args.txn c.args.node c.args.outbox.now.sent r (search rules) (search rules)
-    ]
-
-pub conclude-requires-clause-settles : goal.conclude-requires-clause-settles
-conclude-requires-clause-settles c =
-    let remote = c.in-Some-Remote.remote in
-    let room = c.make_room_if.new.transactions in
-    counted_settles c.args.txn c.args.clock c.now-time.result (with_noticed remote c.args.node) (record c.args.kept.now { transactions = c.notice.new.self }) room.ledger
-    (state_noticed c.args.node (state_of room.ledger c.args.txn)) c.stamp.result c.in_ok-complete.complete (search rules) c.now-time.ensures (search rules) c.stamp.ensures
-    c.in_ok-complete.ensures.complete c.in_ok-complete.ensures.ok
-    (ready_room c.args.txn remote c.args.kept.now.transactions.ledger room c.notice.new.self c.is_last_notice-is_ready.result (missing_in (with_noticed remote c.args.node).ballot == 0) c.is_last_notice-is_ready.ensures (search rules) c.notice.ensures.store c.in_ok-make_room_if.ensures.ok)
-
-pub returns-clause-step : goal.returns-clause-step
-returns-clause-step c = λ top me a r apart.
-    let remote = c.in-Some-Remote.remote in
-    let es = c.in_ok-envelopes-in-Some-Remote.envelopes.items in
-    notices_so top me c.args.clock c.now-time.result c.args.txn c.args.node remote c.args.kept.now c.make_room_if.new.transactions c.notice.new.self c.stamp.result c.is_last_notice-is_ready.result
-    c.in_ok-complete.complete c.conclude.new.kept a c.args.outbox.now.sent es c.conclude.new.outbox.sent c.now-time.ensures (search rules) (search rules) c.stamp.ensures c.is_last_notice-is_ready.ensures
-    r apart c.make_room_if.ensures.store c.make_room_if.ensures.ledger c.make_room_if.ensures.early c.in_ok-complete.ensures.ok c.notice.ensures.store c.notice.ensures.early c.in_ok-complete.ensures.complete
-    c.conclude.ensures.concluded (λ undecided there. c.in_ok-envelopes-in-Some-Remote.ensures.ok top me a r undecided there)
-    (c.conclude.ensures.sent top me r.place ∙ ap (λ (xs : List Envelope). xs ++ es) c.reserve.ensures.same)
-
 pub returns-then-not-knows-clause-quiet : goal.returns-then-not-knows-clause-quiet
 returns-then-not-knows-clause-quiet c = λ top me a r e.
     let unknown = nothing_known (state_of c.args.kept.now.transactions.ledger c.args.txn) (search rules) in
     c.note_notice.ensures.early (noticed_before top me c.args.clock c.args.node c.args.kept.now a c.args.txn r e unknown)
-
-pub returns-in_err-envelopes-in-Some-Remote-clause-quiet : goal.returns-in_err-envelopes-in-Some-Remote-clause-quiet
-returns-in_err-envelopes-in-Some-Remote-clause-quiet c = λ top me a r e.
-    let more = not_last_notice top me c.args.clock c.args.node c.args.kept.now a c.args.txn c.in-Some-Remote.remote r e (search rules) (search rules) in
-    contrary false (c.in_err-envelopes-in-Some-Remote.ensures.waits (c.is_last_notice-is_ready.ensures ∙ more)) refl
-
-pub returns-in_err-reserve-clause-quiet : goal.returns-in_err-reserve-clause-quiet
-returns-in_err-reserve-clause-quiet c = λ top me a r e.
-    let more = not_last_notice top me c.args.clock c.args.node c.args.kept.now a c.args.txn c.in-Some-Remote.remote r e (search rules) (search rules) in
-    let envelopes = c.in_ok-envelopes-in-Some-Remote in
-    contrary false (c.in_err-reserve.ensures.succeeds (fits envelopes.envelopes.items c.len.result c.args.outbox.now.room (envelopes.ensures.none (c.is_last_notice-is_ready.ensures ∙ more)) (search rules))) refl
-
-pub returns-in_err-make_room_if-clause-quiet : goal.returns-in_err-make_room_if-clause-quiet
-returns-in_err-make_room_if-clause-quiet c = λ top me a r e.
-    let more = not_last_notice top me c.args.clock c.args.node c.args.kept.now a c.args.txn c.in-Some-Remote.remote r e (search rules) (search rules) in
-    contrary false (c.in_err-make_room_if.ensures.waits (c.is_last_notice-is_ready.ensures ∙ more)) refl
-
-pub returns-in_err-complete-clause-quiet : goal.returns-in_err-complete-clause-quiet
-returns-in_err-complete-clause-quiet c = λ top me a r e.
-    let remote = c.in-Some-Remote.remote in
-    let more = not_last_notice top me c.args.clock c.args.node c.args.kept.now a c.args.txn remote r e (search rules) (search rules) in
-    contrary false (c.in_err-complete.ensures.waits (notice_waits c.args.node c.args.txn c.args.kept.now.transactions.ledger c.make_room_if.new.transactions.ledger remote c.make_room_if.ensures.ledger (search rules) more)) refl
