@@ -120,7 +120,7 @@ fn count(
     let time = clock.now();
     let (stamp, is_ready, envelopes) = match kept.transactions.ledger().open(txn) {
         Some(Open::Remote(remote)) => {
-            let is_ready = remote.is_last(missing);
+            let is_ready = remote.is_last(&missing);
             let envelopes = told_by(kept, time, remote, is_ready)?;
             (remote.ballot.stamp(), is_ready, envelopes)
         }

@@ -45,8 +45,8 @@ pub(crate) fn prepare_kept(
 }
 
 /// Whether this is the last thing that is missing of a ballot that has cohorts.
-fn makes_vote(remote: &Remote, missing: Missing) -> bool
-    ensures { result ≡ is_to_vote (remote_with remote.now missing).ballot }
+fn makes_vote(remote: &Remote, missing: &Missing) -> bool
+    ensures { result ≡ is_to_vote (remote_with remote.now missing.now).ballot }
 {
     remote.is_last(missing) && !remote.ballot.notices().cohorts().is_empty()
 }
@@ -56,13 +56,13 @@ fn mark_counted(
     ledger: &Ledger,
     marks: &mut Marks,
     txn: TxnId,
-    missing: Missing,
+    missing: &Missing,
     time: Time,
 ) -> Result<(), Fault>
     requires { AreMarksOf marks.old ledger.now }
-    ensures ok { OnOk result (AreMarksWith txn (state_ready time (state_with missing (state_of ledger.now txn))) marks.new ledger.now) }
+    ensures ok { OnOk result (AreMarksWith txn (state_ready time (state_with missing.now (state_of ledger.now txn))) marks.new ledger.now) }
     // it takes no memory where nothing is made ready
-    ensures waits { lacks_nothing (state_with missing (state_of ledger.now txn)) ≡ false → IsOk result }
+    ensures waits { lacks_nothing (state_with missing.now (state_of ledger.now txn)) ≡ false → IsOk result }
     ensures err { OnErr result (AreMarksOf marks.new ledger.now) }
     ensures memory { IfErr result (λ e. e ≡ fault.Memory) }
 {
@@ -92,7 +92,7 @@ pub(crate) fn count(
     ensures err { OnErr result (HaveSameStates ledger.old ledger.new) }
     ensures memory { IfErr result (λ e. e ≡ fault.Memory) }
 {
-    mark_counted(ledger, marks, txn, missing, time)?;
+    mark_counted(ledger, marks, txn, &missing, time)?;
     ledger.count(txn, missing);
     Ok(ledger.ready(txn, time))
 }

@@ -138,16 +138,16 @@ impl Remote {
     ghost use Rattle.write_txn.specs.Ledger.{remote_with};
 
     /// Whether this is the last thing that is missing.
-    pub fn is_last(&self, missing: Missing) -> bool
-        ensures { result ≡ (missing_in (remote_with self.now missing).ballot == 0) }
+    pub fn is_last(&self, missing: &Missing) -> bool
+        ensures { result ≡ (missing_in (remote_with self.now missing.now).ballot == 0) }
     {
         let ballot = &self.ballot;
         match missing {
             Missing::Notice(node) => {
-                ballot.notices().is_last(node) && ballot.answers().len() == 0
+                ballot.notices().is_last(*node) && ballot.answers().len() == 0
             }
             Missing::Answer(dependency) => {
-                ballot.answers().is_last(dependency) && ballot.notices().missing().is_empty()
+                ballot.answers().is_last(*dependency) && ballot.notices().missing().is_empty()
             }
         }
     }
