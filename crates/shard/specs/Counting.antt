@@ -1,5 +1,5 @@
 -- Notices and answers for ballots of other data centres' writes.
-use Rattle.std.specs.Prelude.{◌≡◌, ℕ, true, Option, is_some}
+use Rattle.std.specs.Prelude.{◌≡◌, ℕ, ⊤, true, Option, is_some}
 use Rattle.logical_time.specs.Stamps.{TxnValue}
 use Rattle.messages.specs.Topology.{TopologyValue}
 use Rattle.messages.specs.Shard.{ShardState, ShardStep}
