@@ -1,6 +1,6 @@
 -- The steps of a ballot of another data centre's write, as what is kept takes them.
-use Rattle.std.proofs.Common.{◌≡◌, ◌∙◌, sym, ap, subst, refl, ℕ, Bool, true, false, if◌then◌else◌, List, [], ◌∷◌, ◌++◌, Option, Some, None, map, IfSome}
-use Rattle.std.specs.Prelude.{◌==◌}
+use Rattle.std.proofs.Common.{◌≡◌, ◌∙◌, sym, ap, subst, refl, ℕ, Bool, true, false, if◌then◌else◌, List, [], ◌∷◌, ◌++◌, Option, Some, None, map, length, IfSome}
+use Rattle.std.specs.Prelude.{◌==◌, ◌&&◌}
 use Rattle.logical_time.specs.Stamps.{TxnValue}
 use Rattle.column_family.proofs.Options.{by_cases}
 use Rattle.store.specs.declared.part.Applied.{Applied}
@@ -137,10 +137,15 @@ all_alone n r e f = rw e (go r.ballot.notices.cohorts f)
     go [] g = refl
     go (x ∷ xs) g = absurd (cc)
 
+alone_at_once : (b : Bool) (cs : List ℕ) → b ≡ true → is_alone cs ≡ true → (b && (length cs == 0)) ≡ true
+alone_at_once true [] e f = refl
+alone_at_once true (x ∷ xs) e f = absurd (cc)
+alone_at_once false cs e f = absurd (cc)
+
 -- a ballot that is completed may be settled
 pub may_settle : (t : TxnValue) (n : ℕ) (r : Remote) (k : Kept) (room : LedgerValue) (complete : Option CompleteValue) → (kept_ballot_of r).txn ≡ t
     → complete ≡ readied_by n (Some (Holds (in_open.Remote r))) → Becomes t (state_ready n (Some (Holds (in_open.Remote r)))) room k.transactions.ledger
-    → ((missing_in r.ballot == 0) ≡ true → in_store.HasRoom k.transactions.store.rows r.ballot.part.batch)
+    → (((missing_in r.ballot == 0) && (length r.ballot.notices.cohorts == 0)) ≡ true → in_store.HasRoom k.transactions.store.rows r.ballot.part.batch)
     → IfSome complete (λ c. MaySettle t n r.ballot.stamp k c)
 may_settle t n r k room complete is completes becomes has_room = by_cases (missing_in r.ballot == 0) there (λ e. nothing (none_later n r e))
   where
@@ -156,7 +161,7 @@ may_settle t n r k room complete is completes becomes has_room = by_cases (missi
           own = is;
           alone = refl;
           decided = ap decided_in (own_state ∙ state_alone r n e f);
-          room = has_room e;
+          room = has_room (alone_at_once (missing_in r.ballot == 0) r.ballot.notices.cohorts e f);
         }))
         (λ f. nothing (none_with_cohorts n r e f))
 

@@ -21,7 +21,7 @@ ghost use Rattle.shard.specs.Ignored.{IfIgnored};
 ghost use Rattle.shard.specs.ReplBegun.{ballot_begun, IsBegun};
 
 use crate::kept::Kept;
-use crate::replicas::{conclude, told_by};
+use crate::replicas::{conclude, is_decided, told_by};
 use column_family::Batch;
 use logical_time::{Clock, Fault, Stamp, Time, TxnId, Writer, Writers};
 use messages::{Cohorts, Envelope, Outbox};
@@ -126,15 +126,19 @@ fn told_at_once(
     Ok(envelopes)
 }
 
-/// Makes room in the store for a ballot's own part, if it becomes ready.
-fn make_room_if(transactions: &mut Transactions, is_ready: bool, rows: &Batch) -> Result<(), Fault>
-    ensures ok { OnOk result (is_ready ≡ true → HasRoom transactions.new.store.rows rows.now) }
+/// Makes room in the store for a ballot's own part, if it is decided.
+fn make_room_if(
+    transactions: &mut Transactions,
+    is_decided: bool,
+    rows: &Batch,
+) -> Result<(), Fault>
+    ensures ok { OnOk result (is_decided ≡ true → HasRoom transactions.new.store.rows rows.now) }
     ensures store { GoesOnKeeping transactions.old.store transactions.new.store }
     ensures ledger { transactions.new.ledger ≡ transactions.old.ledger }
     ensures early { transactions.new.early ≡ transactions.old.early }
     ensures memory { IfErr result (λ e. e ≡ fault.Memory) }
 {
-    if !is_ready {
+    if !is_decided {
         return Ok(());
     }
     transactions.make_room(rows)
@@ -168,7 +172,8 @@ fn begin(
         Ok(()) => {}
         Err(fault) => return Err((fault, remote)),
     }
-    match make_room_if(&mut kept.transactions, is_ready, remote.ballot.part()) {
+    let decided = is_decided(&remote, is_ready);
+    match make_room_if(&mut kept.transactions, decided, remote.ballot.part()) {
         Ok(()) => {}
         Err(fault) => return Err((fault, remote)),
     }

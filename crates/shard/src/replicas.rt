@@ -1,5 +1,5 @@
 //! The ballot of another data centre's write, once its coordinator keeps it: Notify and DepOk.
-ghost use Rattle.std.specs.Prelude.{◌≡◌, ◌≤◌, ◌++◌, ℕ, [], length, true, false, None, Some, IsOk, IfOk, IfSome, OnOk, OnErr, IfErr};
+ghost use Rattle.std.specs.Prelude.{◌≡◌, ◌≤◌, ◌++◌, ◌==◌, ◌&&◌, ℕ, [], length, true, false, None, Some, IsOk, IfOk, IfSome, OnOk, OnErr, IfErr};
 ghost use Rattle.logical_time.specs.declared.fault.Fault.TheVariants as fault;
 ghost use Rattle.store.specs.Keeps.{AreApart};
 ghost use Rattle.store.specs.Kept.{HasRoom};
@@ -59,16 +59,23 @@ pub(crate) fn told_by(
     tell(kept, time, &deciding)
 }
 
-/// Makes room in the store for the own part of a ballot that waits, if it becomes ready.
-fn make_room_if(transactions: &mut Transactions, is_ready: bool, txn: TxnId) -> Result<(), Fault>
-    ensures ok { OnOk result (is_ready ≡ true → (o : Open) → open_in (state_of transactions.old.ledger txn) ≡ Some o → HasRoom transactions.new.store.rows (part_of o).batch) }
-    ensures waits { is_ready ≡ false → IsOk result }
+/// Whether a ballot is decided, by whether it becomes ready: with cohorts it has to wait for their votes.
+pub(crate) fn is_decided(remote: &Remote, is_ready: bool) -> bool
+    ensures { result ≡ (is_ready && (length remote.now.ballot.notices.cohorts == 0)) }
+{
+    is_ready && remote.ballot.notices().cohorts().is_empty()
+}
+
+/// Makes room in the store for the own part of a ballot that waits, if it is decided.
+fn make_room_if(transactions: &mut Transactions, is_decided: bool, txn: TxnId) -> Result<(), Fault>
+    ensures ok { OnOk result (is_decided ≡ true → (o : Open) → open_in (state_of transactions.old.ledger txn) ≡ Some o → HasRoom transactions.new.store.rows (part_of o).batch) }
+    ensures waits { is_decided ≡ false → IsOk result }
     ensures store { GoesOnKeeping transactions.old.store transactions.new.store }
     ensures ledger { transactions.new.ledger ≡ transactions.old.ledger }
     ensures early { transactions.new.early ≡ transactions.old.early }
     ensures memory { IfErr result (λ e. e ≡ fault.Memory) }
 {
-    if !is_ready {
+    if !is_decided {
         return Ok(());
     }
     transactions.make_room_for(txn)
@@ -118,11 +125,15 @@ fn count(
     ensures memory { IfErr result (λ e. e ≡ fault.Memory) }
 {
     let time = clock.now();
-    let (stamp, is_ready, envelopes) = match kept.transactions.ledger().open(txn) {
+    let (stamp, decided, envelopes) = match kept.transactions.ledger().open(txn) {
         Some(Open::Remote(remote)) => {
             let is_ready = remote.is_last(&missing);
             let envelopes = told_by(kept, time, remote, is_ready)?;
-            (remote.ballot.stamp(), is_ready, envelopes)
+            (
+                remote.ballot.stamp(),
+                is_decided(remote, is_ready),
+                envelopes,
+            )
         }
         _ => {
             kept.clock = clock;
@@ -130,7 +141,7 @@ fn count(
         }
     };
     outbox.reserve(envelopes.len())?;
-    make_room_if(&mut kept.transactions, is_ready, txn)?;
+    make_room_if(&mut kept.transactions, decided, txn)?;
     let complete = kept.transactions.count(txn, missing, time)?;
     conclude(kept, clock, txn, complete, stamp, envelopes, outbox);
     Ok(())

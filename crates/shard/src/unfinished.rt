@@ -34,12 +34,12 @@ fn txns_under_way(alloc: Global, ledger: &Ledger) -> Result<BTreeSet<TxnId>, Fau
 }
 
 /// The shard's own part of what is under way, which shares its bytes.
-fn part_of(open: &Open) -> Result<WritePart, AllocError>
-    ensures { IfOk result (λ part. part ≡ ledger.part_of open.now) }
+fn part_of(held: &Open) -> Result<WritePart, AllocError>
+    ensures { IfOk result (λ part. part ≡ ledger.part_of held.now) }
 {
     Ok(WritePart {
-        writer: open.writer(),
-        batch: open.rows().clone()?,
+        writer: held.writer(),
+        batch: held.rows().clone()?,
     })
 }
 

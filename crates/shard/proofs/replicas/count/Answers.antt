@@ -1,4 +1,4 @@
-use Rattle.std.proofs.Common.{rules, ◌∙◌, ◌++◌, ◌==◌, ap, refl, false, List, Some}
+use Rattle.std.proofs.Common.{rules, ◌∙◌, ◌++◌, ◌==◌, ◌&&◌, ap, refl, Bool, false, List, length, Some}
 use Rattle.txn_state.specs.RemoteBallot.{missing_in}
 use Rattle.messages.specs.declared.envelope.Envelope.{Envelope}
 use Rattle.write_txn.specs.declared.open.Open.TheVariants as in_open
@@ -25,7 +25,8 @@ conclude-requires-clause-settles c =
     (state_with c.args.missing (state_of room.ledger c.args.txn)) c.stamp.result c.in_ok-complete.complete (search rules) c.now-time.ensures
     (ap (state_with c.args.missing) (ap (λ (x : LedgerValue). state_of x c.args.txn) c.make_room_if.ensures.ledger ∙ known_open (state_of ledger c.args.txn) (in_open.Remote remote) (search rules))) c.stamp.ensures
     c.in_ok-complete.ensures.complete c.in_ok-complete.ensures.ok
-    (ready_room c.args.txn remote ledger room c.count.new.self c.is_last-is_ready.result (missing_in (remote_with remote c.args.missing).ballot == 0) c.is_last-is_ready.ensures (search rules) c.count.ensures.store c.in_ok-make_room_if.ensures.ok)
+    (ready_room c.args.txn remote ledger room c.count.new.self c.is_decided.result ((missing_in (remote_with remote c.args.missing).ballot == 0) && (length remote.ballot.notices.cohorts == 0))
+    (c.is_decided.ensures ∙ ap (λ (b : Bool). b && (length remote.ballot.notices.cohorts == 0)) c.is_last-is_ready.ensures) (search rules) c.count.ensures.store c.in_ok-make_room_if.ensures.ok)
 
 pub returns-clause-step : goal.returns-clause-step
 returns-clause-step c = λ top me a r apart.
@@ -51,7 +52,7 @@ returns-in_err-reserve-clause-quiet c = λ top me a r e.
 pub returns-in_err-make_room_if-clause-quiet : goal.returns-in_err-make_room_if-clause-quiet
 returns-in_err-make_room_if-clause-quiet c = λ top me a r e.
     let more = not_last_missing c.args.missing top me c.args.clock c.args.kept.now a c.args.txn c.in-Some-Remote.remote r e (search rules) (search rules) in
-    contrary false (c.in_err-make_room_if.ensures.waits (c.is_last-is_ready.ensures ∙ more)) refl
+    contrary false (c.in_err-make_room_if.ensures.waits (c.is_decided.ensures ∙ ap (λ (b : Bool). b && (length c.in-Some-Remote.remote.ballot.notices.cohorts == 0)) (c.is_last-is_ready.ensures ∙ more))) refl
 
 pub returns-in_err-complete-clause-quiet : goal.returns-in_err-complete-clause-quiet
 returns-in_err-complete-clause-quiet c = λ top me a r e.
