@@ -8,7 +8,7 @@ ghost use Rattle.messages.specs.Place.{IsPlace};
 ghost use Rattle.messages.specs.Posting.{commit_to};
 ghost use Rattle.messages.specs.Shard.{ShardState};
 ghost use Rattle.messages.specs.Known.{decision_of};
-ghost use Rattle.messages.specs.Commits.{decide, stamp_for};
+ghost use Rattle.messages.specs.Commits.{decide};
 ghost use Rattle.write_txn.specs.Ledger.{state_of, decided_in};
 ghost use Rattle.shard.specs.Kept.{Represents};
 ghost use Rattle.shard.specs.Coming.{applied_of};
@@ -18,10 +18,11 @@ use crate::coming::{Coming, answers_with};
 use crate::kept::Kept;
 use column_family::Batch;
 use commit_check::Cause;
-use logical_time::{Clock, Fault, Node, Stamp, Time, TxnId, Writer, Writers};
+use logical_time::{Clock, Fault, Stamp, Time, TxnId, Writer, Writers};
 use messages::{Cohorts, Envelope, Outbox};
 use replicator::announcements;
 use txn_state::Complete;
+use write_txn::stamp_of;
 
 /// A transaction that is going to be decided, with what its decision tells.
 #[derive(Drop)]
@@ -38,21 +39,11 @@ pub(crate) struct Deciding<'b> {
     pub(crate) stamp: Option<Stamp>,
 }
 
-/// The stamp of a transaction that the shard with this node decides at this time.
-pub(crate) fn stamp_at(stamp: &Option<Stamp>, node: Node, time: Time) -> Stamp
-    ensures { result ≡ stamp_for node time stamp.now }
-{
-    match stamp {
-        Some(stamp) => *stamp,
-        None => Stamp { time, node },
-    }
-}
-
 /// The coordinator's own part, as it is going to be applied.
 fn own_part<'b>(kept: &Kept, time: Time, deciding: &Deciding<'b>) -> Coming<'b>
     ensures { (top : TopologyValue) (me : ℕ) → IsPlace top me kept.now.place → applied_of result ≡ own_applied top me time (ballot_in deciding.now) }
 {
-    let stamp = stamp_at(&deciding.stamp, kept.place.node(), time);
+    let stamp = stamp_of(kept.place.node(), time, &deciding.stamp);
     let writer = Writer {
         txn: deciding.txn,
         shard: kept.place.shard(),

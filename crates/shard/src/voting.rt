@@ -14,12 +14,12 @@ ghost use Rattle.shard.specs.Kept.{Represents, Does, GoesOn};
 ghost use Rattle.shard.specs.Ignored.{IfIgnored};
 ghost use Rattle.shard.specs.Deciding.{node_at, told};
 
-use crate::deciding::{Deciding, settle, stamp_at, tell};
+use crate::deciding::{Deciding, settle, tell};
 use crate::early::note_vote;
 use crate::kept::Kept;
 use logical_time::{Clock, Fault, Node, Stamp, TxnId};
 use messages::{Envelope, Outbox};
-use write_txn::{Led as Held, Open};
+use write_txn::{Led as Held, Open, stamp_of};
 
 /// What a decision is going to send, with the transaction's stamp.
 struct Told {
@@ -61,7 +61,7 @@ fn told_with(kept: &Kept, clock: Clock, txn: TxnId, led: &Held) -> Result<Told, 
     };
     let envelopes = tell(kept, clock.now(), &deciding)?;
     Ok(Told {
-        stamp: stamp_at(&led.stamp, kept.place.node(), clock.now()),
+        stamp: stamp_of(kept.place.node(), clock.now(), &led.stamp),
         commits: led.ballot.votes().cohorts().len(),
         envelopes,
     })

@@ -16,6 +16,7 @@ mod voters;
 
 pub use law::{parts_move_on, transactions_stand, votes_are_counted};
 pub use ledger::Ledger;
+pub use next::stamp_of;
 pub use open::{Kept, Led, Missing, Open, Origin, Part, Remote};
 pub use transactions::Transactions;
 pub use voters::Voters;

@@ -26,9 +26,9 @@ pub(crate) enum Next {
     },
 }
 
-/// The stamp of a transaction that is decided here at this time: where the write was submitted here it is that time and
-/// this shard, else it came with the write.
-fn stamp_of(me: Node, commit: Time, stamp: &Option<Stamp>) -> Stamp
+/// The stamp of a transaction that the shard with the node `me` decides at this time: where the write was submitted here it
+/// is that time and this node, else it came with the write.
+pub fn stamp_of(me: Node, commit: Time, stamp: &Option<Stamp>) -> Stamp
     ensures { result ≡ stamp_for me commit stamp.now }
 {
     match stamp {
