@@ -4,7 +4,7 @@ ghost use Rattle.logical_time.specs.declared.fault.Fault.TheVariants as fault;
 ghost use Rattle.column_family.specs.Location.{Location};
 ghost use Rattle.column_family.specs.Normal.{IsNormal};
 ghost use Rattle.store.specs.declared.part.Applied.{Applied};
-ghost use Rattle.store.specs.Kept.{HasRoom, HaveSameVersions, HavePut};
+ghost use Rattle.store.specs.Kept.{HasRoom, HaveKept, HaveSameVersions, HavePut};
 ghost use Rattle.store.specs.Keeps.{Keeps, IsNewStamp, IsOvertaken};
 ghost use Rattle.column_family.specs.History.{newest_at};
 ghost use Rattle.store.specs.declared.sight.Moment.TheVariants.{At};
@@ -14,7 +14,7 @@ use crate::origin::Origin;
 use crate::part::Part;
 use crate::reading::{part_in, part_with};
 use crate::row::{RowChains, row_written};
-use crate::rows::{put_changes, reserve_changes};
+use crate::rows::{collect_rows, put_changes, reserve_changes};
 use crate::sight::Moment;
 use column_family::{Batch, Row};
 use logical_time::{Fault, Stamp, Time, Writer};
@@ -186,15 +186,16 @@ impl Store {
         self.low
     }
 
-    /// Raises the horizon to this time if it lies below it. What a read at the new horizon or later answers stays.
-    #[tactic(auto, using(crate::proofs::Lasting::keeps_raised))]
+    /// Raises the horizon to this time if it lies below it, and drops from each chain the versions that are its newest
+    /// at no time from the horizon on. What a read at the horizon or later answers stays. Linear in the store, and takes
+    /// no memory.
     pub fn collect(&mut self, time: Time)
         ensures low { self.new.low ≡ max self.old.low time }
+        ensures kept { HaveKept self.new.low self.old.rows self.new.rows }
         ensures keeps { (all : List Applied) → Keeps self.old all → Keeps self.new all }
     {
-        if self.low < time {
-            self.low = time;
-        }
+        self.low = self.low.max(time);
+        collect_rows(&mut self.rows, self.low);
     }
 
     /// Ends the store.
