@@ -75,8 +75,8 @@ impl Store {
     /// Applies a part with this commit time and this stamp: it puts the version that each change leaves into the
     /// chain of its place, in any order of stamps. So the store keeps this part too, if it is in normal form and
     /// its stamp is new. Refused with `Memory` alone, and never after `make_room` for its batch; then what is held
-    /// stays, and the part is handed back. Logarithmic for each change in the rows and in the columns of its row,
-    /// and linear in the chain.
+    /// stays, and the part is handed back. Logarithmic for each change in the rows and in the columns of its row;
+    /// in the chain it costs what a put does.
     #[tactic(auto, using(crate::proofs::KeepsApplied::keeps_applied, crate::proofs::Lasting::keeps_same, crate::proofs::Overtaken::overtaken))]
     pub fn apply(
         &mut self,
@@ -132,7 +132,7 @@ impl Store {
     /// The slice of the row at a time, with what it rests on there, and 0 for its earliest valid time: right by
     /// everything that was ever applied, and by whatever is applied later with a greater commit time. Refused with
     /// `Collected` exactly where the time lies below the horizon, else with `Memory` alone. Costs what `read_now`
-    /// does, and the length of each chain.
+    /// does, and the logarithm of each chain.
     #[tactic(auto, using(crate::proofs::PartAt::part_at, crate::proofs::Later::right_lasts))]
     pub fn read_at(&self, row: &Row, predicate: &Predicate, time: Time) -> Result<Part, Fault>
         ensures right { (all : List Applied) → Keeps self.now all → IfOk result (IsRightPart all row.now predicate.now time) }

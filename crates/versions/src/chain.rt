@@ -113,7 +113,8 @@ impl Chain {
         interval_at(self.entries.as_slice(), place)
     }
 
-    /// Takes out the version at this place, if there is one; all others stay.
+    /// Takes out the version at this place, if there is one; all others stay. Takes as many steps as there are newer
+    /// versions, and as older ones end later without it.
     #[tactic(auto, using(crate::proofs::Falling::falling_remove, crate::proofs::Held::removed_is_gone))]
     pub fn remove(&mut self, place: usize) -> Option<Version>
         ensures removed { result ≡ slice_get self.old.versions place }
