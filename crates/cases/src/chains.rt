@@ -3,6 +3,7 @@ use crate::building::{number, stamp, time, txn};
 use crate::steps::Subject;
 use logical_time::{Fault, Shard, Writer};
 use std::alloc::Global;
+use version_gc::collect;
 use versions::{Chain, Version, What};
 
 fn version(first: &str, evt: &str) -> Version {
@@ -44,6 +45,12 @@ fn add_interval(seen: &mut String, chain: &Chain, place: usize) -> Result<(), Fa
     Ok(())
 }
 
+fn add_len(seen: &mut String, chain: &Chain) -> Result<(), Fault> {
+    let len = chain.len();
+    write!(seen, "{len}")?;
+    Ok(())
+}
+
 impl Subject for Chain {
     fn step(&mut self, _alloc: Global, words: &[&str], seen: &mut String) -> Result<(), Fault> {
         match words {
@@ -51,6 +58,11 @@ impl Subject for Chain {
             ["newest"] => add_stamp(seen, self.newest()),
             ["at", at] => add_stamp(seen, self.at(time(at))),
             ["interval", place] => add_interval(seen, self, number(place) as usize),
+            ["collect", at] => {
+                collect(self, time(at));
+                Ok(())
+            }
+            ["len"] => add_len(seen, self),
             ["remove", place] => add_stamp(seen, self.remove(number(place) as usize).as_ref()),
             _ => Err(Fault::Script),
         }

@@ -29,6 +29,7 @@ fn tell_steps(rt: &HostRuntime) -> Result<(), Fault> {
     steps::tell(rt, "normal_forms.steps", &mut normal_forms::Normal)?;
     steps::tell(rt, "reads_of_a_table.steps", &mut History::new(alloc))?;
     steps::tell(rt, "worked_chain.steps", &mut Chain::new(alloc))?;
+    steps::tell(rt, "worked_collection.steps", &mut Chain::new(alloc))?;
     steps::tell(rt, "worked_marks.steps", &mut Marks::new(alloc))?;
     stores::tell(rt)?;
     sessions::tell(rt)?;

@@ -14,6 +14,7 @@ pub mod FromEvt
 pub mod Overtaken
 pub mod KeepsApplied
 pub mod Lasting
+pub mod Collected
 pub mod Later
 pub mod Bounds
 pub mod Sights

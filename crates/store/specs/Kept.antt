@@ -1,5 +1,5 @@
 -- What a store keeps: rows of chains, and the time below which it answers no more.
-use Rattle.std.specs.Prelude.{◌≡◌, ℕ, ◌<◌, Bool, true, false, ◌&&◌, List, [], ◌∷◌, map, filter, Option, Some, None, unwrap_or}
+use Rattle.std.specs.Prelude.{◌≡◌, ℕ, ◌+◌, ◌-◌, ◌<◌, length, Bool, true, false, ◌&&◌, List, [], ◌∷◌, map, filter, Option, Some, None, unwrap_or}
 use Rattle.std.specs.List.{list_any}
 use Rattle.std.specs.Ordering.{nat_cmp, is_eq}
 use Rattle.std.specs.declared.cmp.Ordering.{Ordering}
@@ -13,7 +13,7 @@ use Rattle.column_family.specs.Location.{is_same_row, changes_name, deletes_row}
 use Rattle.column_family.specs.History.{inserted}
 use Rattle.column_family.specs.Places.{row_cmp}
 use Rattle.versions.specs.declared.version.Version.{Version}
-use Rattle.versions.specs.Chain.{Held, put_of}
+use Rattle.versions.specs.Chain.{Held, put_of, kept_from}
 use Rattle.store.specs.declared.origin.Origin.{Origin}
 
 -- a place in a row: the column of a name, or none for the row's deletions
@@ -97,3 +97,21 @@ HaveSameVersions olds news = (r : Row) (p : Place) → (chain_at news r p).versi
 abbrev pub HavePut : Origin → List Change → List (Row × Chains) → List (Row × Chains) → Type 0
 HavePut o changes olds news =
     (r : Row) (p : Place) → (chain_at news r p).versions ≡ put_all (chain_at olds r p).versions (written o r p changes)
+
+-- a chain after a collection, with the room that it leaves
+abbrev pub collected_held : ℕ → Held → Held
+collected_held t h = record {
+  versions = kept_from t h.versions;
+  room = h.room + length h.versions - length (kept_from t h.versions);
+}
+
+-- a row after a collection of each of its chains
+abbrev pub collected_row : ℕ → Chains → Chains
+collected_row t r = record {
+  columns = map (λ e. (e.0, collected_held t e.1)) r.columns;
+  deletions = collected_held t r.deletions;
+}
+
+-- at each place what can be seen from the time on is kept
+abbrev pub HaveKept : ℕ → List (Row × Chains) → List (Row × Chains) → Type 0
+HaveKept t olds news = (r : Row) (p : Place) → (chain_at news r p).versions ≡ kept_from t (chain_at olds r p).versions

@@ -1,5 +1,5 @@
 //! The chains of a row.
-ghost use Rattle.std.specs.Prelude.{◌≡◌, ◌+◌, ◌≤◌, ◌<◌, ◌⊎◌, [], ℕ, List, Some, None, true, if◌then◌else◌, OnOk, IfOk, IfErr, IsOk};
+ghost use Rattle.std.specs.Prelude.{◌≡◌, ◌+◌, ◌≤◌, ◌<◌, ◌⊎◌, [], ℕ, List, Some, None, true, if◌then◌else◌, OnOk, IfOk, IfErr, IsOk, map};
 ghost use Rattle.std.specs.Map.{lookup};
 ghost use Rattle.std.specs.Ordering.{is_eq};
 ghost use Rattle.std.specs.Str.{bytes_eq};
@@ -7,14 +7,15 @@ ghost use Rattle.logical_time.specs.declared.fault.Fault.TheVariants as fault;
 ghost use Rattle.versions.specs.Chain.{put_of};
 ghost use Rattle.versions.specs.Newest.{has_stamp};
 ghost use Rattle.store.specs.Kept as kept;
-ghost use Rattle.store.specs.Kept.{Place, chain_of, column_held, is_of_place, name_cmp, put_all, written};
+ghost use Rattle.store.specs.Kept.{Place, chain_of, collected_held, collected_row, column_held, is_of_place, name_cmp, put_all, written};
 
 use crate::origin::Origin;
 use column_family::{Change, Mutation, Name, Row, Value};
-use logical_time::Fault;
+use logical_time::{Fault, Time};
 use std::alloc::Global;
 use std::collections::BTreeMap;
 use std::marker::Model;
+use version_gc::collect;
 use versions::{Chain, Version, What};
 
 /// The chains of a row: one for each of its columns, and one for its deletions.
@@ -92,6 +93,16 @@ fn reserve_column(
     }
 }
 
+// Drops what can't be seen from the time on of each column.
+fn collect_columns(columns: &mut BTreeMap<Name, Chain>, time: Time)
+    ensures { columns.new.entries ≡ map (λ e. (e.0, collected_held time e.1)) columns.old.entries }
+{
+    columns.retain(|_, chain| {
+        collect(chain, time);
+        true
+    });
+}
+
 impl RowChains {
     /// A row without a version.
     pub(crate) fn new(alloc: Global) -> RowChains
@@ -124,6 +135,14 @@ impl RowChains {
             Mutation::DeleteRow => self.deletions.put(version(origin, None)).unwrap(),
             Mutation::DeleteRange { .. } => {}
         }
+    }
+
+    /// Drops the versions that are the newest of their chain at no time from this one on. Linear in the versions.
+    pub(crate) fn collect(&mut self, time: Time)
+        ensures { self.new ≡ collected_row time self.old }
+    {
+        collect_columns(&mut self.columns, time);
+        collect(&mut self.deletions, time);
     }
 
     /// Makes room for what a mutation leaves.

@@ -8,12 +8,12 @@ ghost use Rattle.column_family.specs.Places.{row_cmp};
 ghost use Rattle.versions.specs.Chain.{put_of};
 ghost use Rattle.versions.specs.Newest.{has_stamp};
 ghost use Rattle.store.specs.Kept as kept;
-ghost use Rattle.store.specs.Kept.{Place, chain_at, is_at, HasRoom, HaveSameVersions, HavePut};
+ghost use Rattle.store.specs.Kept.{Place, chain_at, is_at, HasRoom, HaveKept, HaveSameVersions, HavePut};
 
 use crate::origin::Origin;
 use crate::row::RowChains;
 use column_family::{Change, Mutation, Row};
-use logical_time::Fault;
+use logical_time::{Fault, Time};
 use std::alloc::Global;
 use std::collections::BTreeMap;
 
@@ -106,4 +106,14 @@ pub(crate) fn put_changes(
     for change in changes {
         put_change(rows, change, origin);
     }
+}
+
+/// Drops the versions that are the newest of their chain at no time from this one on. Linear in the versions.
+pub(crate) fn collect_rows(rows: &mut BTreeMap<Row, RowChains>, time: Time)
+    ensures { HaveKept time rows.old.entries rows.new.entries }
+{
+    rows.retain(|_, row| {
+        row.collect(time);
+        true
+    });
 }

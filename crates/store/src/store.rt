@@ -4,7 +4,7 @@ ghost use Rattle.logical_time.specs.declared.fault.Fault.TheVariants as fault;
 ghost use Rattle.column_family.specs.Location.{Location};
 ghost use Rattle.column_family.specs.Normal.{IsNormal};
 ghost use Rattle.store.specs.declared.part.Applied.{Applied};
-ghost use Rattle.store.specs.Kept.{HasRoom, HaveSameVersions, HavePut};
+ghost use Rattle.store.specs.Kept.{HasRoom, HaveKept, HaveSameVersions, HavePut};
 ghost use Rattle.store.specs.Keeps.{Keeps, IsNewStamp, IsOvertaken};
 ghost use Rattle.column_family.specs.History.{newest_at};
 ghost use Rattle.store.specs.declared.sight.Moment.TheVariants.{At};
@@ -14,7 +14,7 @@ use crate::origin::Origin;
 use crate::part::Part;
 use crate::reading::{part_in, part_with};
 use crate::row::{RowChains, row_written};
-use crate::rows::{put_changes, reserve_changes};
+use crate::rows::{collect_rows, put_changes, reserve_changes};
 use crate::sight::Moment;
 use column_family::{Batch, Row};
 use logical_time::{Fault, Stamp, Time, Writer};
@@ -75,8 +75,8 @@ impl Store {
     /// Applies a part with this commit time and this stamp: it puts the version that each change leaves into the
     /// chain of its place, in any order of stamps. So the store keeps this part too, if it is in normal form and
     /// its stamp is new. Refused with `Memory` alone, and never after `make_room` for its batch; then what is held
-    /// stays, and the part is handed back. Logarithmic for each change in the rows and in the columns of its row,
-    /// and linear in the chain.
+    /// stays, and the part is handed back. Logarithmic for each change in the rows and in the columns of its row;
+    /// in the chain it costs what a put does.
     #[tactic(auto, using(crate::proofs::KeepsApplied::keeps_applied, crate::proofs::Lasting::keeps_same, crate::proofs::Overtaken::overtaken))]
     pub fn apply(
         &mut self,
@@ -132,7 +132,7 @@ impl Store {
     /// The slice of the row at a time, with what it rests on there, and 0 for its earliest valid time: right by
     /// everything that was ever applied, and by whatever is applied later with a greater commit time. Refused with
     /// `Collected` exactly where the time lies below the horizon, else with `Memory` alone. Costs what `read_now`
-    /// does, and the length of each chain.
+    /// does, and the logarithm of each chain.
     #[tactic(auto, using(crate::proofs::PartAt::part_at, crate::proofs::Later::right_lasts))]
     pub fn read_at(&self, row: &Row, predicate: &Predicate, time: Time) -> Result<Part, Fault>
         ensures right { (all : List Applied) → Keeps self.now all → IfOk result (IsRightPart all row.now predicate.now time) }
@@ -186,15 +186,16 @@ impl Store {
         self.low
     }
 
-    /// Raises the horizon to this time if it lies below it. What a read at the new horizon or later answers stays.
-    #[tactic(auto, using(crate::proofs::Lasting::keeps_raised))]
+    /// Raises the horizon to this time if it lies below it, and drops from each chain the versions that are its newest
+    /// at no time from the horizon on. What a read at the horizon or later answers stays. Linear in the store, and takes
+    /// no memory.
     pub fn collect(&mut self, time: Time)
         ensures low { self.new.low ≡ max self.old.low time }
+        ensures kept { HaveKept self.new.low self.old.rows self.new.rows }
         ensures keeps { (all : List Applied) → Keeps self.old all → Keeps self.new all }
     {
-        if self.low < time {
-            self.low = time;
-        }
+        self.low = self.low.max(time);
+        collect_rows(&mut self.rows, self.low);
     }
 
     /// Ends the store.

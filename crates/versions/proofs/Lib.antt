@@ -5,4 +5,8 @@ pub mod Held
 pub mod Seen
 pub mod Newest
 pub mod Intervals
-pub mod Steps
+pub mod Reversed
+pub mod Ended
+pub mod Indexed
+pub mod Kept
+pub mod Found

@@ -1,5 +1,5 @@
 -- Chains of versions, and which of them is the newest at a time.
-use Rattle.std.specs.Prelude.{◌≡◌, ℕ, zero, suc, ◌-◌, ◌≤◌, Bool, true, if◌then◌else◌, nat_le, nat_lt, List, [], ◌∷◌, Option, Some, None, length, insert, find, ⊤}
+use Rattle.std.specs.Prelude.{◌≡◌, ℕ, zero, suc, ◌-◌, Bool, true, ◌&&◌, if◌then◌else◌, nat_le, nat_lt, List, [], ◌∷◌, Option, Some, None, find, ⊤}
 use Rattle.std.specs.Ordering.{is_eq}
 use Rattle.logical_time.specs.Stamps.{StampValue, stamp_cmp, is_older}
 use Rattle.versions.specs.declared.version.Version.{Version}
@@ -26,11 +26,6 @@ put_of (x ∷ xs) v =
     if is_older v.stamp x.stamp then x ∷ put_of xs v
     else (if is_eq (stamp_cmp v.stamp x.stamp) then x ∷ xs else v ∷ x ∷ xs)
 
--- the version goes to this place, or nowhere
-abbrev pub IsPlaceOf : Version → List Version → Option ℕ → Type 0
-IsPlaceOf v xs None = put_of xs v ≡ xs
-IsPlaceOf v xs (Some i) = (i ≤ length xs) × (put_of xs v ≡ insert xs i v)
-
 -- the version of the greatest stamp among those that are seen by a time
 abbrev pub at_of : List Version → ℕ → Option Version
 at_of xs t = find (λ v. nat_le v.evt t) xs
@@ -48,3 +43,17 @@ abbrev pub interval_of : ℕ → List Version → ℕ → Option (ℕ × ℕ)
 interval_of bound [] i = None
 interval_of bound (x ∷ xs) zero = interval_if (nat_lt x.evt bound) x.evt bound
 interval_of bound (x ∷ xs) (suc i) = interval_of (least bound x.evt) xs i
+
+-- the version is the newest at a time from `t` on, where a newer one is seen from `bound` on
+abbrev pub is_kept : ℕ → ℕ → ℕ → Bool
+is_kept t bound evt = nat_lt evt bound && nat_lt t bound
+
+-- what stays of the versions below one that is seen from `bound` on
+abbrev pub kept_below : ℕ → ℕ → List Version → List Version
+kept_below t bound [] = []
+kept_below t bound (x ∷ xs) = if is_kept t bound x.evt then x ∷ kept_below t x.evt xs else kept_below t bound xs
+
+-- the versions without those that are the newest at no time from `t` on
+abbrev pub kept_from : ℕ → List Version → List Version
+kept_from t [] = []
+kept_from t (x ∷ xs) = x ∷ kept_below t x.evt xs

@@ -2,10 +2,12 @@
 ghost use Rattle.std.specs.Prelude.{◌≡◌, ◌+◌, ◌-◌, ◌≤◌, ◌<◌, [], length, slice_get, IfOk, OnOk, OnErr, IfErr, IsOk, is_ok, is_some, if◌then◌else◌, remove, MatchOption, Contains, IfSome, ℕ, ◌↔◌, ◌⊎◌, Some, true, false};
 ghost use Rattle.std.specs.Option.{option_copied};
 
-use crate::places::{put_in, take_out};
-use crate::times::{interval_at, newest_at};
+use crate::entry::Entry;
+use crate::places::{keep_from, put_in, take_out};
+use crate::times::{interval_at, newest_at, newest_of};
 use crate::version::Version;
 use logical_time::{Fault, Time};
+use smallvec::SmallVec;
 use std::alloc::Global;
 use std::marker::Model;
 
@@ -13,23 +15,26 @@ use std::marker::Model;
 /// counted from the greatest stamp, which stands at place 0.
 #[derive(Drop)]
 pub struct Chain {
-    versions: Vec<Version>,
+    // by rising stamp, so that the newest comes and goes at the end
+    entries: SmallVec<Entry, 4>,
 }
 
 impl Model for Chain {
-    ghost use Rattle.std.specs.Prelude.{◌-◌, vec_len, vec_capacity};
+    ghost use Rattle.std.specs.Prelude.{◌-◌, ◌^◌, reverse};
+    ghost use Rattle.smallvec.specs.SmallVec.{small_vec_len};
     ghost use Rattle.versions.specs.Chain.{Held, IsFalling};
+    ghost use Rattle.versions.specs.Ends.{AreEnded, versions_of};
 
     ghost Value = { Held };
 
-    ghost view = { λ c. record { versions = c.versions.items; room = vec_capacity c.versions - vec_len c.versions } };
+    ghost view = { λ c. record { versions = versions_of c.entries.items; room = c.entries.capacity - small_vec_len c.entries } };
 
-    ghost invariant = { λ c. IsFalling c.versions.items };
+    ghost invariant = { λ c. IsFalling (versions_of c.entries.items) × AreEnded (2 ^ 48) (reverse c.entries.items) };
 }
 
 impl Chain {
     ghost use Rattle.std.specs.Prelude.{◌^◌};
-    ghost use Rattle.versions.specs.Chain.{put_of, at_of, interval_of};
+    ghost use Rattle.versions.specs.Chain.{put_of, at_of, interval_of, kept_from};
     ghost use Rattle.versions.specs.Newest.{IsNewest, IsNewestAt, IsWithin, IsPlaceNewestAt, at_with, has_stamp};
 
     /// A chain without a version.
@@ -37,7 +42,7 @@ impl Chain {
         ensures { result.versions ≡ [] }
     {
         Chain {
-            versions: Vec::new(alloc),
+            entries: SmallVec::new(alloc),
         }
     }
 
@@ -45,7 +50,7 @@ impl Chain {
     pub fn len(&self) -> usize
         ensures { result ≡ length self.now.versions }
     {
-        self.versions.len()
+        self.entries.len()
     }
 
     /// Makes room for so many more versions, so that the next `additional` puts succeed if no other changing
@@ -57,12 +62,13 @@ impl Chain {
         ensures succeeds { 0 < additional → additional ≤ self.old.room → IsOk result }
         ensures memory { IfErr result (λ e. e ≡ Fault.Memory) }
     {
-        self.versions.reserve(additional)?;
+        self.entries.reserve(additional)?;
         Ok(())
     }
 
     /// Puts a version in its place, in any order of stamps; a stamp that is held already changes nothing. Takes
-    /// as many steps as versions are held. Refused with `Memory` alone, never where there is room
+    /// as many steps as there are held versions of greater stamps, and as older ones end earlier for it: of versions
+    /// whose EVTs rise with their stamps, the newest ends one. Refused with `Memory` alone, never where there is room
     /// or the stamp is held, and then the version comes back and the chain stays.
     #[tactic(auto, using(crate::proofs::Falling::falling_put, crate::proofs::Held::put_if_held))]
     pub fn put(&mut self, version: Version) -> Result<(), (Fault, Version)>
@@ -74,7 +80,7 @@ impl Chain {
         ensures err { OnErr result (self.new.versions ≡ self.old.versions) }
         ensures back { IfErr result (λ e. e ≡ (Fault.Memory, version)) }
     {
-        put_in(&mut self.versions, version)
+        put_in(&mut self.entries, version)
     }
 
     /// The newest version: that of the greatest stamp.
@@ -83,17 +89,17 @@ impl Chain {
         ensures first { option_copied result ≡ slice_get self.now.versions 0 }
         ensures greatest { MatchOption (option_copied result) (self.now.versions ≡ []) (IsNewest self.now.versions) }
     {
-        self.versions.first()
+        newest_of(self.entries.as_slice())
     }
 
-    /// The newest version at the time: that of the greatest stamp among those that are seen by then. Takes at
-    /// most as many steps as versions are held.
+    /// The newest version at the time: that of the greatest stamp among those that are seen by then. Logarithmic
+    /// in the versions that are held.
     #[tactic(auto, using(crate::proofs::Newest::newest_at_is_greatest))]
     pub fn at(&self, time: Time) -> Option<&Version>
         ensures exact { option_copied result ≡ at_of self.now.versions time }
         ensures greatest { MatchOption (option_copied result) ((w : Version) → Contains self.now.versions w → time < w.evt) (IsNewestAt self.now.versions time) }
     {
-        newest_at(self.versions.as_slice(), time)
+        newest_at(self.entries.as_slice(), time)
     }
 
     /// The first and the last time at which the version at this place is the newest of those held; none where
@@ -104,10 +110,11 @@ impl Chain {
         ensures times { (t : ℕ) → IsWithin result t ↔ ((t < 2 ^ 48) × IsPlaceNewestAt self.now.versions place t) }
         ensures ordered { IfSome result (λ times. times.0 ≤ times.1) }
     {
-        interval_at(self.versions.as_slice(), place)
+        interval_at(self.entries.as_slice(), place)
     }
 
-    /// Takes out the version at this place, if there is one; all others stay.
+    /// Takes out the version at this place, if there is one; all others stay. Takes as many steps as there are newer
+    /// versions, and as older ones end later without it.
     #[tactic(auto, using(crate::proofs::Falling::falling_remove, crate::proofs::Held::removed_is_gone))]
     pub fn remove(&mut self, place: usize) -> Option<Version>
         ensures removed { result ≡ slice_get self.old.versions place }
@@ -116,6 +123,15 @@ impl Chain {
         ensures gone { IfSome result (λ v. Contains self.new.versions v → ⊥) }
         ensures room { self.new.room ≡ self.old.room + (if is_some result then 1 else 0) }
     {
-        take_out(&mut self.versions, place)
+        take_out(&mut self.entries, place)
+    }
+    /// Drops the versions that are the newest of those held at no time from this one on; the newest stays, and so
+    /// does every answer of `at` from that time on. Linear, and takes no memory.
+    #[tactic(auto, using(crate::proofs::Kept::falling_kept))]
+    pub fn keep_from(&mut self, time: Time)
+        ensures kept { self.new.versions ≡ kept_from time self.old.versions }
+        ensures room { self.new.room + length self.new.versions ≡ self.old.room + length self.old.versions }
+    {
+        keep_from(&mut self.entries, time);
     }
 }

@@ -5,6 +5,7 @@
 #![tactic(auto)]
 
 mod chain;
+mod entry;
 mod places;
 mod times;
 mod version;

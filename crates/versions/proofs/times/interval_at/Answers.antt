@@ -1,18 +1,24 @@
-use Rattle.std.proofs.Common.{rules, ◌∙◌, ◌<◌, arith}
-use Rattle.std.proofs.lemmas.List.{drop_all}
-use Rattle.versions.proofs.Steps.{interval_next}
+use Rattle.std.proofs.Common.{rules, ◌≡◌, ◌∙◌, sym, ◌+◌, ◌-◌, ◌^◌, length, arith}
+use Rattle.versions.specs.Ends.{versions_of}
+use Rattle.versions.proofs.Found.{interval_at_index, interval_past, versions_long}
 use Rattle.versions.proofs.times.interval_at.Goals as goal
 
-pub loop-i-preserved : goal.loop-i-preserved
-loop-i-preserved c =
-    let i = c.loop-i.invariant in
-    let lt : c.loop-i.i < c.args.place = omega arith in
-    let n = interval_next c.loop-i.i c.loop-i.bound c.args.place c.args.versions.now c.index-versions-i.result (search rules) (search rules) lt in
-    record {
-      before = omega arith;
-      below = omega (arith, c.least-bound.ensures.below, i.below);
-      rest = rw c.least-bound.ensures.least (i.rest ∙ n);
-    }
+pub between-requires : goal.between-requires
+between-requires c =
+    let es = c.args.entries.now in
+    let i = length es - 1 - c.args.place in
+    let sum : i + c.args.place + 1 ≡ length es = omega (arith, c.if-place-count.true) in
+    (interval_at_index es i c.args.place c.index-entries-count.result sum (search rules) c.requires).1
 
-pub returns : goal.returns
-returns c = grind (arith, drop_all, c.loop-i.invariant.rest)
+pub returns-then-place-count : goal.returns-then-place-count
+returns-then-place-count c =
+    let es = c.args.entries.now in
+    let i = length es - 1 - c.args.place in
+    let sum : i + c.args.place + 1 ≡ length es = omega (arith, c.if-place-count.true) in
+    c.between.ensures ∙ sym (interval_at_index es i c.args.place c.index-entries-count.result sum (search rules) c.requires).0
+
+pub returns-else-place-count : goal.returns-else-place-count
+returns-else-place-count c =
+    let es = c.args.entries.now in
+    let long = versions_long es in
+    sym (interval_past (2 ^ 48) (versions_of es) c.args.place (omega (arith, long, c.if-place-count.false)))

@@ -1,15 +1,13 @@
-use Rattle.std.proofs.Common.{◌≤◌, refl, ap, subst, arith}
+use Rattle.std.proofs.Common.{◌≤◌, sym, subst, arith}
 use Rattle.std.proofs.lemmas.Bool.Decides.{nat_tests}
-use Rattle.store.specs.Kept.{Kept, HaveSameVersions}
-use Rattle.store.proofs.Lasting.{keeps_raised}
+use Rattle.store.specs.Kept.{Kept}
+use Rattle.store.specs.Keeps.{Keeps}
+use Rattle.store.proofs.Collected.{keeps_collected}
 use Rattle.store.proofs.store.Store.collect.Goals as goal
 
-pub returns-then-lt-clause-keeps : goal.returns-then-lt-clause-keeps
-returns-then-lt-clause-keeps c = λ all keeps.
-    let new : Kept = record { rows = c.self.inside.rows.entries; low = c.args.time } in
-    let low = ap (λ (k : Kept). k.low) c.self.view_is in
-    let raised : c.args.self.now.low ≤ c.args.time = grind (arith, nat_tests, low, c.if-lt.ensures) in
-    keeps_raised c.args.self.now new all raised (subst (λ (k : Kept). HaveSameVersions k.rows c.self.inside.rows.entries) c.self.view_is (λ r p. refl)) keeps
-
-pub returns-then-lt-clause-low : goal.returns-then-lt-clause-low
-returns-then-lt-clause-low c = grind (arith, nat_tests, ap (λ (k : Kept). k.low) c.self.view_is, c.if-lt.ensures)
+pub returns-clause-keeps : goal.returns-clause-keeps
+returns-clause-keeps c = λ all keeps.
+    let old : Kept = record { rows = c.self.inside.rows.entries; low = c.self.inside.low } in
+    let new : Kept = record { rows = c.collect_rows.new.rows.entries; low = c.max-self-inside.result } in
+    let raised : c.self.inside.low ≤ c.max-self-inside.result = grind (arith, nat_tests, c.max-self-inside.ensures) in
+    keeps_collected old new all raised c.collect_rows.ensures (subst (λ (k : Kept). Keeps k all) (sym c.self.view_is) keeps)

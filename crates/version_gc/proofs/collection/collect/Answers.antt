@@ -1,0 +1,5 @@
+use Rattle.version_gc.proofs.Collected.{kept_exactly}
+use Rattle.version_gc.proofs.collection.collect.Goals as goal
+
+pub returns-clause-exact : goal.returns-clause-exact
+returns-clause-exact c = kept_exactly c.args.time c.args.chain.now.versions c.keep_from.new.self.versions c.keep_from.ensures.kept
