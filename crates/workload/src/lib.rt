@@ -1,18 +1,13 @@
 //! Scripts and transcripts: a script is read, run and written down.
 #![tactic(auto)]
 
-mod checks;
-mod performing;
 mod reading;
 mod script;
 mod shape;
-mod simulating;
 mod text;
 mod transcript;
 
-pub use performing::{Task, perform};
 pub use reading::read_script;
-pub use script::{Event, Events, Op, Script};
-pub use simulating::simulate;
+pub use script::{Event, Events, Script};
 pub use text::transcript_text;
 pub use transcript::{Entry, Transcript};
