@@ -4,7 +4,9 @@ use Rattle.std.proofs.lemmas.List.{length-append}
 use Rattle.logical_time.specs.declared.fault.Fault.{Fault}
 use Rattle.logical_time.specs.declared.fault.Fault.TheVariants.{Memory}
 use Rattle.messages.specs.Topology.{TopologyValue}
-use Rattle.world.specs.Run.{Run, Event, Deliver, opening, step, continued, run}
+use Rattle.world.specs.declared.run_event.RunEvent.{RunEvent as Event}
+use Rattle.world.specs.declared.run_event.RunEvent.TheVariants.{Deliver}
+use Rattle.world.specs.Run.{Run, opening, step, continued, run}
 use Rattle.world.specs.Refusals.{Refusal, Refused, refusal_of}
 use Rattle.world.specs.Lookups.{first_unhandled}
 use Rattle.world.proofs.Runs.{run_after}
@@ -48,7 +50,7 @@ refused_told top w done k rest e all q =
 pub record IsUnderway (top : TopologyValue) (before after : List Event) (count left : ℕ) : Type 0 where
   pub done : List Event
   pub happened : after ≡ before ++ done
-  pub count : length done ≡ count
+  pub number : length done ≡ count
   pub allowed : AreAllowed top (run top before) done
   pub drain : deliveries top (count + left) (run top before) ≡ done ++ deliveries top left (run top after)
 
@@ -57,7 +59,7 @@ not_begun top before left =
     record {
       done = [];
       happened = sym (append-nil before);
-      count = refl;
+      number = refl;
       allowed = tt;
       drain = ap (λ n. deliveries top n (run top before)) (omega arith);
     }
@@ -76,7 +78,7 @@ one_more top before after later count left k u first allowed is =
     record {
       done = u.done ++ Deliver k ∷ [];
       happened = is ∙ ap (λ xs. xs ++ Deliver k ∷ []) u.happened ∙ append_assoc before u.done (Deliver k ∷ []);
-      count = length-append u.done (Deliver k ∷ []) ∙ ap (λ n. n + 1) u.count;
+      number = length-append u.done (Deliver k ∷ []) ∙ ap (λ n. n + 1) u.number;
       allowed = allowed_more top (run top before) u.done (Deliver k) u.allowed here;
       drain =
           ap (λ n. deliveries top n (run top before)) (omega arith)
@@ -93,7 +95,7 @@ nothing_left top before after count left u whole none =
     ap (λ n. deliveries top n (run top before)) (sym whole) ∙ u.drain ∙ ap (λ xs. u.done ++ xs) none ∙ append-nil u.done in
     record {
       happened = u.happened ∙ ap (λ xs. before ++ xs) (sym all);
-      count = sym u.count ∙ ap (λ (xs : List Event). length xs) (sym all);
+      number = sym u.number ∙ ap (λ (xs : List Event). length xs) (sym all);
       allowed = subst (AreAllowed top (run top before)) (sym all) u.allowed;
     }
 
@@ -110,7 +112,7 @@ pub next_refused : (top : TopologyValue) (before after : List Event) (count left
 next_refused top before after count left k e u whole first refused =
     record {
       done = u.done;
-      number = k;
+      next = k;
       rest = deliveries top left (step top (run top after) (Deliver k));
       drain =
           ap (λ n. deliveries top n (run top before)) (sym whole) ∙ u.drain

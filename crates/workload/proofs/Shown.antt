@@ -9,7 +9,9 @@ use Rattle.messages.specs.declared.op.Op.TheVariants as op
 use Rattle.messages.specs.declared.outcome.Outcome.{Outcome}
 use Rattle.messages.specs.declared.outcome.Outcome.TheVariants as outcome
 use Rattle.messages.specs.Topology.{TopologyValue}
-use Rattle.world.specs.Run.{Run, Event, Completed, opening, run}
+use Rattle.world.specs.declared.run_event.RunEvent.{RunEvent as Event}
+use Rattle.world.specs.declared.completed.Completed.{Completed}
+use Rattle.world.specs.Run.{Run, opening, run}
 use Rattle.world.specs.Promises.{Fits}
 use Rattle.world.proofs.Among.{Among, among_contains, contains_among, filter_among, map_only}
 use Rattle.world.proofs.Laws.{reads_show_one_table, entries_are_of_submissions}
@@ -21,9 +23,9 @@ use Rattle.workload.proofs.Told.{tells}
 
 -- the outcome that an entry of a read is of
 record IsOfRead (c : Completed) (node number time : ℕ) (answer : List AnsweredRow) : Type 0 where
-  node : c.node ≡ node
-  number : c.number ≡ number
-  outcome : c.outcome ≡ outcome.Read time answer
+  by : c.node ≡ node
+  of : c.number ≡ number
+  came : c.outcome ≡ outcome.Read time answer
 
 of_read : (c : Completed) (node number time : ℕ) (answer : List AnsweredRow) → entry.Read node number time answer ≡ entry_of c → IsOfRead c node number time answer
 of_read c node number time answer h = by c.outcome refl
@@ -32,7 +34,7 @@ of_read c node number time answer h = by c.outcome refl
     by (outcome.Wrote commit stamp) q = (let e : entry.Read node number time answer ≡ entry.Wrote c.node c.number commit stamp = h ∙ ap (entry_by c.node c.number) q in absurd cc)
     by (outcome.Read t a) q =
         let e : entry.Read node number time answer ≡ entry.Read c.node c.number t a = h ∙ ap (entry_by c.node c.number) q in
-        record { node = cc; number = cc; outcome = cc }
+        record { by = cc; of = cc; came = cc }
     by outcome.Collected q = (let e : entry.Read node number time answer ≡ entry.Collected c.node c.number = h ∙ ap (entry_by c.node c.number) q in absurd cc)
 
 -- an operation that ended as a read is one
@@ -48,14 +50,14 @@ shows top events some node number time answer has =
     let (c, among, is) = map_only entry_of w.transcript (entry.Read node number time answer) (contains_among _ _ has) in
     let r = of_read c node number time answer is in
     let there : Contains w.transcript c = among_contains c w.transcript among in
-    let (read, asked) = read_of c.op time answer (subst (Fits c.op) r.outcome (entries_are_of_submissions top events some c there).fits) in
+    let (read, asked) = read_of c.op time answer (subst (Fits c.op) r.came (entries_are_of_submissions top events some c there).fits) in
     let same : c ≡ record { node = node; number = number; home = c.home; op = op.Read read; outcome = outcome.Read time answer } =
-    λ i. record { node = r.node i; number = r.number i; home = c.home; op = asked i; outcome = r.outcome i } in
+    λ i. record { node = r.by i; number = r.of i; home = c.home; op = asked i; outcome = r.came i } in
     record {
       read = read;
       home = c.home;
       completed = subst (Contains w.transcript) same there;
-      table = λ h history. reads_show_one_table top events some c read time answer h (record { completed = there; op = asked; outcome = r.outcome }) history;
+      table = λ h history. reads_show_one_table top events some c read time answer h (record { completed = there; op = asked; outcome = r.came }) history;
     }
 
 pub is_transcript : (s : Script) (entries : List Entry) → 0 < s.topology.shards → simulated s ≡ Ok entries → IsTranscriptOf s entries

@@ -2,7 +2,9 @@
 use Rattle.std.proofs.Common.{◌≡◌, ◌∙◌, ℕ, zero, suc, List, [], ◌∷◌, ◌++◌, Option, Some, None, Result, Ok, Err, refl, ap, sym, subst, append_assoc, append-nil}
 use Rattle.logical_time.specs.declared.fault.Fault.{Fault}
 use Rattle.messages.specs.Topology.{TopologyValue}
-use Rattle.world.specs.Run.{Run, Event, Deliver, opening, step, continued}
+use Rattle.world.specs.declared.run_event.RunEvent.{RunEvent as Event}
+use Rattle.world.specs.declared.run_event.RunEvent.TheVariants.{Deliver}
+use Rattle.world.specs.Run.{Run, opening, step, continued}
 use Rattle.world.specs.Lookups.{first_unhandled}
 use Rattle.world.proofs.Runs.{run_after}
 use Rattle.workload.specs.declared.script.Event.{Event as ScriptEvent}

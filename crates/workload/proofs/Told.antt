@@ -6,10 +6,14 @@ use Rattle.std.proofs.lemmas.List.{map-append}
 use Rattle.std.proofs.lemmas.List.Elements.{filter-append}
 use Rattle.logical_time.specs.declared.fault.Fault.{Fault}
 use Rattle.logical_time.specs.declared.fault.Fault.TheVariants.{ClockSpent}
+use Rattle.messages.specs.declared.op.Op.{Op}
 use Rattle.messages.specs.declared.outcome.Outcome.{Outcome}
 use Rattle.messages.specs.declared.outcome.Outcome.TheVariants as outcome
 use Rattle.messages.specs.Topology.{TopologyValue}
-use Rattle.world.specs.Run.{Run, Event, Submit, Deliver, Collect, Completed, opening, step, continued}
+use Rattle.world.specs.declared.run_event.RunEvent.{RunEvent as Event}
+use Rattle.world.specs.declared.run_event.RunEvent.TheVariants.{Submit, Deliver, Collect}
+use Rattle.world.specs.declared.completed.Completed.{Completed}
+use Rattle.world.specs.Run.{Run, opening, step, continued}
 use Rattle.world.specs.Refusals.{Refusal, Refused, NotSent, NoSuchActor, refusal_of}
 use Rattle.world.specs.Journals.{IsBeginning}
 use Rattle.world.proofs.Grown.{run_grew}
@@ -19,9 +23,6 @@ use Rattle.workload.specs.declared.transcript.Entry.TheVariants as entry
 use Rattle.workload.specs.Simulation.{entry_by, entry_of, ended_between, submission_refused, refused_as, told_if, told_of, then_told, told, is_refusal, is_outcome, with_refusal, left_out, refusal_entry}
 
 -- ## What ended
-
-past : {X : Type 0} (xs ys : List X) → IsBeginning xs ys → List X
-past xs ys b = b.0
 
 past_is : {X : Type 0} (xs ys : List X) (b : IsBeginning xs ys) → drop (length xs) ys ≡ b.0
 past_is xs ys b = ap (drop (length xs)) b.1 ∙ drop-append_seam xs b.0
@@ -77,11 +78,11 @@ record TellsOf (w : Run) (refusal : Option Refusal) (x : Event) (v : Run) (es : 
   outcomes : filter is_outcome es ≡ ended_between w v
   refusals : map some_of (filter is_refusal es) ≡ map refusal_entry (option_to_list (option_map (λ r. (x, r)) refusal))
 
-submission_tells : (w : Run) (node : ℕ) (o : _) (e : Fault) (es : List Entry) → submission_refused node e ≡ Ok es → es ≡ entry.Refused node e ∷ []
-submission_tells w node o ClockSpent es h = absurd cc
-submission_tells w node o e es h = let same : entry.Refused node e ∷ [] ≡ es = cc in sym same
+submission_tells : (node : ℕ) (e : Fault) (es : List Entry) → submission_refused node e ≡ Ok es → es ≡ entry.Refused node e ∷ []
+submission_tells node ClockSpent es h = absurd cc
+submission_tells node e es h = let same : entry.Refused node e ∷ [] ≡ es = cc in sym same
 
-one_refusal : (w : Run) (node : ℕ) (o : _) (e : Fault) (es : List Entry) → es ≡ entry.Refused node e ∷ [] → TellsOf w (Some (Refused e)) (Submit node o) w es
+one_refusal : (w : Run) (node : ℕ) (o : Op) (e : Fault) (es : List Entry) → es ≡ entry.Refused node e ∷ [] → TellsOf w (Some (Refused e)) (Submit node o) w es
 one_refusal w node o e es is =
     record {
       outcomes = ap (filter is_outcome) is ∙ sym (none_ended w);
@@ -89,7 +90,7 @@ one_refusal w node o e es is =
     }
 
 refused_tells : (w : Run) (x : Event) (r : Refusal) (es : List Entry) → refused_as x r ≡ Ok es → TellsOf w (Some r) x w es
-refused_tells w (Submit node o) (Refused e) es h = one_refusal w node o e es (submission_tells w node o e es h)
+refused_tells w (Submit node o) (Refused e) es h = one_refusal w node o e es (submission_tells node e es h)
 refused_tells w (Submit node o) NotSent es h = absurd cc
 refused_tells w (Submit node o) NoSuchActor es h = absurd cc
 refused_tells w (Deliver k) (Refused e) es h = absurd cc

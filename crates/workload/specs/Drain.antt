@@ -3,7 +3,9 @@ use Rattle.std.specs.Prelude.{◌≡◌, ℕ, List, [], ◌∷◌, ◌++◌, len
 use Rattle.logical_time.specs.declared.fault.Fault.{Fault}
 use Rattle.logical_time.specs.declared.fault.Fault.TheVariants.{Memory}
 use Rattle.messages.specs.Topology.{TopologyValue}
-use Rattle.world.specs.Run.{Run, Event, Deliver, step, run}
+use Rattle.world.specs.declared.run_event.RunEvent.{RunEvent as Event}
+use Rattle.world.specs.declared.run_event.RunEvent.TheVariants.{Deliver}
+use Rattle.world.specs.Run.{Run, step, run}
 use Rattle.world.specs.Refusals.{Refused, refusal_of}
 use Rattle.workload.specs.Simulation.{deliveries}
 
@@ -16,15 +18,15 @@ AreAllowed top w (x ∷ xs) = (refusal_of top w x ≡ None) × AreAllowed top (s
 -- none, or 1,000,000 were delivered. None was refused.
 pub record IsDrained (top : TopologyValue) (before after : List Event) (count : ℕ) : Type 0 where
   pub happened : after ≡ before ++ deliveries top 1000000 (run top before)
-  pub count : count ≡ length (deliveries top 1000000 (run top before))
+  pub number : count ≡ length (deliveries top 1000000 (run top before))
   pub allowed : AreAllowed top (run top before) (deliveries top 1000000 (run top before))
 
 -- They went on by the first of these deliveries, and the next one was refused for this, or for want of memory.
 pub record IsDrainedUntil (top : TopologyValue) (before after : List Event) (fault : Fault) : Type 0 where
   pub done : List Event
-  pub number : ℕ
+  pub next : ℕ
   pub rest : List Event
-  pub drain : deliveries top 1000000 (run top before) ≡ done ++ Deliver number ∷ rest
+  pub drain : deliveries top 1000000 (run top before) ≡ done ++ Deliver next ∷ rest
   pub happened : after ≡ before ++ done
   pub allowed : AreAllowed top (run top before) done
-  pub refused : (fault ≡ Memory) ⊎ (refusal_of top (run top after) (Deliver number) ≡ Some (Refused fault))
+  pub refused : (fault ≡ Memory) ⊎ (refusal_of top (run top after) (Deliver next) ≡ Some (Refused fault))
