@@ -1,5 +1,5 @@
 -- A drain, delivery by delivery, and what is told of it.
-use Rattle.std.proofs.Common.{◌≡◌, ◌∙◌, ℕ, suc, ◌+◌, List, [], ◌∷◌, ◌++◌, length, Option, Some, None, Result, Ok, Err, ◌⊎◌, inl, inr, refl, ap, sym, subst, arith, append_assoc, append-nil}
+use Rattle.std.proofs.Common.{◌≡◌, ◌∙◌, ℕ, suc, ◌+◌, ◌<◌, List, [], ◌∷◌, ◌++◌, length, Option, Some, None, Result, Ok, Err, ◌⊎◌, inl, inr, refl, ap, sym, subst, arith, append_assoc, append-nil}
 use Rattle.std.proofs.lemmas.List.{length-append}
 use Rattle.logical_time.specs.declared.fault.Fault.{Fault}
 use Rattle.logical_time.specs.declared.fault.Fault.TheVariants.{Memory}
@@ -9,7 +9,9 @@ use Rattle.world.specs.declared.run_event.RunEvent.TheVariants.{Deliver}
 use Rattle.world.specs.Run.{Run, opening, step, continued, run}
 use Rattle.world.specs.Refusals.{Refusal, Refused, refusal_of}
 use Rattle.world.specs.Lookups.{first_unhandled}
+use Rattle.world.specs.World.{WorldValue, run_of, refusal_in, Takes, IsRefusedAs}
 use Rattle.world.proofs.Runs.{run_after}
+use Rattle.world.proofs.Unhandled.{finds_unhandled}
 use Rattle.workload.specs.declared.transcript.Entry.{Entry}
 use Rattle.workload.specs.Simulation.{deliveries, ended_between, refused_as, told_if, told_of, then_told, told}
 use Rattle.workload.specs.Drain.{AreAllowed, IsDrained, IsDrainedUntil}
@@ -65,7 +67,7 @@ not_begun top before left =
     }
 
 -- the run after them goes on from the run before them
-from_there : (top : TopologyValue) (before after done : List Event) → after ≡ before ++ done → run top after ≡ continued top (run top before) done
+pub from_there : (top : TopologyValue) (before after done : List Event) → after ≡ before ++ done → run top after ≡ continued top (run top before) done
 from_there top before after done e = ap (run top) e ∙ run_after top (opening top) before done
 
 pub one_more : (top : TopologyValue) (before after later : List Event) (count left k : ℕ) → IsUnderway top before after count (suc left)
@@ -121,3 +123,26 @@ next_refused top before after count left k e u whole first refused =
       allowed = u.allowed;
       refused = refused;
     }
+
+-- ## A drain of a world
+
+-- a message that was not handled was sent
+pub sent_unhandled : (w : Run) (k : ℕ) → first_unhandled w ≡ Some k → k < length w.sent
+sent_unhandled w k first = ((finds_unhandled w).found k first).sent
+
+module _ (start w : WorldValue) (same : w.top ≡ start.top) (count left : ℕ) where
+  pub taken_more : (v : WorldValue) (k : ℕ) → IsUnderway start.top start.events w.events count (suc left) → first_unhandled (run_of w) ≡ Some k → Takes w (Deliver k) v
+      → IsUnderway start.top start.events v.events (count + 1) left
+  taken_more v k u first takes =
+      one_more start.top start.events w.events v.events count left k u (ap (λ t. first_unhandled (run t w.events)) (sym same) ∙ first)
+      (ap (λ t. refusal_of t (run t w.events) (Deliver k)) (sym same) ∙ takes.allowed) (ap (λ (z : WorldValue). z.events) takes.happened)
+
+  pub whole_drain : IsUnderway start.top start.events w.events count left → count + left ≡ 1000000 → first_unhandled (run_of w) ≡ None
+      → IsDrained start.top start.events w.events count
+  whole_drain u whole none = all_handled start.top start.events w.events count left u whole (ap (λ t. first_unhandled (run t w.events)) (sym same) ∙ none)
+
+  pub refused_drain : (k : ℕ) (e : Fault) → IsUnderway start.top start.events w.events count (suc left) → count + suc left ≡ 1000000 → first_unhandled (run_of w) ≡ Some k
+      → IsRefusedAs (refusal_in w (Deliver k)) e → IsDrainedUntil start.top start.events w.events e
+  refused_drain k e u whole first refused =
+      next_refused start.top start.events w.events count left k e u whole (ap (λ t. first_unhandled (run t w.events)) (sym same) ∙ first)
+      (subst (λ t. (e ≡ Memory) ⊎ (refusal_of t (run t w.events) (Deliver k) ≡ Some (Refused e))) same refused)

@@ -4,3 +4,4 @@ pub mod Told
 pub mod Shown
 pub mod Spelled
 pub mod Drains
+pub mod Plays

@@ -11,6 +11,7 @@ use Rattle.workload.specs.declared.script.Event.{Event as ScriptEvent}
 use Rattle.workload.specs.declared.script.Script.{Script}
 use Rattle.workload.specs.declared.transcript.Entry.{Entry}
 use Rattle.workload.specs.Simulation.{deliveries, spelled, all_spelled, events_of, then_told, told, simulated}
+use Rattle.workload.specs.HasTold.{HasTold}
 use Rattle.workload.proofs.Told.{told_after}
 
 -- ## Drains
@@ -41,11 +42,6 @@ spelled_after top w (x ∷ xs) ys =
     ap (λ es. here ++ es) (spelled_after top v xs ys)
     ∙ sym (append_assoc here (all_spelled top v xs) (all_spelled top (continued top v (all_spelled top v xs)) ys))
     ∙ ap (λ u. (here ++ all_spelled top v xs) ++ all_spelled top u ys) (sym (run_after top w here (all_spelled top v xs)))
-
--- these events of a script led to this run, and these entries were told of them
-pub record HasTold (top : TopologyValue) (xs : List ScriptEvent) (w : Run) (entries : List Entry) : Type 0 where
-  pub run : w ≡ continued top (opening top) (all_spelled top (opening top) xs)
-  pub told : told top (opening top) (all_spelled top (opening top) xs) ≡ Ok entries
 
 pub told_none : (top : TopologyValue) → HasTold top [] (opening top) []
 told_none top = record { run = refl; told = refl }

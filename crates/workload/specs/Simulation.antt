@@ -43,8 +43,12 @@ abbrev pub all_spelled : TopologyValue → Run → List ScriptEvent → List Eve
 all_spelled top w [] = []
 all_spelled top w (x ∷ xs) = spelled top w x ++ all_spelled top (continued top w (spelled top w x)) xs
 
+-- the events of a script
+abbrev pub events_in : TopologyValue → List ScriptEvent → List Event
+events_in top events = all_spelled top (opening top) events
+
 abbrev pub events_of : Script → List Event
-events_of s = all_spelled s.topology (opening s.topology) s.events
+events_of s = events_in s.topology s.events
 
 -- the run of a script. Events that are refused aren't in it
 abbrev pub run_of : Script → Run
@@ -98,8 +102,11 @@ told top w [] = Ok []
 told top w (x ∷ xs) = then_told (told_of top w x) (told top (step top w x) xs)
 
 -- the entries of a script, or the fault that ends it
+abbrev pub simulated_in : TopologyValue → List ScriptEvent → Result (List Entry) Fault
+simulated_in top events = told top (opening top) (events_in top events)
+
 abbrev pub simulated : Script → Result (List Entry) Fault
-simulated s = told s.topology (opening s.topology) (events_of s)
+simulated s = simulated_in s.topology s.events
 
 -- ## What a transcript shows
 
