@@ -1,5 +1,5 @@
 -- A drain, delivery by delivery, and what is told of it.
-use Rattle.std.proofs.Common.{◌≡◌, ◌∙◌, ℕ, suc, ◌+◌, ◌<◌, List, [], ◌∷◌, ◌++◌, length, Option, Some, None, Result, Ok, Err, ◌⊎◌, inl, inr, refl, ap, sym, subst, arith, append_assoc, append-nil}
+use Rattle.std.proofs.Common.{◌≡◌, ◌∙◌, ℕ, suc, ◌+◌, ◌<◌, List, [], ◌∷◌, ◌++◌, length, Some, None, Ok, Err, ◌⊎◌, refl, ap, sym, subst, arith, append_assoc, append-nil}
 use Rattle.std.proofs.lemmas.List.{length-append}
 use Rattle.logical_time.specs.declared.fault.Fault.{Fault}
 use Rattle.logical_time.specs.declared.fault.Fault.TheVariants.{Memory}
@@ -7,13 +7,12 @@ use Rattle.messages.specs.Topology.{TopologyValue}
 use Rattle.world.specs.declared.run_event.RunEvent.{RunEvent as Event}
 use Rattle.world.specs.declared.run_event.RunEvent.TheVariants.{Deliver}
 use Rattle.world.specs.Run.{Run, opening, step, continued, run}
-use Rattle.world.specs.Refusals.{Refusal, Refused, refusal_of}
+use Rattle.world.specs.Refusals.{Refused, refusal_of}
 use Rattle.world.specs.Lookups.{first_unhandled}
 use Rattle.world.specs.World.{WorldValue, run_of, refusal_in, Takes, IsRefusedAs}
 use Rattle.world.proofs.Runs.{run_after}
 use Rattle.world.proofs.Unhandled.{finds_unhandled}
-use Rattle.workload.specs.declared.transcript.Entry.{Entry}
-use Rattle.workload.specs.Simulation.{deliveries, ended_between, refused_as, told_if, told_of, then_told, told}
+use Rattle.workload.specs.Simulation.{deliveries, ended_between, told_if, told_of, then_told, told}
 use Rattle.workload.specs.Drain.{AreAllowed, IsDrained, IsDrainedUntil}
 use Rattle.workload.proofs.Told.{none_ended, ended_after, told_after}
 use Rattle.workload.proofs.Spelled.{none_delivered, next_delivered, all_delivered}

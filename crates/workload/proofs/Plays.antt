@@ -1,17 +1,17 @@
 -- What the calls of a world are as events of a script.
-use Rattle.std.proofs.Common.{◌≡◌, ◌∙◌, ◌≢◌, ℕ, ◌≤◌, ◌+◌, ◌⊎◌, false, slice_get, List, [], ◌∷◌, ◌++◌, length, Option, Some, None, Result, Ok, Err, inl, inr, refl, ap, sym, subst, append-nil, arith}
-use Rattle.std.proofs.lemmas.Grind.{common_steps}
+use Rattle.std.proofs.Common.{◌≡◌, ◌∙◌, ◌≢◌, ℕ, ◌≤◌, ◌+◌, ◌⊎◌, false, List, [], ◌∷◌, ◌++◌, length, Some, Result, Ok, Err, map, drop, inl, inr, refl, ap, sym, subst, append-nil, append_assoc, arith}
+use Rattle.std.specs.Prelude.{OnOk}
 use Rattle.std.proofs.lemmas.List.{length-append}
+use Rattle.std.proofs.lemmas.Option.{slice_get_past}
 use Rattle.logical_time.specs.declared.fault.Fault.{Fault}
 use Rattle.logical_time.specs.declared.fault.Fault.TheVariants.{Memory, ClockSpent, Script as NoScript}
 use Rattle.messages.specs.declared.op.Op.{Op}
-use Rattle.messages.specs.declared.envelope.Envelope.{Envelope}
 use Rattle.messages.specs.Topology.{TopologyValue, is_shard, is_session}
 use Rattle.world.specs.declared.run_event.RunEvent.{RunEvent as Event}
 use Rattle.world.specs.declared.run_event.RunEvent.TheVariants.{Submit, Deliver, Collect}
 use Rattle.world.specs.declared.completed.Completed.{Completed}
 use Rattle.world.specs.Run.{Run, opening, step, continued, run}
-use Rattle.world.specs.Refusals.{Refusal, Refused, NotSent, NoSuchActor, refused_by, refusal_of, refusal_of_message}
+use Rattle.world.specs.Refusals.{Refusal, Refused, NotSent, NoSuchActor, refusal_of, refusal_of_message}
 use Rattle.world.specs.World.{WorldValue, run_of, refusal_in, Takes, IsRefusedAs}
 use Rattle.world.proofs.Grown.{run_grew}
 use Rattle.world.proofs.Refusals.{refused_stays}
@@ -20,10 +20,12 @@ use Rattle.workload.specs.declared.script.Event.{Event as ScriptEvent}
 use Rattle.workload.specs.declared.script.Event.TheVariants as script
 use Rattle.workload.specs.declared.transcript.Entry.{Entry}
 use Rattle.workload.specs.declared.transcript.Entry.TheVariants as entry
-use Rattle.workload.specs.Simulation.{deliveries, spelled, ended_between, submission_refused, refused_as, told_if, told_of, then_told, told}
+use Rattle.workload.specs.Simulation.{entry_of, deliveries, spelled, ended_between, submission_refused, refused_as, told_if, told_of, then_told, told, simulated_in}
+use Rattle.workload.specs.HasTold.{HasTold}
 use Rattle.workload.specs.Drain.{IsDrained, IsDrainedUntil}
-use Rattle.workload.specs.Playing.{Plays, PlaysBefore, EndsWith}
+use Rattle.workload.specs.Playing.{Plays, PlaysBefore, Adds, EndsWith}
 use Rattle.workload.proofs.Told.{none_ended}
+use Rattle.workload.proofs.Spelled.{told_none, told_more, told_until}
 use Rattle.workload.proofs.Drains.{allowed_told, one_told, refused_told, from_there}
 
 -- ## One event of a run
@@ -91,14 +93,18 @@ refusal_plays w v node o e known not (inr refused) same =
           ∙ ap (λ es. Ok (entry.Refused node e ∷ es)) (sym (ap (ended_between w_run) (ap run_of same) ∙ none_ended w_run));
     }
 
--- ## Deliveries, collections and drains
+pub refusal_told : {A : Type 0} (r : Result A Fault) (w v : WorldValue) (node : ℕ) (o : Op) (e : Fault) (before after : List Entry)
+    → OnOk r (after ≡ before ++ entry.Refused node e ∷ []) → OnOk r (e ≢ Memory) → OnOk r (e ≢ ClockSpent)
+    → IsRefusedAs (refusal_in w (Submit node o)) e → v ≡ w → OnOk r (Adds before after (PlaysBefore w (script.Submit node o) v))
+refusal_told (Ok x) w v node o e before after told known unspent refused same =
+    (entry.Refused node e ∷ [], told, refusal_plays w v node o e known unspent refused same)
+refusal_told (Err x) w v node o e before after told known unspent refused same = tt
 
-none_there : {X : Type 0} (xs : List X) (k : ℕ) → length xs ≤ k → slice_get xs k ≡ None
-none_there xs k le = grind (arith, common_steps)
+-- ## Deliveries, collections and drains
 
 pub unsent_ends : (w : WorldValue) (k : ℕ) → length (run_of w).sent ≤ k → EndsWith w (script.Deliver k) NoScript
 unsent_ends w k le =
-    inr (told_refused w.top (run_of w) (Deliver k) NotSent (ap (refusal_of_message w.top (run_of w)) (none_there (run_of w).sent k le)))
+    inr (told_refused w.top (run_of w) (Deliver k) NotSent (ap (refusal_of_message w.top (run_of w)) (slice_get_past (run_of w).sent k le)))
 
 pub no_shard_ends : (w : WorldValue) (node time : ℕ) → is_shard w.top node ≡ false → EndsWith w (script.Collect node time) NoScript
 no_shard_ends w node time q = inr (told_refused w.top (run_of w) (Collect node time) NoSuchActor (rw q refl))
@@ -132,3 +138,31 @@ no_fewer_ended w v s entries p =
     let count : length (run_of v).transcript ≡ length (run_of w).transcript + length more.0 =
     ap (λ (u : Run). length u.transcript) p.run ∙ ap (λ (cs : List Completed). length cs) more.1 ∙ length-append (run_of w).transcript more.0 in
     omega arith
+
+-- and is told with what was told before
+pub ended_told : {A : Type 0} (r : Result A Fault) (w v : WorldValue) (s : ScriptEvent) (before between after : List Entry) (ended : List Completed)
+    → Adds before between (PlaysBefore w s v) → ended ≡ drop (length (run_of w).transcript) (run_of v).transcript → OnOk r (after ≡ between ++ map entry_of ended)
+    → OnOk r (Adds before after (Plays w s v))
+ended_told (Ok x) w v s before between after ended (es, added, plays) is told =
+    let rest = ended_between (run_of w) (run_of v) in
+    (es ++ rest, told ∙ ap (λ cs. between ++ map entry_of cs) is ∙ ap (λ xs. xs ++ rest) added ∙ append_assoc before es rest, plays)
+ended_told (Err x) w v s before between after ended added is told = tt
+
+-- ## A script so far
+
+pub none_played : (w : WorldValue) (entries : List Entry) → w.events ≡ [] → entries ≡ [] → HasTold w.top [] (run_of w) entries
+none_played w entries opens empty = rw (opens, empty) (told_none w.top)
+
+pub more_played : (top : TopologyValue) (xs : List ScriptEvent) (x : ScriptEvent) (w v : WorldValue) (before after : List Entry) → w.top ≡ top
+    → HasTold top xs (run_of w) before → Adds before after (Plays w x v) → HasTold top (xs ++ x ∷ []) (run_of v) after
+more_played top xs x w v before after same h (es, added, plays) =
+    subst (HasTold top (xs ++ x ∷ []) (run_of v)) (sym added)
+    (told_more top xs x (run_of w) (run_of v) before es h
+    (subst (λ t. run_of v ≡ continued t (run_of w) (spelled t (run_of w) x)) same plays.run)
+    (subst (λ t. told t (run_of w) (spelled t (run_of w) x) ≡ Ok es) same plays.told))
+
+pub played_until : (top : TopologyValue) (xs : List ScriptEvent) (x : ScriptEvent) (ys : List ScriptEvent) (w : WorldValue) (entries : List Entry) (e : Fault) → w.top ≡ top
+    → HasTold top xs (run_of w) entries → EndsWith w x e → (e ≡ Memory) ⊎ (simulated_in top (xs ++ x ∷ ys) ≡ Err e)
+played_until top xs x ys w entries e same h (inl memory) = inl memory
+played_until top xs x ys w entries e same h (inr ends) =
+    inr (told_until top xs x ys (run_of w) entries e h (subst (λ t. told t (run_of w) (spelled t (run_of w) x) ≡ Err e) same ends))

@@ -1,7 +1,6 @@
 -- The entries of a script are a transcript of its run, and its reads show the one table of their homes.
-use Rattle.std.proofs.Common.{◌≡◌, ◌∙◌, ℕ, ◌<◌, List, Ok, map, refl, ap, sym, subst}
-use Rattle.std.specs.Prelude.{Contains, filter}
-use Rattle.column_family.specs.History.{History}
+use Rattle.std.proofs.Common.{◌≡◌, ◌∙◌, ℕ, ◌<◌, List, Ok, map, refl, ap, subst}
+use Rattle.std.specs.Prelude.{Contains}
 use Rattle.slice.specs.declared.read.Read.{Read}
 use Rattle.slice.specs.declared.read.AnsweredRow.{AnsweredRow}
 use Rattle.messages.specs.declared.op.Op.{Op}
@@ -11,14 +10,14 @@ use Rattle.messages.specs.declared.outcome.Outcome.TheVariants as outcome
 use Rattle.messages.specs.Topology.{TopologyValue}
 use Rattle.world.specs.declared.run_event.RunEvent.{RunEvent as Event}
 use Rattle.world.specs.declared.completed.Completed.{Completed}
-use Rattle.world.specs.Run.{Run, opening, run}
+use Rattle.world.specs.Run.{opening, run}
 use Rattle.world.specs.Promises.{Fits}
-use Rattle.world.proofs.Among.{Among, among_contains, contains_among, filter_among, map_only}
+use Rattle.world.proofs.Among.{among_contains, contains_among, filter_among, map_only}
 use Rattle.world.proofs.Laws.{reads_show_one_table, entries_are_of_submissions}
 use Rattle.workload.specs.declared.script.Script.{Script}
 use Rattle.workload.specs.declared.transcript.Entry.{Entry}
 use Rattle.workload.specs.declared.transcript.Entry.TheVariants as entry
-use Rattle.workload.specs.Simulation.{entry_by, entry_of, is_outcome, events_of, run_of, simulated, ShowsOneTable, IsTranscriptOf}
+use Rattle.workload.specs.Simulation.{entry_by, entry_of, is_outcome, events_of, simulated, ShowsOneTable, IsTranscriptOf}
 use Rattle.workload.proofs.Told.{tells}
 
 -- the outcome that an entry of a read is of

@@ -1,8 +1,7 @@
 -- A script event by event: what it spells, and what is told of it so far.
-use Rattle.std.proofs.Common.{◌≡◌, ◌∙◌, ℕ, zero, suc, List, [], ◌∷◌, ◌++◌, Option, Some, None, Result, Ok, Err, refl, ap, sym, subst, append_assoc, append-nil}
+use Rattle.std.proofs.Common.{◌≡◌, ◌∙◌, ℕ, zero, suc, List, [], ◌∷◌, ◌++◌, Some, None, Ok, Err, refl, ap, sym, append_assoc, append-nil}
 use Rattle.logical_time.specs.declared.fault.Fault.{Fault}
 use Rattle.messages.specs.Topology.{TopologyValue}
-use Rattle.world.specs.declared.run_event.RunEvent.{RunEvent as Event}
 use Rattle.world.specs.declared.run_event.RunEvent.TheVariants.{Deliver}
 use Rattle.world.specs.Run.{Run, opening, step, continued}
 use Rattle.world.specs.Lookups.{first_unhandled}
@@ -10,7 +9,7 @@ use Rattle.world.proofs.Runs.{run_after}
 use Rattle.workload.specs.declared.script.Event.{Event as ScriptEvent}
 use Rattle.workload.specs.declared.script.Script.{Script}
 use Rattle.workload.specs.declared.transcript.Entry.{Entry}
-use Rattle.workload.specs.Simulation.{deliveries, spelled, all_spelled, events_of, then_told, told, simulated}
+use Rattle.workload.specs.Simulation.{deliveries, spelled, all_spelled, then_told, told, simulated}
 use Rattle.workload.specs.HasTold.{HasTold}
 use Rattle.workload.proofs.Told.{told_after}
 

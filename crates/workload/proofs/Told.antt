@@ -1,5 +1,5 @@
 -- What is told of events is what ended by them, and each refused submission.
-use Rattle.std.proofs.Common.{◌≡◌, ◌∙◌, ℕ, Bool, true, false, List, [], ◌∷◌, ◌++◌, length, map, drop, Option, Some, None, Result, Ok, Err, refl, ap, sym, subst, append_assoc, append-nil}
+use Rattle.std.proofs.Common.{◌≡◌, ◌∙◌, ℕ, false, List, [], ◌∷◌, ◌++◌, length, map, drop, Option, Some, None, Result, Ok, Err, refl, ap, sym, subst, append_assoc}
 use Rattle.std.specs.Prelude.{filter, option_map, option_to_list}
 use Rattle.std.proofs.Math.Seq.{drop-append_seam, drop-length}
 use Rattle.std.proofs.lemmas.List.{map-append}
@@ -13,7 +13,7 @@ use Rattle.messages.specs.Topology.{TopologyValue}
 use Rattle.world.specs.declared.run_event.RunEvent.{RunEvent as Event}
 use Rattle.world.specs.declared.run_event.RunEvent.TheVariants.{Submit, Deliver, Collect}
 use Rattle.world.specs.declared.completed.Completed.{Completed}
-use Rattle.world.specs.Run.{Run, opening, step, continued}
+use Rattle.world.specs.Run.{Run, step, continued}
 use Rattle.world.specs.Refusals.{Refusal, Refused, NotSent, NoSuchActor, refusal_of}
 use Rattle.world.specs.Journals.{IsBeginning}
 use Rattle.world.proofs.Grown.{run_grew}

@@ -1,5 +1,5 @@
 -- What a drain makes of a run.
-use Rattle.std.specs.Prelude.{◌≡◌, ℕ, List, [], ◌∷◌, ◌++◌, length, Option, Some, None, ◌⊎◌}
+use Rattle.std.specs.Prelude.{◌≡◌, ℕ, List, [], ◌∷◌, ◌++◌, length, Some, None, ◌⊎◌}
 use Rattle.logical_time.specs.declared.fault.Fault.{Fault}
 use Rattle.logical_time.specs.declared.fault.Fault.TheVariants.{Memory}
 use Rattle.messages.specs.Topology.{TopologyValue}
