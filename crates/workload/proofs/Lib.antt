@@ -5,3 +5,4 @@ pub mod Shown
 pub mod Spelled
 pub mod Drains
 pub mod Plays
+pub mod Ends
