@@ -10,8 +10,8 @@ ghost use Rattle.workload.specs.Script as form;
 
 use crate::script::{Event, Events, Script};
 use crate::shape::{
-    Shaped, has_items, has_members, list, list_of, member, member_as, members_named,
-    number_at, part_at, text_at, whole_below,
+    Shaped, has_items, has_members, list, list_of, member, member_as, members_named, number_at,
+    part_at, text_at, whole_below,
 };
 use column_family::{Batch, Change, Family, Key, Mutation, Name, Row, Schema, Value};
 use logical_time::{Fault, Node, Time};

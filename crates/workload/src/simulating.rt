@@ -146,11 +146,7 @@ fn play(world: &mut World, event: &Event, transcript: &mut Transcript) -> Result
 }
 
 // The events happen in order, until one ends the script.
-fn play_all(
-    world: &mut World,
-    events: &[Event],
-    transcript: &mut Transcript,
-) -> Result<(), Fault>
+fn play_all(world: &mut World, events: &[Event], transcript: &mut Transcript) -> Result<(), Fault>
     requires opening { world.old.events ≡ [] }
     requires empty { transcript.old ≡ [] }
     ensures ok { OnOk result (HasTold world.old.top events.now (run_of world.new) transcript.new) }

@@ -9,7 +9,7 @@ returns-in-Ok-clause-ok c = (
   [],
   sym (append-nil c.args.transcript.now),
   taken_plays c.args.world.now c.submit.new.self (script.Submit c.args.session c.args.op.now) (Submit c.args.session c.args.op.now) refl
-  (rw (← c.in_ok-copied.ensures) c.in-Ok.ensures.taken),
+      (rw (← c.in_ok-copied.ensures) c.in-Ok.ensures.taken),
 )
 
 pub returns-in-Err-clause-ok : goal.returns-in-Err-clause-ok
