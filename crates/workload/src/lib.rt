@@ -1,4 +1,6 @@
-//! Scripts and transcripts: a script is read, run and written down.
+//! Scripts and transcripts: a script is read and run in a world, and what is told of it is written down.
+//!
+//! The run of a script, what is told of it and what its transcript shows are the definitions of `specs/Simulation.antt`.
 #![tactic(auto)]
 
 mod draining;

@@ -159,9 +159,9 @@ fn play_all(world: &mut World, events: &[Event], transcript: &mut Transcript) ->
 }
 
 /// The transcript of a script, whose events happen in a world of its topology, in order: the outcome of each operation,
-/// where it ended, and the refusal of each submission that was refused. Refused with `Script` at a delivery of a message
-/// that was not sent, with `ClockSpent` where a clock would leave its range, and with `Memory`. Linear in the script and in
-/// what is delivered, each at the cost of its delivery.
+/// where it ended, and the refusal of each submission that was refused. Refused with `Script` at an event that names a
+/// message that was not sent, or an actor that isn't there, with `ClockSpent` where a clock would leave its range, and with
+/// `Memory`. Linear in the script and in what is delivered, each at the cost of its delivery.
 pub fn simulate(alloc: Global, script: &Script) -> Result<Transcript, Fault>
     ensures ok { IfOk result (IsTranscriptOf script.now) }
     ensures faults { IfErr result (λ e. (e ≡ Fault.Memory) ⊎ (simulated script.now ≡ Err e)) }
