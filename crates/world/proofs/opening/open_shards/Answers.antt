@@ -1,0 +1,9 @@
+use Rattle.std.proofs.Common.{le_trans, subst, sym, ◌+◌}
+use Rattle.world.proofs.Beginning.{AreFirst, Begins, one_more}
+use Rattle.world.proofs.opening.open_shards.Goals as goal
+
+pub loop-node-preserved : goal.loop-node-preserved
+loop-node-preserved c =
+    (c.loop-node.invariant.0, le_trans c.loop-node.invariant.1 c.add.ensures.capacity,
+    subst (AreFirst (Begins c.args.topology.now) (c.loop-node.node + 1)) (sym c.add.ensures.items)
+    (one_more (Begins c.args.topology.now) c.loop-node.node c.loop-node.shards.items c.unwrap-shard.result c.loop-node.invariant.2 ?))
