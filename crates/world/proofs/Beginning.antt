@@ -78,11 +78,12 @@ sound_topology dcs shards homes a b c d e f all =
     at_most : (m n : ℕ) → m ≤ n → nat_le m n ≡ true
     at_most m n le = grind (arith, nat_tests)
 
--- a topology that is sound isn't refused
-pub not_refused : (t : TopologyValue) (r : Result TopologyValue Fault) → is_topology t.dcs t.shards t.homes ≡ true
-    → (IsErrOf r Script ↔ (is_topology t.dcs t.shards t.homes ≡ false)) → IfErr r (λ e. e ≡ Script) → IfErr r (λ e. e ≡ Memory)
-not_refused t (Ok x) sound refused only = tt
-not_refused t (Err e) sound refused only = absurd (false≢true (sym (refused.0 (ap Err only)) ∙ sound))
-
-pub made_so : (t : TopologyValue) (r : Result TopologyValue Fault) → IfOk r (λ x. x ≡ t) → IfOk r (λ x. x ≡ t)
-made_so t r is = is
+-- a copy of a topology isn't refused
+pub copied_so : (t : TopologyValue) (dcs shards got : ℕ) (homes copy : List ℕ) (r : Result TopologyValue Fault) → dcs ≡ t.dcs → (1 ≤ dcs) × (dcs ≤ 4) → shards ≡ t.shards
+    → (1 ≤ shards) × (shards ≤ 8) → got ≡ shards → homes ≡ t.homes → (1 ≤ length homes) × (length homes ≤ 16) → list_all (λ d. nat_lt d t.dcs) homes ≡ true → copy ≡ homes
+    → (IsErrOf r Script ↔ (is_topology dcs got copy ≡ false)) → IfErr r (λ e. e ≡ Script) → IfErr r (λ e. e ≡ Memory)
+copied_so t dcs shards got homes copy (Ok x) d dl s sl g h hl all c refused only = tt
+copied_so t dcs shards got homes copy (Err e) d dl s sl g h hl all c refused only =
+    let sound = sound_topology dcs shards homes dl.0 dl.1 sl.0 sl.1 hl.0 hl.1 (subst (λ n. list_all (λ z. nat_lt z n) homes ≡ true) (sym d) all) in
+    let same = ap (λ n. is_topology dcs n copy) g ∙ ap (is_topology dcs shards) c ∙ sound in
+    absurd (false≢true (sym (refused.0 (ap Err only)) ∙ same))

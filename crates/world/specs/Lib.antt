@@ -24,3 +24,4 @@ pub mod World
 pub mod Holds
 pub mod Steps
 pub mod Log
+pub mod Asked

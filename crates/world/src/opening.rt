@@ -1,7 +1,8 @@
 //! The actors of a topology, before their first events.
 ghost use Rattle.std.specs.Prelude.{◌≡◌, ◌≤◌, ◌+◌, ◌<◌, ◌++◌, [], ◌∷◌, true, length, vec_capacity, IfOk, IfErr};
 ghost use Rattle.world.specs.Log.{HasRoom};
-ghost use Rattle.messages.specs.Topology.{is_topology, shard_count};
+ghost use Rattle.shard.specs.Kept.{Represents};
+ghost use Rattle.messages.specs.Topology.{is_topology, is_shard, shard_count};
 ghost use Rattle.messages.specs.Shard.{new_shard};
 ghost use Rattle.world.specs.Run.{opening};
 ghost use Rattle.world.specs.Holds.{AreShards, Sits, AreSeats, IsRunning};
@@ -23,6 +24,17 @@ fn add<T>(list: &mut Vec<T>, item: T)
     list.push(item).unwrap();
 }
 
+/// The shard with this node.
+fn open_shard(alloc: Global, topology: &Topology, node: Node) -> Shard
+    requires { is_shard topology.now node ≡ true }
+    ensures { Represents topology.now node result new_shard }
+{
+    match Shard::new(alloc, topology, node) {
+        Some(shard) => shard,
+        None => unreachable!(),
+    }
+}
+
 /// The shards.
 #[tactic(auto, using(crate::proofs::Beginning::none_yet, crate::proofs::Beginning::one_more, crate::proofs::Beginning::shards_begin, crate::proofs::Beginning::node_is_shard))]
 fn open_shards(alloc: Global, topology: &Topology) -> Result<Vec<Shard>, Fault>
@@ -32,8 +44,7 @@ fn open_shards(alloc: Global, topology: &Topology) -> Result<Vec<Shard>, Fault>
     let count = topology.shard_count();
     let mut shards = Vec::with_capacity(alloc, usize::from(count))?;
     for node in 0..count {
-        let shard = Shard::new(alloc, topology, Node::new(node)).unwrap();
-        add(&mut shards, shard);
+        add(&mut shards, open_shard(alloc, topology, Node::new(node)));
     }
     Ok(shards)
 }
@@ -80,7 +91,7 @@ fn open_seats(alloc: Global, topology: &Topology) -> Result<Vec<Seat>, Fault>
 }
 
 /// A copy of a topology. Refused with `Memory` alone.
-#[tactic(auto, using(crate::proofs::Beginning::sound_topology, crate::proofs::Beginning::not_refused))]
+#[tactic(auto, using(crate::proofs::Beginning::sound_topology))]
 fn copy_of(alloc: Global, topology: &Topology) -> Result<Topology, Fault>
     ensures same { IfOk result (λ copy. copy ≡ topology.now) }
     ensures sound { IfOk result (λ copy. is_topology topology.now.dcs topology.now.shards topology.now.homes ≡ true) }
