@@ -6,15 +6,31 @@ use std::{fs, io};
 use workload::{Task, perform};
 
 /// The names of the scripts with a transcript.
-const SCRIPTS: [&str; 5] = [
+const SCRIPTS: [&str; 21] = [
+    "collected_while_waiting",
+    "concurrent_inserts_meet",
     "count_after_deletion",
+    "dependency_holds_back",
+    "dependency_through_a_read",
+    "each_message_twice",
+    "horizon_at_effective_time",
     "insert_and_read_back",
+    "late_repeats",
+    "older_stamp_arrives_late",
+    "read_asks_coordinator",
+    "read_before_dependency",
+    "read_before_vote",
     "read_of_nothing",
     "reversed_ranges",
     "row_deletion_inside_batch",
+    "second_round_collected",
+    "two_shard_write",
+    "undecided_is_excluded",
+    "unseen_column_under_mark",
+    "write_is_replicated",
 ];
 
-/// What is told of a text that is no script.
+/// What is told of a text that is no script, and of a script that ends early.
 const NO_SCRIPT: &[u8] = b"eiger: fault 35 Script\n";
 
 /// A run of what the reader gives: its status, what it writes, and what is told of faults.
@@ -104,5 +120,6 @@ pub(crate) fn tell(rt: &HostRuntime) -> io::Result<()> {
     }
     tell_lines(rt, "scripts.txt", 0, b"")?;
     tell_lines(rt, "not_scripts.txt", 1, NO_SCRIPT)?;
+    tell_lines(rt, "not_sent.txt", 1, NO_SCRIPT)?;
     tell_limits(rt)
 }

@@ -1,5 +1,8 @@
-pub mod Goes
-pub mod Histories
 pub mod Lists
-pub mod Times
 pub mod Written
+pub mod Told
+pub mod Shown
+pub mod Spelled
+pub mod Drains
+pub mod Plays
+pub mod Ends

@@ -1,21 +1,22 @@
 -- Which JSON value stands for which script.
-use Rattle.std.specs.Prelude.{ℕ, ◌+◌, Bool, false, List, [], Option, Some, None, option_and_then, codes, if◌then◌else◌}
+use Rattle.std.specs.Prelude.{ℕ, ◌+◌, ◌^◌, Bool, false, List, [], length, Option, Some, None, option_and_then, codes, if◌then◌else◌}
 use Rattle.std.specs.Str.{bytes_eq}
 use Rattle.serde_json.specs.Data.{Data}
-use Rattle.serde_json.specs.Find.{as_str, as_bool, get, at}
+use Rattle.serde_json.specs.Find.{as_str, as_bool, get}
 use Rattle.column_family.specs.declared.batch.Change.{Change}
 use Rattle.column_family.specs.declared.batch.Mutation.{Mutation}
 use Rattle.column_family.specs.declared.batch.Mutation.TheVariants.{Insert, DeleteColumn, DeleteRow, DeleteRange}
 use Rattle.column_family.specs.Schema.{is_schema}
 use Rattle.slice.specs.declared.predicate.Predicate.{Predicate}
 use Rattle.slice.specs.declared.predicate.Predicate.TheVariants.{Names, Range}
-use Rattle.workload.specs.declared.script.Op.{Op}
-use Rattle.workload.specs.declared.script.Op.TheVariants.{Batch, Read as Asks}
+use Rattle.messages.specs.declared.op.Op.{Op}
+use Rattle.messages.specs.declared.op.Op.TheVariants.{Batch, Read as Asks}
+use Rattle.messages.specs.Topology.{TopologyValue, is_topology, shard_count, session_node}
 use Rattle.workload.specs.declared.script.Event.{Event}
-use Rattle.workload.specs.declared.script.Event.TheVariants.{Submit, Drain}
+use Rattle.workload.specs.declared.script.Event.TheVariants.{Submit, Deliver, Collect, Drain}
 use Rattle.workload.specs.declared.script.Script.{Script}
 use Rattle.workload.specs.Gives.{◌>>=◌}
-use Rattle.workload.specs.Shape.{whole_within, has_members, has_items, members_named, part_at, text_at, list_by, list_within}
+use Rattle.workload.specs.Shape.{whole_of, whole_below, has_members, has_items, members_named, part_at, member_by, text_at, list_by, list_within}
 
 -- ["insert", name, value]
 unfoldable pub insert_of : Data → Option Mutation
@@ -70,7 +71,7 @@ reversed_of (Some d) = as_bool d
 -- 100 where it is left out
 abbrev pub count_of : Option Data → Option ℕ
 count_of None = Some 100
-count_of (Some d) = whole_within 0 4294967295 d
+count_of (Some d) = whole_below (2 ^ 32) d
 
 -- how many of the members of a range are there
 abbrev pub range_members : Data → ℕ
@@ -125,29 +126,40 @@ op_in None None = None
 unfoldable pub op_of : Data → Option Op
 op_of d = if has_members 1 d then op_in (get (codes "batch") d) (get (codes "read") d) else None
 
--- ["submit", session, operation], where 0 is the one session
-unfoldable pub submit_of : Data → Option Event
-submit_of d = if has_items 3 d then (do
-  second ← at 1 d
-  session ← whole_within 0 0 second
+-- ["submit", session, operation], where sessions are numbered from 0
+unfoldable pub submit_of : TopologyValue → Data → Option Event
+submit_of top d = if has_items 3 d then (do
+  session ← part_at (whole_below (length top.homes)) 1 d
   op ← part_at op_of 2 d
-  Some (Submit op)) else None
+  Some (Submit (session_node top session) op)) else None
+
+-- ["deliver", message]: whether it was sent is seen when the event comes
+unfoldable pub deliver_of : Data → Option Event
+deliver_of d = if has_items 2 d then (do
+  number ← part_at whole_of 1 d
+  Some (Deliver number)) else None
+
+abbrev pub time_of : Data → Option ℕ
+time_of = whole_below (2 ^ 48)
+
+-- ["collect", shard, time]
+unfoldable pub collect_of : TopologyValue → Data → Option Event
+collect_of top d = if has_items 3 d then (do
+  shard ← part_at (whole_below (shard_count top)) 1 d
+  time ← part_at time_of 2 d
+  Some (Collect shard time)) else None
 
 -- ["drain"]
 unfoldable pub drain_of : Data → Option Event
 drain_of d = if has_items 1 d then Some Drain else None
 
-unfoldable pub event_of : Data → Option Event
-event_of d = do
+unfoldable pub event_of : TopologyValue → Data → Option Event
+event_of top d = do
   tag ← text_at 0 d
-  if bytes_eq tag (codes "submit") then submit_of d
-      else (if bytes_eq tag (codes "drain") then drain_of d else None)
-
--- [0]: the home of the one session is data centre 0
-unfoldable pub homes_of : Data → Option ℕ
-homes_of d = if has_items 1 d then (do
-  first ← at 0 d
-  whole_within 0 0 first) else None
+  if bytes_eq tag (codes "submit") then submit_of top d
+      else (if bytes_eq tag (codes "deliver") then deliver_of d
+      else (if bytes_eq tag (codes "collect") then collect_of top d
+      else (if bytes_eq tag (codes "drain") then drain_of d else None)))
 
 abbrev pub schema_among : List (List ℕ) → Option (List (List ℕ))
 schema_among families = if is_schema families then Some families else None
@@ -156,22 +168,25 @@ schema_among families = if is_schema families then Some families else None
 unfoldable pub families_of : Data → Option (List (List ℕ))
 families_of d = option_and_then schema_among (list_by as_str d)
 
--- "dcs": 1, "shards": 1, "homes": [0]: one data centre with one shard, the home of the one session
-unfoldable pub topology_of : Data → Option ℕ
-topology_of d = do
-  dcs ← get (codes "dcs") d
-  data_centres ← whole_within 1 1 dcs
-  shards ← get (codes "shards") d
-  shards_in_each ← whole_within 1 1 shards
-  homes ← get (codes "homes") d
-  homes_of homes
+-- a number of data centres, of shards, or of one data centre
+abbrev pub small_of : Data → Option ℕ
+small_of = whole_below (2 ^ 16)
 
--- {"dcs": 1, "shards": 1, "families": .., "homes": .., "events": ..}: at most 100,000 events
+abbrev pub topology_among : TopologyValue → Option TopologyValue
+topology_among top = if is_topology top.dcs top.shards top.homes then Some top else None
+
+-- "dcs": .., "shards": .., "families": [..], "homes": [data centre, ..], within the limits of a topology
+unfoldable pub topology_of : Data → Option TopologyValue
+topology_of d = do
+  dcs ← member_by small_of (codes "dcs") d
+  shards ← member_by small_of (codes "shards") d
+  schema ← member_by families_of (codes "families") d
+  homes ← member_by (list_by small_of) (codes "homes") d
+  topology_among (record { dcs = dcs; shards = shards; schema = schema; homes = homes })
+
+-- {"dcs": .., "shards": .., "families": .., "homes": .., "events": ..}: at most 100,000 events
 unfoldable pub script_of : Data → Option Script
 script_of d = if has_members 5 d then (do
-  home ← topology_of d
-  families ← get (codes "families") d
-  schema ← families_of families
-  events ← get (codes "events") d
-  all ← list_within event_of 100000 events
-  Some (record { schema = schema; events = all })) else None
+  top ← topology_of d
+  events ← member_by (list_within (event_of top) 100000) (codes "events") d
+  Some (record { topology = top; events = events })) else None

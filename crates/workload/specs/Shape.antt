@@ -1,5 +1,5 @@
 -- Shapes of JSON values.
-use Rattle.std.specs.Prelude.{ℕ, suc, ◌&&◌, ◌==◌, nat_le, List, [], ◌∷◌, length, Bool, false, Option, Some, None, option_map, option_and_then, is_some, if◌then◌else◌}
+use Rattle.std.specs.Prelude.{ℕ, suc, ◌==◌, nat_le, nat_lt, List, [], ◌∷◌, length, Bool, false, Option, Some, None, option_map, option_and_then, is_some, if◌then◌else◌}
 use Rattle.serde_json.specs.Data.{Data, Items, no_items, item, Members, no_members, member}
 use Rattle.serde_json.specs.Find.{as_number, as_u64, as_str, as_array, as_object, get, at}
 
@@ -7,12 +7,12 @@ use Rattle.serde_json.specs.Find.{as_number, as_u64, as_str, as_array, as_object
 abbrev pub whole_of : Data → Option ℕ
 whole_of d = option_and_then as_u64 (as_number d)
 
-abbrev pub if_within : ℕ → ℕ → ℕ → Option ℕ
-if_within low high n = if nat_le low n && nat_le n high then Some n else None
+abbrev pub if_below : ℕ → ℕ → Option ℕ
+if_below end n = if nat_lt n end then Some n else None
 
--- a whole number between two limits, both included
-abbrev pub whole_within : ℕ → ℕ → Data → Option ℕ
-whole_within low high d = option_and_then (if_within low high) (whole_of d)
+-- a whole number below an end
+abbrev pub whole_below : ℕ → Data → Option ℕ
+whole_below end d = option_and_then (if_below end) (whole_of d)
 
 abbrev pub members_len : Members → ℕ
 members_len no_members = 0
@@ -45,6 +45,10 @@ members_named name d = if is_some (get name d) then 1 else 0
 -- what the item at a place stands for
 abbrev pub part_at : {A : Type 0} → (Data → Option A) → ℕ → Data → Option A
 part_at f i d = option_and_then f (at i d)
+
+-- what the member of a name stands for
+abbrev pub member_by : {A : Type 0} → (Data → Option A) → List ℕ → Data → Option A
+member_by f name d = option_and_then f (get name d)
 
 abbrev pub text_at : ℕ → Data → Option (List ℕ)
 text_at = part_at as_str

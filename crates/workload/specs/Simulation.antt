@@ -1,56 +1,154 @@
--- Which transcripts a script of one session may have.
-use Rattle.std.specs.Prelude.{◌≡◌, ℕ, ◌+◌, ◌<◌, max, is_some, if◌then◌else◌, List, [], ◌∷◌, ◌++◌, Option, Some, None, MatchOption}
-use Rattle.logical_time.specs.Stamps.{StampValue}
+-- What a script makes of a run, and what its transcript tells.
+use Rattle.std.specs.Prelude.{◌≡◌, ℕ, zero, suc, Bool, true, false, not, List, [], ◌∷◌, ◌++◌, length, map, filter, drop, Option, Some, None, option_map, option_to_list, Result, Ok, Err, Contains}
+use Rattle.std.specs.Option.{unwrap_or}
 use Rattle.logical_time.specs.declared.fault.Fault.{Fault}
-use Rattle.logical_time.specs.declared.fault.Fault.TheVariants.{Busy}
+use Rattle.logical_time.specs.declared.fault.Fault.TheVariants.{ClockSpent, Script as NoScript}
 use Rattle.column_family.specs.History.{History}
-use Rattle.column_family.specs.Normal.{committed}
+use Rattle.slice.specs.declared.read.Read.{Read}
+use Rattle.slice.specs.declared.read.AnsweredRow.{AnsweredRow}
 use Rattle.table.specs.Meaning.{meaning}
-use Rattle.workload.specs.declared.script.Op.{Op}
-use Rattle.workload.specs.declared.script.Op.TheVariants.{Batch, Read as Asks}
-use Rattle.workload.specs.declared.script.Event.{Event}
-use Rattle.workload.specs.declared.script.Event.TheVariants.{Submit, Drain}
+use Rattle.messages.specs.declared.op.Op.TheVariants as op
+use Rattle.messages.specs.declared.outcome.Outcome.{Outcome}
+use Rattle.messages.specs.declared.outcome.Outcome.TheVariants as outcome
+use Rattle.messages.specs.Topology.{TopologyValue}
+use Rattle.world.specs.declared.run_event.RunEvent.{RunEvent as Event}
+use Rattle.world.specs.declared.run_event.RunEvent.TheVariants.{Submit, Deliver, Collect}
+use Rattle.world.specs.declared.completed.Completed.{Completed}
+use Rattle.world.specs.Run.{Run, opening, step, continued, run}
+use Rattle.world.specs.Refusals.{Refusal, Refused, NotSent, NoSuchActor, refusal_of}
+use Rattle.world.specs.Histories.{IsHistory}
+use Rattle.world.specs.Lookups.{first_unhandled}
+use Rattle.workload.specs.declared.script.Event.{Event as ScriptEvent}
+use Rattle.workload.specs.declared.script.Event.TheVariants as script
 use Rattle.workload.specs.declared.script.Script.{Script}
 use Rattle.workload.specs.declared.transcript.Entry.{Entry}
-use Rattle.workload.specs.declared.transcript.Entry.TheVariants.{Wrote, Read, Refused}
-use Rattle.workload.specs.Checks.{op_fault}
+use Rattle.workload.specs.declared.transcript.Entry.TheVariants as entry
 
--- why a submission is refused: the operation before it is open, or what the operation itself is refused for
-abbrev pub submission_fault : List (List ℕ) → Option Op → Op → Option Fault
-submission_fault schema open_op op = if is_some open_op then Some Busy else op_fault schema op
+-- ## The run of a script
 
--- the greatest commit time of a history, 0 without one
-abbrev pub greatest : History → ℕ
-greatest [] = 0
-greatest (c ∷ h) = max c.commit (greatest h)
+-- the deliveries of a drain, at most so many: each time the first message that was not handled, until there is none
+unfoldable pub deliveries : TopologyValue → ℕ → Run → List Event
+deliveries top zero w = []
+deliveries top (suc n) w = unwrap_or (option_map (λ k. Deliver k ∷ deliveries top n (step top w (Deliver k))) (first_unhandled w)) []
 
--- the session's node: one past the shard's
-abbrev pub session : ℕ
-session = 1
+-- the events of a run that an event of a script stands for: a drain for its deliveries, any other for itself
+abbrev pub spelled : TopologyValue → Run → ScriptEvent → List Event
+spelled top w (script.Submit session o) = Submit session o ∷ []
+spelled top w (script.Deliver number) = Deliver number ∷ []
+spelled top w (script.Collect shard time) = Collect shard time ∷ []
+spelled top w script.Drain = deliveries top 1000000 w
 
--- the stamp of a write that the shard committed at this time
-abbrev pub stamp_at : ℕ → StampValue
-stamp_at commit = record { time = commit; node = 0 }
+-- those of several events, one after the other
+abbrev pub all_spelled : TopologyValue → Run → List ScriptEvent → List Event
+all_spelled top w [] = []
+all_spelled top w (x ∷ xs) = spelled top w x ++ all_spelled top (continued top w (spelled top w x)) xs
 
--- These entries may tell what becomes of the events, after which this history of completed batches, this many
--- accepted operations and this open operation stand. A refused submission is told at once, an accepted one at the
--- next drain: a batch with a commit time above all before it, a read with its meaning on the history at the greatest
--- commit time so far.
-abbrev pub Tells : List (List ℕ) → History → ℕ → Option Op → List Event → List Entry → Type 0
-Tells schema h n o [] entries = entries ≡ []
-Tells schema h n o (Submit op ∷ events) entries =
-    MatchOption (submission_fault schema o op)
-    (Tells schema h (n + 1) (Some op) events entries)
-    (λ f. (others : List Entry) × (entries ≡ Refused session f ∷ others) × Tells schema h n o events others)
-Tells schema h n None (Drain ∷ events) entries = Tells schema h n None events entries
-Tells schema h n (Some (Batch batch)) (Drain ∷ events) entries =
-    (commit : ℕ) × (others : List Entry) × (greatest h < commit)
-    × (entries ≡ Wrote session n commit (stamp_at commit) ∷ others)
-    × Tells schema (h ++ committed batch (stamp_at commit) commit ∷ []) n None events others
-Tells schema h n (Some (Asks read)) (Drain ∷ events) entries =
-    (others : List Entry) × (entries ≡ Read session n (greatest h) (meaning read h (greatest h)) ∷ others)
-    × Tells schema h n None events others
+-- the events of a script
+abbrev pub events_in : TopologyValue → List ScriptEvent → List Event
+events_in top events = all_spelled top (opening top) events
 
--- the entries may be the transcript of the script
-abbrev pub IsTranscriptOf : Script → List Entry → Type 0
-IsTranscriptOf script entries = Tells script.schema [] 0 None script.events entries
+abbrev pub events_of : Script → List Event
+events_of s = events_in s.topology s.events
+
+-- the run of a script. Events that are refused aren't in it
+abbrev pub run_of : Script → Run
+run_of s = run s.topology (events_of s)
+
+-- ## What is told
+
+abbrev pub entry_by : ℕ → ℕ → Outcome → Entry
+entry_by node number (outcome.Wrote commit stamp) = entry.Wrote node number commit stamp
+entry_by node number (outcome.Read effective answer) = entry.Read node number effective answer
+entry_by node number outcome.Collected = entry.Collected node number
+
+-- an operation that ended, as an entry
+abbrev pub entry_of : Completed → Entry
+entry_of c = entry_by c.node c.number c.outcome
+
+-- what ended between two moments of a run
+abbrev pub ended_between : Run → Run → List Entry
+ended_between w v = map entry_of (drop (length w.transcript) v.transcript)
+
+-- a refused submission is told, unless the session's clock is spent
+abbrev pub submission_refused : ℕ → Fault → Result (List Entry) Fault
+submission_refused node ClockSpent = Err ClockSpent
+submission_refused node e = Ok (entry.Refused node e ∷ [])
+
+-- any other refusal ends the script: of a message that was not sent, and of a node that is no such actor, with `Script`
+abbrev pub refused_as : Event → Refusal → Result (List Entry) Fault
+refused_as (Submit node o) (Refused e) = submission_refused node e
+refused_as (Deliver k) (Refused e) = Err e
+refused_as (Collect node time) (Refused e) = Err e
+refused_as x NotSent = Err NoScript
+refused_as x NoSuchActor = Err NoScript
+
+abbrev pub told_if : Option Refusal → Run → Event → Run → Result (List Entry) Fault
+told_if None w x v = Ok (ended_between w v)
+told_if (Some r) w x v = refused_as x r
+
+-- what is told of an event, or the fault that ends the script there
+abbrev pub told_of : TopologyValue → Run → Event → Result (List Entry) Fault
+told_of top w x = told_if (refusal_of top w x) w x (step top w x)
+
+-- both, one after the other
+abbrev pub then_told : Result (List Entry) Fault → Result (List Entry) Fault → Result (List Entry) Fault
+then_told (Ok es) (Ok fs) = Ok (es ++ fs)
+then_told (Ok es) (Err e) = Err e
+then_told (Err e) r = Err e
+
+-- what is told of events in order
+abbrev pub told : TopologyValue → Run → List Event → Result (List Entry) Fault
+told top w [] = Ok []
+told top w (x ∷ xs) = then_told (told_of top w x) (told top (step top w x) xs)
+
+-- the entries of a script, or the fault that ends it
+abbrev pub simulated_in : TopologyValue → List ScriptEvent → Result (List Entry) Fault
+simulated_in top events = told top (opening top) (events_in top events)
+
+abbrev pub simulated : Script → Result (List Entry) Fault
+simulated s = simulated_in s.topology s.events
+
+-- ## What a transcript shows
+
+abbrev pub is_refusal : Entry → Bool
+is_refusal (entry.Wrote node number commit stamp) = false
+is_refusal (entry.Read node number effective answer) = false
+is_refusal (entry.Collected node number) = false
+is_refusal (entry.Refused node fault) = true
+
+abbrev pub is_outcome : Entry → Bool
+is_outcome e = not (is_refusal e)
+
+-- an event with why it is refused, if it is
+abbrev pub with_refusal : TopologyValue → Run → Event → Option (Event × Refusal)
+with_refusal top w x = option_map (λ r. (x, r)) (refusal_of top w x)
+
+-- the events that aren't in the run, since they are refused, in order
+abbrev pub left_out : TopologyValue → Run → List Event → List (Event × Refusal)
+left_out top w [] = []
+left_out top w (x ∷ xs) = option_to_list (with_refusal top w x) ++ left_out top (step top w x) xs
+
+-- the entry of a submission that its session refused
+abbrev pub refusal_entry : Event × Refusal → Option Entry
+refusal_entry (Submit node o, Refused e) = Some (entry.Refused node e)
+refusal_entry (x, r) = None
+
+-- the answer is that of a read of this node and number, and is the meaning of its request on the history of its home, in
+-- whatever order, at the effective time
+pub record ShowsOneTable (top : TopologyValue) (w : Run) (node number time : ℕ) (answer : List AnsweredRow) : Type 0 where
+  pub read : Read
+  pub home : ℕ
+  pub completed : Contains w.transcript (record { node = node; number = number; home = home; op = op.Read read; outcome = outcome.Read time answer })
+  pub table : (h : History) → IsHistory top w home h → answer ≡ meaning read h time
+
+-- The entries are the transcript of the script.
+pub record IsTranscriptOf (s : Script) (entries : List Entry) : Type 0 where
+  -- they stand in order of completion or refusal
+  pub told : simulated s ≡ Ok entries
+  -- the outcomes among them are those of the run, each once
+  pub outcomes : filter is_outcome entries ≡ map entry_of (run_of s).transcript
+  -- the others are one for each event that isn't in the run, and that is a submission that its session refused
+  pub refusals : map (λ e. Some e) (filter is_refusal entries) ≡ map refusal_entry (left_out s.topology (opening s.topology) (events_of s))
+  -- each answer of a read shows the one table of its home
+  pub reads : (node number time : ℕ) (answer : List AnsweredRow) → Contains entries (entry.Read node number time answer)
+      → ShowsOneTable s.topology (run_of s) node number time answer

@@ -1,7 +1,9 @@
-//! Scripts and transcripts: a script is read, run and written down.
+//! Scripts and transcripts: a script is read and run in a world, and what is told of it is written down.
+//!
+//! The run of a script, what is told of it and what its transcript shows are the definitions of `specs/Simulation.antt`.
 #![tactic(auto)]
 
-mod checks;
+mod draining;
 mod performing;
 mod reading;
 mod script;
@@ -10,9 +12,10 @@ mod simulating;
 mod text;
 mod transcript;
 
+pub use draining::drain;
 pub use performing::{Task, perform};
 pub use reading::read_script;
-pub use script::{Event, Events, Op, Script};
+pub use script::{Event, Events, Script};
 pub use simulating::simulate;
 pub use text::transcript_text;
 pub use transcript::{Entry, Transcript};

@@ -75,8 +75,8 @@ fn tell<E: Write>(errors: &mut E, fault: Fault) -> u8
 
 /// Does a task: reads all that the reader has left, and writes the answer. Gives the status of the program: 0, or 1
 /// after it wrote `eiger: fault NUMBER NAME` to `errors`. A fault is `ReadFailed` where the reader fails, `Script`
-/// where the bytes spell no script, `Memory` or `ClockSpent`, and then nothing is written, or it is `WriteFailed`
-/// where the writer fails.
+/// where the bytes spell no script or a message that was not sent is to be delivered, `Memory` or `ClockSpent`, and
+/// then nothing is written, or it is `WriteFailed` where the writer fails.
 pub fn perform<R: Read, W: Write, E: Write>(
     alloc: Global,
     task: &Task,

@@ -1,20 +1,21 @@
 //! Scripts as JSON texts.
-ghost use Rattle.std.specs.Prelude.{◌≡◌, option_and_then, codes};
+ghost use Rattle.std.specs.Prelude.{◌≡◌, map, option_and_then, codes};
 ghost use Rattle.serde_json.specs.Data.{Data};
 ghost use Rattle.serde_json.specs.Find.{as_str, get};
 ghost use Rattle.serde_json.specs.Read.{read};
 ghost use Rattle.serde_json.specs.View.{view};
 ghost use Rattle.workload.specs.Gives.{Gives, GivesSeen};
-ghost use Rattle.workload.specs.Shape.{list_by, list_within as items_within};
+ghost use Rattle.workload.specs.Shape.{whole_of, member_by, all_by, list_by, list_within as items_within};
 ghost use Rattle.workload.specs.Script as form;
 
-use crate::script::{Event, Events, Op, Script};
+use crate::script::{Event, Events, Script};
 use crate::shape::{
-    Shaped, has_items, has_members, item, list_of, list_within, member, members_named, part_at,
-    text_at, whole_within,
+    Shaped, has_items, has_members, list, list_of, member, member_as, members_named, number_at,
+    part_at, text_at, whole_below,
 };
 use column_family::{Batch, Change, Family, Key, Mutation, Name, Row, Schema, Value};
-use logical_time::Fault;
+use logical_time::{Fault, Node, Time};
+use messages::{Op, Topology};
 use serde_json::Value as Json;
 use slice::{Keys, Names, Predicate, Read};
 use std::alloc::Global;
@@ -23,8 +24,10 @@ use std::alloc::Global;
 const MOST_EVENTS: usize = 100_000;
 /// How many columns a range asks for where it doesn't say it.
 const USUAL_COUNT: u32 = 100;
-/// How many columns a range may ask for.
-const GREATEST_COUNT: u64 = 0xffff_ffff;
+/// The first number that is no count of a range: 2^32.
+const COUNT_END: u64 = 0x1_0000_0000;
+/// The first number that has more than 16 bits: 2^16.
+const SMALL_END: u64 = 0x1_0000;
 
 impl Shaped for Family {
     ghost stands_for = { as_str };
@@ -102,11 +105,35 @@ impl Shaped for Change {
     }
 }
 
-impl Shaped for Event {
-    ghost stands_for = { form.event_of };
+impl Shaped for u16 {
+    ghost stands_for = { form.small_of };
 
-    fn of_json(alloc: Global, json: &Json) -> Result<Event, Fault> {
-        event(alloc, json)
+    fn of_json(_alloc: Global, json: &Json) -> Result<u16, Fault> {
+        Ok(whole_below(json, SMALL_END)? as u16)
+    }
+}
+
+impl Shaped for usize {
+    ghost stands_for = { whole_of };
+
+    fn of_json(_alloc: Global, json: &Json) -> Result<usize, Fault> {
+        Ok(json.as_u64().ok_or(Fault::Script)? as usize)
+    }
+}
+
+impl Shaped for Time {
+    ghost stands_for = { form.time_of };
+
+    fn of_json(_alloc: Global, json: &Json) -> Result<Time, Fault> {
+        Time::new(json.as_u64().ok_or(Fault::Script)?).ok_or(Fault::Script)
+    }
+}
+
+impl Shaped for Schema {
+    ghost stands_for = { form.families_of };
+
+    fn of_json(alloc: Global, json: &Json) -> Result<Schema, Fault> {
+        families(alloc, json)
     }
 }
 
@@ -212,7 +239,7 @@ fn count(json: &Json) -> Result<u32, Fault>
     ensures { Gives result (form.count_of (get (codes "count") (view json.now))) }
 {
     match json.get("count") {
-        Some(number) => Ok(whole_within(number, 0, GREATEST_COUNT)? as u32),
+        Some(number) => Ok(whole_below(number, COUNT_END)? as u32),
         None => Ok(USUAL_COUNT),
     }
 }
@@ -302,15 +329,44 @@ fn op(alloc: Global, json: &Json) -> Result<Op, Fault>
 }
 
 #[tactic(auto, unfolding(crate::specs::Script::submit_of))]
-fn submit(alloc: Global, json: &Json) -> Result<Event, Fault>
-    ensures { Gives result (form.submit_of (view json.now)) }
+fn submit(alloc: Global, topology: &Topology, json: &Json) -> Result<Event, Fault>
+    ensures { Gives result (form.submit_of topology.now (view json.now)) }
 {
     if !has_items(json, 3) {
         return Err(Fault::Script);
     }
-    whole_within(item(json, 1)?, 0, 0)?;
+    let session = number_at(json, 1, topology.homes().len() as u64)? as u16;
     let op = part_at(alloc, json, 2)?;
-    Ok(Event::Submit(op))
+    Ok(Event::Submit {
+        session: topology.session_node(session),
+        op,
+    })
+}
+
+#[tactic(auto, unfolding(crate::specs::Script::deliver_of))]
+fn deliver(alloc: Global, json: &Json) -> Result<Event, Fault>
+    ensures { Gives result (form.deliver_of (view json.now)) }
+{
+    if !has_items(json, 2) {
+        return Err(Fault::Script);
+    }
+    let number = part_at(alloc, json, 1)?;
+    Ok(Event::Deliver { number })
+}
+
+#[tactic(auto, unfolding(crate::specs::Script::collect_of))]
+fn collect(alloc: Global, topology: &Topology, json: &Json) -> Result<Event, Fault>
+    ensures { Gives result (form.collect_of topology.now (view json.now)) }
+{
+    if !has_items(json, 3) {
+        return Err(Fault::Script);
+    }
+    let shard = number_at(json, 1, u64::from(topology.shard_count()))? as u16;
+    let time = part_at(alloc, json, 2)?;
+    Ok(Event::Collect {
+        shard: Node::new(shard),
+        time,
+    })
 }
 
 #[tactic(auto, unfolding(crate::specs::Script::drain_of))]
@@ -325,12 +381,16 @@ fn drain(json: &Json) -> Result<Event, Fault>
 }
 
 #[tactic(auto, unfolding(crate::specs::Script::event_of))]
-fn event(alloc: Global, json: &Json) -> Result<Event, Fault>
-    ensures { Gives result (form.event_of (view json.now)) }
+fn event(alloc: Global, topology: &Topology, json: &Json) -> Result<Event, Fault>
+    ensures { Gives result (form.event_of topology.now (view json.now)) }
 {
     let tag = text_at(json, 0)?;
     if tag == "submit" {
-        submit(alloc, json)
+        submit(alloc, topology, json)
+    } else if tag == "deliver" {
+        deliver(alloc, json)
+    } else if tag == "collect" {
+        collect(alloc, topology, json)
     } else if tag == "drain" {
         drain(json)
     } else {
@@ -338,29 +398,32 @@ fn event(alloc: Global, json: &Json) -> Result<Event, Fault>
     }
 }
 
-fn events(alloc: Global, json: &Json) -> Result<Events, Fault>
-    ensures { Gives result (items_within form.event_of 100000 (view json.now)) }
+// What each item stands for, in order.
+fn each_event(alloc: Global, topology: &Topology, items: &Vec<Json>) -> Result<Vec<Event>, Fault>
+    ensures { GivesSeen (λ v. v.items) result (all_by (form.event_of topology.now) (map view items.now.items)) }
 {
-    Ok(Events::from_vec(list_within(alloc, MOST_EVENTS, json)?))
+    let mut all = Vec::new(alloc);
+    for item in items {
+        all.push(event(alloc, topology, item)?)?;
+    }
+    Ok(all)
 }
 
-#[tactic(auto, unfolding(crate::specs::Script::homes_of))]
-fn homes(json: &Json) -> Result<u64, Fault>
-    ensures { Gives result (form.homes_of (view json.now)) }
+// What each item of a list stands for, of which there may be so many.
+fn each_within(alloc: Global, topology: &Topology, json: &Json) -> Result<Vec<Event>, Fault>
+    ensures { GivesSeen (λ v. v.items) result (items_within (form.event_of topology.now) 100000 (view json.now)) }
 {
-    if !has_items(json, 1) {
+    let items = list(json)?;
+    if items.len() > MOST_EVENTS {
         return Err(Fault::Script);
     }
-    whole_within(item(json, 0)?, 0, 0)
+    each_event(alloc, topology, items)
 }
 
-#[tactic(auto, unfolding(crate::specs::Script::topology_of))]
-fn topology(json: &Json) -> Result<u64, Fault>
-    ensures { Gives result (form.topology_of (view json.now)) }
+fn events(alloc: Global, topology: &Topology, json: &Json) -> Result<Events, Fault>
+    ensures { Gives result (items_within (form.event_of topology.now) 100000 (view json.now)) }
 {
-    whole_within(member(json, "dcs")?, 1, 1)?;
-    whole_within(member(json, "shards")?, 1, 1)?;
-    homes(member(json, "homes")?)
+    Ok(Events::from_vec(each_within(alloc, topology, json)?))
 }
 
 #[tactic(auto, unfolding(crate::specs::Script::families_of))]
@@ -370,6 +433,23 @@ fn families(alloc: Global, json: &Json) -> Result<Schema, Fault>
     Schema::new(list_of(alloc, json)?).ok_or(Fault::Script)
 }
 
+fn homes(alloc: Global, json: &Json) -> Result<Vec<u16>, Fault>
+    ensures { GivesSeen (λ v. v.items) result (member_by (list_by form.small_of) (codes "homes") (view json.now)) }
+{
+    list_of(alloc, member(json, "homes")?)
+}
+
+#[tactic(auto, unfolding(crate::specs::Script::topology_of))]
+fn topology(alloc: Global, json: &Json) -> Result<Topology, Fault>
+    ensures { Gives result (form.topology_of (view json.now)) }
+{
+    let dcs = member_as(alloc, json, "dcs")?;
+    let shards = member_as(alloc, json, "shards")?;
+    let schema = member_as(alloc, json, "families")?;
+    let homes = homes(alloc, json)?;
+    Topology::new(dcs, shards, schema, homes)
+}
+
 #[tactic(auto, unfolding(crate::specs::Script::script_of))]
 fn script(alloc: Global, json: &Json) -> Result<Script, Fault>
     ensures { Gives result (form.script_of (view json.now)) }
@@ -377,10 +457,9 @@ fn script(alloc: Global, json: &Json) -> Result<Script, Fault>
     if !has_members(json, 5) {
         return Err(Fault::Script);
     }
-    topology(json)?;
-    let schema = families(alloc, member(json, "families")?)?;
-    let events = events(alloc, member(json, "events")?)?;
-    Ok(Script { schema, events })
+    let topology = topology(alloc, json)?;
+    let events = events(alloc, &topology, member(json, "events")?)?;
+    Ok(Script { topology, events })
 }
 
 /// The script that a JSON text stands for. Refused with `Script` exactly where it stands for none, or with

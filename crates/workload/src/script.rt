@@ -1,37 +1,33 @@
-//! Scripts: what a session submits, and when everything sent is handled.
+//! Scripts: which actors there are, and what happens to them.
 ghost use Rattle.std.specs.Prelude.{◌≡◌};
 
-use column_family::{Batch, Schema};
-use slice::Read;
-use std::alloc::AllocError;
+use logical_time::{Node, Time};
+use messages::{Op, Topology};
 use std::marker::Model;
 
-/// What a session submits.
-#[derive(Drop, Clone)]
-pub enum Op {
-    /// A write transaction.
-    Batch(Batch),
-    /// A read transaction.
-    Read(Read),
-}
-
-impl Op {
-    ghost use Rattle.std.specs.Prelude.{◌≡◌, IfOk};
-
-    /// A copy, which shares the bytes of keys, names and values. Fails by memory alone.
-    pub fn copied(&self) -> Result<Op, AllocError>
-        ensures { IfOk result (λ copy. copy ≡ self.now) }
-    {
-        self.clone()
-    }
-}
-
-/// An event of a script.
+/// An event of a script. Messages are numbered from 0 in the order of sending.
 #[derive(Drop)]
 pub enum Event {
-    /// The session submits an operation.
-    Submit(Op),
-    /// Each message not yet handled is handled, those sent meanwhile included.
+    /// A session submits an operation.
+    Submit {
+        /// The session's node.
+        session: Node,
+        /// The operation.
+        op: Op,
+    },
+    /// A message is delivered, for the first time or again.
+    Deliver {
+        /// Its number.
+        number: usize,
+    },
+    /// A shard collects up to a time.
+    Collect {
+        /// The shard's node.
+        shard: Node,
+        /// The time.
+        time: Time,
+    },
+    /// Each message not yet handled is delivered, lowest number first, those sent meanwhile included.
     Drain,
 }
 
@@ -66,11 +62,11 @@ impl Events {
     }
 }
 
-/// A script for one data centre with one shard and one session.
+/// A script for the sessions and shards of a topology.
 #[derive(Drop)]
 pub struct Script {
-    /// The column families.
-    pub schema: Schema,
+    /// Which actors there are.
+    pub topology: Topology,
     /// What happens, in order.
     pub events: Events,
 }

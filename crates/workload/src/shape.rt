@@ -37,19 +37,8 @@ pub fn list_of<T: Shaped>(alloc: Global, json: &Value) -> Result<Vec<T>, Fault>
     each(alloc, list(json)?)
 }
 
-/// What the items of a list of at most `most` items stand for.
-pub fn list_within<T: Shaped>(alloc: Global, most: usize, json: &Value) -> Result<Vec<T>, Fault>
-    ensures { GivesSeen (λ v. v.items) result (shape.list_within T.stands_for most (view json.now)) }
-{
-    let items = list(json)?;
-    if items.len() > most {
-        return Err(Fault::Script);
-    }
-    each(alloc, items)
-}
-
 /// The items of a list.
-fn list(json: &Value) -> Result<&Vec<Value>, Fault>
+pub fn list(json: &Value) -> Result<&Vec<Value>, Fault>
     ensures { GivesSeen (λ v. items_view v.now.items) result (as_array (view json.now)) }
 {
     json.as_array().ok_or(Fault::Script)
@@ -113,16 +102,30 @@ pub fn text_at(json: &Value, place: usize) -> Result<&str, Fault>
     json.get(place).and_then(Value::as_str).ok_or(Fault::Script)
 }
 
-/// A whole number from `low` to `high`.
-pub fn whole_within(json: &Value, low: u64, high: u64) -> Result<u64, Fault>
-    ensures { Gives result (shape.whole_within low high (view json.now)) }
+/// What the member of this name stands for.
+pub fn member_as<T: Shaped>(alloc: Global, json: &Value, name: &str) -> Result<T, Fault>
+    ensures { Gives result (shape.member_by T.stands_for name.now (view json.now)) }
+{
+    T::of_json(alloc, member(json, name)?)
+}
+
+/// A whole number below an end.
+pub fn whole_below(json: &Value, end: u64) -> Result<u64, Fault>
+    ensures { Gives result (shape.whole_below end (view json.now)) }
 {
     let number = json.as_u64().ok_or(Fault::Script)?;
-    if low <= number && number <= high {
+    if number < end {
         Ok(number)
     } else {
         Err(Fault::Script)
     }
+}
+
+/// The whole number at a place, below an end.
+pub fn number_at(json: &Value, place: usize, end: u64) -> Result<u64, Fault>
+    ensures { Gives result (shape.part_at (shape.whole_below end) place (view json.now)) }
+{
+    whole_below(item(json, place)?, end)
 }
 
 /// How many members of this name there are: 1, or 0.

@@ -133,3 +133,10 @@ pub mod Places
 pub mod Numbered
 pub mod Journaled
 pub mod Threaded
+mod Marking
+pub mod Running
+pub mod Taking
+pub mod Opened
+pub mod Replacing
+pub mod Held
+pub mod Beginning

@@ -19,3 +19,9 @@ pub mod Lookups
 pub mod Causes
 pub mod Named
 pub mod Threads
+pub mod Delivered
+pub mod World
+pub mod Holds
+pub mod Steps
+pub mod Log
+pub mod Asked

@@ -4,12 +4,19 @@
 //! No program runs them yet. The worked runs are laws too: each computes to the outcomes, clocks and times that are stated.
 #![tactic(auto)]
 
+mod actors;
 mod completed;
+mod delivered;
 mod journals;
 mod law;
+mod log;
 mod lookalikes;
+mod opening;
 mod promises;
 mod run_event;
+mod seat;
+mod submitted;
+mod world;
 
 pub use completed::Completed;
 pub use journals::{
@@ -37,3 +44,4 @@ pub use promises::{
     times_of_a_session_never_fall, transcript_tells_what_ended,
 };
 pub use run_event::RunEvent;
+pub use world::World;

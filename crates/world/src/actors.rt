@@ -1,0 +1,181 @@
+//! The actors of a world.
+ghost use Rattle.std.specs.Prelude.{◌≡◌, ◌<◌, ◌≤◌, ◌+◌, ℕ, List, [], length, slice_get, Some, IfOk, IfErr, OnOk, OnErr};
+ghost use Rattle.messages.specs.declared.envelope.Envelope.{Envelope};
+ghost use Rattle.messages.specs.Topology.{TopologyValue};
+ghost use Rattle.messages.specs.Shard.{ShardState};
+ghost use Rattle.messages.specs.ShardEvents.{shard_handle, shard_collect};
+ghost use Rattle.shard.specs.Kept.{IsRefusalOf};
+ghost use Rattle.world.specs.Run.{Event, Submit, Deliver, Collect, run};
+ghost use Rattle.world.specs.Refusals.{refusal_of};
+ghost use Rattle.world.specs.Holds.{AreShards, IsRunning, HasTaken};
+ghost use Rattle.world.specs.World.{IsRefusedAs};
+ghost use Rattle.world.specs.Steps.{StaysApart, DidShard};
+
+use crate::completed::Completed;
+use crate::seat::Seat;
+use logical_time::{Fault, Node, Time};
+use messages::{Envelope, Op, Outbox, Topology};
+use shard::Shard;
+
+/// The actors of a topology, all that they sent and what ended.
+pub struct Actors {
+    /// Which actors there are.
+    pub topology: Topology,
+    /// The shards, by their nodes.
+    pub shards: Vec<Shard>,
+    /// The sessions, by their nodes, which follow those of the shards.
+    pub seats: Vec<Seat>,
+    /// What was sent, in order.
+    pub network: Outbox,
+    /// The operations that ended, in order.
+    pub transcript: Vec<Completed>,
+}
+
+/// A shard handles an envelope. Refused as the shard refuses it; then all stand for what they stood for.
+fn hand_over(
+    shards: &mut Vec<Shard>,
+    place: usize,
+    envelope: Envelope,
+    network: &mut Outbox,
+) -> Result<(), Fault>
+    requires { place < length shards.old.items }
+    ensures ok { (top : TopologyValue) (states : ℕ → ShardState) → AreShards top states shards.old.items → StaysApart (shard_handle top place (states place) envelope)
+        → OnOk result (DidShard top states place (shard_handle top place (states place) envelope) shards.new.items network.old.sent network.new.sent) }
+    ensures refused { (top : TopologyValue) (states : ℕ → ShardState) → AreShards top states shards.old.items
+        → IfErr result (λ e. IsRefusalOf (shard_handle top place (states place) envelope) e) }
+    ensures same { (top : TopologyValue) (states : ℕ → ShardState) → AreShards top states shards.old.items → OnErr result (AreShards top states shards.new.items) }
+    ensures unsent { OnErr result (network.new.sent ≡ network.old.sent) }
+{
+    match shards[place].handle(envelope, network) {
+        Ok(()) => Ok(()),
+        Err(refused) => Err(refused.fault),
+    }
+}
+
+/// A shard collects up to a time. Refused as the shard refuses it; then all stand for what they stood for.
+fn collect_in(shards: &mut Vec<Shard>, place: usize, time: Time) -> Result<(), Fault>
+    requires { place < length shards.old.items }
+    ensures ok { (top : TopologyValue) (states : ℕ → ShardState) → AreShards top states shards.old.items → StaysApart (shard_collect (states place) time)
+        → OnOk result (DidShard top states place (shard_collect (states place) time) shards.new.items [] []) }
+    ensures refused { (top : TopologyValue) (states : ℕ → ShardState) → AreShards top states shards.old.items
+        → IfErr result (λ e. IsRefusalOf (shard_collect (states place) time) e) }
+    ensures same { (top : TopologyValue) (states : ℕ → ShardState) → AreShards top states shards.old.items → OnErr result (AreShards top states shards.new.items) }
+{
+    shards[place].collect(time)
+}
+
+/// A copy of the message of this number. Refused with `Memory` alone.
+fn copy_of(network: &Outbox, number: usize) -> Result<Envelope, Fault>
+    requires { number < length network.now.sent }
+    ensures ok { IfOk result (λ envelope. slice_get network.now.sent number ≡ Some envelope) }
+    ensures memory { IfErr result (λ e. e ≡ Fault.Memory) }
+{
+    match network.get(number) {
+        Some(envelope) => Ok(envelope.copied()?),
+        None => unreachable!(),
+    }
+}
+
+impl Actors {
+    /// The message of this number is delivered.
+    pub fn deliver(&mut self, number: usize) -> Result<(), Fault>
+        requires sent { number < length self.old.network.sent }
+        requires addressed { (e : Envelope) → slice_get self.old.network.sent number ≡ Some e → e.to < length self.old.shards.items + length self.old.seats.items }
+        ensures ok { (top : TopologyValue) (events : List Event) → IsRunning top (run top events) self.old → OnOk result (HasTaken top events (Deliver number) self.new) }
+        ensures refused { (top : TopologyValue) (events : List Event) → IsRunning top (run top events) self.old
+            → IfErr result (IsRefusedAs (refusal_of top (run top events) (Deliver number))) }
+        ensures same { (top : TopologyValue) (events : List Event) → IsRunning top (run top events) self.old → OnErr result (IsRunning top (run top events) self.new) }
+        ensures topology { self.new.topology ≡ self.old.topology }
+    {
+        let envelope = copy_of(&self.network, number)?;
+        self.hand(envelope)
+    }
+
+    /// The actor to whom it is addressed handles an envelope.
+    fn hand(&mut self, envelope: Envelope) -> Result<(), Fault>
+        requires { envelope.to < length self.old.shards.items + length self.old.seats.items }
+        ensures ok { (top : TopologyValue) (events : List Event) (k : ℕ) → IsRunning top (run top events) self.old → slice_get self.old.network.sent k ≡ Some envelope
+            → OnOk result (HasTaken top events (Deliver k) self.new) }
+        ensures refused { (top : TopologyValue) (events : List Event) (k : ℕ) → IsRunning top (run top events) self.old → slice_get self.old.network.sent k ≡ Some envelope
+            → IfErr result (IsRefusedAs (refusal_of top (run top events) (Deliver k))) }
+        ensures same { (top : TopologyValue) (events : List Event) → IsRunning top (run top events) self.old → OnErr result (IsRunning top (run top events) self.new) }
+        ensures topology { self.new.topology ≡ self.old.topology }
+    {
+        let place = usize::from(envelope.to.get());
+        let shards = self.shards.len();
+        if place < shards {
+            self.to_shard(place, envelope)
+        } else {
+            self.to_session(place - shards, envelope)
+        }
+    }
+
+    /// The shard at this place handles an envelope.
+    fn to_shard(&mut self, place: usize, envelope: Envelope) -> Result<(), Fault>
+        requires place { place < length self.old.shards.items }
+        requires to { envelope.to ≡ place }
+        ensures ok { (top : TopologyValue) (events : List Event) (k : ℕ) → IsRunning top (run top events) self.old → slice_get self.old.network.sent k ≡ Some envelope
+            → OnOk result (HasTaken top events (Deliver k) self.new) }
+        ensures refused { (top : TopologyValue) (events : List Event) (k : ℕ) → IsRunning top (run top events) self.old → slice_get self.old.network.sent k ≡ Some envelope
+            → IfErr result (IsRefusedAs (refusal_of top (run top events) (Deliver k))) }
+        ensures same { (top : TopologyValue) (events : List Event) → IsRunning top (run top events) self.old → OnErr result (IsRunning top (run top events) self.new) }
+        ensures topology { self.new.topology ≡ self.old.topology }
+    {
+        match hand_over(&mut self.shards, place, envelope, &mut self.network) {
+            Ok(()) => Ok(()),
+            Err(fault) => Err(fault),
+        }
+    }
+
+    /// The session at this place, which follows the shards, handles an envelope.
+    fn to_session(&mut self, place: usize, envelope: Envelope) -> Result<(), Fault>
+        requires place { place < length self.old.seats.items }
+        requires to { envelope.to ≡ length self.old.shards.items + place }
+        ensures ok { (top : TopologyValue) (events : List Event) (k : ℕ) → IsRunning top (run top events) self.old → slice_get self.old.network.sent k ≡ Some envelope
+            → OnOk result (HasTaken top events (Deliver k) self.new) }
+        ensures refused { (top : TopologyValue) (events : List Event) (k : ℕ) → IsRunning top (run top events) self.old → slice_get self.old.network.sent k ≡ Some envelope
+            → IfErr result (IsRefusedAs (refusal_of top (run top events) (Deliver k))) }
+        ensures same { (top : TopologyValue) (events : List Event) → IsRunning top (run top events) self.old → OnErr result (IsRunning top (run top events) self.new) }
+        ensures topology { self.new.topology ≡ self.old.topology }
+    {
+        match self.seats[place].hear(envelope, &mut self.network, &mut self.transcript) {
+            Ok(()) => Ok(()),
+            Err(fault) => Err(fault),
+        }
+    }
+
+    /// A session submits an operation, which is kept beside it.
+    pub fn submit(&mut self, session: Node, op: Op, kept: Op) -> Result<u64, (Fault, Op)>
+        requires seat { length self.old.shards.items ≤ session }
+        requires same { kept ≡ op }
+        requires seats { session < length self.old.shards.items + length self.old.seats.items }
+        ensures ok { (top : TopologyValue) (events : List Event) → IsRunning top (run top events) self.old
+            → IfOk result (λ n. HasTaken top events (Submit session op) self.new × (n ≡ ((run top events).sessions session).count + 1)) }
+        ensures refused { (top : TopologyValue) (events : List Event) → IsRunning top (run top events) self.old
+            → IfErr result (λ r. IsRefusedAs (refusal_of top (run top events) (Submit session op)) r.0) }
+        ensures same { (top : TopologyValue) (events : List Event) → IsRunning top (run top events) self.old → OnErr result (IsRunning top (run top events) self.new) }
+        ensures back { IfErr result (λ r. r.1 ≡ op) }
+        ensures topology { self.new.topology ≡ self.old.topology }
+    {
+        let place = usize::from(session.get()) - self.shards.len();
+        match self.seats[place].submit(op, kept, &mut self.network) {
+            Ok(number) => Ok(number),
+            Err(refused) => Err(refused),
+        }
+    }
+
+    /// A shard collects up to a time.
+    pub fn collect(&mut self, shard: Node, time: Time) -> Result<(), Fault>
+        requires { shard < length self.old.shards.items }
+        ensures ok { (top : TopologyValue) (events : List Event) → IsRunning top (run top events) self.old → OnOk result (HasTaken top events (Collect shard time) self.new) }
+        ensures refused { (top : TopologyValue) (events : List Event) → IsRunning top (run top events) self.old
+            → IfErr result (IsRefusedAs (refusal_of top (run top events) (Collect shard time))) }
+        ensures same { (top : TopologyValue) (events : List Event) → IsRunning top (run top events) self.old → OnErr result (IsRunning top (run top events) self.new) }
+        ensures topology { self.new.topology ≡ self.old.topology }
+    {
+        match collect_in(&mut self.shards, usize::from(shard.get()), time) {
+            Ok(()) => Ok(()),
+            Err(fault) => Err(fault),
+        }
+    }
+}

@@ -1,0 +1,147 @@
+//! The actors of a topology, before their first events.
+ghost use Rattle.std.specs.Prelude.{◌≡◌, ◌≤◌, ◌+◌, ◌<◌, ◌++◌, [], ◌∷◌, true, length, vec_capacity, IfOk, IfErr};
+ghost use Rattle.world.specs.Log.{HasRoom};
+ghost use Rattle.shard.specs.Kept.{Represents};
+ghost use Rattle.messages.specs.Topology.{is_topology, is_shard, shard_count};
+ghost use Rattle.messages.specs.Shard.{new_shard};
+ghost use Rattle.world.specs.Run.{opening};
+ghost use Rattle.world.specs.Holds.{AreShards, Sits, AreSeats, IsRunning};
+
+use crate::actors::Actors;
+use crate::seat::Seat;
+use client::Session;
+use logical_time::{Fault, Node};
+use messages::{Outbox, Topology};
+use shard::Shard;
+use std::alloc::Global;
+
+/// Adds one more at the end. There is room.
+fn add<T>(list: &mut Vec<T>, item: T)
+    requires { HasRoom list.old }
+    ensures items { list.new.items ≡ list.old.items ++ item ∷ [] }
+    ensures capacity { vec_capacity list.old ≤ vec_capacity list.new }
+{
+    list.push(item).unwrap();
+}
+
+/// The shard with this node.
+fn open_shard(alloc: Global, topology: &Topology, node: Node) -> Shard
+    requires { is_shard topology.now node ≡ true }
+    ensures { Represents topology.now node result new_shard }
+{
+    match Shard::new(alloc, topology, node) {
+        Some(shard) => shard,
+        None => unreachable!(),
+    }
+}
+
+/// The shards.
+#[tactic(auto, using(crate::proofs::Beginning::none_yet, crate::proofs::Beginning::one_more, crate::proofs::Beginning::shards_begin, crate::proofs::Beginning::node_is_shard))]
+fn open_shards(alloc: Global, topology: &Topology) -> Result<Vec<Shard>, Fault>
+    ensures ok { IfOk result (λ shards. AreShards topology.now (λ node. new_shard) shards.items) }
+    ensures memory { IfErr result (λ e. e ≡ Fault.Memory) }
+{
+    let count = topology.shard_count();
+    let mut shards = Vec::with_capacity(alloc, usize::from(count))?;
+    for node in 0..count {
+        add(&mut shards, open_shard(alloc, topology, Node::new(node)));
+    }
+    Ok(shards)
+}
+
+/// A session.
+fn open_seat(alloc: Global, topology: &Topology, session: u16) -> Result<Seat, Fault>
+    requires { session < length topology.now.homes }
+    ensures ok { IfOk result (λ seat. Sits (opening topology.now) topology.now (shard_count topology.now + session) seat) }
+    ensures memory { IfErr result (λ e. e ≡ Fault.Memory) }
+{
+    let node = topology.session_node(session);
+    match topology.home_of(node) {
+        Some(home) => {
+            let session = Session::new(alloc, topology, node)?;
+            Ok(Seat {
+                node,
+                home,
+                session,
+                op: None,
+            })
+        }
+        None => unreachable!(),
+    }
+}
+
+/// The sessions.
+#[tactic(auto, using(crate::proofs::Beginning::none_yet, crate::proofs::Beginning::one_more, crate::proofs::Beginning::seats_begin))]
+fn open_seats(alloc: Global, topology: &Topology) -> Result<Vec<Seat>, Fault>
+    ensures ok { IfOk result (λ seats. AreSeats (opening topology.now) topology.now seats.items) }
+    ensures memory { IfErr result (λ e. e ≡ Fault.Memory) }
+{
+    let count = topology.homes().len();
+    let mut seats = Vec::with_capacity(alloc, count)?;
+    for session in 0..count as u16 {
+        match open_seat(alloc, topology, session) {
+            Ok(seat) => add(&mut seats, seat),
+            Err(fault) => {
+                close_seats(seats);
+                return Err(fault);
+            }
+        }
+    }
+    Ok(seats)
+}
+
+/// A copy of a topology. Refused with `Memory` alone.
+#[tactic(auto, using(crate::proofs::Beginning::sound_topology))]
+fn copy_of(alloc: Global, topology: &Topology) -> Result<Topology, Fault>
+    ensures same { IfOk result (λ copy. copy ≡ topology.now) }
+    ensures sound { IfOk result (λ copy. is_topology topology.now.dcs topology.now.shards topology.now.homes ≡ true) }
+    ensures memory { IfErr result (λ e. e ≡ Fault.Memory) }
+{
+    let schema = topology.schema().clone()?;
+    let homes = Vec::from_slice(alloc, topology.homes())?;
+    Topology::new(topology.dcs(), topology.shards().get(), schema, homes)
+}
+
+/// The actors.
+pub fn open_actors(alloc: Global, topology: &Topology) -> Result<Actors, Fault>
+    ensures ok { IfOk result (λ actors. (actors.topology ≡ topology.now) × IsRunning topology.now (opening topology.now) actors) }
+    ensures memory { IfErr result (λ e. e ≡ Fault.Memory) }
+{
+    let copy = copy_of(alloc, topology)?;
+    let seats = open_seats(alloc, topology)?;
+    match open_shards(alloc, topology) {
+        Ok(shards) => Ok(Actors {
+            topology: copy,
+            shards,
+            seats,
+            network: Outbox::new(alloc),
+            transcript: Vec::new(alloc),
+        }),
+        Err(fault) => {
+            close_seats(seats);
+            Err(fault)
+        }
+    }
+}
+
+/// Ends the shards.
+pub fn close_shards(mut shards: Vec<Shard>) {
+    while let Some(shard) = shards.pop() {
+        shard.close();
+    }
+    shards.destroy_empty();
+}
+
+/// Ends the sessions.
+pub fn close_seats(mut seats: Vec<Seat>) {
+    while let Some(seat) = seats.pop() {
+        let Seat {
+            node: _,
+            home: _,
+            session,
+            op: _,
+        } = seat;
+        session.close();
+    }
+    seats.destroy_empty();
+}

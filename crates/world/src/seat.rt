@@ -1,0 +1,105 @@
+//! Sessions in a world.
+ghost use Rattle.std.specs.Prelude.{◌≡◌, ◌+◌, ◌⊎◌, IfOk, IfErr, OnOk, OnErr};
+ghost use Rattle.logical_time.specs.declared.fault.Fault.TheVariants.{Memory};
+ghost use Rattle.messages.specs.Topology.{TopologyValue};
+ghost use Rattle.messages.specs.Session.{SessionState};
+ghost use Rattle.messages.specs.Submitting.{session_submit};
+ghost use Rattle.messages.specs.SessionEvents.{session_handle};
+ghost use Rattle.client.specs.Represents.{Represents, IsStepOf, IsRefusalOf};
+ghost use Rattle.client.specs.State.{finished_of};
+ghost use Rattle.world.specs.Run.{with_ended};
+ghost use Rattle.world.specs.Log.{HasRoom};
+ghost use Rattle.world.specs.Holds.{ended_as, kept_after};
+ghost use Rattle.world.specs.Steps.{DidSessionOf, DidSubmitOf};
+
+use crate::completed::Completed;
+use client::Session;
+use logical_time::{Fault, Node};
+use messages::{Envelope, Op, Outbox, Outcome};
+
+/// A session, and its open operation.
+pub struct Seat {
+    /// Its node.
+    pub node: Node,
+    /// Its home, as the number of a data centre.
+    pub home: u16,
+    /// The session.
+    pub session: Session,
+    /// The operation that it submitted last, until that ends.
+    pub op: Option<Op>,
+}
+
+impl Seat {
+    /// The session handles an envelope. What ended is added to the transcript. Refused as the session refuses it, and with
+    /// `Memory`; then nothing changes.
+    pub fn hear(
+        &mut self,
+        envelope: Envelope,
+        network: &mut Outbox,
+        transcript: &mut Vec<Completed>,
+    ) -> Result<(), Fault>
+        ensures ok { (top : TopologyValue) (a : SessionState) → Represents self.old.session top a
+            → OnOk result (DidSessionOf top (session_handle top self.old.session.node a envelope) self.old self.new network.old.sent network.new.sent transcript.old.items transcript.new.items) }
+        ensures refused { (top : TopologyValue) (a : SessionState) → Represents self.old.session top a
+            → IfErr result (λ e. (e ≡ Memory) ⊎ IsRefusalOf (session_handle top self.old.session.node a envelope) e) }
+        ensures same { OnErr result (self.new ≡ self.old) }
+        ensures unsent { OnErr result (network.new.sent ≡ network.old.sent) }
+        ensures untold { OnErr result (transcript.new.items ≡ transcript.old.items) }
+    {
+        transcript.reserve(1)?;
+        match self.session.handle(envelope, network) {
+            Ok(()) => {
+                let ended = self.session.take_answer();
+                self.tell(ended, transcript);
+                Ok(())
+            }
+            Err(refused) => Err(refused.fault),
+        }
+    }
+
+    /// What the session finished, if it finished something, is added to the transcript. There is room.
+    fn tell(&mut self, ended: Option<(u64, Outcome)>, transcript: &mut Vec<Completed>)
+        requires { HasRoom transcript.old }
+        ensures kept { self.new ≡ record self.old { op = kept_after self.old.op (finished_of ended) } }
+        ensures told { transcript.new.items ≡ with_ended transcript.old.items (ended_as self.old.node self.old.home self.old.op (finished_of ended)) }
+    {
+        match ended {
+            None => {}
+            Some((number, outcome)) => {
+                if let Some(op) = self.op.take() {
+                    let (node, home) = (self.node, self.home);
+                    let ended = Completed {
+                        node,
+                        number,
+                        home,
+                        op,
+                        outcome,
+                    };
+                    transcript.push(ended).unwrap();
+                }
+            }
+        }
+    }
+
+    /// The session submits an operation, which is kept beside it; the answer is its number. Refused as the session refuses
+    /// it; then nothing changes, and the operation is handed back.
+    pub fn submit(
+        &mut self,
+        op: Op,
+        kept: Op,
+        network: &mut Outbox,
+    ) -> Result<u64, (Fault, Op)>
+        ensures number { IfOk result (λ n. n ≡ self.old.session.count + 1) }
+        ensures ok { (top : TopologyValue) (a : SessionState) → Represents self.old.session top a
+            → OnOk result (DidSubmitOf top (session_submit top self.old.session.node a op) kept self.old self.new network.old.sent network.new.sent) }
+        ensures refused { (top : TopologyValue) (a : SessionState) → Represents self.old.session top a
+            → IfErr result (λ e. IsRefusalOf (session_submit top self.old.session.node a op) e.0) }
+        ensures same { OnErr result (self.new ≡ self.old) }
+        ensures unsent { OnErr result (network.new.sent ≡ network.old.sent) }
+        ensures back { IfErr result (λ e. e.1 ≡ op) }
+    {
+        let number = self.session.submit(op, network)?;
+        self.op = Some(kept);
+        Ok(number)
+    }
+}

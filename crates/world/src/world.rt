@@ -1,0 +1,178 @@
+//! Worlds: every interleaving of what actors do, as a list of calls.
+ghost use Rattle.std.specs.Prelude.{◌≡◌, ◌<◌, ◌+◌, ◌↔◌, ℕ, List, [], length, is_some, true, Some, None, option_map, IfOk, IfErr, OnOk, OnErr};
+ghost use Rattle.logical_time.specs.declared.fault.Fault.TheVariants as fault;
+ghost use Rattle.messages.specs.Topology.{is_shard, is_session};
+ghost use Rattle.world.specs.Run.{Submit, Deliver, Collect};
+ghost use Rattle.world.specs.Quiet.{IsQuiet};
+ghost use Rattle.world.specs.Lookups.{first_unhandled};
+ghost use Rattle.world.specs.World.{run_of, refusal_in, Takes, IsRefusedAs};
+
+use crate::actors::Actors;
+use crate::completed::Completed;
+use crate::log::Log;
+use crate::opening::{close_seats, close_shards, open_actors};
+use logical_time::{Fault, Node, Time};
+use messages::{Envelope, Op, Topology};
+use std::alloc::Global;
+use std::marker::Model;
+
+/// The actors of a topology and the network between them, moved by hand: each call is one event of one actor. It is the
+/// protocol's run of its events: what it answers is what that run says. It must be closed.
+pub struct World {
+    actors: Actors,
+    log: Log,
+}
+
+impl Model for World {
+    ghost use Rattle.world.specs.World.{WorldValue};
+    ghost use Rattle.world.specs.Holds.{Holds};
+
+    ghost Value = { WorldValue };
+
+    ghost view = { λ w. record { top = w.actors.topology; events = w.log.events.items } };
+
+    ghost invariant = { λ w. Holds w.actors.topology w.actors w.log };
+}
+
+impl World {
+    /// The actors of this topology, before their first events. Refused with `Memory` alone.
+    pub fn new(alloc: Global, topology: &Topology) -> Result<World, Fault>
+        ensures made { IfOk result (λ w. w ≡ record { top = topology.now; events = [] }) }
+        ensures memory { IfErr result (λ e. e ≡ Fault.Memory) }
+    {
+        let actors = open_actors(alloc, topology)?;
+        Ok(World {
+            actors,
+            log: Log::new(alloc),
+        })
+    }
+
+    /// A session submits an operation; the answer is its number among the session's operations, from 1. That the node is a
+    /// session's is the caller's condition. In the order of m log m for m mutations or keys. Refused with `Busy` while
+    /// another operation is open, then as `plan_batch` and `plan_read` refuse it, then with `ClockSpent`, and with `Memory`;
+    /// then nothing changes, and the operation is handed back.
+    #[tactic(auto, using(crate::proofs::Held::submission_holds, crate::proofs::Held::still_holds, crate::proofs::Held::still_logged, crate::proofs::Held::takes, crate::proofs::Held::seat_from, crate::proofs::Held::seat_below))]
+    pub fn submit(&mut self, session: Node, op: Op) -> Result<u64, (Fault, Op)>
+        requires { is_session self.old.top session ≡ true }
+        ensures number { IfOk result (λ n. n ≡ ((run_of self.old).sessions session).count + 1) }
+        ensures taken { OnOk result (Takes self.old (Submit session op) self.new) }
+        ensures refused { IfErr result (λ e. IsRefusedAs (refusal_in self.old (Submit session op)) e.0) }
+        ensures same { OnErr result (self.new ≡ self.old) }
+        ensures back { IfErr result (λ e. e.1 ≡ op) }
+    {
+        if let Err(fault) = self.log.make_room_for_submission() {
+            return Err((fault, op));
+        }
+        let (kept, listed, told) = match copies(&op) {
+            Ok(copies) => copies,
+            Err(fault) => return Err((fault, op)),
+        };
+        let number = self.actors.submit(session, op, kept)?;
+        self.log.add_submission(session, number, listed, told);
+        Ok(number)
+    }
+
+    /// A message is delivered, for the first time or again. That one of this number was sent is the caller's condition.
+    /// Costs what the actor's event does. Refused with `ClockSpent` where the clock of its actor would leave its range, and
+    /// with `Memory`; then nothing changes.
+    #[tactic(auto, using(crate::proofs::Held::delivery_holds, crate::proofs::Held::still_holds, crate::proofs::Held::still_logged, crate::proofs::Held::takes, crate::proofs::Held::addressed, crate::proofs::Held::sent_number))]
+    pub fn deliver(&mut self, number: usize) -> Result<(), Fault>
+        requires { number < length (run_of self.old).sent }
+        ensures taken { OnOk result (Takes self.old (Deliver number) self.new) }
+        ensures refused { IfErr result (IsRefusedAs (refusal_in self.old (Deliver number))) }
+        ensures same { OnErr result (self.new ≡ self.old) }
+    {
+        self.log.make_room_for_delivery(number)?;
+        self.actors.deliver(number)?;
+        self.log.add_delivery(number);
+        Ok(())
+    }
+
+    /// A shard collects up to a time. That the node is a shard's is the caller's condition. Refused with `ClockSpent` where
+    /// its clock would leave its range, and with `Memory`; then nothing changes.
+    #[tactic(auto, using(crate::proofs::Held::collection_holds, crate::proofs::Held::still_holds, crate::proofs::Held::still_logged, crate::proofs::Held::takes, crate::proofs::Held::shard_place))]
+    pub fn collect(&mut self, shard: Node, time: Time) -> Result<(), Fault>
+        requires { is_shard self.old.top shard ≡ true }
+        ensures taken { OnOk result (Takes self.old (Collect shard time) self.new) }
+        ensures refused { IfErr result (IsRefusedAs (refusal_in self.old (Collect shard time))) }
+        ensures same { OnErr result (self.new ≡ self.old) }
+    {
+        self.log.make_room_for_collection()?;
+        self.actors.collect(shard, time)?;
+        self.log.add_collection(shard, time);
+        Ok(())
+    }
+
+    /// Which actors there are.
+    pub fn topology(&self) -> &Topology
+        ensures { result.now ≡ self.now.top }
+    {
+        &self.actors.topology
+    }
+
+    /// How many messages were sent: they are numbered from 0.
+    #[tactic(auto, using(crate::proofs::Held::told_sent))]
+    pub fn sent(&self) -> usize
+        ensures { result ≡ length (run_of self.now).sent }
+    {
+        self.actors.network.len()
+    }
+
+    /// The messages, in the order of sending.
+    #[tactic(auto, using(crate::proofs::Held::told_sent))]
+    pub fn messages(&self) -> &[Envelope]
+        ensures { result.now ≡ (run_of self.now).sent }
+    {
+        self.actors.network.as_slice()
+    }
+
+    /// The number of the first message that wasn't delivered, if one wasn't. Takes no search.
+    #[tactic(auto, using(crate::proofs::Held::first_found))]
+    pub fn first_unhandled(&self) -> Option<usize>
+        ensures { result ≡ first_unhandled (run_of self.now) }
+    {
+        let first = self.log.delivered.first();
+        if first < self.sent() { Some(first) } else { None }
+    }
+
+    /// Whether each message that was sent was delivered.
+    #[tactic(auto, using(crate::proofs::Held::told_quiet))]
+    pub fn is_quiet(&self) -> bool
+        ensures exact { (result ≡ true) ↔ IsQuiet (run_of self.now) }
+    {
+        match self.first_unhandled() {
+            Some(_) => false,
+            None => true,
+        }
+    }
+
+    /// The operations that ended, in order.
+    #[tactic(auto, using(crate::proofs::Held::told_transcript))]
+    pub fn transcript(&self) -> &[Completed]
+        ensures listed { result.now ≡ (run_of self.now).transcript }
+    {
+        self.actors.transcript.as_slice()
+    }
+
+    /// Ends the world, and gives up what isn't finished.
+    pub fn close(self) {
+        let World { actors, log: _ } = self;
+        let Actors {
+            topology: _,
+            shards,
+            seats,
+            network: _,
+            transcript: _,
+        } = actors;
+        close_shards(shards);
+        close_seats(seats);
+    }
+}
+
+/// Three copies of an operation, which share the bytes of keys, names and values. Refused with `Memory` alone.
+fn copies(op: &Op) -> Result<(Op, Op, Op), Fault>
+    ensures ok { IfOk result (λ c. (c.0 ≡ op.now) × (c.1 ≡ op.now) × (c.2 ≡ op.now)) }
+    ensures memory { IfErr result (λ e. e ≡ Fault.Memory) }
+{
+    Ok((op.copied()?, op.copied()?, op.copied()?))
+}
