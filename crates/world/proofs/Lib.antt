@@ -140,3 +140,4 @@ pub mod Opened
 pub mod Replacing
 pub mod Held
 pub mod Beginning
+pub mod AskedFor

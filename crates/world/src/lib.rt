@@ -7,6 +7,7 @@
 mod actors;
 mod completed;
 mod delivered;
+mod history;
 mod journals;
 mod law;
 mod log;

@@ -3,18 +3,21 @@ ghost use Rattle.std.specs.Prelude.{◌≡◌, ◌<◌, ◌+◌, ◌↔◌, ℕ,
 ghost use Rattle.logical_time.specs.declared.fault.Fault.TheVariants as fault;
 ghost use Rattle.messages.specs.Topology.{is_shard, is_session};
 ghost use Rattle.world.specs.Run.{Submit, Deliver, Collect};
+ghost use Rattle.world.specs.Histories.{IsHistory};
 ghost use Rattle.world.specs.Quiet.{IsQuiet};
 ghost use Rattle.world.specs.Lookups.{first_unhandled};
 ghost use Rattle.world.specs.World.{run_of, refusal_in, Takes, IsRefusedAs};
 
 use crate::actors::Actors;
 use crate::completed::Completed;
+use crate::history::history;
 use crate::log::Log;
 use crate::opening::{close_seats, close_shards, open_actors};
 use logical_time::{Fault, Node, Time};
 use messages::{Envelope, Op, Topology};
 use std::alloc::Global;
 use std::marker::Model;
+use table::History;
 
 /// The actors of a topology and the network between them, moved by hand: each call is one event of one actor. It is the
 /// protocol's run of its events: what it answers is what that run says. It must be closed.
@@ -152,6 +155,20 @@ impl World {
         ensures listed { result.now ≡ (run_of self.now).transcript }
     {
         self.actors.transcript.as_slice()
+    }
+
+    /// The history of a data centre: an entry for each submitted batch that its coordinator there has decided, in the order of
+    /// submission. That there is such a data centre is the caller's condition. In the order of m log n for m submitted
+    /// operations and n transactions, beside the copies, which share the bytes of keys, names and values. Refused with
+    /// `Memory` alone.
+    #[tactic(auto, using(crate::proofs::AskedFor::asked_is_history))]
+    pub fn history(&self, alloc: Global, dc: u16) -> Result<History, Fault>
+        requires { dc < self.now.top.dcs }
+        ensures listed { IfOk result (λ h. IsHistory self.now.top (run_of self.now) dc h) }
+        ensures memory { IfErr result (λ e. e ≡ Fault.Memory) }
+    {
+        let submitted = self.log.submitted.as_slice();
+        history(alloc, self.actors.topology.home(dc), self.actors.shards.as_slice(), submitted)
     }
 
     /// Ends the world, and gives up what isn't finished.
