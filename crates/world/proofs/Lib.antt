@@ -141,3 +141,4 @@ pub mod Replacing
 pub mod Held
 pub mod Beginning
 pub mod AskedFor
+pub mod Promised

@@ -217,8 +217,8 @@ seat_refuses top events k i e a s f is sent to at lt refused =
     elim (refused top (w.sessions e.to) n.2) [
       | inl memory ↦ inl memory
       | inr so ↦
-        refused_session top events (refusal_of top w (Deliver k)) (session_handle top e.to (w.sessions e.to) e) f (session_refusal top w k e there kind.0 kind.1)
-        (subst (λ z. session.IsRefusalOf (session_handle top z (w.sessions e.to) e) f) n.1 so)
+          refused_session top events (refusal_of top w (Deliver k)) (session_handle top e.to (w.sessions e.to) e) f (session_refusal top w k e there kind.0 kind.1)
+          (subst (λ z. session.IsRefusalOf (session_handle top z (w.sessions e.to) e) f) n.1 so)
     ]
 
 pub seats_still : (top : TopologyValue) (events : List Event) (a b : Actors) (i : ℕ) (s : Seat) → IsRunning top (run top events) a

@@ -83,12 +83,7 @@ impl Seat {
 
     /// The session submits an operation, which is kept beside it; the answer is its number. Refused as the session refuses
     /// it; then nothing changes, and the operation is handed back.
-    pub fn submit(
-        &mut self,
-        op: Op,
-        kept: Op,
-        network: &mut Outbox,
-    ) -> Result<u64, (Fault, Op)>
+    pub fn submit(&mut self, op: Op, kept: Op, network: &mut Outbox) -> Result<u64, (Fault, Op)>
         ensures number { IfOk result (λ n. n ≡ self.old.session.count + 1) }
         ensures ok { (top : TopologyValue) (a : SessionState) → Represents self.old.session top a
             → OnOk result (DidSubmitOf top (session_submit top self.old.session.node a op) kept self.old self.new network.old.sent network.new.sent) }

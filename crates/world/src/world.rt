@@ -1,8 +1,14 @@
 //! Worlds: every interleaving of what actors do, as a list of calls.
-ghost use Rattle.std.specs.Prelude.{◌≡◌, ◌<◌, ◌+◌, ◌↔◌, ℕ, List, [], length, is_some, true, Some, None, option_map, IfOk, IfErr, OnOk, OnErr};
+ghost use Rattle.std.specs.Prelude.{◌≡◌, ◌<◌, ◌+◌, ◌++◌, ◌↔◌, ℕ, List, [], length, is_some, true, Some, None, option_map, IfOk, IfErr, OnOk, OnErr};
 ghost use Rattle.logical_time.specs.declared.fault.Fault.TheVariants as fault;
 ghost use Rattle.messages.specs.Topology.{is_shard, is_session};
-ghost use Rattle.world.specs.Run.{Submit, Deliver, Collect};
+ghost use Rattle.world.specs.Run.{Event, Submit, Deliver, Collect};
+ghost use Rattle.world.specs.Causes.{PastsAreDecided};
+ghost use Rattle.world.specs.Collected.{CollectedIsBelowHorizon};
+ghost use Rattle.world.specs.Entries.{TellsDecided, StampsAgree, WritesAreTold};
+ghost use Rattle.world.specs.Fresh.{FirstRoundsAreWhole};
+ghost use Rattle.world.specs.Promises.{EntriesAreOfSubmissions, LaterCommitsAreAbove, OutcomesAreListed, ReadsShowOneTable, AnswersStay, ReadsShowTheirPast, ReadsAreFresh, StampsFollowCauses, TimesNeverFall, OperationsEndOnce, HistoriesGrow};
+ghost use Rattle.world.specs.Settled.{Settled};
 ghost use Rattle.world.specs.Histories.{IsHistory};
 ghost use Rattle.world.specs.Quiet.{IsQuiet};
 ghost use Rattle.world.specs.Lookups.{first_unhandled};
@@ -132,16 +138,23 @@ impl World {
     /// The number of the first message that wasn't delivered, if one wasn't. Takes no search.
     #[tactic(auto, using(crate::proofs::Held::first_found))]
     pub fn first_unhandled(&self) -> Option<usize>
-        ensures { result ≡ first_unhandled (run_of self.now) }
+        ensures exact { result ≡ first_unhandled (run_of self.now) }
+        // without one, every operation has its outcome, every write is committed everywhere, and all tables are equal
+        ensures done { result ≡ None → Settled self.now.top (run_of self.now) }
     {
         let first = self.log.delivered.first();
-        if first < self.sent() { Some(first) } else { None }
+        if first < self.sent() {
+            Some(first)
+        } else {
+            None
+        }
     }
 
     /// Whether each message that was sent was delivered.
     #[tactic(auto, using(crate::proofs::Held::told_quiet))]
     pub fn is_quiet(&self) -> bool
         ensures exact { (result ≡ true) ↔ IsQuiet (run_of self.now) }
+        ensures done { result ≡ true → Settled self.now.top (run_of self.now) }
     {
         match self.first_unhandled() {
             Some(_) => false,
@@ -150,9 +163,28 @@ impl World {
     }
 
     /// The operations that ended, in order.
-    #[tactic(auto, using(crate::proofs::Held::told_transcript))]
+    #[tactic(auto, using(crate::proofs::Held::told_transcript, crate::proofs::Promised::is_of, crate::proofs::Promised::one_table, crate::proofs::Promised::stays, crate::proofs::Promised::past, crate::proofs::Promised::fresh, crate::proofs::Promised::whole, crate::proofs::Promised::above, crate::proofs::Promised::given_up, crate::proofs::Promised::entries, crate::proofs::Promised::outcomes, crate::proofs::Promised::once, crate::proofs::Promised::told, crate::proofs::Promised::times))]
     pub fn transcript(&self) -> &[Completed]
         ensures listed { result.now ≡ (run_of self.now).transcript }
+        // each read is answered with the meaning of its request on one table: its home's history at its effective time
+        ensures one_table { ReadsShowOneTable self.now.top (run_of self.now) }
+        // now and whenever the world was looked at before
+        ensures stays { (before after : List Event) → self.now.events ≡ before ++ after → AnswersStay self.now.top before after }
+        // that table holds each write before the read, and nothing older than the asked shards had applied
+        ensures past { ReadsShowTheirPast self.now.top (run_of self.now) }
+        ensures fresh { ReadsAreFresh self.now.top (run_of self.now) }
+        ensures whole { FirstRoundsAreWhole self.now.top (run_of self.now) }
+        // what is committed there later has a greater commit time
+        ensures above { (before after : List Event) → self.now.events ≡ before ++ after → LaterCommitsAreAbove self.now.top before after }
+        // a read is given up only below the horizon of a shard that it asked
+        ensures given_up { CollectedIsBelowHorizon self.now.top (run_of self.now) }
+        // each entry is of a submitted operation, each operation ends once, as its session tells it
+        ensures entries { EntriesAreOfSubmissions (run_of self.now) }
+        ensures outcomes { OutcomesAreListed self.now.top (run_of self.now) }
+        ensures once { OperationsEndOnce (run_of self.now) }
+        // each completed write stands in the history of its home, and the times of a session never fall
+        ensures told { WritesAreTold self.now.top (run_of self.now) }
+        ensures times { TimesNeverFall (run_of self.now) }
     {
         self.actors.transcript.as_slice()
     }
@@ -161,14 +193,27 @@ impl World {
     /// submission. That there is such a data centre is the caller's condition. In the order of m log n for m submitted
     /// operations and n transactions, beside the copies, which share the bytes of keys, names and values. Refused with
     /// `Memory` alone.
-    #[tactic(auto, using(crate::proofs::AskedFor::asked_is_history))]
+    #[tactic(auto, using(crate::proofs::Promised::is_of, crate::proofs::Promised::tells, crate::proofs::Promised::grows, crate::proofs::Promised::stamps, crate::proofs::Promised::causes, crate::proofs::Promised::pasts))]
     pub fn history(&self, alloc: Global, dc: u16) -> Result<History, Fault>
         requires { dc < self.now.top.dcs }
         ensures listed { IfOk result (λ h. IsHistory self.now.top (run_of self.now) dc h) }
+        // an entry for each transaction that is decided there, and no other
+        ensures tells { IfOk result (λ h. TellsDecided self.now.top (run_of self.now) dc h) }
+        // it only grew
+        ensures grows { (before after : List Event) → self.now.events ≡ before ++ after → HistoriesGrow self.now.top before after }
+        // a transaction has one stamp everywhere, its own; stamps follow causal order, as do commit times within a data centre
+        ensures stamps { StampsAgree self.now.top (run_of self.now) }
+        ensures causes { StampsFollowCauses self.now.top (run_of self.now) }
+        ensures pasts { PastsAreDecided self.now.top (run_of self.now) }
         ensures memory { IfErr result (λ e. e ≡ Fault.Memory) }
     {
         let submitted = self.log.submitted.as_slice();
-        history(alloc, self.actors.topology.home(dc), self.actors.shards.as_slice(), submitted)
+        history(
+            alloc,
+            self.actors.topology.home(dc),
+            self.actors.shards.as_slice(),
+            submitted,
+        )
     }
 
     /// Ends the world, and gives up what isn't finished.
