@@ -4,7 +4,7 @@
 //! What it keeps is less than the definitions' state, which keeps everything for good: what it knows of each transaction, the
 //! parts and ballots under way, what was applied, and whoever waits. Each event makes all its room first, so what is refused
 //! changes nothing. That one shard is right is also a law of the definitions alone, and forms that resemble it and are false
-//! are refuted. `eiger` has no shard yet; `cases` has some.
+//! are refuted.
 #![tactic(auto)]
 
 mod answers;

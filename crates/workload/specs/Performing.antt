@@ -8,7 +8,7 @@ use Rattle.workload.specs.Script.{script_of}
 use Rattle.workload.specs.Simulation.{IsTranscriptOf}
 use Rattle.workload.specs.Text.{text_of}
 
--- the input spells a script, and the text is that of a transcript that the script may have
+-- the input spells a script, and the text is that of the script's transcript
 abbrev pub IsTextFor : List ℕ → List ℕ → Type 0
 IsTextFor input text =
     (script : Script) × (entries : List Entry) × (option_and_then script_of (read input) ≡ Some script)

@@ -1,7 +1,9 @@
 //! Runs of all actors, as definitions: which events there are, what each makes of a run, and what is said of runs. What is
 //! promised of every run is proved as laws, and forms that resemble these and are false are refuted.
 //!
-//! No program runs them yet. The worked runs are laws too: each computes to the outcomes, clocks and times that are stated.
+//! `World` is such a run in code: it holds the actors of a topology and all that they sent, and each call is one event. What is
+//! promised of every run are clauses of its calls. The worked runs are laws: each computes to the outcomes, clocks and times
+//! that are stated.
 #![tactic(auto)]
 
 mod actors;
