@@ -16,13 +16,13 @@ returns-in_default-clause-ok c =
     let left = 1000000 - c.loop-delivered.delivered in
     let whole : c.loop-delivered.delivered + left ≡ 1000000 = omega arith in
     whole_drain c.args.world.now c.loop-delivered.world c.loop-delivered.invariant.topology c.loop-delivered.delivered left (c.loop-delivered.invariant.underway left whole) whole
-    (sym c.first_unhandled.ensures ∙ c.in_default.is)
+    (sym c.first_unhandled.ensures.exact ∙ c.in_default.is)
 
 pub returns-in_default-clause-topology : goal.returns-in_default-clause-topology
 returns-in_default-clause-topology c = c.loop-delivered.invariant.topology
 
 pub deliver-requires : goal.deliver-requires
-deliver-requires c = sent_unhandled (run_of c.loop-delivered.world) c.in-Some.number (sym c.first_unhandled.ensures ∙ c.in-Some.is)
+deliver-requires c = sent_unhandled (run_of c.loop-delivered.world) c.in-Some.number (sym c.first_unhandled.ensures.exact ∙ c.in-Some.is)
 
 pub returns-in_err-deliver-clause-refused : goal.returns-in_err-deliver-clause-refused
 returns-in_err-deliver-clause-refused c =
@@ -31,7 +31,7 @@ returns-in_err-deliver-clause-refused c =
     let p = err_from_is_err_and c.from_residual.result c.from_residual.ensures.1 in
     rw (p.1, p.2, c.in_err-deliver.ensures.same)
     (refused_drain c.args.world.now c.loop-delivered.world c.loop-delivered.invariant.topology c.loop-delivered.delivered left c.in-Some.number c.in_err-deliver.field-0.0
-    (c.loop-delivered.invariant.underway (suc left) whole) whole (sym c.first_unhandled.ensures ∙ c.in-Some.is) c.in_err-deliver.ensures.refused)
+    (c.loop-delivered.invariant.underway (suc left) whole) whole (sym c.first_unhandled.ensures.exact ∙ c.in-Some.is) c.in_err-deliver.ensures.refused)
 
 pub returns-in_err-deliver-clause-topology : goal.returns-in_err-deliver-clause-topology
 returns-in_err-deliver-clause-topology c = ap (λ (w : WorldValue). w.top) c.in_err-deliver.ensures.same ∙ c.loop-delivered.invariant.topology
@@ -41,7 +41,7 @@ loop-delivered-preserved c = record {
   topology = ap (λ (w : WorldValue). w.top) c.in_ok-deliver.ensures.taken.happened ∙ c.loop-delivered.invariant.topology;
   underway = λ left whole.
       taken_more c.args.world.now c.loop-delivered.world c.loop-delivered.invariant.topology c.loop-delivered.delivered left c.deliver.new.self c.in-Some.number
-      (c.loop-delivered.invariant.underway (suc left) (omega arith)) (sym c.first_unhandled.ensures ∙ c.in-Some.is) c.in_ok-deliver.ensures.taken;
+      (c.loop-delivered.invariant.underway (suc left) (omega arith)) (sym c.first_unhandled.ensures.exact ∙ c.in-Some.is) c.in_ok-deliver.ensures.taken;
 }
 
 pub returns-clause-ok : goal.returns-clause-ok
