@@ -1,6 +1,6 @@
 -- What one gets by asking a world's shards is the history of the run.
 use Rattle.std.proofs.Common.{◌≡◌, ◌∙◌, ℕ, zero, suc, ◌+◌, ◌*◌, ◌<◌, ◌≤◌, List, [], ◌∷◌, ◌++◌, map, length, slice_get, take, take_all, Option, Some, None, Result, Ok, Err, refl, sym, ap, subst, arith}
-use Rattle.std.specs.Prelude.{IfOk, filter_map, option_to_list, option_map, option_and_then, slice_index_or}
+use Rattle.std.specs.Prelude.{IfOk, filter_map, option_to_list, option_map, option_and_then}
 use Rattle.std.specs.List.{cons_option}
 use Rattle.std.proofs.Math.Nat.{mul-le-mul_right}
 use Rattle.logical_time.specs.declared.fault.Fault.{Fault}
@@ -10,10 +10,9 @@ use Rattle.column_family.specs.declared.batch.Committed.{Committed}
 use Rattle.column_family.specs.Normal.{committed}
 use Rattle.slice.specs.declared.read.Read.{Read}
 use Rattle.planner.specs.Plan.{coordinator_of}
-use Rattle.messages.specs.declared.op.Op.{Op}
 use Rattle.messages.specs.declared.op.Op.TheVariants as op
 use Rattle.messages.specs.Home.{HomeValue}
-use Rattle.messages.specs.Topology.{TopologyValue, is_topology, shard_node, shard_count}
+use Rattle.messages.specs.Topology.{TopologyValue, shard_node}
 use Rattle.messages.specs.Shard.{ShardState, Decision}
 use Rattle.messages.specs.Known.{decision_of}
 use Rattle.shard.specs.declared.kept.Kept.{Kept}
@@ -23,7 +22,7 @@ use Rattle.world.specs.declared.log.Log.{Log}
 use Rattle.world.specs.declared.submitted.Submitted.{Submitted}
 use Rattle.world.specs.Run.{Run, Submission, run}
 use Rattle.world.specs.Histories.{batch_in, IsHistory}
-use Rattle.world.specs.Lookups.{entry_asked, history_asked}
+use Rattle.world.specs.Lookups.{entry_asked}
 use Rattle.world.specs.Asked.{entry_by, entry_of}
 use Rattle.world.specs.Holds.{AreShards, Holds, submitted_as}
 use Rattle.world.specs.World.{WorldValue, run_of}

@@ -1,5 +1,5 @@
 -- Each entry of the transcript came at an event: the delivery of a message that ended the operation of its session.
-use Rattle.std.proofs.Common.{◌<◌, Option, None, ◌≡◌, ◌∙◌, ℕ, ap, sym, refl, subst, true, inl, inr, List, [], ◌∷◌, ◌++◌, length, drop, Some, slice_get}
+use Rattle.std.proofs.Common.{◌<◌, Option, None, ◌≡◌, ◌∙◌, ℕ, ap, sym, refl, subst, true, inl, inr, List, [], ◌∷◌, ◌++◌, Some, slice_get}
 use Rattle.std.specs.Prelude.{◌⊎◌}
 use Rattle.slice.specs.declared.read.Read.{Read}
 use Rattle.messages.specs.declared.rows_now.RowNow.{RowNow}
@@ -14,7 +14,7 @@ use Rattle.messages.specs.Session.{SessionState, SessionStep, HeardNow, HeardAt,
 use Rattle.messages.specs.Rounds.{asked_nodes, all_heard}
 use Rattle.messages.specs.SessionEvents.{heard}
 use Rattle.world.specs.Run.{Run, Event, Deliver, Completed, ended_by, with_ended, submission_by, opening, step, continued, run}
-use Rattle.world.proofs.Among.{Among, among_append}
+use Rattle.world.proofs.Among.{Among}
 use Rattle.world.proofs.EventCases.{event_cases}
 use Rattle.world.proofs.Invariant.{Inv}
 use Rattle.world.proofs.Runs.{opening_holds, step_kept}

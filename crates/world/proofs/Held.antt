@@ -1,6 +1,6 @@
 -- What a world keeps stands for its run after each event.
-use Rattle.std.proofs.Common.{◌≡◌, ◌∙◌, ℕ, ◌+◌, ◌<◌, ◌≤◌, zero, suc, Bool, true, false, ◌||◌, List, [], ◌∷◌, ◌++◌, map, length, Option, Some, None, ◌⊎◌, inl, inr, refl, sym, ap, subst, arith, eqb-true, eq-eqb, leb-true, ltb-true, slice_get}
-use Rattle.std.specs.Prelude.{◌==◌, filter_map, find, not, nat_lt, nat_le, ◌↔◌, Contains}
+use Rattle.std.proofs.Common.{◌≡◌, ◌∙◌, ℕ, ◌+◌, ◌<◌, ◌≤◌, zero, suc, Bool, true, false, ◌||◌, List, [], ◌∷◌, ◌++◌, map, length, Option, Some, None, inl, inr, refl, sym, ap, subst, arith, eqb-true, eq-eqb, leb-true, ltb-true, slice_get}
+use Rattle.std.specs.Prelude.{◌==◌, filter_map, find, not, nat_lt, nat_le, ◌↔◌}
 use Rattle.std.specs.List.{list_any, range_with_len}
 use Rattle.std.specs.Prelude.{if◌then◌else◌}
 use Rattle.std.proofs.lemmas.Bool.{false≢true, and_parts}
@@ -13,12 +13,11 @@ use Rattle.messages.specs.Clock.{ticked, on_clock}
 use Rattle.messages.specs.Submitting.{begun, submit_fault, submit_if as submitted_if, session_submit}
 use Rattle.messages.specs.declared.op.Op.{Op}
 use Rattle.messages.specs.declared.envelope.Envelope.{Envelope}
-use Rattle.messages.specs.Topology.{TopologyValue, is_topology, is_shard, is_session, shard_count, node_count}
-use Rattle.messages.specs.Session.{SessionState, is_idle}
+use Rattle.messages.specs.Topology.{TopologyValue, is_shard, is_session, shard_count, node_count}
+use Rattle.messages.specs.Session.{is_idle}
 use Rattle.world.specs.declared.actors.Actors.{Actors}
 use Rattle.world.specs.declared.log.Log.{Log}
-use Rattle.world.specs.declared.submitted.Submitted.{Submitted}
-use Rattle.world.specs.Run.{Run, Event, Submit, Deliver, Collect, Submission, opening, submission_by, after_submission, submit_if, step, run}
+use Rattle.world.specs.Run.{Run, Event, Submit, Deliver, Collect, opening, submission_by, after_submission, submit_if, step, run}
 use Rattle.world.specs.Refusals.{NoSuchActor, refused_by, refusal_of}
 use Rattle.world.specs.Quiet.{number_delivered, handled, IsQuiet}
 use Rattle.world.specs.Lookups.{first_unhandled}

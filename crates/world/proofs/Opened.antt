@@ -1,7 +1,6 @@
 -- A submission that a session accepts is taken by the run.
-use Rattle.std.proofs.Common.{◌≡◌, ◌∙◌, ℕ, zero, suc, ◌+◌, ◌<◌, ◌≤◌, Bool, true, false, List, [], ◌∷◌, ◌++◌, length, slice_get, Option, Some, None, Result, Ok, Err, ◌⊎◌, inl, inr, refl, sym, ap, subst, arith}
+use Rattle.std.proofs.Common.{◌≡◌, ◌∙◌, ℕ, ◌+◌, ◌<◌, Bool, true, false, List, [], ◌∷◌, ◌++◌, length, slice_get, Option, Some, None, Ok, inl, inr, refl, sym, ap, subst, arith}
 use Rattle.std.specs.Prelude.{slice_set, if◌then◌else◌, find}
-use Rattle.std.proofs.lemmas.Bool.{false≢true}
 use Rattle.logical_time.specs.Stamps.{TxnValue}
 use Rattle.logical_time.specs.declared.fault.Fault.{Fault}
 use Rattle.messages.specs.declared.op.Op.{Op}
@@ -15,12 +14,12 @@ use Rattle.messages.specs.SessionEvents.{session_taken}
 use Rattle.client.specs.Represents as session
 use Rattle.world.specs.declared.actors.Actors.{Actors}
 use Rattle.world.specs.declared.seat.Seat.{Seat}
-use Rattle.world.specs.Run.{Run, Event, Submit, Submission, submission_of, submission_by, ended_by, with_ended, with_actor, after_submission, submit_if, step, run}
+use Rattle.world.specs.Run.{Run, Event, Submit, Submission, submission_of, submission_by, with_ended, after_submission, submit_if, step, run}
 use Rattle.world.specs.Refusals.{NoSuchActor, refused_by, refusal_of}
 use Rattle.world.specs.Holds.{AreShards, AreSeats, Sits, IsOpOf, IsRunning, HasTaken}
 use Rattle.world.specs.World.{IsRefusedAs}
 use Rattle.world.specs.Steps.{DidSubmit, DidSubmitOf}
-use Rattle.world.proofs.Among.{Among, any_false, same_txn, same_txn_self}
+use Rattle.world.proofs.Among.{Among, same_txn, same_txn_self}
 use Rattle.world.proofs.Invariant.{Inv}
 use Rattle.world.proofs.ShardSteps.{actor_same}
 use Rattle.world.proofs.Runs.{every_run}

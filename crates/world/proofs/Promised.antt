@@ -1,10 +1,10 @@
 -- What is promised of every run holds of the run that a world is.
-use Rattle.std.proofs.Common.{◌≡◌, ◌<◌, ℕ, List, ◌++◌, true, sym, subst, ap}
+use Rattle.std.proofs.Common.{◌≡◌, ◌<◌, ℕ, List, ◌++◌, true, subst}
 use Rattle.column_family.specs.History.{History}
-use Rattle.messages.specs.Topology.{TopologyValue, is_topology}
+use Rattle.messages.specs.Topology.{is_topology}
 use Rattle.world.specs.declared.actors.Actors.{Actors}
 use Rattle.world.specs.declared.log.Log.{Log}
-use Rattle.world.specs.Run.{Run, Event, run}
+use Rattle.world.specs.Run.{Event}
 use Rattle.world.specs.Histories.{IsHistory}
 use Rattle.world.specs.Holds.{Holds}
 use Rattle.world.specs.World.{WorldValue, run_of}

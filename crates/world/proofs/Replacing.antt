@@ -1,6 +1,6 @@
 -- One actor of a list does its step.
 use Rattle.std.proofs.Common.{◌≡◌, ◌∙◌, ℕ, ◌<◌, List, length, slice_get, Some, Result, Ok, Err, refl, sym, ap, subst}
-use Rattle.std.specs.Prelude.{slice_set, slice_index_or, OnOk, OnErr, IfErr}
+use Rattle.std.specs.Prelude.{slice_set, slice_index_or, OnOk, IfErr}
 use Rattle.std.proofs.lemmas.Option.{slice_get-get_or}
 use Rattle.logical_time.specs.declared.fault.Fault.{Fault}
 use Rattle.messages.specs.declared.envelope.Envelope.{Envelope}

@@ -1,26 +1,26 @@
 -- What a world keeps goes on to stand for its run, with each step of an actor.
-use Rattle.std.proofs.Common.{◌≡◌, ◌∙◌, ℕ, zero, suc, ◌+◌, ◌<◌, ◌≤◌, Bool, true, false, cond, List, [], ◌∷◌, ◌++◌, length, slice_get, Option, Some, None, Ok, refl, sym, ap, subst, arith, eqb-true, eq-eqb}
-use Rattle.std.specs.Prelude.{◌==◌, slice_set, option_map, option_and_then, find}
+use Rattle.std.proofs.Common.{◌≡◌, ◌∙◌, ℕ, zero, suc, ◌+◌, ◌<◌, Bool, true, false, cond, List, [], ◌∷◌, ◌++◌, length, slice_get, Option, Some, None, Ok, refl, sym, ap, subst, arith, eqb-true, eq-eqb}
+use Rattle.std.specs.Prelude.{◌==◌, slice_set, option_map, option_and_then}
 use Rattle.std.proofs.lemmas.Bool.{false≢true}
 use Rattle.logical_time.specs.Stamps.{TxnValue, WriterValue}
 use Rattle.messages.specs.declared.op.Op.{Op}
 use Rattle.messages.specs.declared.outcome.Outcome.{Outcome}
 use Rattle.messages.specs.declared.body.Body.{Body}
 use Rattle.messages.specs.declared.envelope.Envelope.{Envelope}
-use Rattle.messages.specs.Topology.{TopologyValue, shard_count, home_of}
+use Rattle.messages.specs.Topology.{TopologyValue, shard_count}
 use Rattle.messages.specs.Words.{is_same_txn}
 use Rattle.messages.specs.Shard.{ShardState, ShardStep}
-use Rattle.messages.specs.Session.{SessionState, SessionStep, Finished, Idle, Open, is_idle}
+use Rattle.messages.specs.Session.{SessionState, SessionStep, Finished, Open, is_idle}
 use Rattle.messages.specs.SessionEvents.{ended, heard, session_taken}
 use Rattle.shard.specs.declared.kept.Kept.{Kept}
 use Rattle.shard.specs.Kept as shard
 use Rattle.client.specs.Represents as session
 use Rattle.world.specs.declared.actors.Actors.{Actors}
 use Rattle.world.specs.declared.seat.Seat.{Seat}
-use Rattle.world.specs.Run.{Run, Event, Submission, Completed, submission_of, completed_of, ended_by, with_ended, with_actor, with_session, after_shard, after_session}
+use Rattle.world.specs.Run.{Run, Event, Submission, submission_of, completed_of, ended_by, with_ended, with_actor, after_shard, after_session}
 use Rattle.world.specs.Holds.{AreShards, AreSeats, Sits, IsOpOf, IsRunning, ended_as, kept_after}
 use Rattle.world.specs.Steps.{DidSession}
-use Rattle.world.proofs.Among.{Among, find_some, same_txn}
+use Rattle.world.proofs.Among.{find_some, same_txn}
 use Rattle.world.proofs.Invariant.{Inv, home}
 use Rattle.world.proofs.HeardCases.{heard_cases}
 use Rattle.world.proofs.ShardSteps.{actor_same}

@@ -1,14 +1,12 @@
 -- An event that an actor takes is taken by the run.
-use Rattle.std.proofs.Common.{append-nil, ◌≡◌, ◌∙◌, ℕ, zero, suc, ◌+◌, ◌-◌, ◌<◌, ◌≤◌, Bool, true, false, List, [], ◌∷◌, ◌++◌, length, slice_get, Option, Some, None, Result, Ok, Err, ◌⊎◌, inl, inr, refl, sym, ap, subst, arith}
-use Rattle.std.specs.Prelude.{slice_set, if◌then◌else◌, nat_lt, nat_le}
-use Rattle.std.specs.Option.{unwrap_or}
+use Rattle.std.proofs.Common.{append-nil, ◌≡◌, ◌∙◌, ℕ, ◌+◌, ◌-◌, ◌<◌, ◌≤◌, true, false, List, [], ◌++◌, length, slice_get, Option, Some, None, Result, Ok, Err, ◌⊎◌, inl, inr, refl, sym, ap, subst, arith}
+use Rattle.std.specs.Prelude.{slice_set, if◌then◌else◌}
 use Rattle.std.proofs.lemmas.Bool.Decides.{nat_tests}
 use Rattle.logical_time.specs.declared.fault.Fault.{Fault}
 use Rattle.logical_time.specs.declared.fault.Fault.TheVariants.{Memory}
 use Rattle.store.specs.Keeps.{AreApart}
-use Rattle.messages.specs.declared.op.Op.{Op}
 use Rattle.messages.specs.declared.envelope.Envelope.{Envelope}
-use Rattle.messages.specs.Topology.{TopologyValue, is_topology, is_shard, is_session, shard_count, home_of}
+use Rattle.messages.specs.Topology.{TopologyValue, is_shard, is_session, shard_count}
 use Rattle.messages.specs.Clock.{ticked, on_clock}
 use Rattle.messages.specs.Shard.{ShardState, ShardStep}
 use Rattle.messages.specs.Session.{SessionState, SessionStep}
@@ -19,15 +17,14 @@ use Rattle.shard.specs.Kept as shard
 use Rattle.client.specs.Represents as session
 use Rattle.world.specs.declared.actors.Actors.{Actors}
 use Rattle.world.specs.declared.seat.Seat.{Seat}
-use Rattle.world.specs.Run.{Run, Event, Submit, Deliver, Collect, Completed, after_shard, after_session, deliver_if, deliver_for, collect_if, step, run}
-use Rattle.world.specs.Refusals.{Refusal, Refused, NoSuchActor, refused_by, refusal_of, refusal_of_message, refusal_of_envelope}
+use Rattle.world.specs.Run.{Run, Event, Deliver, Collect, after_shard, after_session, deliver_if, deliver_for, collect_if, step, run}
+use Rattle.world.specs.Refusals.{Refusal, Refused, NoSuchActor, refused_by, refusal_of, refusal_of_message}
 use Rattle.world.specs.Holds.{AreShards, AreSeats, Sits, IsRunning, HasTaken}
 use Rattle.world.specs.World.{IsRefusedAs}
-use Rattle.world.specs.Steps.{StaysApart, DidShard, DidSession, DidSessionOf}
-use Rattle.world.proofs.Invariant.{Inv, home}
+use Rattle.world.specs.Steps.{StaysApart, DidShard, DidSessionOf}
 use Rattle.world.proofs.ShardSteps.{actor_same}
 use Rattle.world.proofs.Runs.{every_run, step_kept}
-use Rattle.world.proofs.Addresses.{Stands, stands}
+use Rattle.world.proofs.Addresses.{stands}
 use Rattle.world.proofs.Running.{length_set, by_place, after_shard_step, after_session_step}
 
 -- ## What the definitions make of a message to an actor

@@ -1,9 +1,8 @@
 -- When what a world keeps stands for a run.
-use Rattle.std.specs.Prelude.{◌≡◌, ℕ, ◌+◌, Bool, true, false, ◌==◌, List, map, length, slice_get, Option, Some, None, option_map, option_and_then}
+use Rattle.std.specs.Prelude.{◌≡◌, ℕ, ◌+◌, true, false, ◌==◌, List, map, length, slice_get, Option, Some, None, option_map, option_and_then}
 use Rattle.std.specs.List.{list_any}
 use Rattle.std.specs.Option.{unwrap_or}
 use Rattle.messages.specs.declared.op.Op.{Op}
-use Rattle.messages.specs.declared.envelope.Envelope.{Envelope}
 use Rattle.messages.specs.Topology.{TopologyValue, shard_count, is_topology, home_of}
 use Rattle.messages.specs.Shard.{ShardState}
 use Rattle.messages.specs.Session.{Finished, is_idle}

@@ -6,7 +6,7 @@ use Rattle.messages.specs.declared.op.Op.{Op}
 use Rattle.messages.specs.declared.envelope.Envelope.{Envelope}
 use Rattle.messages.specs.Topology.{TopologyValue}
 use Rattle.messages.specs.Shard.{ShardState, ShardStep}
-use Rattle.messages.specs.Session.{SessionState, SessionStep}
+use Rattle.messages.specs.Session.{SessionStep}
 use Rattle.messages.specs.SessionEvents.{session_taken}
 use Rattle.shard.specs.declared.kept.Kept.{Kept}
 use Rattle.client.specs.Represents as session

@@ -1,4 +1,4 @@
-use Rattle.std.proofs.Common.{◌≡◌, ◌∙◌, ap, sym, take}
+use Rattle.std.proofs.Common.{◌∙◌, ap}
 use Rattle.std.specs.Prelude.{filter_map}
 use Rattle.world.specs.Asked.{entry_of}
 use Rattle.world.proofs.Replacing.{item_at}

@@ -1,4 +1,4 @@
-use Rattle.std.proofs.Common.{◌≡◌, ◌+◌, ◌-◌, ◌<◌, refl, ◌∙◌, sym, ap, subst, length, arith}
+use Rattle.std.proofs.Common.{◌+◌, ◌-◌, refl, ◌∙◌, ap}
 use Rattle.world.proofs.Taking.{place_of, place_below}
 use Rattle.world.proofs.Replacing.{item_at}
 use Rattle.world.proofs.Opened.{seat_submits, submit_refuses, submit_number}

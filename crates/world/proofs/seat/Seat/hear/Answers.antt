@@ -1,4 +1,4 @@
-use Rattle.std.proofs.Common.{sym, ap, ◌∙◌}
+use Rattle.std.proofs.Common.{ap, ◌∙◌}
 use Rattle.client.specs.State.{finished_of}
 use Rattle.world.specs.Run.{with_ended}
 use Rattle.world.specs.Holds.{ended_as, kept_after}

@@ -1,4 +1,3 @@
-use Rattle.std.proofs.Common.{refl}
 use Rattle.world.proofs.Held.{collection_holds}
 use Rattle.world.proofs.world.World.collect.Goals as goal
 

@@ -1,4 +1,3 @@
-use Rattle.std.proofs.Common.{refl}
 use Rattle.world.proofs.Held.{delivery_holds}
 use Rattle.world.proofs.world.World.deliver.Goals as goal
 

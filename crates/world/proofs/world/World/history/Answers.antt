@@ -1,6 +1,4 @@
 use Rattle.store.proofs.Assembled.{if_ok}
-use Rattle.world.specs.Histories.{IsHistory}
-use Rattle.world.specs.World.{run_of}
 use Rattle.world.proofs.AskedFor.{listed}
 use Rattle.world.proofs.Promised as promised
 use Rattle.world.proofs.world.World.history.Goals as goal
