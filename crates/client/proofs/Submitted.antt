@@ -1,8 +1,9 @@
 -- An accepted operation is the machine's step at a submission, and a refused one is refused as by the machine.
 use Rattle.std.proofs.Common.{◌≡◌, ◌∙◌, ℕ, ◌+◌, ◌^◌, ◌<◌, max, Bool, true, false, ap, refl, sym, subst, List, [], ◌++◌, Option, Some, None, append-nil, arith}
-use Rattle.std.specs.Prelude.{nat_lt, if◌then◌else◌, Result, Ok, Err}
+use Rattle.std.specs.Prelude.{nat_lt, if◌then◌else◌, Result, Ok, Err, ◌≤◌, IsOk, IfErr, OnOk}
 use Rattle.std.proofs.lemmas.Bool.Decides.{nat_tests}
 use Rattle.logical_time.specs.declared.fault.Fault.{Fault}
+use Rattle.logical_time.specs.declared.fault.Fault.TheVariants.{ClockSpent}
 use Rattle.messages.specs.declared.envelope.Envelope.{Envelope}
 use Rattle.messages.specs.declared.op.Op.{Op}
 use Rattle.messages.specs.declared.op.Op.TheVariants as op
@@ -108,3 +109,61 @@ pub submit_refused : (k : Kept) (o : Op) (e : Fault) → IsRefusalOf (session_su
 submit_refused k o e h top a r =
     subst (λ t. IsRefusalOf (session_submit t k.node a o) e) (sym r.topology)
     (subst (λ b. IsRefusalOf (session_submit (kept_in k top.dcs top.homes) k.node b o) e) (sym r.state) (kept_refuses k top.dcs top.homes o e h))
+
+-- ## Whether it would be accepted
+
+spent_none : (clock : ℕ) → 2 ^ 48 ≤ max clock clock + 1 → ticked clock clock ≡ None
+spent_none clock le = go (nat_lt (max clock clock + 1) (2 ^ 48)) (grind (arith, nat_tests))
+  where
+    go : (b : Bool) → b ≡ false → (if b then Some (max clock clock + 1) else None) ≡ None
+    go false h = refl
+    go true h = absurd (cc)
+
+pub would_accept : (k : Kept) (o : Op) → fault_of k o ≡ None → max k.clock k.clock + 1 < 2 ^ 48 → IsOk (session_submit (topology_of k) k.node (state_of k) o)
+would_accept k o allowed lt =
+    subst IsOk
+    (sym (ap (λ f. submit_if f (topology_of k) k.node (state_of k) o) allowed ∙ ap (λ t. on_clock t (λ n. begun (topology_of k) k.node n (state_of k) o)) (ticked_some k.clock k.clock (max k.clock k.clock + 1) refl lt)))
+    tt
+
+pub would_refuse : (k : Kept) (o : Op) (e : Fault) → fault_of k o ≡ Some e → session_submit (topology_of k) k.node (state_of k) o ≡ Err e
+would_refuse k o e refused = ap (λ f. submit_if f (topology_of k) k.node (state_of k) o) refused
+
+pub would_be_spent : (k : Kept) (o : Op) → fault_of k o ≡ None → 2 ^ 48 ≤ max k.clock k.clock + 1 → session_submit (topology_of k) k.node (state_of k) o ≡ Err ClockSpent
+would_be_spent k o allowed le =
+    ap (λ f. submit_if f (topology_of k) k.node (state_of k) o) allowed ∙ ap (λ t. on_clock t (λ n. begun (topology_of k) k.node n (state_of k) o)) (spent_none k.clock le)
+
+-- the machine's step at a submission, whatever of the topology isn't kept
+ends_alike : (f : Option Fault) (t : Option ℕ) (x y : ℕ → SessionStep) (P Q : Option Fault → Result SessionStep Fault) → ((g : Fault) → P (Some g) ≡ Err g)
+    → ((g : Fault) → Q (Some g) ≡ Err g) → P None ≡ on_clock t x → Q None ≡ on_clock t y → (IsOk (P f) → IsOk (Q f)) × ((e : Fault) → P f ≡ Err e → Q f ≡ Err e)
+ends_alike (Some g) t x y P Q p q pn qn =
+    (λ h. absurd (subst IsOk (p g) h), λ e h. q g ∙ sym (p g) ∙ h)
+ends_alike None None x y P Q p q pn qn =
+    (λ h. absurd (subst IsOk pn h), λ e h. qn ∙ sym pn ∙ h)
+ends_alike None (Some n) x y P Q p q pn qn =
+    (λ h. subst IsOk (sym qn) tt, λ e h. absurd (let z = sym pn ∙ h in cc))
+
+stands_alike : (k : Kept) (o : Op) (top : TopologyValue) (a : SessionState) → Represents k top a
+    → (IsOk (session_submit (topology_of k) k.node (state_of k) o) → IsOk (session_submit top k.node a o))
+    × ((e : Fault) → session_submit (topology_of k) k.node (state_of k) o ≡ Err e → session_submit top k.node a o ≡ Err e)
+stands_alike k o top a r =
+    subst (λ t. Alike (session_submit t k.node a o)) (sym r.topology)
+    (subst (λ b. Alike (session_submit (kept_in k top.dcs top.homes) k.node b o)) (sym r.state)
+    (subst (λ f. Alike (submit_if f (kept_in k top.dcs top.homes) k.node (state_of k) o)) (sym (same_fault k top.dcs top.homes (is_idle (open_of k.current)) o))
+    (ends_alike (fault_of k o) (ticked k.clock k.clock) (λ n. begun (topology_of k) k.node n (state_of k) o) (λ n. begun (kept_in k top.dcs top.homes) k.node n (state_of k) o)
+    (λ f. submit_if f (topology_of k) k.node (state_of k) o) (λ f. submit_if f (kept_in k top.dcs top.homes) k.node (state_of k) o)
+    (λ g. refl) (λ g. refl) refl refl)))
+  where
+    Alike : Result SessionStep Fault → Type 0
+    Alike s =
+        (IsOk (session_submit (topology_of k) k.node (state_of k) o) → IsOk s)
+        × ((e : Fault) → session_submit (topology_of k) k.node (state_of k) o ≡ Err e → s ≡ Err e)
+
+pub allowed_so : {X : Type 0} (r : Result X Fault) (k : Kept) (o : Op) → OnOk r (IsOk (session_submit (topology_of k) k.node (state_of k) o))
+    → (top : TopologyValue) (a : SessionState) → Represents k top a → OnOk r (IsOk (session_submit top k.node a o))
+allowed_so (Ok x) k o h top a is = (stands_alike k o top a is).0 h
+allowed_so (Err e) k o h top a is = tt
+
+pub refused_so : {X : Type 0} (r : Result X Fault) (k : Kept) (o : Op) → IfErr r (λ e. session_submit (topology_of k) k.node (state_of k) o ≡ Err e)
+    → (top : TopologyValue) (a : SessionState) → Represents k top a → IfErr r (λ e. session_submit top k.node a o ≡ Err e)
+refused_so (Ok x) k o h top a is = tt
+refused_so (Err e) k o h top a is = (stands_alike k o top a is).1 e h

@@ -1,5 +1,5 @@
 //! Submissions.
-ghost use Rattle.std.specs.Prelude.{◌≡◌, ◌+◌, ◌^◌, ◌<◌, ◌≤◌, ◌++◌, [], max, None, IfOk, OnOk, IfErr, OnErr};
+ghost use Rattle.std.specs.Prelude.{◌≡◌, ◌+◌, ◌^◌, ◌<◌, ◌≤◌, ◌++◌, [], max, None, Err, IsOk, IfOk, OnOk, IfErr, OnErr};
 ghost use Rattle.logical_time.specs.Fault.{IsRefusedFor};
 ghost use Rattle.messages.specs.declared.op.Op.TheVariants as op;
 ghost use Rattle.messages.specs.Clock.{ticked};
@@ -32,6 +32,18 @@ fn check(kept: &Kept, op: &Op) -> Result<(), Fault>
         Op::Batch(batch) => check_batch(&kept.schema, batch),
         Op::Read(read) => check_read(&kept.schema, read),
     }
+}
+
+/// Whether the operation would be accepted now, with enough memory: refused as `submit` is otherwise.
+#[tactic(auto, using(crate::proofs::Submitted::would_accept, crate::proofs::Submitted::would_refuse, crate::proofs::Submitted::would_be_spent))]
+pub(crate) fn would_accept(kept: &Kept, op: &Op) -> Result<(), Fault>
+    ensures allowed { OnOk result (IsOk (session_submit (topology_of kept.now) kept.now.node (state_of kept.now) op.now)) }
+    ensures refused { IfErr result (λ e. session_submit (topology_of kept.now) kept.now.node (state_of kept.now) op.now ≡ Err e) }
+{
+    check(kept, op)?;
+    let mut clock = kept.clock;
+    clock.receive(kept.clock.now())?;
+    Ok(())
 }
 
 /// What a submission made ready, so that it can't fail any more.

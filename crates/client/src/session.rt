@@ -1,5 +1,5 @@
 //! Sessions.
-ghost use Rattle.std.specs.Prelude.{◌≡◌, ◌+◌, ℕ, Some, None, IsSome, IfOk, OnOk, IfErr, OnErr};
+ghost use Rattle.std.specs.Prelude.{◌≡◌, ◌+◌, ℕ, Some, None, Err, IsSome, IsOk, IfOk, OnOk, IfErr, OnErr};
 ghost use Rattle.messages.specs.Topology.{TopologyValue, home_of};
 ghost use Rattle.messages.specs.Session.{SessionState, new_session};
 ghost use Rattle.messages.specs.Submitting.{session_submit};
@@ -97,6 +97,25 @@ impl Session {
             Ok(number) => Ok(number),
             Err(refused) => Err(refused),
         }
+    }
+
+    /// Whether the operation would be accepted now, with enough memory: refused as `submit` is otherwise, and never with
+    /// `Memory`. In the order of m log m for m mutations or keys.
+    #[tactic(auto, using(crate::proofs::Submitted::allowed_so, crate::proofs::Submitted::refused_so))]
+    pub fn check(&self, op: &Op) -> Result<(), Fault>
+        ensures allowed { (top : TopologyValue) (a : SessionState) → Represents self.now top a
+            → OnOk result (IsOk (session_submit top self.now.node a op.now)) }
+        ensures refused { (top : TopologyValue) (a : SessionState) → Represents self.now top a
+            → IfErr result (λ e. session_submit top self.now.node a op.now ≡ Err e) }
+    {
+        accepting::would_accept(&self.kept, op)
+    }
+
+    /// Its clock.
+    pub fn clock(&self) -> Clock
+        ensures { result ≡ self.now.clock }
+    {
+        self.kept.clock
     }
 
     /// Handles an envelope: Done of the open write, or a shard's answer to the open read; what else comes moves the clock

@@ -106,6 +106,13 @@ impl Shard {
         Ok(())
     }
 
+    /// Its clock.
+    pub fn clock(&self) -> Clock
+        ensures { result ≡ self.now.clock }
+    {
+        self.kept.clock
+    }
+
     /// The commit time and the stamp with which the shard decided the transaction as its coordinator, if it did. In the
     /// order of log n for n known transactions.
     pub fn decided(&self, txn: TxnId) -> Option<(Time, Stamp)>

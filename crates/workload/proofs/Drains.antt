@@ -1,5 +1,5 @@
 -- A drain, delivery by delivery, and what is told of it.
-use Rattle.std.proofs.Common.{◌≡◌, ◌∙◌, ℕ, suc, ◌+◌, ◌<◌, List, [], ◌∷◌, ◌++◌, length, Some, None, Ok, Err, ◌⊎◌, refl, ap, sym, subst, arith, append_assoc, append-nil}
+use Rattle.std.proofs.Common.{◌≡◌, ◌∙◌, ℕ, suc, ◌+◌, ◌<◌, List, [], ◌∷◌, ◌++◌, length, Option, Some, None, Ok, Err, ◌⊎◌, inl, inr, refl, ap, sym, subst, arith, append_assoc, append-nil}
 use Rattle.std.proofs.lemmas.List.{length-append}
 use Rattle.logical_time.specs.declared.fault.Fault.{Fault}
 use Rattle.logical_time.specs.declared.fault.Fault.TheVariants.{Memory}
@@ -7,7 +7,7 @@ use Rattle.messages.specs.Topology.{TopologyValue}
 use Rattle.world.specs.declared.run_event.RunEvent.{RunEvent as Event}
 use Rattle.world.specs.declared.run_event.RunEvent.TheVariants.{Deliver}
 use Rattle.world.specs.Run.{Run, opening, step, continued, run}
-use Rattle.world.specs.Refusals.{Refused, refusal_of}
+use Rattle.world.specs.Refusals.{Refusal, Refused, refusal_of}
 use Rattle.world.specs.Lookups.{first_unhandled}
 use Rattle.world.specs.World.{WorldValue, run_of, refusal_in, Takes, IsRefusedAs}
 use Rattle.world.proofs.Runs.{run_after}
@@ -17,7 +17,12 @@ use Rattle.workload.specs.Drain.{AreAllowed, IsDrained, IsDrainedUntil}
 use Rattle.workload.proofs.Told.{none_ended, ended_after, told_after}
 use Rattle.workload.proofs.Spelled.{none_delivered, next_delivered, all_delivered}
 
--- ## Events that are allowed
+-- ## Events that are allowed, or not
+
+-- a refusal is the run's, or for want of memory
+pub by_memory_or_run : (r : Option Refusal) (e : Fault) → IsRefusedAs r e → (e ≡ Memory) ⊎ (r ≡ Some (Refused e))
+by_memory_or_run None e is = inl is
+by_memory_or_run (Some r) e is = inr (ap Some is)
 
 pub allowed_more : (top : TopologyValue) (w : Run) (xs : List Event) (x : Event) → AreAllowed top w xs → refusal_of top (continued top w xs) x ≡ None → AreAllowed top w (xs ++ x ∷ [])
 allowed_more top w [] x all last = (last, tt)
@@ -144,4 +149,4 @@ module _ (start w : WorldValue) (same : w.top ≡ start.top) (count left : ℕ) 
       → IsRefusedAs (refusal_in w (Deliver k)) e → IsDrainedUntil start.top start.events w.events e
   refused_drain k e u whole first refused =
       next_refused start.top start.events w.events count left k e u whole (ap (λ t. first_unhandled (run t w.events)) (sym same) ∙ first)
-      (subst (λ t. (e ≡ Memory) ⊎ (refusal_of t (run t w.events) (Deliver k) ≡ Some (Refused e))) same refused)
+      (subst (λ t. (e ≡ Memory) ⊎ (refusal_of t (run t w.events) (Deliver k) ≡ Some (Refused e))) same (by_memory_or_run (refusal_in w (Deliver k)) e refused))

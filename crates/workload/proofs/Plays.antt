@@ -26,7 +26,7 @@ use Rattle.workload.specs.Drain.{IsDrained, IsDrainedUntil}
 use Rattle.workload.specs.Playing.{Plays, PlaysBefore, Adds, EndsWith}
 use Rattle.workload.proofs.Told.{none_ended}
 use Rattle.workload.proofs.Spelled.{told_none, told_more, told_until}
-use Rattle.workload.proofs.Drains.{allowed_told, one_told, refused_told, from_there}
+use Rattle.workload.proofs.Drains.{by_memory_or_run, allowed_told, one_told, refused_told, from_there}
 
 -- ## One event of a run
 
@@ -62,8 +62,11 @@ taken_plays w v s x is t =
 -- an event that the world refuses ends the script, unless it is a submission
 pub refused_ends : (w : WorldValue) (s : ScriptEvent) (x : Event) (e : Fault) → spelled w.top (run_of w) s ≡ x ∷ [] → refused_as x (Refused e) ≡ Err e
     → IsRefusedAs (refusal_in w x) e → EndsWith w s e
-refused_ends w s x e is told_as (inl memory) = inl memory
-refused_ends w s x e is told_as (inr refused) = inr (ap (told w.top (run_of w)) is ∙ told_refused w.top (run_of w) x (Refused e) refused ∙ told_as)
+refused_ends w s x e is told_as refused = go (by_memory_or_run (refusal_in w x) e refused)
+  where
+    go : (e ≡ Memory) ⊎ (refusal_in w x ≡ Some (Refused e)) → EndsWith w s e
+    go (inl memory) = inl memory
+    go (inr refused) = inr (ap (told w.top (run_of w)) is ∙ told_refused w.top (run_of w) x (Refused e) refused ∙ told_as)
 
 -- ## Submissions
 
@@ -71,8 +74,11 @@ pub no_session_ends : (w : WorldValue) (node : ℕ) (o : Op) → is_session w.to
 no_session_ends w node o q = inr (told_refused w.top (run_of w) (Submit node o) NoSuchActor (rw q refl))
 
 pub spent_ends : (w : WorldValue) (node : ℕ) (o : Op) → IsRefusedAs (refusal_in w (Submit node o)) ClockSpent → EndsWith w (script.Submit node o) ClockSpent
-spent_ends w node o (inl memory) = absurd cc
-spent_ends w node o (inr refused) = inr (told_refused w.top (run_of w) (Submit node o) (Refused ClockSpent) refused)
+spent_ends w node o refused = go (by_memory_or_run (refusal_in w (Submit node o)) ClockSpent refused)
+  where
+    go : (ClockSpent ≡ Memory) ⊎ (refusal_in w (Submit node o) ≡ Some (Refused ClockSpent)) → EndsWith w (script.Submit node o) ClockSpent
+    go (inl memory) = absurd cc
+    go (inr refused) = inr (told_refused w.top (run_of w) (Submit node o) (Refused ClockSpent) refused)
 
 is_told : (node : ℕ) (e : Fault) → e ≢ ClockSpent → submission_refused node e ≡ Ok (entry.Refused node e ∷ [])
 is_told node ClockSpent not = absurd (not refl)
@@ -81,17 +87,20 @@ is_told node e not = refl
 -- a refused submission changes nothing and is told
 pub refusal_plays : (w v : WorldValue) (node : ℕ) (o : Op) (e : Fault) → e ≢ Memory → e ≢ ClockSpent → IsRefusedAs (refusal_in w (Submit node o)) e → v ≡ w
     → PlaysBefore w (script.Submit node o) v (entry.Refused node e ∷ [])
-refusal_plays w v node o e known not (inl memory) same = absurd (known memory)
-refusal_plays w v node o e known not (inr refused) same =
-    let w_run = run_of w in
-    let stays : step w.top w_run (Submit node o) ≡ w_run = refused_stays w.top w_run (Submit node o) (Refused e) refused in
-    record {
-      topology = ap (λ (z : WorldValue). z.top) same;
-      run = ap run_of same ∙ sym stays;
-      told =
-          told_refused w.top w_run (Submit node o) (Refused e) refused ∙ is_told node e not
-          ∙ ap (λ es. Ok (entry.Refused node e ∷ es)) (sym (ap (ended_between w_run) (ap run_of same) ∙ none_ended w_run));
-    }
+refusal_plays w v node o e known not refused same = go (by_memory_or_run (refusal_in w (Submit node o)) e refused)
+  where
+    go : (e ≡ Memory) ⊎ (refusal_in w (Submit node o) ≡ Some (Refused e)) → PlaysBefore w (script.Submit node o) v (entry.Refused node e ∷ [])
+    go (inl memory) = absurd (known memory)
+    go (inr refused) =
+        let w_run = run_of w in
+        let stays : step w.top w_run (Submit node o) ≡ w_run = refused_stays w.top w_run (Submit node o) (Refused e) refused in
+        record {
+          topology = ap (λ (z : WorldValue). z.top) same;
+          run = ap run_of same ∙ sym stays;
+          told =
+              told_refused w.top w_run (Submit node o) (Refused e) refused ∙ is_told node e not
+              ∙ ap (λ es. Ok (entry.Refused node e ∷ es)) (sym (ap (ended_between w_run) (ap run_of same) ∙ none_ended w_run));
+        }
 
 pub refusal_told : {A : Type 0} (r : Result A Fault) (w v : WorldValue) (node : ℕ) (o : Op) (e : Fault) (before after : List Entry)
     → OnOk r (after ≡ before ++ entry.Refused node e ∷ []) → OnOk r (e ≢ Memory) → OnOk r (e ≢ ClockSpent)

@@ -8,9 +8,7 @@ use Rattle.logical_time.specs.Stamps.{TxnValue, StampValue}
 use Rattle.column_family.specs.declared.batch.Change.{Change}
 use Rattle.column_family.specs.declared.batch.Committed.{Committed}
 use Rattle.column_family.specs.Normal.{committed}
-use Rattle.slice.specs.declared.read.Read.{Read}
 use Rattle.planner.specs.Plan.{coordinator_of}
-use Rattle.messages.specs.declared.op.Op.TheVariants as op
 use Rattle.messages.specs.Home.{HomeValue}
 use Rattle.messages.specs.Topology.{TopologyValue, shard_node}
 use Rattle.messages.specs.Shard.{ShardState, Decision}
@@ -19,12 +17,13 @@ use Rattle.shard.specs.declared.kept.Kept.{Kept}
 use Rattle.shard.specs.Kept as shard
 use Rattle.world.specs.declared.actors.Actors.{Actors}
 use Rattle.world.specs.declared.log.Log.{Log}
-use Rattle.world.specs.declared.submitted.Submitted.{Submitted}
-use Rattle.world.specs.Run.{Run, Submission, run}
+use Rattle.world.specs.declared.written.Written.{Written}
+use Rattle.world.specs.Run.{Run, Event, Submission, run}
 use Rattle.world.specs.Histories.{batch_in, IsHistory}
 use Rattle.world.specs.Lookups.{entry_asked}
-use Rattle.world.specs.Asked.{entry_by, entry_of}
-use Rattle.world.specs.Holds.{AreShards, Holds, submitted_as}
+use Rattle.world.specs.Asked.{batch_at, write_of, write_at, entry_by, entry_of, entry_at}
+use Rattle.world.specs.Entries.{named_by}
+use Rattle.world.specs.Holds.{AreShards, Holds}
 use Rattle.world.specs.World.{WorldValue, run_of}
 use Rattle.world.proofs.Addresses.{stands}
 use Rattle.world.proofs.AskedHistory.{histories_are_asked}
@@ -35,19 +34,18 @@ told_is batch None told e = ap (entry_by batch) (sym e)
 told_is batch (Some d) told e = ap (entry_by batch) (sym e)
 
 -- the entry by what the coordinator told
-pub entry_told : (top : TopologyValue) (states : ℕ → ShardState) (dc : ℕ) (s : Submitted) (batch : List Change) (told : Option (ℕ × StampValue)) → s.op ≡ op.Batch batch
-    → option_map (λ (d : Decision). (d.commit, d.stamp)) (decision_of (record { session = s.session; number = s.number }) (states (shard_node top dc (coordinator_of top.shards batch)))) ≡ told
-    → entry_by batch told ≡ entry_of top states dc s
-entry_told top states dc s batch told is e =
-    told_is batch (decision_of (record { session = s.session; number = s.number }) (states (shard_node top dc (coordinator_of top.shards batch)))) told e
-    ∙ ap (λ o. option_and_then (λ b. option_map (λ (d : Decision). committed b d.stamp d.commit) (decision_of (record { session = s.session; number = s.number }) (states (shard_node top dc (coordinator_of top.shards b))))) (batch_in o)) (sym is)
+pub entry_told : (top : TopologyValue) (states : ℕ → ShardState) (dc : ℕ) (events : List Event) (x : Written) (batch : List Change) (told : Option (ℕ × StampValue)) → Some batch ≡ batch_at events x.event
+    → option_map (λ (d : Decision). (d.commit, d.stamp)) (decision_of x.txn (states (shard_node top dc (coordinator_of top.shards batch)))) ≡ told
+    → entry_by batch told ≡ entry_at top states dc events x
+entry_told top states dc events x batch told is e =
+    told_is batch (decision_of x.txn (states (shard_node top dc (coordinator_of top.shards batch)))) told e
+    ∙ ap (λ o. option_and_then (entry_of top states dc) (option_map (λ (b : List Change). (x.txn, b)) o)) is
 
-pub none_told : (top : TopologyValue) (states : ℕ → ShardState) (dc : ℕ) (s : Submitted) (read : Read) → s.op ≡ op.Read read → None ≡ entry_of top states dc s
-none_told top states dc s read is =
-    ap (λ o. option_and_then (λ b. option_map (λ (d : Decision). committed b d.stamp d.commit) (decision_of (record { session = s.session; number = s.number }) (states (shard_node top dc (coordinator_of top.shards b))))) (batch_in o)) (sym is)
+pub none_told : (top : TopologyValue) (states : ℕ → ShardState) (dc : ℕ) (events : List Event) (x : Written) → None ≡ batch_at events x.event → None ≡ entry_at top states dc events x
+none_told top states dc events x is = ap (λ o. option_and_then (entry_of top states dc) (option_map (λ (b : List Change). (x.txn, b)) o)) is
 
--- one more operation is asked for
-pub one_more_asked : (f : Submitted → Option Committed) (xs : List Submitted) (k : ℕ) (x : Submitted) (h g : List Committed) (o : Option Committed) → slice_get xs k ≡ Some x
+-- one more write is asked for
+pub one_more_asked : (f : Written → Option Committed) (xs : List Written) (k : ℕ) (x : Written) (h g : List Committed) (o : Option Committed) → slice_get xs k ≡ Some x
     → h ≡ filter_map f (take k xs) → o ≡ f x → g ≡ h ++ option_to_list o → g ≡ filter_map f (take (k + 1) xs)
 one_more_asked f xs k x h g o at is same added =
     added ∙ ap (λ l. l ++ option_to_list o) is ∙ ap (λ z. filter_map f (take k xs) ++ option_to_list z) same ∙ sym (ap (λ n. filter_map f (take n xs)) (next k) ∙ longer xs k x at)
@@ -55,7 +53,7 @@ one_more_asked f xs k x h g o at is same added =
     next : (n : ℕ) → n + 1 ≡ suc n
     next n = omega arith
 
-    single : (y : Submitted) → filter_map f (y ∷ []) ≡ option_to_list (f y)
+    single : (y : Written) → filter_map f (y ∷ []) ≡ option_to_list (f y)
     single y = go (f y)
       where
         go : (z : Option Committed) → cons_option z [] ≡ option_to_list z
@@ -66,22 +64,38 @@ one_more_asked f xs k x h g o at is same added =
     onto None l m = refl
     onto (Some c) l m = refl
 
-    longer : (ys : List Submitted) (j : ℕ) (y : Submitted) → slice_get ys j ≡ Some y → filter_map f (take (suc j) ys) ≡ filter_map f (take j ys) ++ option_to_list (f y)
+    longer : (ys : List Written) (j : ℕ) (y : Written) → slice_get ys j ≡ Some y → filter_map f (take (suc j) ys) ≡ filter_map f (take j ys) ++ option_to_list (f y)
     longer [] j y e = absurd (cc)
     longer (z ∷ ys) zero y e = let q : z ≡ y = cc in ap (λ v. filter_map f (v ∷ [])) q ∙ single y
     longer (z ∷ ys) (suc j) y e = ap (cons_option (f z)) (longer ys j y e) ∙ onto (f z) (filter_map f (take j ys)) (option_to_list (f y))
 
--- by what is kept of the submissions, or by the submissions
-asked_alike : (top : TopologyValue) (w : Run) (dc : ℕ) (xs : List Submission) → filter_map (entry_of top w.shards dc) (map submitted_as xs) ≡ filter_map (entry_asked top w dc) xs
+-- by what is noted of the writes, or by the submissions
+noted_alike : (f : TxnValue × List Change → Option Committed) (g : Written → Option (TxnValue × List Change)) (xs : List Written) (ys : List (TxnValue × List Change)) → map g xs ≡ map Some ys
+    → filter_map (λ x. option_and_then f (g x)) xs ≡ filter_map f ys
+noted_alike f g [] [] e = refl
+noted_alike f g [] (y ∷ ys) e = absurd (cc)
+noted_alike f g (x ∷ xs) [] e = absurd (cc)
+noted_alike f g (x ∷ xs) (y ∷ ys) e =
+    let head : g x ≡ Some y = cc in
+    let tail : map g xs ≡ map Some ys = cc in
+    ap (λ o. cons_option (option_and_then f o) (filter_map (λ z. option_and_then f (g z)) xs)) head ∙ ap (cons_option (f y)) (noted_alike f g xs ys tail)
+
+asked_alike : (top : TopologyValue) (w : Run) (dc : ℕ) (xs : List Submission) → filter_map (entry_of top w.shards dc) (filter_map write_of xs) ≡ filter_map (entry_asked top w dc) xs
 asked_alike top w dc [] = refl
-asked_alike top w dc (x ∷ xs) = ap (λ l. cons_option (entry_asked top w dc x) l) (asked_alike top w dc xs)
+asked_alike top w dc (x ∷ xs) =
+    first (batch_in x.op) (filter_map write_of xs) ∙ ap (λ l. cons_option (entry_asked top w dc x) l) (asked_alike top w dc xs)
+  where
+    first : (o : Option (List Change)) (rest : List (TxnValue × List Change)) → filter_map (entry_of top w.shards dc) (cons_option (option_map (λ (b : List Change). (named_by x, b)) o) rest)
+        ≡ cons_option (option_and_then (λ (b : List Change). entry_of top w.shards dc (named_by x, b)) o) (filter_map (entry_of top w.shards dc) rest)
+    first None rest = refl
+    first (Some b) rest = refl
 
 pub asked_is_history : (a : Actors) (l : Log) (dc : ℕ) (h : List Committed) → Holds a.topology a l
-    → h ≡ filter_map (entry_of a.topology (run a.topology l.events.items).shards dc) l.submitted.items → IsHistory a.topology (run a.topology l.events.items) dc h
+    → h ≡ filter_map (entry_at a.topology (run a.topology l.events.items).shards dc l.events.items) l.writes.items → IsHistory a.topology (run a.topology l.events.items) dc h
 asked_is_history a l dc h holds is =
     let w = run a.topology l.events.items in
     subst (IsHistory a.topology w dc)
-    (sym (is ∙ ap (filter_map (entry_of a.topology w.shards dc)) (sym holds.submitted) ∙ asked_alike a.topology w dc w.submitted))
+    (sym (is ∙ noted_alike (entry_of a.topology w.shards dc) (write_at l.events.items) l.writes.items (filter_map write_of w.submitted) holds.writes ∙ asked_alike a.topology w dc w.submitted))
     (histories_are_asked a.topology l.events.items (stands a.topology holds.running.sound).some dc)
 
 -- what the shard at the coordinator's place tells
@@ -95,15 +109,16 @@ decided_there top states home xs batch txn place number k told e are at is there
     ap (λ n. option_map (λ (d : Decision). (d.commit, d.stamp)) (decision_of txn (states n))) node ∙ decides top place (states place) (are.each place k there)
 
 -- what is asked of a world is the history of its run
-pub listed : (v : WorldValue) (a : Actors) (l : Log) (dc : ℕ) (home : HomeValue) (xs : List Kept) (ss : List Submitted) (r : Result (List Committed) Fault) → Holds a.topology a l
-    → record { top = a.topology; events = l.events.items } ≡ v → home ≡ record { dc = dc; shards = a.topology.shards } → xs ≡ a.shards.items → ss ≡ l.submitted.items
-    → ((top : TopologyValue) (states : ℕ → ShardState) → top.shards ≡ home.shards → AreShards top states xs → IfOk r (λ h. h ≡ filter_map (entry_of top states home.dc) ss))
+pub listed : (v : WorldValue) (a : Actors) (l : Log) (dc : ℕ) (home : HomeValue) (xs : List Kept) (es : List Event) (ws : List Written) (r : Result (List Committed) Fault) → Holds a.topology a l
+    → record { top = a.topology; events = l.events.items } ≡ v → home ≡ record { dc = dc; shards = a.topology.shards } → xs ≡ a.shards.items → es ≡ l.events.items → ws ≡ l.writes.items
+    → ((top : TopologyValue) (states : ℕ → ShardState) → top.shards ≡ home.shards → AreShards top states xs → IfOk r (λ h. h ≡ filter_map (entry_at top states home.dc es) ws))
     → IfOk r (λ h. IsHistory v.top (run_of v) dc h)
-listed v a l dc home xs ss (Err e) holds is at shards submitted asked = tt
-listed v a l dc home xs ss (Ok h) holds is at shards submitted asked =
+listed v a l dc home xs es ws (Err e) holds is at shards events writes asked = tt
+listed v a l dc home xs es ws (Ok h) holds is at shards events writes asked =
     let w = run a.topology l.events.items in
     let q = asked a.topology w.shards (ap (λ (z : HomeValue). z.shards) (sym at)) (subst (AreShards a.topology w.shards) (sym shards) holds.running.shards) in
-    let p = q ∙ ap (λ (z : HomeValue). filter_map (entry_of a.topology w.shards z.dc) ss) at ∙ ap (filter_map (entry_of a.topology w.shards dc)) submitted in
+    let p = q ∙ ap (λ (z : HomeValue). filter_map (entry_at a.topology w.shards z.dc es) ws) at ∙ ap (λ l. filter_map (entry_at a.topology w.shards dc l) ws) events
+    ∙ ap (filter_map (entry_at a.topology w.shards dc l.events.items)) writes in
     subst (λ (z : WorldValue). IsHistory z.top (run_of z) dc h) is (asked_is_history a l dc h holds p)
 
 pub room_for : (a : Actors) (l : Log) (dc n shards : ℕ) → Holds a.topology a l → shards ≡ a.topology.shards → dc < a.topology.dcs → n ≡ length a.shards.items → dc * shards + shards ≤ n

@@ -1,7 +1,7 @@
 -- What a world keeps stands for its run after each event.
 use Rattle.std.proofs.Common.{◌≡◌, ◌∙◌, ℕ, ◌+◌, ◌<◌, ◌≤◌, zero, suc, Bool, true, false, ◌||◌, List, [], ◌∷◌, ◌++◌, map, length, Option, Some, None, inl, inr, refl, sym, ap, subst, arith, eqb-true, eq-eqb, leb-true, ltb-true, slice_get}
-use Rattle.std.specs.Prelude.{◌==◌, filter_map, find, not, nat_lt, nat_le, ◌↔◌}
-use Rattle.std.specs.List.{list_any, range_with_len}
+use Rattle.std.specs.Prelude.{◌==◌, filter_map, option_map, option_and_then, option_to_list, find, not, nat_lt, nat_le, ◌↔◌}
+use Rattle.std.specs.List.{list_any, range_with_len, cons_option}
 use Rattle.std.specs.Prelude.{if◌then◌else◌}
 use Rattle.std.proofs.lemmas.Bool.{false≢true, and_parts}
 use Rattle.std.proofs.lemmas.Bool.Decides.{nat_tests}
@@ -9,6 +9,9 @@ use Rattle.std.proofs.lemmas.List.{map-append}
 use Rattle.std.proofs.lemmas.List.Elements.{filter_map-append}
 use Rattle.std.proofs.lemmas.List.Folds.{list_any-append}
 use Rattle.logical_time.specs.declared.fault.Fault.{Fault}
+use Rattle.logical_time.specs.Stamps.{TxnValue}
+use Rattle.column_family.specs.declared.batch.Change.{Change}
+use Rattle.messages.specs.declared.op.Op.TheVariants as op
 use Rattle.messages.specs.Clock.{ticked, on_clock}
 use Rattle.messages.specs.Submitting.{begun, submit_fault, submit_if as submitted_if, session_submit}
 use Rattle.messages.specs.declared.op.Op.{Op}
@@ -17,13 +20,16 @@ use Rattle.messages.specs.Topology.{TopologyValue, is_shard, is_session, shard_c
 use Rattle.messages.specs.Session.{is_idle}
 use Rattle.world.specs.declared.actors.Actors.{Actors}
 use Rattle.world.specs.declared.log.Log.{Log}
-use Rattle.world.specs.Run.{Run, Event, Submit, Deliver, Collect, opening, submission_by, after_submission, submit_if, step, run}
+use Rattle.world.specs.declared.written.Written.{Written}
+use Rattle.world.specs.Run.{Run, Event, Submission, Submit, Deliver, Collect, opening, submission_by, after_submission, submit_if, step, run}
 use Rattle.world.specs.Refusals.{NoSuchActor, refused_by, refusal_of}
 use Rattle.world.specs.Quiet.{number_delivered, handled, IsQuiet}
 use Rattle.world.specs.Lookups.{first_unhandled}
 use Rattle.world.specs.Delivered.{is_marked, IsFirstUnmarked}
-use Rattle.world.specs.Log.{IsSameLog}
-use Rattle.world.specs.Holds.{IsRunning, HasTaken, Holds, submitted_as}
+use Rattle.world.specs.Log.{IsSameLog, written_by}
+use Rattle.world.specs.Asked.{batch_of, write_of, write_at}
+use Rattle.world.specs.Histories.{batch_in}
+use Rattle.world.specs.Holds.{IsRunning, HasTaken, Holds}
 use Rattle.world.specs.World.{WorldValue, Takes, run_of}
 use Rattle.world.proofs.Replayed.{continued_push}
 use Rattle.world.proofs.Refusals.{allowed_is_added}
@@ -83,7 +89,9 @@ still_holds a b l m h same still top =
       events = subst (λ es. (run a.topology es).events ≡ es) (sym same.events) h.events;
       running = same_running a.topology _ _ b (sym same.events) (still a.topology l.events.items h.running);
       delivered = λ k. same.delivered k ∙ h.delivered k ∙ ap (λ es. list_any (λ j. j == k) (handled (run a.topology es))) (sym same.events);
-      submitted = ap (λ es. map submitted_as (run a.topology es).submitted) same.events ∙ h.submitted ∙ sym same.submitted;
+      writes =
+          ap (λ ws. map (write_at m.events.items) ws) same.writes ∙ ap (λ es. map (write_at es) l.writes.items) same.events ∙ h.writes
+          ∙ ap (λ es. map Some (filter_map write_of (run a.topology es).submitted)) (sym same.events);
     })
 
 pub still_logged : (a : Actors) (l m : Log) → Holds a.topology a l → IsSameLog l m → Holds a.topology a m
@@ -93,7 +101,7 @@ still_logged a l m h same = still_holds a a l m h same (λ top events is. is) re
 record Notes (top : TopologyValue) (x : Event) (l m : Log) : Type 0 where
   events : m.events.items ≡ l.events.items ++ x ∷ []
   delivered : (k : ℕ) → is_marked m.delivered.marks k ≡ (is_marked l.delivered.marks k || list_any (λ j. j == k) (filter_map number_delivered (x ∷ [])))
-  submitted : map submitted_as (step top (run top l.events.items) x).submitted ≡ m.submitted.items
+  writes : map (write_at (l.events.items ++ x ∷ [])) m.writes.items ≡ map Some (filter_map write_of (step top (run top l.events.items) x).submitted)
 
 noted : (a b : Actors) (l m : Log) (x : Event) → Holds a.topology a l → HasTaken a.topology l.events.items x b → Notes a.topology x l m → b.topology ≡ a.topology
     → Holds b.topology b m
@@ -107,8 +115,9 @@ noted a b l m x h taken notes top =
           notes.delivered k ∙ ap (λ c. c || list_any (λ j. j == k) (filter_map number_delivered (x ∷ []))) (h.delivered k)
           ∙ sym (was_handled a.topology l.events.items x h.events taken.allowed k)
           ∙ ap (λ es. list_any (λ j. j == k) (handled (run a.topology es))) (sym notes.events);
-      submitted =
-          ap (λ es. map submitted_as (run a.topology es).submitted) notes.events ∙ ap (λ (w : Run). map submitted_as w.submitted) pushed ∙ notes.submitted;
+      writes =
+          ap (λ es. map (write_at es) m.writes.items) notes.events ∙ notes.writes ∙ ap (λ (w : Run). map Some (filter_map write_of w.submitted)) (sym pushed)
+          ∙ ap (λ es. map Some (filter_map write_of (run a.topology es).submitted)) (sym notes.events);
     })
 
 -- the actors took the event, after rooms were made for noting it
@@ -125,10 +134,38 @@ same_submitted top w k = event_cases top w (Deliver k) (λ v. v.submitted ≡ w.
 same_submitted_so : (top : TopologyValue) (w : Run) (node time : ℕ) → (step top w (Collect node time)).submitted ≡ w.submitted
 same_submitted_so top w node time = event_cases top w (Collect node time) (λ v. v.submitted ≡ w.submitted) (record { nothing = refl; handled = λ j e n is sent to. refl; heard = λ j e n is sent other to. refl; begun = λ node o n is to. absurd (let no : Collect _ _ ≡ Submit node o = is in cc); collected = λ node time n is. refl })
 
+-- what was noted of the writes stays when an event comes
+get_more : (es more : List Event) (k : ℕ) (e : Event) → slice_get es k ≡ Some e → slice_get (es ++ more) k ≡ Some e
+get_more [] more k e at = absurd (cc)
+get_more (x ∷ es) more zero e at = at
+get_more (x ∷ es) more (suc k) e at = get_more es more k e at
+
+write_stays : (es more : List Event) (x : Written) (y : TxnValue × List Change) → write_at es x ≡ Some y → write_at (es ++ more) x ≡ Some y
+write_stays es more x y at = go (slice_get es x.event) refl (ap (λ o. option_map (λ (b : List Change). (x.txn, b)) (option_and_then batch_of o)) refl ∙ at)
+  where
+    go : (o : Option Event) → slice_get es x.event ≡ o → option_map (λ (b : List Change). (x.txn, b)) (option_and_then batch_of o) ≡ Some y → write_at (es ++ more) x ≡ Some y
+    go None there is = absurd (cc)
+    go (Some e) there is = ap (λ o. option_map (λ (b : List Change). (x.txn, b)) (option_and_then batch_of o)) (get_more es more x.event e there) ∙ is
+
+writes_stay : (es more : List Event) (xs : List Written) (ys : List (TxnValue × List Change)) → map (write_at es) xs ≡ map Some ys → map (write_at (es ++ more)) xs ≡ map Some ys
+writes_stay es more [] [] e = refl
+writes_stay es more [] (y ∷ ys) e = absurd (cc)
+writes_stay es more (x ∷ xs) [] e = absurd (cc)
+writes_stay es more (x ∷ xs) (y ∷ ys) e =
+    let head : write_at es x ≡ Some y = cc in
+    let tail : map (write_at es) xs ≡ map Some ys = cc in
+    ap (λ o. o ∷ map (write_at (es ++ more)) xs) (write_stays es more x y head) ∙ ap (λ l. Some y ∷ l) (writes_stay es more xs ys tail)
+
+unwritten : {w v : List Submission} (x : Event) (m n : Log) → map (write_at m.events.items) m.writes.items ≡ map Some (filter_map write_of w) → n.writes ≡ m.writes → v ≡ w
+    → map (write_at (m.events.items ++ x ∷ [])) n.writes.items ≡ map Some (filter_map write_of v)
+unwritten {w} {v} x m n noted writes same =
+    ap (λ ws. map (write_at (m.events.items ++ x ∷ [])) ws.items) writes
+    ∙ writes_stay m.events.items (x ∷ []) m.writes.items (filter_map write_of w) noted ∙ ap (λ l. map Some (filter_map write_of l)) (sym same)
+
 pub delivery_holds : (a b : Actors) (l m n : Log) (number : ℕ) → Holds a.topology a l → IsSameLog l m → Took a b (Deliver number) → b.topology ≡ a.topology
-    → n.events.items ≡ m.events.items ++ Deliver number ∷ [] → n.submitted ≡ m.submitted
+    → n.events.items ≡ m.events.items ++ Deliver number ∷ [] → n.writes ≡ m.writes
     → ((k : ℕ) → is_marked n.delivered.marks k ≡ (k == number || is_marked m.delivered.marks k)) → Holds b.topology b n
-delivery_holds a b l m n number h same took top events submitted marks =
+delivery_holds a b l m n number h same took top events writes marks =
     let g = still_logged a l m h same in
     noted a b m n (Deliver number) g (taken_at a b l m (Deliver number) h same took)
     (record {
@@ -136,65 +173,99 @@ delivery_holds a b l m n number h same took top events submitted marks =
       delivered = λ k.
           marks k ∙ or_other (k == number) (is_marked m.delivered.marks k)
           ∙ ap (λ c. is_marked m.delivered.marks k || c) (both_ways k number ∙ sym (or_false (number == k)));
-      submitted = ap (map submitted_as) (same_submitted a.topology (run a.topology m.events.items) number) ∙ g.submitted ∙ ap (λ v. v.items) (sym submitted);
+      writes = unwritten (Deliver number) m n g.writes writes (same_submitted a.topology (run a.topology m.events.items) number);
     })
     top
 
 pub collection_holds : (a b : Actors) (l m n : Log) (shard time : ℕ) → Holds a.topology a l → IsSameLog l m → Took a b (Collect shard time) → b.topology ≡ a.topology
-    → n.events.items ≡ m.events.items ++ Collect shard time ∷ [] → n.submitted ≡ m.submitted → n.delivered ≡ m.delivered → Holds b.topology b n
-collection_holds a b l m n shard time h same took top events submitted marks =
+    → n.events.items ≡ m.events.items ++ Collect shard time ∷ [] → n.writes ≡ m.writes → n.delivered ≡ m.delivered → Holds b.topology b n
+collection_holds a b l m n shard time h same took top events writes marks =
     let g = still_logged a l m h same in
     noted a b m n (Collect shard time) g (taken_at a b l m (Collect shard time) h same took)
     (record {
       events = events;
       delivered = λ k. ap (λ d. is_marked d.marks k) marks ∙ sym (or_false (is_marked m.delivered.marks k));
-      submitted = ap (map submitted_as) (same_submitted_so a.topology (run a.topology m.events.items) shard time) ∙ g.submitted ∙ ap (λ v. v.items) (sym submitted);
+      writes = unwritten (Collect shard time) m n g.writes writes (same_submitted_so a.topology (run a.topology m.events.items) shard time);
     })
     top
 
 -- ## Submissions
 
+-- the write of an operation under this number, if it is one
+abbrev pub write_by : ℕ → ℕ → Op → Option (TxnValue × List Change)
+write_by node number o = option_map (λ batch. (record { session = node; number = number }, batch)) (batch_in o)
+
 -- an accepted submission is the run's last, under the next number
-accepted_last : (top : TopologyValue) (w : Run) (node : ℕ) (o : Op) → refusal_of top w (Submit node o) ≡ None
-    → map submitted_as (step top w (Submit node o)).submitted ≡ map submitted_as w.submitted ++ record { session = node; number = (w.sessions node).count + 1; op = o } ∷ []
-accepted_last top w node o allowed = by (is_session top node) refl
+pub writes_last : (top : TopologyValue) (w : Run) (node : ℕ) (o : Op) → refusal_of top w (Submit node o) ≡ None
+    → filter_map write_of (step top w (Submit node o)).submitted ≡ filter_map write_of w.submitted ++ option_to_list (write_by node ((w.sessions node).count + 1) o)
+writes_last top w node o allowed = by (is_session top node) refl
   where
+    Last : Run → Type 0
+    Last v = filter_map write_of v.submitted ≡ filter_map write_of w.submitted ++ option_to_list (write_by node ((w.sessions node).count + 1) o)
+
+    one : (c : ℕ) (s : Submission) → s.session ≡ node → s.number ≡ c → s.op ≡ o → filter_map write_of (s ∷ []) ≡ option_to_list (write_by node c o)
+    one c s is number op =
+        alone (write_of s) ∙ ap (λ p. option_to_list (option_map (λ (b : List Change). (record { session = s.session; number = s.number }, b)) (batch_in p))) op
+        ∙ ap (λ (z : ℕ). option_to_list (option_map (λ (b : List Change). (record { session = z; number = s.number }, b)) (batch_in o))) is
+        ∙ ap (λ (z : ℕ). option_to_list (option_map (λ (b : List Change). (record { session = node; number = z }, b)) (batch_in o))) number
+
+    alone : (z : Option (TxnValue × List Change)) → cons_option z [] ≡ option_to_list z
+    alone None = refl
+    alone (Some p) = refl
+
     go : (f : Option Fault) (c : Option ℕ) → refused_by (submitted_if f top node (w.sessions node) o) ≡ None → submit_fault (is_idle (w.sessions node).current) top o ≡ f
         → ticked (w.sessions node).clock (w.sessions node).clock ≡ c
-        → map submitted_as (after_submission (session_submit top node (w.sessions node) o) w node o).submitted ≡ map submitted_as w.submitted ++ record { session = node; number = (w.sessions node).count + 1; op = o } ∷ []
+        → Last (after_submission (session_submit top node (w.sessions node) o) w node o)
     go (Some e) c free fault clock = absurd (cc)
     go None None free fault clock =
         absurd (let q = ap (λ z. refused_by (on_clock z (λ n. begun top node n (w.sessions node) o))) (sym clock) ∙ free in cc)
     go None (Some n) free fault clock =
-        ap (λ z. map submitted_as (after_submission z w node o).submitted)
+        ap (λ z. filter_map write_of (after_submission z w node o).submitted)
         (ap (λ z. submitted_if z top node (w.sessions node) o) fault ∙ ap (λ z. on_clock z (λ n. begun top node n (w.sessions node) o)) clock)
-        ∙ map-append submitted_as w.submitted (submission_by w node o (begun top node n (w.sessions node) o) ∷ [])
-        ∙ ap (λ c. map submitted_as w.submitted ++ record { session = node; number = c; op = o } ∷ []) (opens top node n (w.sessions node) o).1
+        ∙ filter_map-append write_of w.submitted (submission_by w node o (begun top node n (w.sessions node) o) ∷ [])
+        ∙ ap (λ l. filter_map write_of w.submitted ++ l) (one ((w.sessions node).count + 1) (submission_by w node o (begun top node n (w.sessions node) o)) refl (opens top node n (w.sessions node) o).1 refl)
 
-    by : (b : Bool) → is_session top node ≡ b
-        → map submitted_as (step top w (Submit node o)).submitted ≡ map submitted_as w.submitted ++ record { session = node; number = (w.sessions node).count + 1; op = o } ∷ []
+    by : (b : Bool) → is_session top node ≡ b → Last (step top w (Submit node o))
     by false is = absurd (let q = ap (λ b. if b then refused_by (session_submit top node (w.sessions node) o) else Some NoSuchActor) (sym is) ∙ allowed in cc)
     by true is =
-        ap (λ b. map submitted_as (submit_if b top w node o).submitted) is
+        ap (λ b. filter_map write_of (submit_if b top w node o).submitted) is
         ∙ go (submit_fault (is_idle (w.sessions node).current) top o) (ticked (w.sessions node).clock (w.sessions node).clock)
         (sym (ap (λ b. if b then refused_by (session_submit top node (w.sessions node) o) else Some NoSuchActor) is) ∙ allowed) refl refl
 
-pub submission_holds : (a b : Actors) (l m n : Log) (session number : ℕ) (o listed told : Op) → Holds a.topology a l → IsSameLog l m
+-- what is noted of an accepted operation tells its write
+get_last : (es : List Event) (e : Event) → slice_get (es ++ e ∷ []) (length es) ≡ Some e
+get_last [] e = refl
+get_last (x ∷ es) e = get_last es e
+
+noted_last : (es : List Event) (node number : ℕ) (o : Op) → map (write_at (es ++ Submit node o ∷ [])) (written_by node number (length es) o) ≡ map Some (option_to_list (write_by node number o))
+noted_last es node number (op.Read read) = refl
+noted_last es node number (op.Batch batch) =
+    ap (λ e. option_map (λ (b : List Change). (record { session = node; number = number }, b)) (option_and_then batch_of e) ∷ []) (get_last es (Submit node (op.Batch batch)))
+
+written : (es : List Event) (xs zs : List Written) (ys vs : List (TxnValue × List Change)) (node number : ℕ) (o : Op) → map (write_at es) xs ≡ map Some ys
+    → zs ≡ xs ++ written_by node number (length es) o → vs ≡ ys ++ option_to_list (write_by node number o) → map (write_at (es ++ Submit node o ∷ [])) zs ≡ map Some vs
+written es xs zs ys vs node number o noted added told =
+    ap (map (write_at (es ++ Submit node o ∷ []))) added ∙ map-append (write_at (es ++ Submit node o ∷ [])) xs (written_by node number (length es) o)
+    ∙ ap (λ l. l ++ map (write_at (es ++ Submit node o ∷ [])) (written_by node number (length es) o)) (writes_stay es (Submit node o ∷ []) xs ys noted)
+    ∙ ap (λ l. map Some ys ++ l) (noted_last es node number o) ∙ sym (map-append Some ys (option_to_list (write_by node number o))) ∙ ap (map Some) (sym told)
+
+pub submission_holds : (a b : Actors) (l m n : Log) (session number : ℕ) (o told : Op) → Holds a.topology a l → IsSameLog l m
     → ((top : TopologyValue) (events : List Event) → IsRunning top (run top events) a → HasTaken top events (Submit session o) b × (number ≡ ((run top events).sessions session).count + 1))
-    → b.topology ≡ a.topology → listed ≡ o → told ≡ o
-    → n.events.items ≡ m.events.items ++ Submit session told ∷ [] → n.submitted.items ≡ m.submitted.items ++ record { session = session; number = number; op = listed } ∷ []
+    → b.topology ≡ a.topology → told ≡ o
+    → n.events.items ≡ m.events.items ++ Submit session told ∷ [] → n.writes.items ≡ m.writes.items ++ written_by session number (length m.events.items) told
     → n.delivered ≡ m.delivered → Holds b.topology b n
-submission_holds a b l m n session number o listed told h same took top same_listed same_told events submitted marks =
+submission_holds a b l m n session number o told h same took top same_told events writes marks =
     let g = still_logged a l m h same in
     let t = took a.topology m.events.items g.running in
+    let w = run a.topology m.events.items in
     noted a b m n (Submit session o) g t.0
     (record {
       events = events ∙ ap (λ z. m.events.items ++ Submit session z ∷ []) same_told;
       delivered = λ k. ap (λ d. is_marked d.marks k) marks ∙ sym (or_false (is_marked m.delivered.marks k));
-      submitted =
-          accepted_last a.topology (run a.topology m.events.items) session o t.0.allowed ∙ ap (λ l. l ++ record { session = session; number = ((run a.topology m.events.items).sessions session).count + 1; op = o } ∷ []) g.submitted
-          ∙ ap (λ c. m.submitted.items ++ record { session = session; number = c; op = o } ∷ []) (sym t.1)
-          ∙ ap (λ z. m.submitted.items ++ record { session = session; number = number; op = z } ∷ []) (sym same_listed) ∙ sym submitted;
+      writes =
+          written m.events.items m.writes.items n.writes.items (filter_map write_of w.submitted) (filter_map write_of (step a.topology w (Submit session o)).submitted) session number o g.writes
+          (writes ∙ ap (λ z. m.writes.items ++ written_by session number (length m.events.items) z) same_told)
+          (writes_last a.topology w session o t.0.allowed ∙ ap (λ c. filter_map write_of w.submitted ++ option_to_list (write_by session c o)) (sym t.1));
     })
     top
 

@@ -152,7 +152,7 @@ submission_step : (top : TopologyValue) (w : Run) (node : ℕ) (o : Op) → is_s
     → step top w (Submit node o) ≡ after_submission (session_submit top node (w.sessions node) o) w node o
 submission_step top w node o is = ap (λ b. submit_if b top w node o) is
 
-submission_refusal : (top : TopologyValue) (w : Run) (node : ℕ) (o : Op) → is_session top node ≡ true
+pub submission_refusal : (top : TopologyValue) (w : Run) (node : ℕ) (o : Op) → is_session top node ≡ true
     → refusal_of top w (Submit node o) ≡ refused_by (session_submit top node (w.sessions node) o)
 submission_refusal top w node o is = ap (λ b. if b then refused_by (session_submit top node (w.sessions node) o) else Some NoSuchActor) is
 

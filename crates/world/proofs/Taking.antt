@@ -1,9 +1,8 @@
 -- An event that an actor takes is taken by the run.
-use Rattle.std.proofs.Common.{append-nil, ◌≡◌, ◌∙◌, ℕ, ◌+◌, ◌-◌, ◌<◌, ◌≤◌, true, false, List, [], ◌++◌, length, slice_get, Option, Some, None, Result, Ok, Err, ◌⊎◌, inl, inr, refl, sym, ap, subst, arith}
+use Rattle.std.proofs.Common.{append-nil, ◌≡◌, ◌∙◌, ℕ, ◌+◌, ◌-◌, ◌<◌, ◌≤◌, true, false, List, [], ◌++◌, length, slice_get, Option, Some, None, Result, Ok, Err, refl, sym, ap, subst, arith}
 use Rattle.std.specs.Prelude.{slice_set, if◌then◌else◌}
 use Rattle.std.proofs.lemmas.Bool.Decides.{nat_tests}
 use Rattle.logical_time.specs.declared.fault.Fault.{Fault}
-use Rattle.logical_time.specs.declared.fault.Fault.TheVariants.{Memory}
 use Rattle.store.specs.Keeps.{AreApart}
 use Rattle.messages.specs.declared.envelope.Envelope.{Envelope}
 use Rattle.messages.specs.Topology.{TopologyValue, is_shard, is_session, shard_count}
@@ -33,7 +32,7 @@ shard_step : (top : TopologyValue) (w : Run) (k : ℕ) (e : Envelope) → slice_
     → step top w (Deliver k) ≡ after_shard (shard_handle top e.to (w.shards e.to) e) w (Deliver k) e.to
 shard_step top w k e sent to = ap (λ o. deliver_for o top w (Deliver k)) sent ∙ ap (λ b. deliver_if b (is_session top e.to) top w (Deliver k) e) to
 
-shard_refusal : (top : TopologyValue) (w : Run) (k : ℕ) (e : Envelope) → slice_get w.sent k ≡ Some e → is_shard top e.to ≡ true
+pub shard_refusal : (top : TopologyValue) (w : Run) (k : ℕ) (e : Envelope) → slice_get w.sent k ≡ Some e → is_shard top e.to ≡ true
     → refusal_of top w (Deliver k) ≡ refused_by (shard_handle top e.to (w.shards e.to) e)
 shard_refusal top w k e sent to =
     ap (refusal_of_message top w) sent
@@ -48,7 +47,7 @@ session_step top w k e sent other to =
     ap (λ o. deliver_for o top w (Deliver k)) sent ∙ ap (λ b. deliver_if b (is_session top e.to) top w (Deliver k) e) other
     ∙ ap (λ b. deliver_if false b top w (Deliver k) e) to
 
-session_refusal : (top : TopologyValue) (w : Run) (k : ℕ) (e : Envelope) → slice_get w.sent k ≡ Some e → is_shard top e.to ≡ false → is_session top e.to ≡ true
+pub session_refusal : (top : TopologyValue) (w : Run) (k : ℕ) (e : Envelope) → slice_get w.sent k ≡ Some e → is_shard top e.to ≡ false → is_session top e.to ≡ true
     → refusal_of top w (Deliver k) ≡ refused_by (session_handle top e.to (w.sessions e.to) e)
 session_refusal top w k e sent other to =
     ap (refusal_of_message top w) sent
@@ -60,7 +59,7 @@ session_refusal top w k e sent other to =
 
 -- ## Shards
 
-below_count : (top : TopologyValue) (xs : List Kept) (node : ℕ) → length xs ≡ shard_count top → node < length xs → is_shard top node ≡ true
+pub below_count : (top : TopologyValue) (xs : List Kept) (node : ℕ) → length xs ≡ shard_count top → node < length xs → is_shard top node ≡ true
 below_count top xs node len lt = grind (arith, nat_tests)
 
 module _ (top : TopologyValue) (events : List Event) where
@@ -84,12 +83,12 @@ module _ (top : TopologyValue) (events : List Event) where
 
   -- a refusal is the run's
   refused_so : (o : Option Refusal) (r : Result ShardStep Fault) (f : Fault) → o ≡ refused_by r → shard.IsRefusalOf r f → IsRefusedAs o f
-  refused_so o (Ok s) f same is = inl is
-  refused_so o (Err e) f same is = inr (same ∙ ap (λ g. Some (Refused g)) (sym is))
+  refused_so o (Ok s) f same is = subst (λ z. IsRefusedAs z f) (sym same) is
+  refused_so o (Err e) f same is = subst (λ z. IsRefusedAs z f) (sym same) (ap Refused (sym is))
 
   pub refused_session : (o : Option Refusal) (r : Result SessionStep Fault) (f : Fault) → o ≡ refused_by r → session.IsRefusalOf r f → IsRefusedAs o f
-  refused_session o (Ok s) f same is = inl is
-  refused_session o (Err e) f same is = inr (same ∙ ap (λ g. Some (Refused g)) (sym is))
+  refused_session o (Ok s) f same is = subst (λ z. IsRefusedAs z f) (sym same) is
+  refused_session o (Err e) f same is = subst (λ z. IsRefusedAs z f) (sym same) (ap Refused (sym is))
 
 -- ## For the code
 
@@ -204,19 +203,15 @@ seat_takes top events k i e a b s t is sent to at lt set did topology shards =
 
 pub seat_refuses : (top : TopologyValue) (events : List Event) (k i : ℕ) (e : Envelope) (a : Actors) (s : Seat) (f : Fault) → IsRunning top (run top events) a
     → slice_get a.network.sent k ≡ Some e → e.to ≡ length a.shards.items + i → slice_get a.seats.items i ≡ Some s → i < length a.seats.items
-    → ((top' : TopologyValue) (z : SessionState) → session.Represents s.session top' z → (f ≡ Memory) ⊎ session.IsRefusalOf (session_handle top' s.session.node z e) f)
+    → ((top' : TopologyValue) (z : SessionState) → session.Represents s.session top' z → session.IsRefusalOf (session_handle top' s.session.node z e) f)
     → IsRefusedAs (refusal_of top (run top events) (Deliver k)) f
 seat_refuses top events k i e a s f is sent to at lt refused =
     let w = run top events in
     let there : slice_get w.sent k ≡ Some e = ap (λ l. slice_get l k) is.sent ∙ sent in
     let n = at_node top events i a s e.to is at to in
     let kind = session_at top e.to i n.0 (subst (λ z. i < z) is.seats.len lt) in
-    elim (refused top (w.sessions e.to) n.2) [
-      | inl memory ↦ inl memory
-      | inr so ↦
-          refused_session top events (refusal_of top w (Deliver k)) (session_handle top e.to (w.sessions e.to) e) f (session_refusal top w k e there kind.0 kind.1)
-          (subst (λ z. session.IsRefusalOf (session_handle top z (w.sessions e.to) e) f) n.1 so)
-    ]
+    refused_session top events (refusal_of top w (Deliver k)) (session_handle top e.to (w.sessions e.to) e) f (session_refusal top w k e there kind.0 kind.1)
+    (subst (λ z. session.IsRefusalOf (session_handle top z (w.sessions e.to) e) f) n.1 (refused top (w.sessions e.to) n.2))
 
 pub seats_still : (top : TopologyValue) (events : List Event) (a b : Actors) (i : ℕ) (s : Seat) → IsRunning top (run top events) a
     → slice_get a.seats.items i ≡ Some s → i < length a.seats.items → b.seats.items ≡ slice_set a.seats.items i s

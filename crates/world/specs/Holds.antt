@@ -1,5 +1,5 @@
 -- When what a world keeps stands for a run.
-use Rattle.std.specs.Prelude.{◌≡◌, ℕ, ◌+◌, true, false, ◌==◌, List, map, length, slice_get, Option, Some, None, option_map, option_and_then}
+use Rattle.std.specs.Prelude.{◌≡◌, ℕ, ◌+◌, true, false, ◌==◌, List, map, length, slice_get, filter_map, Option, Some, None, option_map, option_and_then}
 use Rattle.std.specs.List.{list_any}
 use Rattle.std.specs.Option.{unwrap_or}
 use Rattle.messages.specs.declared.op.Op.{Op}
@@ -12,7 +12,7 @@ use Rattle.client.specs.Represents as session
 use Rattle.world.specs.declared.seat.Seat.{Seat}
 use Rattle.world.specs.declared.actors.Actors.{Actors}
 use Rattle.world.specs.declared.log.Log.{Log}
-use Rattle.world.specs.declared.submitted.Submitted.{Submitted}
+use Rattle.world.specs.Asked.{write_of, write_at}
 use Rattle.world.specs.Delivered.{is_marked}
 use Rattle.world.specs.Run.{Run, Event, Submission, Completed, submission_of, step, run}
 use Rattle.world.specs.Refusals.{refusal_of}
@@ -42,10 +42,6 @@ pub record AreSeats (w : Run) (top : TopologyValue) (seats : List Seat) : Type 0
   pub len : length seats ≡ length top.homes
   pub each : (i : ℕ) (s : Seat) → slice_get seats i ≡ Some s → Sits w top (shard_count top + i) s
 
--- what is kept of a submission: its session, its number and its operation
-abbrev pub submitted_as : Submission → Submitted
-submitted_as s = record { session = s.session; number = s.number; op = s.op }
-
 -- The actors of the topology, what was sent and what ended are those of the run.
 pub record IsRunning (top : TopologyValue) (w : Run) (a : Actors) : Type 0 where
   pub topology : a.topology ≡ top
@@ -65,7 +61,7 @@ pub record Holds (top : TopologyValue) (a : Actors) (l : Log) : Type 0 where
   pub events : (run top l.events.items).events ≡ l.events.items
   pub running : IsRunning top (run top l.events.items) a
   pub delivered : (k : ℕ) → is_marked l.delivered.marks k ≡ list_any (λ j. j == k) (handled (run top l.events.items))
-  pub submitted : map submitted_as (run top l.events.items).submitted ≡ l.submitted.items
+  pub writes : map (write_at l.events.items) l.writes.items ≡ map Some (filter_map write_of (run top l.events.items).submitted)
 
 -- ## What a session's step ended
 

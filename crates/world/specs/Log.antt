@@ -1,8 +1,11 @@
 -- What a world notes of what happened.
-use Rattle.std.specs.Prelude.{◌≡◌, ℕ, ◌<◌}
+use Rattle.std.specs.Prelude.{◌≡◌, ℕ, ◌<◌, List, [], ◌∷◌}
 use Rattle.std.specs.Global.{Vec}
 use Rattle.std.specs.Vec.{vec_len, vec_capacity}
+use Rattle.messages.specs.declared.op.Op.{Op}
+use Rattle.messages.specs.declared.op.Op.TheVariants as op
 use Rattle.world.specs.declared.log.Log.{Log}
+use Rattle.world.specs.declared.written.Written.{Written}
 use Rattle.world.specs.Delivered.{is_marked}
 
 -- one more fits without memory
@@ -12,5 +15,10 @@ HasRoom v = vec_len v < vec_capacity v
 -- nothing was noted: rooms may have been made
 pub record IsSameLog (old new : Log) : Type 0 where
   pub events : new.events.items ≡ old.events.items
-  pub submitted : new.submitted.items ≡ old.submitted.items
+  pub writes : new.writes.items ≡ old.writes.items
   pub delivered : (k : ℕ) → is_marked new.delivered.marks k ≡ is_marked old.delivered.marks k
+
+-- what is noted of a submitted operation: a write by its transaction and the place of its event, of a read nothing
+abbrev pub written_by : ℕ → ℕ → ℕ → Op → List Written
+written_by session number event (op.Batch batch) = record { txn = record { session = session; number = number }; event = event } ∷ []
+written_by session number event (op.Read read) = []

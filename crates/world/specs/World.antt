@@ -24,6 +24,7 @@ pub record Takes (old : WorldValue) (x : Event) (new : WorldValue) : Type 0 wher
   pub allowed : refusal_in old x ≡ None
   pub happened : new ≡ record old { events = old.events ++ x ∷ [] }
 
--- a call was refused for want of memory, or as the run refuses the event
+-- a call was refused as the run refuses the event, or else for want of memory
 abbrev pub IsRefusedAs : Option Refusal → Fault → Type 0
-IsRefusedAs r e = (e ≡ Memory) ⊎ (r ≡ Some (Refused e))
+IsRefusedAs None e = e ≡ Memory
+IsRefusedAs (Some r) e = r ≡ Refused e

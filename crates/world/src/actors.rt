@@ -4,16 +4,18 @@ ghost use Rattle.messages.specs.declared.envelope.Envelope.{Envelope};
 ghost use Rattle.messages.specs.Topology.{TopologyValue};
 ghost use Rattle.messages.specs.Shard.{ShardState};
 ghost use Rattle.messages.specs.ShardEvents.{shard_handle, shard_collect};
-ghost use Rattle.shard.specs.Kept.{IsRefusalOf};
+ghost use Rattle.messages.specs.Clock.{ticked};
+ghost use Rattle.shard.specs.Kept.{IsRefusalOf, IsSpentOrMemory};
+ghost use Rattle.world.specs.Log.{HasRoom};
 ghost use Rattle.world.specs.Run.{Event, Submit, Deliver, Collect, run};
-ghost use Rattle.world.specs.Refusals.{refusal_of};
+ghost use Rattle.world.specs.Refusals.{refusal_of, clock_at};
 ghost use Rattle.world.specs.Holds.{AreShards, IsRunning, HasTaken};
 ghost use Rattle.world.specs.World.{IsRefusedAs};
 ghost use Rattle.world.specs.Steps.{StaysApart, DidShard};
 
 use crate::completed::Completed;
 use crate::seat::Seat;
-use logical_time::{Fault, Node, Time};
+use logical_time::{Clock, Fault, Node, Time};
 use messages::{Envelope, Op, Outbox, Topology};
 use shard::Shard;
 
@@ -76,7 +78,86 @@ fn copy_of(network: &Outbox, number: usize) -> Result<Envelope, Fault>
     }
 }
 
+/// Why an event at this clock is refused where there is no memory for it: the clock is looked at first.
+#[tactic(auto, using(crate::proofs::Unready::spent, crate::proofs::Unready::unspent))]
+fn without_memory(clock: Clock, time: Time) -> Fault
+    ensures { IsSpentOrMemory (ticked clock time) result }
+{
+    let mut moved = clock;
+    match moved.receive(time) {
+        Ok(_) => Fault::Memory,
+        Err(fault) => fault,
+    }
+}
+
 impl Actors {
+    /// The clock of the actor with this node.
+    #[tactic(auto, using(crate::proofs::Unready::shard_clock, crate::proofs::Unready::seat_clock))]
+    fn clock_of(&self, node: Node) -> Clock
+        requires { node < length self.now.shards.items + length self.now.seats.items }
+        ensures { (top : TopologyValue) (events : List Event) → IsRunning top (run top events) self.now → clock_at top (run top events) node ≡ result }
+    {
+        let place = usize::from(node.get());
+        let shards = self.shards.len();
+        if place < shards {
+            self.shards[place].clock()
+        } else {
+            self.seats[place - shards].session.clock()
+        }
+    }
+
+    /// Why the delivery of this message is refused where there is no memory for it.
+    #[tactic(auto, using(crate::proofs::Unready::delivery_unready))]
+    pub fn delivery_without_memory(&self, number: usize) -> Fault
+        requires sent { number < length self.now.network.sent }
+        requires addressed { (e : Envelope) → slice_get self.now.network.sent number ≡ Some e → e.to < length self.now.shards.items + length self.now.seats.items }
+        ensures { (top : TopologyValue) (events : List Event) → IsRunning top (run top events) self.now
+            → IsRefusedAs (refusal_of top (run top events) (Deliver number)) result }
+    {
+        match self.network.get(number) {
+            Some(envelope) => without_memory(self.clock_of(envelope.to), envelope.time),
+            None => unreachable!(),
+        }
+    }
+
+    /// Why a collection is refused where there is no memory for it.
+    #[tactic(auto, using(crate::proofs::Unready::collection_unready))]
+    pub fn collection_without_memory(&self, shard: Node, time: Time) -> Fault
+        requires { shard < length self.now.shards.items }
+        ensures { (top : TopologyValue) (events : List Event) → IsRunning top (run top events) self.now
+            → IsRefusedAs (refusal_of top (run top events) (Collect shard time)) result }
+    {
+        let clock = self.clock_of(shard);
+        without_memory(clock, clock.now())
+    }
+
+    /// Why a submission is refused where there is no memory for it.
+    #[tactic(auto, using(crate::proofs::Unready::submission_unready))]
+    pub fn submission_without_memory(&self, session: Node, op: &Op) -> Fault
+        requires seat { length self.now.shards.items ≤ session }
+        requires seats { session < length self.now.shards.items + length self.now.seats.items }
+        ensures { (top : TopologyValue) (events : List Event) → IsRunning top (run top events) self.now
+            → IsRefusedAs (refusal_of top (run top events) (Submit session op.now)) result }
+    {
+        let place = usize::from(session.get()) - self.shards.len();
+        match self.seats[place].session.check(op) {
+            Ok(()) => Fault::Memory,
+            Err(fault) => fault,
+        }
+    }
+
+    /// Makes room for the delivery of this message, and gives a copy of it. Refused with `Memory` alone.
+    fn make_ready(&mut self, number: usize) -> Result<Envelope, Fault>
+        requires { number < length self.old.network.sent }
+        ensures ok { IfOk result (λ envelope. slice_get self.new.network.sent number ≡ Some envelope) }
+        ensures room { OnOk result (HasRoom self.new.transcript) }
+        ensures same { self.new ≡ record self.old { transcript = self.new.transcript } }
+        ensures told { self.new.transcript.items ≡ self.old.transcript.items }
+    {
+        self.transcript.reserve(1)?;
+        copy_of(&self.network, number)
+    }
+
     /// The message of this number is delivered.
     pub fn deliver(&mut self, number: usize) -> Result<(), Fault>
         requires sent { number < length self.old.network.sent }
@@ -87,13 +168,16 @@ impl Actors {
         ensures same { (top : TopologyValue) (events : List Event) → IsRunning top (run top events) self.old → OnErr result (IsRunning top (run top events) self.new) }
         ensures topology { self.new.topology ≡ self.old.topology }
     {
-        let envelope = copy_of(&self.network, number)?;
-        self.hand(envelope)
+        match self.make_ready(number) {
+            Ok(envelope) => self.hand(envelope),
+            Err(_) => Err(self.delivery_without_memory(number)),
+        }
     }
 
     /// The actor to whom it is addressed handles an envelope.
     fn hand(&mut self, envelope: Envelope) -> Result<(), Fault>
-        requires { envelope.to < length self.old.shards.items + length self.old.seats.items }
+        requires to { envelope.to < length self.old.shards.items + length self.old.seats.items }
+        requires room { HasRoom self.old.transcript }
         ensures ok { (top : TopologyValue) (events : List Event) (k : ℕ) → IsRunning top (run top events) self.old → slice_get self.old.network.sent k ≡ Some envelope
             → OnOk result (HasTaken top events (Deliver k) self.new) }
         ensures refused { (top : TopologyValue) (events : List Event) (k : ℕ) → IsRunning top (run top events) self.old → slice_get self.old.network.sent k ≡ Some envelope
@@ -131,6 +215,7 @@ impl Actors {
     fn to_session(&mut self, place: usize, envelope: Envelope) -> Result<(), Fault>
         requires place { place < length self.old.seats.items }
         requires to { envelope.to ≡ length self.old.shards.items + place }
+        requires room { HasRoom self.old.transcript }
         ensures ok { (top : TopologyValue) (events : List Event) (k : ℕ) → IsRunning top (run top events) self.old → slice_get self.old.network.sent k ≡ Some envelope
             → OnOk result (HasTaken top events (Deliver k) self.new) }
         ensures refused { (top : TopologyValue) (events : List Event) (k : ℕ) → IsRunning top (run top events) self.old → slice_get self.old.network.sent k ≡ Some envelope

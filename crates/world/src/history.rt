@@ -1,13 +1,14 @@
 //! Histories of data centres, by asking.
-ghost use Rattle.std.specs.Prelude.{◌≡◌, ◌<◌, ◌≤◌, ◌+◌, ◌*◌, ◌++◌, ℕ, length, filter_map, option_map, option_to_list, OnOk, IfOk, IfErr};
+ghost use Rattle.std.specs.Prelude.{◌≡◌, ◌<◌, ◌≤◌, ◌+◌, ◌*◌, ◌++◌, ℕ, length, filter_map, option_map, option_to_list, option_copied, OnOk, IfOk, IfErr};
 ghost use Rattle.messages.specs.Topology.{TopologyValue, shard_node};
 ghost use Rattle.messages.specs.Shard.{ShardState, Decision};
 ghost use Rattle.messages.specs.Known.{decision_of};
 ghost use Rattle.planner.specs.Plan.{coordinator_of};
 ghost use Rattle.world.specs.Holds.{AreShards};
-ghost use Rattle.world.specs.Asked.{entry_by, entry_of};
+ghost use Rattle.world.specs.Asked.{batch_at, entry_by, entry_at};
 
-use crate::submitted::Submitted;
+use crate::run_event::RunEvent;
+use crate::written::Written;
 use column_family::{Batch, Committed};
 use logical_time::{Fault, Shard as Number, Stamp, Time, TxnId};
 use messages::{Home, Op};
@@ -38,23 +39,38 @@ fn decided(home: Home, shards: &[Shard], batch: &Batch, txn: TxnId) -> Option<(T
     shards[usize::from(node.get())].decided(txn)
 }
 
-/// The entry of an operation in the history of this data centre, by asking the coordinator there. None of a read, and of a
-/// write that isn't decided there. Refused with `Memory` alone.
+/// The batch that the event at this place submitted, if it submitted one.
+fn batch_at(events: &[RunEvent], place: usize) -> Option<&Batch>
+    ensures { option_copied result ≡ batch_at events.now place }
+{
+    match events.get(place) {
+        Some(RunEvent::Submit {
+            op: Op::Batch(batch),
+            session: _,
+        }) => Some(batch),
+        _ => None,
+    }
+}
+
+/// The entry of a write in the history of this data centre, by asking the coordinator there. None where it isn't decided
+/// there. Refused with `Memory` alone.
 #[tactic(auto, using(crate::proofs::AskedFor::entry_told, crate::proofs::AskedFor::none_told))]
-fn entry(home: Home, shards: &[Shard], submitted: &Submitted) -> Result<Option<Committed>, Fault>
+fn entry(
+    home: Home,
+    shards: &[Shard],
+    events: &[RunEvent],
+    write: &Written,
+) -> Result<Option<Committed>, Fault>
     requires some { 0 < home.shards }
     requires shards { home.dc * home.shards + home.shards ≤ length shards.now }
-    ensures ok { (top : TopologyValue) (states : ℕ → ShardState) → top.shards ≡ home.shards → AreShards top states shards.now → IfOk result (λ o. o ≡ entry_of top states home.dc submitted.now) }
+    ensures ok { (top : TopologyValue) (states : ℕ → ShardState) → top.shards ≡ home.shards → AreShards top states shards.now
+        → IfOk result (λ o. o ≡ entry_at top states home.dc events.now write.now) }
     ensures memory { IfErr result (λ e. e ≡ Fault.Memory) }
 {
-    match &submitted.op {
-        Op::Read(_) => Ok(None),
-        Op::Batch(batch) => {
-            let txn = TxnId {
-                session: submitted.session,
-                number: submitted.number,
-            };
-            let told = decided(home, shards, batch, txn);
+    match batch_at(events, write.event) {
+        None => Ok(None),
+        Some(batch) => {
+            let told = decided(home, shards, batch, write.txn);
             entry_with(batch, told)
         }
     }
@@ -86,23 +102,24 @@ fn add(history: &mut History, entry: Option<Committed>) -> Result<(), Fault>
     Ok(())
 }
 
-/// The entries of all these operations, in their order. Refused with `Memory` alone.
+/// The entries of all these writes, in their order. Refused with `Memory` alone.
 #[tactic(auto, using(crate::proofs::AskedFor::one_more_asked))]
 pub fn history(
     alloc: Global,
     home: Home,
     shards: &[Shard],
-    submitted: &[Submitted],
+    events: &[RunEvent],
+    writes: &[Written],
 ) -> Result<History, Fault>
     requires some { 0 < home.shards }
     requires shards { home.dc * home.shards + home.shards ≤ length shards.now }
     ensures ok { (top : TopologyValue) (states : ℕ → ShardState) → top.shards ≡ home.shards → AreShards top states shards.now
-        → IfOk result (λ h. h ≡ filter_map (entry_of top states home.dc) submitted.now) }
+        → IfOk result (λ h. h ≡ filter_map (entry_at top states home.dc events.now) writes.now) }
     ensures memory { IfErr result (λ e. e ≡ Fault.Memory) }
 {
     let mut history = History::new(alloc);
-    for operation in submitted {
-        let entry = entry(home, shards, operation)?;
+    for write in writes {
+        let entry = entry(home, shards, events, write)?;
         add(&mut history, entry)?;
     }
     Ok(history)

@@ -18,8 +18,8 @@ mod opening;
 mod promises;
 mod run_event;
 mod seat;
-mod submitted;
 mod world;
+mod written;
 
 pub use completed::Completed;
 pub use journals::{

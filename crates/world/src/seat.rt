@@ -1,6 +1,5 @@
 //! Sessions in a world.
-ghost use Rattle.std.specs.Prelude.{◌≡◌, ◌+◌, ◌⊎◌, IfOk, IfErr, OnOk, OnErr};
-ghost use Rattle.logical_time.specs.declared.fault.Fault.TheVariants.{Memory};
+ghost use Rattle.std.specs.Prelude.{◌≡◌, ◌+◌, IfOk, IfErr, OnOk, OnErr};
 ghost use Rattle.messages.specs.Topology.{TopologyValue};
 ghost use Rattle.messages.specs.Session.{SessionState};
 ghost use Rattle.messages.specs.Submitting.{session_submit};
@@ -30,23 +29,23 @@ pub struct Seat {
 }
 
 impl Seat {
-    /// The session handles an envelope. What ended is added to the transcript. Refused as the session refuses it, and with
-    /// `Memory`; then nothing changes.
+    /// The session handles an envelope. What ended is added to the transcript, where there is room for it. Refused as the
+    /// session refuses it; then nothing changes.
     pub fn hear(
         &mut self,
         envelope: Envelope,
         network: &mut Outbox,
         transcript: &mut Vec<Completed>,
     ) -> Result<(), Fault>
+        requires { HasRoom transcript.old }
         ensures ok { (top : TopologyValue) (a : SessionState) → Represents self.old.session top a
             → OnOk result (DidSessionOf top (session_handle top self.old.session.node a envelope) self.old self.new network.old.sent network.new.sent transcript.old.items transcript.new.items) }
         ensures refused { (top : TopologyValue) (a : SessionState) → Represents self.old.session top a
-            → IfErr result (λ e. (e ≡ Memory) ⊎ IsRefusalOf (session_handle top self.old.session.node a envelope) e) }
+            → IfErr result (IsRefusalOf (session_handle top self.old.session.node a envelope)) }
         ensures same { OnErr result (self.new ≡ self.old) }
         ensures unsent { OnErr result (network.new.sent ≡ network.old.sent) }
         ensures untold { OnErr result (transcript.new.items ≡ transcript.old.items) }
     {
-        transcript.reserve(1)?;
         match self.session.handle(envelope, network) {
             Ok(()) => {
                 let ended = self.session.take_answer();

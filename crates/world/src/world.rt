@@ -69,15 +69,12 @@ impl World {
         ensures same { OnErr result (self.new ≡ self.old) }
         ensures back { IfErr result (λ e. e.1 ≡ op) }
     {
-        if let Err(fault) = self.log.make_room_for_submission() {
-            return Err((fault, op));
-        }
-        let (kept, listed, told) = match copies(&op) {
+        let (kept, told) = match self.log.make_room_for_submission(&op) {
             Ok(copies) => copies,
-            Err(fault) => return Err((fault, op)),
+            Err(_) => return Err((self.actors.submission_without_memory(session, &op), op)),
         };
         let number = self.actors.submit(session, op, kept)?;
-        self.log.add_submission(session, number, listed, told);
+        self.log.add_submission(session, number, told);
         Ok(number)
     }
 
@@ -91,7 +88,9 @@ impl World {
         ensures refused { IfErr result (IsRefusedAs (refusal_in self.old (Deliver number))) }
         ensures same { OnErr result (self.new ≡ self.old) }
     {
-        self.log.make_room_for_delivery(number)?;
+        if self.log.make_room_for_delivery(number).is_err() {
+            return Err(self.actors.delivery_without_memory(number));
+        }
         self.actors.deliver(number)?;
         self.log.add_delivery(number);
         Ok(())
@@ -106,7 +105,9 @@ impl World {
         ensures refused { IfErr result (IsRefusedAs (refusal_in self.old (Collect shard time))) }
         ensures same { OnErr result (self.new ≡ self.old) }
     {
-        self.log.make_room_for_collection()?;
+        if self.log.make_room_for_collection().is_err() {
+            return Err(self.actors.collection_without_memory(shard, time));
+        }
         self.actors.collect(shard, time)?;
         self.log.add_collection(shard, time);
         Ok(())
@@ -191,7 +192,7 @@ impl World {
 
     /// The history of a data centre: an entry for each submitted batch that its coordinator there has decided, in the order of
     /// submission. That there is such a data centre is the caller's condition. In the order of m log n for m submitted
-    /// operations and n transactions, beside the copies, which share the bytes of keys, names and values. Refused with
+    /// batches and n transactions, beside the copies, which share the bytes of keys, names and values. Refused with
     /// `Memory` alone.
     #[tactic(auto, using(crate::proofs::Promised::is_of, crate::proofs::Promised::tells, crate::proofs::Promised::grows, crate::proofs::Promised::stamps, crate::proofs::Promised::causes, crate::proofs::Promised::pasts))]
     pub fn history(&self, alloc: Global, dc: u16) -> Result<History, Fault>
@@ -207,12 +208,12 @@ impl World {
         ensures pasts { PastsAreDecided self.now.top (run_of self.now) }
         ensures memory { IfErr result (λ e. e ≡ Fault.Memory) }
     {
-        let submitted = self.log.submitted.as_slice();
         history(
             alloc,
             self.actors.topology.home(dc),
             self.actors.shards.as_slice(),
-            submitted,
+            self.log.events.as_slice(),
+            self.log.writes.as_slice(),
         )
     }
 
@@ -229,12 +230,4 @@ impl World {
         close_shards(shards);
         close_seats(seats);
     }
-}
-
-/// Three copies of an operation, which share the bytes of keys, names and values. Refused with `Memory` alone.
-fn copies(op: &Op) -> Result<(Op, Op, Op), Fault>
-    ensures ok { IfOk result (λ c. (c.0 ≡ op.now) × (c.1 ≡ op.now) × (c.2 ≡ op.now)) }
-    ensures memory { IfErr result (λ e. e ≡ Fault.Memory) }
-{
-    Ok((op.copied()?, op.copied()?, op.copied()?))
 }
