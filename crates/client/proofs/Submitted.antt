@@ -2,6 +2,7 @@
 use Rattle.std.proofs.Common.{◌≡◌, ◌∙◌, ℕ, ◌+◌, ◌^◌, ◌<◌, max, Bool, true, false, ap, refl, sym, subst, List, [], ◌++◌, Option, Some, None, append-nil, arith}
 use Rattle.std.specs.Prelude.{nat_lt, if◌then◌else◌, Result, Ok, Err, ◌≤◌, IsOk, IfErr, OnOk}
 use Rattle.std.proofs.lemmas.Bool.Decides.{nat_tests}
+use Rattle.std.proofs.lemmas.Bool.{false≢true}
 use Rattle.logical_time.specs.declared.fault.Fault.{Fault}
 use Rattle.logical_time.specs.declared.fault.Fault.TheVariants.{ClockSpent}
 use Rattle.messages.specs.declared.envelope.Envelope.{Envelope}
@@ -123,7 +124,7 @@ pub would_accept : (k : Kept) (o : Op) → fault_of k o ≡ None → max k.clock
 would_accept k o allowed lt =
     subst IsOk
     (sym (ap (λ f. submit_if f (topology_of k) k.node (state_of k) o) allowed ∙ ap (λ t. on_clock t (λ n. begun (topology_of k) k.node n (state_of k) o)) (ticked_some k.clock k.clock (max k.clock k.clock + 1) refl lt)))
-    tt
+    refl
 
 pub would_refuse : (k : Kept) (o : Op) (e : Fault) → fault_of k o ≡ Some e → session_submit (topology_of k) k.node (state_of k) o ≡ Err e
 would_refuse k o e refused = ap (λ f. submit_if f (topology_of k) k.node (state_of k) o) refused
@@ -136,11 +137,11 @@ would_be_spent k o allowed le =
 ends_alike : (f : Option Fault) (t : Option ℕ) (x y : ℕ → SessionStep) (P Q : Option Fault → Result SessionStep Fault) → ((g : Fault) → P (Some g) ≡ Err g)
     → ((g : Fault) → Q (Some g) ≡ Err g) → P None ≡ on_clock t x → Q None ≡ on_clock t y → (IsOk (P f) → IsOk (Q f)) × ((e : Fault) → P f ≡ Err e → Q f ≡ Err e)
 ends_alike (Some g) t x y P Q p q pn qn =
-    (λ h. absurd (subst IsOk (p g) h), λ e h. q g ∙ sym (p g) ∙ h)
+    (λ h. absurd (false≢true (subst IsOk (p g) h)), λ e h. q g ∙ sym (p g) ∙ h)
 ends_alike None None x y P Q p q pn qn =
-    (λ h. absurd (subst IsOk pn h), λ e h. qn ∙ sym pn ∙ h)
+    (λ h. absurd (false≢true (subst IsOk pn h)), λ e h. qn ∙ sym pn ∙ h)
 ends_alike None (Some n) x y P Q p q pn qn =
-    (λ h. subst IsOk (sym qn) tt, λ e h. absurd (let z = sym pn ∙ h in cc))
+    (λ h. subst IsOk (sym qn) refl, λ e h. absurd (let z = sym pn ∙ h in cc))
 
 stands_alike : (k : Kept) (o : Op) (top : TopologyValue) (a : SessionState) → Represents k top a
     → (IsOk (session_submit (topology_of k) k.node (state_of k) o) → IsOk (session_submit top k.node a o))

@@ -203,15 +203,15 @@ writes_last top w node o allowed = by (is_session top node) refl
     Last : Run → Type 0
     Last v = filter_map write_of v.submitted ≡ filter_map write_of w.submitted ++ option_to_list (write_by node ((w.sessions node).count + 1) o)
 
+    alone : (z : Option (TxnValue × List Change)) → cons_option z [] ≡ option_to_list z
+    alone None = refl
+    alone (Some p) = refl
+
     one : (c : ℕ) (s : Submission) → s.session ≡ node → s.number ≡ c → s.op ≡ o → filter_map write_of (s ∷ []) ≡ option_to_list (write_by node c o)
     one c s is number op =
         alone (write_of s) ∙ ap (λ p. option_to_list (option_map (λ (b : List Change). (record { session = s.session; number = s.number }, b)) (batch_in p))) op
         ∙ ap (λ (z : ℕ). option_to_list (option_map (λ (b : List Change). (record { session = z; number = s.number }, b)) (batch_in o))) is
         ∙ ap (λ (z : ℕ). option_to_list (option_map (λ (b : List Change). (record { session = node; number = z }, b)) (batch_in o))) number
-
-    alone : (z : Option (TxnValue × List Change)) → cons_option z [] ≡ option_to_list z
-    alone None = refl
-    alone (Some p) = refl
 
     go : (f : Option Fault) (c : Option ℕ) → refused_by (submitted_if f top node (w.sessions node) o) ≡ None → submit_fault (is_idle (w.sessions node).current) top o ≡ f
         → ticked (w.sessions node).clock (w.sessions node).clock ≡ c

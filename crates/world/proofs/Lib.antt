@@ -113,6 +113,7 @@ pub mod KeptAnswers
 pub mod FirstRounds
 pub mod Addressed
 pub mod Unhandled
+pub mod Unready
 pub mod AskedHistory
 pub mod Unfinished
 pub mod PastsDecided

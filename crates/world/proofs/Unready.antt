@@ -2,6 +2,7 @@
 use Rattle.std.proofs.Common.{◌≡◌, ◌∙◌, ℕ, ◌+◌, ◌^◌, ◌<◌, ◌≤◌, ◌-◌, max, Bool, true, false, List, length, slice_get, Option, Some, None, Result, Ok, Err, refl, sym, ap, subst, arith}
 use Rattle.std.specs.Prelude.{nat_lt, if◌then◌else◌, IsOk}
 use Rattle.std.proofs.lemmas.Bool.Decides.{nat_tests}
+use Rattle.std.proofs.lemmas.Bool.{false≢true}
 use Rattle.logical_time.specs.declared.fault.Fault.{Fault}
 use Rattle.logical_time.specs.declared.fault.Fault.TheVariants.{ClockSpent, Memory}
 use Rattle.messages.specs.declared.envelope.Envelope.{Envelope}
@@ -17,7 +18,7 @@ use Rattle.shard.specs.Kept.{IsSpentOrMemory}
 use Rattle.client.specs.Represents as session
 use Rattle.world.specs.declared.actors.Actors.{Actors}
 use Rattle.world.specs.declared.seat.Seat.{Seat}
-use Rattle.world.specs.Run.{Event, Submit, Deliver, Collect, run}
+use Rattle.world.specs.Run.{Run, Event, Submit, Deliver, Collect, run}
 use Rattle.world.specs.Refusals.{Refused, NoSuchActor, refused_by, refusal_of, clock_at}
 use Rattle.world.specs.Holds.{IsRunning}
 use Rattle.world.specs.World.{IsRefusedAs}
@@ -66,6 +67,7 @@ module _ (top : TopologyValue) (events : List Event) (a : Actors) (is : IsRunnin
       → clock_at top (run top events) e.to ≡ clock → IsSpentOrMemory (ticked clock e.time) f → IsRefusedAs (refusal_of top (run top events) (Deliver k)) f
   delivery_unready k clock e f sent within at spent = go (is_shard top e.to) refl
     where
+      w : Run
       w = run top events
 
       there : slice_get w.sent k ≡ Some e
@@ -116,7 +118,7 @@ module _ (top : TopologyValue) (events : List Event) (a : Actors) (is : IsRunnin
 -- what a check of the operation answers
 pub acceptable : (r : Result SessionStep Fault) → IsOk r → session.IsRefusalOf r Memory
 acceptable (Ok s) is = refl
-acceptable (Err e) is = absurd is
+acceptable (Err e) is = absurd (false≢true is)
 
 pub unacceptable : (r : Result SessionStep Fault) (e : Fault) → r ≡ Err e → session.IsRefusalOf r e
 unacceptable r e is = subst (λ z. session.IsRefusalOf z e) (sym is) refl

@@ -10,5 +10,5 @@ returns-in-Ok-clause-ok c =
     λ top a rep.
     seat_did top _ _ _ c.args.self.now _ _ _ c.args.transcript.now.items _ (c.in-Ok.ensures.step top a rep) c.take_answer-ended.ensures.taken c.in-Ok.ensures.node c.take_answer-ended.ensures.node
     (c.tell.ensures.kept ∙ ap (λ u. record { node = c.args.self.now.node; home = c.args.self.now.home; session = c.take_answer-ended.new.self; op = kept_after c.args.self.now.op (finished_of u) }) c.take_answer-ended.ensures.answer)
-    (c.tell.ensures.told ∙ ap (λ l. with_ended l (ended_as c.args.self.now.node c.args.self.now.home c.args.self.now.op (finished_of c.take_answer-ended.result))) c.reserve.ensures.items
+    (c.tell.ensures.told
     ∙ ap (λ u. with_ended c.args.transcript.now.items (ended_as c.args.self.now.node c.args.self.now.home c.args.self.now.op (finished_of u))) c.take_answer-ended.ensures.answer)
