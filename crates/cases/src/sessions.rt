@@ -41,9 +41,9 @@ fn new_session(alloc: Global) -> Result<Session, Fault> {
 fn columns(alloc: Global, value: &str) -> Result<Columns, Fault> {
     let name = Name::from_slice(alloc, b"x")?;
     let value = Value::from_slice(alloc, value.as_bytes())?;
-    let mut columns = Columns::new(alloc);
+    let mut columns = Vec::new(alloc);
     columns.push(Column { name, value })?;
-    Ok(columns)
+    Ok(Columns::from_vec(alloc, columns)?)
 }
 
 fn row_now(

@@ -56,11 +56,11 @@ fn columns_at(
     ensures memory { IfErr result (λ e. e ≡ Fault.Memory) }
 {
     let Some(place) = places.get(key) else {
-        return Ok(Columns::new(alloc));
+        return Ok(Columns::none());
     };
     match row_at(rows, *place) {
         Some(row) => columns_of(row),
-        None => Ok(Columns::new(alloc)),
+        None => Ok(Columns::none()),
     }
 }
 

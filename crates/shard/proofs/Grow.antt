@@ -20,7 +20,8 @@ use Rattle.messages.specs.Shard.{ShardState, PreparedPart, WaitingRead}
 use Rattle.messages.specs.Known.{is_applied}
 use Rattle.messages.specs.Rows.{row_of}
 use Rattle.messages.specs.Honest.{Told, all_told}
-use Rattle.shard.specs.Sound.{Seen, has_row, IsSettled, Grows, RowNowSound, RowAtSound, BodySound, WaitSound}
+use Rattle.store.specs.Part.{has_row}
+use Rattle.shard.specs.Sound.{Seen, IsSettled, Grows, RowNowSound, RowAtSound, BodySound, WaitSound}
 use Rattle.shard.proofs.Lists.{any_more, no_truth}
 
 -- ## States

@@ -31,7 +31,6 @@ pub mod Run
 pub mod Sending
 pub mod ShardSteps
 pub mod Shown
-pub mod Untouched
 pub mod Updates
 pub mod Votes
 pub mod Within

@@ -8,24 +8,14 @@ use Rattle.std.proofs.lemmas.List.Folds.{list_any-append}
 use Rattle.logical_time.specs.Stamps.{TxnValue, StampValue, stamp_cmp}
 use Rattle.column_family.proofs.Options.{both_true, either_true}
 use Rattle.store.proofs.Lists.{none_in_empty, first_or_rest, contains_first, contains_rest}
+pub use Rattle.store.proofs.Lists.{no_truth, or_left, or_right, any_has, each_from}
 use Rattle.messages.specs.Words.{is_same_txn}
 
 -- ## Tests
 
-pub no_truth : {P : Type 0} (b : Bool) → b ≡ true → b ≡ false → P
-no_truth b t f = absurd (cc)
-
 pub both_hold : (a b : Bool) → a ≡ true → b ≡ true → (a && b) ≡ true
 both_hold true b p q = q
 both_hold false b p q = absurd (cc)
-
-pub or_left : (a b : Bool) → a ≡ true → (a || b) ≡ true
-or_left true b e = refl
-or_left false b e = absurd (cc)
-
-pub or_right : (a b : Bool) → b ≡ true → (a || b) ≡ true
-or_right true b e = refl
-or_right false b e = e
 
 pub not_true : (b : Bool) → not b ≡ true → b ≡ false
 not_true true e = absurd (cc)
@@ -67,13 +57,6 @@ any_found q [] e = absurd (cc)
 any_found {X} q (x ∷ xs) e = elim (either_true (q x) (list_any q xs) e) [
   | inl here ↦ (x, contains_first x xs, here)
   | inr there ↦ (let m = any_found q xs there in (m.0, contains_rest x m.0 xs m.1, m.2))
-]
-
-pub any_has : {X : Type 0} (q : X → Bool) (xs : List X) (x : X) → Contains xs x → q x ≡ true → list_any q xs ≡ true
-any_has q [] x has is = absurd (none_in_empty x has)
-any_has q (y ∷ ys) x has is = elim (first_or_rest y x ys has) [
-  | inl here ↦ or_left (q y) (list_any q ys) (ap q here ∙ is)
-  | inr there ↦ or_right (q y) (list_any q ys) (any_has q ys x there is)
 ]
 
 pub any_none : {X : Type 0} (q : X → Bool) (xs : List X) → ((x : X) → Contains xs x → q x ≡ true → ⊥) → list_any q xs ≡ false
@@ -126,10 +109,6 @@ each_contained P (y ∷ ys) h x has = elim (first_or_rest y x ys has) [
   | inl here ↦ subst P here h.0
   | inr there ↦ each_contained P ys h.1 x there
 ]
-
-pub each_from : {X : Type 0} (P : X → Type 0) (xs : List X) → ((x : X) → Contains xs x → P x) → AllByRecursion P xs
-each_from P [] h = tt
-each_from P (x ∷ xs) h = (h x (contains_first x xs), each_from P xs (λ y has. h y (contains_rest x y xs has)))
 
 pub each_weaker : {X : Type 0} (P Q : X → Type 0) → ((x : X) → P x → Q x) → (xs : List X) → AllByRecursion P xs → AllByRecursion Q xs
 each_weaker P Q f [] h = h

@@ -23,7 +23,7 @@ use Rattle.shard.specs.Right.{part_now, part_then, IsRightNow, IsRightAt, IsSent
 use Rattle.shard.specs.Sound.{RowNowSound, RowAtSound, NowSound, AtSound, BodySound}
 use Rattle.shard.proofs.Grow.{now_grows, at_grows}
 use Rattle.shard.proofs.Lists.{each_contained}
-use Rattle.shard.proofs.Untouched.{right_stays}
+use Rattle.store.proofs.Untouched.{right_stays}
 use Rattle.shard.proofs.Within.{within_itself}
 use Rattle.shard.proofs.Asked.{IsWaitingFor, IsTaken, seen_at}
 use Rattle.shard.proofs.Run.{RanOn, SentAt, continued_ran, sent_at, fresh_ran}

@@ -9,7 +9,7 @@ use Rattle.column_family.specs.Location.{is_same_row}
 use Rattle.column_family.specs.Normal.{IsNormal}
 use Rattle.slice.specs.declared.read.Read.{Read}
 use Rattle.store.specs.declared.part.Applied.{Applied}
-use Rattle.store.specs.Part.{IsNewestPart, IsRightPart}
+use Rattle.store.specs.Part.{has_row, IsNewestPart, IsRightPart}
 use Rattle.store.specs.Keeps.{AreApart}
 use Rattle.messages.specs.declared.rows_now.RowNow.{RowNow}
 use Rattle.messages.specs.declared.rows_at.RowAt.{RowAt}
@@ -26,10 +26,6 @@ use Rattle.messages.specs.Honest.{Told, all_told, stamps_met}
 use Rattle.shard.specs.Right.{part_now, part_then, IsAppliedAsDecided}
 
 -- ## What is complete
-
--- whether changes touch the row
-abbrev pub has_row : Row → List Change → Bool
-has_row r rows = list_any (λ c. is_same_row r c.row) rows
 
 -- whatever these envelopes tell of the transaction, it commits above the time
 abbrev pub IsExcluded : List Envelope → TxnValue → ℕ → Type 0

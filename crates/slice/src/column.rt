@@ -1,9 +1,10 @@
 //! Columns, and lists of them.
-ghost use Rattle.std.specs.Prelude.{◌≡◌, ◌++◌, [], ◌∷◌, OnOk, OnErr, IfErr};
+ghost use Rattle.std.specs.Prelude.{◌≡◌, [], IfOk};
 
 use column_family::{Name, Value};
-use std::alloc::{AllocFailed, Global};
+use std::alloc::{AllocError, Global};
 use std::marker::Model;
+use std::sync::Arc;
 
 /// A column: a name and its value.
 #[derive(Drop, Clone, PartialEq, Eq)]
@@ -14,52 +15,50 @@ pub struct Column {
     pub value: Value,
 }
 
-/// Columns in order.
+/// Columns in order. Copies share them.
 #[derive(Drop, Clone)]
 pub struct Columns {
-    columns: Vec<Column>,
+    // none stands for no column
+    columns: Option<Arc<Vec<Column>>>,
 }
 
 impl Model for Columns {
     ghost use Rattle.std.specs.Prelude.{List};
     ghost use Rattle.slice.specs.declared.column.Column.{Column};
+    ghost use Rattle.slice.specs.Columns.{columns_in};
 
     ghost Value = { List Column };
 
-    ghost view = { λ list. list.columns.items };
+    ghost view = { λ list. columns_in list.columns };
 }
 
 impl Columns {
     /// No column.
-    pub fn new(alloc: Global) -> Columns
+    pub fn none() -> Columns
         ensures { result ≡ [] }
     {
-        Columns {
-            columns: Vec::new(alloc),
+        Columns { columns: None }
+    }
+
+    /// These columns. Fails by memory alone.
+    pub fn from_vec(alloc: Global, columns: Vec<Column>) -> Result<Columns, AllocError>
+        ensures { IfOk result (λ list. list ≡ columns.items) }
+    {
+        match Arc::new(alloc, columns) {
+            Ok(columns) => Ok(Columns {
+                columns: Some(columns),
+            }),
+            Err(_) => Err(AllocError),
         }
-    }
-
-    /// These columns.
-    pub fn from_vec(columns: Vec<Column>) -> Columns
-        ensures { result ≡ columns.items }
-    {
-        Columns { columns }
-    }
-
-    /// Adds a column at the end. Fails by memory alone; then nothing changes, and
-    /// it is handed back.
-    pub fn push(&mut self, column: Column) -> Result<(), AllocFailed<Column>>
-        ensures ok { OnOk result (self.new ≡ self.old ++ column ∷ []) }
-        ensures err { OnErr result (self.new ≡ self.old) }
-        ensures back { IfErr result (λ e. e.value ≡ column) }
-    {
-        self.columns.push(column)
     }
 
     /// The columns.
     pub fn as_slice(&self) -> &[Column]
         ensures { result.now ≡ self.now }
     {
-        self.columns.as_slice()
+        match &self.columns {
+            Some(columns) => columns.as_slice(),
+            None => &[],
+        }
     }
 }

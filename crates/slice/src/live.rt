@@ -41,13 +41,13 @@ fn live_among(
     ensures ok { IfOk result (λ columns. columns ≡ filter_map (live.live_column history.now row.now) names.now) }
     ensures memory { IfErr result (λ e. e ≡ Fault.Memory) }
 {
-    let mut columns = Columns::new(alloc);
+    let mut columns = Vec::new(alloc);
     for name in names {
         if let Some(column) = live_column(history, row, name)? {
             columns.push(column)?;
         }
     }
-    Ok(columns)
+    Ok(Columns::from_vec(alloc, columns)?)
 }
 
 // The names of the columns that a history inserts or deletes, in its order.

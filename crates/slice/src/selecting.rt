@@ -29,15 +29,15 @@ pub fn select(alloc: Global, live: &[Column], predicate: &Predicate) -> Result<C
 /// The slice of the live columns of a row, which are given in name order and are all asked for: all of them, or
 /// the first `count` of a walk. Linear in the columns, and takes no memory.
 #[tactic(auto, using(crate::proofs::Selected::cut_of_asked))]
-pub fn cut(live: Vec<Column>, predicate: &Predicate) -> Columns
-    ensures { AreAsked predicate.now live.items → result ≡ slice.slice_of predicate.now live.items }
+pub fn cut(live: Vec<Column>, predicate: &Predicate) -> Vec<Column>
+    ensures { AreAsked predicate.now live.items → result.items ≡ slice.slice_of predicate.now live.items }
 {
     first_of_walk(live, predicate)
 }
 
 // The first columns of the walk of a predicate; a list of names takes all.
-fn first_of_walk(mut live: Vec<Column>, predicate: &Predicate) -> Columns
-    ensures { result ≡ slice.first_of_walk predicate.now live.items }
+fn first_of_walk(mut live: Vec<Column>, predicate: &Predicate) -> Vec<Column>
+    ensures { result.items ≡ slice.first_of_walk predicate.now live.items }
 {
     if let Predicate::Range {
         reversed,
@@ -50,7 +50,7 @@ fn first_of_walk(mut live: Vec<Column>, predicate: &Predicate) -> Columns
         }
         live.truncate(*count as usize);
     }
-    Columns::from_vec(live)
+    live
 }
 
 // The columns of the slice.
@@ -153,9 +153,9 @@ fn copies(alloc: Global, columns: &[&Column]) -> Result<Columns, Fault>
     ensures ok { IfOk result (λ copies. copies ≡ map (λ c. c.now) columns.now) }
     ensures memory { IfErr result (λ e. e ≡ Fault.Memory) }
 {
-    let mut copies = Columns::new(alloc);
+    let mut copies = Vec::with_capacity(alloc, columns.len())?;
     for column in columns {
         copies.push((**column).clone()?)?;
     }
-    Ok(copies)
+    Ok(Columns::from_vec(alloc, copies)?)
 }

@@ -11,6 +11,8 @@ pub mod Slices
 pub mod View
 pub mod PartAt
 pub mod FromEvt
+pub mod Untouched
+pub mod EvtBelow
 pub mod Overtaken
 pub mod KeepsApplied
 pub mod Lasting

@@ -1,7 +1,7 @@
 -- What a list contains once it is filtered, or seen by a function.
-use Rattle.std.proofs.Common.{◌≡◌, ◌∙◌, sym, ap, subst, refl, zero, suc, Bool, true, false, ◌⊎◌, inl, inr, cond, List, [], ◌∷◌, map, Option, Some, None, arith}
+use Rattle.std.proofs.Common.{◌≡◌, ◌∙◌, sym, ap, subst, refl, zero, suc, Bool, true, false, ◌||◌, ◌⊎◌, inl, inr, cond, List, [], ◌∷◌, map, Option, Some, None, arith}
 use Rattle.std.specs.Prelude.{filter, filter_map, Contains}
-use Rattle.std.specs.List.{cons_option}
+use Rattle.std.specs.List.{cons_option, list_any, AllByRecursion}
 
 pub none_in_empty : {X : Type 0} (x : X) → Contains [] x → ⊥
 none_in_empty x (k, lt, e) = omega arith
@@ -79,3 +79,27 @@ given_seen f g (x ∷ xs) = ap (cons_option (f (g x))) (given_seen f g xs)
 pub map_of_map : {X Y Z : Type 0} (f : Y → Z) (g : X → Y) (xs : List X) → map f (map g xs) ≡ map (λ x. f (g x)) xs
 map_of_map f g [] = refl
 map_of_map f g (x ∷ xs) = ap (λ zs. f (g x) ∷ zs) (map_of_map f g xs)
+
+-- ## Tests
+
+pub no_truth : {P : Type 0} (b : Bool) → b ≡ true → b ≡ false → P
+no_truth b t f = absurd (cc)
+
+pub or_left : (a b : Bool) → a ≡ true → (a || b) ≡ true
+or_left true b e = refl
+or_left false b e = absurd (cc)
+
+pub or_right : (a b : Bool) → b ≡ true → (a || b) ≡ true
+or_right true b e = refl
+or_right false b e = e
+
+pub any_has : {X : Type 0} (q : X → Bool) (xs : List X) (x : X) → Contains xs x → q x ≡ true → list_any q xs ≡ true
+any_has q [] x has is = absurd (none_in_empty x has)
+any_has q (y ∷ ys) x has is = elim (first_or_rest y x ys has) [
+  | inl here ↦ or_left (q y) (list_any q ys) (ap q here ∙ is)
+  | inr there ↦ or_right (q y) (list_any q ys) (any_has q ys x there is)
+]
+
+pub each_from : {X : Type 0} (P : X → Type 0) (xs : List X) → ((x : X) → Contains xs x → P x) → AllByRecursion P xs
+each_from P [] h = tt
+each_from P (x ∷ xs) h = (h x (contains_first x xs), each_from P xs (λ y has. h y (contains_rest x y xs has)))

@@ -57,7 +57,7 @@ fn live_columns(
     ensures ok { IfOk result (λ columns. columns.items ≡ filter_map (λ s. sight.live_of (option_copied deletion.entry) (named s)) seen.now) }
     ensures memory { IfErr result (λ e. e ≡ fault.Memory) }
 {
-    let mut columns = Vec::new(alloc);
+    let mut columns = Vec::with_capacity(alloc, seen.len())?;
     for one in seen {
         if let Some(column) = live_column(deletion, one)? {
             columns.push(column)?;
@@ -157,7 +157,7 @@ fn made_of(
     Ok(Part {
         writers: in_order(writers),
         evt: evt_of(deletion, seen),
-        columns,
+        columns: Columns::from_vec(alloc, columns)?,
     })
 }
 
@@ -201,7 +201,7 @@ fn empty_part(alloc: Global, predicate: &Predicate, moment: &Moment) -> Part
     ensures { IsPartSeen (sight_of moment.now no_row) predicate.now result }
 {
     Part {
-        columns: Columns::new(alloc),
+        columns: Columns::none(),
         writers: Writers::from_vec(Vec::new(alloc)),
         evt: Time::zero(),
     }

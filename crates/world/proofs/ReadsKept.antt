@@ -11,7 +11,7 @@ use Rattle.messages.specs.Reads.{asked_below, check_of, is_waiting, waiting_read
 use Rattle.messages.proofs.Greatest.{mark_below_clock}
 use Rattle.messages.proofs.RowParts.{row_now_shown}
 use Rattle.world.specs.Run.{Run}
-use Rattle.world.proofs.Among.{Among, last_or_old, map_only}
+use Rattle.world.proofs.Among.{Among, contains_among, last_or_old, map_only}
 use Rattle.world.proofs.Growth.{AskedNow, AskedAt, Grows}
 use Rattle.world.proofs.Facts.{near, Sees, RowNowSound, WaitSound, AnswersNow}
 use Rattle.world.proofs.Invariant.{EnvelopeSound, ShardSound, Inv}
@@ -19,7 +19,7 @@ use Rattle.world.proofs.Able.{Able}
 use Rattle.world.proofs.Near.{near_dc, coordinator_below}
 use Rattle.world.proofs.Lasting.{written_grows}
 use Rattle.world.proofs.LastingAll.{shard_grows}
-use Rattle.world.proofs.RowTimes.{evt_early, mark_seen}
+use Rattle.world.proofs.RowTimes.{mark_seen}
 use Rattle.world.proofs.AskedMarks.{asked_prepared, asked_seen}
 use Rattle.world.proofs.Ables.{sends_able, quiet_able}
 use Rattle.world.proofs.LetGo.{answer_sound}
@@ -44,7 +44,7 @@ module _ (top : TopologyValue) (x : Run) (node n : ℕ) (a : ShardState)
       record {
         seen = a.applied;
         shown = row_now_shown n a read key;
-        early = evt_early n a.applied r read.predicate early;
+        early = evt_early n a.applied r read.predicate (λ v has. early v (contains_among v a.applied has));
         complete =
             record {
               clock = subst (λ c. lvt ≤ c) (sym clock) (mark_below_clock n (marks_on r a));

@@ -3,4 +3,4 @@ use Rattle.slice.specs.Live.{live_column}
 use Rattle.slice.proofs.live.live_among.Given as goal
 
 abbrev pub invariant-loop-name : goal.invariant-loop-name
-invariant-loop-name l = l.columns ≡ filter_map (live_column l.history l.row) (take l.name-index l.names)
+invariant-loop-name l = l.columns.items ≡ filter_map (live_column l.history l.row) (take l.name-index l.names)

@@ -17,14 +17,12 @@ use Rattle.slice.specs.Rests.{RowRestsOn}
 use Rattle.slice.proofs.LiveTable.{at as column_at}
 use Rattle.store.specs.declared.part.Applied.{Applied}
 use Rattle.store.specs.declared.part.Part.{Part}
-use Rattle.store.specs.Part.{committed_of, history_of, applied_by, IsRestedOn, IsPartOf, IsRightPart}
+use Rattle.store.specs.Part.{has_row, committed_of, history_of, applied_by, IsRestedOn, IsPartOf, IsRightPart}
 use Rattle.store.specs.Keeps.{AreApart}
-use Rattle.store.proofs.Lists.{kept_only}
+use Rattle.store.proofs.Lists.{any_has, each_from, kept_only, no_truth}
 use Rattle.store.proofs.Apart.{apart_by, one_part}
 use Rattle.store.proofs.Touched.{none_last}
 use Rattle.store.proofs.FromEvt.{slices_agree, rests_agree, rested_from}
-use Rattle.shard.specs.Sound.{has_row}
-use Rattle.shard.proofs.Lists.{any_has, each_from, no_truth}
 
 -- none of the parts touches the row
 abbrev AreUntouched : Row → List Applied → Type 0
