@@ -41,8 +41,8 @@ pub(crate) fn would_accept(kept: &Kept, op: &Op) -> Result<(), Fault>
     ensures refused { IfErr result (λ e. session_submit (topology_of kept.now) kept.now.node (state_of kept.now) op.now ≡ Err e) }
 {
     check(kept, op)?;
-    let mut clock = kept.clock;
-    clock.receive(kept.clock.now())?;
+    let mut moved = kept.clock;
+    moved.receive(kept.clock.now())?;
     Ok(())
 }
 
