@@ -152,12 +152,13 @@ fn made_of(
     ensures ok { IfOk result (λ part. AreAskedFor predicate.now (map named seen.now) → IsMadeOf (option_copied deletion.entry) (map named seen.now) predicate.now part) }
     ensures memory { IfErr result (λ e. e ≡ fault.Memory) }
 {
-    let columns = cut(live_columns(alloc, deletion, seen)?, predicate);
-    let writers = writers_of(alloc, predicate, columns.as_slice(), deletion, seen)?;
+    let live = cut(live_columns(alloc, deletion, seen)?, predicate);
+    let writers = writers_of(alloc, predicate, live.as_slice(), deletion, seen)?;
+    let columns = Columns::from_vec(alloc, live)?;
     Ok(Part {
         writers: in_order(writers),
         evt: evt_of(deletion, seen),
-        columns: Columns::from_vec(alloc, columns)?,
+        columns,
     })
 }
 

@@ -11,7 +11,7 @@ use Rattle.planner.proofs.joining.columns_at.Goals as goal
 pub returns-in_default-clause-exact : goal.returns-in_default-clause-exact
 returns-in_default-clause-exact c =
     let found : get (slice_cmp nat_cmp) c.args.places.now c.args.key.now ≡ None = search rules in
-    c.new.ensures ∙ columns_missing c.args.rows.now c.args.key.now (get (slice_cmp nat_cmp) c.args.places.now c.args.key.now) c.requires (ap (row_at c.args.rows.now) found)
+    c.none.ensures ∙ columns_missing c.args.rows.now c.args.key.now (get (slice_cmp nat_cmp) c.args.places.now c.args.key.now) c.requires (ap (row_at c.args.rows.now) found)
 
 pub returns-in-Some-row_at-clause-exact : goal.returns-in-Some-row_at-clause-exact
 returns-in-Some-row_at-clause-exact c =
@@ -25,4 +25,4 @@ pub returns-in-None-clause-exact : goal.returns-in-None-clause-exact
 returns-in-None-clause-exact c =
     let found : get (slice_cmp nat_cmp) c.args.places.now c.args.key.now ≡ Some c.in-Some.place.now = search rules in
     let row : slice_get c.args.rows.now c.in-Some.place.now ≡ None = search rules in
-    c.new-in-None.ensures ∙ columns_missing c.args.rows.now c.args.key.now (get (slice_cmp nat_cmp) c.args.places.now c.args.key.now) c.requires (ap (row_at c.args.rows.now) found ∙ row)
+    c.none-in-None.ensures ∙ columns_missing c.args.rows.now c.args.key.now (get (slice_cmp nat_cmp) c.args.places.now c.args.key.now) c.requires (ap (row_at c.args.rows.now) found ∙ row)

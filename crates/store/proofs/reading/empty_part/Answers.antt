@@ -4,5 +4,5 @@ use Rattle.store.proofs.reading.empty_part.Goals as goal
 
 pub returns : goal.returns
 returns c =
-    nothing_kept c.args.moment.now c.args.predicate.now (record { columns = c.new.result; writers = c.from_vec.result; evt = c.zero.result })
-    c.new.ensures (c.from_vec.ensures ∙ c.new-2.ensures.items) c.zero.ensures
+    nothing_kept c.args.moment.now c.args.predicate.now (record { columns = c.none.result; writers = c.from_vec.result; evt = c.zero.result })
+    c.none.ensures (c.from_vec.ensures ∙ c.new.ensures.items) c.zero.ensures

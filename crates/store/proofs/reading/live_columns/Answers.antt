@@ -8,7 +8,7 @@ use Rattle.store.proofs.reading.live_columns.Goals.{in-Some+in_ok-push, in_defau
 
 pub loop-one-preserved : goal.loop-one-preserved
 loop-one-preserved c =
-    elim c.match-branch-2.branch [
+    elim c.match-branch-3.branch [
       | in-Some+in_ok-push w ↦
           rw w.columns-is (w.in_ok-push.ensures.items
           ∙ filter_map_kept (λ (s : Seen). live_of (option_copied c.args.deletion) (named s)) c.args.seen.now [] c.loop-one.columns.items c.loop-one.one-index

@@ -1,4 +1,4 @@
-use Rattle.std.proofs.Common.{rules, ◌≡◌, ◌∙◌, ap, List, ◌++◌, max, map, filter_map, option_map}
+use Rattle.std.proofs.Common.{rules, ◌≡◌, ◌∙◌, ap, sym, List, ◌++◌, max, map, filter_map, option_map}
 use Rattle.std.specs.Prelude.{option_to_list}
 use Rattle.std.specs.Option.{option_copied}
 use Rattle.slice.specs.Slice.{AreAsked, slice_of}
@@ -16,11 +16,11 @@ returns-clause-ok c = λ asks.
     let items = c.args.seen.now in
     let d = option_copied c.args.deletion in
     let live = c.in_ok-live_columns.field-0.items in
-    let part : Part = record { columns = c.cut-columns.result; writers = c.in_order.result; evt = c.evt_of.result } in
+    let part : Part = record { columns = c.in_ok-columns.columns; writers = c.in_order.result; evt = c.evt_of.result } in
     let lives : live ≡ filter_map (λ s. live_of d (named s)) items = search rules in
-    let cut : AreAsked p live → c.cut-columns.result ≡ slice_of p live = c.cut-columns.ensures in
+    let cut : AreAsked p live → c.in_ok-columns.columns ≡ slice_of p live = λ asked. c.in_ok-columns.ensures ∙ c.cut-live.ensures asked in
     let rest = option_to_list (option_map (λ (v : Version). v.what.writer) d) in
-    let writes : c.in_ok-writers.writers.items ≡ filter_map (λ s. writer_of p c.cut-columns.result d (named s)) items ++ rest =
-    c.in_ok-writers.ensures ∙ ap (λ (cs : List Column). filter_map (λ s. writer_of p cs d (named s)) items ++ rest) c.as_slice.ensures in
+    let writes : c.in_ok-writers.writers.items ≡ filter_map (λ s. writer_of p c.in_ok-columns.columns d (named s)) items ++ rest =
+    c.in_ok-writers.ensures ∙ ap (λ (cs : List Column). filter_map (λ s. writer_of p cs d (named s)) items ++ rest) (c.as_slice.ensures.value ∙ sym c.in_ok-columns.ensures) in
     let evt : c.evt_of.result ≡ max (evt_or_0 d) (greatest_of (map (λ s. s.version.now.evt) items)) = search rules in
     part_made p part items d live c.in_ok-writers.writers.items asks lives cut writes c.in_order.ensures.keeps c.in_order.ensures.adds_none c.in_order.ensures.in_order evt
