@@ -10,11 +10,12 @@ ghost use Rattle.column_family.specs.History.{newest_at};
 ghost use Rattle.store.specs.declared.sight.Moment.TheVariants.{At};
 ghost use Rattle.store.specs.Part.{IsNewestPart, IsRightPart, history_of};
 
+use crate::crowded::{Crowded, collect_crowded};
 use crate::origin::Origin;
 use crate::part::Part;
 use crate::reading::{part_in, part_with};
 use crate::row::{RowChains, row_written};
-use crate::rows::{collect_rows, put_changes, reserve_changes};
+use crate::rows::{put_changes, reserve_changes};
 use crate::sight::Moment;
 use column_family::{Batch, Row};
 use logical_time::{Fault, Stamp, Time, Writer};
@@ -30,15 +31,20 @@ use txn_state::Prepared;
 pub struct Store {
     alloc: Global,
     rows: BTreeMap<Row, RowChains>,
+    // those of which a chain may hold more than one version
+    crowded: Crowded,
     low: Time,
 }
 
 impl Model for Store {
     ghost use Rattle.store.specs.Kept.{Kept};
+    ghost use Rattle.store.specs.Crowded.{AreListed};
 
     ghost Value = { Kept };
 
     ghost view = { λ store. record { rows = store.rows.entries; low = store.low } };
+
+    ghost invariant = { λ store. AreListed store.crowded store.rows.entries };
 }
 
 impl Store {
@@ -53,6 +59,7 @@ impl Store {
         Store {
             alloc,
             rows: BTreeMap::new(alloc),
+            crowded: Crowded::new(alloc),
             low: Time::zero(),
         }
     }
@@ -101,7 +108,12 @@ impl Store {
         }
         let (part, _) = prepared.surrender();
         let origin = Origin::new(part.writer, stamp, commit);
-        put_changes(&mut self.rows, part.batch.into_vec(), &origin);
+        put_changes(
+            &mut self.rows,
+            &mut self.crowded,
+            part.batch.into_vec(),
+            &origin,
+        );
         Ok(())
     }
 
@@ -187,15 +199,17 @@ impl Store {
     }
 
     /// Raises the horizon to this time if it lies below it, and drops from each chain the versions that are its newest
-    /// at no time from the horizon on. What a read at the horizon or later answers stays. Linear in the store, and takes
-    /// no memory.
+    /// at no time from the horizon on. What a read at the horizon or later answers stays. Passes over each row of which
+    /// every chain holds one version at most: linear in the versions of the other rows, and logarithmic for each of
+    /// them in all rows. Only after an `apply` that had no memory to note such a row is it linear in the store. Takes no
+    /// memory.
     pub fn collect(&mut self, time: Time)
         ensures low { self.new.low ≡ max self.old.low time }
         ensures kept { HaveKept self.new.low self.old.rows self.new.rows }
         ensures keeps { (all : List Applied) → Keeps self.old all → Keeps self.new all }
     {
         self.low = self.low.max(time);
-        collect_rows(&mut self.rows, self.low);
+        collect_crowded(&mut self.rows, &mut self.crowded, self.low);
     }
 
     /// Ends the store.
@@ -203,6 +217,7 @@ impl Store {
         let Store {
             alloc: _,
             rows: _,
+            crowded: _,
             low: _,
         } = self;
     }
