@@ -83,7 +83,8 @@ impl Store {
     /// chain of its place, in any order of stamps. So the store keeps this part too, if it is in normal form and
     /// its stamp is new. Refused with `Memory` alone, and never after `make_room` for its batch; then what is held
     /// stays, and the part is handed back. Logarithmic for each change in the rows and in the columns of its row;
-    /// in the chain it costs what a put does.
+    /// in the chain it costs what a put does. For `collect` it notes each row of which a chain holds more than one
+    /// version then; where there is no memory for that, nothing is refused.
     #[tactic(auto, using(crate::proofs::KeepsApplied::keeps_applied, crate::proofs::Lasting::keeps_same, crate::proofs::Overtaken::overtaken))]
     pub fn apply(
         &mut self,
@@ -200,9 +201,9 @@ impl Store {
 
     /// Raises the horizon to this time if it lies below it, and drops from each chain the versions that are its newest
     /// at no time from the horizon on. What a read at the horizon or later answers stays. Passes over each row of which
-    /// every chain holds one version at most: linear in the versions of the other rows, and logarithmic for each of
-    /// them in all rows. Only after an `apply` that had no memory to note such a row is it linear in the store. Takes no
-    /// memory.
+    /// every chain holds one version at most: linear in the columns and versions of the other rows, and logarithmic
+    /// for each of these in all rows. Once an `apply` had no memory to note a row, it is linear in the store. Takes
+    /// no memory.
     pub fn collect(&mut self, time: Time)
         ensures low { self.new.low ≡ max self.old.low time }
         ensures kept { HaveKept self.new.low self.old.rows self.new.rows }
