@@ -37,7 +37,7 @@ held_each R d g none es q = ap (λ o. unwrap_or o d) (lookup-map_values g (λ k.
     inside None = sym none
     inside (Some x) = refl
 
-row_collected : (t : ℕ) (r : Chains) (p : Place) → (chain_of (collected_row t r) p).versions ≡ kept_from t (chain_of r p).versions
+pub row_collected : (t : ℕ) (r : Chains) (p : Place) → (chain_of (collected_row t r) p).versions ≡ kept_from t (chain_of r p).versions
 row_collected t r None = refl
 row_collected t r (Some n) = ap (λ (h : Held). h.versions) (held_each name_cmp nothing_held (collected_held t) refl r.columns n)
 

@@ -17,6 +17,7 @@ pub mod Overtaken
 pub mod KeepsApplied
 pub mod Lasting
 pub mod Collected
+pub mod Listed
 pub mod Later
 pub mod Bounds
 pub mod Sights

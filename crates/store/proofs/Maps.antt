@@ -46,7 +46,7 @@ same_row a b h =
     λ i. record { family = f i; key = k i }
 
 -- after a step at a key, what is held at each key stands to what was as the relation says: at the key, and elsewhere
-step_each : {K X : Type 0} (R : K → K → Ordering) → ((a b : K) → is_eq (R a b) ≡ true → a ≡ b) → (d : X) (P : Bool → X → X → Type 0) (m n : BTreeMap K X) (k : K) (w : X)
+pub step_each : {K X : Type 0} (R : K → K → Ordering) → ((a b : K) → is_eq (R a b) ≡ true → a ≡ b) → (d : X) (P : Bool → X → X → Type 0) (m n : BTreeMap K X) (k : K) (w : X)
     → Updates R m n k (Some w) → P true (held_by R d m.entries k) w → ((x : X) → P false x x)
     → (q : K) → P (is_eq (R k q)) (held_by R d m.entries q) (held_by R d n.entries q)
 step_each {K} {X} R same d P m n k w u here there q =

@@ -1,11 +1,11 @@
 -- The steps of a merge: what was added, and what is left to merge.
-use Rattle.std.proofs.Common.{◌≡◌, ◌∙◌, sym, ap, ℕ, ◌+◌, ◌<◌, ◌⊎◌, inl, inr, List, [], ◌∷◌, ◌++◌, map, drop, length, get_or, append-nil}
+use Rattle.std.proofs.Common.{◌≡◌, ◌∙◌, refl, sym, ap, ℕ, ◌+◌, ◌<◌, ◌⊎◌, inl, inr, List, [], ◌∷◌, ◌++◌, map, drop, length, get_or, append-nil, arith}
 use Rattle.std.proofs.lemmas.List.{map-append, append_assoc, drop_more}
 use Rattle.std.specs.declared.cmp.Ordering.{Ordering}
 use Rattle.std.specs.declared.cmp.Ordering.TheVariants.{Less, Equal, Greater}
 use Rattle.store.specs.declared.sight.Seen.{Seen}
 use Rattle.store.specs.Kept.{name_cmp}
-use Rattle.store.specs.Sight.{NamedVersion, named, newer_named, merged_by, merged}
+use Rattle.store.specs.Sight.{NamedVersion, named, first_by, merged_by, merged}
 use Rattle.store.proofs.Merged.{none_merged}
 
 -- what is added, and then what is left of both lists merged
@@ -43,27 +43,34 @@ one_added all more z rest left whole pushed first so_far =
     ∙ ap (λ (zs : List NamedVersion). map named all ++ zs) (sym first)
     ∙ so_far
 
-pub one_taken : (ones : List Seen) (i : ℕ) (x : Seen) (others : List Seen) (j : ℕ) (y : Seen) (all more : List Seen) (whole : List NamedVersion) → i < length ones → x ≡ get_or ones i x
-    → j < length others → y ≡ get_or others j y → name_cmp (named x).0 (named y).0 ≡ Less → more ≡ all ++ x ∷ [] → with_left all ones i others j ≡ whole
-    → with_left more ones (i + 1) others j ≡ whole
-one_taken ones i x others j y all more whole i_lt x_is j_lt y_is e pushed so_far =
-    one_added all more x (merged (map named (drop (i + 1) ones)) (map named (drop j others))) (merged (map named (drop i ones)) (map named (drop j others))) whole pushed
-    (step ones i x others j y Less i_lt x_is j_lt y_is e) so_far
+-- the first of both is added
+pub first_taken : (ones : List Seen) (i : ℕ) (x : Seen) (others : List Seen) (j : ℕ) (y z : Seen) (a b : ℕ) (all more : List Seen) (whole : List NamedVersion) → i < length ones → x ≡ get_or ones i x
+    → j < length others → y ≡ get_or others j y → (named z, a, b) ≡ first_by (name_cmp (named x).0 (named y).0) (named x) (named y) → more ≡ all ++ z ∷ []
+    → with_left all ones i others j ≡ whole → with_left more ones (i + a) others (j + b) ≡ whole
+first_taken ones i x others j y z a b all more whole i_lt x_is j_lt y_is first pushed so_far = go (name_cmp (named x).0 (named y).0) refl first
+  where
+    added : (m n : ℕ) → m ≡ i + a → n ≡ j + b → merged (map named (drop i ones)) (map named (drop j others)) ≡ named z ∷ merged (map named (drop m ones)) (map named (drop n others))
+        → with_left more ones (i + a) others (j + b) ≡ whole
+    added m n at and_at left =
+        sym (ap (λ (k : ℕ). with_left more ones k others n) at ∙ ap (λ (k : ℕ). with_left more ones (i + a) others k) and_at)
+        ∙ one_added all more z (merged (map named (drop m ones)) (map named (drop n others))) (merged (map named (drop i ones)) (map named (drop j others))) whole pushed left so_far
 
-pub other_taken : (ones : List Seen) (i : ℕ) (x : Seen) (others : List Seen) (j : ℕ) (y : Seen) (all more : List Seen) (whole : List NamedVersion) → i < length ones → x ≡ get_or ones i x
-    → j < length others → y ≡ get_or others j y → name_cmp (named x).0 (named y).0 ≡ Greater → more ≡ all ++ y ∷ [] → with_left all ones i others j ≡ whole
-    → with_left more ones i others (j + 1) ≡ whole
-other_taken ones i x others j y all more whole i_lt x_is j_lt y_is e pushed so_far =
-    one_added all more y (merged (map named (drop i ones)) (map named (drop (j + 1) others))) (merged (map named (drop i ones)) (map named (drop j others))) whole pushed
-    (step ones i x others j y Greater i_lt x_is j_lt y_is e) so_far
-
-pub both_taken : (ones : List Seen) (i : ℕ) (x : Seen) (others : List Seen) (j : ℕ) (y z : Seen) (all more : List Seen) (whole : List NamedVersion) → i < length ones → x ≡ get_or ones i x
-    → j < length others → y ≡ get_or others j y → name_cmp (named x).0 (named y).0 ≡ Equal → named z ≡ newer_named (named x) (named y) → more ≡ all ++ z ∷ []
-    → with_left all ones i others j ≡ whole → with_left more ones (i + 1) others (j + 1) ≡ whole
-both_taken ones i x others j y z all more whole i_lt x_is j_lt y_is e newer pushed so_far =
-    let rest = merged (map named (drop (i + 1) ones)) (map named (drop (j + 1) others)) in
-    one_added all more z rest (merged (map named (drop i ones)) (map named (drop j others))) whole pushed
-    (step ones i x others j y Equal i_lt x_is j_lt y_is e ∙ ap (λ (s : NamedVersion). s ∷ rest) (sym newer)) so_far
+    go : (o : Ordering) → name_cmp (named x).0 (named y).0 ≡ o → (named z, a, b) ≡ first_by o (named x) (named y) → with_left more ones (i + a) others (j + b) ≡ whole
+    go Less e is =
+        let one = ap (λ (t : NamedVersion × ℕ × ℕ). t.1) is in
+        let none = ap (λ (t : NamedVersion × ℕ × ℕ). t.2) is in
+        added (i + 1) j (omega (arith, one)) (omega (arith, none))
+        (step ones i x others j y Less i_lt x_is j_lt y_is e ∙ ap (λ (s : NamedVersion). s ∷ merged (map named (drop (i + 1) ones)) (map named (drop j others))) (sym (ap (λ (t : NamedVersion × ℕ × ℕ). t.0) is)))
+    go Equal e is =
+        let one = ap (λ (t : NamedVersion × ℕ × ℕ). t.1) is in
+        let two = ap (λ (t : NamedVersion × ℕ × ℕ). t.2) is in
+        added (i + 1) (j + 1) (omega (arith, one)) (omega (arith, two))
+        (step ones i x others j y Equal i_lt x_is j_lt y_is e ∙ ap (λ (s : NamedVersion). s ∷ merged (map named (drop (i + 1) ones)) (map named (drop (j + 1) others))) (sym (ap (λ (t : NamedVersion × ℕ × ℕ). t.0) is)))
+    go Greater e is =
+        let none = ap (λ (t : NamedVersion × ℕ × ℕ). t.1) is in
+        let one = ap (λ (t : NamedVersion × ℕ × ℕ). t.2) is in
+        added i (j + 1) (omega (arith, none)) (omega (arith, one))
+        (step ones i x others j y Greater i_lt x_is j_lt y_is e ∙ ap (λ (s : NamedVersion). s ∷ merged (map named (drop i ones)) (map named (drop (j + 1) others))) (sym (ap (λ (t : NamedVersion × ℕ × ℕ). t.0) is)))
 
 -- where one list is used up, the other is what is left
 pub used_up : (xs ys : List NamedVersion) → (xs ≡ []) ⊎ (ys ≡ []) → merged xs ys ≡ xs ++ ys

@@ -68,6 +68,12 @@ pub record AreSeen (f : Sight) (p : Predicate) (seen : List NamedVersion) : Type
 abbrev pub newer_named : NamedVersion → NamedVersion → NamedVersion
 newer_named x y = if is_older x.1.stamp y.1.stamp then (x.0, y.1) else x
 
+-- of two columns the first, by how their names compare, or the newer where they are one, and how many that takes of each
+abbrev pub first_by : Ordering → NamedVersion → NamedVersion → NamedVersion × ℕ × ℕ
+first_by Less x y = (x, 1, 0)
+first_by Equal x y = (newer_named x y, 1, 1)
+first_by Greater x y = (y, 0, 1)
+
 -- the first of two lists by how their first names compare, before what is left of them
 abbrev pub merged_by : Ordering → NamedVersion → NamedVersion → List NamedVersion → List NamedVersion → List NamedVersion → List NamedVersion
 merged_by Less x y first both second = x ∷ first

@@ -3,6 +3,7 @@
 //! Nothing here knows of votes, messages or sessions.
 #![tactic(auto)]
 
+mod crowded;
 mod merging;
 mod origin;
 mod part;

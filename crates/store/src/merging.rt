@@ -1,8 +1,9 @@
 //! What is seen of a row where another is laid over it.
-ghost use Rattle.std.specs.Prelude.{◌≡◌, ◌++◌, IfOk, OnOk, map};
+ghost use Rattle.std.specs.Prelude.{◌≡◌, ◌≤◌, ◌+◌, ◌++◌, IfOk, OnOk, map};
 ghost use Rattle.std.specs.Option.{option_copied};
 ghost use Rattle.store.specs.Sight as sight;
-ghost use Rattle.store.specs.Sight.{named};
+ghost use Rattle.store.specs.Kept.{name_cmp};
+ghost use Rattle.store.specs.Sight.{named, first_by};
 
 use crate::sight::Seen;
 use std::alloc::{AllocError, Global};
@@ -37,6 +38,19 @@ fn newer_of<'s>(one: Seen<'s>, other: Seen<'s>) -> Seen<'s>
     }
 }
 
+// Of the first columns of two rows, the first by name, or the newer version where they are one; and how many that takes
+// of each row.
+fn first_of<'s>(one: Seen<'s>, other: Seen<'s>) -> (Seen<'s>, usize, usize)
+    ensures first { (named result.0, result.1, result.2) ≡ first_by (name_cmp (named one.entry).0 (named other.entry).0) (named one.entry) (named other.entry) }
+    ensures few { (result.1 ≤ 1) × (result.2 ≤ 1) × (1 ≤ result.1 + result.2) }
+{
+    match one.name.cmp(other.name) {
+        Ordering::Less => (one, 1, 0),
+        Ordering::Equal => (newer_of(one, other), 1, 1),
+        Ordering::Greater => (other, 0, 1),
+    }
+}
+
 // Adds these columns.
 fn add_all<'s>(all: &mut Vec<Seen<'s>>, more: &[Seen<'s>]) -> Result<(), AllocError>
     ensures { OnOk result (map named all.new.items ≡ map named all.old.items ++ map named more.now) }
@@ -60,23 +74,10 @@ pub(crate) fn merged<'s>(
     let mut i = 0;
     let mut j = 0;
     while i < ones.len() && j < others.len() {
-        let one = ones[i];
-        let other = others[j];
-        match one.name.cmp(other.name) {
-            Ordering::Less => {
-                all.push(one)?;
-                i += 1;
-            }
-            Ordering::Equal => {
-                all.push(newer_of(one, other))?;
-                i += 1;
-                j += 1;
-            }
-            Ordering::Greater => {
-                all.push(other)?;
-                j += 1;
-            }
-        }
+        let (first, from_ones, from_others) = first_of(ones[i], others[j]);
+        all.push(first)?;
+        i += from_ones;
+        j += from_others;
     }
     add_all(&mut all, &ones[i..])?;
     add_all(&mut all, &others[j..])?;

@@ -1,11 +1,14 @@
 //! The chains of a row.
-ghost use Rattle.std.specs.Prelude.{◌≡◌, ◌+◌, ◌≤◌, ◌<◌, ◌⊎◌, [], ℕ, List, Some, None, true, if◌then◌else◌, OnOk, IfOk, IfErr, IsOk, map};
+ghost use Rattle.std.specs.Prelude.{◌≡◌, ◌+◌, ◌≤◌, ◌<◌, ◌⊎◌, [], ℕ, List, Some, None, length, true, false, if◌then◌else◌, OnOk, IfOk, IfErr, IsOk, map};
+ghost use Rattle.std.specs.List.{list_any};
 ghost use Rattle.std.specs.Map.{lookup};
 ghost use Rattle.std.specs.Ordering.{is_eq};
 ghost use Rattle.std.specs.Str.{bytes_eq};
 ghost use Rattle.logical_time.specs.declared.fault.Fault.TheVariants as fault;
 ghost use Rattle.versions.specs.Chain.{put_of};
 ghost use Rattle.versions.specs.Newest.{has_stamp};
+ghost use Rattle.store.specs.Crowded as crowded;
+ghost use Rattle.store.specs.Crowded.{holds_more};
 ghost use Rattle.store.specs.Kept as kept;
 ghost use Rattle.store.specs.Kept.{Place, chain_of, collected_held, collected_row, column_held, is_of_place, name_cmp, put_all, written};
 
@@ -47,14 +50,27 @@ fn version(origin: &Origin, value: Option<Value>) -> Version
     }
 }
 
-// Puts a version into the chain of a column.
-fn put_column(columns: &mut BTreeMap<Name, Chain>, name: &Name, version: Version)
+// Puts a version into a chain, and answers whether the chain holds more than one then.
+fn put_version(chain: &mut Chain, version: Version) -> bool
+    requires { (0 < chain.old.room) ⊎ (has_stamp chain.old.versions version.stamp ≡ true) }
+    ensures versions { chain.new.versions ≡ put_of chain.old.versions version }
+    ensures room { chain.old.room ≤ chain.new.room + 1 }
+    ensures more { result ≡ holds_more chain.new }
+{
+    chain.put(version).unwrap();
+    chain.len() > 1
+}
+
+// Puts a version into the chain of a column, and answers whether the chain holds more than one then.
+fn put_column(columns: &mut BTreeMap<Name, Chain>, name: &Name, version: Version) -> bool
     requires { (0 < (column_held columns.old.entries name.now).room) ⊎ (has_stamp (column_held columns.old.entries name.now).versions version.stamp ≡ true) }
     ensures versions { (n : List ℕ) → (column_held columns.new.entries n).versions ≡ (if bytes_eq name.now n then put_of (column_held columns.old.entries n).versions version else (column_held columns.old.entries n).versions) }
     ensures room { (n : List ℕ) → (column_held columns.old.entries n).room ≤ (column_held columns.new.entries n).room + (if bytes_eq name.now n then 1 else 0) }
+    ensures more { result ≡ holds_more (column_held columns.new.entries name.now) }
 {
-    if let Some(chain) = columns.get_mut(name) {
-        chain.put(version).unwrap();
+    match columns.get_mut(name) {
+        Some(chain) => put_version(chain, version),
+        None => false,
     }
 }
 
@@ -103,6 +119,13 @@ fn collect_columns(columns: &mut BTreeMap<Name, Chain>, time: Time)
     });
 }
 
+// Whether the chain of a column holds more than one version.
+fn is_crowded_in(columns: &BTreeMap<Name, Chain>) -> bool
+    ensures { result ≡ list_any holds_more (map (λ e. e.1) columns.now.entries) }
+{
+    columns.values().any(|chain| chain.len() > 1)
+}
+
 impl RowChains {
     /// A row without a version.
     pub(crate) fn new(alloc: Global) -> RowChains
@@ -115,11 +138,13 @@ impl RowChains {
         }
     }
 
-    /// Puts what a mutation leaves into the chain of its place.
-    pub(crate) fn put(&mut self, mutation: Mutation, origin: &Origin)
+    /// Puts what a mutation leaves into the chain of its place, and answers whether that holds more than one version
+    /// then.
+    pub(crate) fn put(&mut self, mutation: Mutation, origin: &Origin) -> bool
         requires { (p : Place) → is_of_place p mutation ≡ true → (0 < (chain_of self.old p).room) ⊎ (has_stamp (chain_of self.old p).versions origin.now.stamp ≡ true) }
         ensures versions { (p : Place) → (chain_of self.new p).versions ≡ (if is_of_place p mutation then put_of (chain_of self.old p).versions (kept.version_of origin.now mutation) else (chain_of self.old p).versions) }
         ensures room { (p : Place) → (chain_of self.old p).room ≤ (chain_of self.new p).room + (if is_of_place p mutation then 1 else 0) }
+        ensures more { result ≡ false → (p : Place) → is_of_place p mutation ≡ true → length (chain_of self.new p).versions ≤ 1 }
     {
         match mutation {
             Mutation::Insert { name, value } => put_column(
@@ -132,9 +157,16 @@ impl RowChains {
                 &name,
                 version(origin, None),
             ),
-            Mutation::DeleteRow => self.deletions.put(version(origin, None)).unwrap(),
-            Mutation::DeleteRange { .. } => {}
+            Mutation::DeleteRow => put_version(&mut self.deletions, version(origin, None)),
+            Mutation::DeleteRange { .. } => false,
         }
+    }
+
+    /// Whether a chain holds more than one version. Linear in the columns.
+    pub(crate) fn is_crowded(&self) -> bool
+        ensures { result ≡ crowded.is_crowded self.now }
+    {
+        is_crowded_in(&self.columns) || self.deletions.len() > 1
     }
 
     /// Drops the versions that are the newest of their chain at no time from this one on. Linear in the versions.

@@ -10,11 +10,12 @@ ghost use Rattle.column_family.specs.History.{newest_at};
 ghost use Rattle.store.specs.declared.sight.Moment.TheVariants.{At};
 ghost use Rattle.store.specs.Part.{IsNewestPart, IsRightPart, history_of};
 
+use crate::crowded::{Crowded, collect_crowded};
 use crate::origin::Origin;
 use crate::part::Part;
 use crate::reading::{part_in, part_with};
 use crate::row::{RowChains, row_written};
-use crate::rows::{collect_rows, put_changes, reserve_changes};
+use crate::rows::{put_changes, reserve_changes};
 use crate::sight::Moment;
 use column_family::{Batch, Row};
 use logical_time::{Fault, Stamp, Time, Writer};
@@ -30,15 +31,20 @@ use txn_state::Prepared;
 pub struct Store {
     alloc: Global,
     rows: BTreeMap<Row, RowChains>,
+    // those of which a chain may hold more than one version
+    crowded: Crowded,
     low: Time,
 }
 
 impl Model for Store {
     ghost use Rattle.store.specs.Kept.{Kept};
+    ghost use Rattle.store.specs.Crowded.{AreListed};
 
     ghost Value = { Kept };
 
     ghost view = { λ store. record { rows = store.rows.entries; low = store.low } };
+
+    ghost invariant = { λ store. AreListed store.crowded store.rows.entries };
 }
 
 impl Store {
@@ -53,6 +59,7 @@ impl Store {
         Store {
             alloc,
             rows: BTreeMap::new(alloc),
+            crowded: Crowded::new(alloc),
             low: Time::zero(),
         }
     }
@@ -76,7 +83,8 @@ impl Store {
     /// chain of its place, in any order of stamps. So the store keeps this part too, if it is in normal form and
     /// its stamp is new. Refused with `Memory` alone, and never after `make_room` for its batch; then what is held
     /// stays, and the part is handed back. Logarithmic for each change in the rows and in the columns of its row;
-    /// in the chain it costs what a put does.
+    /// in the chain it costs what a put does. For `collect` it notes each row of which a chain holds more than one
+    /// version then; where there is no memory for that, nothing is refused.
     #[tactic(auto, using(crate::proofs::KeepsApplied::keeps_applied, crate::proofs::Lasting::keeps_same, crate::proofs::Overtaken::overtaken))]
     pub fn apply(
         &mut self,
@@ -101,7 +109,12 @@ impl Store {
         }
         let (part, _) = prepared.surrender();
         let origin = Origin::new(part.writer, stamp, commit);
-        put_changes(&mut self.rows, part.batch.into_vec(), &origin);
+        put_changes(
+            &mut self.rows,
+            &mut self.crowded,
+            part.batch.into_vec(),
+            &origin,
+        );
         Ok(())
     }
 
@@ -187,7 +200,9 @@ impl Store {
     }
 
     /// Raises the horizon to this time if it lies below it, and drops from each chain the versions that are its newest
-    /// at no time from the horizon on. What a read at the horizon or later answers stays. Linear in the store, and takes
+    /// at no time from the horizon on. What a read at the horizon or later answers stays. Passes over each row of which
+    /// every chain holds one version at most: linear in the columns and versions of the other rows, and logarithmic
+    /// for each of these in all rows. Once an `apply` had no memory to note a row, it is linear in the store. Takes
     /// no memory.
     pub fn collect(&mut self, time: Time)
         ensures low { self.new.low ≡ max self.old.low time }
@@ -195,7 +210,7 @@ impl Store {
         ensures keeps { (all : List Applied) → Keeps self.old all → Keeps self.new all }
     {
         self.low = self.low.max(time);
-        collect_rows(&mut self.rows, self.low);
+        collect_crowded(&mut self.rows, &mut self.crowded, self.low);
     }
 
     /// Ends the store.
@@ -203,6 +218,7 @@ impl Store {
         let Store {
             alloc: _,
             rows: _,
+            crowded: _,
             low: _,
         } = self;
     }

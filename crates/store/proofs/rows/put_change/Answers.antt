@@ -1,25 +1,20 @@
-use Rattle.std.proofs.Common.{rules, ◌≡◌, ◌≤◌, ◌+◌, refl, subst, arith}
-use Rattle.std.specs.Prelude.{if◌then◌else◌, ◌&&◌}
-use Rattle.column_family.specs.Places.{row_cmp}
 use Rattle.versions.specs.Chain.{put_of}
-use Rattle.store.specs.Kept.{Place, Chains, no_row, chain_of, is_of_place, version_of}
-use Rattle.store.proofs.Maps.{each_row, found}
-use Rattle.store.proofs.Places.{IsReady, own_at}
+use Rattle.store.specs.Kept.{chain_at, version_of}
+use Rattle.store.proofs.Listed.{listed_added, listed_unless}
+use Rattle.store.proofs.Places.{own_at}
 use Rattle.store.proofs.rows.put_change.Goals as goal
 
-pub put-requires : goal.put-requires
-put-requires c = λ p at.
-    let f = found row_cmp no_row c.args.rows.now c.args.change.row c.in-Some.held.now (search rules) in
-    subst (λ (row : Chains). IsReady c.args.origin.now.stamp (chain_of row p)) f (c.requires c.args.change.row p (own_at c.args.change p at))
+pub put_mutation-requires : goal.put_mutation-requires
+put_mutation-requires c = λ p at. c.requires c.args.change.row p (own_at c.args.change p at)
 
-pub returns-in-Some-clause-versions : goal.returns-in-Some-clause-versions
-returns-in-Some-clause-versions c =
-    let h = c.get_mut.follows.holds c.put.new.self in
-    let f = found row_cmp no_row c.args.rows.now c.args.change.row c.in-Some.held.now (search rules) in
-    each_row (λ b x y. (p : Place) → (chain_of y p).versions ≡ (if b && is_of_place p c.args.change.mutation then put_of (chain_of x p).versions (version_of c.args.origin.now c.args.change.mutation) else (chain_of x p).versions)) c.args.rows.now (c.get_mut.follows.lender c.put.new.self) c.args.change.row c.put.new.self (h.3 (search rules)) (rw f c.put.ensures.versions) (λ x p. refl)
+pub returns-then-put_mutation-clause-listed : goal.returns-then-put_mutation-clause-listed
+returns-then-put_mutation-clause-listed c =
+    listed_added c.args.crowded.now c.add.new.self c.args.rows.now.entries c.put_mutation.new.rows.entries c.args.change.row c.args.change.mutation
+    (λ r p. put_of (chain_at c.args.rows.now.entries r p).versions (version_of c.args.origin.now c.args.change.mutation))
+    c.put_mutation.ensures.versions c.add.ensures.whole c.add.ensures.listed
 
-pub returns-in-Some-clause-room : goal.returns-in-Some-clause-room
-returns-in-Some-clause-room c =
-    let h = c.get_mut.follows.holds c.put.new.self in
-    let f = found row_cmp no_row c.args.rows.now c.args.change.row c.in-Some.held.now (search rules) in
-    each_row (λ b x y. (p : Place) → (chain_of x p).room ≤ (chain_of y p).room + (if b && is_of_place p c.args.change.mutation then 1 else 0)) c.args.rows.now (c.get_mut.follows.lender c.put.new.self) c.args.change.row c.put.new.self (h.3 (search rules)) (rw f c.put.ensures.room) (λ x p. omega arith)
+pub returns-else-put_mutation-clause-listed : goal.returns-else-put_mutation-clause-listed
+returns-else-put_mutation-clause-listed c =
+    listed_unless c.args.crowded.now c.args.rows.now.entries c.put_mutation.new.rows.entries c.args.change.row c.args.change.mutation
+    (λ r p. put_of (chain_at c.args.rows.now.entries r p).versions (version_of c.args.origin.now c.args.change.mutation))
+    c.put_mutation.ensures.versions (c.put_mutation.ensures.more c.if-put_mutation.false)

@@ -16,4 +16,5 @@ loop-change-preserved c =
       ready = ready_rest o olds news c.in-Some.change c.next.new.self.rest.items c.put_change.ensures.versions c.put_change.ensures.room ready;
       versions = λ r p. put_rest o olds news c.in-Some.change c.next.new.self.rest.items c.put_change.ensures.versions r p
           ∙ subst (λ (cs : List Change). put_all (chain_at olds r p).versions (written o r p cs) ≡ put_all (chain_at c.args.rows.now.entries r p).versions (written o r p c.args.changes.items)) split (i.versions r p);
+      listed = λ listed. c.put_change.ensures.listed (i.listed listed);
     }

@@ -8,6 +8,6 @@ use Rattle.store.proofs.store.Store.collect.Goals as goal
 pub returns-clause-keeps : goal.returns-clause-keeps
 returns-clause-keeps c = λ all keeps.
     let old : Kept = record { rows = c.self.inside.rows.entries; low = c.self.inside.low } in
-    let new : Kept = record { rows = c.collect_rows.new.rows.entries; low = c.max-self-inside.result } in
+    let new : Kept = record { rows = c.collect_crowded.new.rows.entries; low = c.max-self-inside.result } in
     let raised : c.self.inside.low ≤ c.max-self-inside.result = grind (arith, nat_tests, c.max-self-inside.ensures) in
-    keeps_collected old new all raised c.collect_rows.ensures (subst (λ (k : Kept). Keeps k all) (sym c.self.view_is) keeps)
+    keeps_collected old new all raised (c.collect_crowded.ensures.kept c.self.invariant) (subst (λ (k : Kept). Keeps k all) (sym c.self.view_is) keeps)

@@ -1,0 +1,34 @@
+-- Which rows a collection has to look at.
+use Rattle.std.specs.Prelude.{◌≡◌, ◌≤◌, length, nat_lt, Bool, true, false, ◌||◌, List, map}
+use Rattle.std.specs.List.{list_any}
+use Rattle.std.specs.Ordering.{is_eq}
+use Rattle.column_family.specs.declared.batch.Row.{Row}
+use Rattle.column_family.specs.Places.{row_cmp}
+use Rattle.versions.specs.Chain.{Held}
+use Rattle.store.specs.Kept.{Place, Chains, chain_at, held_by, no_row}
+
+-- the rows that are listed, and whether all are that have to be
+pub record Listed : Type 0 where
+  pub rows : List Row
+  pub whole : Bool
+
+-- whether the row is one of these
+abbrev pub is_listed : List Row → Row → Bool
+is_listed rows r = list_any (λ s. is_eq (row_cmp r s)) rows
+
+-- whether a chain holds more than one version
+abbrev pub holds_more : Held → Bool
+holds_more h = nat_lt 1 (length h.versions)
+
+-- whether a chain of the row holds more than one version: a collection drops nothing from any other row
+abbrev pub is_crowded : Chains → Bool
+is_crowded row = list_any holds_more (map (λ e. e.1) row.columns) || holds_more row.deletions
+
+-- whether the row is crowded, as one of these
+abbrev pub is_crowded_in : List (Row × Chains) → Row → Bool
+is_crowded_in rows r = is_crowded (held_by row_cmp no_row rows r)
+
+-- if the list is whole, each chain of a row that isn't listed holds one version at most
+abbrev pub AreListed : Listed → List (Row × Chains) → Type 0
+AreListed l rows =
+    l.whole ≡ true → (r : Row) (p : Place) → is_listed l.rows r ≡ false → length (chain_at rows r p).versions ≤ 1
