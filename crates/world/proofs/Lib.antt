@@ -108,6 +108,10 @@ pub mod SubmittedLive
 pub mod LiveEvents
 pub mod LaterCommits
 pub mod Laws
+pub mod Descents
+pub mod Totals
+pub mod Caps
+pub mod Deliveries
 pub mod GivenUp
 pub mod KeptAnswers
 pub mod FirstRounds

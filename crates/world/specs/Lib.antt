@@ -25,3 +25,4 @@ pub mod Holds
 pub mod Steps
 pub mod Log
 pub mod Asked
+pub mod Drains

@@ -8,6 +8,7 @@ ghost use Rattle.world.specs.Histories.{IsHistory};
 ghost use Rattle.world.specs.Fresh.{FirstRoundsAreWhole};
 ghost use Rattle.world.specs.Quiet.{IsQuiet};
 ghost use Rattle.world.specs.Settled.{Settled};
+ghost use Rattle.world.specs.Drains.{DeliveriesComeNearer, DecisionsAreCapped};
 ghost use Rattle.world.specs.Lookups.{FindsUnhandled, HistoriesAreAsked, MessagesAreForActors, ShardsTellUnfinished};
 ghost use Rattle.world.specs.Named.{StampsAreNamed};
 ghost use Rattle.world.specs.Causes.{PastsAreDecided};
@@ -145,4 +146,13 @@ pub fn runs_can_be_looked_up()
 /// is the law.
 pub fn quiet_means_done()
     ensures { (top : TopologyValue) (events : List Event) → is_topology top.dcs top.shards top.homes ≡ true → IsQuiet (run top events) → Settled top (run top events) }
+{}
+
+/// In every run each message that was sent, when it is delivered, is handled or meets a spent clock. Where it is handled, one
+/// shard has one decision more, or none has another and all that is sent is of a lower rank than the message; and no shard
+/// decides more than was submitted. So nothing goes round: no message leads to others for ever. Does nothing; its contract
+/// is the law.
+pub fn deliveries_come_nearer()
+    ensures nearer { (top : TopologyValue) (events : List Event) → is_topology top.dcs top.shards top.homes ≡ true → DeliveriesComeNearer top (run top events) }
+    ensures decisions { (top : TopologyValue) (events : List Event) → 0 < top.shards → DecisionsAreCapped top (run top events) }
 {}
