@@ -112,6 +112,7 @@ pub mod Descents
 pub mod Totals
 pub mod Caps
 pub mod Deliveries
+pub mod EventCounts
 pub mod GivenUp
 pub mod KeptAnswers
 pub mod FirstRounds

@@ -87,6 +87,14 @@ DeliveriesComeNearer top w = (k : ℕ) (e : Envelope) → slice_get w.sent k ≡
 abbrev pub DecisionsAreCapped : TopologyValue → Run → Type 0
 DecisionsAreCapped top w = decisions_taken top w ≤ shard_count top * length w.submitted
 
+-- ## Clocks
+
+-- each event moves a clock, so no clock and no time of a message is above the number of events
+pub record ClocksCountEvents (w : Run) : Type 0 where
+  pub shards : (node : ℕ) → (w.shards node).clock ≤ length w.events
+  pub sessions : (node : ℕ) → (w.sessions node).clock ≤ length w.events
+  pub messages : (e : Envelope) → Contains w.sent e → e.time ≤ length w.events
+
 -- ## Costs
 
 -- what the costs of messages depend on beside the topology: how many operations were submitted, and how many transactions one of

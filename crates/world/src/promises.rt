@@ -8,7 +8,7 @@ ghost use Rattle.world.specs.Histories.{IsHistory};
 ghost use Rattle.world.specs.Fresh.{FirstRoundsAreWhole};
 ghost use Rattle.world.specs.Quiet.{IsQuiet};
 ghost use Rattle.world.specs.Settled.{Settled};
-ghost use Rattle.world.specs.Drains.{DeliveriesComeNearer, DecisionsAreCapped};
+ghost use Rattle.world.specs.Drains.{ClocksCountEvents, DeliveriesComeNearer, DecisionsAreCapped};
 ghost use Rattle.world.specs.Lookups.{FindsUnhandled, HistoriesAreAsked, MessagesAreForActors, ShardsTellUnfinished};
 ghost use Rattle.world.specs.Named.{StampsAreNamed};
 ghost use Rattle.world.specs.Causes.{PastsAreDecided};
@@ -146,6 +146,13 @@ pub fn runs_can_be_looked_up()
 /// is the law.
 pub fn quiet_means_done()
     ensures { (top : TopologyValue) (events : List Event) → is_topology top.dcs top.shards top.homes ≡ true → IsQuiet (run top events) → Settled top (run top events) }
+{}
+
+/// In every run no clock and no time of a message is above the number of events. So no clock is spent before there were 2^48
+/// events. Does nothing; its contract is the law.
+#[tactic(auto, using(crate::proofs::EventCounts::clocks_count_events))]
+pub fn clocks_count_events()
+    ensures { (top : TopologyValue) (events : List Event) → ClocksCountEvents (run top events) }
 {}
 
 /// In every run each message that was sent, when it is delivered, is handled or meets a spent clock. Where it is handled, one
