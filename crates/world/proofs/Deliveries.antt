@@ -50,6 +50,14 @@ IsSpent top w e = ticked (clock_at top w e.to) e.time ≡ None
 self_equal : (n : ℕ) → (n == n) ≡ false → ⊥
 self_equal n e = false≢true (sym e ∙ eq-eqb n n refl)
 
+-- then it would leave its range
+pub past_range : (c t : ℕ) → ticked c t ≡ None → 2 ^ 48 ≤ max c t + 1
+past_range c t q = by (nat_lt (max c t + 1) (2 ^ 48)) refl q
+  where
+    by : (b : Bool) → nat_lt (max c t + 1) (2 ^ 48) ≡ b → cond b (Some (max c t + 1)) None ≡ None → 2 ^ 48 ≤ max c t + 1
+    by true lt q = absurd (cc)
+    by false lt q = grind (arith, nat_tests)
+
 module _ (top : TopologyValue) (w : Run) (some : 0 < top.shards) (inv : Inv top w) (k : ℕ) (e : Envelope) (there : slice_get w.sent k ≡ Some e) where
   more_handled : filter_map number_delivered (w.events ++ Deliver k ∷ []) ≡ handled w ++ k ∷ []
   more_handled = filter_map-append number_delivered w.events (Deliver k ∷ [])
@@ -222,15 +230,8 @@ module _ (top : TopologyValue) (w : Run) (some : 0 < top.shards) (inv : Inv top 
   meets actor spent =
       record {
         refused = ap (refusal_of_message top w) there ∙ refused (is_shard top e.to) (is_session top e.to) refl refl actor spent;
-        spent = past (clock_at top w e.to) e.time spent;
+        spent = past_range (clock_at top w e.to) e.time spent;
       }
-    where
-      past : (c t : ℕ) → ticked c t ≡ None → 2 ^ 48 ≤ max c t + 1
-      past c t q = by (nat_lt (max c t + 1) (2 ^ 48)) refl q
-        where
-          by : (b : Bool) → nat_lt (max c t + 1) (2 ^ 48) ≡ b → cond b (Some (max c t + 1)) None ≡ None → 2 ^ 48 ≤ max c t + 1
-          by true lt q = absurd (cc)
-          by false lt q = grind (arith, nat_tests)
 
 -- the message of a number, and for whom it is
 pub delivered : (top : TopologyValue) (events : List Event) → is_topology top.dcs top.shards top.homes ≡ true → (k : ℕ) (e : Envelope)

@@ -113,6 +113,7 @@ pub mod Totals
 pub mod Caps
 pub mod Deliveries
 pub mod EventCounts
+pub mod DrainEnds
 pub mod GivenUp
 pub mod KeptAnswers
 pub mod FirstRounds

@@ -1,6 +1,6 @@
 -- Why deliveries of what wasn't handled come to an end: each handled message is one step down a ladder of ranks, but for
 -- decisions, of which there are only so many.
-use Rattle.std.specs.Prelude.{◌≡◌, ◌≢◌, ℕ, zero, suc, ◌+◌, ◌-◌, ◌*◌, ◌^◌, ◌<◌, ◌≤◌, ◌==◌, max, true, not, if◌then◌else◌, ◌⊎◌, List, [], ◌∷◌, ◌++◌, length, filter, slice_get, Some, is_some, Contains}
+use Rattle.std.specs.Prelude.{◌≡◌, ◌≢◌, ℕ, zero, suc, ◌+◌, ◌-◌, ◌*◌, ◌^◌, ◌<◌, ◌≤◌, ◌==◌, max, true, not, if◌then◌else◌, ◌⊎◌, List, [], ◌∷◌, ◌++◌, length, filter, slice_get, Option, Some, None, is_some, Contains}
 use Rattle.std.specs.List.{list_any, sum_by}
 use Rattle.logical_time.specs.declared.fault.Fault.TheVariants.{ClockSpent}
 use Rattle.messages.specs.declared.body.Body.{Body}
@@ -10,7 +10,9 @@ use Rattle.messages.specs.Topology.{TopologyValue, is_shard, shard_count}
 use Rattle.messages.specs.Shard.{ShardState, Decision}
 use Rattle.messages.specs.Known.{decision_of}
 use Rattle.world.specs.Run.{Run, Submission, Deliver, step}
-use Rattle.world.specs.Quiet.{handled}
+use Rattle.world.specs.Quiet.{handled, IsQuiet}
+use Rattle.world.specs.Lookups.{first_unhandled}
+use Rattle.world.specs.Settled.{Settled}
 use Rattle.world.specs.Refusals.{Refused, refusal_of, clock_at}
 
 -- ## Ranks
@@ -187,3 +189,32 @@ abbrev pub deliveries_left : TopologyValue → Run → ℕ
 deliveries_left top w =
     cost_of_unhandled top (sizes_of w.submitted) (handled w) 0 w.sent + total (λ node. cost_of_waiting top (w.shards node)) (shard_count top)
     + (shard_count top * length w.submitted - decisions_taken top w) * cost_of_decision top (sizes_of w.submitted)
+
+-- ## Drains
+
+-- a run with this message delivered, if there is one
+abbrev pub with_delivered : TopologyValue → Run → Option ℕ → Run
+with_delivered top w None = w
+with_delivered top w (Some k) = step top w (Deliver k)
+
+-- so many deliveries at most, each of the first message that wasn't handled then
+abbrev pub drained : TopologyValue → ℕ → Run → Run
+drained top zero w = w
+drained top (suc n) w = drained top n (with_delivered top w (first_unhandled w))
+
+-- A drain has ended: all is handled and done, by no more deliveries than were left
+pub record HasEnded (top : TopologyValue) (before after : Run) : Type 0 where
+  pub quiet : IsQuiet after
+  pub settled : Settled top after
+  pub deliveries : length after.events ≤ length before.events + deliveries_left top before
+
+-- as long as clocks have room for them, so many deliveries as are left are enough, and so are more
+abbrev pub DrainsEnd : TopologyValue → Run → Type 0
+DrainsEnd top w =
+    (n : ℕ) → deliveries_left top w ≤ n → length w.events + deliveries_left top w < 2 ^ 48 → HasEnded top w (drained top n w)
+
+-- each delivery of what wasn't handled leaves fewer, unless it is refused
+abbrev pub DeliveriesLeaveFewer : TopologyValue → Run → Type 0
+DeliveriesLeaveFewer top w =
+    (k : ℕ) → k < length w.sent → (Contains (handled w) k → ⊥) → refusal_of top w (Deliver k) ≡ None
+    → deliveries_left top (step top w (Deliver k)) < deliveries_left top w

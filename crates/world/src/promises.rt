@@ -8,7 +8,7 @@ ghost use Rattle.world.specs.Histories.{IsHistory};
 ghost use Rattle.world.specs.Fresh.{FirstRoundsAreWhole};
 ghost use Rattle.world.specs.Quiet.{IsQuiet};
 ghost use Rattle.world.specs.Settled.{Settled};
-ghost use Rattle.world.specs.Drains.{ClocksCountEvents, DeliveriesComeNearer, DecisionsAreCapped};
+ghost use Rattle.world.specs.Drains.{ClocksCountEvents, DeliveriesComeNearer, DecisionsAreCapped, DeliveriesLeaveFewer, DrainsEnd};
 ghost use Rattle.world.specs.Lookups.{FindsUnhandled, HistoriesAreAsked, MessagesAreForActors, ShardsTellUnfinished};
 ghost use Rattle.world.specs.Named.{StampsAreNamed};
 ghost use Rattle.world.specs.Causes.{PastsAreDecided};
@@ -162,4 +162,13 @@ pub fn clocks_count_events()
 pub fn deliveries_come_nearer()
     ensures nearer { (top : TopologyValue) (events : List Event) → is_topology top.dcs top.shards top.homes ≡ true → DeliveriesComeNearer top (run top events) }
     ensures decisions { (top : TopologyValue) (events : List Event) → 0 < top.shards → DecisionsAreCapped top (run top events) }
+{}
+
+/// A drain ends: from every run, delivering again and again the first message that wasn't handled makes the run quiet, so
+/// that all is done, by no more deliveries than `deliveries_left` counts, as long as the clocks have room for them. And each
+/// delivery of any message that wasn't handled leaves fewer, so no order of them goes on for ever. Does nothing; its contract
+/// is the law.
+pub fn drains_end()
+    ensures ends { (top : TopologyValue) (events : List Event) → is_topology top.dcs top.shards top.homes ≡ true → DrainsEnd top (run top events) }
+    ensures fewer { (top : TopologyValue) (events : List Event) → is_topology top.dcs top.shards top.homes ≡ true → DeliveriesLeaveFewer top (run top events) }
 {}
