@@ -7,6 +7,7 @@ mod RefutedFreshness
 mod RefutedHistories
 mod RefutedOutcomes
 mod RefutedShards
+mod RefutedDrains
 mod WorkedFreshness
 pub mod Among
 pub mod Growth
