@@ -1,6 +1,6 @@
 -- How many of a thing there can be at most, by the submissions: decisions of a shard, transactions that a read asks for, cohorts
 -- and dependencies of a ballot.
-use Rattle.std.proofs.Common.{◌≡◌, ◌∙◌, ℕ, ◌+◌, ◌*◌, ◌<◌, ◌≤◌, max, List, [], ◌∷◌, map, length, ◌⊎◌, inl, inr, refl, sym, ap, subst, arith, not, ◌&&◌, true}
+use Rattle.std.proofs.Common.{◌≡◌, ◌∙◌, ℕ, ◌+◌, ◌≤◌, List, [], ◌∷◌, map, length, ◌⊎◌, inl, inr, refl, sym, ap, subst, arith, not, ◌&&◌}
 use Rattle.std.specs.Prelude.{◌==◌}
 use Rattle.std.specs.declared.cmp.Ordering.TheVariants.{Less}
 use Rattle.std.specs.List.{range_with_len, AllByRecursion}
@@ -16,11 +16,11 @@ use Rattle.messages.specs.declared.body.Body.{Body}
 use Rattle.messages.specs.declared.body.Body.TheVariants.{Begin, ReplBegin}
 use Rattle.messages.specs.declared.envelope.Envelope.{Envelope}
 use Rattle.messages.specs.Topology.{TopologyValue, shard_count}
-use Rattle.messages.specs.Shard.{Decision, PreparedPart}
+use Rattle.messages.specs.Shard.{Decision}
 use Rattle.messages.specs.Reads.{marks_below, asked_below}
 use Rattle.messages.proofs.WritersInOrder.{writers_ascend}
 use Rattle.world.specs.Run.{Run, Submission}
-use Rattle.world.specs.Drains.{decisions_taken, DecisionsAreCapped, Sizes, most_dependencies, sizes_of}
+use Rattle.world.specs.Drains.{DecisionsAreCapped, most_dependencies, sizes_of}
 use Rattle.world.proofs.Among.{Among}
 use Rattle.world.proofs.Facts.{txn_of, DecidedOnce}
 use Rattle.world.proofs.Invariant.{Says, Inv}

@@ -1,30 +1,30 @@
 -- What the delivery of one message makes of a run: it meets a spent clock, or the message is handled and the run is nearer to its end.
 use Rattle.std.proofs.Common.{◌≡◌, ◌∙◌, ℕ, ◌+◌, ◌*◌, ◌<◌, ◌≤◌, max, Bool, true, false, cond, List, [], ◌∷◌, ◌++◌, length, slice_get, Option, Some, None, ◌⊎◌, inl, inr, refl, sym, ap, subst, arith, ltb-true, eq-eqb}
-use Rattle.std.specs.Prelude.{◌≢◌, ◌==◌, ◌^◌, nat_lt, if◌then◌else◌, filter_map, Ok, Contains}
+use Rattle.std.specs.Prelude.{◌≢◌, ◌==◌, ◌^◌, nat_lt, if◌then◌else◌, filter_map, Ok}
 use Rattle.std.proofs.lemmas.List.{length-append}
 use Rattle.std.proofs.lemmas.List.Elements.{filter_map-append}
-use Rattle.std.proofs.lemmas.Bool.{false≢true, cases_lt}
+use Rattle.std.proofs.lemmas.Bool.{false≢true}
 use Rattle.std.proofs.lemmas.Bool.Decides.{nat_tests}
 use Rattle.logical_time.specs.declared.fault.Fault.TheVariants.{ClockSpent}
 use Rattle.messages.specs.declared.envelope.Envelope.{Envelope}
 use Rattle.messages.specs.Topology.{TopologyValue, is_topology, is_shard, is_session, shard_count}
 use Rattle.messages.specs.Clock.{ticked, on_clock}
-use Rattle.messages.specs.Shard.{ShardState, ShardStep, Decision}
+use Rattle.messages.specs.Shard.{ShardState, ShardStep}
 use Rattle.messages.specs.ShardEvents.{handled as handled_by, shard_handle}
 use Rattle.messages.specs.SessionEvents.{heard, session_handle}
-use Rattle.world.specs.Run.{Run, Event, Deliver, Submission, with_actor, after_shard, after_session, deliver_if, deliver_for, step, run}
+use Rattle.world.specs.Run.{Run, Event, Deliver, with_actor, after_shard, after_session, deliver_if, deliver_for, step, run}
 use Rattle.world.specs.Quiet.{number_delivered, handled}
 use Rattle.world.specs.Refusals.{Refused, NoSuchActor, refused_by, refusal_of_envelope, refusal_of_message, clock_at}
-use Rattle.world.specs.Drains.{rank, AreLower, total, decisions_taken, HasOneMore, HasSame, ComesNearer, MeetsSpentClock, DeliveriesComeNearer, DecisionsAreCapped, sizes_of, cost, cost_of_all, cost_of_decision, cost_of_waiting}
-use Rattle.world.proofs.Among.{Among, get_among, among_contains, contains_among}
+use Rattle.world.specs.Drains.{rank, total, decisions_taken, ComesNearer, MeetsSpentClock, DeliveriesComeNearer, DecisionsAreCapped, sizes_of, cost, cost_of_all, cost_of_decision, cost_of_waiting}
+use Rattle.world.proofs.Among.{get_among, among_contains, contains_among}
 use Rattle.world.proofs.Facts.{DecidedOnce}
 use Rattle.world.proofs.Invariant.{Inv}
 use Rattle.world.proofs.Runs.{every_run, step_kept}
 use Rattle.world.proofs.Addresses.{stands}
 use Rattle.world.proofs.Addressed.{messages_are_for_actors}
 use Rattle.world.proofs.HeardRuns.{changed_actor}
-use Rattle.world.proofs.Totals.{total_same, total_one}
-use Rattle.world.proofs.Descents.{Low, Leaves, Descends, Sinks, handled_descends, heard_sinks}
+use Rattle.world.proofs.Totals.{total_one}
+use Rattle.world.proofs.Descents.{Descends, handled_descends, heard_sinks}
 use Rattle.world.proofs.Caps.{decisions_capped, shard_within, message_within}
 
 -- what waits on all shards

@@ -21,14 +21,14 @@ use Rattle.messages.specs.declared.body.Body.TheVariants.{Begin, Prepare, Yes, C
 use Rattle.messages.specs.declared.envelope.Envelope.{Envelope}
 use Rattle.messages.specs.Topology.{TopologyValue, dc_of, shard_of, shard_node}
 use Rattle.messages.specs.Words.{is_same_txn, envelope, other_dcs}
-use Rattle.messages.specs.Shard.{ShardState, ShardStep, Role, Own, Cohort, Replica, PreparedPart, BegunBallot, Decision, KeptPart, KeptBallot, Asker, WaitingRead, quiet}
+use Rattle.messages.specs.Shard.{ShardState, ShardStep, Role, Own, Cohort, Replica, PreparedPart, BegunBallot, Decision, KeptPart, KeptBallot, Asker, WaitingRead}
 use Rattle.messages.specs.Known.{decision_of, prepared_part, kept_part, kept_ballot, standing_ballot, is_known, is_applied, has_vote, all_voted, is_awaited, is_asker}
 use Rattle.messages.specs.Rows.{row_now}
 use Rattle.messages.specs.Reads.{part_at, lessened, is_free, let_go, asked_below, check_of, is_waiting, waiting_read, read_at_of, read_at_if}
 use Rattle.messages.specs.Commits.{applied_part, stamp_for, commits, announcements, dep_oks, decide, begin_if, prepare_if, counted_if, vote_if, early_if, yes_for, with_vote, repl_parts, apply_part, commit_if, commit_for, check_for}
 use Rattle.messages.specs.Replication.{ballot_of, remote_prepare, is_ready, ready_if, ready, with_ballot, dep_checks, sent_before, repl_begin_if, with_notice, notice_if, early_notice_if, notify_for, repl_part_if, prepare_remote_for, remember_if, dep_check_for, is_unmet, with_met, met_if, dep_ok_for}
 use Rattle.messages.specs.ShardEvents.{handled}
-use Rattle.messages.specs.Session.{SessionState, SessionStep, Open, Idle, Writing, FirstRound, SecondRound, HeardNow, HeardAt}
+use Rattle.messages.specs.Session.{SessionState, Open, Idle, Writing, FirstRound, SecondRound, HeardNow, HeardAt}
 use Rattle.messages.specs.Rounds.{asked_nodes, is_missing, all_heard, effective_time, is_late, late_nodes, is_missing_at, all_heard_at}
 use Rattle.messages.specs.Submitting.{home_node}
 use Rattle.messages.specs.SessionEvents.{done_if, done_in, read_at_of as ask_at, second_if, heard_if, part_now_if, part_now_in, heard_at_if, taken_at, part_at_if, part_at_in, heard}

@@ -1,5 +1,5 @@
 -- A drain ends: each delivery of what wasn't handled leaves fewer, and where none is left the run is quiet.
-use Rattle.std.proofs.Common.{◌≡◌, ◌∙◌, ℕ, zero, suc, ◌+◌, ◌-◌, ◌*◌, ◌<◌, ◌≤◌, max, Bool, true, false, cond, not, List, [], ◌∷◌, ◌++◌, length, slice_get, Option, Some, None, ◌⊎◌, inl, inr, refl, sym, ap, subst, arith, eqb-true, eq-eqb}
+use Rattle.std.proofs.Common.{◌≡◌, ◌∙◌, ℕ, zero, suc, ◌+◌, ◌-◌, ◌*◌, ◌<◌, ◌≤◌, Bool, true, false, cond, List, [], ◌∷◌, ◌++◌, length, slice_get, Option, Some, None, inl, inr, refl, sym, ap, subst, arith, eqb-true, eq-eqb}
 use Rattle.std.specs.Prelude.{◌==◌, ◌^◌, Contains}
 use Rattle.std.specs.List.{list_any}
 use Rattle.std.proofs.lemmas.Bool.{false≢true}
@@ -9,20 +9,21 @@ use Rattle.messages.specs.declared.body.Body.{Body}
 use Rattle.messages.specs.declared.body.Body.TheVariants.{Begin, Prepare, Yes, Commit, At, NotBy, Check, Read, ReadAt, ReplBegin, ReplPart, Notify, PrepareRemote, DepCheck, DepOk, Done, PartNow, PartAt}
 use Rattle.messages.specs.declared.envelope.Envelope.{Envelope}
 use Rattle.messages.specs.Topology.{TopologyValue, is_topology, is_shard, shard_count}
-use Rattle.world.specs.Run.{Run, Event, Deliver, Submission, opening, step, run}
+use Rattle.world.specs.Run.{Run, Event, Deliver, opening, step, run}
 use Rattle.world.specs.Quiet.{handled, IsQuiet}
 use Rattle.world.specs.Lookups.{first_unhandled}
-use Rattle.world.specs.Refusals.{refusal_of, clock_at}
+use Rattle.world.specs.Refusals.{clock_at}
 use Rattle.world.specs.Settled.{Settled}
-use Rattle.world.specs.Drains.{decisions_taken, DecisionsAreCapped, ClocksCountEvents, Sizes, sizes_of, cost, cost_of_all, cost_of_decision, cost_of_unhandled, deliveries_left, with_delivered, drained, HasEnded, DrainsEnd, DeliveriesLeaveFewer}
+use Rattle.world.specs.Drains.{decisions_taken, DecisionsAreCapped, ClocksCountEvents, Sizes, sizes_of, cost, cost_of_all, cost_of_decision, cost_of_unhandled, deliveries_left, with_delivered, drained, DrainsEnd, DeliveriesAreAllowed, DeliveriesLeaveFewer}
 use Rattle.world.proofs.Among.{Among, append_first, among_last, any_true, any_among, get_among, among_contains}
 use Rattle.world.proofs.Runs.{run_after}
 use Rattle.world.proofs.Prefixes.{get_there}
+use Rattle.world.proofs.Refusals.{added_is_allowed}
 use Rattle.world.proofs.Unhandled.{finds_unhandled}
 use Rattle.world.proofs.Laws.{quiet_means_done}
 use Rattle.world.proofs.Addresses.{stands}
 use Rattle.world.proofs.EventCounts.{clocks_count_events}
-use Rattle.world.proofs.Deliveries.{waiting_costs, price, Nearer, IsSpent, past_range, delivered, decisions_are_capped}
+use Rattle.world.proofs.Deliveries.{price, Nearer, IsSpent, past_range, delivered, decisions_are_capped}
 
 -- ## What the messages cost that weren't handled
 
@@ -188,6 +189,24 @@ module _ (top : TopologyValue) (ok : is_topology top.dcs top.shards top.homes �
       by true = counts.shards e.to
       by false = counts.sessions e.to
 
+  -- so with room for what is left the delivery of a message is handled
+  goes : (events : List Event) (k : ℕ) (e : Envelope) → slice_get (run top events).sent k ≡ Some e → (Contains (handled (run top events)) k → ⊥)
+      → length (run top events).events + deliveries_left top (run top events) < 2 ^ 48
+      → Nearer top (run top events) (step top (run top events) (Deliver k)) k e
+  goes events k e there none room =
+      elim (delivered top events ok k e there) [
+        | inl nearer ↦ nearer
+        | inr spent ↦
+            let past = past_room (run top events) e (clocks_count_events top events) (get_among (run top events).sent k e there) spent.0 in
+            let some = some_left (run top events) k e there none in
+            absurd (omega arith)
+      ]
+
+  pub deliveries_are_allowed : (events : List Event) → DeliveriesAreAllowed top (run top events)
+  deliveries_are_allowed events k lt none room =
+      let e = get_there (run top events).sent k lt in
+      added_is_allowed top (run top events) (Deliver k) (goes events k e.0 e.1 none room).events
+
   -- nothing is delivered once all is handled
   drained_quiet : (n : ℕ) (w : Run) → first_unhandled w ≡ None → drained top n w ≡ w
   drained_quiet zero w none = refl
@@ -216,23 +235,18 @@ module _ (top : TopologyValue) (ok : is_topology top.dcs top.shards top.homes �
       let w = run top events in
       let f = (finds_unhandled w).found k first in
       let e = get_there w.sent k f.sent in
-      elim (delivered top events ok k e.0 e.1) [
-        | inl nearer ↦
-            let less = onwards events k e.0 e.1 f.unhandled nearer in
-            let longer : length (step top w (Deliver k)).events ≡ length w.events + 1 = ap length nearer.events ∙ length-append w.events (Deliver k ∷ []) in
-            let more : run top (events ++ Deliver k ∷ []) ≡ step top w (Deliver k) = run_after top (opening top) events (Deliver k ∷ []) in
-            let fewer : deliveries_left top (run top (events ++ Deliver k ∷ [])) < deliveries_left top w = subst (λ x. deliveries_left top x < deliveries_left top w) (sym more) less in
-            let count : length (run top (events ++ Deliver k ∷ [])).events ≡ length w.events + 1 = ap (λ (x : Run). length x.events) more ∙ longer in
-            let d = rest (omega arith) (omega arith) in
-            let after = d.count in
-            subst (λ o. Ended w (drained top n (with_delivered top w o)) (deliveries_left top w)) (sym first)
-            (subst (λ x. Ended w (drained top n x) (deliveries_left top w)) more
-            (record { events = d.events; is = d.is; quiet = d.quiet; count = omega arith }))
-        | inr spent ↦
-            let past = past_room w e.0 (clocks_count_events top events) (get_among w.sent k e.0 e.1) spent.0 in
-            let some = some_left w k e.0 e.1 f.unhandled in
-            absurd (omega arith)
-      ]
+      let nearer = goes events k e.0 e.1 f.unhandled room in
+      let less = onwards events k e.0 e.1 f.unhandled nearer in
+      let longer : length (step top w (Deliver k)).events ≡ length w.events + 1 = ap length nearer.events ∙ length-append w.events (Deliver k ∷ []) in
+      let more : run top (events ++ Deliver k ∷ []) ≡ step top w (Deliver k) = run_after top (opening top) events (Deliver k ∷ []) in
+      let fewer : deliveries_left top (run top (events ++ Deliver k ∷ [])) < deliveries_left top w =
+      subst (λ x. deliveries_left top x < deliveries_left top w) (sym more) less in
+      let count : length (run top (events ++ Deliver k ∷ [])).events ≡ length w.events + 1 = ap (λ (x : Run). length x.events) more ∙ longer in
+      let d = rest (omega arith) (omega arith) in
+      let after = d.count in
+      subst (λ o. Ended w (drained top n (with_delivered top w o)) (deliveries_left top w)) (sym first)
+      (subst (λ x. Ended w (drained top n x) (deliveries_left top w)) more
+      (record { events = d.events; is = d.is; quiet = d.quiet; count = omega arith }))
 
   ends : (n : ℕ) (events : List Event) → EndsBy n events
   ends zero events = by (first_unhandled (run top events)) refl

@@ -1,8 +1,7 @@
 -- No clock and no time of a message is above the number of a run's events.
-use Rattle.std.proofs.Common.{◌≡◌, ◌∙◌, ℕ, ◌+◌, ◌<◌, ◌≤◌, max, Bool, true, false, cond, List, [], ◌∷◌, ◌++◌, length, slice_get, Option, Some, None, Ok, ◌⊎◌, inl, inr, refl, sym, ap, subst, arith, append-nil}
+use Rattle.std.proofs.Common.{◌≡◌, ℕ, ◌+◌, ◌≤◌, max, Bool, true, false, cond, List, [], ◌∷◌, ◌++◌, length, Some, None, Ok, inl, inr, refl, arith}
 use Rattle.std.specs.Prelude.{◌^◌, nat_lt, Contains}
 use Rattle.std.proofs.lemmas.List.{length-append}
-use Rattle.messages.specs.declared.op.Op.{Op}
 use Rattle.messages.specs.declared.envelope.Envelope.{Envelope}
 use Rattle.messages.specs.Topology.{TopologyValue}
 use Rattle.messages.specs.Clock.{ticked}
@@ -14,7 +13,7 @@ use Rattle.messages.specs.Submitting.{begun}
 use Rattle.store.proofs.Lists.{none_in_empty}
 use Rattle.world.specs.Run.{Run, Event, Submit, Submission, submission_by, opening, after_shard, with_session, step, continued, run}
 use Rattle.world.specs.Drains.{ClocksCountEvents}
-use Rattle.world.proofs.Among.{Among, among_append, get_among, among_contains, contains_among}
+use Rattle.world.proofs.Among.{among_append, get_among, among_contains, contains_among}
 use Rattle.world.proofs.EventCases.{timed_cases}
 use Rattle.world.proofs.HeardRuns.{changed_actor}
 use Rattle.world.proofs.OwnSends.{AreOwn, none, handled_own}

@@ -213,7 +213,13 @@ abbrev pub DrainsEnd : TopologyValue → Run → Type 0
 DrainsEnd top w =
     (n : ℕ) → deliveries_left top w ≤ n → length w.events + deliveries_left top w < 2 ^ 48 → HasEnded top w (drained top n w)
 
--- each delivery of what wasn't handled leaves fewer, unless it is refused
+-- as long as clocks have room for them, none of these deliveries is refused
+abbrev pub DeliveriesAreAllowed : TopologyValue → Run → Type 0
+DeliveriesAreAllowed top w =
+    (k : ℕ) → k < length w.sent → (Contains (handled w) k → ⊥) → length w.events + deliveries_left top w < 2 ^ 48
+    → refusal_of top w (Deliver k) ≡ None
+
+-- each of them leaves fewer, whichever it is
 abbrev pub DeliveriesLeaveFewer : TopologyValue → Run → Type 0
 DeliveriesLeaveFewer top w =
     (k : ℕ) → k < length w.sent → (Contains (handled w) k → ⊥) → refusal_of top w (Deliver k) ≡ None

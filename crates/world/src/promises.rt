@@ -8,7 +8,7 @@ ghost use Rattle.world.specs.Histories.{IsHistory};
 ghost use Rattle.world.specs.Fresh.{FirstRoundsAreWhole};
 ghost use Rattle.world.specs.Quiet.{IsQuiet};
 ghost use Rattle.world.specs.Settled.{Settled};
-ghost use Rattle.world.specs.Drains.{ClocksCountEvents, DeliveriesComeNearer, DecisionsAreCapped, DeliveriesLeaveFewer, DrainsEnd};
+ghost use Rattle.world.specs.Drains.{ClocksCountEvents, DeliveriesComeNearer, DecisionsAreCapped, DeliveriesAreAllowed, DeliveriesLeaveFewer, DrainsEnd};
 ghost use Rattle.world.specs.Lookups.{FindsUnhandled, HistoriesAreAsked, MessagesAreForActors, ShardsTellUnfinished};
 ghost use Rattle.world.specs.Named.{StampsAreNamed};
 ghost use Rattle.world.specs.Causes.{PastsAreDecided};
@@ -165,10 +165,11 @@ pub fn deliveries_come_nearer()
 {}
 
 /// A drain ends: from every run, delivering again and again the first message that wasn't handled makes the run quiet, so
-/// that all is done, by no more deliveries than `deliveries_left` counts, as long as the clocks have room for them. And each
-/// delivery of any message that wasn't handled leaves fewer, so no order of them goes on for ever. Does nothing; its contract
-/// is the law.
+/// that all is done, by no more deliveries than `deliveries_left` counts, as long as the clocks have room for them. Until then
+/// a delivery of any message that wasn't handled isn't refused, and leaves fewer: so no order of them goes on for ever. Does
+/// nothing; its contract is the law.
 pub fn drains_end()
     ensures ends { (top : TopologyValue) (events : List Event) → is_topology top.dcs top.shards top.homes ≡ true → DrainsEnd top (run top events) }
+    ensures allowed { (top : TopologyValue) (events : List Event) → is_topology top.dcs top.shards top.homes ≡ true → DeliveriesAreAllowed top (run top events) }
     ensures fewer { (top : TopologyValue) (events : List Event) → is_topology top.dcs top.shards top.homes ≡ true → DeliveriesLeaveFewer top (run top events) }
 {}
