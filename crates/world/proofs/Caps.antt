@@ -1,5 +1,5 @@
--- How many of a thing there can be at most, by the submissions: decisions of a shard, transactions that a read asks for, cohorts
--- and dependencies of a ballot.
+-- How many there can be at most, by the submissions: decisions of a shard, transactions that a read asks for, cohorts and
+-- dependencies of a ballot.
 use Rattle.std.proofs.Common.{◌≡◌, ◌∙◌, ℕ, ◌+◌, ◌≤◌, List, [], ◌∷◌, map, length, ◌⊎◌, inl, inr, refl, sym, ap, subst, arith, not, ◌&&◌}
 use Rattle.std.specs.Prelude.{◌==◌}
 use Rattle.std.specs.declared.cmp.Ordering.TheVariants.{Less}
@@ -27,7 +27,8 @@ use Rattle.world.proofs.Invariant.{Says, Inv}
 use Rattle.world.proofs.AskedMarks.{writer_at, asked_prepared}
 use Rattle.world.proofs.Unfinished.{equal_self}
 use Rattle.world.proofs.Totals.{total_capped}
-use Rattle.world.proofs.Descents.{filter_short, Fits, AreWithin, IsWithin}
+use Rattle.world.proofs.NewDecisions.{filter_short}
+use Rattle.world.proofs.DecisionDescents.{Fits, AreWithin, IsWithin}
 
 -- ## Lists
 

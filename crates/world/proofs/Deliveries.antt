@@ -1,4 +1,5 @@
--- What the delivery of one message makes of a run: it meets a spent clock, or the message is handled and the run is nearer to its end.
+-- What the delivery of one message makes of a run: it meets a spent clock, or the message is handled, and the run is nearer
+-- to its end.
 use Rattle.std.proofs.Common.{◌≡◌, ◌∙◌, ℕ, ◌+◌, ◌*◌, ◌<◌, ◌≤◌, max, Bool, true, false, cond, List, [], ◌∷◌, ◌++◌, length, slice_get, Option, Some, None, ◌⊎◌, inl, inr, refl, sym, ap, subst, arith, ltb-true, eq-eqb}
 use Rattle.std.specs.Prelude.{◌≢◌, ◌==◌, ◌^◌, nat_lt, if◌then◌else◌, filter_map, Ok}
 use Rattle.std.proofs.lemmas.List.{length-append}
@@ -24,7 +25,9 @@ use Rattle.world.proofs.Addresses.{stands}
 use Rattle.world.proofs.Addressed.{messages_are_for_actors}
 use Rattle.world.proofs.HeardRuns.{changed_actor}
 use Rattle.world.proofs.Totals.{total_one}
-use Rattle.world.proofs.Descents.{Descends, handled_descends, heard_sinks}
+use Rattle.world.proofs.DecisionDescents.{Descends}
+use Rattle.world.proofs.Descents.{handled_descends}
+use Rattle.world.proofs.SessionDescents.{heard_sinks}
 use Rattle.world.proofs.Caps.{decisions_capped, shard_within, message_within}
 
 -- what waits on all shards

@@ -11,7 +11,8 @@ use Rattle.messages.specs.SessionEvents.{heard, session_handle}
 use Rattle.messages.specs.Submitting.{begun, submit_fault, submit_if as submitted_if}
 use Rattle.world.specs.Run.{Run, Event, Submit, Deliver, Collect, after_shard, after_session, after_submission, submit_if, deliver_if, deliver_for, collect_if, step}
 
--- What holds of each thing that an event may make of the run holds of what it makes. Each step is at the clock that its actor moves to.
+-- What holds of each thing that an event may make of the run holds of what it makes. Each step is at the clock that its
+-- actor moves to.
 pub record TimedCases (top : TopologyValue) (w : Run) (x : Event) (P : Run → Type 0) : Type 0 where
   -- it is refused, or of no actor
   pub nothing : P w

@@ -109,7 +109,11 @@ pub mod SubmittedLive
 pub mod LiveEvents
 pub mod LaterCommits
 pub mod Laws
+pub mod NewDecisions
+pub mod Costs
+pub mod DecisionDescents
 pub mod Descents
+pub mod SessionDescents
 pub mod Totals
 pub mod Caps
 pub mod Deliveries

@@ -1,5 +1,5 @@
--- Why deliveries of what wasn't handled come to an end: each handled message is one step down a ladder of ranks, but for
--- decisions, of which there are only so many.
+-- Why deliveries of what wasn't handled come to an end, and after how many: each handled message is a step down a ladder of
+-- ranks, but for decisions, and there are only so many.
 use Rattle.std.specs.Prelude.{◌≡◌, ◌≢◌, ℕ, zero, suc, ◌+◌, ◌-◌, ◌*◌, ◌^◌, ◌<◌, ◌≤◌, ◌==◌, max, true, not, if◌then◌else◌, ◌⊎◌, List, [], ◌∷◌, ◌++◌, length, filter, slice_get, Option, Some, None, is_some, Contains}
 use Rattle.std.specs.List.{list_any, sum_by}
 use Rattle.logical_time.specs.declared.fault.Fault.TheVariants.{ClockSpent}
@@ -17,8 +17,8 @@ use Rattle.world.specs.Refusals.{Refused, refusal_of, clock_at}
 
 -- ## Ranks
 
--- How far a message is from those that lead to no other. Beside each stands what handling it sends where nothing is decided: all
--- that stands further down. Only a decision sends something from further up, Commit and ReplBegin.
+-- How far a message is from those that lead to no other. Beside each stands what handling it sends where nothing is
+-- decided, and that stands further down. So only a decision closes a cycle: Commit and ReplBegin go up.
 abbrev pub rank : Body → ℕ
 rank (Read number read) = 8  -- PartNow
 rank (PartNow number rows) = 7  -- ReadAt
@@ -68,8 +68,8 @@ HasSame before after = (m : ℕ) → (after.shards m).decided ≡ (before.shards
 
 -- ## Deliveries
 
--- The message of this number was delivered and handled: then one shard has one decision more, or none has another and all that
--- is sent is of a lower rank.
+-- The message of this number was delivered and handled: then one shard has one decision more, or none has another and all
+-- that is sent is of a lower rank.
 pub record ComesNearer (top : TopologyValue) (before after : Run) (k : ℕ) (e : Envelope) : Type 0 where
   pub handled : handled after ≡ handled before ++ k ∷ []
   pub sends : List Envelope
@@ -99,8 +99,8 @@ pub record ClocksCountEvents (w : Run) : Type 0 where
 
 -- ## Costs
 
--- what the costs of messages depend on beside the topology: how many operations were submitted, and how many transactions one of
--- them depends on at most
+-- what the costs of messages depend on beside the topology: how many operations were submitted, and how many transactions
+-- one of them depends on at most
 pub record Sizes : Type 0 where
   pub operations : ℕ
   pub dependencies : ℕ
@@ -141,8 +141,8 @@ cost_of_part_now top s = 1 + top.shards * cost_of_read_at top s
 abbrev pub cost_of_ballot : TopologyValue → ℕ → ℕ
 cost_of_ballot top dependencies = 1 + top.shards * 2 + dependencies * cost_of_part top
 
--- How many deliveries a message leads to at most until something is decided, its own included. What waits for it on a shard is
--- counted there.
+-- How many deliveries a message leads to at most until something is decided, its own included. What waits for it on a shard
+-- is counted there.
 abbrev pub cost : TopologyValue → Sizes → Body → ℕ
 cost top s (Read number read) = 1 + cost_of_part_now top s
 cost top s (PartNow number rows) = cost_of_part_now top s
@@ -183,8 +183,8 @@ abbrev pub cost_of_waiting : TopologyValue → ShardState → ℕ
 cost_of_waiting top a =
     length a.waiting + length (filter (λ k. not (is_some (decision_of k.dependency a))) a.askers) * cost_of_notice top
 
--- How many deliveries of what wasn't handled can follow at most, in whatever order: by the messages that weren't handled, what
--- waits on shards, and the decisions that are left.
+-- How many deliveries of what wasn't handled can follow at most, in whatever order: by the messages that weren't handled,
+-- what waits on shards, and the decisions that are left.
 abbrev pub deliveries_left : TopologyValue → Run → ℕ
 deliveries_left top w =
     cost_of_unhandled top (sizes_of w.submitted) (handled w) 0 w.sent + total (λ node. cost_of_waiting top (w.shards node)) (shard_count top)
