@@ -1,5 +1,5 @@
 -- Worked runs against forms that resemble what is promised of drains.
-use Rattle.std.proofs.Common.{◌≡◌, ℕ, ◌<◌, refl, List, [], ◌∷◌, length, slice_index_or}
+use Rattle.std.proofs.Common.{◌≡◌, refl, [], ◌∷◌, length, slice_index_or}
 use Rattle.std.specs.Prelude.{◌==◌, drop}
 use Rattle.messages.specs.declared.body.Body.TheVariants as body
 use Rattle.messages.specs.declared.envelope.Envelope.{Envelope}
