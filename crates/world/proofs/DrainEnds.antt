@@ -148,6 +148,11 @@ leaves_fewer top w x k e capped still n there none =
 
 -- ## Drains
 
+-- nothing is delivered once all is handled
+pub drained_quiet : (top : TopologyValue) (n : ℕ) (w : Run) → first_unhandled w ≡ None → drained top n w ≡ w
+drained_quiet top zero w none = refl
+drained_quiet top (suc n) w none = ap (λ o. drained top n (with_delivered top w o)) none ∙ drained_quiet top n w none
+
 module _ (top : TopologyValue) (ok : is_topology top.dcs top.shards top.homes ≡ true) where
   -- a run with one more delivery, of what wasn't handled and isn't refused
   onwards : (events : List Event) (k : ℕ) (e : Envelope) → slice_get (run top events).sent k ≡ Some e → (Contains (handled (run top events)) k → ⊥)
@@ -207,11 +212,6 @@ module _ (top : TopologyValue) (ok : is_topology top.dcs top.shards top.homes �
       let e = get_there (run top events).sent k lt in
       added_is_allowed top (run top events) (Deliver k) (goes events k e.0 e.1 none room).events
 
-  -- nothing is delivered once all is handled
-  drained_quiet : (n : ℕ) (w : Run) → first_unhandled w ≡ None → drained top n w ≡ w
-  drained_quiet zero w none = refl
-  drained_quiet (suc n) w none = ap (λ o. drained top n (with_delivered top w o)) none ∙ drained_quiet n w none
-
   -- a drain of a run is a run, quiet, with no more events than were left
   record Ended (w x : Run) (left : ℕ) : Type 0 where
     events : List Event
@@ -227,7 +227,7 @@ module _ (top : TopologyValue) (ok : is_topology top.dcs top.shards top.homes �
 
   ended : (n : ℕ) (events : List Event) → first_unhandled (run top events) ≡ None → EndsBy n events
   ended n events none le room =
-      subst (λ x. Ended (run top events) x (deliveries_left top (run top events))) (sym (drained_quiet n (run top events) none))
+      subst (λ x. Ended (run top events) x (deliveries_left top (run top events))) (sym (drained_quiet top n (run top events) none))
       (record { events = events; is = refl; quiet = (finds_unhandled (run top events)).none.0 none; count = omega arith })
 
   goes_on : (n : ℕ) (events : List Event) (k : ℕ) → first_unhandled (run top events) ≡ Some k → EndsBy n (events ++ Deliver k ∷ []) → EndsBy (suc n) events
