@@ -7,6 +7,7 @@ mod RefutedFreshness
 mod RefutedHistories
 mod RefutedOutcomes
 mod RefutedShards
+mod RefutedDrains
 mod WorkedFreshness
 pub mod Among
 pub mod Growth
@@ -108,6 +109,16 @@ pub mod SubmittedLive
 pub mod LiveEvents
 pub mod LaterCommits
 pub mod Laws
+pub mod NewDecisions
+pub mod Costs
+pub mod DecisionDescents
+pub mod Descents
+pub mod SessionDescents
+pub mod Totals
+pub mod Caps
+pub mod Deliveries
+pub mod EventCounts
+pub mod DrainEnds
 pub mod GivenUp
 pub mod KeptAnswers
 pub mod FirstRounds

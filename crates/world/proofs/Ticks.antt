@@ -91,7 +91,7 @@ part_at_own Idle top me n a from m answer = (refl, none)
 part_at_own (Writing coordinator) top me n a from m answer = (refl, none)
 part_at_own (FirstRound read hs) top me n a from m answer = (refl, none)
 
-heard_own : (top : TopologyValue) (me n : ℕ) (a : SessionState) (from : ℕ) (b : Body) → IsOwnHere me n (heard top me n a from b)
+pub heard_own : (top : TopologyValue) (me n : ℕ) (a : SessionState) (from : ℕ) (b : Body) → IsOwnHere me n (heard top me n a from b)
 heard_own top me n a from (Done t commit stamp) = done_own a.current me n a t commit stamp
 heard_own top me n a from (PartNow m rows) = part_now_own a.current top me n a from m rows
 heard_own top me n a from (PartAt m time answer) = part_at_own a.current top me n a from m answer
@@ -111,7 +111,7 @@ heard_own top me n a from (PrepareRemote t) = (refl, none)
 heard_own top me n a from (DepCheck dependency waiter) = (refl, none)
 heard_own top me n a from (DepOk dependency waiter commit) = (refl, none)
 
-begun_own : (top : TopologyValue) (me n : ℕ) (a : SessionState) (o : Op) → IsOwnHere me n (begun top me n a o)
+pub begun_own : (top : TopologyValue) (me n : ℕ) (a : SessionState) (o : Op) → IsOwnHere me n (begun top me n a o)
 begun_own top me n a (op.Batch batch) = (
   refl,
   first (begin_of top me n a batch) (map (prepare_of top me n a batch) (cohorts_of top.shards batch)) (refl, refl)

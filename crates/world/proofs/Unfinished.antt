@@ -36,7 +36,7 @@ use Rattle.world.proofs.Runs.{every_run}
 equal_numbers : (a b c d e f : ℕ) → is_eq (ordering_then (ordering_then (nat_cmp a b) (nat_cmp c d)) (nat_cmp e f)) ≡ true → (a ≡ b) × (c ≡ d) × (e ≡ f)
 equal_numbers a b c d e f q = (grind (arith, nat_tests), grind (arith, nat_tests), grind (arith, nat_tests))
 
-equal_self : (a c e : ℕ) → is_eq (ordering_then (ordering_then (nat_cmp a a) (nat_cmp c c)) (nat_cmp e e)) ≡ true
+pub equal_self : (a c e : ℕ) → is_eq (ordering_then (ordering_then (nat_cmp a a) (nat_cmp c c)) (nat_cmp e e)) ≡ true
 equal_self a c e = grind (arith, nat_tests)
 
 same_writer : (v w : WriterValue) → is_eq (writer_cmp v w) ≡ true → v ≡ w

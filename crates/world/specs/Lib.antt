@@ -6,6 +6,7 @@ pub mod Met
 pub mod Fresh
 pub mod Worked
 pub mod WorkedTimes
+pub mod WorkedDrains
 pub mod Committed
 pub mod Entries
 pub mod Refusals
@@ -25,3 +26,4 @@ pub mod Holds
 pub mod Steps
 pub mod Log
 pub mod Asked
+pub mod Drains

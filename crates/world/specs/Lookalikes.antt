@@ -1,6 +1,6 @@
 -- Forms that resemble the promises and are false. Each is a promise with one bound, one premise or one data centre changed,
 -- and worked runs refute it.
-use Rattle.std.specs.Prelude.{◌≡◌, ◌≢◌, ℕ, ◌+◌, ◌-◌, ◌<◌, ◌≤◌, true, List, ◌++◌, length, map, Some, Contains, AllPairs}
+use Rattle.std.specs.Prelude.{◌≡◌, ◌≢◌, ℕ, ◌+◌, ◌-◌, ◌<◌, ◌≤◌, true, List, ◌++◌, length, map, slice_get, Some, None, Contains, AllPairs}
 use Rattle.std.specs.List.{list_any}
 use Rattle.logical_time.specs.Stamps.{StampValue, TxnValue, is_older}
 use Rattle.column_family.specs.declared.batch.Change.{Change}
@@ -17,14 +17,16 @@ use Rattle.planner.specs.Plan.{coordinator_of}
 use Rattle.messages.specs.declared.envelope.Envelope.{Envelope}
 use Rattle.messages.specs.declared.op.Op.TheVariants as op
 use Rattle.messages.specs.declared.outcome.Outcome.TheVariants as outcome
-use Rattle.messages.specs.Topology.{TopologyValue, is_shard, shard_node}
+use Rattle.messages.specs.declared.body.Body.{Body}
+use Rattle.messages.specs.declared.body.Body.TheVariants as body
+use Rattle.messages.specs.Topology.{TopologyValue, is_shard, shard_count, shard_node}
 use Rattle.messages.specs.declared.event.Event.TheVariants.{Handle}
 use Rattle.messages.specs.Actors.{outcomes_by}
 use Rattle.messages.specs.Honest.{IsHonest}
 use Rattle.messages.specs.Shard.{Decision}
 use Rattle.messages.specs.Session.{Finished}
 use Rattle.shard.specs.Events.{shard_run}
-use Rattle.world.specs.Run.{Run, Event, Submission, Completed, run}
+use Rattle.world.specs.Run.{Run, Event, Deliver, Submission, Completed, step, run}
 use Rattle.world.specs.Journals.{journal_in}
 use Rattle.world.specs.Histories.{batch_submitted, decisions_in, history_of, IsHistory}
 use Rattle.world.specs.Quiet.{handled, IsQuiet}
@@ -36,6 +38,8 @@ use Rattle.world.specs.Entries.{named_by, IsOf, IsKeptIn}
 use Rattle.world.specs.Promises.{number_of, IsAnswered, TouchesAsked}
 use Rattle.world.specs.Settled.{IsCommittedIn, Settled}
 use Rattle.world.specs.Each.{IsRightInRun}
+use Rattle.world.specs.Refusals.{refusal_of}
+use Rattle.world.specs.Drains.{rank, total, HasSame, deliveries_left, drained}
 
 -- ## One table, and the past
 
@@ -319,3 +323,41 @@ TablesAreEqualOneBefore top w =
 -- each operation is completed, so no read is given up
 abbrev pub QuietMeansCompleted : Run → Type 0
 QuietMeansCompleted w = IsQuiet w → (c : Completed) → Contains w.transcript c → completes c.outcome ≡ true
+
+-- ## Drains
+
+-- Yes is of a rank above that of ReplBegin
+abbrev pub rank_with_yes_above : Body → ℕ
+rank_with_yes_above (body.Yes txn) = 5
+rank_with_yes_above other = rank other
+
+-- with such ranks, too, all is of a lower rank that is sent where nothing is decided
+abbrev pub LowerWithYesAbove : TopologyValue → Run → Type 0
+LowerWithYesAbove top w =
+    (k : ℕ) (e f : Envelope) (sends : List Envelope)
+    → slice_get w.sent k ≡ Some e → (step top w (Deliver k)).sent ≡ w.sent ++ sends → HasSame w (step top w (Deliver k)) → Contains sends f
+    → rank_with_yes_above f.body < rank_with_yes_above e.body
+
+-- all that is sent is of a lower rank, also by a decision
+abbrev pub SendsAreLower : TopologyValue → Run → Type 0
+SendsAreLower top w =
+    (k : ℕ) (e f : Envelope) (sends : List Envelope)
+    → slice_get w.sent k ≡ Some e → (step top w (Deliver k)).sent ≡ w.sent ++ sends → Contains sends f → rank f.body < rank e.body
+
+-- how many deliveries are left, if one forgets the reads that wait
+abbrev pub left_without_waiting : TopologyValue → Run → ℕ
+left_without_waiting top w = deliveries_left top w - total (λ node. length (w.shards node).waiting) (shard_count top)
+
+-- each delivery of what wasn't handled leaves fewer of those
+abbrev pub FewerWithoutWaiting : TopologyValue → Run → Type 0
+FewerWithoutWaiting top w =
+    (k : ℕ) → k < length w.sent → (Contains (handled w) k → ⊥) → refusal_of top w (Deliver k) ≡ None
+    → left_without_waiting top (step top w (Deliver k)) < left_without_waiting top w
+
+-- so many deliveries are enough as there are messages that weren't handled
+abbrev pub UnhandledAreEnough : TopologyValue → Run → Type 0
+UnhandledAreEnough top w = (n : ℕ) → length w.sent ≤ length (handled w) + n → IsQuiet (drained top n w)
+
+-- each clock is below the number of events
+abbrev pub ClocksAreBelowEvents : Run → Type 0
+ClocksAreBelowEvents w = (node : ℕ) → (w.sessions node).clock < length w.events

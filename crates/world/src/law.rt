@@ -12,7 +12,9 @@ ghost use Rattle.world.specs.Quiet.{IsQuiet};
 ghost use Rattle.world.specs.Met.{horizon};
 ghost use Rattle.world.specs.Before.{Past};
 ghost use Rattle.world.specs.Worked.{operation, outcomes_of, shard_clocks, times_sent, valid_in, commit_times, prepare_times, times_applied, x_at, wrote, column, row, insert, digit, key_a, key_b, key_c, name_c, name_d, name_x, name_y, both_rows, one_shard, two_shards, two_centres, three_at_home, two_by_two};
-ghost use Rattle.world.specs.Worked.{insert_and_read_back, messages_come_again, deletion_is_read, two_shard_write, read_asks_coordinator, second_round_collected, collected_while_waiting, horizon_at_effective_time, late_repeats, undecided_is_excluded, unseen_column_under_mark, concurrent_inserts_meet, older_stamp_arrives_late, dependency_holds_back, read_before_dependency, dependency_through_a_read, write_is_replicated};
+ghost use Rattle.world.specs.Drains.{deliveries_left};
+ghost use Rattle.world.specs.WorkedDrains.{deliveries_taken, batch_for_both, two_reads_wait};
+ghost use Rattle.world.specs.Worked.{only_submitted, insert_and_read_back, messages_come_again, deletion_is_read, two_shard_write, read_asks_coordinator, second_round_collected, collected_while_waiting, horizon_at_effective_time, late_repeats, undecided_is_excluded, unseen_column_under_mark, concurrent_inserts_meet, older_stamp_arrives_late, dependency_holds_back, read_before_dependency, dependency_through_a_read, write_is_replicated};
 ghost use Rattle.world.specs.WorkedTimes.{two_shards_of_three, both_wait, one_is_let_go, reads_wait_at_two_times, times_waited, read_after_a_read, row_without_deletion, row_with_newer_deletion, row_with_older_deletion};
 
 /// The events that a run keeps, which are those that weren't refused, lead to the same run. Does nothing; its contract is
@@ -172,4 +174,16 @@ pub fn worked_times()
     ensures older_deletion { outcomes_of row_with_older_deletion 2 ≡ outcome.Read 5 (row key_b (column name_x 1 ∷ []) ∷ []) ∷ [] }
     ensures older_deletion_valid { valid_in row_with_older_deletion 5 ≡ 5 ∷ 6 ∷ [] }
     ensures older_deletion_alone { valid_in row_with_older_deletion 7 ≡ 2 ∷ 7 ∷ [] }
+{}
+
+/// How many deliveries are left of worked runs, and how many their drains take: of a write to one shard; of a batch for both
+/// shards of two data centres; of a run in which two reads wait for a batch that isn't decided. Does nothing; its contract is
+/// the law.
+pub fn worked_drains()
+    ensures one_write { deliveries_left one_shard only_submitted ≡ 10 }
+    ensures one_write_takes { deliveries_taken one_shard only_submitted ≡ 2 }
+    ensures batch { deliveries_left two_by_two batch_for_both ≡ 151 }
+    ensures batch_takes { deliveries_taken two_by_two batch_for_both ≡ 11 }
+    ensures waiting { deliveries_left two_shards_of_three two_reads_wait ≡ 227 }
+    ensures waiting_takes { deliveries_taken two_shards_of_three two_reads_wait ≡ 9 }
 {}

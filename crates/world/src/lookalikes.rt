@@ -3,6 +3,9 @@ ghost use Rattle.std.specs.Prelude.{[], ◌++◌};
 ghost use Rattle.world.specs.Run.{run};
 ghost use Rattle.world.specs.Worked.{one_shard, home_is_nowhere, two_shards, three_sessions, two_centres, two_by_two, three_at_home, insert_then_read, submitted_twice, told_before_the_cohort, cohort_is_read, b_is_read, a_is_written, both_are_read, a_is_written_next};
 ghost use Rattle.world.specs.Worked.{insert_and_read_back, only_submitted, sent_to_itself, two_shard_write, second_round_collected, read_beside_a_write, write_after_the_answer, concurrent_inserts_meet, older_stamp_arrives_late, dependency_holds_back, deletion_is_read, write_is_replicated, collected_and_quiet};
+ghost use Rattle.world.specs.WorkedTimes.{two_shards_of_three};
+ghost use Rattle.world.specs.WorkedDrains.{one_is_answered, batch_for_two, batch_is_prepared};
+ghost use Rattle.world.specs.Lookalikes.{LowerWithYesAbove, SendsAreLower, FewerWithoutWaiting, UnhandledAreEnough, ClocksAreBelowEvents};
 ghost use Rattle.world.specs.Lookalikes.{ReadsShowEarlierTable, ReadsShowLaterTable, ReadsShowFirstCentre, PastIsBelow, PastIsInFirstCentre, PastIsShown, CommitsAreAbove, LaterCommitsOfAnyRowAreAbove, LaterCommitsAreFarAbove, ReadsAreAboveTheirHome, CompletedWritesAreShown};
 ghost use Rattle.world.specs.Lookalikes.{ReadsAreNewer, OtherRowsAreFresh, OtherColumnsAreFresh, ReadsAreFreshAtDelivery, HistoriesNeverGrow, SubmittedBatchesHaveEntries, EntriesHaveOwnTimes, FirstCentreDecides, CommitTimesAgree, StampsAreCommitTimes, StampsAreBelowCommitTimes, CommitTimesFollowCauses, StampsTellCauses};
 ghost use Rattle.world.specs.Lookalikes.{WritesAreToldInFirstCentre, CompletedWritesAreEverywhere, TimesRise, TimesOfACentreNeverFall, SessionsEndOnce, SessionsSubmitOnce, NothingIsGivenUp, AllEndAsWrites, SubmissionsEnd, OutcomesAreListedNext, RunsKeepAllEvents, SentIsHonest, EnvelopesMakeShards, EachNodeIsRight, NearlyQuietMeansDone, QuietMeansDoneAnywhere, TablesAreEqualOnceOneIsDone, TablesAreEqualOneBefore, QuietMeansCompleted};
@@ -94,4 +97,15 @@ pub fn lookalikes_of_quiet_runs_are_false()
     ensures one_is_done { ¬ (TablesAreEqualOnceOneIsDone two_by_two write_is_replicated) }
     ensures one_before { ¬ (TablesAreEqualOneBefore two_by_two write_is_replicated) }
     ensures completed { ¬ (QuietMeansCompleted collected_and_quiet) }
+{}
+
+/// Where Yes stood above ReplBegin in rank, Prepare would send what is above it; a decision does send what is above its message.
+/// A read that is let go costs a delivery, and so does what a message leads to. A clock can be the number of events. Does
+/// nothing; its contract is the law.
+pub fn lookalikes_of_drains_are_false()
+    ensures yes_above { ¬ (LowerWithYesAbove two_shards batch_for_two) }
+    ensures decisions { ¬ (SendsAreLower two_shards batch_is_prepared) }
+    ensures waiting { ¬ (FewerWithoutWaiting two_shards_of_three one_is_answered) }
+    ensures unhandled { ¬ (UnhandledAreEnough one_shard only_submitted) }
+    ensures clocks { ¬ (ClocksAreBelowEvents only_submitted) }
 {}

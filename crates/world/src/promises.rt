@@ -8,6 +8,7 @@ ghost use Rattle.world.specs.Histories.{IsHistory};
 ghost use Rattle.world.specs.Fresh.{FirstRoundsAreWhole};
 ghost use Rattle.world.specs.Quiet.{IsQuiet};
 ghost use Rattle.world.specs.Settled.{Settled};
+ghost use Rattle.world.specs.Drains.{ClocksCountEvents, DeliveriesComeNearer, DecisionsAreCapped, DeliveriesAreAllowed, DeliveriesLeaveFewer, DrainsEnd};
 ghost use Rattle.world.specs.Lookups.{FindsUnhandled, HistoriesAreAsked, MessagesAreForActors, ShardsTellUnfinished};
 ghost use Rattle.world.specs.Named.{StampsAreNamed};
 ghost use Rattle.world.specs.Causes.{PastsAreDecided};
@@ -145,4 +146,30 @@ pub fn runs_can_be_looked_up()
 /// is the law.
 pub fn quiet_means_done()
     ensures { (top : TopologyValue) (events : List Event) → is_topology top.dcs top.shards top.homes ≡ true → IsQuiet (run top events) → Settled top (run top events) }
+{}
+
+/// In every run no clock and no time of a message is above the number of events. So no clock is spent before there were 2^48
+/// events. Does nothing; its contract is the law.
+#[tactic(auto, using(crate::proofs::EventCounts::clocks_count_events))]
+pub fn clocks_count_events()
+    ensures { (top : TopologyValue) (events : List Event) → ClocksCountEvents (run top events) }
+{}
+
+/// In every run each message that was sent, when it is delivered, is handled or meets a spent clock. Where it is handled, one
+/// shard has one decision more, or none has another and all that is sent is of a lower rank than the message; and no shard
+/// decides more than was submitted. So nothing goes round: no message leads to others for ever. Does nothing; its contract
+/// is the law.
+pub fn deliveries_come_nearer()
+    ensures nearer { (top : TopologyValue) (events : List Event) → is_topology top.dcs top.shards top.homes ≡ true → DeliveriesComeNearer top (run top events) }
+    ensures decisions { (top : TopologyValue) (events : List Event) → 0 < top.shards → DecisionsAreCapped top (run top events) }
+{}
+
+/// A drain ends: from every run, delivering again and again the first message that wasn't handled makes the run quiet, so
+/// that all is done, by no more deliveries than `deliveries_left` counts, as long as the clocks have room for them. Until then
+/// a delivery of any message that wasn't handled isn't refused, and leaves fewer: so no order of them goes on for ever. Does
+/// nothing; its contract is the law.
+pub fn drains_end()
+    ensures ends { (top : TopologyValue) (events : List Event) → is_topology top.dcs top.shards top.homes ≡ true → DrainsEnd top (run top events) }
+    ensures allowed { (top : TopologyValue) (events : List Event) → is_topology top.dcs top.shards top.homes ≡ true → DeliveriesAreAllowed top (run top events) }
+    ensures fewer { (top : TopologyValue) (events : List Event) → is_topology top.dcs top.shards top.homes ≡ true → DeliveriesLeaveFewer top (run top events) }
 {}
