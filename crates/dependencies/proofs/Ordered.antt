@@ -1,45 +1,25 @@
--- Writers put in order one by one, from the last to the first.
+-- Writers put in order.
 use Rattle.std.proofs.Common.{◌≡◌, List, [], ◌∷◌, ◌++◌, refl, ap, ◌∙◌, sym, append-nil}
-use Rattle.std.specs.declared.cmp.Ordering.{Ordering}
-use Rattle.std.specs.declared.cmp.Ordering.TheVariants.{Less, Equal, Greater}
-use Rattle.std.specs.Ordering.{match_ordering}
-use Rattle.std.specs.List.{AllByRecursion}
-use Rattle.std.specs.List.Sorted.{IsStrictlySortedBy}
-use Rattle.std.specs.BTreeSet.{insert_key}
+use Rattle.std.specs.declared.cmp.Ordering.TheVariants.{Less}
+use Rattle.std.specs.List.{AllByRecursion, dedup}
+use Rattle.std.specs.Prelude.{Contains, IsSorted}
+use Rattle.std.specs.List.Sorted.{IsPermutation, IsStrictlySortedBy}
+use Rattle.std.proofs.lemmas.List.Sorted.{Contains-permutation, IsPermutation-sym}
 use Rattle.logical_time.specs.Stamps.{WriterValue, writer_cmp}
+use Rattle.store.proofs.SameParts.{same_sorted}
+use Rattle.store.proofs.WriterOrder.{exact_writer, kept_once, only_kept, same_writer, strictly_sorted, writer_total}
 use Rattle.messages.specs.Words.{placed_writer, with_writer, in_writer_order}
-use Rattle.messages.proofs.WritersInOrder.{writers_ascend}
-use Rattle.dependencies.specs.Ordering.{put_among}
+use Rattle.messages.proofs.WritersInOrder.{writers_ascend, writers_stay}
 
-pub put_among_none : (ws : List WriterValue) → put_among ws [] ≡ in_writer_order ws
-put_among_none [] = refl
-put_among_none (w ∷ ws) = ap (with_writer w) (put_among_none ws)
-
-placed_alike : (o : Ordering) (w x : WriterValue) (xs ks : List WriterValue) → match_ordering o (w ∷ x ∷ xs) (x ∷ xs) (x ∷ ks) ≡ placed_writer o w x xs ks
-placed_alike Less w x xs ks = refl
-placed_alike Equal w x xs ks = refl
-placed_alike Greater w x xs ks = refl
-
--- a set takes a writer as `with_writer` does
-insert_key_is : (xs : List WriterValue) (w : WriterValue) → insert_key writer_cmp xs w ≡ with_writer w xs
-insert_key_is [] w = refl
-insert_key_is (x ∷ xs) w =
-    ap (λ ks. match_ordering (writer_cmp w x) (w ∷ x ∷ xs) (x ∷ xs) (x ∷ ks)) (insert_key_is xs w) ∙ placed_alike (writer_cmp w x) w x xs (with_writer w xs)
-
-put_among_last : (ws xs : List WriterValue) (w : WriterValue) → put_among (ws ++ w ∷ []) xs ≡ put_among ws (with_writer w xs)
-put_among_last [] xs w = refl
-put_among_last (v ∷ ws) xs w = ap (with_writer v) (put_among_last ws xs w)
-
--- the step of a loop that puts the last of what is left into a set
-pub put_among_insert : (all ws xs : List WriterValue) (w : WriterValue) → all ≡ ws ++ w ∷ [] → put_among all xs ≡ put_among ws (insert_key writer_cmp xs w)
-put_among_insert all ws xs w e = ap (λ ks. put_among ks xs) e ∙ (put_among_last ws xs w ∙ ap (put_among ws) (sym (insert_key_is xs w)))
-
-put_among_both : (ws vs xs : List WriterValue) → put_among ws (put_among vs xs) ≡ put_among (ws ++ vs) xs
-put_among_both [] vs xs = refl
-put_among_both (w ∷ ws) vs xs = ap (with_writer w) (put_among_both ws vs xs)
-
-pub both_among : (ws vs : List WriterValue) → put_among ws (put_among vs []) ≡ in_writer_order (ws ++ vs)
-both_among ws vs = put_among_both ws vs [] ∙ put_among_none (ws ++ vs)
+-- sorted and each once, they stand in order
+pub sorted_once : (ws vs all : List WriterValue) → IsSorted writer_cmp vs → IsPermutation ws vs → all ≡ dedup same_writer vs → all ≡ in_writer_order ws
+sorted_once ws vs all sorted permuted is =
+    is
+    ∙ same_sorted writer_cmp writer_total exact_writer (dedup same_writer vs) (in_writer_order ws) (strictly_sorted vs sorted) (writers_ascend ws)
+    (λ w. (
+      (λ has. (writers_stay ws w).1 (Contains-permutation vs ws w (IsPermutation-sym ws vs permuted) (only_kept vs w has))),
+      (λ has. kept_once vs w (Contains-permutation ws vs w permuted ((writers_stay ws w).0 has))),
+    ))
 
 first_stays : (w : WriterValue) (ws : List WriterValue) → AllByRecursion (λ y. writer_cmp w y ≡ Less) ws → with_writer w ws ≡ w ∷ ws
 first_stays w [] h = refl

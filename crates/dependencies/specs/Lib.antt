@@ -1,4 +1,3 @@
-pub mod Ordering
 pub mod DepSet
 pub mod Waiting
 pub mod Askers
