@@ -1,0 +1,12 @@
+//! Requests and replies as frames, and a reader of frames that come in pieces.
+//!
+//! `specs/` has the grammar: `Requests` and `Replies` say what is written, `Reading` what is read, with the first
+//! fault from the left, and `Frames` what stands first in a stream. Nothing here knows of sockets or sessions.
+#![tactic(auto)]
+
+mod error;
+mod fields;
+mod front;
+
+mod reading;
+
