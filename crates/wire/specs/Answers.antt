@@ -1,10 +1,16 @@
 -- What the functions of the crate answer.
-use Rattle.std.specs.Prelude.{◌≡◌, ℕ, List, ◌++◌, length, nat_lt, Bool, true, false, Option, Some, None, Result, Ok, Err, if◌then◌else◌}
+use Rattle.std.specs.Prelude.{◌≡◌, ℕ, List, ◌++◌, length, nat_lt, nat_le, Bool, true, false, Option, Some, None, Result, Ok, Err, if◌then◌else◌}
 use Rattle.logical_time.specs.declared.fault.Fault.{Fault}
 use Rattle.logical_time.specs.declared.fault.Fault.TheVariants.{Memory, Oversize, Truncated}
 use Rattle.wire.specs.declared.error.FrameError.{FrameError}
 use Rattle.wire.specs.declared.error.FrameError.TheVariants as errors
+use Rattle.std.specs.Global.{Vec}
+use Rattle.wire.specs.Fields.{longest, frame}
 use Rattle.wire.specs.Frames.{ReaderValue, text, front_of, faulty}
+
+abbrev pub fault_of : FrameError → Fault
+fault_of errors.Memory = Memory
+fault_of (errors.Frame f) = f
 
 -- a reader answers what reading gives, and beside it only `Memory`
 abbrev pub Fails : {Y : Type 0} → FrameError → Result Y Fault → Type 0
@@ -39,3 +45,14 @@ end_fault None rest = if nat_lt 0 (length rest) then Some Truncated else None
 
 abbrev pub fault_at_end : ReaderValue → Option Fault
 fault_at_end s = end_fault s.fault s.rest
+
+-- a body gets its length where it isn't too long
+abbrev pub Closes : List ℕ → Result (Vec ℕ) FrameError → Type 0
+Closes body (Ok closed) = (nat_le (length body) longest ≡ true) × (closed.items ≡ frame body)
+Closes body (Err e) = Refuses e (nat_le (length body) longest)
+
+-- an encoder gives the spelling, and is refused with `Oversize` where there is none, and beside it only with `Memory`
+abbrev pub Encodes : Option (List ℕ) → Result (Vec ℕ) FrameError → Type 0
+Encodes spelled (Ok encoded) = spelled ≡ Some encoded.items
+Encodes spelled (Err errors.Memory) = Unit {0}
+Encodes spelled (Err (errors.Frame f)) = (f ≡ Oversize) × (spelled ≡ None)

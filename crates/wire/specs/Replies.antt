@@ -3,6 +3,7 @@ use Rattle.std.specs.Prelude.{ℕ, List, [], ◌∷◌, ◌++◌, length, nat_le
 use Rattle.byteorder.specs.Endian.{big_bytes}
 use Rattle.logical_time.specs.declared.fault.Fault.{Fault}
 use Rattle.logical_time.specs.Fault.{number_of}
+use Rattle.logical_time.specs.Stamps.{StampValue}
 use Rattle.slice.specs.declared.column.Column.{Column}
 use Rattle.slice.specs.declared.read.AnsweredRow.{AnsweredRow}
 use Rattle.messages.specs.declared.outcome.Outcome.{Outcome}
@@ -27,9 +28,13 @@ row r = sized 2 r.key ++ counted column r.columns
 abbrev pub fits_row : AnsweredRow → Bool
 fits_row r = is_sized 2 r.key && is_counted fits_column r.columns
 
+-- the commit time, and the stamp as its time and its node
+unfoldable pub commit_and_stamp : ℕ → StampValue → List ℕ
+commit_and_stamp commit stamp = big_bytes 8 commit ++ (big_bytes 8 stamp.time ++ big_bytes 2 stamp.node)
+
 -- 0x81, the commit time and the stamp; 0x82, the effective time and the rows; 0x83 alone
 abbrev pub outcome : Outcome → List ℕ
-outcome (Wrote commit stamp) = 129 ∷ (big_bytes 8 commit ++ (big_bytes 8 stamp.time ++ big_bytes 2 stamp.node))
+outcome (Wrote commit stamp) = 129 ∷ commit_and_stamp commit stamp
 outcome (Read effective answer) = 130 ∷ (big_bytes 8 effective ++ counted row answer)
 outcome Collected = 131 ∷ []
 

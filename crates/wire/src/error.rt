@@ -29,3 +29,17 @@ impl<T: Drop> From<AllocFailed<T>> for FrameError {
         FrameError::Memory
     }
 }
+
+impl FrameError {
+    ghost use Rattle.wire.specs.Answers.{fault_of};
+
+    /// The refusal that it is.
+    pub(crate) fn fault(self) -> Fault
+        ensures { result ≡ fault_of self }
+    {
+        match self {
+            FrameError::Memory => Fault::Memory,
+            FrameError::Frame(fault) => fault,
+        }
+    }
+}

@@ -9,4 +9,7 @@ mod fields;
 mod front;
 
 mod reading;
+mod writing;
+
+pub use writing::{encode_op, encode_refusal, encode_reply};
 
