@@ -7,9 +7,10 @@
 mod error;
 mod fields;
 mod front;
-
+mod reader;
 mod reading;
 mod writing;
 
+pub use reader::Reader;
 pub use writing::{encode_op, encode_refusal, encode_reply};
 
