@@ -1,9 +1,10 @@
 -- A stream of frames, in whatever pieces it comes.
-use Rattle.std.specs.Prelude.{◌≡◌, ℕ, ◌+◌, List, [], ◌∷◌, ◌++◌, length, take, drop, Bool, true, Option, Some, None, Result, Ok, Err, nat_lt, ◌⊎◌, if◌then◌else◌}
+use Rattle.std.specs.Prelude.{◌≡◌, ℕ, ◌+◌, ◌≤◌, List, [], ◌∷◌, ◌++◌, length, take, drop, Bool, true, Option, Some, None, Result, Ok, Err, nat_lt, ◌⊎◌, if◌then◌else◌}
 use Rattle.std.specs.List.{flat_map, list_all}
 use Rattle.byteorder.specs.Endian.{big_number}
 use Rattle.logical_time.specs.declared.fault.Fault.{Fault}
 use Rattle.logical_time.specs.declared.fault.Fault.TheVariants.{Oversize, Truncated}
+use Rattle.logical_time.specs.Fault.{number_of}
 use Rattle.messages.specs.declared.op.Op.{Op}
 use Rattle.wire.specs.Fields.{longest, frame}
 use Rattle.wire.specs.Requests.{request, is_spelled}
@@ -26,6 +27,10 @@ front_of bytes =
     else (if nat_lt longest (big_number 4 bytes) then faulty Oversize
     else (if nat_lt (length bytes) (4 + big_number 4 bytes) then waits
     else front_with (4 + big_number 4 bytes) (body_at (take (big_number 4 bytes) (drop 4 bytes)))))
+
+-- the faults of frames: `Oversize`, `UnknownTag`, `BadCount`, `TrailingBytes` and `Truncated`, by their numbers
+abbrev pub IsFrameFault : Fault → Type 0
+IsFrameFault f = (30 ≤ number_of f) × (number_of f ≤ 34)
 
 -- what a reader of a stream keeps: the requests not yet taken, the bytes after their frames, and why it stopped
 pub record ReaderValue : Type 0 where
