@@ -7,10 +7,12 @@
 mod error;
 mod fields;
 mod front;
+mod law;
 mod reader;
 mod reading;
 mod writing;
 
+pub use law::{what_is_spelled_is_read};
 pub use reader::Reader;
 pub use writing::{encode_op, encode_refusal, encode_reply};
 
