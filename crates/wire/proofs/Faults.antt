@@ -1,18 +1,16 @@
 -- The faults of frames have the numbers 30 to 34.
-use Rattle.std.proofs.Common.{◌≡◌, ℕ, zero, suc, ◌+◌, ◌≤◌, Bool, true, false, cond, ltb, ◌==◌, List, [], ◌∷◌, length, take, drop, Result, Ok, Err, refl, sym, subst, arith, inl, inr}
+use Rattle.std.proofs.Common.{◌≡◌, ℕ, zero, suc, ◌+◌, Bool, true, false, cond, ltb, ◌==◌, List, [], ◌∷◌, length, take, drop, Result, Ok, Err, refl, subst, arith, inl, inr}
 use Rattle.byteorder.specs.Endian.{big_number}
 use Rattle.logical_time.specs.declared.fault.Fault.{Fault}
 use Rattle.logical_time.specs.declared.fault.Fault.TheVariants.{Oversize, UnknownTag, BadCount, TrailingBytes, Truncated}
 use Rattle.column_family.specs.declared.batch.Change.{Change}
-use Rattle.column_family.specs.declared.batch.Mutation.{Mutation}
 use Rattle.column_family.specs.declared.batch.Mutation.TheVariants.{Insert, DeleteColumn, DeleteRow, DeleteRange}
-use Rattle.slice.specs.declared.predicate.Predicate.{Predicate}
 use Rattle.slice.specs.declared.predicate.Predicate.TheVariants.{Names, Range}
 use Rattle.messages.specs.declared.op.Op.{Op}
 use Rattle.messages.specs.declared.op.Op.TheVariants.{Batch, Read}
 use Rattle.wire.specs.Fields.{longest}
 use Rattle.wire.specs.Reading.{◌>>=◌, number_at, cut_at, sized_at, list_at, count_at, counted_at, insertion_at, deletion_at, range_deletion_at, mutation_at, change_at, flag_at, names_at, range_at, predicate_at, batch_at, read_at, request_at, whole_of, body_at}
-use Rattle.wire.specs.Frames.{Front, waits, faulty, whole, front_with, front_of, IsFrameFault}
+use Rattle.wire.specs.Frames.{waits, faulty, front_with, front_of, IsFrameFault}
 use Rattle.wire.proofs.Steps.{chosen}
 
 abbrev failed : (A : Type 0) → Fault → Result A Fault

@@ -1,14 +1,14 @@
 -- Fields that are spelled are read again.
-use Rattle.std.proofs.Common.{◌≡◌, ℕ, zero, suc, ◌+◌, ◌^◌, ◌<◌, ◌≤◌, Bool, true, false, ltb, ◌&&◌, List, [], ◌∷◌, ◌++◌, length, take, drop, Result, Ok, Err, refl, sym, ap, ◌∙◌, append_assoc, arith}
+use Rattle.std.proofs.Common.{◌≡◌, ℕ, suc, ◌^◌, ◌<◌, ◌≤◌, Bool, true, false, ltb, List, [], ◌∷◌, ◌++◌, length, Result, Ok, refl, ap, ◌∙◌, append_assoc, arith}
 use Rattle.std.specs.List.{flat_map, list_all}
 use Rattle.std.proofs.lemmas.Bool.{ltb-true, le-ltb, and_parts}
 use Rattle.std.proofs.lemmas.List.{length-append, take_at, drop_at}
 use Rattle.std.proofs.lemmas.List.Concat.{flat_map-cons}
-use Rattle.byteorder.specs.Endian.{big_number, big_bytes}
+use Rattle.byteorder.specs.Endian.{big_bytes}
 use Rattle.byteorder.specs.Numbers.{length-bytes_high_first, big_number-reads_back}
 use Rattle.logical_time.specs.declared.fault.Fault.{Fault}
 use Rattle.wire.specs.Fields.{sized, is_sized, counted, is_counted}
-use Rattle.wire.specs.Reading.{◌>>=◌, number_at, cut_at, sized_at, list_at, count_at, counted_at}
+use Rattle.wire.specs.Reading.{number_at, cut_at, sized_at, list_at, counted_at}
 use Rattle.wire.proofs.Steps.{AllAgain}
 
 pub number_again : (w n : ℕ) (rest : List ℕ) → n < 256 ^ w → number_at w (big_bytes w n ++ rest) ≡ Ok (n, rest)

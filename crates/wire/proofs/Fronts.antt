@@ -1,11 +1,11 @@
 -- What stands first in a stream, where a whole frame is there.
-use Rattle.std.proofs.Common.{◌≡◌, ℕ, ◌+◌, ◌-◌, ◌≤◌, List, length, take, drop, Result, Ok, Err, refl, sym, arith}
+use Rattle.std.proofs.Common.{◌≡◌, ℕ, ◌+◌, ◌≤◌, List, length, take, drop, Result, Err, refl, sym}
 use Rattle.std.proofs.lemmas.Bool.{le-ltb}
 use Rattle.byteorder.specs.Endian.{big_number}
 use Rattle.logical_time.specs.declared.fault.Fault.{Fault}
 use Rattle.messages.specs.declared.op.Op.{Op}
 use Rattle.wire.specs.Reading.{body_at}
-use Rattle.wire.specs.Frames.{Front, waits, faulty, whole, front_with, front_of}
+use Rattle.wire.specs.Frames.{faulty, front_with, front_of}
 use Rattle.wire.specs.Fields.{longest}
 
 -- a whole frame stands first as its body is read

@@ -1,5 +1,5 @@
 -- A request that is read is spelled by the bytes that it took.
-use Rattle.std.proofs.Common.{◌≡◌, ℕ, ◌^◌, ◌<◌, Bool, true, false, cond, ◌&&◌, ◌==◌, List, [], ◌∷◌, ◌++◌, length, Result, Ok, Err, refl, sym, ap, subst, ◌∙◌, arith, inl, inr}
+use Rattle.std.proofs.Common.{◌≡◌, ℕ, Bool, true, false, ◌==◌, List, [], ◌∷◌, ◌++◌, Ok, refl, subst, ◌∙◌, inl, inr}
 use Rattle.std.proofs.lemmas.Bool.{eqb-true, lt-ltb, and_from}
 use Rattle.std.proofs.lemmas.List.{append-nil}
 use Rattle.byteorder.specs.Endian.{big_bytes}
@@ -10,7 +10,7 @@ use Rattle.slice.specs.declared.predicate.Predicate.{Predicate}
 use Rattle.slice.specs.declared.predicate.Predicate.TheVariants.{Names, Range}
 use Rattle.messages.specs.declared.op.Op.{Op}
 use Rattle.messages.specs.declared.op.Op.TheVariants.{Batch, Read}
-use Rattle.wire.specs.Fields.{sized, is_sized, counted, is_counted}
+use Rattle.wire.specs.Fields.{sized, is_sized, counted}
 use Rattle.wire.specs.Requests.{mutation, fits_mutation, change, fits_change, flag, predicate, fits_predicate, request, fits_request}
 use Rattle.wire.specs.Reading.{◌>>=◌, number_at, sized_at, counted_at, insertion_at, deletion_at, range_deletion_at, mutation_at, change_at, flag_at, names_at, range_at, predicate_at, batch_at, read_at, request_at, whole_of, body_at}
 use Rattle.wire.proofs.Steps.{IsBytes, IsBytes-rest, bind_ok, ok_is, chosen, ended_ok, Takes, Takes-then, Takes-kind, AllTake, KindTakes}

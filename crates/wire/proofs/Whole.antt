@@ -1,8 +1,8 @@
 -- A whole frame in front of a stream.
-use Rattle.std.proofs.Common.{◌≡◌, ℕ, ◌+◌, ◌-◌, ◌<◌, ◌≤◌, Bool, true, false, cond, ltb, ◌&&◌, List, [], ◌∷◌, ◌++◌, length, take, drop, Result, Ok, Err, refl, sym, ap, subst, ◌∙◌, append_assoc, arith, inl, inr}
+use Rattle.std.proofs.Common.{◌≡◌, ℕ, ◌+◌, ◌-◌, ◌≤◌, true, ltb, List, [], ◌∷◌, ◌++◌, length, take, drop, Result, Ok, Err, refl, sym, ap, subst, ◌∙◌, append_assoc, arith, inl, inr}
 use Rattle.std.specs.List.{flat_map, list_all}
 use Rattle.std.proofs.lemmas.Grind.{flat_map-append}
-use Rattle.std.proofs.lemmas.Bool.{ltb-false, le-leb, and_from, true≢false}
+use Rattle.std.proofs.lemmas.Bool.{ltb-false, le-leb, and_from}
 use Rattle.std.proofs.lemmas.List.{append-nil, take-append-drop, length-take, length-drop, drop-drop, take-append-le, take_all}
 use Rattle.std.proofs.lemmas.List.Folds.{list_all-append}
 use Rattle.byteorder.specs.Endian.{big_number, big_bytes}
@@ -12,7 +12,7 @@ use Rattle.messages.specs.declared.op.Op.{Op}
 use Rattle.wire.specs.Fields.{longest, frame}
 use Rattle.wire.specs.Requests.{request, is_spelled}
 use Rattle.wire.specs.Reading.{body_at}
-use Rattle.wire.specs.Frames.{Front, waits, faulty, whole, front_with, front_of}
+use Rattle.wire.specs.Frames.{waits, faulty, whole, front_with, front_of, frames}
 use Rattle.wire.specs.Seen.{seen}
 use Rattle.wire.specs.declared.front.Front as front
 use Rattle.wire.specs.declared.front.Front.TheVariants as code
@@ -67,8 +67,8 @@ front_whole bytes op used fits e =
     ]
 
 -- the text with one more request read off it
-pub pushed : (held : List Op) (at used : ℕ) (bytes total : List ℕ) (op : Op) → IsWhole (drop at bytes) op used → flat_map (λ o. frame (request o)) held ++ drop at bytes ≡ total
-    → flat_map (λ o. frame (request o)) (held ++ op ∷ []) ++ drop (at + used) bytes ≡ total
+pub pushed : (held : List Op) (at used : ℕ) (bytes total : List ℕ) (op : Op) → IsWhole (drop at bytes) op used → frames held ++ drop at bytes ≡ total
+    → frames (held ++ op ∷ []) ++ drop (at + used) bytes ≡ total
 pushed held at used bytes total op w so_far =
     let spell : Op → List ℕ = λ o. frame (request o) in
     let one : flat_map spell (held ++ op ∷ []) ≡ flat_map spell held ++ spell op = flat_map-append spell held (op ∷ []) ∙ ap (λ (t : List ℕ). flat_map spell held ++ t) (append-nil (spell op)) in

@@ -2,11 +2,13 @@
 use Rattle.std.specs.Prelude.{◌≡◌, ℕ, List, ◌++◌, length, nat_lt, nat_le, Bool, true, false, Option, Some, None, Result, Ok, Err, if◌then◌else◌}
 use Rattle.logical_time.specs.declared.fault.Fault.{Fault}
 use Rattle.logical_time.specs.declared.fault.Fault.TheVariants.{Memory, Oversize, Truncated}
+use Rattle.messages.specs.declared.op.Op.{Op}
+use Rattle.wire.specs.Requests.{spelling}
 use Rattle.wire.specs.declared.error.FrameError.{FrameError}
 use Rattle.wire.specs.declared.error.FrameError.TheVariants as errors
 use Rattle.std.specs.Global.{Vec}
 use Rattle.wire.specs.Fields.{longest, frame}
-use Rattle.wire.specs.Frames.{ReaderValue, text, front_of, faulty}
+use Rattle.wire.specs.Frames.{ReaderValue, text, front_of, waits, faulty}
 
 abbrev pub fault_of : FrameError → Fault
 fault_of errors.Memory = Memory
@@ -31,12 +33,16 @@ abbrev pub Puts : {T : Type 0} → Bool → List ℕ → Result T FrameError →
 Puts fits added (Ok x) old new = (fits ≡ true) × (new ≡ old ++ added)
 Puts fits added (Err e) old new = Refuses e fits
 
--- Feeding a piece to a reader without a fault. The piece stands at the end of the text, where it is read, and where a
--- fault is found, which is then the first one. Where memory is refused nothing changes.
+-- Feeding a piece to a reader without a fault. The piece stands at the end of the text, and all that is whole is read: up
+-- to a frame that isn't there yet, or up to a fault, which is then the first one. Where memory is refused nothing changes.
 abbrev pub Feeds : {T : Type 0} → List ℕ → ReaderValue → ReaderValue → Result T Fault → Type 0
-Feeds piece old new (Ok x) = (text new ≡ text old ++ piece) × (new.fault ≡ None)
+Feeds piece old new (Ok x) = (text new ≡ text old ++ piece) × (new.fault ≡ None) × (front_of new.rest ≡ waits)
 Feeds piece old new (Err Memory) = new ≡ old
 Feeds piece old new (Err f) = (text new ≡ text old ++ piece) × (new.fault ≡ Some f) × (front_of new.rest ≡ faulty f)
+
+-- the first spelling is taken off the text
+abbrev pub Taken : Op → ReaderValue → ReaderValue → Type 0
+Taken op old new = (bytes : List ℕ) × (spelling op ≡ Some bytes) × (text old ≡ bytes ++ text new)
 
 -- why a stream that ends with this rest is refused: the fault that was found before, or an end inside a frame
 abbrev pub end_fault : Option Fault → List ℕ → Option Fault

@@ -1,5 +1,5 @@
 -- A stream of frames, in whatever pieces it comes.
-use Rattle.std.specs.Prelude.{◌≡◌, ℕ, ◌+◌, ◌≤◌, List, [], ◌∷◌, ◌++◌, length, take, drop, Bool, true, Option, Some, None, Result, Ok, Err, nat_lt, ◌⊎◌, if◌then◌else◌}
+use Rattle.std.specs.Prelude.{◌≡◌, ℕ, ◌+◌, ◌≤◌, List, ◌++◌, length, take, drop, true, Option, Some, None, Result, Ok, Err, nat_lt, ◌⊎◌, if◌then◌else◌}
 use Rattle.std.specs.List.{flat_map, list_all}
 use Rattle.byteorder.specs.Endian.{big_number}
 use Rattle.logical_time.specs.declared.fault.Fault.{Fault}
@@ -38,14 +38,22 @@ pub record ReaderValue : Type 0 where
   pub rest : List ℕ
   pub fault : Option Fault
 
+-- the frames of requests, one after the other
+abbrev pub frames : List Op → List ℕ
+frames ops = flat_map (λ op. frame (request op)) ops
+
 -- the bytes fed, without the frames of the requests that were taken
 abbrev pub text : ReaderValue → List ℕ
-text s = flat_map (λ op. frame (request op)) s.held ++ s.rest
+text s = frames s.held ++ s.rest
 
 -- what stands first in a rest that was read as far as it goes
 abbrev pub front_for : Option Fault → Front
 front_for None = waits
 front_for (Some f) = faulty f
+
+-- no whole frame of a request stands first
+abbrev pub NoneFirst : List ℕ → Type 0
+NoneFirst rest = (op : Op) (used : ℕ) → front_of rest ≡ whole op used → ⊥
 
 -- the input ended inside a frame
 pub record EndsInside (rest : List ℕ) (fault : Option Fault) : Type 0 where

@@ -1,11 +1,10 @@
 //! A stream of frames, in whatever pieces it comes.
 ghost use Rattle.std.specs.Prelude.{◌≡◌, ◌≤◌, ◌++◌, ◌∷◌, [], true, length, take, drop, Err, Some, None, IfOk, IfSome, IfNone};
-ghost use Rattle.std.specs.List.{flat_map, list_all};
+ghost use Rattle.std.specs.List.{list_all};
 ghost use Rattle.logical_time.specs.Fault.{IsRefusedFor};
-ghost use Rattle.wire.specs.Fields.{frame};
-ghost use Rattle.wire.specs.Requests.{request, is_spelled};
-ghost use Rattle.wire.specs.Frames.{front_of, front_for, ReaderValue};
-ghost use Rattle.wire.specs.Answers.{Feeds, fault_at_end};
+ghost use Rattle.wire.specs.Requests.{is_spelled};
+ghost use Rattle.wire.specs.Frames.{front_of, front_for, frames, ReaderValue};
+ghost use Rattle.wire.specs.Answers.{Feeds, Taken, fault_at_end};
 
 use crate::front::{Front, look};
 use bytes::BytesMut;
@@ -45,7 +44,7 @@ fn take_frames(
     held: &mut VecDeque<Op>,
 ) -> Result<(usize, Option<Fault>), AllocError>
     ensures used { IfOk result (λ r. r.0 ≤ length bytes.now) }
-    ensures text { IfOk result (λ r. flat_map (λ op. frame (request op)) held.new.items ++ drop r.0 bytes.now ≡ flat_map (λ op. frame (request op)) held.old.items ++ bytes.now) }
+    ensures text { IfOk result (λ r. frames held.new.items ++ drop r.0 bytes.now ≡ frames held.old.items ++ bytes.now) }
     ensures front { IfOk result (λ r. front_of (drop r.0 bytes.now) ≡ front_for r.1) }
     ensures spelled { list_all is_spelled held.old.items ≡ true → list_all is_spelled held.new.items ≡ true }
     ensures kept { take (length held.old.items) held.new.items ≡ held.old.items }
@@ -111,7 +110,8 @@ impl Reader {
     /// Takes the first request that is held. Takes no memory.
     pub fn next(&mut self) -> Option<Op>
         ensures some { IfSome result (λ op. self.old.held ≡ op ∷ self.new.held) }
-        ensures none { IfNone result ((self.old.held ≡ []) × (self.new.held ≡ [])) }
+        ensures taken { IfSome result (λ op. Taken op self.old self.new) }
+        ensures none { IfNone result ((self.old.held ≡ []) × (self.new ≡ self.old)) }
         ensures rest { self.new.rest ≡ self.old.rest }
         ensures fault { self.new.fault ≡ self.old.fault }
     {

@@ -1,4 +1,4 @@
-use Rattle.std.proofs.Common.{◌+◌, ◌-◌, refl, arith}
+use Rattle.std.proofs.Common.{◌+◌, ◌-◌, arith}
 use Rattle.wire.proofs.Fronts.{fault_is_front}
 use Rattle.wire.proofs.front.look.Goals as goal
 

@@ -1,4 +1,4 @@
-use Rattle.std.proofs.Common.{◌≡◌, ◌≤◌, ◌+◌, length, drop, arith, rules}
+use Rattle.std.proofs.Common.{◌≤◌, ◌+◌, length, arith, rules}
 use Rattle.std.proofs.lemmas.List.{length-drop}
 use Rattle.wire.proofs.Whole.{whole_at, pushed, spelled_more, kept_more}
 use Rattle.wire.proofs.reader.take_frames.Goals as goal

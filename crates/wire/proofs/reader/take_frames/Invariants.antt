@@ -1,13 +1,13 @@
 use Rattle.std.proofs.Common.{◌≡◌, ◌≤◌, ◌-◌, ◌+◌, ◌++◌, length, take, drop, true}
-use Rattle.std.specs.List.{flat_map, list_all}
-use Rattle.wire.specs.Fields.{frame}
-use Rattle.wire.specs.Requests.{request, is_spelled}
+use Rattle.std.specs.List.{list_all}
+use Rattle.wire.specs.Requests.{is_spelled}
+use Rattle.wire.specs.Frames.{frames}
 use Rattle.wire.proofs.reader.take_frames.Given as goal
 
 abbrev pub invariant-loop-at : goal.invariant-loop-at
 invariant-loop-at l = record {
   bound : l.at ≤ length l.bytes;
-  text : flat_map (λ op. frame (request op)) l.held.items ++ drop l.at l.bytes ≡ flat_map (λ op. frame (request op)) l.fn.held.items ++ l.bytes;
+  text : frames l.held.items ++ drop l.at l.bytes ≡ frames l.fn.held.items ++ l.bytes;
   spelled : list_all is_spelled l.fn.held.items ≡ true → list_all is_spelled l.held.items ≡ true;
   kept : take (length l.fn.held.items) l.held.items ≡ l.fn.held.items;
 }

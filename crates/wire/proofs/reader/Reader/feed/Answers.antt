@@ -13,6 +13,6 @@ returns-after-fault-clause-feeds c = λ before.
     let all = c.as_slice.ensures ∙ c.in_ok-extend_from_slice.ensures.ok in
     let rest : r1 ≡ drop c.in-Ok.used bytes = rw c.as_slice.ensures c.advance.ensures.items in
     rw (← c.self.view_is) (elim c.match-fault.branch [
-      | in-None w ↦ fed_ok _ c.args.piece.now h0 h1 r0 r1 bytes c.in-Ok.used c.self.inside.fault c.in-Ok.fault c.match-fault.result _ all rest c.in-Ok.ensures.text w.in-None.is w.result-is
+      | in-None w ↦ fed_ok _ c.args.piece.now h0 h1 r0 r1 bytes c.in-Ok.used c.self.inside.fault c.in-Ok.fault c.match-fault.result _ all rest c.in-Ok.ensures.text c.in-Ok.ensures.front w.in-None.is w.result-is
       | in-Some-fault w ↦ fed_fault _ c.args.piece.now h0 h1 r0 r1 bytes c.in-Ok.used c.self.inside.fault c.in-Ok.fault c.match-fault.result w.in-Some-fault.fault all rest c.in-Ok.ensures.text c.in-Ok.ensures.front w.in-Some-fault.is w.result-is
     ])
