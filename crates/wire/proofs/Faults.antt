@@ -55,7 +55,7 @@ unfolding list_at
 list_fault {A = A} item_at one zero bytes f e = no_fault _ ([], bytes) f e
 list_fault {A = A} item_at one (suc n) bytes f e =
     bind_fault (item_at bytes) (λ first. list_at item_at n first.1 >>= λ others. Ok (first.0 ∷ others.0, others.1)) f (one bytes)
-        (λ first. bind_fault (list_at item_at n first.1) (λ others. Ok (first.0 ∷ others.0, others.1)) f (list_fault item_at one n first.1) (λ others. no_fault _ (first.0 ∷ others.0, others.1) f)) e
+    (λ first. bind_fault (list_at item_at n first.1) (λ others. Ok (first.0 ∷ others.0, others.1)) f (list_fault item_at one n first.1) (λ others. no_fault _ (first.0 ∷ others.0, others.1) f)) e
 
 count_fault : AllFault count_at
 count_fault bytes f e = bind_fault (number_at 4 bytes) (λ n. cond (ltb (length n.1) n.0) (Err BadCount) (Ok n)) f (number_fault 4 bytes) (λ n. guard_fault _ (ltb (length n.1) n.0) BadCount n f (omega arith, omega arith)) e
@@ -68,7 +68,7 @@ insertion_fault : AllFault insertion_at
 unfolding insertion_at
 insertion_fault bytes f e =
     bind_fault (sized_at 2 bytes) (λ name. sized_at 4 name.1 >>= λ value. Ok (Insert name.0 value.0, value.1)) f (sized_fault 2 bytes)
-        (λ name. bind_fault (sized_at 4 name.1) (λ value. Ok (Insert name.0 value.0, value.1)) f (sized_fault 4 name.1) (λ value. no_fault _ (Insert name.0 value.0, value.1) f)) e
+    (λ name. bind_fault (sized_at 4 name.1) (λ value. Ok (Insert name.0 value.0, value.1)) f (sized_fault 4 name.1) (λ value. no_fault _ (Insert name.0 value.0, value.1) f)) e
 
 deletion_fault : AllFault deletion_at
 unfolding deletion_at
@@ -78,7 +78,7 @@ range_deletion_fault : AllFault range_deletion_at
 unfolding range_deletion_at
 range_deletion_fault bytes f e =
     bind_fault (sized_at 2 bytes) (λ start. sized_at 2 start.1 >>= λ finish. Ok (DeleteRange start.0 finish.0, finish.1)) f (sized_fault 2 bytes)
-        (λ start. bind_fault (sized_at 2 start.1) (λ finish. Ok (DeleteRange start.0 finish.0, finish.1)) f (sized_fault 2 start.1) (λ finish. no_fault _ (DeleteRange start.0 finish.0, finish.1) f)) e
+    (λ start. bind_fault (sized_at 2 start.1) (λ finish. Ok (DeleteRange start.0 finish.0, finish.1)) f (sized_fault 2 start.1) (λ finish. no_fault _ (DeleteRange start.0 finish.0, finish.1) f)) e
 
 mutation_fault : AllFault mutation_at
 unfolding mutation_at
@@ -102,9 +102,9 @@ change_fault : AllFault change_at
 unfolding change_at
 change_fault bytes f e =
     bind_fault (sized_at 1 bytes) (λ family. sized_at 2 family.1 >>= λ key. mutation_at key.1 >>= λ m. Ok (record { row = record { family = family.0; key = key.0 }; mutation = m.0 }, m.1)) f (sized_fault 1 bytes)
-        (λ family. bind_fault (sized_at 2 family.1) (λ key. mutation_at key.1 >>= λ m. Ok (record { row = record { family = family.0; key = key.0 }; mutation = m.0 }, m.1)) f (sized_fault 2 family.1)
-            (λ key. bind_fault (mutation_at key.1) (λ m. Ok (record { row = record { family = family.0; key = key.0 }; mutation = m.0 }, m.1)) f (mutation_fault key.1)
-                (λ m. no_fault (Change × List ℕ) (record { row = record { family = family.0; key = key.0 }; mutation = m.0 }, m.1) f))) e
+    (λ family. bind_fault (sized_at 2 family.1) (λ key. mutation_at key.1 >>= λ m. Ok (record { row = record { family = family.0; key = key.0 }; mutation = m.0 }, m.1)) f (sized_fault 2 family.1)
+    (λ key. bind_fault (mutation_at key.1) (λ m. Ok (record { row = record { family = family.0; key = key.0 }; mutation = m.0 }, m.1)) f (mutation_fault key.1)
+    (λ m. no_fault (Change × List ℕ) (record { row = record { family = family.0; key = key.0 }; mutation = m.0 }, m.1) f))) e
 
 flag_fault : AllFault flag_at
 unfolding flag_at
@@ -126,10 +126,10 @@ range_fault : AllFault range_at
 unfolding range_at
 range_fault bytes f e =
     bind_fault (sized_at 2 bytes) (λ start. sized_at 2 start.1 >>= λ finish. flag_at finish.1 >>= λ reversed. number_at 4 reversed.1 >>= λ count. Ok (Range start.0 finish.0 reversed.0 count.0, count.1)) f (sized_fault 2 bytes)
-        (λ start. bind_fault (sized_at 2 start.1) (λ finish. flag_at finish.1 >>= λ reversed. number_at 4 reversed.1 >>= λ count. Ok (Range start.0 finish.0 reversed.0 count.0, count.1)) f (sized_fault 2 start.1)
-            (λ finish. bind_fault (flag_at finish.1) (λ reversed. number_at 4 reversed.1 >>= λ count. Ok (Range start.0 finish.0 reversed.0 count.0, count.1)) f (flag_fault finish.1)
-                (λ reversed. bind_fault (number_at 4 reversed.1) (λ count. Ok (Range start.0 finish.0 reversed.0 count.0, count.1)) f (number_fault 4 reversed.1)
-                    (λ count. no_fault _ (Range start.0 finish.0 reversed.0 count.0, count.1) f)))) e
+    (λ start. bind_fault (sized_at 2 start.1) (λ finish. flag_at finish.1 >>= λ reversed. number_at 4 reversed.1 >>= λ count. Ok (Range start.0 finish.0 reversed.0 count.0, count.1)) f (sized_fault 2 start.1)
+    (λ finish. bind_fault (flag_at finish.1) (λ reversed. number_at 4 reversed.1 >>= λ count. Ok (Range start.0 finish.0 reversed.0 count.0, count.1)) f (flag_fault finish.1)
+    (λ reversed. bind_fault (number_at 4 reversed.1) (λ count. Ok (Range start.0 finish.0 reversed.0 count.0, count.1)) f (number_fault 4 reversed.1)
+    (λ count. no_fault _ (Range start.0 finish.0 reversed.0 count.0, count.1) f)))) e
 
 predicate_fault : AllFault predicate_at
 unfolding predicate_at
@@ -151,9 +151,9 @@ read_fault : AllFault read_at
 unfolding read_at
 read_fault bytes f e =
     bind_fault (sized_at 1 bytes) (λ family. counted_at (sized_at 2) family.1 >>= λ keys. predicate_at keys.1 >>= λ p. Ok (Read (record { family = family.0; keys = keys.0; predicate = p.0 }), p.1)) f (sized_fault 1 bytes)
-        (λ family. bind_fault (counted_at (sized_at 2) family.1) (λ keys. predicate_at keys.1 >>= λ p. Ok (Read (record { family = family.0; keys = keys.0; predicate = p.0 }), p.1)) f (counted_fault (sized_at 2) (sized_fault 2) family.1)
-            (λ keys. bind_fault (predicate_at keys.1) (λ p. Ok (Read (record { family = family.0; keys = keys.0; predicate = p.0 }), p.1)) f (predicate_fault keys.1)
-                (λ p. no_fault (Op × List ℕ) (Read (record { family = family.0; keys = keys.0; predicate = p.0 }), p.1) f))) e
+    (λ family. bind_fault (counted_at (sized_at 2) family.1) (λ keys. predicate_at keys.1 >>= λ p. Ok (Read (record { family = family.0; keys = keys.0; predicate = p.0 }), p.1)) f (counted_fault (sized_at 2) (sized_fault 2) family.1)
+    (λ keys. bind_fault (predicate_at keys.1) (λ p. Ok (Read (record { family = family.0; keys = keys.0; predicate = p.0 }), p.1)) f (predicate_fault keys.1)
+    (λ p. no_fault (Op × List ℕ) (Read (record { family = family.0; keys = keys.0; predicate = p.0 }), p.1) f))) e
 
 request_fault : AllFault request_at
 unfolding request_at

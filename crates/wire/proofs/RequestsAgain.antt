@@ -58,7 +58,7 @@ change_takes_some c = omega (arith, length-append (sized 1 c.row.family) (sized 
 text_takes_some : (t : List ℕ) → 1 ≤ length (sized 2 t)
 text_takes_some t = omega (arith, length-append (big_bytes 2 (length t)) t)
 
-texts_again : AllAgain (counted_at (sized_at 2)) (counted (sized 2)) (is_counted (is_sized 2))
+texts_again : AllAgain (counted_at (sized_at 2)) (counted (sized 2)) (is_counted (is_sized 2) (sized 2))
 texts_again = counted_again (sized_at 2) (sized 2) (is_sized 2) text_takes_some (sized_again 2)
 
 flag_again : (b : Bool) (rest : List ℕ) → flag_at (flag b ∷ rest) ≡ Ok (b, rest)
@@ -66,7 +66,7 @@ unfolding flag_at
 flag_again false rest = refl
 flag_again true rest = refl
 
-names_again : (names : List (List ℕ)) (rest : List ℕ) → is_counted (is_sized 2) names ≡ true → names_at (counted (sized 2) names ++ rest) ≡ Ok (Names names, rest)
+names_again : (names : List (List ℕ)) (rest : List ℕ) → is_counted (is_sized 2) (sized 2) names ≡ true → names_at (counted (sized 2) names ++ rest) ≡ Ok (Names names, rest)
 unfolding names_at
 names_again names rest fits = rw (texts_again names rest fits) refl
 
@@ -85,11 +85,11 @@ predicate_again (Range start finish reversed count) rest fits =
     let q = and_parts (is_sized 2 finish) (ltb count (256 ^ 4)) p.1 in
     range_again start finish reversed count rest p.0 q.0 (ltb-true _ _ q.1)
 
-batch_again : (changes : List Change) (rest : List ℕ) → is_counted fits_change changes ≡ true → batch_at (counted change changes ++ rest) ≡ Ok (Batch changes, rest)
+batch_again : (changes : List Change) (rest : List ℕ) → is_counted fits_change change changes ≡ true → batch_at (counted change changes ++ rest) ≡ Ok (Batch changes, rest)
 unfolding batch_at
 batch_again changes rest fits = rw (counted_again change_at change fits_change change_takes_some change_again changes rest fits) refl
 
-read_again : (family : List ℕ) (keys : List (List ℕ)) (p : Predicate) (rest : List ℕ) → is_sized 1 family ≡ true → is_counted (is_sized 2) keys ≡ true → fits_predicate p ≡ true
+read_again : (family : List ℕ) (keys : List (List ℕ)) (p : Predicate) (rest : List ℕ) → is_sized 1 family ≡ true → is_counted (is_sized 2) (sized 2) keys ≡ true → fits_predicate p ≡ true
     → read_at ((sized 1 family ++ (counted (sized 2) keys ++ predicate p)) ++ rest) ≡ Ok (Read (record { family = family; keys = keys; predicate = p }), rest)
 unfolding read_at
 read_again family keys p rest a b c =
@@ -99,8 +99,8 @@ request_again : AllAgain request_at request fits_request
 unfolding request_at
 request_again (Batch changes) rest fits = batch_again changes rest fits
 request_again (Read read) rest fits =
-    let p = and_parts (is_sized 1 read.family) (is_counted (is_sized 2) read.keys && fits_predicate read.predicate) fits in
-    let q = and_parts (is_counted (is_sized 2) read.keys) (fits_predicate read.predicate) p.1 in
+    let p = and_parts (is_sized 1 read.family) (is_counted (is_sized 2) (sized 2) read.keys && fits_predicate read.predicate) fits in
+    let q = and_parts (is_counted (is_sized 2) (sized 2) read.keys) (fits_predicate read.predicate) p.1 in
     read_again read.family read.keys read.predicate rest p.0 q.0 q.1
 
 -- the body of a request is read as that request

@@ -1,8 +1,9 @@
 -- Steps of reading that found no fault, and what they took from the front of bytes.
-use Rattle.std.proofs.Common.{◌≡◌, ℕ, suc, ◌+◌, ◌<◌, Bool, true, false, cond, List, [], ◌∷◌, ◌++◌, get_or, take, drop, Result, Ok, Err, refl, sym, ap, ◌∙◌, append_assoc, arith, inl, inr, ◌⊎◌}
+use Rattle.std.proofs.Common.{◌≡◌, ℕ, suc, ◌+◌, ◌<◌, ◌≤◌, Bool, true, false, cond, List, [], ◌∷◌, ◌++◌, length, get_or, take, drop, Result, Ok, Err, refl, sym, ap, ◌∙◌, append_assoc, arith, inl, inr, ◌⊎◌}
 use Rattle.std.proofs.lemmas.Bool.{cases_lt}
-use Rattle.std.proofs.lemmas.List.{length-take, get_or-drop, get_or-take, get_or_past}
+use Rattle.std.proofs.lemmas.List.{length-take, length-drop, get_or-drop, get_or-take, get_or_past}
 use Rattle.logical_time.specs.declared.fault.Fault.{Fault}
+use Rattle.wire.specs.Fields.{longest}
 use Rattle.wire.specs.Reading.{◌>>=◌, whole_of}
 
 -- numbers that are bytes
@@ -19,8 +20,16 @@ IsBytes-take n bytes h i =
       | inr le ↦ rw (get_or_past (take n bytes) i 0 (omega (arith, length-take n bytes))) (omega arith)
     ]
 
-pub IsBytes-rest : (b : ℕ) (bytes : List ℕ) → IsBytes (b ∷ bytes) → IsBytes bytes
-IsBytes-rest b bytes h i = h (suc i)
+-- bytes of a body
+pub record IsBody (bytes : List ℕ) : Type 0 where
+  pub small : IsBytes bytes
+  pub short : length bytes ≤ longest
+
+pub IsBody-drop : (n : ℕ) (bytes : List ℕ) → IsBody bytes → IsBody (drop n bytes)
+IsBody-drop n bytes h = record { small = IsBytes-drop n bytes h.small; short = let s = h.short in omega (arith, s, length-drop n bytes) }
+
+pub IsBody-rest : (b : ℕ) (bytes : List ℕ) → IsBody (b ∷ bytes) → IsBody bytes
+IsBody-rest b bytes h = record { small = λ i. h.small (suc i); short = let s = h.short in omega (arith, s) }
 
 -- the value of a step that did not fail
 pub bind_ok : {A B : Type 0} (r : Result A Fault) (f : A → Result B Fault) (y : B) → (r >>= f) ≡ Ok y → (x : A) × (r ≡ Ok x) × (f x ≡ Ok y)
@@ -32,7 +41,7 @@ pub guard_ok : {A : Type 0} (b : Bool) (d : Fault) (x y : A) → cond b (Err d) 
 guard_ok true d x y e = absurd cc
 guard_ok false d x y e = (refl, cc)
 
-abbrev done : {A : Type 0} → A → Result A Fault
+abbrev pub done : {A : Type 0} → A → Result A Fault
 done x = Ok x
 
 pub ok_is : {A : Type 0} (x y : A) → done x ≡ done y → x ≡ y
@@ -50,7 +59,7 @@ ended_ok x (b ∷ bs) y e = absurd cc
 -- bytes are a text and the rest
 pub record Takes (bytes text rest : List ℕ) : Type 0 where
   pub parts : bytes ≡ text ++ rest
-  pub rest_fits : IsBytes rest
+  pub rest_fits : IsBody rest
 
 pub Takes-then : (a x b y c : List ℕ) → Takes a x b → Takes b y c → Takes a (x ++ y) c
 Takes-then a x b y c p q = record { parts = p.parts ∙ ap (λ (t : List ℕ). x ++ t) q.parts ∙ sym (append_assoc x y c); rest_fits = q.rest_fits }
@@ -60,11 +69,11 @@ Takes-kind k a x b p = record { parts = ap (λ (t : List ℕ). k ∷ t) p.parts;
 
 -- each value that is read is spelled by the bytes that it took, and fits
 abbrev pub AllTake : {A : Type 0} → (List ℕ → Result (A × List ℕ) Fault) → (A → List ℕ) → (A → Bool) → Type 0
-AllTake {A = A} read_at spell fits = (bytes : List ℕ) (x : A × List ℕ) → IsBytes bytes → read_at bytes ≡ Ok x → Takes bytes (spell x.0) x.1 × (fits x.0 ≡ true)
+AllTake {A = A} read_at spell fits = (bytes : List ℕ) (x : A × List ℕ) → IsBody bytes → read_at bytes ≡ Ok x → Takes bytes (spell x.0) x.1 × (fits x.0 ≡ true)
 
 -- the same of values behind their kind
 abbrev pub KindTakes : {A : Type 0} → ℕ → (List ℕ → Result (A × List ℕ) Fault) → (A → List ℕ) → (A → Bool) → Type 0
-KindTakes {A = A} kind read_at spell fits = (rest : List ℕ) (x : A × List ℕ) → IsBytes rest → read_at rest ≡ Ok x → Takes (kind ∷ rest) (spell x.0) x.1 × (fits x.0 ≡ true)
+KindTakes {A = A} kind read_at spell fits = (rest : List ℕ) (x : A × List ℕ) → IsBody rest → read_at rest ≡ Ok x → Takes (kind ∷ rest) (spell x.0) x.1 × (fits x.0 ≡ true)
 
 -- each value that fits is read again from its spelling
 abbrev pub AllAgain : {A : Type 0} → (List ℕ → Result (A × List ℕ) Fault) → (A → List ℕ) → (A → Bool) → Type 0

@@ -2,7 +2,7 @@
 use Rattle.std.proofs.Common.{◌≡◌, ℕ, ◌+◌, ◌<◌, ◌≤◌, Bool, true, false, cond, List, [], ◌∷◌, ◌++◌, length, take, drop, All, Option, Some, None, refl, sym, ap, subst, ◌∙◌, append_assoc, arith, inl, inr}
 use Rattle.std.specs.List.{list_all}
 use Rattle.std.proofs.lemmas.Bool.{cases_lt, cond-true, and_parts, leb-true}
-use Rattle.std.proofs.lemmas.List.{append-nil, nil_from_length, length-append, length-drop, take_at, get_or_past}
+use Rattle.std.proofs.lemmas.List.{append-nil, nil_from_length, length-append, length-drop, take_at, drop_at, get_or_past}
 use Rattle.byteorder.specs.Endian.{big_number, big_bytes}
 use Rattle.byteorder.specs.Numbers.{length-bytes_high_first, big_number-reads_back}
 use Rattle.logical_time.specs.declared.fault.Fault.{Fault}
@@ -13,6 +13,7 @@ use Rattle.wire.specs.Replies.{Reply, reply, fits_reply, is_reply_spelled, reply
 use Rattle.wire.specs.Frames.{waits, faulty, whole, front_of, front_for, frames, NoneFirst, ReaderValue, IsRead}
 use Rattle.wire.proofs.Steps.{IsBytes}
 use Rattle.wire.proofs.RequestsAgain.{front_again}
+use Rattle.wire.proofs.RepliesAgain.{reply_told}
 use Rattle.wire.proofs.Whole.{front_whole}
 
 -- a spelling is a frame
@@ -66,18 +67,22 @@ frame_number body rest le = ap (big_number 4) (append_assoc (big_bytes 4 (length
 frame_length : (body : List ℕ) → length (frame body) ≡ 4 + length body
 frame_length body = omega (arith, length-bytes_high_first 4 (length body), length-append (big_bytes 4 (length body)) body)
 
-frames_apart : (x y rest : List ℕ) → length x ≤ longest → length y ≤ longest → frame x ++ rest ≡ frame y → rest ≡ []
+frames_apart : (x y rest : List ℕ) → length x ≤ longest → length y ≤ longest → frame x ++ rest ≡ frame y → (rest ≡ []) × (x ≡ y)
 frames_apart x y rest lx ly e =
     let same : length x ≡ length y = sym (frame_number x rest lx) ∙ ap (big_number 4) (e ∙ sym (append-nil (frame y))) ∙ frame_number y [] ly in
-    rest_is_nil (frame x) rest (omega (arith, frame_length x, frame_length y, same, ap length e))
+    let none : rest ≡ [] = rest_is_nil (frame x) rest (omega (arith, frame_length x, frame_length y, same, ap length e)) in
+    let whole : frame x ≡ frame y = sym (append-nil (frame x)) ∙ ap (λ (t : List ℕ). frame x ++ t) (sym none) ∙ e in
+    let behind : (t : List ℕ) → drop 4 (frame t) ≡ t = λ t. drop_at (big_bytes 4 (length t)) t 4 (length-bytes_high_first 4 (length t)) in
+    (none, sym (behind x) ∙ ap (drop 4) whole ∙ behind y)
 
-pub reply_apart : (a b : Reply) (s t rest : List ℕ) → reply_spelling a ≡ Some s → reply_spelling b ≡ Some t → s ++ rest ≡ t → rest ≡ []
+pub reply_apart : (a b : Reply) (s t rest : List ℕ) → reply_spelling a ≡ Some s → reply_spelling b ≡ Some t → s ++ rest ≡ t → (rest ≡ []) × (a ≡ b)
 reply_apart a b s t rest sa tb e =
     let g = given (is_reply_spelled a) (frame (reply a)) s sa in
     let h = given (is_reply_spelled b) (frame (reply b)) t tb in
-    let lx = leb-true _ _ (and_parts (fits_reply a) _ g.0).1 in
-    let ly = leb-true _ _ (and_parts (fits_reply b) _ h.0).1 in
-    frames_apart (reply a) (reply b) rest lx ly (ap (λ (u : List ℕ). u ++ rest) g.1 ∙ e ∙ sym h.1)
+    let p = and_parts (fits_reply a) _ g.0 in
+    let q = and_parts (fits_reply b) _ h.0 in
+    let apart = frames_apart (reply a) (reply b) rest (leb-true _ _ p.1) (leb-true _ _ q.1) (ap (λ (u : List ℕ). u ++ rest) g.1 ∙ e ∙ sym h.1) in
+    (apart.0, reply_told a b p.0 q.0 apart.1)
 
 -- a list that begins with another, without it
 same_rest : (s a b : List ℕ) → s ++ a ≡ s ++ b → a ≡ b

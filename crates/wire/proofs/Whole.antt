@@ -16,8 +16,8 @@ use Rattle.wire.specs.Frames.{waits, faulty, whole, front_with, front_of, frames
 use Rattle.wire.specs.Seen.{seen}
 use Rattle.wire.specs.declared.front.Front as front
 use Rattle.wire.specs.declared.front.Front.TheVariants as code
-use Rattle.wire.proofs.Steps.{IsBytes, IsBytes-take, IsBytes-drop, chosen, Takes, Takes-then}
-use Rattle.wire.proofs.FieldsTaken.{wide4, number_takes}
+use Rattle.wire.proofs.Steps.{IsBytes, IsBytes-take, IsBytes-drop, IsBody, chosen}
+use Rattle.wire.proofs.FieldsTaken.{wide4, number_front}
 use Rattle.wire.proofs.RequestsTaken.{body_takes}
 
 -- the frame of a request stands in front, so many bytes long
@@ -46,14 +46,15 @@ front_whole bytes op used fits e =
               let most : n ≤ longest = ltb-false _ _ fine.0 in
               let enough : 4 + n ≤ length bytes = ltb-false _ _ all.0 in
               let got = front_with_whole (4 + n) (body_at (take n (drop 4 bytes))) op used all.1 in
-              let t = (number_takes 4 wide4 bytes (n, drop 4 bytes) fits (rw long.0 refl)).0 in
               let tk = take n (drop 4 bytes) in
-              let is_body = body_takes tk op (IsBytes-take n (drop 4 bytes) t.rest_fits) got.0 in
               let len : length tk ≡ n = omega (arith, length-take n (drop 4 bytes), length-drop 4 bytes) in
-              let second : Takes (drop 4 bytes) tk (drop n (drop 4 bytes)) = record { parts = sym (take-append-drop n (drop 4 bytes)); rest_fits = IsBytes-drop n (drop 4 bytes) t.rest_fits } in
-              let both = Takes-then bytes (big_bytes 4 n) (drop 4 bytes) tk (drop n (drop 4 bytes)) t second in
+              let tail : IsBytes (drop 4 bytes) = IsBytes-drop 4 bytes fits in
+              let inside : IsBody tk = record { small = IsBytes-take n (drop 4 bytes) tail; short = rw len most } in
+              let is_body = body_takes tk op inside got.0 in
+              let both : bytes ≡ (big_bytes 4 n ++ tk) ++ drop n (drop 4 bytes) =
+              number_front 4 wide4 bytes fits four ∙ ap (λ (r : List ℕ). big_bytes 4 n ++ r) (sym (take-append-drop n (drop 4 bytes))) ∙ sym (append_assoc (big_bytes 4 n) tk (drop n (drop 4 bytes))) in
               let after : drop n (drop 4 bytes) ≡ drop used bytes = drop-drop n 4 bytes ∙ ap (λ (k : ℕ). drop k bytes) got.1 in
-              let q : bytes ≡ (big_bytes 4 n ++ tk) ++ drop used bytes = both.parts ∙ ap (λ (r : List ℕ). (big_bytes 4 n ++ tk) ++ r) after in
+              let q : bytes ≡ (big_bytes 4 n ++ tk) ++ drop used bytes = both ∙ ap (λ (r : List ℕ). (big_bytes 4 n ++ tk) ++ r) after in
               let q' : bytes ≡ frame tk ++ drop used bytes = subst (λ (k : ℕ). bytes ≡ (big_bytes 4 k ++ tk) ++ drop used bytes) (sym len) q in
               let size : length (request op) ≤ longest = subst (λ (t : List ℕ). length t ≤ longest) is_body.0 (rw len most) in
               record {

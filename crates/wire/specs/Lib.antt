@@ -5,3 +5,4 @@ pub mod Reading
 pub mod Frames
 pub mod Answers
 pub mod Seen
+pub mod Worked

@@ -1,5 +1,5 @@
 -- The spelling of a reply: its frame, where it has one.
-use Rattle.std.specs.Prelude.{ℕ, List, [], ◌∷◌, ◌++◌, length, nat_le, Bool, true, ◌&&◌, Option, Some, None, Result, Ok, Err, if◌then◌else◌}
+use Rattle.std.specs.Prelude.{ℕ, List, [], ◌∷◌, ◌++◌, length, nat_lt, nat_le, ◌^◌, Bool, true, ◌&&◌, Option, Some, None, Result, Ok, Err, if◌then◌else◌}
 use Rattle.byteorder.specs.Endian.{big_bytes}
 use Rattle.logical_time.specs.declared.fault.Fault.{Fault}
 use Rattle.logical_time.specs.Fault.{number_of}
@@ -26,7 +26,7 @@ abbrev pub row : AnsweredRow → List ℕ
 row r = sized 2 r.key ++ counted column r.columns
 
 abbrev pub fits_row : AnsweredRow → Bool
-fits_row r = is_sized 2 r.key && is_counted fits_column r.columns
+fits_row r = is_sized 2 r.key && is_counted fits_column column r.columns
 
 -- the commit time, and the stamp as its time and its node
 unfoldable pub commit_and_stamp : ℕ → StampValue → List ℕ
@@ -38,10 +38,13 @@ outcome (Wrote commit stamp) = 129 ∷ commit_and_stamp commit stamp
 outcome (Read effective answer) = 130 ∷ (big_bytes 8 effective ++ counted row answer)
 outcome Collected = 131 ∷ []
 
--- whether each length and each count of the outcome fits where it is written
+unfoldable pub fits_commit_and_stamp : ℕ → StampValue → Bool
+fits_commit_and_stamp commit stamp = nat_lt commit (256 ^ 8) && (nat_lt stamp.time (256 ^ 8) && nat_lt stamp.node (256 ^ 2))
+
+-- whether each number, each length and each count of the outcome fits where it is written
 abbrev pub fits_outcome : Outcome → Bool
-fits_outcome (Wrote commit stamp) = true
-fits_outcome (Read effective answer) = is_counted fits_row answer
+fits_outcome (Wrote commit stamp) = fits_commit_and_stamp commit stamp
+fits_outcome (Read effective answer) = nat_lt effective (256 ^ 8) && is_counted fits_row row answer
 fits_outcome Collected = true
 
 -- 0x84, and the number of the refusal

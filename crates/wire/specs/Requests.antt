@@ -40,7 +40,7 @@ predicate (Names names) = 0 ∷ counted (sized 2) names
 predicate (Range start finish reversed count) = 1 ∷ (sized 2 start ++ (sized 2 finish ++ (flag reversed ∷ big_bytes 4 count)))
 
 abbrev pub fits_predicate : Predicate → Bool
-fits_predicate (Names names) = is_counted (is_sized 2) names
+fits_predicate (Names names) = is_counted (is_sized 2) (sized 2) names
 fits_predicate (Range start finish reversed count) = is_sized 2 start && (is_sized 2 finish && nat_lt count (256 ^ 4))
 
 -- a batch by its changes; a read by its family, its keys as they were listed, and its predicate
@@ -50,8 +50,8 @@ request (Read read) = 2 ∷ (sized 1 read.family ++ (counted (sized 2) read.keys
 
 -- whether each length and each count of the request fits where it is written
 abbrev pub fits_request : Op → Bool
-fits_request (Batch changes) = is_counted fits_change changes
-fits_request (Read read) = is_sized 1 read.family && (is_counted (is_sized 2) read.keys && fits_predicate read.predicate)
+fits_request (Batch changes) = is_counted fits_change change changes
+fits_request (Read read) = is_sized 1 read.family && (is_counted (is_sized 2) (sized 2) read.keys && fits_predicate read.predicate)
 
 -- whether the request has a spelling: nothing in it, and not its body, is too long
 abbrev pub is_spelled : Op → Bool

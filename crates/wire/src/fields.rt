@@ -109,11 +109,7 @@ fn count(bytes: &[u8]) -> Result<(u32, &[u8]), FrameError>
 }
 
 // So many items. Memory is taken item by item, as they are read.
-fn list<T: Field>(
-    alloc: Global,
-    count: u32,
-    bytes: &[u8],
-) -> Result<(Vec<T>, &[u8]), FrameError>
+fn list<T: Field>(alloc: Global, count: u32, bytes: &[u8]) -> Result<(Vec<T>, &[u8]), FrameError>
     ensures { Gives (λ x. (x.0.items, x.1.now)) result (list_at T.read_at count bytes.now) }
 {
     let mut items = Vec::new(alloc);
@@ -128,10 +124,7 @@ fn list<T: Field>(
 
 /// A list behind the number of its items.
 #[tactic(auto, unfolding(crate::specs::Reading::counted_at))]
-pub(crate) fn counted<T: Field>(
-    alloc: Global,
-    bytes: &[u8],
-) -> Result<(Vec<T>, &[u8]), FrameError>
+pub(crate) fn counted<T: Field>(alloc: Global, bytes: &[u8]) -> Result<(Vec<T>, &[u8]), FrameError>
     ensures { Gives (λ x. (x.0.items, x.1.now)) result (counted_at T.read_at bytes.now) }
 {
     let (count, rest) = count(bytes)?;

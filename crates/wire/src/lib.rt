@@ -14,8 +14,7 @@ mod writing;
 
 pub use law::{
     faults_of_frames, no_spelling_begins_another, streams_are_read_in_one_way,
-    what_is_read_is_spelled, what_is_spelled_is_read,
+    what_is_read_is_spelled, what_is_spelled_is_read, worked_frames,
 };
 pub use reader::Reader;
 pub use writing::{encode_op, encode_refusal, encode_reply};
-

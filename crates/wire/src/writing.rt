@@ -1,5 +1,5 @@
 //! Requests and replies, written as frames.
-ghost use Rattle.std.specs.Prelude.{◌≡◌, ◌≤◌, ℕ, List, Bool, length, drop, nat_le, true, false, None, Some, Ok, Err, IfOk, IfErr, ◌⊎◌};
+ghost use Rattle.std.specs.Prelude.{◌≡◌, ◌≤◌, ◌&&◌, ℕ, List, Bool, length, drop, nat_le, true, false, None, Some, Ok, Err, IfOk, IfErr, ◌⊎◌};
 ghost use Rattle.std.specs.List.{flat_map, list_all};
 ghost use Rattle.logical_time.specs.declared.fault.Fault.TheVariants.{Memory, Oversize};
 ghost use Rattle.wire.specs.Answers.{Puts, Closes, Encodes};
@@ -56,24 +56,30 @@ fn put_blob(out: &mut Vec<u8>, bytes: &[u8]) -> Result<(), FrameError>
 // What stands in lists.
 trait Item: Sized {
     ghost bytes: { Self → List ℕ };
+
     ghost fits: { Self → Bool };
 
     fn put(&self, out: &mut Vec<u8>) -> Result<(), FrameError>
         ensures { Puts (fits self.now) (bytes self.now) result out.old.items out.new.items };
 }
 
+// Items, one after the other. Stops as soon as no body can hold them.
 fn put_items<T: Item>(out: &mut Vec<u8>, items: &[T]) -> Result<(), FrameError>
-    ensures { Puts (list_all T.fits items.now) (flat_map T.bytes items.now) result out.old.items out.new.items }
+    ensures { Puts (list_all T.fits items.now && nat_le (length (flat_map T.bytes items.now)) fields.longest) (flat_map T.bytes items.now) result out.old.items out.new.items }
 {
+    let start = out.len();
     for item in items {
         item.put(out)?;
+        if out.len() - start > LONGEST {
+            return Err(FrameError::Frame(Fault::Oversize));
+        }
     }
     Ok(())
 }
 
 // A list behind the number of its items.
 fn put_counted<T: Item>(out: &mut Vec<u8>, items: &[T]) -> Result<(), FrameError>
-    ensures { Puts (fields.is_counted T.fits items.now) (fields.counted T.bytes items.now) result out.old.items out.new.items }
+    ensures { Puts (fields.is_counted T.fits T.bytes items.now) (fields.counted T.bytes items.now) result out.old.items out.new.items }
 {
     if items.len() >= 4_294_967_296 {
         return Err(FrameError::Frame(Fault::Oversize));
@@ -84,6 +90,7 @@ fn put_counted<T: Item>(out: &mut Vec<u8>, items: &[T]) -> Result<(), FrameError
 
 impl Item for Key {
     ghost bytes = { fields.sized 2 };
+
     ghost fits = { fields.is_sized 2 };
 
     fn put(&self, out: &mut Vec<u8>) -> Result<(), FrameError> {
@@ -93,6 +100,7 @@ impl Item for Key {
 
 impl Item for Name {
     ghost bytes = { fields.sized 2 };
+
     ghost fits = { fields.is_sized 2 };
 
     fn put(&self, out: &mut Vec<u8>) -> Result<(), FrameError> {
@@ -124,6 +132,7 @@ fn put_mutation(out: &mut Vec<u8>, mutation: &Mutation) -> Result<(), FrameError
 
 impl Item for Change {
     ghost bytes = { requests.change };
+
     ghost fits = { requests.fits_change };
 
     fn put(&self, out: &mut Vec<u8>) -> Result<(), FrameError> {
@@ -190,6 +199,7 @@ fn put_request(out: &mut Vec<u8>, op: &Op) -> Result<(), FrameError>
 
 impl Item for Column {
     ghost bytes = { replies.column };
+
     ghost fits = { replies.fits_column };
 
     fn put(&self, out: &mut Vec<u8>) -> Result<(), FrameError> {
@@ -200,6 +210,7 @@ impl Item for Column {
 
 impl Item for AnsweredRow {
     ghost bytes = { replies.row };
+
     ghost fits = { replies.fits_row };
 
     fn put(&self, out: &mut Vec<u8>) -> Result<(), FrameError> {
@@ -209,9 +220,8 @@ impl Item for AnsweredRow {
 }
 
 // A commit time and a stamp.
-#[tactic(auto, unfolding(crate::specs::Replies::commit_and_stamp))]
 fn put_commit(out: &mut Vec<u8>, commit: Time, stamp: Stamp) -> Result<(), FrameError>
-    ensures { Puts true (replies.commit_and_stamp commit stamp) result out.old.items out.new.items }
+    ensures { Puts (replies.fits_commit_and_stamp commit stamp) (replies.commit_and_stamp commit stamp) result out.old.items out.new.items }
 {
     let (time, node) = (stamp.time.get(), stamp.node.get());
     out.put_u64(commit.get())?;
