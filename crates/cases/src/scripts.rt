@@ -1,5 +1,6 @@
 //! Whole runs of scripts, and texts that are scripts or not.
-use crate::building::{number, text_of};
+use crate::building::number;
+use crate::showing::text_of;
 use std::alloc::{AllocError, Global};
 use std::io::Read;
 use std::{fs, io};
