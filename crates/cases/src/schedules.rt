@@ -1,5 +1,5 @@
-//! Schedules: operations are submitted and messages delivered as a row of numbers says, and then whatever was left. Each
-//! read that completes has to be answered with its meaning on the history of its home.
+//! Schedules: operations are submitted and messages delivered as random numbers say, and then all that is left. Each read
+//! that completes has to be answered with its meaning on the history of its home.
 use crate::building::{batch, number, range, read, topology};
 use crate::worlds::{deliver, history, submit};
 use logical_time::{Fault, Node, Time};
@@ -16,10 +16,10 @@ const SESSIONS: u16 = 3;
 
 const FIRST_SESSION: u16 = 4;
 
-/// How many numbers of its row a schedule takes.
+/// How many random numbers a schedule takes.
 const LENGTH: u16 = 300;
 
-/// The number after this one in its row.
+/// The random number after this one.
 fn following(number: u64) -> u64 {
     number.wrapping_mul(1_103_515_245).wrapping_add(12_345) % 0x8000_0000
 }
@@ -69,10 +69,10 @@ fn deliver_one(world: &mut World, number: u64) -> Result<(), Fault> {
     }
 }
 
-/// Plays the schedule of this row, and then drains the world.
-fn play(alloc: Global, world: &mut World, row: u64) -> Result<(), Fault> {
+/// Plays the schedule of this seed, and then drains the world.
+fn play(alloc: Global, world: &mut World, seed: u64) -> Result<(), Fault> {
     let mut next = [1u64; SESSIONS as usize];
-    let mut number = row;
+    let mut number = seed;
     for step in 1..=LENGTH {
         number = following(number);
         if step % 10 == 0 {
@@ -139,11 +139,11 @@ impl Count {
         Ok(())
     }
 
-    /// Adds the reads of the schedule of this row.
-    fn add_schedule(&mut self, alloc: Global, row: u64) -> Result<(), Fault> {
+    /// Adds the reads of the schedule of this seed.
+    fn add_schedule(&mut self, alloc: Global, seed: u64) -> Result<(), Fault> {
         let topology = topology(alloc, (2, 2), &[0, 1, 0])?;
         let mut world = World::new(alloc, &topology)?;
-        let added = match play(alloc, &mut world, row) {
+        let added = match play(alloc, &mut world, seed) {
             Ok(()) => self.add_all(alloc, &world),
             Err(fault) => Err(fault),
         };
@@ -153,7 +153,7 @@ impl Count {
 }
 
 /// How many schedules are to be played.
-fn rows(rt: &HostRuntime) -> Result<u64, Fault> {
+fn schedules(rt: &HostRuntime) -> Result<u64, Fault> {
     match fs::read_to_string(rt, "schedules.txt") {
         Ok(text) => Ok(number(text.trim())),
         Err(_) => Err(Fault::ReadFailed),
@@ -161,13 +161,13 @@ fn rows(rt: &HostRuntime) -> Result<u64, Fault> {
 }
 
 pub(crate) fn tell(rt: &HostRuntime) -> Result<(), Fault> {
-    let rows = rows(rt)?;
+    let schedules = schedules(rt)?;
     let mut count = Count { reads: 0, wrong: 0 };
-    for row in 1..=rows {
-        count.add_schedule(rt.alloc(), row)?;
+    for seed in 1..=schedules {
+        count.add_schedule(rt.alloc(), seed)?;
     }
     let Count { reads, wrong } = count;
-    match println!(rt; "schedules {rows}: reads {reads}, wrong {wrong}") {
+    match println!(rt; "schedules {schedules}: reads {reads}, wrong {wrong}") {
         Ok(()) => Ok(()),
         Err(_) => Err(Fault::WriteFailed),
     }
