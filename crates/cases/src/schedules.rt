@@ -41,12 +41,8 @@ fn operation(alloc: Global, number: u64) -> Result<Op, Fault> {
 }
 
 /// The session whose turn it is submits its next operation. While it is busy, it keeps that for its next turn.
-fn submit_next(
-    alloc: Global,
-    world: &mut World,
-    next: &mut [u64],
-    session: u16,
-) -> Result<(), Fault> {
+fn submit_next(alloc: Global, world: &mut World, next: &mut [u64], turn: u16) -> Result<(), Fault> {
+    let session = turn % SESSIONS;
     let Some(number) = next.get_mut(session as usize) else {
         return Err(Fault::Script);
     };
@@ -76,7 +72,7 @@ fn play(alloc: Global, world: &mut World, seed: u64) -> Result<(), Fault> {
     for step in 1..=LENGTH {
         number = following(number);
         if step % 10 == 0 {
-            submit_next(alloc, world, &mut next, step / 10 % SESSIONS)?;
+            submit_next(alloc, world, &mut next, step / 10)?;
         }
         deliver_one(world, number / 65_536)?;
     }
