@@ -1,9 +1,9 @@
 //! Times, rows, batches and reads, from the words of a step. There is one family of columns, `f`; a name has one byte.
-use column_family::{Batch, Change, Family, Key, Mutation, Name, Row, Value};
+use column_family::{Batch, Change, Family, Key, Mutation, Name, Row, Schema, Value};
 use logical_time::{Fault, Node, Stamp, Time, TxnId};
-use slice::{Answer, Columns, Keys, Names, Predicate, Read};
+use messages::Topology;
+use slice::{Keys, Names, Predicate, Read};
 use std::alloc::Global;
-use std::str;
 
 pub(crate) fn number(word: &str) -> u64 {
     word.parse().unwrap_or(0)
@@ -33,6 +33,19 @@ pub(crate) fn txn(word: &str) -> TxnId {
         session: node(first),
         number: number(second),
     }
+}
+
+/// These data centres and shards, with a session for each of the homes.
+pub(crate) fn topology(
+    alloc: Global,
+    (dcs, shards): (u16, u16),
+    homes: &[u16],
+) -> Result<Topology, Fault> {
+    let mut families = Vec::new(alloc);
+    families.push(Family::from_slice(alloc, b"f")?)?;
+    let schema = Schema::new(families).ok_or(Fault::UnknownFamily)?;
+    let homes = Vec::from_slice(alloc, homes)?;
+    Topology::new(dcs, shards, schema, homes)
 }
 
 pub(crate) fn row(alloc: Global, key: &str) -> Result<Row, Fault> {
@@ -79,6 +92,29 @@ pub(crate) fn columns_named(alloc: Global, word: &str) -> Result<Predicate, Faul
     Ok(Predicate::Names(Names::from_vec(names)))
 }
 
+/// An end of a range; `-` is open.
+fn end(alloc: Global, word: &str) -> Result<Name, Fault> {
+    Ok(Name::from_slice(alloc, word.trim_matches('-').as_bytes())?)
+}
+
+/// The columns between these ends.
+pub(crate) fn range(
+    alloc: Global,
+    start: &str,
+    finish: &str,
+    count: &str,
+    reversed: bool,
+) -> Result<Predicate, Fault> {
+    let start = end(alloc, start)?;
+    let finish = end(alloc, finish)?;
+    Ok(Predicate::Range {
+        start,
+        finish,
+        reversed,
+        count: count.parse().unwrap_or(0),
+    })
+}
+
 /// The rows of these keys, one byte each.
 fn keys(alloc: Global, word: &str) -> Result<Keys, Fault> {
     let mut keys = Vec::new(alloc);
@@ -96,28 +132,4 @@ pub(crate) fn read(alloc: Global, rows: &str, predicate: Predicate) -> Result<Re
         keys,
         predicate,
     })
-}
-
-pub(crate) fn text_of(bytes: &[u8]) -> &str {
-    str::from_utf8(bytes).unwrap_or("?")
-}
-
-/// Adds a space, the name and the value of each column.
-pub(crate) fn add_columns(seen: &mut String, columns: &Columns) -> Result<(), Fault> {
-    for column in columns.as_slice() {
-        let name = text_of(column.name.as_slice());
-        let value = text_of(column.value.as_slice());
-        write!(seen, " {name}{value}")?;
-    }
-    Ok(())
-}
-
-/// Adds the key and the columns of each row, and a semicolon after it.
-pub(crate) fn add_answer(seen: &mut String, answer: &Answer) -> Result<(), Fault> {
-    for row in answer.as_slice() {
-        seen.push_str(text_of(row.key.as_slice()))?;
-        add_columns(seen, &row.columns)?;
-        seen.push_str(";")?;
-    }
-    Ok(())
 }

@@ -7,15 +7,18 @@ mod building;
 mod chains;
 mod command_lines;
 mod marks;
-mod networks;
 mod normal_forms;
+mod parts;
 mod readers;
 mod refusals;
+mod schedules;
 mod scripts;
 mod sessions;
+mod showing;
 mod steps;
 mod stores;
 mod tables;
+mod worlds;
 
 use logical_time::Fault;
 use pending::Marks;
@@ -33,7 +36,9 @@ fn tell_steps(rt: &HostRuntime) -> Result<(), Fault> {
     steps::tell(rt, "worked_marks.steps", &mut Marks::new(alloc))?;
     stores::tell(rt)?;
     sessions::tell(rt)?;
-    networks::tell(rt)
+    worlds::tell(rt)?;
+    parts::tell(rt)?;
+    schedules::tell(rt)
 }
 
 fn tell_scripts(rt: &HostRuntime) -> io::Result<()> {

@@ -1,5 +1,6 @@
 //! Normal forms of batches.
-use crate::building::{batch, text_of};
+use crate::building::batch;
+use crate::showing::text_of;
 use crate::steps::Subject;
 use column_family::{Change, Mutation, normal};
 use logical_time::Fault;
@@ -10,7 +11,7 @@ use std::alloc::Global;
 pub(crate) struct Normal;
 
 /// Adds `KEY:`, and the name and the value where there are any.
-fn add_change(seen: &mut String, change: &Change) -> Result<(), Fault> {
+pub(crate) fn add_change(seen: &mut String, change: &Change) -> Result<(), Fault> {
     let key = text_of(change.row.key.as_slice());
     let (name, value) = match &change.mutation {
         Mutation::Insert { name, value } => (text_of(name.as_slice()), text_of(value.as_slice())),

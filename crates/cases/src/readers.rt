@@ -1,6 +1,6 @@
 //! Readers and writers that fail.
-use crate::building::text_of;
 use crate::scripts::run;
+use crate::showing::text_of;
 use std::io;
 use std::io::Read;
 use workload::{Task, perform};

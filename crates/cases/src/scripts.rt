@@ -1,5 +1,6 @@
 //! Whole runs of scripts, and texts that are scripts or not.
-use crate::building::{number, text_of};
+use crate::building::number;
+use crate::showing::text_of;
 use std::alloc::{AllocError, Global};
 use std::io::Read;
 use std::{fs, io};
@@ -48,11 +49,11 @@ fn writes(alloc: Global, script: &[u8], transcript: &[u8]) -> bool {
     status == 0 && errors.is_empty() && out.as_slice() == transcript
 }
 
-/// Whether a run of the text ends with this status, and this is told.
+/// Whether a run of the text ends with this status, and this is told. Where a fault is told, nothing may be written.
 fn ends_with(alloc: Global, text: &str, status: u8, told: &[u8]) -> bool {
     let mut reader = text.as_bytes();
-    let (ended, _, errors) = run(alloc, &mut reader);
-    ended == status && errors.as_slice() == told
+    let (ended, out, errors) = run(alloc, &mut reader);
+    ended == status && errors.as_slice() == told && (told.is_empty() || out.is_empty())
 }
 
 /// Tells whether the script of this name writes its transcript.

@@ -1,14 +1,11 @@
 //! A session that is node 2 and at home with two shards. The rows b and a lie on the shards 0 and 1, and ab on 1.
-use crate::building::{
-    add_answer, batch, columns_named, node, number, read, stamp, text_of, time, txn,
-};
+use crate::building::{batch, columns_named, node, number, read, stamp, time, topology, txn};
+use crate::showing::{add_outcome, text_of};
 use crate::steps::{Subject, tell as tell_steps};
 use client::Session;
-use column_family::{Family, Key, Name, Schema, Value};
+use column_family::{Key, Name, Value};
 use logical_time::{Fault, Node, Writers};
-use messages::{
-    AtTime, Body, Envelope, Op, Outbox, Outcome, RowAt, RowNow, RowsAt, RowsNow, Topology,
-};
+use messages::{AtTime, Body, Envelope, Op, Outbox, RowAt, RowNow, RowsAt, RowsNow};
 use slice::{Column, Columns};
 use std::alloc::Global;
 
@@ -19,17 +16,8 @@ struct Sending {
     seen: usize,
 }
 
-fn topology(alloc: Global) -> Result<Topology, Fault> {
-    let mut families = Vec::new(alloc);
-    families.push(Family::from_slice(alloc, b"f")?)?;
-    let schema = Schema::new(families).ok_or(Fault::UnknownFamily)?;
-    let mut homes = Vec::new(alloc);
-    homes.push(0)?;
-    Topology::new(1, 2, schema, homes)
-}
-
 fn new_session(alloc: Global) -> Result<Session, Fault> {
-    let topology = topology(alloc)?;
+    let topology = topology(alloc, (1, 2), &[0])?;
     let node = Node::new(2);
     match topology.home_of(node) {
         Some(_) => Session::new(alloc, &topology, node),
@@ -101,22 +89,6 @@ fn add_keys(seen: &mut String, keys: &[Key]) -> Result<(), Fault> {
         write!(seen, " {key}")?;
     }
     Ok(())
-}
-
-/// Adds what an outcome shows.
-fn add_outcome(seen: &mut String, outcome: &Outcome) -> Result<(), Fault> {
-    match outcome {
-        Outcome::Wrote { commit, .. } => {
-            let commit = commit.get();
-            Ok(write!(seen, "{commit}")?)
-        }
-        Outcome::Read { effective, answer } => {
-            let effective = effective.get();
-            write!(seen, "{effective} ")?;
-            add_answer(seen, answer)
-        }
-        Outcome::Collected => Ok(seen.push_str("collected")?),
-    }
 }
 
 impl Sending {

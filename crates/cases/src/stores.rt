@@ -1,5 +1,6 @@
 //! Column x of row b in a store.
-use crate::building::{add_columns, batch, columns_named, row, stamp, time, txn};
+use crate::building::{batch, columns_named, row, stamp, time, txn};
+use crate::showing::add_columns;
 use crate::steps::{Subject, tell as tell_steps};
 use logical_time::{Fault, Shard, Time, Writer};
 use std::alloc::Global;

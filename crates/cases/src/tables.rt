@@ -1,7 +1,8 @@
 //! Reads of the plain table.
-use crate::building::{add_answer, batch, columns_named, read, stamp, time};
+use crate::building::{batch, columns_named, range, read, stamp, time};
+use crate::showing::add_answer;
 use crate::steps::Subject;
-use column_family::{Committed, Name};
+use column_family::Committed;
 use logical_time::Fault;
 use slice::Predicate;
 use std::alloc::Global;
@@ -22,28 +23,8 @@ fn commit(
     Ok(())
 }
 
-fn end(alloc: Global, word: &str) -> Result<Name, Fault> {
-    Ok(Name::from_slice(alloc, word.trim_matches('-').as_bytes())?)
-}
-
-fn range(
-    alloc: Global,
-    start: &str,
-    finish: &str,
-    count: &str,
-    reversed: bool,
-) -> Result<Predicate, Fault> {
-    let start = end(alloc, start)?;
-    let finish = end(alloc, finish)?;
-    Ok(Predicate::Range {
-        start,
-        finish,
-        reversed,
-        count: count.parse().unwrap_or(0),
-    })
-}
-
-fn add_read(
+/// Adds what a read of the rows b, a and b means on the history.
+pub(crate) fn add_read(
     alloc: Global,
     history: &History,
     predicate: Predicate,
