@@ -4,5 +4,6 @@ pub mod Told
 pub mod Shown
 pub mod Spelled
 pub mod Drains
+pub mod DrainsInTime
 pub mod Plays
 pub mod Ends

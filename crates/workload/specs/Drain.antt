@@ -1,12 +1,15 @@
 -- What a drain makes of a run.
-use Rattle.std.specs.Prelude.{◌≡◌, ℕ, List, [], ◌∷◌, ◌++◌, length, Some, None, ◌⊎◌}
+use Rattle.std.specs.Prelude.{◌≡◌, ℕ, ◌+◌, ◌^◌, ◌<◌, ◌≤◌, true, List, [], ◌∷◌, ◌++◌, length, Some, None, ◌⊎◌}
 use Rattle.logical_time.specs.declared.fault.Fault.{Fault}
 use Rattle.logical_time.specs.declared.fault.Fault.TheVariants.{Memory}
-use Rattle.messages.specs.Topology.{TopologyValue}
+use Rattle.messages.specs.Topology.{TopologyValue, is_topology}
 use Rattle.world.specs.declared.run_event.RunEvent.{RunEvent as Event}
 use Rattle.world.specs.declared.run_event.RunEvent.TheVariants.{Deliver}
 use Rattle.world.specs.Run.{Run, step, run}
+use Rattle.world.specs.Quiet.{IsQuiet}
+use Rattle.world.specs.Settled.{Settled}
 use Rattle.world.specs.Refusals.{Refused, refusal_of}
+use Rattle.world.specs.Drains.{deliveries_left, HasEnded}
 use Rattle.workload.specs.Simulation.{deliveries}
 
 -- none of these events is refused, one after the other
@@ -30,3 +33,14 @@ pub record IsDrainedUntil (top : TopologyValue) (before after : List Event) (fau
   pub happened : after ≡ before ++ done
   pub allowed : AreAllowed top (run top before) done
   pub refused : (fault ≡ Memory) ⊎ (refusal_of top (run top after) (Deliver next) ≡ Some (Refused fault))
+
+-- A drain that delivered fewer than it may has left nothing: all is handled and done.
+pub record LeavesNothing (top : TopologyValue) (after : List Event) : Type 0 where
+  pub quiet : IsQuiet (run top after)
+  pub settled : Settled top (run top after)
+
+-- What is left is within what a drain delivers, and clocks have room for it.
+pub record HasRoom (top : TopologyValue) (before : List Event) : Type 0 where
+  pub is_one : is_topology top.dcs top.shards top.homes ≡ true
+  pub within : deliveries_left top (run top before) ≤ 1000000
+  pub clocks : length (run top before).events + deliveries_left top (run top before) < 2 ^ 48

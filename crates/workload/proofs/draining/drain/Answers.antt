@@ -1,8 +1,10 @@
 use Rattle.std.proofs.Common.{◌≡◌, ◌∙◌, suc, ◌+◌, ◌-◌, arith, ap, refl, subst, sym}
 use Rattle.std.proofs.lemmas.Result.{err_from_is_err_and}
 use Rattle.world.specs.World.{WorldValue, run_of}
+use Rattle.world.proofs.Unhandled.{finds_unhandled}
 use Rattle.workload.specs.Drain.{IsDrained}
 use Rattle.workload.proofs.Drains.{not_begun, all_made, sent_unhandled, taken_more, whole_drain, refused_drain}
+use Rattle.workload.proofs.DrainsInTime.{world_in_time, memory_alone}
 use Rattle.workload.proofs.draining.drain.Goals as goal
 
 pub loop-delivered-init : goal.loop-delivered-init
@@ -50,3 +52,27 @@ returns-clause-ok c =
     let start = c.args.world.now in
     subst (λ n. IsDrained start.top start.events c.loop-delivered.world.events n) (omega arith)
     (all_made start.top start.events c.loop-delivered.world.events c.loop-delivered.delivered (c.loop-delivered.invariant.underway 0 whole) whole)
+
+pub returns-in_default-clause-nothing_left : goal.returns-in_default-clause-nothing_left
+returns-in_default-clause-nothing_left c fewer = record {
+  quiet = (finds_unhandled (run_of c.loop-delivered.world)).none.0 (sym c.first_unhandled.ensures.exact ∙ c.in_default.is);
+  settled = c.first_unhandled.ensures.done c.in_default.is;
+}
+
+pub returns-in_default-clause-in_time : goal.returns-in_default-clause-in_time
+returns-in_default-clause-in_time c room =
+    world_in_time c.args.world.now c.loop-delivered.world c.loop-delivered.invariant.topology c.loop-delivered.delivered (returns-in_default-clause-ok c) room
+
+pub returns-clause-in_time : goal.returns-clause-in_time
+returns-clause-in_time c room =
+    world_in_time c.args.world.now c.loop-delivered.world c.loop-delivered.invariant.topology 1000000 (returns-clause-ok c) room
+
+pub returns-in_err-deliver-clause-memory_alone : goal.returns-in_err-deliver-clause-memory_alone
+returns-in_err-deliver-clause-memory_alone c =
+    let left = 999999 - c.loop-delivered.delivered in
+    let whole : c.loop-delivered.delivered + suc left ≡ 1000000 = omega arith in
+    let p = err_from_is_err_and c.from_residual.result c.from_residual.ensures.1 in
+    rw (p.1, p.2)
+    (memory_alone c.args.world.now.top c.args.world.now.events c.loop-delivered.world.events c.in_err-deliver.field-0.0
+    (refused_drain c.args.world.now c.loop-delivered.world c.loop-delivered.invariant.topology c.loop-delivered.delivered left c.in-Some.number c.in_err-deliver.field-0.0
+    (c.loop-delivered.invariant.underway (suc left) whole) whole (sym c.first_unhandled.ensures.exact ∙ c.in-Some.is) c.in_err-deliver.ensures.refused))
