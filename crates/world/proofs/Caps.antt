@@ -1,7 +1,7 @@
 -- How many there can be at most, by the submissions: decisions of a shard, transactions that a read asks for, cohorts and
 -- dependencies of a ballot.
-use Rattle.std.proofs.Common.{◌≡◌, ◌∙◌, ℕ, ◌+◌, ◌≤◌, List, [], ◌∷◌, map, length, ◌⊎◌, inl, inr, refl, sym, ap, subst, arith, not, ◌&&◌}
-use Rattle.std.specs.Prelude.{◌==◌}
+use Rattle.std.proofs.Common.{◌≡◌, ◌∙◌, ℕ, ◌+◌, ◌<◌, ◌≤◌, true, eq-eqb, List, [], ◌∷◌, map, length, ◌⊎◌, inl, inr, refl, sym, ap, subst, arith, not, ◌&&◌}
+use Rattle.std.specs.Prelude.{◌==◌, filter}
 use Rattle.std.specs.declared.cmp.Ordering.TheVariants.{Less}
 use Rattle.std.specs.List.{range_with_len, AllByRecursion}
 use Rattle.std.specs.List.Sorted.{IsStrictlySortedBy}
@@ -12,21 +12,23 @@ use Rattle.logical_time.specs.Stamps.{TxnValue, WriterValue, writer_cmp}
 use Rattle.column_family.specs.declared.batch.Change.{Change}
 use Rattle.slice.specs.declared.read.Read.{Read}
 use Rattle.planner.specs.Plan.{coordinator_of, cohorts_of, is_touched}
+use Rattle.messages.specs.declared.op.Op.TheVariants as op
 use Rattle.messages.specs.declared.body.Body.{Body}
 use Rattle.messages.specs.declared.body.Body.TheVariants.{Begin, ReplBegin}
 use Rattle.messages.specs.declared.envelope.Envelope.{Envelope}
-use Rattle.messages.specs.Topology.{TopologyValue, shard_count}
+use Rattle.messages.specs.Topology.{TopologyValue, dc_of, shard_of, shard_count}
 use Rattle.messages.specs.Shard.{Decision}
 use Rattle.messages.specs.Reads.{marks_below, asked_below}
 use Rattle.messages.proofs.WritersInOrder.{writers_ascend}
 use Rattle.world.specs.Run.{Run, Submission}
-use Rattle.world.specs.Drains.{DecisionsAreCapped, most_dependencies, sizes_of}
-use Rattle.world.proofs.Among.{Among}
-use Rattle.world.proofs.Facts.{txn_of, DecidedOnce}
+use Rattle.world.specs.Drains.{is_led, DecisionsAreCapped, most_dependencies, sizes_of}
+use Rattle.world.proofs.Among.{Among, filter_among}
+use Rattle.world.proofs.Facts.{txn_of, lead, DecidedOnce}
+use Rattle.world.proofs.Near.{lead_number}
 use Rattle.world.proofs.Invariant.{Says, Inv}
 use Rattle.world.proofs.AskedMarks.{writer_at, asked_prepared}
 use Rattle.world.proofs.Unfinished.{equal_self}
-use Rattle.world.proofs.Totals.{total_capped}
+use Rattle.world.proofs.Totals.{total_below}
 use Rattle.world.proofs.NewDecisions.{filter_short}
 use Rattle.world.proofs.DecisionDescents.{Fits, AreWithin, IsWithin}
 
@@ -88,13 +90,26 @@ decided_apart : (ds : List Decision) → DecidedOnce ds → Apart (λ (d : Decis
 decided_apart [] once = tt
 decided_apart (d ∷ ds) once = (once.0, decided_apart ds once.1)
 
-pub decisions_capped : (top : TopologyValue) (w : Run) → Inv top w → DecisionsAreCapped top w
-decisions_capped top w inv = total_capped (λ node. length (w.shards node).decided) (length w.submitted) (shard_count top) each
+-- what a shard decides it coordinates
+led : (top : TopologyValue) (node : ℕ) (b : Submission) (batch : List Change) → 0 < top.shards → b.op ≡ op.Batch batch → node ≡ lead top (dc_of top node) batch
+    → is_led top node b.op ≡ true
+led top node b batch some is here =
+    ap (is_led top node) is ∙ eq-eqb (coordinator_of top.shards batch) (shard_of top node) (sym (lead_number top node (dc_of top node) batch some here))
+
+pub decisions_capped : (top : TopologyValue) (w : Run) → 0 < top.shards → Inv top w → DecisionsAreCapped top w
+decisions_capped top w some inv =
+    total_below (λ node. length (w.shards node).decided) (λ node. length (filter (λ (b : Submission). is_led top node b.op) w.submitted)) (shard_count top) each
   where
-    each : (node : ℕ) → length (w.shards node).decided ≤ length w.submitted
+    each : (node : ℕ) → length (w.shards node).decided ≤ length (filter (λ (b : Submission). is_led top node b.op) w.submitted)
     each node =
-        no_more (λ (d : Decision). d.txn) (w.shards node).decided w.submitted (decided_apart (w.shards node).decided (inv.shards node).once)
-        (λ d m. let s = (inv.shards node).decided d m in (s.submission, s.written.among, s.written.txn))
+        no_more (λ (d : Decision). d.txn) (w.shards node).decided (filter (λ (b : Submission). is_led top node b.op) w.submitted)
+        (decided_apart (w.shards node).decided (inv.shards node).once)
+        (λ d m.
+        let s = (inv.shards node).decided d m in (
+          s.submission,
+          filter_among (λ (b : Submission). is_led top node b.op) w.submitted s.submission s.written.among (led top node s.submission s.batch some s.written.op s.here),
+          s.written.txn,
+        ))
 
 -- ## Ballots
 

@@ -251,4 +251,4 @@ pub deliveries_come_nearer : (top : TopologyValue) (events : List Event) → is_
 deliveries_come_nearer top events ok k e there = elim (delivered top events ok k e there) [ inl nearer ↦ inl nearer.comes | inr spent ↦ inr spent.1 ]
 
 pub decisions_are_capped : (top : TopologyValue) (events : List Event) → 0 < top.shards → DecisionsAreCapped top (run top events)
-decisions_are_capped top events some = decisions_capped top (run top events) (every_run top events some)
+decisions_are_capped top events some = decisions_capped top (run top events) some (every_run top events some)

@@ -8,13 +8,13 @@ use Rattle.std.proofs.lemmas.List.Sums.{sum_by-cons}
 use Rattle.messages.specs.declared.body.Body.{Body}
 use Rattle.messages.specs.declared.body.Body.TheVariants.{Begin, Prepare, Yes, Commit, At, NotBy, Check, Read, ReadAt, ReplBegin, ReplPart, Notify, PrepareRemote, DepCheck, DepOk, Done, PartNow, PartAt}
 use Rattle.messages.specs.declared.envelope.Envelope.{Envelope}
-use Rattle.messages.specs.Topology.{TopologyValue, is_topology, is_shard, shard_count}
+use Rattle.messages.specs.Topology.{TopologyValue, is_topology, is_shard}
 use Rattle.world.specs.Run.{Run, Event, Deliver, opening, step, run}
 use Rattle.world.specs.Quiet.{handled, IsQuiet}
 use Rattle.world.specs.Lookups.{first_unhandled}
 use Rattle.world.specs.Refusals.{clock_at}
 use Rattle.world.specs.Settled.{Settled}
-use Rattle.world.specs.Drains.{decisions_taken, DecisionsAreCapped, ClocksCountEvents, Sizes, sizes_of, cost, cost_of_all, cost_of_decision, cost_of_unhandled, deliveries_left, with_delivered, drained, DrainsEnd, DeliveriesAreAllowed, DeliveriesLeaveFewer}
+use Rattle.world.specs.Drains.{decisions_taken, decisions_to_take, DecisionsAreCapped, ClocksCountEvents, Sizes, sizes_of, cost, cost_of_all, cost_of_decision, cost_of_unhandled, deliveries_left, with_delivered, drained, DrainsEnd, DeliveriesAreAllowed, DeliveriesLeaveFewer}
 use Rattle.world.proofs.Among.{Among, append_first, among_last, any_true, any_among, get_among, among_contains}
 use Rattle.world.proofs.Runs.{run_after}
 use Rattle.world.proofs.Prefixes.{get_there}
@@ -131,18 +131,18 @@ leaves_fewer : (top : TopologyValue) (w x : Run) (k : ℕ) (e : Envelope) → De
     → (Contains (handled w) k → ⊥) → deliveries_left top x < deliveries_left top w
 leaves_fewer top w x k e capped still n there none =
     let s = sizes_of w.submitted in
-    let count : length x.submitted ≡ length w.submitted = ap length n.submitted in
+    let count : decisions_to_take top x.submitted ≡ decisions_to_take top w.submitted = ap (decisions_to_take top) n.submitted in
     let messages : cost_of_unhandled top (sizes_of x.submitted) (handled x) 0 x.sent ≡ cost_of_unhandled top s (handled w ++ k ∷ []) 0 (w.sent ++ n.comes.sends) =
     ap (λ b. cost_of_unhandled top (sizes_of b) (handled x) 0 x.sent) n.submitted
     ∙ (ap (λ hs. cost_of_unhandled top s hs 0 x.sent) n.comes.handled ∙ ap (cost_of_unhandled top s (handled w ++ k ∷ []) 0) n.comes.sent) in
     let same : price top x ≡ price top w = ap (λ b. cost_of_decision top (sizes_of b)) n.submitted in
     let moved = exchanged top s (handled w) k w.sent n.comes.sends e there (unhandled_number (handled w) k none) in
-    let before = spent_and_left (shard_count top * length w.submitted) (decisions_taken top w) (price top w) capped in
-    let fits : decisions_taken top x ≤ shard_count top * length w.submitted = subst (λ m. decisions_taken top x ≤ shard_count top * m) count still in
-    let after = spent_and_left (shard_count top * length w.submitted) (decisions_taken top x) (price top w) fits in
-    let left : (shard_count top * length x.submitted - decisions_taken top x) * price top x ≡ (shard_count top * length w.submitted - decisions_taken top x) * price top w =
-    ap (λ m. (shard_count top * m - decisions_taken top x) * price top x) count
-    ∙ ap (λ p. (shard_count top * length w.submitted - decisions_taken top x) * p) same in
+    let before = spent_and_left (decisions_to_take top w.submitted) (decisions_taken top w) (price top w) capped in
+    let fits : decisions_taken top x ≤ decisions_to_take top w.submitted = subst (λ m. decisions_taken top x ≤ m) count still in
+    let after = spent_and_left (decisions_to_take top w.submitted) (decisions_taken top x) (price top w) fits in
+    let left : (decisions_to_take top x.submitted - decisions_taken top x) * price top x ≡ (decisions_to_take top w.submitted - decisions_taken top x) * price top w =
+    ap (λ m. (m - decisions_taken top x) * price top x) count
+    ∙ ap (λ p. (decisions_to_take top w.submitted - decisions_taken top x) * p) same in
     let costs = n.costs in
     omega arith
 

@@ -1,5 +1,5 @@
--- Sums over nodes: where nothing changes, and where one node's part does.
-use Rattle.std.proofs.Common.{◌≡◌, ℕ, zero, suc, ◌+◌, ◌*◌, ◌<◌, ◌≤◌, inl, inr, refl, subst, arith}
+-- Sums over nodes: where nothing changes, where one node's part does, and where none is more.
+use Rattle.std.proofs.Common.{◌≡◌, ℕ, zero, suc, ◌+◌, ◌<◌, ◌≤◌, inl, inr, refl, subst, arith}
 use Rattle.std.specs.Prelude.{◌≢◌}
 use Rattle.std.proofs.lemmas.Bool.{cases_lt}
 use Rattle.world.specs.Drains.{total}
@@ -20,7 +20,6 @@ total_one f g node (suc n) lt others = elim (cases_lt node n) [
       subst (λ (i : ℕ). total g (suc n) + f i ≡ total f (suc n) + g i) is ends
 ]
 
--- no more than so many of each
-pub total_capped : (f : ℕ → ℕ) (c n : ℕ) → ((m : ℕ) → f m ≤ c) → total f n ≤ n * c
-total_capped f c zero le = omega arith
-total_capped f c (suc n) le = let rest = total_capped f c n le in let last = le n in omega arith
+pub total_below : (f g : ℕ → ℕ) (n : ℕ) → ((m : ℕ) → f m ≤ g m) → total f n ≤ total g n
+total_below f g zero le = omega arith
+total_below f g (suc n) le = let rest = total_below f g n le in let last = le n in omega arith

@@ -1,12 +1,15 @@
 -- Why deliveries of what wasn't handled come to an end, and after how many: each handled message is a step down a ladder of
 -- ranks, but for decisions, and there are only so many.
-use Rattle.std.specs.Prelude.{◌≡◌, ◌≢◌, ℕ, zero, suc, ◌+◌, ◌-◌, ◌*◌, ◌^◌, ◌<◌, ◌≤◌, ◌==◌, max, true, not, if◌then◌else◌, ◌⊎◌, List, [], ◌∷◌, ◌++◌, length, filter, slice_get, Option, Some, None, is_some, Contains}
+use Rattle.std.specs.Prelude.{◌≡◌, ◌≢◌, ℕ, zero, suc, ◌+◌, ◌-◌, ◌*◌, ◌^◌, ◌<◌, ◌≤◌, ◌==◌, max, Bool, true, false, not, if◌then◌else◌, ◌⊎◌, List, [], ◌∷◌, ◌++◌, length, filter, slice_get, Option, Some, None, is_some, Contains}
 use Rattle.std.specs.List.{list_any, sum_by}
 use Rattle.logical_time.specs.declared.fault.Fault.TheVariants.{ClockSpent}
 use Rattle.messages.specs.declared.body.Body.{Body}
 use Rattle.messages.specs.declared.body.Body.TheVariants.{Begin, Prepare, Yes, Commit, At, NotBy, Check, Read, ReadAt, ReplBegin, ReplPart, Notify, PrepareRemote, DepCheck, DepOk, Done, PartNow, PartAt}
 use Rattle.messages.specs.declared.envelope.Envelope.{Envelope}
-use Rattle.messages.specs.Topology.{TopologyValue, is_shard, shard_count}
+use Rattle.messages.specs.declared.op.Op.{Op}
+use Rattle.messages.specs.declared.op.Op.TheVariants as op
+use Rattle.planner.specs.Plan.{coordinator_of}
+use Rattle.messages.specs.Topology.{TopologyValue, shard_of, is_shard, shard_count}
 use Rattle.messages.specs.Shard.{ShardState, Decision}
 use Rattle.messages.specs.Known.{decision_of}
 use Rattle.world.specs.Run.{Run, Submission, Deliver, step}
@@ -54,6 +57,15 @@ total f (suc n) = total f n + f n
 abbrev pub decisions_taken : TopologyValue → Run → ℕ
 decisions_taken top w = total (λ node. length (w.shards node).decided) (shard_count top)
 
+-- whether the shard with this node coordinates the operation in its data centre: a batch whose first row is its
+abbrev pub is_led : TopologyValue → ℕ → Op → Bool
+is_led top node (op.Batch batch) = coordinator_of top.shards batch == shard_of top node
+is_led top node (op.Read read) = false
+
+-- how many decisions all shards can take: of each submitted batch one in each data centre
+abbrev pub decisions_to_take : TopologyValue → List Submission → ℕ
+decisions_to_take top submitted = total (λ node. length (filter (λ s. is_led top node s.op) submitted)) (shard_count top)
+
 -- one shard has one decision more, and no other has another
 pub record HasOneMore (top : TopologyValue) (before after : Run) : Type 0 where
   pub node : ℕ
@@ -85,9 +97,9 @@ pub record MeetsSpentClock (top : TopologyValue) (w : Run) (k : ℕ) (e : Envelo
 abbrev pub DeliveriesComeNearer : TopologyValue → Run → Type 0
 DeliveriesComeNearer top w = (k : ℕ) (e : Envelope) → slice_get w.sent k ≡ Some e → ComesNearer top w (step top w (Deliver k)) k e ⊎ MeetsSpentClock top w k e
 
--- no shard takes more decisions than there are submissions
+-- no more decisions are taken than there are
 abbrev pub DecisionsAreCapped : TopologyValue → Run → Type 0
-DecisionsAreCapped top w = decisions_taken top w ≤ shard_count top * length w.submitted
+DecisionsAreCapped top w = decisions_taken top w ≤ decisions_to_take top w.submitted
 
 -- ## Clocks
 
@@ -188,7 +200,7 @@ cost_of_waiting top a =
 abbrev pub deliveries_left : TopologyValue → Run → ℕ
 deliveries_left top w =
     cost_of_unhandled top (sizes_of w.submitted) (handled w) 0 w.sent + total (λ node. cost_of_waiting top (w.shards node)) (shard_count top)
-    + (shard_count top * length w.submitted - decisions_taken top w) * cost_of_decision top (sizes_of w.submitted)
+    + (decisions_to_take top w.submitted - decisions_taken top w) * cost_of_decision top (sizes_of w.submitted)
 
 -- ## Drains
 

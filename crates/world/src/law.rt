@@ -182,8 +182,8 @@ pub fn worked_times()
 pub fn worked_drains()
     ensures one_write { deliveries_left one_shard only_submitted ≡ 10 }
     ensures one_write_takes { deliveries_taken one_shard only_submitted ≡ 2 }
-    ensures batch { deliveries_left two_by_two batch_for_both ≡ 151 }
+    ensures batch { deliveries_left two_by_two batch_for_both ≡ 77 }
     ensures batch_takes { deliveries_taken two_by_two batch_for_both ≡ 11 }
-    ensures waiting { deliveries_left two_shards_of_three two_reads_wait ≡ 227 }
+    ensures waiting { deliveries_left two_shards_of_three two_reads_wait ≡ 45 }
     ensures waiting_takes { deliveries_taken two_shards_of_three two_reads_wait ≡ 9 }
 {}
