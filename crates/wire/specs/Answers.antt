@@ -33,8 +33,9 @@ abbrev pub Puts : {T : Type 0} → Bool → List ℕ → Result T FrameError →
 Puts fits added (Ok x) old new = (fits ≡ true) × (new ≡ old ++ added)
 Puts fits added (Err e) old new = Refuses e fits
 
--- Feeding a piece to a reader without a fault. The piece stands at the end of the text, and all that is whole is read: up
--- to a frame that isn't there yet, or up to a fault, which is then the first one. Where memory is refused nothing changes.
+-- Feeding a piece to a reader without a fault. The piece stands at the end of the text, and all that is whole is read:
+-- up to a frame that isn't there yet, or up to a fault, which is then the first one. Where memory is refused nothing
+-- changes.
 abbrev pub Feeds : {T : Type 0} → List ℕ → ReaderValue → ReaderValue → Result T Fault → Type 0
 Feeds piece old new (Ok x) = (text new ≡ text old ++ piece) × (new.fault ≡ None) × (front_of new.rest ≡ waits)
 Feeds piece old new (Err Memory) = new ≡ old

@@ -36,8 +36,8 @@ impl Model for Reader {
     ghost invariant = { λ r. IsRead (record { held = r.held.items; rest = r.rest.items; fault = r.fault }) };
 }
 
-// Takes the requests of the whole frames that stand first, up to a fault. Gives how many bytes their frames have, and the
-// fault.
+// Takes the requests of the whole frames that stand first, up to a fault. Gives how many bytes their frames have, and
+// the fault.
 fn take_frames(
     alloc: Global,
     bytes: &[u8],
