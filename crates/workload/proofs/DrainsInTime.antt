@@ -1,5 +1,5 @@
 -- A drain whose bound is within its limit ends in a quiet world, and nothing but memory refuses it.
-use Rattle.std.proofs.Common.{◌≡◌, ◌∙◌, ℕ, zero, suc, ◌+◌, ◌<◌, true, List, [], ◌∷◌, ◌++◌, length, Option, Some, None, ◌⊎◌, refl, ap, sym, subst, arith, append_assoc, append-nil, inl, inr}
+use Rattle.std.proofs.Common.{◌≡◌, ◌∙◌, ℕ, zero, suc, ◌+◌, ◌<◌, true, List, [], ◌∷◌, ◌++◌, length, Option, Some, None, refl, ap, sym, subst, arith, append_assoc, append-nil, inl, inr}
 use Rattle.std.specs.Prelude.{◌^◌}
 use Rattle.std.proofs.lemmas.List.{length-append}
 use Rattle.logical_time.specs.declared.fault.Fault.{Fault}
@@ -8,7 +8,7 @@ use Rattle.messages.specs.Topology.{TopologyValue, is_topology}
 use Rattle.world.specs.declared.run_event.RunEvent.{RunEvent as Event}
 use Rattle.world.specs.declared.run_event.RunEvent.TheVariants.{Deliver}
 use Rattle.world.specs.Run.{Run, opening, step, continued, run}
-use Rattle.world.specs.Refusals.{Refused, refusal_of}
+use Rattle.world.specs.Refusals.{refusal_of}
 use Rattle.world.specs.Lookups.{first_unhandled}
 use Rattle.world.specs.World.{WorldValue, run_of}
 use Rattle.world.specs.Drains.{deliveries_left, with_delivered, drained, HasEnded}

@@ -9,7 +9,7 @@ use Rattle.world.specs.Run.{Run, step, run}
 use Rattle.world.specs.Quiet.{IsQuiet}
 use Rattle.world.specs.Settled.{Settled}
 use Rattle.world.specs.Refusals.{Refused, refusal_of}
-use Rattle.world.specs.Drains.{deliveries_left, HasEnded}
+use Rattle.world.specs.Drains.{deliveries_left}
 use Rattle.workload.specs.Simulation.{deliveries}
 
 -- none of these events is refused, one after the other
