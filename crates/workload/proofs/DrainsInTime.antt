@@ -32,18 +32,18 @@ drained_is top (suc n) w = by (first_unhandled w) refl (λ k. drained_is top n (
     by (Some k) first rest =
         ap (continued top w) (next_delivered top n w k first) ∙ (rest k ∙ ap (λ o. drained top n (with_delivered top w o)) (sym first))
 
-ends_in_time : (top : TopologyValue) (before after : List Event) (count : ℕ) → IsDrained top before after count → HasRoom top before
-    → HasEnded top (run top before) (run top after)
-ends_in_time top before after count d room =
+ends_in_time : (top : TopologyValue) (before after : List Event) (count : ℕ) → is_topology top.dcs top.shards top.homes ≡ true → IsDrained top before after count
+    → HasRoom top before → HasEnded top (run top before) (run top after)
+ends_in_time top before after count ok d room =
     subst (HasEnded top (run top before))
     (sym (from_there top before after (deliveries top 1000000 (run top before)) d.happened ∙ drained_is top 1000000 (run top before)))
-    (drains_end top room.is_one before 1000000 room.within room.clocks)
+    (drains_end top ok before 1000000 room.within room.clocks)
 
 -- so of a world
-pub world_in_time : (start w : WorldValue) → w.top ≡ start.top → (count : ℕ) → IsDrained start.top start.events w.events count → HasRoom start.top start.events
+pub world_in_time : (start w : WorldValue) → is_topology start.top.dcs start.top.shards start.top.homes ≡ true → w.top ≡ start.top → (count : ℕ) → IsDrained start.top start.events w.events count → HasRoom start.top start.events
     → HasEnded start.top (run_of start) (run_of w)
-world_in_time start w same count d room =
-    subst (λ t. HasEnded start.top (run_of start) (run t w.events)) (sym same) (ends_in_time start.top start.events w.events count d room)
+world_in_time start w ok same count d room =
+    subst (λ t. HasEnded start.top (run_of start) (run t w.events)) (sym same) (ends_in_time start.top start.events w.events count ok d room)
 
 -- no delivery of a drain is refused where clocks have room for it
 next_allowed : (top : TopologyValue) → is_topology top.dcs top.shards top.homes ≡ true → (n : ℕ) (events done rest : List Event) (next : ℕ)
@@ -87,9 +87,9 @@ next_allowed top ok (suc n) events done rest next room is =
         (again k xs (subst (λ v. length v.events + deliveries_left top v < 2 ^ 48) (sym more) left)
         (subst (λ v. deliveries top n v ≡ xs ++ Deliver next ∷ rest) (sym more) others))
 
-pub memory_alone : (top : TopologyValue) (before after : List Event) (e : Fault) → IsDrainedUntil top before after e → HasRoom top before → e ≡ Memory
-memory_alone top before after e d room =
-    let allowed = next_allowed top room.is_one 1000000 before d.done d.rest d.next room.clocks d.drain in
+pub memory_alone : (top : TopologyValue) (before after : List Event) (e : Fault) → is_topology top.dcs top.shards top.homes ≡ true → IsDrainedUntil top before after e → HasRoom top before → e ≡ Memory
+memory_alone top before after e ok d room =
+    let allowed = next_allowed top ok 1000000 before d.done d.rest d.next room.clocks d.drain in
     elim (d.refused) [
       | inl memory ↦ memory
       | inr refused ↦ (let clash = sym allowed ∙ (ap (λ xs. refusal_of top (run top xs) (Deliver d.next)) (sym d.happened) ∙ refused) in absurd (none_some clash))

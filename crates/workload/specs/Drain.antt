@@ -1,8 +1,8 @@
 -- What a drain makes of a run.
-use Rattle.std.specs.Prelude.{◌≡◌, ℕ, ◌+◌, ◌^◌, ◌<◌, ◌≤◌, true, List, [], ◌∷◌, ◌++◌, length, Some, None, ◌⊎◌}
+use Rattle.std.specs.Prelude.{◌≡◌, ℕ, ◌+◌, ◌^◌, ◌<◌, ◌≤◌, List, [], ◌∷◌, ◌++◌, length, Some, None, ◌⊎◌}
 use Rattle.logical_time.specs.declared.fault.Fault.{Fault}
 use Rattle.logical_time.specs.declared.fault.Fault.TheVariants.{Memory}
-use Rattle.messages.specs.Topology.{TopologyValue, is_topology}
+use Rattle.messages.specs.Topology.{TopologyValue}
 use Rattle.world.specs.declared.run_event.RunEvent.{RunEvent as Event}
 use Rattle.world.specs.declared.run_event.RunEvent.TheVariants.{Deliver}
 use Rattle.world.specs.Run.{Run, step, run}
@@ -41,6 +41,5 @@ pub record LeavesNothing (top : TopologyValue) (after : List Event) : Type 0 whe
 
 -- What is left is within what a drain delivers, and clocks have room for it.
 pub record HasRoom (top : TopologyValue) (before : List Event) : Type 0 where
-  pub is_one : is_topology top.dcs top.shards top.homes ≡ true
   pub within : deliveries_left top (run top before) ≤ 1000000
   pub clocks : length (run top before).events + deliveries_left top (run top before) < 2 ^ 48

@@ -12,8 +12,7 @@ const MOST_DELIVERIES: u64 = 1_000_000;
 
 /// Delivers each message that was not handled, lowest number first, those sent meanwhile included, until there is none or
 /// 1,000,000 were delivered. Gives how many; fewer than that only where the world is quiet. Refused with `ClockSpent` or with
-/// `Memory`; what was delivered before stays.
-/// Linear in the messages delivered, each at the cost of its delivery.
+/// `Memory`; what was delivered before stays. Linear in the messages delivered, each at the cost of its delivery.
 pub fn drain(world: &mut World) -> Result<u64, Fault>
     ensures ok { IfOk result (IsDrained world.old.top world.old.events world.new.events) }
     ensures refused { IfErr result (IsDrainedUntil world.old.top world.old.events world.new.events) }
@@ -24,6 +23,8 @@ pub fn drain(world: &mut World) -> Result<u64, Fault>
     ensures in_time { IfOk result (λ n. HasRoom world.old.top world.old.events → HasEnded world.old.top (run_of world.old) (run_of world.new)) }
     ensures memory_alone { IfErr result (λ e. HasRoom world.old.top world.old.events → e ≡ Fault.Memory) }
 {
+    // what is known of drains is known within the limits of a topology
+    let _limits = world.topology();
     for delivered in 0..MOST_DELIVERIES {
         let Some(number) = world.first_unhandled() else {
             return Ok(delivered);

@@ -166,6 +166,7 @@ pub fn simulate(alloc: Global, script: &Script) -> Result<Transcript, Fault>
     ensures ok { IfOk result (IsTranscriptOf script.now) }
     ensures faults { IfErr result (λ e. (e ≡ Fault.Memory) ⊎ (simulated script.now ≡ Err e)) }
 {
+    // each data centre has a shard
     let _limits = script.topology.shards();
     let mut world = World::new(alloc, &script.topology)?;
     let mut transcript = Transcript::new(alloc);

@@ -16,7 +16,7 @@ use Rattle.messages.specs.Clock.{ticked, on_clock}
 use Rattle.messages.specs.Submitting.{begun, submit_fault, submit_if as submitted_if, session_submit}
 use Rattle.messages.specs.declared.op.Op.{Op}
 use Rattle.messages.specs.declared.envelope.Envelope.{Envelope}
-use Rattle.messages.specs.Topology.{TopologyValue, is_shard, is_session, shard_count, node_count}
+use Rattle.messages.specs.Topology.{TopologyValue, is_shard, is_session, is_topology, shard_count, node_count}
 use Rattle.messages.specs.Session.{is_idle}
 use Rattle.world.specs.declared.actors.Actors.{Actors}
 use Rattle.world.specs.declared.log.Log.{Log}
@@ -355,6 +355,9 @@ pub sent_number : (a : Actors) (l : Log) (number : ℕ) → Holds a.topology a l
 sent_number a l number h lt = subst (λ (z : List Envelope). number < length z) h.running.sent lt
 
 -- ## What is told
+
+pub told_topology : (a : Actors) (l : Log) → Holds a.topology a l → is_topology a.topology.dcs a.topology.shards a.topology.homes ≡ true
+told_topology a l h = h.running.sound
 
 pub told_sent : (a : Actors) (l : Log) → Holds a.topology a l → a.network.sent ≡ (run a.topology l.events.items).sent
 told_sent a l h = sym h.running.sent

@@ -1,7 +1,7 @@
 //! Worlds: every interleaving of what actors do, as a list of calls.
 ghost use Rattle.std.specs.Prelude.{◌≡◌, ◌<◌, ◌+◌, ◌++◌, ◌↔◌, ℕ, List, [], length, is_some, true, Some, None, option_map, IfOk, IfErr, OnOk, OnErr};
 ghost use Rattle.logical_time.specs.declared.fault.Fault.TheVariants as fault;
-ghost use Rattle.messages.specs.Topology.{is_shard, is_session};
+ghost use Rattle.messages.specs.Topology.{is_shard, is_session, is_topology};
 ghost use Rattle.world.specs.Run.{Event, Submit, Deliver, Collect};
 ghost use Rattle.world.specs.Causes.{PastsAreDecided};
 ghost use Rattle.world.specs.Collected.{CollectedIsBelowHorizon};
@@ -114,8 +114,10 @@ impl World {
     }
 
     /// Which actors there are.
+    #[tactic(auto, using(crate::proofs::Held::told_topology))]
     pub fn topology(&self) -> &Topology
-        ensures { result.now ≡ self.now.top }
+        ensures value { result.now ≡ self.now.top }
+        ensures limits { is_topology self.now.top.dcs self.now.top.shards self.now.top.homes ≡ true }
     {
         &self.actors.topology
     }
