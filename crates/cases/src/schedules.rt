@@ -11,9 +11,10 @@ use table::answer;
 use workload::drain;
 use world::{Completed, World};
 
-/// How many sessions there are, and the node of the first of them.
+/// How many sessions there are.
 const SESSIONS: u16 = 3;
 
+/// The node of the first session.
 const FIRST_SESSION: u16 = 4;
 
 /// How many random numbers a schedule takes.
