@@ -1,5 +1,5 @@
-//! Schedules: operations are submitted and messages delivered as random numbers say, and then all that is left. Each read
-//! that completes has to be answered with its meaning on the history of its home.
+//! Schedules: operations are submitted and messages delivered as random numbers say, and then all that is left. Each
+//! completed read has to be answered with its meaning on the history of its home.
 use crate::building::{batch, number, range, read, topology};
 use crate::worlds::{deliver, history, submit};
 use logical_time::{Fault, Node, Time};
