@@ -1,5 +1,5 @@
-//! Schedules: operations are submitted and messages delivered as random numbers say, and then all that is left. Each read
-//! that completes has to be answered with its meaning on the history of its home.
+//! Schedules: operations are submitted and messages delivered as random numbers say, and then all that is left. Each
+//! completed read has to be answered with its meaning on the history of its home.
 use crate::building::{batch, number, range, read, topology};
 use crate::worlds::{deliver, history, submit};
 use logical_time::{Fault, Node, Time};
@@ -11,9 +11,10 @@ use table::answer;
 use workload::drain;
 use world::{Completed, World};
 
-/// How many sessions there are, and the node of the first of them.
+/// How many sessions there are.
 const SESSIONS: u16 = 3;
 
+/// The node of the first session.
 const FIRST_SESSION: u16 = 4;
 
 /// How many random numbers a schedule takes.
