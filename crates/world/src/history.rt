@@ -44,10 +44,12 @@ fn batch_at(events: &[RunEvent], place: usize) -> Option<&Batch>
     ensures { option_copied result ≡ batch_at events.now place }
 {
     match events.get(place) {
-        Some(RunEvent::Submit {
-            op: Op::Batch(batch),
-            session: _,
-        }) => Some(batch),
+        Some(
+            RunEvent::Submit {
+                op: Op::Batch(batch),
+                session: _,
+            },
+        ) => Some(batch),
         _ => None,
     }
 }
