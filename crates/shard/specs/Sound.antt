@@ -1,11 +1,9 @@
 -- What holds of a shard that handles honest envelopes, and of what it sent. Each fact speaks of what only grows, so that it
 -- goes on holding.
-use Rattle.std.specs.Prelude.{◌≡◌, ℕ, ◌<◌, ◌≤◌, Bool, true, List, [], ◌++◌, map, Contains, ◌⊎◌, ⊤}
-use Rattle.std.specs.List.{list_any, AllByRecursion}
+use Rattle.std.specs.Prelude.{◌≡◌, ℕ, ◌<◌, ◌≤◌, true, List, [], ◌++◌, map, Contains, ◌⊎◌, ⊤}
+use Rattle.std.specs.List.{AllByRecursion}
 use Rattle.logical_time.specs.Stamps.{TxnValue}
 use Rattle.column_family.specs.declared.batch.Row.{Row}
-use Rattle.column_family.specs.declared.batch.Change.{Change}
-use Rattle.column_family.specs.Location.{is_same_row}
 use Rattle.column_family.specs.Normal.{IsNormal}
 use Rattle.slice.specs.declared.read.Read.{Read}
 use Rattle.store.specs.declared.part.Applied.{Applied}

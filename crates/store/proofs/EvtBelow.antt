@@ -1,5 +1,5 @@
 -- When a row by the newest versions is valid, where each part is committed by a time.
-use Rattle.std.proofs.Common.{◌≡◌, ℕ, ◌≤◌, Bool, true, false, cond, List, [], ◌∷◌, map, Option, Some, None, arith}
+use Rattle.std.proofs.Common.{ℕ, ◌≤◌, Bool, true, false, cond, List, [], ◌∷◌, map, Option, Some, None, arith}
 use Rattle.std.specs.Prelude.{option_map, Contains}
 use Rattle.logical_time.specs.Stamps.{is_older}
 use Rattle.column_family.specs.declared.batch.Row.{Row}

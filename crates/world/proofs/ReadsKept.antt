@@ -19,6 +19,7 @@ use Rattle.world.proofs.Able.{Able}
 use Rattle.world.proofs.Near.{near_dc, coordinator_below}
 use Rattle.world.proofs.Lasting.{written_grows}
 use Rattle.world.proofs.LastingAll.{shard_grows}
+use Rattle.store.proofs.EvtBelow.{evt_early}
 use Rattle.world.proofs.RowTimes.{mark_seen}
 use Rattle.world.proofs.AskedMarks.{asked_prepared, asked_seen}
 use Rattle.world.proofs.Ables.{sends_able, quiet_able}

@@ -1,19 +1,8 @@
 -- What a row by the newest versions says of marks.
-use Rattle.std.proofs.Common.{◌≡◌, ℕ, ◌≤◌, Bool, true, false, not, ◌&&◌, cond, List, [], ◌∷◌, map, Option, Some, None, ◌⊎◌, inl, inr, refl, ap, arith}
-use Rattle.std.specs.Prelude.{option_map}
+use Rattle.std.proofs.Common.{◌≡◌, ℕ, ◌≤◌, Bool, true, false, not, ◌&&◌, ◌⊎◌, inl, inr, refl, ap}
 use Rattle.std.proofs.lemmas.Bool.{and_from}
-use Rattle.logical_time.specs.Stamps.{is_older, TxnValue}
+use Rattle.logical_time.specs.Stamps.{TxnValue}
 use Rattle.column_family.specs.declared.batch.Row.{Row}
-use Rattle.column_family.specs.declared.batch.Change.{Change}
-use Rattle.column_family.specs.declared.batch.Committed.{Committed}
-use Rattle.column_family.specs.declared.batch.Mutation.{Mutation}
-use Rattle.column_family.specs.Location.{is_column_change, is_row_deletion}
-use Rattle.column_family.specs.History.{History, Stamped, newer_of, newest_of, stamped, last_of}
-use Rattle.slice.specs.declared.predicate.Predicate.{Predicate}
-use Rattle.slice.specs.Slice.{is_asked}
-use Rattle.slice.specs.Live.{columns_changed}
-use Rattle.store.specs.declared.part.Applied.{Applied}
-use Rattle.store.specs.Part.{committed_of, history_of, commit_of, column_evt, greatest_of, evt_of}
 use Rattle.messages.specs.Shard.{ShardState, PreparedPart}
 use Rattle.messages.specs.Words.{is_same_txn}
 use Rattle.messages.specs.Known.{is_applied}

@@ -1,4 +1,4 @@
-use Rattle.std.proofs.Common.{◌≡◌, ◌∙◌, ◌<◌, ◌≤◌, sym, subst}
+use Rattle.std.proofs.Common.{◌∙◌, ◌<◌, ◌≤◌, sym, subst}
 use Rattle.world.proofs.Replacing.{item_at}
 use Rattle.world.proofs.Taking.{place_of, place_below}
 use Rattle.world.proofs.Unready.{shard_clock, seat_clock}

@@ -1,4 +1,4 @@
-use Rattle.std.proofs.Common.{◌∙◌, refl}
+use Rattle.std.proofs.Common.{◌∙◌}
 use Rattle.world.proofs.Replacing.{item_at}
 use Rattle.world.proofs.Taking.{place_of, place_below}
 use Rattle.world.proofs.Unready.{submission_unready, acceptable, unacceptable}
