@@ -61,11 +61,11 @@ returns-in_default-clause-nothing_left c fewer = record {
 
 pub returns-in_default-clause-in_time : goal.returns-in_default-clause-in_time
 returns-in_default-clause-in_time c room =
-    world_in_time c.args.world.now c.loop-delivered.world c.topology.ensures.limits c.loop-delivered.invariant.topology c.loop-delivered.delivered (returns-in_default-clause-ok c) room
+    world_in_time c.args.world.now c.loop-delivered.world c.topology-limits.ensures.limits c.loop-delivered.invariant.topology c.loop-delivered.delivered (returns-in_default-clause-ok c) room
 
 pub returns-clause-in_time : goal.returns-clause-in_time
 returns-clause-in_time c room =
-    world_in_time c.args.world.now c.loop-delivered.world c.topology.ensures.limits c.loop-delivered.invariant.topology 1000000 (returns-clause-ok c) room
+    world_in_time c.args.world.now c.loop-delivered.world c.topology-limits.ensures.limits c.loop-delivered.invariant.topology 1000000 (returns-clause-ok c) room
 
 pub returns-in_err-deliver-clause-memory_alone : goal.returns-in_err-deliver-clause-memory_alone
 returns-in_err-deliver-clause-memory_alone c =
@@ -73,6 +73,6 @@ returns-in_err-deliver-clause-memory_alone c =
     let whole : c.loop-delivered.delivered + suc left ≡ 1000000 = omega arith in
     let p = err_from_is_err_and c.from_residual.result c.from_residual.ensures.1 in
     rw (p.1, p.2)
-    (memory_alone c.args.world.now.top c.args.world.now.events c.loop-delivered.world.events c.in_err-deliver.field-0.0 c.topology.ensures.limits
+    (memory_alone c.args.world.now.top c.args.world.now.events c.loop-delivered.world.events c.in_err-deliver.field-0.0 c.topology-limits.ensures.limits
     (refused_drain c.args.world.now c.loop-delivered.world c.loop-delivered.invariant.topology c.loop-delivered.delivered left c.in-Some.number c.in_err-deliver.field-0.0
     (c.loop-delivered.invariant.underway (suc left) whole) whole (sym c.first_unhandled.ensures.exact ∙ c.in-Some.is) c.in_err-deliver.ensures.refused))
