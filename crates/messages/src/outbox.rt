@@ -1,5 +1,5 @@
 //! Envelopes in the order of sending.
-ghost use Rattle.std.specs.Prelude.{◌≡◌, ◌+◌, ◌≤◌, ◌<◌, ◌++◌, [], ◌∷◌, length, slice_get, if◌then◌else◌, is_ok, IsOk, IfErr, OnOk, OnErr};
+ghost use Rattle.std.specs.Prelude.{◌≡◌, ◌+◌, ◌≤◌, ◌<◌, ◌++◌, [], ◌∷◌, length, slice_get, take, drop, Some, if◌then◌else◌, is_ok, IsOk, IfErr, OnOk, OnErr};
 ghost use Rattle.std.specs.Option.{option_copied};
 
 use crate::envelope::{Envelope, Refused};
@@ -72,6 +72,16 @@ impl Outbox {
         for envelope in envelopes {
             self.post(envelope).unwrap();
         }
+    }
+
+    /// Takes out the envelope of this number; those after it move up. Costs what stands after it. Takes no memory.
+    pub fn remove(&mut self, number: usize) -> Envelope
+        requires { number < length self.old.sent }
+        ensures value { slice_get self.old.sent number ≡ Some result }
+        ensures rest { self.new.sent ≡ take number self.old.sent ++ drop (number + 1) self.old.sent }
+        ensures room { self.old.room ≤ self.new.room }
+    {
+        self.envelopes.remove(number)
     }
 
     /// How many more envelopes fit without memory.

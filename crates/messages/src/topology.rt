@@ -6,6 +6,7 @@ ghost use Rattle.messages.specs.Topology as spec;
 use crate::home::{Home, product};
 use column_family::Schema;
 use logical_time::{Fault, Node, Shard, Shards};
+use std::alloc::AllocError;
 use std::marker::Model;
 
 /// How many data centres there may be.
@@ -71,6 +72,18 @@ impl Topology {
             }),
             _ => Err(Fault::Script),
         }
+    }
+
+    /// A copy, which shares the bytes of the names. Fails by memory alone.
+    pub fn copied(&self) -> Result<Topology, AllocError>
+        ensures { IfOk result (λ copy. copy ≡ self.now) }
+    {
+        Ok(Topology {
+            dcs: self.dcs,
+            shards: self.shards,
+            schema: self.schema.copied()?,
+            homes: self.homes.clone()?,
+        })
     }
 
     /// How many data centres there are.
