@@ -174,8 +174,9 @@ fn made_of(
     ensures ok { IfOk result (λ part. AreAskedFor predicate.now (map named seen.now) → IsMadeOf (option_copied deletion.entry) (map named seen.now) predicate.now part) }
     ensures memory { IfErr result (λ e. e ≡ fault.Memory) }
 {
-    let shown = first_of_walk(live_ones(alloc, deletion, seen)?, predicate);
-    let found = live_columns(alloc, deletion, &shown)?;
+    let live = live_ones(alloc, deletion, seen)?;
+    let shown = first_of_walk(live, predicate);
+    let found = live_columns(alloc, deletion, shown.as_slice())?;
     let writers = writers_of(alloc, predicate, found.as_slice(), deletion, seen)?;
     let columns = Columns::from_vec(alloc, found)?;
     Ok(Part {
