@@ -27,8 +27,9 @@ is_between low high name = (is_open low || name_le low name) && (is_open high ||
 abbrev pub is_in_walk : List ℕ → List ℕ → Bool → List ℕ → Bool
 is_in_walk start finish reversed name = if reversed then is_between finish start name else is_between start finish name
 
-abbrev pub walked : Bool → List Column → List Column
-walked reversed columns = if reversed then reverse columns else columns
+-- things in name order, as a walk comes past them
+abbrev pub walked : {X : Type 0} → Bool → List X → List X
+walked reversed xs = if reversed then reverse xs else xs
 
 -- whether the predicate speaks of the column of this name, whatever its count is
 abbrev pub is_asked : Predicate → List ℕ → Bool
@@ -47,10 +48,10 @@ abbrev pub AreAsked : Predicate → List Column → Type 0
 AreAsked p [] = ⊤
 AreAsked p (c ∷ cs) = (is_asked p c.name ≡ true) × AreAsked p cs
 
--- of columns that are all asked for, those that the slice has
-abbrev pub first_of_walk : Predicate → List Column → List Column
-first_of_walk (Names names) live = live
-first_of_walk (Range start finish reversed count) live = take count (walked reversed live)
+-- of things in name order that are all asked for, those that a walk comes past first; a list of names takes all
+abbrev pub first_of_walk : {X : Type 0} → Predicate → List X → List X
+first_of_walk (Names names) xs = xs
+first_of_walk (Range start finish reversed count) xs = take count (walked reversed xs)
 
 -- why a list of names is refused, if it is
 abbrev pub names_fault : List (List ℕ) → Option Fault

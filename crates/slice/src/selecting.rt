@@ -3,7 +3,6 @@ ghost use Rattle.std.specs.Prelude.{◌≡◌, IfOk, IfErr, filter, take, revers
 ghost use Rattle.std.specs.List.{list_any};
 ghost use Rattle.std.specs.Str.{bytes_eq};
 ghost use Rattle.slice.specs.Slice as slice;
-ghost use Rattle.slice.specs.Slice.{AreAsked};
 ghost use Rattle.std.specs.BTreeSet.{contains};
 ghost use Rattle.std.specs.Cmp.Lexicographic.{slice_cmp};
 ghost use Rattle.std.specs.Ordering.{nat_cmp};
@@ -26,18 +25,10 @@ pub fn select(alloc: Global, live: &[Column], predicate: &Predicate) -> Result<C
     copies(alloc, &found)
 }
 
-/// The slice of the live columns of a row, which are given in name order and are all asked for: all of them, or
-/// the first `count` of a walk. Linear in the columns, and takes no memory.
-#[tactic(auto, using(crate::proofs::Selected::cut_of_asked))]
-pub fn cut(live: Vec<Column>, predicate: &Predicate) -> Vec<Column>
-    ensures { AreAsked predicate.now live.items → result.items ≡ slice.slice_of predicate.now live.items }
-{
-    first_of_walk(live, predicate)
-}
-
-// The first columns of the walk of a predicate; a list of names takes all.
-fn first_of_walk(mut live: Vec<Column>, predicate: &Predicate) -> Vec<Column>
-    ensures { result.items ≡ slice.first_of_walk predicate.now live.items }
+/// Of things that stand in name order and are all asked for, those that the walk of a predicate comes past first: at
+/// most `count`, from the start or, reversed, from the end. A list of names takes all. Linear, and takes no memory.
+pub fn first_of_walk<T: Drop>(mut asked: Vec<T>, predicate: &Predicate) -> Vec<T>
+    ensures { result.items ≡ slice.first_of_walk predicate.now asked.items }
 {
     if let Predicate::Range {
         reversed,
@@ -46,11 +37,11 @@ fn first_of_walk(mut live: Vec<Column>, predicate: &Predicate) -> Vec<Column>
     } = predicate
     {
         if *reversed {
-            live.reverse();
+            asked.reverse();
         }
-        live.truncate(*count as usize);
+        asked.truncate(*count as usize);
     }
-    live
+    asked
 }
 
 // The columns of the slice.

@@ -1,5 +1,5 @@
 //! A row's part, found in its chains.
-ghost use Rattle.std.specs.Prelude.{◌≡◌, ◌++◌, IfOk, IfErr, Contains, map, filter_map, option_map, option_to_list, max};
+ghost use Rattle.std.specs.Prelude.{◌≡◌, ◌++◌, IfOk, IfErr, Contains, map, filter, filter_map, is_some, option_map, option_to_list, max};
 ghost use Rattle.std.specs.Option.{option_copied};
 ghost use Rattle.std.specs.List.Sorted.{IsStrictlySortedBy};
 ghost use Rattle.logical_time.specs.declared.fault.Fault.TheVariants as fault;
@@ -16,7 +16,7 @@ use crate::row::RowChains;
 use crate::sight::{Moment, Seen, asked_columns, seen_in};
 use column_family::Row;
 use logical_time::{Fault, Time, Writer, Writers};
-use slice::{Column, Columns, Predicate, cut};
+use slice::{Column, Columns, Predicate, first_of_walk};
 use std::alloc::{AllocError, Global};
 use std::collections::BTreeMap;
 use versions::Version;
@@ -46,6 +46,27 @@ fn live_column(deletion: Option<&Version>, seen: &Seen) -> Result<Option<Column>
             value: value.clone()?,
         })),
     }
+}
+
+// Whether the column is live.
+fn is_live(deletion: Option<&Version>, seen: &Seen) -> bool
+    ensures { result ≡ is_some (sight.live_of (option_copied deletion.entry) (named seen.now)) }
+{
+    seen.version.what.value.is_some() && !is_covered(deletion, seen.version)
+}
+
+// Those of the columns that are live, in order.
+fn live_ones<'s>(
+    alloc: Global,
+    deletion: Option<&Version>,
+    seen: &[Seen<'s>],
+) -> Result<Vec<Seen<'s>>, AllocError>
+    ensures { IfOk result (λ live. live.items ≡ filter (λ s. is_some (sight.live_of (option_copied deletion.entry) (named s))) seen.now) }
+{
+    seen.iter()
+        .copied()
+        .filter(|one| is_live(deletion, one))
+        .collect(alloc)
 }
 
 // The columns that are live, in order.
@@ -142,7 +163,8 @@ fn in_order(mut writers: Vec<Writer>) -> Writers
     Writers::from_vec(writers)
 }
 
-// The part that is made of these columns and this deletion, where the columns are asked for.
+// The part that is made of these columns and this deletion, where the columns are asked for. Only the columns that it
+// shows are copied.
 fn made_of(
     alloc: Global,
     predicate: &Predicate,
@@ -152,9 +174,11 @@ fn made_of(
     ensures ok { IfOk result (λ part. AreAskedFor predicate.now (map named seen.now) → IsMadeOf (option_copied deletion.entry) (map named seen.now) predicate.now part) }
     ensures memory { IfErr result (λ e. e ≡ fault.Memory) }
 {
-    let live = cut(live_columns(alloc, deletion, seen)?, predicate);
-    let writers = writers_of(alloc, predicate, live.as_slice(), deletion, seen)?;
-    let columns = Columns::from_vec(alloc, live)?;
+    let live = live_ones(alloc, deletion, seen)?;
+    let shown = first_of_walk(live, predicate);
+    let found = live_columns(alloc, deletion, shown.as_slice())?;
+    let writers = writers_of(alloc, predicate, found.as_slice(), deletion, seen)?;
+    let columns = Columns::from_vec(alloc, found)?;
     Ok(Part {
         writers: in_order(writers),
         evt: evt_of(deletion, seen),
