@@ -22,7 +22,7 @@ fn answer<L: Line, P: Port>(alloc: Global, line: &mut L, port: &mut P, op: Op) -
 }
 
 // Answers the requests that are held. False where the line failed first.
-pub fn answer_held<L: Line, P: Port>(
+pub(crate) fn answer_held<L: Line, P: Port>(
     alloc: Global,
     line: &mut L,
     port: &mut P,
@@ -39,7 +39,7 @@ pub fn answer_held<L: Line, P: Port>(
 }
 
 // Takes a piece that came, and answers the requests that it completes. Gives how serving ended, unless it goes on.
-pub fn take_piece<L: Line, P: Port>(
+pub(crate) fn take_piece<L: Line, P: Port>(
     alloc: Global,
     line: &mut L,
     port: &mut P,
@@ -60,7 +60,7 @@ pub fn take_piece<L: Line, P: Port>(
 }
 
 // Ends with the input.
-pub fn end_of_input<L: Line>(line: &mut L, reader: &mut Reader) -> Ended
+pub(crate) fn end_of_input<L: Line>(line: &mut L, reader: &mut Reader) -> Ended
     ensures { EndsInput reader.old result (L.seen line.old) (L.seen line.new) }
 {
     match reader.finish() {

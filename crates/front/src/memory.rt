@@ -8,7 +8,7 @@ use std::alloc::Global;
 use std::marker::Model;
 
 /// Which call of a line in memory fails: none, or the read or the write of this number, the first being 1.
-#[derive(Clone, Copy, Debug, PartialEq, Eq)]
+#[derive(Clone, Copy, Debug)]
 pub enum Failing {
     /// None.
     Never,
@@ -16,6 +16,16 @@ pub enum Failing {
     Read(u64),
     /// One write.
     Write(u64),
+}
+
+impl Failing {
+    fn is_read(self, number: u64) -> bool {
+        matches!(self, Failing::Read(failing) if failing == number)
+    }
+
+    fn is_write(self, number: u64) -> bool {
+        matches!(self, Failing::Write(failing) if failing == number)
+    }
 }
 
 /// A line over bytes in memory, for tests: it gives and takes a few bytes in a call, and fails where it is told to. It
@@ -101,7 +111,7 @@ impl Line for MemoryLine {
 
     fn read(&mut self, buffer: &mut [u8]) -> Option<usize> {
         self.reads = self.reads.saturating_add(1);
-        if self.failing == Failing::Read(self.reads) {
+        if self.failing.is_read(self.reads) {
             return self.fail();
         }
         let rest = &self.input[self.at..];
@@ -117,7 +127,7 @@ impl Line for MemoryLine {
 
     fn write(&mut self, piece: &[u8]) -> Option<usize> {
         self.writes = self.writes.saturating_add(1);
-        if self.failing == Failing::Write(self.writes) {
+        if self.failing.is_write(self.writes) {
             return self.fail();
         }
         let n = self.step.min(piece.len());

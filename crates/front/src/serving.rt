@@ -46,6 +46,25 @@ fn give_up<L: Line>(line: &mut L, reader: &mut Reader, buffer: &mut [u8]) -> End
     }
 }
 
+// Goes on until it ends. No line comes to the end of the count, which is there because each loop ends.
+fn rounds<L: Line, P: Port>(
+    alloc: Global,
+    line: &mut L,
+    port: &mut P,
+    reader: &mut Reader,
+    buffer: &mut [u8],
+) -> Ended
+    requires { 0 < length buffer.old }
+    ensures { (l : LineValue) (p : P) → Going P.steps l p reader.old (L.seen line.old) port.old → Served P.steps result l p (L.seen line.new) port.new }
+{
+    for _ in 0..u64::MAX {
+        if let Some(ended) = round(alloc, line, port, reader, buffer) {
+            return ended;
+        }
+    }
+    give_up(line, reader, buffer)
+}
+
 /// Answers the requests that come by a line, in order, each by one reply, as the port answers them. A reply that has no
 /// encoding becomes a refusal by `Oversize`, and one for whose encoding memory was refused a refusal by `Memory`; then
 /// it goes on. The first fault of the stream, an end of input inside a frame, and memory refused for a piece are
@@ -56,10 +75,5 @@ pub fn serve<L: Line, P: Port>(alloc: Global, line: &mut L, port: &mut P) -> End
 {
     let mut reader = Reader::new(alloc);
     let mut buffer = [0u8; PIECE];
-    for _ in 0..u64::MAX {
-        if let Some(ended) = round(alloc, line, port, &mut reader, &mut buffer) {
-            return ended;
-        }
-    }
-    give_up(line, &mut reader, &mut buffer)
+    rounds(alloc, line, port, &mut reader, &mut buffer)
 }

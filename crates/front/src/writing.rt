@@ -11,7 +11,7 @@ use std::alloc::Global;
 use wire::{encode_refusal, encode_reply};
 
 // Writes a piece. False where the line failed first.
-pub fn write_all<L: Line>(line: &mut L, piece: &[u8]) -> bool
+pub(crate) fn write_all<L: Line>(line: &mut L, piece: &[u8]) -> bool
     ensures { Wrote piece.now result (L.seen line.old) (L.seen line.new) }
 {
     let mut at = 0;
@@ -25,7 +25,7 @@ pub fn write_all<L: Line>(line: &mut L, piece: &[u8]) -> bool
 }
 
 // Writes the reply to an answer. False where the line failed first.
-pub fn reply<L: Line>(alloc: Global, line: &mut L, answer: &Result<Outcome, Fault>) -> bool
+pub(crate) fn reply<L: Line>(alloc: Global, line: &mut L, answer: &Result<Outcome, Fault>) -> bool
     ensures { (bytes : List ℕ) × IsEncoding answer.now bytes × Wrote bytes result (L.seen line.old) (L.seen line.new) }
 {
     match encode_reply(alloc, answer) {
@@ -35,7 +35,7 @@ pub fn reply<L: Line>(alloc: Global, line: &mut L, answer: &Result<Outcome, Faul
 }
 
 // Refuses the stream, by the last reply.
-pub fn refuse<L: Line>(line: &mut L, fault: Fault) -> Ended
+pub(crate) fn refuse<L: Line>(line: &mut L, fault: Fault) -> Ended
     ensures { Refuses fault result (L.seen line.old) (L.seen line.new) }
 {
     if write_all(line, &encode_refusal(fault)) {
