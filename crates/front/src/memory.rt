@@ -82,13 +82,6 @@ impl MemoryLine {
         &self.output
     }
 
-    /// What was read.
-    pub fn heard(&self) -> &[u8]
-        ensures { result.now ≡ self.now.heard }
-    {
-        &self.input[..self.at]
-    }
-
     /// What wasn't read: nothing where the end of input was told.
     pub fn unread(&self) -> &[u8]
         ensures rest { result.now ≡ self.now.unread }
