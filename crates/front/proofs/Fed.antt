@@ -1,11 +1,11 @@
 -- What a reader that was fed, or whose input has ended, tells.
-use Rattle.std.proofs.Common.{◌≡◌, ℕ, List, [], ◌++◌, length, Bool, true, false, cond, Some, None, Result, Ok, Err, refl, ap, inl, inr, ◌⊎◌, arith}
+use Rattle.std.proofs.Common.{◌≡◌, ℕ, List, [], ◌++◌, length, Bool, true, false, cond, Some, None, Result, Ok, Err, refl, ap, inl, inr, ◌⊎◌, arith, lit≤}
 use Rattle.std.specs.Prelude.{nat_lt}
 use Rattle.std.proofs.lemmas.Bool.{ltb-false}
 use Rattle.std.proofs.lemmas.List.{nil_from_length}
 use Rattle.logical_time.specs.declared.fault.Fault.{Fault}
 use Rattle.logical_time.specs.declared.fault.Fault.TheVariants.{Memory, Truncated}
-use Rattle.wire.specs.Frames.{ReaderValue, text, waits, faulty, front_of, EndsInside}
+use Rattle.wire.specs.Frames.{ReaderValue, text, waits, faulty, front_of, IsFrameFault, EndsInside}
 use Rattle.wire.specs.Answers.{Feeds, fault_at_end}
 
 -- the piece stands in the text, and its first fault is found
@@ -42,3 +42,9 @@ pub end_inside : (r : ReaderValue) (f : Fault) → r.fault ≡ None → front_of
 end_inside r f none front e =
     let some = given_some (nat_lt 0 (length r.rest)) Truncated f (rw none at e) in
     record { truncated = ap (λ (g : Fault). Some g) some.1; waits = front; some = some.0 }
+
+some_is : (f g : Fault) → Some f ≡ Some g → f ≡ g
+some_is f g e = cc
+
+pub end_number : (rest : List ℕ) (f : Fault) → EndsInside rest (Some f) → IsFrameFault f
+end_number rest f h = rw (some_is f Truncated h.truncated) (lit≤ tt, lit≤ tt)

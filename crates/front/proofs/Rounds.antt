@@ -5,6 +5,7 @@ use Rattle.logical_time.specs.declared.fault.Fault.TheVariants.{Memory}
 use Rattle.messages.specs.declared.op.Op.{Op}
 use Rattle.wire.specs.Replies.{Reply}
 use Rattle.wire.specs.Frames.{ReaderValue, text, frames, waits, front_of}
+use Rattle.wire.proofs.Faults.{front_fault}
 use Rattle.front.specs.declared.ended.Ended.{Ended}
 use Rattle.front.specs.declared.ended.Ended.TheVariants.{Clean, ReadFailed, WriteFailed}
 use Rattle.front.specs.Lines.{LineValue, raised, hears, ends, fails}
@@ -13,7 +14,7 @@ use Rattle.front.specs.Parts.{Refuses, EndsInput, GivesUp, Answering, CutOff, Pa
 use Rattle.front.proofs.Said.{with_more-nil}
 use Rattle.front.proofs.Requests.{begins-none, begins-then, begins-more}
 use Rattle.front.proofs.Replies.{answered-none, answered-then}
-use Rattle.front.proofs.Fed.{FoundFault, end_clean, end_inside}
+use Rattle.front.proofs.Fed.{end_number, FoundFault, end_clean, end_inside}
 use Rattle.front.proofs.Endings.{passed-heard, passed-said, failed_served, refused_served}
 
 -- a reader without requests has its rest alone
@@ -100,6 +101,7 @@ fault_served steps l p r m q piece n s t k o f result w h came some fed a held r
         ops = ops;
         rest = s.rest;
         begins = begins_fed steps l p r m q piece s a.ops s.rest h e.fed (taken_all a.ops (text s) s t held a.rest a.begins);
+        number = front_fault s.rest f e.front;
         fault = inl e.front;
         answered = answered;
       })
@@ -128,6 +130,7 @@ input_served steps l p r m q result w h how =
         ops = h.answered.ops;
         rest = r.rest;
         begins = h.answered.begins;
+        number = end_number r.rest e.0 (end_inside r e.0 h.fault h.answered.waiting e.1);
         fault = inr (refl, end_inside r e.0 h.fault h.answered.waiting e.1);
         answered = h.answered.answered;
       }))

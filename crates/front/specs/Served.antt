@@ -6,7 +6,7 @@ use Rattle.logical_time.specs.declared.fault.Fault.TheVariants.{Memory, Oversize
 use Rattle.messages.specs.declared.op.Op.{Op}
 use Rattle.wire.specs.Requests.{is_spelled}
 use Rattle.wire.specs.Replies.{Reply, reply_spelling}
-use Rattle.wire.specs.Frames.{waits, faulty, front_of, frames, EndsInside}
+use Rattle.wire.specs.Frames.{waits, faulty, front_of, frames, IsFrameFault, EndsInside}
 use Rattle.front.specs.declared.ended.Ended.{Ended}
 use Rattle.front.specs.declared.ended.Ended.TheVariants.{Clean, Refused, ReadFailed, WriteFailed}
 use Rattle.front.specs.Lines.{LineValue, with_more, raised}
@@ -44,12 +44,13 @@ pub record UpToDate {P : Type 0} (steps : P → Op → Reply → P → Type 0) (
   pub waiting : front_of rest ≡ waits
   pub answered : Answered steps p ops replies q
 
--- all requests that stand before the first fault are answered: the fault of a frame, or an end of input inside of one,
--- which counts only if it was told
+-- all requests that stand before the first fault are answered: the fault of a frame, `Oversize` to `Truncated`, or an end of
+-- input inside of one, which counts only if it was told
 pub record AtFault {P : Type 0} (steps : P → Op → Reply → P → Type 0) (p : P) (ended : Bool) (f : Fault) (bytes replies : List ℕ) (q : P) : Type 0 where
   pub ops : List Op
   pub rest : List ℕ
   pub begins : Begins bytes ops rest
+  pub number : IsFrameFault f
   pub fault : (front_of rest ≡ faulty f) ⊎ ((ended ≡ true) × EndsInside rest (Some f))
   pub answered : Answered steps p ops replies q
 

@@ -2,7 +2,7 @@
 use logical_time::Fault;
 
 /// How serving a line ended.
-#[derive(Clone, Copy, Debug, PartialEq, Eq)]
+#[derive(Clone, Copy, PartialEq, Eq)]
 pub enum Ended {
     /// The input ended between two frames.
     Clean,

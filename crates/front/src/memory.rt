@@ -8,7 +8,7 @@ use std::alloc::Global;
 use std::marker::Model;
 
 /// Which call of a line in memory fails: none, or the read or the write of this number, the first being 1.
-#[derive(Clone, Copy, Debug)]
+#[derive(Clone, Copy)]
 pub enum Failing {
     /// None.
     Never,
