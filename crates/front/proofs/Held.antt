@@ -45,6 +45,6 @@ answering-cut steps old l p r m q op s a reply n t h taken step is wrote = recor
     answered = answered-then steps p h.ops h.told q (op ∷ []) reply t h.answered (answered-one steps q op a reply t step is);
   };
   sent = h.told ++ wrote.0;
-  beginning = (wrote.1.0, ap (λ (x : List ℕ). h.told ++ x) wrote.1.1 ∙ sym (append_assoc h.told wrote.0 wrote.1.0));
+  beginning = (wrote.1.0, wrote.1.1, ap (λ (x : List ℕ). h.told ++ x) wrote.1.2 ∙ sym (append_assoc h.told wrote.0 wrote.1.0));
   line = wrote.2 ∙ ap (λ (x : LineValue). fails (says wrote.0 x)) h.line ∙ ap fails (says-then h.told wrote.0 l);
 }

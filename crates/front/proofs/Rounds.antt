@@ -1,5 +1,5 @@
 -- Rounds of serving.
-use Rattle.std.proofs.Common.{◌≡◌, ℕ, ◌<◌, List, [], ◌++◌, length, None, refl, sym, ap, subst, ◌∙◌, inl, inr, ◌⊎◌}
+use Rattle.std.proofs.Common.{◌≡◌, ℕ, ◌<◌, Bool, true, false, ◌||◌, List, [], ◌++◌, length, None, refl, sym, ap, subst, ◌∙◌, inl, inr, ◌⊎◌}
 use Rattle.logical_time.specs.declared.fault.Fault.{Fault}
 use Rattle.logical_time.specs.declared.fault.Fault.TheVariants.{Memory}
 use Rattle.messages.specs.declared.op.Op.{Op}
@@ -17,14 +17,22 @@ use Rattle.front.proofs.Replies.{answered-none, answered-then}
 use Rattle.front.proofs.Fed.{end_number, FoundFault, end_clean, end_inside}
 use Rattle.front.proofs.Endings.{passed-heard, passed-said, failed_served, refused_served}
 
+or_true : (b : Bool) → (b || true) ≡ true
+or_true true = refl
+or_true false = refl
+
+or_false : (b : Bool) → (b || false) ≡ b
+or_false true = refl
+or_false false = refl
+
 -- a reader without requests has its rest alone
 text_is : (r : ReaderValue) → r.held ≡ [] → text r ≡ r.rest
 text_is r e = ap (λ (ops : List Op). frames ops ++ r.rest) e
 
 -- a piece came
-passed-piece : {P : Type 0} (steps : P → Op → Reply → P → Type 0) (l : LineValue) (p : P) (r : ReaderValue) (m : LineValue) (q : P) (piece : List ℕ) (n : LineValue) (h : Going steps l p r m q) → n ≡ hears piece m → Passed (h.bytes ++ piece) h.told l n
+passed-piece : {P : Type 0} (steps : P → Op → Reply → P → Type 0) (l : LineValue) (p : P) (r : ReaderValue) (m : LineValue) (q : P) (piece : List ℕ) (n : LineValue) (h : Going steps l p r m q) → n ≡ hears piece m → Passed false (h.bytes ++ piece) h.told l n
 passed-piece steps l p r m q piece n h e =
-    passed-heard h.bytes h.told piece l m n h.passed (ap (λ (x : LineValue). x.heard) e) (ap (λ (x : LineValue). x.said) e) (ap (λ (x : LineValue). x.failures) e)
+    passed-heard h.bytes h.told piece l m n h.passed e
 
 -- the requests that a piece completes stand behind those before it
 begins_fed : {P : Type 0} (steps : P → Op → Reply → P → Type 0) (l : LineValue) (p : P) (r : ReaderValue) (m : LineValue) (q : P) (piece : List ℕ) (s : ReaderValue) (ops : List Op) (rest : List ℕ) (h : Going steps l p r m q)
@@ -68,12 +76,15 @@ cut_served steps l p r m q piece n s k o h came fed a =
       | inl e ↦ (a.begun.rest, begins_fed steps l p r m q piece s a.begun.ops a.begun.rest h e a.begun.begins)
       | inr e ↦ (a.begun.rest ++ piece, begins-more h.bytes ops a.begun.rest piece (begins_held steps l p r m q a.begun.ops a.begun.rest h (subst (λ (x : ReaderValue). Begins (text x) a.begun.ops a.begun.rest) e a.begun.begins)))
     ] in
-    failed_served steps l p n k o (h.bytes ++ piece) h.told a.sent a.replies (passed-piece steps l p r m q piece n h came) a.line a.beginning (inl (record {
-      ops = ops;
-      rest = begun.0;
-      begins = begun.1;
-      answered = answered-then steps p h.answered.ops h.told q a.begun.ops a.replies o h.answered.answered a.begun.answered;
-    }))
+    failed_served steps l p n k o false (h.bytes ++ piece) h.told a.sent a.replies (passed-piece steps l p r m q piece n h came) a.line a.beginning (inl (
+      refl,
+      record {
+        ops = ops;
+        rest = begun.0;
+        begins = begun.1;
+        answered = answered-then steps p h.answered.ops h.told q a.begun.ops a.replies o h.answered.answered a.begun.answered;
+      },
+    ))
 
 -- a piece with a fault, before which all is answered
 pub fault_served : {P : Type 0} (steps : P → Op → Reply → P → Type 0) (l : LineValue) (p : P) (r : ReaderValue) (m : LineValue) (q : P) (piece : List ℕ) (n : LineValue) (s : ReaderValue) (t : ReaderValue) (k : LineValue) (o : P) (f : Fault) (result : Ended) (w : LineValue)
@@ -82,41 +93,44 @@ fault_served steps l p r m q piece n s t k o f result w h came some fed a held r
     let ops = h.answered.ops ++ a.ops in
     let told = h.told ++ a.told in
     let answered : Answered steps p ops told o = answered-then steps p h.answered.ops h.told q a.ops a.told o h.answered.answered a.answered in
-    let stopped : AtFault steps p k.ended f (h.bytes ++ piece) told o ⊎ AtPiece steps p f (h.bytes ++ piece) told o = elim fed [
-      | inl e ↦ inr (record {
-        memory = e.0;
-        before = h.bytes;
-        piece = piece;
-        some = some;
-        cut = refl;
-        rest = r.rest;
-        answered = record {
-          ops = ops;
-          begins = subst (λ (x : ReaderValue). Begins h.bytes ops x.rest) e.1 (begins_held steps l p r m q a.ops s.rest h (subst (λ (x : ReaderValue). Begins (text x) a.ops s.rest) e.1 (taken_all a.ops (text s) s t held a.rest a.begins)));
-          waiting = h.answered.waiting;
-          answered = answered;
-        };
-      })
+    let stopped : AtFault steps p false f (h.bytes ++ piece) told o ⊎ ((false ≡ false) × AtPiece steps p f (h.bytes ++ piece) told o) = elim fed [
+      | inl e ↦ inr (
+        refl,
+        record {
+          memory = e.0;
+          before = h.bytes;
+          piece = piece;
+          some = some;
+          cut = refl;
+          rest = r.rest;
+          answered = record {
+            ops = ops;
+            begins = subst (λ (x : ReaderValue). Begins h.bytes ops x.rest) e.1 (begins_held steps l p r m q a.ops s.rest h (subst (λ (x : ReaderValue). Begins (text x) a.ops s.rest) e.1 (taken_all a.ops (text s) s t held a.rest a.begins)));
+            waiting = h.answered.waiting;
+            answered = answered;
+          };
+        },
+      )
       | inr e ↦ inl (record {
         ops = ops;
         rest = s.rest;
         begins = begins_fed steps l p r m q piece s a.ops s.rest h e.fed (taken_all a.ops (text s) s t held a.rest a.begins);
         number = front_fault s.rest f e.front;
-        fault = inl e.front;
+        fault = inl (refl, e.front);
         answered = answered;
       })
     ] in
-    refused_served steps result l p k w o f (h.bytes ++ piece) told (passed-said (h.bytes ++ piece) h.told a.told l n k (passed-piece steps l p r m q piece n h came) a.line) refuses stopped
+    refused_served steps result l p k w o f false (h.bytes ++ piece) told (passed-said (h.bytes ++ piece) h.told a.told l n k (passed-piece steps l p r m q piece n h came) a.line) refuses stopped
 
 -- a piece that is refused
 piece_served : {P : Type 0} (steps : P → Op → Reply → P → Type 0) (l : LineValue) (p : P) (r : ReaderValue) (m : LineValue) (q : P) (piece : List ℕ) (result : Ended) (w : LineValue) → Going steps l p r m q → 0 < length piece → Refuses Memory result (hears piece m) w → Served steps result l p w q
 piece_served steps l p r m q piece result w h some refuses =
-    refused_served steps result l p (hears piece m) w q Memory (h.bytes ++ piece) h.told (passed-piece steps l p r m q piece (hears piece m) h refl) refuses (inr (record { memory = refl; before = h.bytes; piece = piece; some = some; cut = refl; rest = r.rest; answered = h.answered }))
+    refused_served steps result l p (hears piece m) w q Memory false (h.bytes ++ piece) h.told (passed-piece steps l p r m q piece (hears piece m) h refl) refuses (inr (refl, record { memory = refl; before = h.bytes; piece = piece; some = some; cut = refl; rest = r.rest; answered = h.answered }))
 
 -- the input ended
 pub input_served : {P : Type 0} (steps : P → Op → Reply → P → Type 0) (l : LineValue) (p : P) (r : ReaderValue) (m : LineValue) (q : P) (result : Ended) (w : LineValue) → Going steps l p r m q → EndsInput r result (ends m) w → Served steps result l p w q
 input_served steps l p r m q result w h how =
-    let so_far : Passed h.bytes h.told l (ends m) = record { heard = h.passed.heard; said = h.passed.said; failures = h.passed.failures } in
+    let so_far : Passed true h.bytes h.told l (ends m) = record { heard = h.passed.heard; said = h.passed.said; failures = h.passed.failures; ended_then = sym (or_true l.ended) } in
     elim how [
       | inl e ↦ subst (λ (x : Ended). Served steps x l p w q) (sym e.1) (subst (λ (x : LineValue). Served steps Clean l p x q) (sym e.2) (record {
         bytes = h.bytes;
@@ -124,9 +138,11 @@ input_served steps l p r m q result w h how =
         heard = h.passed.heard;
         said = h.passed.said;
         failures = h.passed.failures;
+        ended = true;
+        ended_then = sym (or_true l.ended);
         ends = (refl, subst (λ (x : List ℕ). UpToDate steps p h.bytes x h.told q) (end_clean r h.fault e.0) h.answered);
       }))
-      | inr e ↦ refused_served steps result l p (ends m) w q e.0 h.bytes h.told so_far e.2 (inl (record {
+      | inr e ↦ refused_served steps result l p (ends m) w q e.0 true h.bytes h.told so_far e.2 (inl (record {
         ops = h.answered.ops;
         rest = r.rest;
         begins = h.answered.begins;
@@ -144,7 +160,9 @@ read_failed steps l p r m q w h e = subst (λ (x : LineValue). Served steps Read
   heard = h.passed.heard;
   said = h.passed.said;
   failures = ap raised h.passed.failures;
-  ends = (r.rest, h.answered);
+  ended = false;
+  ended_then = h.passed.ended_then;
+  ends = (refl, r.rest, h.answered);
 })
 
 pub gave_up : {P : Type 0} (steps : P → Op → Reply → P → Type 0) (l : LineValue) (p : P) (r : ReaderValue) (m : LineValue) (q : P) (result : Ended) (w : LineValue) → Going steps l p r m q → GivesUp r result m w → Served steps result l p w q
@@ -162,7 +180,7 @@ pub begins_going : {P : Type 0} (steps : P → Op → Reply → P → Type 0) (l
 begins_going steps l p r new front = subst (λ (x : ReaderValue). Going steps l p x l p) (sym new) (record {
   bytes = [];
   told = [];
-  passed = record { heard = sym (with_more-nil l.heard); said = sym (with_more-nil l.said); failures = refl };
+  passed = record { heard = sym (with_more-nil l.heard); said = sym (with_more-nil l.said); failures = refl; ended_then = sym (or_false l.ended) };
   answered = record { ops = []; begins = begins-none []; waiting = front; answered = answered-none steps p };
   held = refl;
   fault = refl;

@@ -1,7 +1,7 @@
 -- Bytes that a line tells, piece after piece.
-use Rattle.std.proofs.Common.{◌≡◌, ℕ, ◌+◌, ◌-◌, ◌≤◌, List, [], ◌++◌, length, take, drop, false, Option, Some, None, refl, ap, sym, ◌∙◌, append_assoc, arith}
+use Rattle.std.proofs.Common.{◌≡◌, ℕ, ◌+◌, ◌-◌, ◌<◌, ◌≤◌, List, [], ◌++◌, length, take, drop, false, Option, Some, None, refl, ap, sym, ◌∙◌, append_assoc, arith}
 use Rattle.std.proofs.Math.Seq.{take-add}
-use Rattle.std.proofs.lemmas.List.{append-nil, take-append-drop, take-take, take_all}
+use Rattle.std.proofs.lemmas.List.{append-nil, length-drop, take-append-drop, take-take, take_all}
 use Rattle.front.specs.Lines.{LineValue, says, fails, with_more}
 use Rattle.front.specs.Parts.{Wrote}
 
@@ -32,8 +32,10 @@ written-more piece at n l m k h le e =
     let known : k ≡ says (take n (drop at piece)) (says (take at piece) l) = e ∙ ap (λ (t : List ℕ). says t m) more ∙ ap (says (take n (drop at piece))) h.1 in
     (let g = h.0 in omega arith, known ∙ says-then (take at piece) (take n (drop at piece)) l ∙ ap (λ (t : List ℕ). says t l) (sym (take-add at n piece)))
 
-pub written-cut : (piece : List ℕ) (at : ℕ) (l m k : LineValue) → IsWrittenTo at piece l m → k ≡ fails m → Wrote piece false l k
-written-cut piece at l m k h e = (take at piece, (drop at piece, sym (take-append-drop at piece)), e ∙ ap fails h.1)
+pub written-cut : (piece : List ℕ) (at : ℕ) (l m k : LineValue) → IsWrittenTo at piece l m → at < length piece → k ≡ fails m → Wrote piece false l k
+written-cut piece at l m k h lt e =
+    let rest = length-drop at piece in
+    (take at piece, (drop at piece, omega arith, sym (take-append-drop at piece)), e ∙ ap fails h.1)
 
 pub written-all : (piece : List ℕ) (at : ℕ) (l m : LineValue) → IsWrittenTo at piece l m → length piece ≤ at → m ≡ says piece l
 written-all piece at l m h le = h.1 ∙ ap (λ (t : List ℕ). says t l) (take_all at piece le)

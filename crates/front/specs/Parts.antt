@@ -1,5 +1,5 @@
 -- What the parts of `serve` make of a line, a port and a reader.
-use Rattle.std.specs.Prelude.{◌≡◌, ℕ, ◌<◌, List, [], length, Bool, true, false, Option, Some, None, ◌⊎◌}
+use Rattle.std.specs.Prelude.{◌≡◌, ℕ, ◌<◌, List, [], length, Bool, true, false, ◌||◌, Option, Some, None, ◌⊎◌}
 use Rattle.logical_time.specs.declared.fault.Fault.{Fault}
 use Rattle.logical_time.specs.declared.fault.Fault.TheVariants.{Memory}
 use Rattle.messages.specs.declared.op.Op.{Op}
@@ -9,12 +9,12 @@ use Rattle.wire.specs.Answers.{fault_at_end}
 use Rattle.front.specs.declared.ended.Ended.{Ended}
 use Rattle.front.specs.declared.ended.Ended.TheVariants.{Clean, Refused, ReadFailed, WriteFailed}
 use Rattle.front.specs.Lines.{LineValue, with_more, hears, says, ends, fails}
-use Rattle.front.specs.Served.{Begins, IsRefusal, IsBeginning, Answered, Begun, UpToDate, Served}
+use Rattle.front.specs.Served.{Begins, IsRefusal, IsCutShort, Answered, Begun, UpToDate, Served}
 
 -- a piece is written, or a beginning of it, and then the line failed
 abbrev pub Wrote : List ℕ → Bool → LineValue → LineValue → Type 0
 Wrote piece true l m = m ≡ says piece l
-Wrote piece false l m = (sent : List ℕ) × IsBeginning sent piece × (m ≡ fails (says sent l))
+Wrote piece false l m = (sent : List ℕ) × IsCutShort sent piece × (m ≡ fails (says sent l))
 
 -- the last reply is written, or the line failed first
 abbrev pub Refuses : Fault → Ended → LineValue → LineValue → Type 0
@@ -43,7 +43,7 @@ pub record CutOff {P : Type 0} (steps : P → Op → Reply → P → Type 0) (by
   pub replies : List ℕ
   pub begun : Begun steps p bytes replies q
   pub sent : List ℕ
-  pub beginning : IsBeginning sent replies
+  pub beginning : IsCutShort sent replies
   pub line : m ≡ fails (says sent l)
 
 -- all requests that were held are answered, or the line failed first
@@ -51,17 +51,18 @@ abbrev pub AnswersHeld : {P : Type 0} → (P → Op → Reply → P → Type 0) 
 AnswersHeld steps true old l p r m q = Answering steps old l p r m q × (r.held ≡ [])
 AnswersHeld steps false old l p r m q = CutOff steps (text old) l p m q
 
--- so much came and went, and no call failed
-pub record Passed (bytes told : List ℕ) (old new : LineValue) : Type 0 where
+-- so much came and went, no call failed, and the end of input was told or not
+pub record Passed (ended : Bool) (bytes told : List ℕ) (old new : LineValue) : Type 0 where
   pub heard : new.heard ≡ with_more bytes old.heard
   pub said : new.said ≡ with_more told old.said
   pub failures : new.failures ≡ old.failures
+  pub ended_then : new.ended ≡ (old.ended || ended)
 
 -- serving goes on: all that came is answered, and nothing is held
 pub record Going {P : Type 0} (steps : P → Op → Reply → P → Type 0) (l : LineValue) (p : P) (r : ReaderValue) (m : LineValue) (q : P) : Type 0 where
   pub bytes : List ℕ
   pub told : List ℕ
-  pub passed : Passed bytes told l m
+  pub passed : Passed false bytes told l m
   pub answered : UpToDate steps p bytes r.rest told q
   pub held : r.held ≡ []
   pub fault : r.fault ≡ None

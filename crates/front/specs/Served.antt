@@ -1,5 +1,5 @@
 -- What `serve` reads, and what it writes.
-use Rattle.std.specs.Prelude.{◌≡◌, ℕ, ◌<◌, List, [], ◌∷◌, ◌++◌, length, Bool, true, Some, None, Err, ◌⊎◌}
+use Rattle.std.specs.Prelude.{◌≡◌, ℕ, ◌<◌, List, [], ◌∷◌, ◌++◌, length, Bool, true, false, ◌||◌, Some, None, Ok, Err, ◌⊎◌}
 use Rattle.std.specs.List.{list_all}
 use Rattle.logical_time.specs.declared.fault.Fault.{Fault}
 use Rattle.logical_time.specs.declared.fault.Fault.TheVariants.{Memory, Oversize}
@@ -21,10 +21,12 @@ pub record Begins (bytes : List ℕ) (ops : List Op) (rest : List ℕ) : Type 0 
 abbrev pub IsRefusal : Fault → List ℕ → Type 0
 IsRefusal f bytes = reply_spelling (Err f) ≡ Some bytes
 
--- the encoding of an answer: its spelling; the refusal by `Oversize` where it has none; or the refusal by `Memory`, which
--- was wanting for its spelling
+-- The encoding of an answer. A refusal is always spelled. An outcome is its spelling; the refusal by `Oversize` where it has
+-- none; or the refusal by `Memory`, which was wanting for its spelling.
 abbrev pub IsEncoding : Reply → List ℕ → Type 0
-IsEncoding answer bytes = (reply_spelling answer ≡ Some bytes) ⊎ (((reply_spelling answer ≡ None) × IsRefusal Oversize bytes) ⊎ IsRefusal Memory bytes)
+IsEncoding (Err f) bytes = IsRefusal f bytes
+IsEncoding (Ok o) bytes =
+    (reply_spelling (Ok o) ≡ Some bytes) ⊎ (((reply_spelling (Ok o) ≡ None) × IsRefusal Oversize bytes) ⊎ IsRefusal Memory bytes)
 
 -- the encodings of answers, one after the other
 abbrev pub AreEncodings : List Reply → List ℕ → Type 0
@@ -37,7 +39,7 @@ pub record Answered {P : Type 0} (steps : P → Op → Reply → P → Type 0) (
   pub chain : Chain steps p ops answers q
   pub encoded : AreEncodings answers replies
 
--- all requests that the bytes spell are answered, and in the rest no frame is whole, and nothing amiss
+-- all requests that the bytes spell are answered, and in the rest no frame is whole, and no fault stands first
 pub record UpToDate {P : Type 0} (steps : P → Op → Reply → P → Type 0) (p : P) (bytes rest replies : List ℕ) (q : P) : Type 0 where
   pub ops : List Op
   pub begins : Begins bytes ops rest
@@ -51,7 +53,7 @@ pub record AtFault {P : Type 0} (steps : P → Op → Reply → P → Type 0) (p
   pub rest : List ℕ
   pub begins : Begins bytes ops rest
   pub number : IsFrameFault f
-  pub fault : (front_of rest ≡ faulty f) ⊎ ((ended ≡ true) × EndsInside rest (Some f))
+  pub fault : ((ended ≡ false) × (front_of rest ≡ faulty f)) ⊎ ((ended ≡ true) × EndsInside rest (Some f))
   pub answered : Answered steps p ops replies q
 
 -- memory was refused for the last piece, and all requests that the pieces before it spell are answered
@@ -70,37 +72,42 @@ pub record RefusedAt {P : Type 0} (steps : P → Op → Reply → P → Type 0) 
   pub last : List ℕ
   pub refusal : IsRefusal f last
   pub written : told ≡ replies ++ last
-  pub stopped : AtFault steps p ended f bytes replies q ⊎ AtPiece steps p f bytes replies q
+  pub stopped : AtFault steps p ended f bytes replies q ⊎ ((ended ≡ false) × AtPiece steps p f bytes replies q)
 
--- the answers to requests that stand first
+-- the answers to requests that stand first, perhaps not to all
 pub record Begun {P : Type 0} (steps : P → Op → Reply → P → Type 0) (p : P) (bytes replies : List ℕ) (q : P) : Type 0 where
   pub ops : List Op
   pub rest : List ℕ
   pub begins : Begins bytes ops rest
   pub answered : Answered steps p ops replies q
 
-abbrev pub IsBeginning : List ℕ → List ℕ → Type 0
-IsBeginning first bytes = (others : List ℕ) × (bytes ≡ first ++ others)
+-- a beginning of the bytes, and not all of them
+abbrev pub IsCutShort : List ℕ → List ℕ → Type 0
+IsCutShort first bytes = (others : List ℕ) × (0 < length others) × (bytes ≡ first ++ others)
 
--- how a call ends, by the bytes that it read and wrote and by the ports before and after it
+-- how a call ends, by whether it was told the end of input, the bytes that it read and wrote, and the ports before and after
 abbrev pub EndsAs : {P : Type 0} → (P → Op → Reply → P → Type 0) → Ended → Bool → P → List ℕ → List ℕ → P → Type 0
 EndsAs steps Clean ended p bytes told q = (ended ≡ true) × UpToDate steps p bytes [] told q
 EndsAs steps (Refused f) ended p bytes told q = RefusedAt steps p ended f bytes told q
-EndsAs steps ReadFailed ended p bytes told q = (rest : List ℕ) × UpToDate steps p bytes rest told q
-EndsAs steps WriteFailed ended p bytes told q = (replies : List ℕ) × IsBeginning told replies × (Begun steps p bytes replies q ⊎ ((f : Fault) × RefusedAt steps p ended f bytes replies q))
+EndsAs steps ReadFailed ended p bytes told q = (ended ≡ false) × (rest : List ℕ) × UpToDate steps p bytes rest told q
+EndsAs steps WriteFailed ended p bytes told q =
+    (replies : List ℕ) × IsCutShort told replies
+    × (((ended ≡ false) × Begun steps p bytes replies q) ⊎ ((f : Fault) × RefusedAt steps p ended f bytes replies q))
 
--- a failure is answered where one was counted in the call
+-- how many failures there are after a call: one more where it ended by one
 abbrev pub failures_after : Ended → ℕ → ℕ
 failures_after Clean n = n
 failures_after (Refused f) n = n
 failures_after ReadFailed n = raised n
 failures_after WriteFailed n = raised n
 
--- what a call of `serve` makes of a line and of a port
+-- What a call of `serve` makes of a line and of a port. It reads no more once it is told the end of input.
 pub record Served {P : Type 0} (steps : P → Op → Reply → P → Type 0) (result : Ended) (old : LineValue) (p : P) (new : LineValue) (q : P) : Type 0 where
   pub bytes : List ℕ
   pub told : List ℕ
   pub heard : new.heard ≡ with_more bytes old.heard
   pub said : new.said ≡ with_more told old.said
   pub failures : new.failures ≡ failures_after result old.failures
-  pub ends : EndsAs steps result new.ended p bytes told q
+  pub ended : Bool
+  pub ended_then : new.ended ≡ (old.ended || ended)
+  pub ends : EndsAs steps result ended p bytes told q

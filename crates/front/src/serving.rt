@@ -65,11 +65,11 @@ fn rounds<L: Line, P: Port>(
     give_up(line, reader, buffer)
 }
 
-/// Answers the requests that come by a line, in order, each by one reply, as the port answers them. A reply that has no
+/// Answers the requests that come by a line, in order, each by one reply, as the port answers them. An outcome that has no
 /// encoding becomes a refusal by `Oversize`, and one for whose encoding memory was refused a refusal by `Memory`; then
 /// it goes on. The first fault of the stream, an end of input inside a frame, and memory refused for a piece are
-/// answered by a last reply, which says so. Waits for its line, and goes on as long as bytes come, for 2^64 - 1 pieces
-/// at least.
+/// answered by a last reply, which says so. Waits for its line, and goes on as long as bytes come; after
+/// 2^64 - 1 pieces a further one is refused with `Memory`.
 pub fn serve<L: Line, P: Port>(alloc: Global, line: &mut L, port: &mut P) -> Ended
     ensures served { Served P.steps result (L.seen line.old) port.old (L.seen line.new) port.new }
 {

@@ -24,13 +24,16 @@ pub(crate) fn write_all<L: Line>(line: &mut L, piece: &[u8]) -> bool
     true
 }
 
-// Writes the reply to an answer. False where the line failed first.
+// Writes the reply to an answer; a refusal takes no memory. False where the line failed first.
 pub(crate) fn reply<L: Line>(alloc: Global, line: &mut L, answer: &Result<Outcome, Fault>) -> bool
     ensures { (bytes : List ℕ) × IsEncoding answer.now bytes × Wrote bytes result (L.seen line.old) (L.seen line.new) }
 {
-    match encode_reply(alloc, answer) {
-        Ok(frame) => write_all(line, &frame),
-        Err(fault) => write_all(line, &encode_refusal(fault)),
+    match answer {
+        Err(fault) => write_all(line, &encode_refusal(*fault)),
+        Ok(_) => match encode_reply(alloc, answer) {
+            Ok(frame) => write_all(line, &frame),
+            Err(fault) => write_all(line, &encode_refusal(fault)),
+        },
     }
 }
 
