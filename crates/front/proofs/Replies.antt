@@ -1,0 +1,30 @@
+-- Answers along a chain of a port's steps.
+use Rattle.std.proofs.Common.{ℕ, List, [], ◌∷◌, ◌++◌, refl, ap, sym, subst, ◌∙◌, append_assoc}
+use Rattle.std.proofs.lemmas.List.{append-nil}
+use Rattle.messages.specs.declared.op.Op.{Op}
+use Rattle.wire.specs.Replies.{Reply}
+use Rattle.front.specs.Ports.{Chain}
+use Rattle.front.specs.Served.{IsEncoding, AreEncodings, Answered}
+
+chain-then : {P : Type 0} (steps : P → Op → Reply → P → Type 0) (p : P) (xs : List Op) (told : List Reply) (q : P) (ys : List Op) (bs : List Reply) (r : P) → Chain steps p xs told q → Chain steps q ys bs r → Chain steps p (xs ++ ys) (told ++ bs) r
+chain-then steps p [] [] q ys bs r h k = subst (λ (z : _). Chain steps z ys bs r) (sym h) k
+chain-then steps p [] (a ∷ told) q ys bs r h k = absurd h
+chain-then steps p (x ∷ xs) [] q ys bs r h k = absurd h
+chain-then steps p (x ∷ xs) (a ∷ told) q ys bs r h k = (h.0, h.1, chain-then steps h.0 xs told q ys bs r h.2 k)
+
+encodings-then : (told bs : List Reply) (x y : List ℕ) → AreEncodings told x → AreEncodings bs y → AreEncodings (told ++ bs) (x ++ y)
+encodings-then [] bs x y h k = subst (λ (z : List ℕ). AreEncodings bs (z ++ y)) (sym h) k
+encodings-then (a ∷ told) bs x y h k = (h.0, h.1 ++ y, h.2, encodings-then told bs h.1 y h.3 k, ap (λ (z : List ℕ). z ++ y) h.4 ∙ append_assoc h.0 h.1 y)
+
+pub answered-none : {P : Type 0} (steps : P → Op → Reply → P → Type 0) (p : P) → Answered steps p [] [] p
+answered-none steps p = record { answers = []; chain = refl; encoded = refl }
+
+pub answered-one : {P : Type 0} (steps : P → Op → Reply → P → Type 0) (p : P) (op : Op) (a : Reply) (reply : List ℕ) (q : P) → steps p op a q → IsEncoding a reply → Answered steps p (op ∷ []) reply q
+answered-one steps p op a reply q s e = record { answers = a ∷ []; chain = (q, s, refl); encoded = (reply, [], e, refl, sym (append-nil reply)) }
+
+pub answered-then : {P : Type 0} (steps : P → Op → Reply → P → Type 0) (p : P) (xs : List Op) (s : List ℕ) (q : P) (ys : List Op) (t : List ℕ) (r : P) → Answered steps p xs s q → Answered steps q ys t r → Answered steps p (xs ++ ys) (s ++ t) r
+answered-then steps p xs s q ys t r h k = record {
+  answers = h.answers ++ k.answers;
+  chain = chain-then steps p xs h.answers q ys k.answers r h.chain k.chain;
+  encoded = encodings-then h.answers k.answers s t h.encoded k.encoded;
+}

@@ -1,0 +1,9 @@
+use Rattle.std.proofs.Common.{length}
+use Rattle.front.specs.Parts.{Answering}
+use Rattle.front.proofs.answering.answer_held.Given as goal
+
+abbrev pub invariant-loop-op : goal.invariant-loop-op
+invariant-loop-op g l = Answering g.P.Port.steps l.fn.reader (g.L.Line.seen l.fn.line) l.fn.port l.reader (g.L.Line.seen l.line) l.port
+
+abbrev pub decreases-loop-op : goal.decreases-loop-op
+decreases-loop-op g l = length l.reader.held

@@ -1,0 +1,5 @@
+pub mod Lines
+pub mod Memory
+pub mod Ports
+pub mod Served
+pub mod Parts

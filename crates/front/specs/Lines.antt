@@ -1,0 +1,41 @@
+-- A line, as who serves it sees it.
+use Rattle.std.specs.Prelude.{ℕ, zero, ◌+◌, ◌-◌, ◌^◌, min, List, ◌++◌, take, Bool, true, Option, Some, None, option_map}
+
+-- the bytes that came and those that were written, where the line tells them; whether the end of input was told; and
+-- how many calls failed
+pub record LineValue : Type 0 where
+  pub heard : Option (List ℕ)
+  pub said : Option (List ℕ)
+  pub ended : Bool
+  pub failures : ℕ
+
+-- bytes behind those that are told
+abbrev pub with_more : List ℕ → Option (List ℕ) → Option (List ℕ)
+with_more bytes told = option_map (λ known. known ++ bytes) told
+
+abbrev pub hears : List ℕ → LineValue → LineValue
+hears bytes l = record l { heard = with_more bytes l.heard }
+
+abbrev pub says : List ℕ → LineValue → LineValue
+says bytes l = record l { said = with_more bytes l.said }
+
+abbrev pub ends : LineValue → LineValue
+ends l = record l { ended = true }
+
+-- a failure raises the count, which stays at its greatest value
+abbrev pub raised : ℕ → ℕ
+raised n = min (n + 1) (2 ^ 64 - 1)
+
+abbrev pub fails : LineValue → LineValue
+fails l = record l { failures = raised l.failures }
+
+-- what reading into a buffer makes of a line: it failed, or told the end of input, or so many bytes came
+abbrev pub reads : List ℕ → Option ℕ → LineValue → LineValue
+reads buffer None l = fails l
+reads buffer (Some zero) l = ends l
+reads buffer (Some n) l = hears (take n buffer) l
+
+-- what writing a piece makes of a line: it failed, or so many bytes went
+abbrev pub writes : List ℕ → Option ℕ → LineValue → LineValue
+writes piece None l = fails l
+writes piece (Some n) l = says (take n piece) l

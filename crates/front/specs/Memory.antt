@@ -1,0 +1,15 @@
+-- A line in memory.
+use Rattle.std.specs.Prelude.{ℕ, List, Bool, Some}
+use Rattle.front.specs.Lines.{LineValue}
+
+-- what was read and what wasn't; what was written; whether the end was told; and how many calls failed
+pub record MemoryValue : Type 0 where
+  pub heard : List ℕ
+  pub unread : List ℕ
+  pub said : List ℕ
+  pub ended : Bool
+  pub failures : ℕ
+
+-- as a line, it tells its bytes
+abbrev pub line_of : MemoryValue → LineValue
+line_of m = record { heard = Some m.heard; said = Some m.said; ended = m.ended; failures = m.failures }

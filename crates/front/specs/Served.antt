@@ -1,0 +1,113 @@
+-- What `serve` reads, and what it writes.
+use Rattle.std.specs.Prelude.{◌≡◌, ℕ, ◌<◌, List, [], ◌∷◌, ◌++◌, length, Bool, true, false, ◌||◌, Some, None, Ok, Err, ◌⊎◌}
+use Rattle.std.specs.List.{list_all}
+use Rattle.logical_time.specs.declared.fault.Fault.{Fault}
+use Rattle.logical_time.specs.declared.fault.Fault.TheVariants.{Memory, Oversize}
+use Rattle.messages.specs.declared.op.Op.{Op}
+use Rattle.wire.specs.Requests.{is_spelled}
+use Rattle.wire.specs.Replies.{Reply, reply_spelling}
+use Rattle.wire.specs.Frames.{waits, faulty, front_of, frames, IsFrameFault, EndsInside}
+use Rattle.front.specs.declared.ended.Ended.{Ended}
+use Rattle.front.specs.declared.ended.Ended.TheVariants.{Clean, Refused, ReadFailed, WriteFailed}
+use Rattle.front.specs.Lines.{LineValue, with_more, raised}
+use Rattle.front.specs.Ports.{Chain}
+
+-- bytes begin with the spellings of these requests, one after the other, and go on with this rest
+pub record Begins (bytes : List ℕ) (ops : List Op) (rest : List ℕ) : Type 0 where
+  pub spelled : list_all is_spelled ops ≡ true
+  pub text : bytes ≡ frames ops ++ rest
+
+-- the reply that refuses
+abbrev pub IsRefusal : Fault → List ℕ → Type 0
+IsRefusal f bytes = reply_spelling (Err f) ≡ Some bytes
+
+-- The encoding of an answer. A refusal is always spelled. An outcome is its spelling; the refusal by `Oversize` where it has
+-- none; or the refusal by `Memory`, which was wanting for its spelling.
+abbrev pub IsEncoding : Reply → List ℕ → Type 0
+IsEncoding (Err f) bytes = IsRefusal f bytes
+IsEncoding (Ok o) bytes =
+    (reply_spelling (Ok o) ≡ Some bytes) ⊎ (((reply_spelling (Ok o) ≡ None) × IsRefusal Oversize bytes) ⊎ IsRefusal Memory bytes)
+
+-- the encodings of answers, one after the other
+abbrev pub AreEncodings : List Reply → List ℕ → Type 0
+AreEncodings [] bytes = bytes ≡ []
+AreEncodings (a ∷ answers) bytes = (first : List ℕ) × (others : List ℕ) × IsEncoding a first × AreEncodings answers others × (bytes ≡ first ++ others)
+
+-- these bytes are the encodings of the answers along a chain of a port's steps over these requests
+pub record Answered {P : Type 0} (steps : P → Op → Reply → P → Type 0) (p : P) (ops : List Op) (replies : List ℕ) (q : P) : Type 0 where
+  pub answers : List Reply
+  pub chain : Chain steps p ops answers q
+  pub encoded : AreEncodings answers replies
+
+-- all requests that the bytes spell are answered, and in the rest no frame is whole, and no fault stands first
+pub record UpToDate {P : Type 0} (steps : P → Op → Reply → P → Type 0) (p : P) (bytes rest replies : List ℕ) (q : P) : Type 0 where
+  pub ops : List Op
+  pub begins : Begins bytes ops rest
+  pub waiting : front_of rest ≡ waits
+  pub answered : Answered steps p ops replies q
+
+-- all requests that stand before the first fault are answered: the fault of a frame, `Oversize` to `Truncated`, or an end of
+-- input inside of one, which counts only if it was told
+pub record AtFault {P : Type 0} (steps : P → Op → Reply → P → Type 0) (p : P) (ended : Bool) (f : Fault) (bytes replies : List ℕ) (q : P) : Type 0 where
+  pub ops : List Op
+  pub rest : List ℕ
+  pub begins : Begins bytes ops rest
+  pub number : IsFrameFault f
+  pub fault : ((ended ≡ false) × (front_of rest ≡ faulty f)) ⊎ ((ended ≡ true) × EndsInside rest (Some f))
+  pub answered : Answered steps p ops replies q
+
+-- memory was refused for the last piece, and all requests that the pieces before it spell are answered
+pub record AtPiece {P : Type 0} (steps : P → Op → Reply → P → Type 0) (p : P) (f : Fault) (bytes replies : List ℕ) (q : P) : Type 0 where
+  pub memory : f ≡ Memory
+  pub before : List ℕ
+  pub piece : List ℕ
+  pub some : 0 < length piece
+  pub cut : bytes ≡ before ++ piece
+  pub rest : List ℕ
+  pub answered : UpToDate steps p before rest replies q
+
+-- the answers, and after them the refusal of the stream
+pub record RefusedAt {P : Type 0} (steps : P → Op → Reply → P → Type 0) (p : P) (ended : Bool) (f : Fault) (bytes told : List ℕ) (q : P) : Type 0 where
+  pub replies : List ℕ
+  pub last : List ℕ
+  pub refusal : IsRefusal f last
+  pub written : told ≡ replies ++ last
+  pub stopped : AtFault steps p ended f bytes replies q ⊎ ((ended ≡ false) × AtPiece steps p f bytes replies q)
+
+-- the answers to requests that stand first, perhaps not to all
+pub record Begun {P : Type 0} (steps : P → Op → Reply → P → Type 0) (p : P) (bytes replies : List ℕ) (q : P) : Type 0 where
+  pub ops : List Op
+  pub rest : List ℕ
+  pub begins : Begins bytes ops rest
+  pub answered : Answered steps p ops replies q
+
+-- a beginning of the bytes, and not all of them
+abbrev pub IsCutShort : List ℕ → List ℕ → Type 0
+IsCutShort first bytes = (others : List ℕ) × (0 < length others) × (bytes ≡ first ++ others)
+
+-- how a call ends, by whether it was told the end of input, the bytes that it read and wrote, and the ports before and after
+abbrev pub EndsAs : {P : Type 0} → (P → Op → Reply → P → Type 0) → Ended → Bool → P → List ℕ → List ℕ → P → Type 0
+EndsAs steps Clean ended p bytes told q = (ended ≡ true) × UpToDate steps p bytes [] told q
+EndsAs steps (Refused f) ended p bytes told q = RefusedAt steps p ended f bytes told q
+EndsAs steps ReadFailed ended p bytes told q = (ended ≡ false) × (rest : List ℕ) × UpToDate steps p bytes rest told q
+EndsAs steps WriteFailed ended p bytes told q =
+    (replies : List ℕ) × IsCutShort told replies
+    × (((ended ≡ false) × Begun steps p bytes replies q) ⊎ ((f : Fault) × RefusedAt steps p ended f bytes replies q))
+
+-- how many failures there are after a call: one more where it ended by one
+abbrev pub failures_after : Ended → ℕ → ℕ
+failures_after Clean n = n
+failures_after (Refused f) n = n
+failures_after ReadFailed n = raised n
+failures_after WriteFailed n = raised n
+
+-- What a call of `serve` makes of a line and of a port. It reads no more once it is told the end of input.
+pub record Served {P : Type 0} (steps : P → Op → Reply → P → Type 0) (result : Ended) (old : LineValue) (p : P) (new : LineValue) (q : P) : Type 0 where
+  pub bytes : List ℕ
+  pub told : List ℕ
+  pub heard : new.heard ≡ with_more bytes old.heard
+  pub said : new.said ≡ with_more told old.said
+  pub failures : new.failures ≡ failures_after result old.failures
+  pub ended : Bool
+  pub ended_then : new.ended ≡ (old.ended || ended)
+  pub ends : EndsAs steps result ended p bytes told q

@@ -1,0 +1,70 @@
+//! Answers the requests of what was read.
+ghost use Rattle.std.specs.Prelude.{◌≡◌, ◌<◌, List, ℕ, length};
+ghost use Rattle.front.specs.Lines.{LineValue, hears};
+ghost use Rattle.front.specs.Parts.{Wrote, AnswersHeld, Going, GoesOn, EndsInput};
+ghost use Rattle.front.specs.Served.{IsEncoding};
+ghost use Rattle.wire.specs.Replies.{Reply};
+
+use crate::ended::Ended;
+use crate::line::Line;
+use crate::port::Port;
+use crate::writing::{refuse, reply};
+use messages::Op;
+use std::alloc::Global;
+use wire::Reader;
+
+// Answers a request. False where the line failed first.
+fn answer<L: Line, P: Port>(alloc: Global, line: &mut L, port: &mut P, op: Op) -> bool
+    ensures { (told : Reply) × (bytes : List ℕ) × P.steps port.old op told port.new × IsEncoding told bytes × Wrote bytes result (L.seen line.old) (L.seen line.new) }
+{
+    let told = port.ask(op);
+    reply(alloc, line, &told)
+}
+
+// Answers the requests that are held. False where the line failed first.
+pub(crate) fn answer_held<L: Line, P: Port>(
+    alloc: Global,
+    line: &mut L,
+    port: &mut P,
+    reader: &mut Reader,
+) -> bool
+    ensures { AnswersHeld P.steps result reader.old (L.seen line.old) port.old reader.new (L.seen line.new) port.new }
+{
+    while let Some(op) = reader.next() {
+        if !answer(alloc, line, port, op) {
+            return false;
+        }
+    }
+    true
+}
+
+// Takes a piece that came, and answers the requests that it completes. Gives how serving ended, unless it goes on.
+pub(crate) fn take_piece<L: Line, P: Port>(
+    alloc: Global,
+    line: &mut L,
+    port: &mut P,
+    reader: &mut Reader,
+    piece: &[u8],
+) -> Option<Ended>
+    requires { 0 < length piece.now }
+    ensures { (l m : LineValue) (p : P) → Going P.steps l p reader.old m port.old → L.seen line.old ≡ hears piece.now m → GoesOn P.steps result l p reader.new (L.seen line.new) port.new }
+{
+    let fed = reader.feed(piece);
+    if !answer_held(alloc, line, port, reader) {
+        return Some(Ended::WriteFailed);
+    }
+    match fed {
+        Ok(()) => None,
+        Err(fault) => Some(refuse(line, fault)),
+    }
+}
+
+// Ends with the input.
+pub(crate) fn end_of_input<L: Line>(line: &mut L, reader: &mut Reader) -> Ended
+    ensures { EndsInput reader.old result (L.seen line.old) (L.seen line.new) }
+{
+    match reader.finish() {
+        Ok(()) => Ended::Clean,
+        Err(fault) => refuse(line, fault),
+    }
+}

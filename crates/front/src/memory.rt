@@ -1,0 +1,136 @@
+//! A line in memory.
+ghost use Rattle.std.specs.Prelude.{◌≡◌, ◌<◌, [], false, true};
+ghost use Rattle.front.specs.Lines.{raised};
+ghost use Rattle.front.specs.Memory.{MemoryValue, line_of};
+
+use crate::line::Line;
+use std::alloc::Global;
+use std::marker::Model;
+
+/// Which call of a line in memory fails: none, or the read or the write of this number, the first being 1.
+#[derive(Clone, Copy)]
+pub enum Failing {
+    /// None.
+    Never,
+    /// One read.
+    Read(u64),
+    /// One write.
+    Write(u64),
+}
+
+impl Failing {
+    fn is_read(self, number: u64) -> bool {
+        matches!(self, Failing::Read(failing) if failing == number)
+    }
+
+    fn is_write(self, number: u64) -> bool {
+        matches!(self, Failing::Write(failing) if failing == number)
+    }
+}
+
+/// A line over bytes in memory, for tests: it gives and takes a few bytes in a call, and fails where it is told to. It
+/// tells all of its bytes.
+#[derive(Drop)]
+pub struct MemoryLine {
+    input: Vec<u8>,
+    // How many bytes of the input were read.
+    at: usize,
+    output: Vec<u8>,
+    // How many bytes a call gives or takes, at most.
+    step: usize,
+    failing: Failing,
+    reads: u64,
+    writes: u64,
+    ended: bool,
+    failures: u64,
+}
+
+impl Model for MemoryLine {
+    ghost use Rattle.std.specs.Prelude.{◌≡◌, ◌≤◌, ◌<◌, length, take, drop, true};
+    ghost use Rattle.front.specs.Memory.{MemoryValue};
+
+    ghost Value = { MemoryValue };
+
+    ghost view = { λ l. record { heard = take l.at l.input.items; unread = drop l.at l.input.items; said = l.output.items; ended = l.ended; failures = l.failures } };
+
+    ghost invariant = { λ l. (0 < l.step) × (l.at ≤ length l.input.items) × (l.ended ≡ true → l.at ≡ length l.input.items) };
+}
+
+impl MemoryLine {
+    /// A line over this input, of which nothing is read yet. Each call gives or takes at most `step` bytes.
+    pub fn new(alloc: Global, input: Vec<u8>, step: usize, failing: Failing) -> MemoryLine
+        requires { 0 < step }
+        ensures { result ≡ record { heard = []; unread = input.items; said = []; ended = false; failures = 0 } }
+    {
+        MemoryLine {
+            input,
+            at: 0,
+            output: Vec::new(alloc),
+            step,
+            failing,
+            reads: 0,
+            writes: 0,
+            ended: false,
+            failures: 0,
+        }
+    }
+
+    /// What was written.
+    pub fn said(&self) -> &[u8]
+        ensures { result.now ≡ self.now.said }
+    {
+        &self.output
+    }
+
+    /// What wasn't read: nothing where the end of input was told.
+    pub fn unread(&self) -> &[u8]
+        ensures rest { result.now ≡ self.now.unread }
+        ensures none { self.now.ended ≡ true → result.now ≡ [] }
+    {
+        &self.input[self.at..]
+    }
+
+    fn fail(&mut self) -> Option<usize>
+        ensures none { result ≡ None }
+        ensures counted { self.new ≡ record self.old { failures = raised self.old.failures } }
+    {
+        self.failures = self.failures.saturating_add(1);
+        None
+    }
+}
+
+impl Line for MemoryLine {
+    ghost seen = { line_of };
+
+    fn read(&mut self, buffer: &mut [u8]) -> Option<usize> {
+        self.reads = self.reads.saturating_add(1);
+        if self.failing.is_read(self.reads) {
+            return self.fail();
+        }
+        let rest = &self.input[self.at..];
+        if rest.is_empty() {
+            self.ended = true;
+            return Some(0);
+        }
+        let n = self.step.min(rest.len()).min(buffer.len());
+        buffer[..n].copy_from_slice(&rest[..n]);
+        self.at += n;
+        Some(n)
+    }
+
+    fn write(&mut self, piece: &[u8]) -> Option<usize> {
+        self.writes = self.writes.saturating_add(1);
+        if self.failing.is_write(self.writes) {
+            return self.fail();
+        }
+        let n = self.step.min(piece.len());
+        if self.output.extend_from_slice(&piece[..n]).is_err() {
+            return self.fail();
+        }
+        Some(n)
+    }
+
+    fn failures(&self) -> u64 {
+        self.failures
+    }
+}
