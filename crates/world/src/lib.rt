@@ -17,7 +17,7 @@ mod lookalikes;
 mod opening;
 mod promises;
 mod run_event;
-mod seat;
+mod station;
 mod world;
 mod written;
 
