@@ -1,6 +1,6 @@
 //! Families, keys, names and values: bytes, compared as bytes.
 //!
-//! Each is a type of its own over a counted buffer, so that a clone copies no byte and two of one kind
+//! Each is a type of its own over shared bytes, so that a clone copies no byte and two of one kind
 //! can't be taken for each other. Contracts see lists of bytes.
 ghost use Rattle.std.specs.Prelude.{◌≡◌, ◌&&◌, nat_le, length, IfOk};
 ghost use Rattle.column_family.specs.Limits.{is_key, is_name, is_end, is_value};

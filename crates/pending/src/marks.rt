@@ -144,6 +144,7 @@ impl Marks {
     {
         below_in(self.alloc, &self.rows, row, time)
     }
+
     /// The transactions with marks on one of these rows strictly below the time, each once, in the order of
     /// their numbers. Its one error is `Memory`. In the order of k log n + m log m for k rows with m marks
     /// among n.

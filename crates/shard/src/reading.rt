@@ -157,8 +157,8 @@ fn waited_for(kept: &Kept, time: Time, read: &Read) -> Result<Vec<Writer>, Fault
 }
 
 /// ReadAt: ignored where the read waits; else it is answered where the horizon is above its time, or nothing has a mark below
-/// its time in an asked row; else it waits, and a Check goes to the coordinator of each such transaction. Refused with `Memory`
-/// alone, and then the read comes back.
+/// its time in an asked row; else it waits, and a Check goes to the coordinator of each such transaction. Refused with
+/// `Memory` alone, and then the read comes back.
 pub(crate) fn read_at(
     kept: &mut Kept,
     clock: Clock,

@@ -59,8 +59,8 @@ impl Shard {
         Some(Shard { kept })
     }
 
-    /// Handles an envelope, at one past the later of the shard's clock and the envelope's time. A part, a ballot or a vote that
-    /// comes again, and what is for a session, moves the clock alone; a read that doesn't wait, and a check, is answered
+    /// Handles an envelope, at one past the later of the shard's clock and the envelope's time. A part, a ballot or a vote
+    /// that comes again, and what is for a session, moves the clock alone; a read that doesn't wait, and a check, is answered
     /// again. Refused with `ClockSpent` where the clock would leave its range, and with `Memory`, but not what moves the
     /// clock alone; then the shard stands for what it stood for, nothing is sent, and the envelope is handed back.
     pub fn handle(&mut self, envelope: Envelope, outbox: &mut Outbox) -> Result<(), Refused>

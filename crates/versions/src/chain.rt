@@ -125,6 +125,7 @@ impl Chain {
     {
         take_out(&mut self.entries, place)
     }
+
     /// Drops the versions that are the newest of those held at no time from this one on; the newest stays, and so
     /// does every answer of `at` from that time on. Linear, and takes no memory.
     #[tactic(auto, using(crate::proofs::Kept::falling_kept))]

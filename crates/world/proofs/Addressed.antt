@@ -19,7 +19,7 @@ use Rattle.world.proofs.HeardRuns.{changed_actor}
 use Rattle.world.proofs.SessionSends.{IsOfSession, AreOfSession, heard_sends, begun_sends}
 use Rattle.world.proofs.About.{kind_of}
 use Rattle.world.proofs.Underway.{SaysLive, Live}
-use Rattle.world.proofs.Seats.{Seats, opening_seats, step_seats}
+use Rattle.world.proofs.Stations.{Stations, opening_stations, step_stations}
 use Rattle.world.proofs.Addresses.{dc_shard, known_shard, to_shard, done_session, stands}
 use Rattle.world.proofs.Runs.{every_run}
 use Rattle.world.proofs.LiveEvents.{run_live}
@@ -126,12 +126,12 @@ module _ (top : TopologyValue) (w : Run) (k : Addressed top w) where
 
 record Placed (top : TopologyValue) (w : Run) : Type 0 where
   addressed : Addressed top w
-  seats : Seats top w
+  stations : Stations top w
 
 placed_later : (top : TopologyValue) (w : Run) (xs : List Event) → Placed top w → Placed top (continued top w xs)
 placed_later top w [] k = k
 placed_later top w (x ∷ xs) k =
-    placed_later top (step top w x) xs (record { addressed = step_addressed top w k.addressed x; seats = step_seats top w k.seats x })
+    placed_later top (step top w x) xs (record { addressed = step_addressed top w k.addressed x; stations = step_stations top w k.stations x })
 
 -- ## For whom each message is
 
@@ -144,36 +144,36 @@ module _ (top : TopologyValue) (w : Run) (some : 0 < top.shards) (inv : Inv top 
   for_actor : (from to time : ℕ) (b : Body) → Says top w from to time b → SaysLive top w from to (kind_of b) → Fits top from to b
       → (is_shard top to ≡ true) ⊎ (is_session top to ≡ true)
   for_actor from to time (At t commit stamp) s l f =
-      let d = s.0.decided in inl (beside from to (known_shard top w some inv live k.seats from t (inr (d.decision, d.among, d.txn))) s.1)
+      let d = s.0.decided in inl (beside from to (known_shard top w some inv live k.stations from t (inr (d.decision, d.among, d.txn))) s.1)
   for_actor from to time (NotBy t bound) s l f =
       let is = s.1 in inl (beside from to f (ap (dc_of top) is.here ∙ lead_dc top (dc_of top to) is.batch some))
   for_actor from to time (Check t bound) s l f = inl (beside from to f s.1)
-  for_actor from to time (Done t commit stamp) s l f = inr (done_session top w some inv live k.seats from to time t commit stamp s l)
+  for_actor from to time (Done t commit stamp) s l f = inr (done_session top w some inv live k.stations from to time t commit stamp s l)
   for_actor from to time (PartNow number rows) s l f = inr f
   for_actor from to time (PartAt number bound answer) s l f = inr f
   for_actor from to time (Begin t rows cohorts dependencies) s l f =
-      inl (to_shard top w some inv live k.seats from to time (Begin t rows cohorts dependencies) s l refl)
-  for_actor from to time (Prepare t rows coordinator) s l f = inl (to_shard top w some inv live k.seats from to time (Prepare t rows coordinator) s l refl)
-  for_actor from to time (Yes t) s l f = inl (to_shard top w some inv live k.seats from to time (Yes t) s l refl)
-  for_actor from to time (Commit t commit stamp) s l f = inl (to_shard top w some inv live k.seats from to time (Commit t commit stamp) s l refl)
-  for_actor from to time (ReadNow number read) s l f = inl (to_shard top w some inv live k.seats from to time (ReadNow number read) s l refl)
-  for_actor from to time (ReadAt number bound read) s l f = inl (to_shard top w some inv live k.seats from to time (ReadAt number bound read) s l refl)
+      inl (to_shard top w some inv live k.stations from to time (Begin t rows cohorts dependencies) s l refl)
+  for_actor from to time (Prepare t rows coordinator) s l f = inl (to_shard top w some inv live k.stations from to time (Prepare t rows coordinator) s l refl)
+  for_actor from to time (Yes t) s l f = inl (to_shard top w some inv live k.stations from to time (Yes t) s l refl)
+  for_actor from to time (Commit t commit stamp) s l f = inl (to_shard top w some inv live k.stations from to time (Commit t commit stamp) s l refl)
+  for_actor from to time (ReadNow number read) s l f = inl (to_shard top w some inv live k.stations from to time (ReadNow number read) s l refl)
+  for_actor from to time (ReadAt number bound read) s l f = inl (to_shard top w some inv live k.stations from to time (ReadAt number bound read) s l refl)
   for_actor from to time (ReplBegin t rows stamp cohorts dependencies) s l f =
-      inl (to_shard top w some inv live k.seats from to time (ReplBegin t rows stamp cohorts dependencies) s l refl)
+      inl (to_shard top w some inv live k.stations from to time (ReplBegin t rows stamp cohorts dependencies) s l refl)
   for_actor from to time (ReplPart t rows stamp coordinator) s l f =
-      inl (to_shard top w some inv live k.seats from to time (ReplPart t rows stamp coordinator) s l refl)
-  for_actor from to time (Notify t) s l f = inl (to_shard top w some inv live k.seats from to time (Notify t) s l refl)
-  for_actor from to time (PrepareRemote t) s l f = inl (to_shard top w some inv live k.seats from to time (PrepareRemote t) s l refl)
-  for_actor from to time (DepCheck dependency waiter) s l f = inl (to_shard top w some inv live k.seats from to time (DepCheck dependency waiter) s l refl)
+      inl (to_shard top w some inv live k.stations from to time (ReplPart t rows stamp coordinator) s l refl)
+  for_actor from to time (Notify t) s l f = inl (to_shard top w some inv live k.stations from to time (Notify t) s l refl)
+  for_actor from to time (PrepareRemote t) s l f = inl (to_shard top w some inv live k.stations from to time (PrepareRemote t) s l refl)
+  for_actor from to time (DepCheck dependency waiter) s l f = inl (to_shard top w some inv live k.stations from to time (DepCheck dependency waiter) s l refl)
   for_actor from to time (DepOk dependency waiter commit) s l f =
-      inl (to_shard top w some inv live k.seats from to time (DepOk dependency waiter commit) s l refl)
+      inl (to_shard top w some inv live k.stations from to time (DepOk dependency waiter commit) s l refl)
 
 pub messages_are_for_actors : (top : TopologyValue) (events : List Event) → is_topology top.dcs top.shards top.homes ≡ true
     → MessagesAreForActors top (run top events)
 messages_are_for_actors top events ok e has =
     let w = run top events in
     let m = contains_among e w.sent has in
-    let k = placed_later top (opening top) events (record { addressed = record { sent = λ e m. absurd m; waiting = λ node y m. absurd m }; seats = opening_seats top }) in
+    let k = placed_later top (opening top) events (record { addressed = record { sent = λ e m. absurd m; waiting = λ node y m. absurd m }; stations = opening_stations top }) in
     let some = (stands top ok).some in
     for_actor top w some (every_run top events some) (run_live top events ok) k e.from e.to e.time e.body ((every_run top events some).sent e m)
     ((run_live top events ok).sent e m) (k.addressed.sent e m)

@@ -18,7 +18,7 @@ use Rattle.world.proofs.Near.{shard_below}
 use Rattle.world.proofs.About.{kind_of}
 use Rattle.world.proofs.Underway.{Known, AtOrigin, SaysLive, Live}
 use Rattle.world.proofs.LiveHeard.{is_for_shard}
-use Rattle.world.proofs.Seats.{Seats}
+use Rattle.world.proofs.Stations.{Stations}
 
 -- ## Numbers
 
@@ -62,7 +62,7 @@ stands top e =
     by lt all None = lt
     by lt all (Some i) = of lt all (slice_get top.homes i) (get_among top.homes i)
 
-module _ (top : TopologyValue) (w : Run) (some : 0 < top.shards) (inv : Inv top w) (live : Live top w) (seats : Seats top w) where
+module _ (top : TopologyValue) (w : Run) (some : 0 < top.shards) (inv : Inv top w) (live : Live top w) (stations : Stations top w) where
   origin_shard : (node : ℕ) (t : TxnValue) → AtOrigin top w node t → is_shard top node ≡ true
   origin_shard node t o =
       dc_shard top node some (subst (λ d. d < top.dcs) (sym o.here) (live.submitted o.submission o.batch o.written.among o.written.op).home)
@@ -77,7 +77,7 @@ module _ (top : TopologyValue) (w : Run) (some : 0 < top.shards) (inv : Inv top 
 
       go : (b : Bool) → is_shard top node ≡ b → is_shard top node ≡ true
       go true e = e
-      go false e = absurd (none (subst (λ a. Known a t) (seats.shards node e) k))
+      go false e = absurd (none (subst (λ a. Known a t) (stations.shards node e) k))
 
   -- what is for a shard goes to one
   pub to_shard : (from to time : ℕ) (b : Body) → Says top w from to time b → SaysLive top w from to (kind_of b) → is_for_shard (kind_of b) ≡ true
@@ -104,4 +104,4 @@ module _ (top : TopologyValue) (w : Run) (some : 0 < top.shards) (inv : Inv top 
   done_session from to time t commit stamp s e =
       let d = s.0.decided in
       let ds = (inv.shards from).decided d.decision d.among in
-      ap (is_session top) (e ∙ sym (ap (λ z. z.session) (ds.written.txn ∙ d.txn))) ∙ seats.submitted ds.submission ds.written.among
+      ap (is_session top) (e ∙ sym (ap (λ z. z.session) (ds.written.txn ∙ d.txn))) ∙ stations.submitted ds.submission ds.written.among

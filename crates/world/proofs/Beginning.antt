@@ -10,9 +10,9 @@ use Rattle.messages.specs.Topology.{TopologyValue, is_topology, is_shard, shard_
 use Rattle.messages.specs.Shard.{new_shard}
 use Rattle.shard.specs.declared.kept.Kept.{Kept}
 use Rattle.shard.specs.Kept as shard
-use Rattle.world.specs.declared.seat.Seat.{Seat}
+use Rattle.world.specs.declared.station.Station.{Station}
 use Rattle.world.specs.Run.{opening}
-use Rattle.world.specs.Holds.{AreShards, Sits, AreSeats}
+use Rattle.world.specs.Holds.{AreShards, Sits, AreStations}
 
 -- these are the first so many, each by its place
 pub record AreFirst {X : Type 0} (P : ℕ → X → Type 0) (n : ℕ) (xs : List X) : Type 0 where
@@ -51,11 +51,11 @@ node_is_shard top node n e lt = grind (arith, nat_tests)
 
 -- ## Sessions
 
-abbrev pub SitsFirst : TopologyValue → ℕ → Seat → Type 0
+abbrev pub SitsFirst : TopologyValue → ℕ → Station → Type 0
 SitsFirst top i s = Sits (opening top) top (shard_count top + i) s
 
-pub seats_begin : (top : TopologyValue) (n : ℕ) (xs : List Seat) → n ≡ length top.homes → AreFirst (SitsFirst top) n xs → AreSeats (opening top) top xs
-seats_begin top n xs e are = record { len = are.len ∙ e; each = are.each }
+pub stations_begin : (top : TopologyValue) (n : ℕ) (xs : List Station) → n ≡ length top.homes → AreFirst (SitsFirst top) n xs → AreStations (opening top) top xs
+stations_begin top n xs e are = record { len = are.len ∙ e; each = are.each }
 
 -- ## Topologies
 

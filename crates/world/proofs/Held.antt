@@ -332,21 +332,21 @@ session_below top node n m e f is =
     (omega arith, omega arith)
 
 pub addressed : (a : Actors) (l : Log) (number : ℕ) (e : Envelope) → Holds a.topology a l → slice_get a.network.sent number ≡ Some e
-    → e.to < length a.shards.items + length a.seats.items
+    → e.to < length a.shards.items + length a.stations.items
 addressed a l number e h at =
     let top = a.topology in
     let r = h.running in
     let there = ap (λ z. slice_get z number) r.sent ∙ at in
     elim (messages_are_for_actors top l.events.items r.sound e (among_contains e (run top l.events.items).sent (get_among (run top l.events.items).sent number e there))) [
-      | inl shard ↦ shard_below top e.to (length a.shards.items) (length a.seats.items) r.shards.len shard
-      | inr session ↦ (session_below top e.to (length a.shards.items) (length a.seats.items) r.shards.len r.seats.len session).1
+      | inl shard ↦ shard_below top e.to (length a.shards.items) (length a.stations.items) r.shards.len shard
+      | inr session ↦ (session_below top e.to (length a.shards.items) (length a.stations.items) r.shards.len r.stations.len session).1
     ]
 
-pub seat_from : (a : Actors) (l : Log) (node : ℕ) → Holds a.topology a l → is_session a.topology node ≡ true → length a.shards.items ≤ node
-seat_from a l node h is = (session_below a.topology node (length a.shards.items) (length a.seats.items) h.running.shards.len h.running.seats.len is).0
+pub station_from : (a : Actors) (l : Log) (node : ℕ) → Holds a.topology a l → is_session a.topology node ≡ true → length a.shards.items ≤ node
+station_from a l node h is = (session_below a.topology node (length a.shards.items) (length a.stations.items) h.running.shards.len h.running.stations.len is).0
 
-pub seat_below : (a : Actors) (l : Log) (node : ℕ) → Holds a.topology a l → is_session a.topology node ≡ true → node < length a.shards.items + length a.seats.items
-seat_below a l node h is = (session_below a.topology node (length a.shards.items) (length a.seats.items) h.running.shards.len h.running.seats.len is).1
+pub station_below : (a : Actors) (l : Log) (node : ℕ) → Holds a.topology a l → is_session a.topology node ≡ true → node < length a.shards.items + length a.stations.items
+station_below a l node h is = (session_below a.topology node (length a.shards.items) (length a.stations.items) h.running.shards.len h.running.stations.len is).1
 
 pub shard_place : (a : Actors) (l : Log) (node : ℕ) → Holds a.topology a l → is_shard a.topology node ≡ true → node < length a.shards.items
 shard_place a l node h is = subst (λ n. node < n) (sym h.running.shards.len) (ltb-true node (shard_count a.topology) is)

@@ -102,7 +102,7 @@ pub mod OpenReads
 pub mod LiveSessions
 pub mod LiveReads
 pub mod LiveHeard
-pub mod Seats
+pub mod Stations
 pub mod Addresses
 pub mod SteppedLive
 pub mod SubmittedLive

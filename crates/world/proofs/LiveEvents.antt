@@ -25,7 +25,7 @@ use Rattle.world.proofs.HandledOnwards.{handled_onward, collected_onward}
 use Rattle.world.proofs.HandledWaits.{handled_wait, collected_wait}
 use Rattle.world.proofs.LiveHandled.{is_for_session, handled_left, collected_left}
 use Rattle.world.proofs.LiveHeard.{is_for_shard, heard_left}
-use Rattle.world.proofs.Seats.{Seats, step_seats, opening_seats}
+use Rattle.world.proofs.Stations.{Stations, step_stations, opening_stations}
 use Rattle.world.proofs.Addresses.{Stands, stands, shard_no_session, to_shard, done_session}
 use Rattle.world.proofs.SteppedLive.{Delivers, shard_onward, shard_here, shard_step_live, session_comes, session_step_live}
 use Rattle.world.proofs.SubmittedLive.{begun_live}
@@ -35,7 +35,7 @@ delivers_it : (top : TopologyValue) (w x : Run) (j : ℕ) (e : Envelope) → sli
     → Delivers top w x (Deliver j)
 delivers_it top w x j e is a i q = let same : j ≡ i = cc in (e, subst (λ z. slice_get w.sent z ≡ Some e) same is, a)
 
-module _ (top : TopologyValue) (ok : Stands top) (w : Run) (inv : Inv top w) (live : Live top w) (seats : Seats top w) where
+module _ (top : TopologyValue) (ok : Stands top) (w : Run) (inv : Inv top w) (live : Live top w) (stations : Stations top w) where
   homed : (node : ℕ) → (w.sessions node).home < top.dcs
   homed node = subst (λ d. d < top.dcs) (sym (inv.sessions node).home) (ok.home node)
 
@@ -45,11 +45,11 @@ module _ (top : TopologyValue) (ok : Stands top) (w : Run) (inv : Inv top w) (li
   at_shard : (from to time : ℕ) (b : Body) → is_for_session (kind_of b) ≡ true → is_shard top to ≡ true → Says top w from to time b
       → SaysLive top w from to (kind_of b) → Acted top w from to (kind_of b)
   at_shard from to time (Done t commit stamp) e is s k =
-      absurd (false≢true (sym (shard_no_session top to is) ∙ done_session top w ok.some inv live seats from to time t commit stamp s k))
+      absurd (false≢true (sym (shard_no_session top to is) ∙ done_session top w ok.some inv live stations from to time t commit stamp s k))
   at_shard from to time (PartNow number rows) e is s k =
-      record { number = k; round = λ q. subst (λ o. FirstHas top (w.sessions to) o from) (sym (seats.sessions to (shard_no_session top to is))) tt }
+      record { number = k; round = λ q. subst (λ o. FirstHas top (w.sessions to) o from) (sym (stations.sessions to (shard_no_session top to is))) tt }
   at_shard from to time (PartAt number bound answer) e is s k =
-      record { number = k.number; round = λ q. subst (λ o. SecondHas top (w.sessions to) o from) (sym (seats.sessions to (shard_no_session top to is))) tt }
+      record { number = k.number; round = λ q. subst (λ o. SecondHas top (w.sessions to) o from) (sym (stations.sessions to (shard_no_session top to is))) tt }
   at_shard from to time _ e is s k = absurd (false≢true e)
 
   shard_hears : (j : ℕ) (e : Envelope) → slice_get w.sent j ≡ Some e → is_shard top e.to ≡ true
@@ -72,7 +72,7 @@ module _ (top : TopologyValue) (ok : Stands top) (w : Run) (inv : Inv top w) (li
           let l = handled_left top w x n ok.some inv later g live e m (shard_here top w e.to e.from (kind_of e.body) st ev on ws) in
           let acted = by (is_for_session (kind_of e.body)) refl x (λ f. l.1 f) (λ a. acted_on top e.from e.to g (kind_of e.body) a) m in
           shard_step_live top w e.to e.from (kind_of e.body) st ev on ws live (λ number time r. (subst (λ z. SaysLive top w e.from e.to z) r
-          (live.sent e m)).0) l.0 seats.handled
+          (live.sent e m)).0) l.0 stations.handled
           (delivers_it top w x j e found acted)
         where
           by : (b : Bool) → is_for_session (kind_of e.body) ≡ b → (x : Run)
@@ -90,7 +90,7 @@ module _ (top : TopologyValue) (ok : Stands top) (w : Run) (inv : Inv top w) (li
       no_shard false f = f
       no_shard true f =
           let m = get_among w.sent j e found in
-          absurd (false≢true (sym is ∙ to_shard top w ok.some inv live seats e.from e.to e.time e.body (inv.sent e m) (live.sent e m) f))
+          absurd (false≢true (sym is ∙ to_shard top w ok.some inv live stations e.from e.to e.time e.body (inv.sent e m) (live.sent e m) f))
 
       go : (o : Option ℕ) → ticked (w.sessions e.to).clock e.time ≡ o
           → Live top (after_session (on_clock o (λ n. heard top e.to n (w.sessions e.to) e.from e.body)) w (Deliver j) e.to)
@@ -103,7 +103,7 @@ module _ (top : TopologyValue) (ok : Stands top) (w : Run) (inv : Inv top w) (li
           let x = after_session (Ok st) w ev e.to in
           let r = heard_left top w x e.to n ok.some inv (le_of_lt above.0) (homed e.to) live e.from e.time e.body (no_shard _ refl)
           (le_of_lt above.1) (inv.sent e m) (live.sent e m) (session_comes top w e.to st ev) in
-          session_step_live top w e.to st ev live r.0 seats.handled (delivers_it top w x j e found r.1)
+          session_step_live top w e.to st ev live r.0 stations.handled (delivers_it top w x j e found r.1)
 
   deliver_go : (shard session : Bool) (j : ℕ) (e : Envelope) → is_shard top e.to ≡ shard → slice_get w.sent j ≡ Some e
       → Live top (deliver_if shard session top w (Deliver j) e)
@@ -131,7 +131,7 @@ module _ (top : TopologyValue) (ok : Stands top) (w : Run) (inv : Inv top w) (li
           let ws = collected_wait node n 0 (OfRead 0) (w.shards node) time in
           let g = shard_onward top w node 0 (OfRead 0) st ev on ws in
           shard_step_live top w node 0 (OfRead 0) st ev on ws live (λ number bound r. absurd (cc))
-          (collected_left top w x node n time g live) seats.handled (λ i e. absurd (cc))
+          (collected_left top w x node n time g live) stations.handled (λ i e. absurd (cc))
 
   -- ## A submission
 
@@ -146,7 +146,7 @@ module _ (top : TopologyValue) (ok : Stands top) (w : Run) (inv : Inv top w) (li
       go : (is_idle (w.sessions node).current ≡ true) × (plan_fault top o ≡ None) → (c : Option ℕ)
           → Live top (after_submission (on_clock c (λ n. begun top node n (w.sessions node) o)) w node o)
       go plan None = live
-      go plan (Some n) = begun_live top w node n ok.some live (homed node) plan.0 seats.handled o plan.1
+      go plan (Some n) = begun_live top w node n ok.some live (homed node) plan.0 stations.handled o plan.1
 
       by : (f : Option Fault) → submit_fault (is_idle (w.sessions node).current) top o ≡ f
           → Live top (after_submission (session_submit_if f top node (w.sessions node) o) w node o)
@@ -196,11 +196,11 @@ opening_live top =
       ends = λ b m. absurd m;
     }
 
-continued_live : (top : TopologyValue) → Stands top → (events : List Event) (w : Run) → Inv top w → Live top w → Seats top w
+continued_live : (top : TopologyValue) → Stands top → (events : List Event) (w : Run) → Inv top w → Live top w → Stations top w
     → Live top (continued top w events)
-continued_live top ok [] w inv live seats = live
-continued_live top ok (x ∷ xs) w inv live seats =
-    continued_live top ok xs (step top w x) (step_kept top w x ok.some inv) (step_live top ok w inv live seats x) (step_seats top w seats x)
+continued_live top ok [] w inv live stations = live
+continued_live top ok (x ∷ xs) w inv live stations =
+    continued_live top ok xs (step top w x) (step_kept top w x ok.some inv) (step_live top ok w inv live stations x) (step_stations top w stations x)
 
 pub run_live : (top : TopologyValue) (events : List Event) → is_topology top.dcs top.shards top.homes ≡ true → Live top (run top events)
-run_live top events e = continued_live top (stands top e) events (opening top) (opening_holds top) (opening_live top) (opening_seats top)
+run_live top events e = continued_live top (stands top e) events (opening top) (opening_holds top) (opening_live top) (opening_stations top)

@@ -13,10 +13,10 @@ use Rattle.messages.specs.Submitting.{begun, submit_fault, submit_if as submitte
 use Rattle.messages.specs.SessionEvents.{session_taken}
 use Rattle.client.specs.Represents as session
 use Rattle.world.specs.declared.actors.Actors.{Actors}
-use Rattle.world.specs.declared.seat.Seat.{Seat}
+use Rattle.world.specs.declared.station.Station.{Station}
 use Rattle.world.specs.Run.{Run, Event, Submit, Submission, submission_of, submission_by, with_ended, after_submission, submit_if, step, run}
 use Rattle.world.specs.Refusals.{NoSuchActor, refused_by, refusal_of}
-use Rattle.world.specs.Holds.{AreShards, AreSeats, Sits, IsOpOf, IsRunning, HasTaken}
+use Rattle.world.specs.Holds.{AreShards, AreStations, Sits, IsOpOf, IsRunning, HasTaken}
 use Rattle.world.specs.World.{IsRefusedAs}
 use Rattle.world.specs.Steps.{DidSubmit, DidSubmitOf}
 use Rattle.world.proofs.Among.{Among, same_txn, same_txn_self}
@@ -95,8 +95,8 @@ module _ (top : TopologyValue) (w : Run) (i node n : ℕ) (o : Op) (inv : Inv to
         op = refl;
       }
 
-  pub after_submission_step : (a b : Actors) (s t : Seat) → IsRunning top w a → node ≡ shard_count top + i
-      → slice_get a.seats.items i ≡ Some s → i < length a.seats.items → b.seats.items ≡ slice_set a.seats.items i t
+  pub after_submission_step : (a b : Actors) (s t : Station) → IsRunning top w a → node ≡ shard_count top + i
+      → slice_get a.stations.items i ≡ Some s → i < length a.stations.items → b.stations.items ≡ slice_set a.stations.items i t
       → DidSubmit top (begun top node n (w.sessions node) o) o s t a.network.sent b.network.sent
       → b.topology ≡ a.topology → b.shards.items ≡ a.shards.items → b.transcript.items ≡ a.transcript.items → IsRunning top v b
   after_submission_step a b s t r is at lt set did topology shards told =
@@ -104,15 +104,15 @@ module _ (top : TopologyValue) (w : Run) (i node n : ℕ) (o : Op) (inv : Inv to
         topology = topology ∙ r.topology;
         sound = r.sound;
         shards = subst (AreShards top w.shards) (sym shards) r.shards;
-        seats =
-            subst (AreSeats v top) (sym set)
-            (record { len = length_set a.seats.items i t ∙ r.seats.len; each = by_place a.seats.items i t (λ j k. Sits v top (shard_count top + j) k) lt (subst (λ z. Sits v top z t) is here) there });
+        stations =
+            subst (AreStations v top) (sym set)
+            (record { len = length_set a.stations.items i t ∙ r.stations.len; each = by_place a.stations.items i t (λ j k. Sits v top (shard_count top + j) k) lt (subst (λ z. Sits v top z t) is here) there });
         sent = ap (λ l. l ++ st.sends) r.sent ∙ sym did.sends;
         transcript = ap (with_ended w.transcript) (submission_ends_nothing top node n (w.sessions node) o (w.submitted ++ sub ∷ []) node) ∙ r.transcript ∙ sym told;
       }
     where
       old : Sits w top node s
-      old = subst (λ z. Sits w top z s) (sym is) (r.seats.each i s at)
+      old = subst (λ z. Sits w top z s) (sym is) (r.stations.each i s at)
 
       here : Sits v top node t
       here =
@@ -124,9 +124,9 @@ module _ (top : TopologyValue) (w : Run) (i node n : ℕ) (o : Op) (inv : Inv to
             op = λ busy. subst (IsOpOf v node) (sym did.op) own_op;
           }
 
-      there : (j : ℕ) (y : Seat) → (j ≡ i → ⊥) → slice_get a.seats.items j ≡ Some y → Sits v top (shard_count top + j) y
+      there : (j : ℕ) (y : Station) → (j ≡ i → ⊥) → slice_get a.stations.items j ≡ Some y → Sits v top (shard_count top + j) y
       there j y apart at =
-          let u = r.seats.each j y at in
+          let u = r.stations.each j y at in
           let same : v.sessions (shard_count top + j) ≡ w.sessions (shard_count top + j) =
           actor_other w.sessions node (shard_count top + j) (session_taken st.state) (λ e. apart (omega arith)) in
           record {
@@ -156,22 +156,22 @@ pub submission_refusal : (top : TopologyValue) (w : Run) (node : ℕ) (o : Op) �
     → refusal_of top w (Submit node o) ≡ refused_by (session_submit top node (w.sessions node) o)
 submission_refusal top w node o is = ap (λ b. if b then refused_by (session_submit top node (w.sessions node) o) else Some NoSuchActor) is
 
-seat_submitted : (top : TopologyValue) (events : List Event) (i node : ℕ) (o : Op) (a b : Actors) (s t : Seat) (f : Option Fault) (c : Option ℕ) → IsRunning top (run top events) a
-    → node ≡ shard_count top + i → slice_get a.seats.items i ≡ Some s → i < length a.seats.items → b.seats.items ≡ slice_set a.seats.items i t
+station_submitted : (top : TopologyValue) (events : List Event) (i node : ℕ) (o : Op) (a b : Actors) (s t : Station) (f : Option Fault) (c : Option ℕ) → IsRunning top (run top events) a
+    → node ≡ shard_count top + i → slice_get a.stations.items i ≡ Some s → i < length a.stations.items → b.stations.items ≡ slice_set a.stations.items i t
     → submit_fault (is_idle ((run top events).sessions node).current) top o ≡ f → ticked ((run top events).sessions node).clock ((run top events).sessions node).clock ≡ c
     → DidSubmitOf top (session_submit top node ((run top events).sessions node) o) o s t a.network.sent b.network.sent
     → b.topology ≡ a.topology → b.shards.items ≡ a.shards.items → b.transcript.items ≡ a.transcript.items → HasTaken top events (Submit node o) b
-seat_submitted top events i node o a b s t (Some e) c is to at lt set fault clock did topology shards told =
+station_submitted top events i node o a b s t (Some e) c is to at lt set fault clock did topology shards told =
     absurd
     (subst (λ r. DidSubmitOf top r o s t a.network.sent b.network.sent) (ap (λ z. submitted_if z top node ((run top events).sessions node) o) fault) did)
-seat_submitted top events i node o a b s t None None is to at lt set fault clock did topology shards told =
+station_submitted top events i node o a b s t None None is to at lt set fault clock did topology shards told =
     absurd
     (subst (λ r. DidSubmitOf top r o s t a.network.sent b.network.sent)
     (ap (λ z. submitted_if z top node ((run top events).sessions node) o) fault ∙ ap (λ z. on_clock z (λ n. begun top node n ((run top events).sessions node) o)) clock) did)
-seat_submitted top events i node o a b s t None (Some n) is to at lt set fault clock did topology shards told =
+station_submitted top events i node o a b s t None (Some n) is to at lt set fault clock did topology shards told =
     let w = run top events in
     let some = (stands top is.sound).some in
-    let kind = session_at top node i to (subst (λ z. i < z) is.seats.len lt) in
+    let kind = session_at top node i to (subst (λ z. i < z) is.stations.len lt) in
     let r : session_submit top node (w.sessions node) o ≡ Ok (begun top node n (w.sessions node) o) =
     ap (λ z. submitted_if z top node (w.sessions node) o) fault ∙ ap (λ z. on_clock z (λ n. begun top node n (w.sessions node) o)) clock in
     record {
@@ -182,33 +182,33 @@ seat_submitted top events i node o a b s t None (Some n) is to at lt set fault c
           (subst (λ r. DidSubmitOf top r o s t a.network.sent b.network.sent) r did) topology shards told);
     }
 
-pub seat_submits : (top : TopologyValue) (events : List Event) (i node : ℕ) (o kept : Op) (a b : Actors) (s t : Seat) → IsRunning top (run top events) a
-    → node ≡ length a.shards.items + i → slice_get a.seats.items i ≡ Some s → i < length a.seats.items → b.seats.items ≡ slice_set a.seats.items i t → kept ≡ o
+pub station_submits : (top : TopologyValue) (events : List Event) (i node : ℕ) (o kept : Op) (a b : Actors) (s t : Station) → IsRunning top (run top events) a
+    → node ≡ length a.shards.items + i → slice_get a.stations.items i ≡ Some s → i < length a.stations.items → b.stations.items ≡ slice_set a.stations.items i t → kept ≡ o
     → ((top' : TopologyValue) (z : SessionState) → session.Represents s.session top' z
     → DidSubmitOf top' (session_submit top' s.session.node z o) kept s t a.network.sent b.network.sent)
     → b.topology ≡ a.topology → b.shards.items ≡ a.shards.items → b.transcript.items ≡ a.transcript.items → HasTaken top events (Submit node o) b
-seat_submits top events i node o kept a b s t is to at lt set same did topology shards told =
+station_submits top events i node o kept a b s t is to at lt set same did topology shards told =
     let w = run top events in
     let n = at_node top events i a s node is at to in
-    seat_submitted top events i node o a b s t (submit_fault (is_idle (w.sessions node).current) top o) (ticked (w.sessions node).clock (w.sessions node).clock) is n.0 at lt set refl refl
+    station_submitted top events i node o a b s t (submit_fault (is_idle (w.sessions node).current) top o) (ticked (w.sessions node).clock (w.sessions node).clock) is n.0 at lt set refl refl
     (subst (λ z. DidSubmitOf top (session_submit top z (w.sessions node) o) o s t a.network.sent b.network.sent) n.1
     (subst (λ z. DidSubmitOf top (session_submit top s.session.node (w.sessions node) o) z s t a.network.sent b.network.sent) same (did top (w.sessions node) n.2)))
     topology shards told
 
-pub submit_refuses : (top : TopologyValue) (events : List Event) (i node : ℕ) (o : Op) (a : Actors) (s : Seat) (f : Fault) → IsRunning top (run top events) a
-    → node ≡ length a.shards.items + i → slice_get a.seats.items i ≡ Some s → i < length a.seats.items
+pub submit_refuses : (top : TopologyValue) (events : List Event) (i node : ℕ) (o : Op) (a : Actors) (s : Station) (f : Fault) → IsRunning top (run top events) a
+    → node ≡ length a.shards.items + i → slice_get a.stations.items i ≡ Some s → i < length a.stations.items
     → ((top' : TopologyValue) (z : SessionState) → session.Represents s.session top' z → session.IsRefusalOf (session_submit top' s.session.node z o) f)
     → IsRefusedAs (refusal_of top (run top events) (Submit node o)) f
 submit_refuses top events i node o a s f is to at lt refused =
     let w = run top events in
     let n = at_node top events i a s node is at to in
-    let kind = session_at top node i n.0 (subst (λ z. i < z) is.seats.len lt) in
+    let kind = session_at top node i n.0 (subst (λ z. i < z) is.stations.len lt) in
     refused_session top events (refusal_of top w (Submit node o)) (session_submit top node (w.sessions node) o) f (submission_refusal top w node o kind.1)
     (subst (λ z. session.IsRefusalOf (session_submit top z (w.sessions node) o) f) n.1 (refused top (w.sessions node) n.2))
 
 -- the number that the session gives is the next one of the run's session
-pub submit_number : (top : TopologyValue) (events : List Event) (i node : ℕ) (a : Actors) (s : Seat) → IsRunning top (run top events) a
-    → node ≡ length a.shards.items + i → slice_get a.seats.items i ≡ Some s → s.session.count ≡ ((run top events).sessions node).count
+pub submit_number : (top : TopologyValue) (events : List Event) (i node : ℕ) (a : Actors) (s : Station) → IsRunning top (run top events) a
+    → node ≡ length a.shards.items + i → slice_get a.stations.items i ≡ Some s → s.session.count ≡ ((run top events).sessions node).count
 submit_number top events i node a s is to at =
     let n = at_node top events i a s node is at to in
     ap (λ (z : SessionState). z.count) (sym n.2.state)

@@ -13,7 +13,7 @@ use Rattle.messages.specs.SessionEvents.{session_taken}
 use Rattle.client.specs.declared.kept.Kept.{Kept as SessionKept}
 use Rattle.client.specs.Represents as session
 use Rattle.client.specs.State.{finished_of}
-use Rattle.world.specs.declared.seat.Seat.{Seat}
+use Rattle.world.specs.declared.station.Station.{Station}
 use Rattle.world.specs.Run.{Completed, with_ended}
 use Rattle.world.specs.Holds.{AreShards, ended_as, kept_after}
 use Rattle.world.specs.Steps.{StaysApart, DidShard, DidSessionOf}
@@ -58,23 +58,23 @@ pub refused_as : (r : Result ShardStep Fault) (e : Fault) → r ≡ Err e → sh
 refused_as r e q = subst (λ z. shard.IsRefusalOf z e) (sym q) refl
 
 -- a session handled an envelope, and what it finished was taken and told
-pub seat_did : (top : TopologyValue) (r : Result SessionStep Fault) (handled taken : SessionKept) (old new : Seat) (before after : List Envelope) (told now : List Completed)
+pub station_did : (top : TopologyValue) (r : Result SessionStep Fault) (handled taken : SessionKept) (old new : Station) (before after : List Envelope) (told now : List Completed)
     → session.IsStepOf r top handled before after
     → ((t : TopologyValue) (a : SessionState) → session.Represents handled t a → session.Represents taken t (session_taken a))
     → handled.node ≡ old.session.node → taken.node ≡ handled.node
     → new ≡ record { node = old.node; home = old.home; session = taken; op = kept_after old.op (finished_of handled.untaken) }
     → now ≡ with_ended told (ended_as old.node old.home old.op (finished_of handled.untaken))
     → DidSessionOf top r old new before after told now
-seat_did top (Err e) handled taken old new before after told now did takes same node is ended = did
-seat_did top (Ok s) handled taken old new before after told now did takes same node is ended =
+station_did top (Err e) handled taken old new before after told now did takes same node is ended = did
+station_did top (Ok s) handled taken old new before after told now did takes same node is ended =
     let untaken : s.state.untaken ≡ finished_of handled.untaken = ap (λ (a : SessionState). a.untaken) did.state.state in
     let stands : session.Represents taken top (session_taken s.state) = takes top s.state did.state in
     record {
-      stands = subst (λ (z : Seat). session.Represents z.session top (session_taken s.state)) (sym is) stands;
-      same = ap (λ (z : Seat). z.session.node) is ∙ node ∙ same;
-      node = ap (λ (z : Seat). z.node) is;
-      home = ap (λ (z : Seat). z.home) is;
-      op = ap (λ (z : Seat). z.op) is ∙ ap (kept_after old.op) (sym untaken);
+      stands = subst (λ (z : Station). session.Represents z.session top (session_taken s.state)) (sym is) stands;
+      same = ap (λ (z : Station). z.session.node) is ∙ node ∙ same;
+      node = ap (λ (z : Station). z.node) is;
+      home = ap (λ (z : Station). z.home) is;
+      op = ap (λ (z : Station). z.op) is ∙ ap (kept_after old.op) (sym untaken);
       sends = did.sends;
       ended = ended ∙ ap (λ f. with_ended told (ended_as old.node old.home old.op f)) (sym untaken);
     }

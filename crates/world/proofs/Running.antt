@@ -16,9 +16,9 @@ use Rattle.shard.specs.declared.kept.Kept.{Kept}
 use Rattle.shard.specs.Kept as shard
 use Rattle.client.specs.Represents as session
 use Rattle.world.specs.declared.actors.Actors.{Actors}
-use Rattle.world.specs.declared.seat.Seat.{Seat}
+use Rattle.world.specs.declared.station.Station.{Station}
 use Rattle.world.specs.Run.{Run, Event, Submission, submission_of, completed_of, ended_by, with_ended, with_actor, after_shard, after_session}
-use Rattle.world.specs.Holds.{AreShards, AreSeats, Sits, IsOpOf, IsRunning, ended_as, kept_after}
+use Rattle.world.specs.Holds.{AreShards, AreStations, Sits, IsOpOf, IsRunning, ended_as, kept_after}
 use Rattle.world.specs.Steps.{DidSession}
 use Rattle.world.proofs.Among.{find_some, same_txn}
 use Rattle.world.proofs.Invariant.{Inv, home}
@@ -82,17 +82,17 @@ shards_go_on top states xs node k b are lt here =
 
 pub after_shard_step : (top : TopologyValue) (w : Run) (x : Event) (node : ℕ) (s : ShardStep) (a b : Actors) → IsRunning top w a
     → AreShards top (with_actor w.shards node s.state) b.shards.items → b.network.sent ≡ a.network.sent ++ s.sends
-    → b.topology ≡ a.topology → b.seats.items ≡ a.seats.items → b.transcript.items ≡ a.transcript.items → IsRunning top (after_shard (Ok s) w x node) b
-after_shard_step top w x node s a b r are sends topology seats told =
+    → b.topology ≡ a.topology → b.stations.items ≡ a.stations.items → b.transcript.items ≡ a.transcript.items → IsRunning top (after_shard (Ok s) w x node) b
+after_shard_step top w x node s a b r are sends topology stations told =
     record {
       topology = topology ∙ r.topology;
       sound = r.sound;
       shards = are;
-      seats =
+      stations =
           record {
-            len = ap (λ (l : List Seat). length l) seats ∙ r.seats.len;
+            len = ap (λ (l : List Station). length l) stations ∙ r.stations.len;
             each = λ i k at.
-                let t = r.seats.each i k (ap (λ (l : List Seat). slice_get l i) (sym seats) ∙ at) in
+                let t = r.stations.each i k (ap (λ (l : List Station). slice_get l i) (sym stations) ∙ at) in
                 record { stands = t.stands; same = t.same; node = t.node; home = t.home; op = λ busy. let o = t.op busy in record { submission = o.submission; found = o.found; op = o.op } };
           };
       sent = ap (λ l. l ++ s.sends) r.sent ∙ sym sends;
@@ -163,8 +163,8 @@ not_finished : (o : Option Op) (untaken : Option Finished) → untaken ≡ None 
 not_finished o None e = refl
 not_finished o (Some f) e = absurd (cc)
 
-pub after_session_step : (top : TopologyValue) (w : Run) (x : Event) (i node n from : ℕ) (m : Body) (a b : Actors) (s t : Seat) → Inv top w → IsRunning top w a → node ≡ shard_count top + i
-    → slice_get a.seats.items i ≡ Some s → i < length a.seats.items → b.seats.items ≡ slice_set a.seats.items i t
+pub after_session_step : (top : TopologyValue) (w : Run) (x : Event) (i node n from : ℕ) (m : Body) (a b : Actors) (s t : Station) → Inv top w → IsRunning top w a → node ≡ shard_count top + i
+    → slice_get a.stations.items i ≡ Some s → i < length a.stations.items → b.stations.items ≡ slice_set a.stations.items i t
     → DidSession top (heard top node n (w.sessions node) from m) s t a.network.sent b.network.sent a.transcript.items b.transcript.items
     → b.topology ≡ a.topology → b.shards.items ≡ a.shards.items
     → IsRunning top (after_session (Ok (heard top node n (w.sessions node) from m)) w x node) b
@@ -173,9 +173,9 @@ after_session_step top w x i node n from m a b s t inv r is at lt set did topolo
       topology = topology ∙ r.topology;
       sound = r.sound;
       shards = subst (AreShards top w.shards) (sym shards) r.shards;
-      seats =
-          subst (AreSeats v top) (sym set)
-          (record { len = length_set a.seats.items i t ∙ r.seats.len; each = by_place a.seats.items i t (λ j k. Sits v top (shard_count top + j) k) lt here there });
+      stations =
+          subst (AreStations v top) (sym set)
+          (record { len = length_set a.stations.items i t ∙ r.stations.len; each = by_place a.stations.items i t (λ j k. Sits v top (shard_count top + j) k) lt here there });
       sent = ap (λ l. l ++ st.sends) r.sent ∙ sym did.sends;
       transcript =
           ap (λ l. with_ended l (ended_by w.submitted node st)) r.transcript
@@ -192,7 +192,7 @@ after_session_step top w x i node n from m a b s t inv r is at lt set did topolo
     v = after_session (Ok (heard top node n (w.sessions node) from m)) w x node
 
     old : Sits w top node s
-    old = subst (λ z. Sits w top z s) (sym is) (r.seats.each i s at)
+    old = subst (λ z. Sits w top z s) (sym is) (r.stations.each i s at)
 
     k : Hears (w.sessions node) (heard top node n (w.sessions node) from m)
     k = hears top node n (w.sessions node) from m (inv.sessions node).taken
@@ -221,9 +221,9 @@ after_session_step top w x i node n from m a b s t inv r is at lt set did topolo
           op = λ busy. here_op (sym (ap (λ (z : SessionState). is_idle z.current) now_is) ∙ busy);
         })
 
-    there : (j : ℕ) (y : Seat) → (j ≡ i → ⊥) → slice_get a.seats.items j ≡ Some y → Sits v top (shard_count top + j) y
+    there : (j : ℕ) (y : Station) → (j ≡ i → ⊥) → slice_get a.stations.items j ≡ Some y → Sits v top (shard_count top + j) y
     there j y apart at =
-        let u = r.seats.each j y at in
+        let u = r.stations.each j y at in
         let same : v.sessions (shard_count top + j) ≡ w.sessions (shard_count top + j) =
         actor_other w.sessions node (shard_count top + j) (session_taken st.state) (λ e. apart (omega arith)) in
         record {

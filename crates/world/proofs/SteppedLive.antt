@@ -19,7 +19,7 @@ use Rattle.world.proofs.Underway.{Placed, ShardOnward, SessionOnward, Round, Has
 use Rattle.world.proofs.LiveGrow.{sent_in, placed_on, shard_on, round_on, ended_on, open_on, says_on, acted_on, submission_on, same_shard_on, same_session_on}
 use Rattle.world.proofs.LiveSteps.{Here, Left}
 use Rattle.world.proofs.LiveSessions.{Comes, Went}
-use Rattle.world.proofs.Seats.{handled_more, get_front}
+use Rattle.world.proofs.Stations.{handled_more, get_front}
 
 shard_actor_on : (f : ℕ → ShardState) (node : ℕ) (b : ShardState) → ShardOnward (f node) b → (m : ℕ) → ShardOnward (f m) (with_actor f node b m)
 shard_actor_on f node b g m = go (m == node) refl

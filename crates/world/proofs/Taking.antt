@@ -15,10 +15,10 @@ use Rattle.shard.specs.declared.kept.Kept.{Kept}
 use Rattle.shard.specs.Kept as shard
 use Rattle.client.specs.Represents as session
 use Rattle.world.specs.declared.actors.Actors.{Actors}
-use Rattle.world.specs.declared.seat.Seat.{Seat}
+use Rattle.world.specs.declared.station.Station.{Station}
 use Rattle.world.specs.Run.{Run, Event, Deliver, Collect, after_shard, after_session, deliver_if, deliver_for, collect_if, step, run}
 use Rattle.world.specs.Refusals.{Refusal, Refused, NoSuchActor, refused_by, refusal_of, refusal_of_message}
-use Rattle.world.specs.Holds.{AreShards, AreSeats, Sits, IsRunning, HasTaken}
+use Rattle.world.specs.Holds.{AreShards, AreStations, Sits, IsRunning, HasTaken}
 use Rattle.world.specs.World.{IsRefusedAs}
 use Rattle.world.specs.Steps.{StaysApart, DidShard, DidSessionOf}
 use Rattle.world.proofs.ShardSteps.{actor_same}
@@ -68,9 +68,9 @@ module _ (top : TopologyValue) (events : List Event) where
       → step top (run top events) x ≡ after_shard r (run top events) x node
       → refusal_of top (run top events) x ≡ refused_by r
       → (StaysApart r → DidShard top (run top events).shards node r b.shards.items a.network.sent b.network.sent)
-      → b.topology ≡ a.topology → b.seats.items ≡ a.seats.items → b.transcript.items ≡ a.transcript.items → HasTaken top events x b
-  shard_took x node (Err f) a b is steps refuses did topology seats told = absurd (did tt)
-  shard_took x node (Ok s) a b is steps refuses did topology seats told =
+      → b.topology ≡ a.topology → b.stations.items ≡ a.stations.items → b.transcript.items ≡ a.transcript.items → HasTaken top events x b
+  shard_took x node (Err f) a b is steps refuses did topology stations told = absurd (did tt)
+  shard_took x node (Ok s) a b is steps refuses did topology stations told =
       let some = (stands top is.sound).some in
       let inv = step_kept top (run top events) x some (every_run top events some) in
       let apart : AreApart s.state.applied =
@@ -78,7 +78,7 @@ module _ (top : TopologyValue) (events : List Event) where
       let d = did apart in
       record {
         allowed = refuses;
-        running = subst (λ v. IsRunning top v b) (sym steps) (after_shard_step top (run top events) x node s a b is d.0 d.1 topology seats told);
+        running = subst (λ v. IsRunning top v b) (sym steps) (after_shard_step top (run top events) x node s a b is d.0 d.1 topology stations told);
       }
 
   -- a refusal is the run's
@@ -96,14 +96,14 @@ pub shard_takes : (top : TopologyValue) (events : List Event) (k place : ℕ) (e
     → slice_get a.network.sent k ≡ Some e → e.to ≡ place → place < length a.shards.items
     → ((top' : TopologyValue) (states : ℕ → ShardState) → AreShards top' states a.shards.items → StaysApart (shard_handle top' place (states place) e)
     → DidShard top' states place (shard_handle top' place (states place) e) b.shards.items a.network.sent b.network.sent)
-    → b.topology ≡ a.topology → b.seats.items ≡ a.seats.items → b.transcript.items ≡ a.transcript.items → HasTaken top events (Deliver k) b
-shard_takes top events k place e a b is sent to lt did topology seats told =
+    → b.topology ≡ a.topology → b.stations.items ≡ a.stations.items → b.transcript.items ≡ a.transcript.items → HasTaken top events (Deliver k) b
+shard_takes top events k place e a b is sent to lt did topology stations told =
     let w = run top events in
     let there : slice_get w.sent k ≡ Some e = ap (λ l. slice_get l k) is.sent ∙ sent in
     let near : is_shard top e.to ≡ true = subst (λ z. is_shard top z ≡ true) (sym to) (below_count top a.shards.items place is.shards.len lt) in
     shard_took top events (Deliver k) e.to (shard_handle top e.to (w.shards e.to) e) a b is (shard_step top w k e there near) (shard_refusal top w k e there near)
     (subst (λ z. StaysApart (shard_handle top z (w.shards z) e) → DidShard top w.shards z (shard_handle top z (w.shards z) e) b.shards.items a.network.sent b.network.sent) (sym to) (did top w.shards is.shards))
-    topology seats told
+    topology stations told
 
 pub shard_refuses : (top : TopologyValue) (events : List Event) (k place : ℕ) (e : Envelope) (a : Actors) (f : Fault) → IsRunning top (run top events) a
     → slice_get a.network.sent k ≡ Some e → e.to ≡ place → place < length a.shards.items
@@ -118,14 +118,14 @@ shard_refuses top events k place e a f is sent to lt refused =
 
 pub shards_still : (top : TopologyValue) (events : List Event) (a b : Actors) → IsRunning top (run top events) a
     → ((top' : TopologyValue) (states : ℕ → ShardState) → AreShards top' states a.shards.items → AreShards top' states b.shards.items)
-    → b.topology ≡ a.topology → b.seats.items ≡ a.seats.items → b.network.sent ≡ a.network.sent → b.transcript.items ≡ a.transcript.items
+    → b.topology ≡ a.topology → b.stations.items ≡ a.stations.items → b.network.sent ≡ a.network.sent → b.transcript.items ≡ a.transcript.items
     → IsRunning top (run top events) b
-shards_still top events a b is still topology seats sent told =
+shards_still top events a b is still topology stations sent told =
     record {
       topology = topology ∙ is.topology;
       sound = is.sound;
       shards = still top (run top events).shards is.shards;
-      seats = subst (λ (l : List Seat). AreSeats (run top events) top l) (sym seats) is.seats;
+      stations = subst (λ (l : List Station). AreStations (run top events) top l) (sym stations) is.stations;
       sent = is.sent ∙ sym sent;
       transcript = is.transcript ∙ sym told;
     }
@@ -133,13 +133,13 @@ shards_still top events a b is still topology seats sent told =
 pub shard_collects : (top : TopologyValue) (events : List Event) (place time : ℕ) (a b : Actors) → IsRunning top (run top events) a → place < length a.shards.items
     → ((top' : TopologyValue) (states : ℕ → ShardState) → AreShards top' states a.shards.items → StaysApart (shard_collect (states place) time)
     → DidShard top' states place (shard_collect (states place) time) b.shards.items [] [])
-    → b.topology ≡ a.topology → b.seats.items ≡ a.seats.items → b.network.sent ≡ a.network.sent → b.transcript.items ≡ a.transcript.items → HasTaken top events (Collect place time) b
-shard_collects top events place time a b is lt did topology seats sent told =
+    → b.topology ≡ a.topology → b.stations.items ≡ a.stations.items → b.network.sent ≡ a.network.sent → b.transcript.items ≡ a.transcript.items → HasTaken top events (Collect place time) b
+shard_collects top events place time a b is lt did topology stations sent told =
     let w = run top events in
     let near : is_shard top place ≡ true = below_count top a.shards.items place is.shards.len lt in
     shard_took top events (Collect place time) place (shard_collect (w.shards place) time) a b is
     (ap (λ z. collect_if z w place time) near) (ap (λ z. if z then refused_by (shard_collect (w.shards place) time) else Some NoSuchActor) near)
-    (λ apart. quietly (shard_collect (w.shards place) time) (did top w.shards is.shards apart)) topology seats told
+    (λ apart. quietly (shard_collect (w.shards place) time) (did top w.shards is.shards apart)) topology stations told
   where
     quietly : (r : Result ShardStep Fault) → DidShard top (run top events).shards place r b.shards.items [] [] → DidShard top (run top events).shards place r b.shards.items a.network.sent b.network.sent
     quietly (Err f) d = d
@@ -159,18 +159,18 @@ collect_refuses top events place time a f is lt refused =
 pub session_at : (top : TopologyValue) (node i : ℕ) → node ≡ shard_count top + i → i < length top.homes → (is_shard top node ≡ false) × (is_session top node ≡ true)
 session_at top node i is lt = (grind (arith, nat_tests), grind (arith, nat_tests))
 
-seat_took : (top : TopologyValue) (events : List Event) (k i : ℕ) (e : Envelope) (a b : Actors) (s t : Seat) (o : Option ℕ) → IsRunning top (run top events) a
-    → slice_get a.network.sent k ≡ Some e → e.to ≡ shard_count top + i → slice_get a.seats.items i ≡ Some s → i < length a.seats.items
-    → b.seats.items ≡ slice_set a.seats.items i t
+station_took : (top : TopologyValue) (events : List Event) (k i : ℕ) (e : Envelope) (a b : Actors) (s t : Station) (o : Option ℕ) → IsRunning top (run top events) a
+    → slice_get a.network.sent k ≡ Some e → e.to ≡ shard_count top + i → slice_get a.stations.items i ≡ Some s → i < length a.stations.items
+    → b.stations.items ≡ slice_set a.stations.items i t
     → ticked ((run top events).sessions e.to).clock e.time ≡ o
     → DidSessionOf top (on_clock o (λ m. heard top e.to m ((run top events).sessions e.to) e.from e.body)) s t a.network.sent b.network.sent a.transcript.items b.transcript.items
     → b.topology ≡ a.topology → b.shards.items ≡ a.shards.items → HasTaken top events (Deliver k) b
-seat_took top events k i e a b s t None is sent to at lt set clock did topology shards = absurd did
-seat_took top events k i e a b s t (Some m) is sent to at lt set clock did topology shards =
+station_took top events k i e a b s t None is sent to at lt set clock did topology shards = absurd did
+station_took top events k i e a b s t (Some m) is sent to at lt set clock did topology shards =
     let w = run top events in
     let some = (stands top is.sound).some in
     let there : slice_get w.sent k ≡ Some e = ap (λ l. slice_get l k) is.sent ∙ sent in
-    let kind = session_at top e.to i to (subst (λ z. i < z) is.seats.len lt) in
+    let kind = session_at top e.to i to (subst (λ z. i < z) is.stations.len lt) in
     let r : session_handle top e.to (w.sessions e.to) e ≡ Ok (heard top e.to m (w.sessions e.to) e.from e.body) =
     ap (λ z. on_clock z (λ q. heard top e.to q (w.sessions e.to) e.from e.body)) clock in
     record {
@@ -181,52 +181,52 @@ seat_took top events k i e a b s t (Some m) is sent to at lt set clock did topol
     }
 
 -- the session of a place has its node
-pub at_node : (top : TopologyValue) (events : List Event) (i : ℕ) (a : Actors) (s : Seat) (node : ℕ) → IsRunning top (run top events) a → slice_get a.seats.items i ≡ Some s
+pub at_node : (top : TopologyValue) (events : List Event) (i : ℕ) (a : Actors) (s : Station) (node : ℕ) → IsRunning top (run top events) a → slice_get a.stations.items i ≡ Some s
     → node ≡ length a.shards.items + i → (node ≡ shard_count top + i) × (s.session.node ≡ node) × session.Represents s.session top ((run top events).sessions node)
 at_node top events i a s node is at to =
     let q : node ≡ shard_count top + i = to ∙ ap (λ z. z + i) is.shards.len in
-    let t = is.seats.each i s at in
+    let t = is.stations.each i s at in
     (q, t.same ∙ sym q, subst (λ z. session.Represents s.session top ((run top events).sessions z)) (sym q) t.stands)
 
-pub seat_takes : (top : TopologyValue) (events : List Event) (k i : ℕ) (e : Envelope) (a b : Actors) (s t : Seat) → IsRunning top (run top events) a
-    → slice_get a.network.sent k ≡ Some e → e.to ≡ length a.shards.items + i → slice_get a.seats.items i ≡ Some s → i < length a.seats.items
-    → b.seats.items ≡ slice_set a.seats.items i t
+pub station_takes : (top : TopologyValue) (events : List Event) (k i : ℕ) (e : Envelope) (a b : Actors) (s t : Station) → IsRunning top (run top events) a
+    → slice_get a.network.sent k ≡ Some e → e.to ≡ length a.shards.items + i → slice_get a.stations.items i ≡ Some s → i < length a.stations.items
+    → b.stations.items ≡ slice_set a.stations.items i t
     → ((top' : TopologyValue) (z : SessionState) → session.Represents s.session top' z
     → DidSessionOf top' (session_handle top' s.session.node z e) s t a.network.sent b.network.sent a.transcript.items b.transcript.items)
     → b.topology ≡ a.topology → b.shards.items ≡ a.shards.items → HasTaken top events (Deliver k) b
-seat_takes top events k i e a b s t is sent to at lt set did topology shards =
+station_takes top events k i e a b s t is sent to at lt set did topology shards =
     let w = run top events in
     let n = at_node top events i a s e.to is at to in
-    seat_took top events k i e a b s t (ticked (w.sessions e.to).clock e.time) is sent n.0 at lt set refl
+    station_took top events k i e a b s t (ticked (w.sessions e.to).clock e.time) is sent n.0 at lt set refl
     (subst (λ z. DidSessionOf top (session_handle top z (w.sessions e.to) e) s t a.network.sent b.network.sent a.transcript.items b.transcript.items) n.1 (did top (w.sessions e.to) n.2))
     topology shards
 
-pub seat_refuses : (top : TopologyValue) (events : List Event) (k i : ℕ) (e : Envelope) (a : Actors) (s : Seat) (f : Fault) → IsRunning top (run top events) a
-    → slice_get a.network.sent k ≡ Some e → e.to ≡ length a.shards.items + i → slice_get a.seats.items i ≡ Some s → i < length a.seats.items
+pub station_refuses : (top : TopologyValue) (events : List Event) (k i : ℕ) (e : Envelope) (a : Actors) (s : Station) (f : Fault) → IsRunning top (run top events) a
+    → slice_get a.network.sent k ≡ Some e → e.to ≡ length a.shards.items + i → slice_get a.stations.items i ≡ Some s → i < length a.stations.items
     → ((top' : TopologyValue) (z : SessionState) → session.Represents s.session top' z → session.IsRefusalOf (session_handle top' s.session.node z e) f)
     → IsRefusedAs (refusal_of top (run top events) (Deliver k)) f
-seat_refuses top events k i e a s f is sent to at lt refused =
+station_refuses top events k i e a s f is sent to at lt refused =
     let w = run top events in
     let there : slice_get w.sent k ≡ Some e = ap (λ l. slice_get l k) is.sent ∙ sent in
     let n = at_node top events i a s e.to is at to in
-    let kind = session_at top e.to i n.0 (subst (λ z. i < z) is.seats.len lt) in
+    let kind = session_at top e.to i n.0 (subst (λ z. i < z) is.stations.len lt) in
     refused_session top events (refusal_of top w (Deliver k)) (session_handle top e.to (w.sessions e.to) e) f (session_refusal top w k e there kind.0 kind.1)
     (subst (λ z. session.IsRefusalOf (session_handle top z (w.sessions e.to) e) f) n.1 (refused top (w.sessions e.to) n.2))
 
-pub seats_still : (top : TopologyValue) (events : List Event) (a b : Actors) (i : ℕ) (s : Seat) → IsRunning top (run top events) a
-    → slice_get a.seats.items i ≡ Some s → i < length a.seats.items → b.seats.items ≡ slice_set a.seats.items i s
+pub stations_still : (top : TopologyValue) (events : List Event) (a b : Actors) (i : ℕ) (s : Station) → IsRunning top (run top events) a
+    → slice_get a.stations.items i ≡ Some s → i < length a.stations.items → b.stations.items ≡ slice_set a.stations.items i s
     → b.topology ≡ a.topology → b.shards.items ≡ a.shards.items → b.network.sent ≡ a.network.sent → b.transcript.items ≡ a.transcript.items
     → IsRunning top (run top events) b
-seats_still top events a b i s is at lt set topology shards sent told =
+stations_still top events a b i s is at lt set topology shards sent told =
     record {
       topology = topology ∙ is.topology;
       sound = is.sound;
       shards = subst (AreShards top (run top events).shards) (sym shards) is.shards;
-      seats =
-          subst (AreSeats (run top events) top) (sym set)
+      stations =
+          subst (AreStations (run top events) top) (sym set)
           (record {
-            len = length_set a.seats.items i s ∙ is.seats.len;
-            each = by_place a.seats.items i s (λ j k. Sits (run top events) top (shard_count top + j) k) lt (is.seats.each i s at) (λ j y apart there. is.seats.each j y there);
+            len = length_set a.stations.items i s ∙ is.stations.len;
+            each = by_place a.stations.items i s (λ j k. Sits (run top events) top (shard_count top + j) k) lt (is.stations.each i s at) (λ j y apart there. is.stations.each j y there);
           });
       sent = is.sent ∙ sym sent;
       transcript = is.transcript ∙ sym told;

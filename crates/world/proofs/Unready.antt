@@ -17,7 +17,7 @@ use Rattle.shard.specs.declared.kept.Kept.{Kept}
 use Rattle.shard.specs.Kept.{IsSpentOrMemory}
 use Rattle.client.specs.Represents as session
 use Rattle.world.specs.declared.actors.Actors.{Actors}
-use Rattle.world.specs.declared.seat.Seat.{Seat}
+use Rattle.world.specs.declared.station.Station.{Station}
 use Rattle.world.specs.Run.{Run, Event, Submit, Deliver, Collect, run}
 use Rattle.world.specs.Refusals.{Refused, NoSuchActor, refused_by, refusal_of, clock_at}
 use Rattle.world.specs.Holds.{IsRunning}
@@ -54,16 +54,16 @@ module _ (top : TopologyValue) (events : List Event) (a : Actors) (is : IsRunnin
       ap (λ b. if b then ((run top events).shards node).clock else ((run top events).sessions node).clock) near
       ∙ ap (λ z. ((run top events).shards z).clock) (sym to) ∙ (is.shards.each place k at).clock
 
-  pub seat_clock : (node i : ℕ) (s : Seat) → node ≡ length a.shards.items + i → i < length a.seats.items → slice_get a.seats.items i ≡ Some s
+  pub station_clock : (node i : ℕ) (s : Station) → node ≡ length a.shards.items + i → i < length a.stations.items → slice_get a.stations.items i ≡ Some s
       → clock_at top (run top events) node ≡ s.session.clock
-  seat_clock node i s to lt at =
+  station_clock node i s to lt at =
       let n = at_node top events i a s node is at to in
-      let kind = session_at top node i n.0 (subst (λ z. i < z) is.seats.len lt) in
+      let kind = session_at top node i n.0 (subst (λ z. i < z) is.stations.len lt) in
       ap (λ b. if b then ((run top events).shards node).clock else ((run top events).sessions node).clock) kind.0 ∙ ap (λ (z : SessionState). z.clock) n.2.state
 
   -- ## Events
 
-  pub delivery_unready : (k clock : ℕ) (e : Envelope) (f : Fault) → slice_get a.network.sent k ≡ Some e → e.to < length a.shards.items + length a.seats.items
+  pub delivery_unready : (k clock : ℕ) (e : Envelope) (f : Fault) → slice_get a.network.sent k ≡ Some e → e.to < length a.shards.items + length a.stations.items
       → clock_at top (run top events) e.to ≡ clock → IsSpentOrMemory (ticked clock e.time) f → IsRefusedAs (refusal_of top (run top events) (Deliver k)) f
   delivery_unready k clock e f sent within at spent = go (is_shard top e.to) refl
     where
@@ -92,7 +92,7 @@ module _ (top : TopologyValue) (events : List Event) (a : Actors) (is : IsRunnin
           let n = length a.shards.items in
           let i = e.to - n in
           let to : e.to ≡ shard_count top + i = back n le ∙ ap (λ z. z + i) is.shards.len in
-          let kind = session_at top e.to i to (subst (λ z. i < z) is.seats.len (other n (length a.seats.items) within le)) in
+          let kind = session_at top e.to i to (subst (λ z. i < z) is.stations.len (other n (length a.stations.items) within le)) in
           subst (λ z. IsRefusedAs z f) (sym (session_refusal top w k e there kind.0 kind.1))
           (on_time (ticked (w.sessions e.to).clock e.time) (λ m. heard top e.to m (w.sessions e.to) e.from e.body) f
           (subst (λ b. IsSpentOrMemory (ticked (if b then (w.shards e.to).clock else (w.sessions e.to).clock) e.time) f) far here))
@@ -110,7 +110,7 @@ module _ (top : TopologyValue) (events : List Event) (a : Actors) (is : IsRunnin
       (on_time (ticked (w.shards node).clock (w.shards node).clock) (λ n. collected n (w.shards node) time) f
       (subst (λ c. IsSpentOrMemory (ticked c c) f) (sym same) spent))
 
-  pub submission_unready : (node i : ℕ) (o : Op) (s : Seat) (f : Fault) → node ≡ length a.shards.items + i → slice_get a.seats.items i ≡ Some s → i < length a.seats.items
+  pub submission_unready : (node i : ℕ) (o : Op) (s : Station) (f : Fault) → node ≡ length a.shards.items + i → slice_get a.stations.items i ≡ Some s → i < length a.stations.items
       → ((top' : TopologyValue) (z : SessionState) → session.Represents s.session top' z → session.IsRefusalOf (session_submit top' s.session.node z o) f)
       → IsRefusedAs (refusal_of top (run top events) (Submit node o)) f
   submission_unready node i o s f to at lt refused = submit_refuses top events i node o a s f is to at lt refused

@@ -9,7 +9,7 @@ use Rattle.messages.specs.Session.{Finished, is_idle}
 use Rattle.shard.specs.declared.kept.Kept.{Kept}
 use Rattle.shard.specs.Kept as shard
 use Rattle.client.specs.Represents as session
-use Rattle.world.specs.declared.seat.Seat.{Seat}
+use Rattle.world.specs.declared.station.Station.{Station}
 use Rattle.world.specs.declared.actors.Actors.{Actors}
 use Rattle.world.specs.declared.log.Log.{Log}
 use Rattle.world.specs.Asked.{write_of, write_at}
@@ -30,7 +30,7 @@ pub record IsOpOf (w : Run) (node : ℕ) (o : Option Op) : Type 0 where
   pub op : o ≡ Some submission.op
 
 -- a session stands for the state of its node, and its operation is kept until it ends
-pub record Sits (w : Run) (top : TopologyValue) (me : ℕ) (s : Seat) : Type 0 where
+pub record Sits (w : Run) (top : TopologyValue) (me : ℕ) (s : Station) : Type 0 where
   pub stands : session.Represents s.session top (w.sessions me)
   pub same : s.session.node ≡ me
   pub node : s.node ≡ me
@@ -38,16 +38,16 @@ pub record Sits (w : Run) (top : TopologyValue) (me : ℕ) (s : Seat) : Type 0 w
   pub op : is_idle (w.sessions me).current ≡ false → IsOpOf w me s.op
 
 -- the sessions follow the shards
-pub record AreSeats (w : Run) (top : TopologyValue) (seats : List Seat) : Type 0 where
-  pub len : length seats ≡ length top.homes
-  pub each : (i : ℕ) (s : Seat) → slice_get seats i ≡ Some s → Sits w top (shard_count top + i) s
+pub record AreStations (w : Run) (top : TopologyValue) (stations : List Station) : Type 0 where
+  pub len : length stations ≡ length top.homes
+  pub each : (i : ℕ) (s : Station) → slice_get stations i ≡ Some s → Sits w top (shard_count top + i) s
 
 -- The actors of the topology, what was sent and what ended are those of the run.
 pub record IsRunning (top : TopologyValue) (w : Run) (a : Actors) : Type 0 where
   pub topology : a.topology ≡ top
   pub sound : is_topology top.dcs top.shards top.homes ≡ true
   pub shards : AreShards top w.shards a.shards.items
-  pub seats : AreSeats w top a.seats.items
+  pub stations : AreStations w top a.stations.items
   pub sent : w.sent ≡ a.network.sent
   pub transcript : w.transcript ≡ a.transcript.items
 

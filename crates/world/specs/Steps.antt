@@ -10,7 +10,7 @@ use Rattle.messages.specs.Session.{SessionStep}
 use Rattle.messages.specs.SessionEvents.{session_taken}
 use Rattle.shard.specs.declared.kept.Kept.{Kept}
 use Rattle.client.specs.Represents as session
-use Rattle.world.specs.declared.seat.Seat.{Seat}
+use Rattle.world.specs.declared.station.Station.{Station}
 use Rattle.world.specs.Run.{Completed, with_actor, with_ended}
 use Rattle.world.specs.Holds.{AreShards, ended_as, kept_after}
 
@@ -25,7 +25,7 @@ DidShard top states node (Ok s) kept before after = AreShards top (with_actor st
 DidShard top states node (Err e) kept before after = ⊥
 
 -- A session did this step, and its outcome was taken: what it ended was added to the transcript.
-pub record DidSession (top : TopologyValue) (step : SessionStep) (old new : Seat) (before after : List Envelope) (told now : List Completed) : Type 0 where
+pub record DidSession (top : TopologyValue) (step : SessionStep) (old new : Station) (before after : List Envelope) (told now : List Completed) : Type 0 where
   pub stands : session.Represents new.session top (session_taken step.state)
   pub same : new.session.node ≡ old.session.node
   pub node : new.node ≡ old.node
@@ -34,12 +34,12 @@ pub record DidSession (top : TopologyValue) (step : SessionStep) (old new : Seat
   pub sends : after ≡ before ++ step.sends
   pub ended : now ≡ with_ended told (ended_as old.node old.home old.op step.state.untaken)
 
-abbrev pub DidSessionOf : TopologyValue → Result SessionStep Fault → Seat → Seat → List Envelope → List Envelope → List Completed → List Completed → Type 0
+abbrev pub DidSessionOf : TopologyValue → Result SessionStep Fault → Station → Station → List Envelope → List Envelope → List Completed → List Completed → Type 0
 DidSessionOf top (Ok step) old new before after told now = DidSession top step old new before after told now
 DidSessionOf top (Err e) old new before after told now = ⊥
 
 -- A session accepted an operation, which is kept.
-pub record DidSubmit (top : TopologyValue) (step : SessionStep) (kept : Op) (old new : Seat) (before after : List Envelope) : Type 0 where
+pub record DidSubmit (top : TopologyValue) (step : SessionStep) (kept : Op) (old new : Station) (before after : List Envelope) : Type 0 where
   pub stands : session.Represents new.session top step.state
   pub same : new.session.node ≡ old.session.node
   pub node : new.node ≡ old.node
@@ -47,6 +47,6 @@ pub record DidSubmit (top : TopologyValue) (step : SessionStep) (kept : Op) (old
   pub op : new.op ≡ Some kept
   pub sends : after ≡ before ++ step.sends
 
-abbrev pub DidSubmitOf : TopologyValue → Result SessionStep Fault → Op → Seat → Seat → List Envelope → List Envelope → Type 0
+abbrev pub DidSubmitOf : TopologyValue → Result SessionStep Fault → Op → Station → Station → List Envelope → List Envelope → Type 0
 DidSubmitOf top (Ok step) kept old new before after = DidSubmit top step kept old new before after
 DidSubmitOf top (Err e) kept old new before after = ⊥

@@ -14,7 +14,7 @@ ghost use Rattle.world.specs.World.{IsRefusedAs};
 ghost use Rattle.world.specs.Steps.{StaysApart, DidShard};
 
 use crate::completed::Completed;
-use crate::seat::Seat;
+use crate::station::Station;
 use logical_time::{Clock, Fault, Node, Time};
 use messages::{Envelope, Op, Outbox, Topology};
 use shard::Shard;
@@ -26,7 +26,7 @@ pub struct Actors {
     /// The shards, by their nodes.
     pub shards: Vec<Shard>,
     /// The sessions, by their nodes, which follow those of the shards.
-    pub seats: Vec<Seat>,
+    pub stations: Vec<Station>,
     /// What was sent, in order.
     pub network: Outbox,
     /// The operations that ended, in order.
@@ -92,9 +92,9 @@ fn without_memory(clock: Clock, time: Time) -> Fault
 
 impl Actors {
     /// The clock of the actor with this node.
-    #[tactic(auto, using(crate::proofs::Unready::shard_clock, crate::proofs::Unready::seat_clock))]
+    #[tactic(auto, using(crate::proofs::Unready::shard_clock, crate::proofs::Unready::station_clock))]
     fn clock_of(&self, node: Node) -> Clock
-        requires { node < length self.now.shards.items + length self.now.seats.items }
+        requires { node < length self.now.shards.items + length self.now.stations.items }
         ensures { (top : TopologyValue) (events : List Event) → IsRunning top (run top events) self.now → clock_at top (run top events) node ≡ result }
     {
         let place = usize::from(node.get());
@@ -102,7 +102,7 @@ impl Actors {
         if place < shards {
             self.shards[place].clock()
         } else {
-            self.seats[place - shards].session.clock()
+            self.stations[place - shards].session.clock()
         }
     }
 
@@ -110,7 +110,7 @@ impl Actors {
     #[tactic(auto, using(crate::proofs::Unready::delivery_unready))]
     pub fn delivery_without_memory(&self, number: usize) -> Fault
         requires sent { number < length self.now.network.sent }
-        requires addressed { (e : Envelope) → slice_get self.now.network.sent number ≡ Some e → e.to < length self.now.shards.items + length self.now.seats.items }
+        requires addressed { (e : Envelope) → slice_get self.now.network.sent number ≡ Some e → e.to < length self.now.shards.items + length self.now.stations.items }
         ensures { (top : TopologyValue) (events : List Event) → IsRunning top (run top events) self.now
             → IsRefusedAs (refusal_of top (run top events) (Deliver number)) result }
     {
@@ -134,13 +134,13 @@ impl Actors {
     /// Why a submission is refused where there is no memory for it.
     #[tactic(auto, using(crate::proofs::Unready::submission_unready))]
     pub fn submission_without_memory(&self, session: Node, op: &Op) -> Fault
-        requires seat { length self.now.shards.items ≤ session }
-        requires seats { session < length self.now.shards.items + length self.now.seats.items }
+        requires station { length self.now.shards.items ≤ session }
+        requires stations { session < length self.now.shards.items + length self.now.stations.items }
         ensures { (top : TopologyValue) (events : List Event) → IsRunning top (run top events) self.now
             → IsRefusedAs (refusal_of top (run top events) (Submit session op.now)) result }
     {
         let place = usize::from(session.get()) - self.shards.len();
-        match self.seats[place].session.check(op) {
+        match self.stations[place].session.check(op) {
             Ok(()) => Fault::Memory,
             Err(fault) => fault,
         }
@@ -161,7 +161,7 @@ impl Actors {
     /// The message of this number is delivered.
     pub fn deliver(&mut self, number: usize) -> Result<(), Fault>
         requires sent { number < length self.old.network.sent }
-        requires addressed { (e : Envelope) → slice_get self.old.network.sent number ≡ Some e → e.to < length self.old.shards.items + length self.old.seats.items }
+        requires addressed { (e : Envelope) → slice_get self.old.network.sent number ≡ Some e → e.to < length self.old.shards.items + length self.old.stations.items }
         ensures ok { (top : TopologyValue) (events : List Event) → IsRunning top (run top events) self.old → OnOk result (HasTaken top events (Deliver number) self.new) }
         ensures refused { (top : TopologyValue) (events : List Event) → IsRunning top (run top events) self.old
             → IfErr result (IsRefusedAs (refusal_of top (run top events) (Deliver number))) }
@@ -176,7 +176,7 @@ impl Actors {
 
     /// The actor to whom it is addressed handles an envelope.
     fn hand(&mut self, envelope: Envelope) -> Result<(), Fault>
-        requires to { envelope.to < length self.old.shards.items + length self.old.seats.items }
+        requires to { envelope.to < length self.old.shards.items + length self.old.stations.items }
         requires room { HasRoom self.old.transcript }
         ensures ok { (top : TopologyValue) (events : List Event) (k : ℕ) → IsRunning top (run top events) self.old → slice_get self.old.network.sent k ≡ Some envelope
             → OnOk result (HasTaken top events (Deliver k) self.new) }
@@ -213,7 +213,7 @@ impl Actors {
 
     /// The session at this place, which follows the shards, handles an envelope.
     fn to_session(&mut self, place: usize, envelope: Envelope) -> Result<(), Fault>
-        requires place { place < length self.old.seats.items }
+        requires place { place < length self.old.stations.items }
         requires to { envelope.to ≡ length self.old.shards.items + place }
         requires room { HasRoom self.old.transcript }
         ensures ok { (top : TopologyValue) (events : List Event) (k : ℕ) → IsRunning top (run top events) self.old → slice_get self.old.network.sent k ≡ Some envelope
@@ -223,7 +223,7 @@ impl Actors {
         ensures same { (top : TopologyValue) (events : List Event) → IsRunning top (run top events) self.old → OnErr result (IsRunning top (run top events) self.new) }
         ensures topology { self.new.topology ≡ self.old.topology }
     {
-        match self.seats[place].hear(envelope, &mut self.network, &mut self.transcript) {
+        match self.stations[place].hear(envelope, &mut self.network, &mut self.transcript) {
             Ok(()) => Ok(()),
             Err(fault) => Err(fault),
         }
@@ -231,9 +231,9 @@ impl Actors {
 
     /// A session submits an operation, which is kept beside it.
     pub fn submit(&mut self, session: Node, op: Op, kept: Op) -> Result<u64, (Fault, Op)>
-        requires seat { length self.old.shards.items ≤ session }
+        requires station { length self.old.shards.items ≤ session }
         requires same { kept ≡ op }
-        requires seats { session < length self.old.shards.items + length self.old.seats.items }
+        requires stations { session < length self.old.shards.items + length self.old.stations.items }
         ensures ok { (top : TopologyValue) (events : List Event) → IsRunning top (run top events) self.old
             → IfOk result (λ n. HasTaken top events (Submit session op) self.new × (n ≡ ((run top events).sessions session).count + 1)) }
         ensures refused { (top : TopologyValue) (events : List Event) → IsRunning top (run top events) self.old
@@ -243,7 +243,7 @@ impl Actors {
         ensures topology { self.new.topology ≡ self.old.topology }
     {
         let place = usize::from(session.get()) - self.shards.len();
-        match self.seats[place].submit(op, kept, &mut self.network) {
+        match self.stations[place].submit(op, kept, &mut self.network) {
             Ok(number) => Ok(number),
             Err(refused) => Err(refused),
         }

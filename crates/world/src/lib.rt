@@ -1,9 +1,9 @@
 //! Runs of all actors, as definitions: which events there are, what each makes of a run, and what is said of runs. What is
 //! promised of every run is proved as laws, and forms that resemble these and are false are refuted.
 //!
-//! `World` is such a run in code: it holds the actors of a topology and all that they sent, and each call is one event. What is
-//! promised of every run are clauses of its calls. The worked runs are laws: each computes to the outcomes, clocks and times
-//! that are stated.
+//! `World` is such a run in code: it holds the actors of a topology and all that they sent, and each call is one event. What
+//! is promised of every run are clauses of its calls. The worked runs are laws: each computes to the outcomes, clocks and
+//! times that are stated.
 #![tactic(auto)]
 
 mod actors;
@@ -17,7 +17,7 @@ mod lookalikes;
 mod opening;
 mod promises;
 mod run_event;
-mod seat;
+mod station;
 mod world;
 mod written;
 
@@ -28,23 +28,23 @@ pub use journals::{
 };
 pub use law::{
     refusals_are_told, refused_events_are_left_out, worked_collections, worked_dependencies,
-    worked_freshness, worked_inserts_that_meet, worked_pasts, worked_reads, worked_replication,
-    worked_times, worked_writes,
+    worked_drains, worked_freshness, worked_inserts_that_meet, worked_pasts, worked_reads,
+    worked_replication, worked_times, worked_writes,
 };
 pub use lookalikes::{
-    lookalikes_of_fresh_reads_are_false, lookalikes_of_histories_are_false,
-    lookalikes_of_later_commits_are_false, lookalikes_of_quiet_runs_are_false,
-    lookalikes_of_sessions_are_false, lookalikes_of_shards_are_false,
-    lookalikes_of_stamps_are_false, lookalikes_of_tables_are_false,
+    lookalikes_of_drains_are_false, lookalikes_of_fresh_reads_are_false,
+    lookalikes_of_histories_are_false, lookalikes_of_later_commits_are_false,
+    lookalikes_of_quiet_runs_are_false, lookalikes_of_sessions_are_false,
+    lookalikes_of_shards_are_false, lookalikes_of_stamps_are_false, lookalikes_of_tables_are_false,
     lookalikes_of_transcripts_are_false,
 };
 pub use promises::{
-    completed_writes_are_in_the_history, each_shard_of_a_run_is_right,
-    handled_envelopes_are_honest, histories_only_grow, histories_tell_what_is_decided,
-    later_commits_are_above_reads, quiet_means_done, reads_are_fresh,
-    reads_are_given_up_below_horizons, reads_show_one_table, reads_show_their_past,
-    runs_can_be_looked_up, runs_only_grow, stamps_agree_everywhere, stamps_follow_causal_order,
-    times_of_a_session_never_fall, transcript_tells_what_ended,
+    clocks_count_events, completed_writes_are_in_the_history, deliveries_come_nearer, drains_end,
+    each_shard_of_a_run_is_right, handled_envelopes_are_honest, histories_only_grow,
+    histories_tell_what_is_decided, later_commits_are_above_reads, quiet_means_done,
+    reads_are_fresh, reads_are_given_up_below_horizons, reads_show_one_table,
+    reads_show_their_past, runs_can_be_looked_up, runs_only_grow, stamps_agree_everywhere,
+    stamps_follow_causal_order, times_of_a_session_never_fall, transcript_tells_what_ended,
 };
 pub use run_event::RunEvent;
 pub use world::World;

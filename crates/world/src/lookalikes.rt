@@ -99,9 +99,9 @@ pub fn lookalikes_of_quiet_runs_are_false()
     ensures completed { ¬ (QuietMeansCompleted collected_and_quiet) }
 {}
 
-/// Where Yes stood above ReplBegin in rank, Prepare would send what is above it; a decision does send what is above its message.
-/// A read that is let go costs a delivery, and so does what a message leads to. A clock can be the number of events. Does
-/// nothing; its contract is the law.
+/// Where Yes stood above ReplBegin in rank, Prepare would send what is above it; a decision does send what is above its
+/// message. A read that is let go costs a delivery, and so does what a message leads to. A clock can be the number of events.
+/// Does nothing; its contract is the law.
 pub fn lookalikes_of_drains_are_false()
     ensures yes_above { ¬ (LowerWithYesAbove two_shards batch_for_two) }
     ensures decisions { ¬ (SendsAreLower two_shards batch_is_prepared) }

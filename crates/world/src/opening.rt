@@ -5,10 +5,10 @@ ghost use Rattle.shard.specs.Kept.{Represents};
 ghost use Rattle.messages.specs.Topology.{is_topology, is_shard, shard_count};
 ghost use Rattle.messages.specs.Shard.{new_shard};
 ghost use Rattle.world.specs.Run.{opening};
-ghost use Rattle.world.specs.Holds.{AreShards, Sits, AreSeats, IsRunning};
+ghost use Rattle.world.specs.Holds.{AreShards, Sits, AreStations, IsRunning};
 
 use crate::actors::Actors;
-use crate::seat::Seat;
+use crate::station::Station;
 use client::Session;
 use logical_time::{Fault, Node};
 use messages::{Outbox, Topology};
@@ -50,16 +50,16 @@ fn open_shards(alloc: Global, topology: &Topology) -> Result<Vec<Shard>, Fault>
 }
 
 /// A session.
-fn open_seat(alloc: Global, topology: &Topology, session: u16) -> Result<Seat, Fault>
+fn open_station(alloc: Global, topology: &Topology, session: u16) -> Result<Station, Fault>
     requires { session < length topology.now.homes }
-    ensures ok { IfOk result (λ seat. Sits (opening topology.now) topology.now (shard_count topology.now + session) seat) }
+    ensures ok { IfOk result (λ station. Sits (opening topology.now) topology.now (shard_count topology.now + session) station) }
     ensures memory { IfErr result (λ e. e ≡ Fault.Memory) }
 {
     let node = topology.session_node(session);
     match topology.home_of(node) {
         Some(home) => {
             let session = Session::new(alloc, topology, node)?;
-            Ok(Seat {
+            Ok(Station {
                 node,
                 home,
                 session,
@@ -71,23 +71,23 @@ fn open_seat(alloc: Global, topology: &Topology, session: u16) -> Result<Seat, F
 }
 
 /// The sessions.
-#[tactic(auto, using(crate::proofs::Beginning::none_yet, crate::proofs::Beginning::one_more, crate::proofs::Beginning::seats_begin))]
-fn open_seats(alloc: Global, topology: &Topology) -> Result<Vec<Seat>, Fault>
-    ensures ok { IfOk result (λ seats. AreSeats (opening topology.now) topology.now seats.items) }
+#[tactic(auto, using(crate::proofs::Beginning::none_yet, crate::proofs::Beginning::one_more, crate::proofs::Beginning::stations_begin))]
+fn open_stations(alloc: Global, topology: &Topology) -> Result<Vec<Station>, Fault>
+    ensures ok { IfOk result (λ stations. AreStations (opening topology.now) topology.now stations.items) }
     ensures memory { IfErr result (λ e. e ≡ Fault.Memory) }
 {
     let count = topology.homes().len();
-    let mut seats = Vec::with_capacity(alloc, count)?;
+    let mut stations = Vec::with_capacity(alloc, count)?;
     for session in 0..count as u16 {
-        match open_seat(alloc, topology, session) {
-            Ok(seat) => add(&mut seats, seat),
+        match open_station(alloc, topology, session) {
+            Ok(station) => add(&mut stations, station),
             Err(fault) => {
-                close_seats(seats);
+                close_stations(stations);
                 return Err(fault);
             }
         }
     }
-    Ok(seats)
+    Ok(stations)
 }
 
 /// A copy of a topology. Refused with `Memory` alone.
@@ -108,17 +108,17 @@ pub fn open_actors(alloc: Global, topology: &Topology) -> Result<Actors, Fault>
     ensures memory { IfErr result (λ e. e ≡ Fault.Memory) }
 {
     let copy = copy_of(alloc, topology)?;
-    let seats = open_seats(alloc, topology)?;
+    let stations = open_stations(alloc, topology)?;
     match open_shards(alloc, topology) {
         Ok(shards) => Ok(Actors {
             topology: copy,
             shards,
-            seats,
+            stations,
             network: Outbox::new(alloc),
             transcript: Vec::new(alloc),
         }),
         Err(fault) => {
-            close_seats(seats);
+            close_stations(stations);
             Err(fault)
         }
     }
@@ -133,15 +133,15 @@ pub fn close_shards(mut shards: Vec<Shard>) {
 }
 
 /// Ends the sessions.
-pub fn close_seats(mut seats: Vec<Seat>) {
-    while let Some(seat) = seats.pop() {
-        let Seat {
+pub fn close_stations(mut stations: Vec<Station>) {
+    while let Some(station) = stations.pop() {
+        let Station {
             node: _,
             home: _,
             session,
             op: _,
-        } = seat;
+        } = station;
         session.close();
     }
-    seats.destroy_empty();
+    stations.destroy_empty();
 }

@@ -157,8 +157,8 @@ pub fn clocks_count_events()
 
 /// In every run each message that was sent, when it is delivered, is handled or meets a spent clock. Where it is handled, one
 /// shard has one decision more, or none has another and all that is sent is of a lower rank than the message; and of each
-/// submitted batch there is one decision in each data centre at most. So nothing goes round: no message leads to others for ever. Does nothing; its contract
-/// is the law.
+/// submitted batch there is one decision in each data centre at most. So nothing goes round: no message leads to others for
+/// ever. Does nothing; its contract is the law.
 pub fn deliveries_come_nearer()
     ensures nearer { (top : TopologyValue) (events : List Event) → is_topology top.dcs top.shards top.homes ≡ true → DeliveriesComeNearer top (run top events) }
     ensures decisions { (top : TopologyValue) (events : List Event) → 0 < top.shards → DecisionsAreCapped top (run top events) }

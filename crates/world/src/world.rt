@@ -18,7 +18,7 @@ use crate::actors::Actors;
 use crate::completed::Completed;
 use crate::history::history;
 use crate::log::Log;
-use crate::opening::{close_seats, close_shards, open_actors};
+use crate::opening::{close_shards, close_stations, open_actors};
 use logical_time::{Fault, Node, Time};
 use messages::{Envelope, Op, Topology};
 use std::alloc::Global;
@@ -60,7 +60,7 @@ impl World {
     /// session's is the caller's condition. In the order of m log m for m mutations or keys. Refused with `Busy` while
     /// another operation is open, then as `plan_batch` and `plan_read` refuse it, then with `ClockSpent`, and with `Memory`;
     /// then nothing changes, and the operation is handed back.
-    #[tactic(auto, using(crate::proofs::Held::submission_holds, crate::proofs::Held::still_holds, crate::proofs::Held::still_logged, crate::proofs::Held::takes, crate::proofs::Held::seat_from, crate::proofs::Held::seat_below))]
+    #[tactic(auto, using(crate::proofs::Held::submission_holds, crate::proofs::Held::still_holds, crate::proofs::Held::still_logged, crate::proofs::Held::takes, crate::proofs::Held::station_from, crate::proofs::Held::station_below))]
     pub fn submit(&mut self, session: Node, op: Op) -> Result<u64, (Fault, Op)>
         requires { is_session self.old.top session ≡ true }
         ensures number { IfOk result (λ n. n ≡ ((run_of self.old).sessions session).count + 1) }
@@ -225,11 +225,11 @@ impl World {
         let Actors {
             topology: _,
             shards,
-            seats,
+            stations,
             network: _,
             transcript: _,
         } = actors;
         close_shards(shards);
-        close_seats(seats);
+        close_stations(stations);
     }
 }

@@ -1,7 +1,7 @@
 use Rattle.std.proofs.Common.{◌∙◌, ◌<◌, ◌≤◌, sym, subst}
 use Rattle.world.proofs.Replacing.{item_at}
 use Rattle.world.proofs.Taking.{place_of, place_below}
-use Rattle.world.proofs.Unready.{shard_clock, seat_clock}
+use Rattle.world.proofs.Unready.{shard_clock, station_clock}
 use Rattle.world.proofs.actors.Actors.clock_of.Goals as goal
 
 pub returns-then-place-shards : goal.returns-then-place-shards
@@ -17,4 +17,4 @@ returns-else-place-shards c =
     let to = place_of c.args.node c.from-place.result c.len-shards.result _ same len (subst (λ z. z ≤ c.args.node) len (subst (λ z. c.len-shards.result ≤ z) same c.if-place-shards.false)) in
     let lt = place_below c.args.node _ _ _ to c.requires in
     λ top events is.
-    seat_clock top events c.args.self.now is c.args.node _ _ to lt (item_at _ _ _ lt c.index-else-place-shards.ensures) ∙ sym c.clock-else-place-shards.ensures
+    station_clock top events c.args.self.now is c.args.node _ _ to lt (item_at _ _ _ lt c.index-else-place-shards.ensures) ∙ sym c.clock-else-place-shards.ensures

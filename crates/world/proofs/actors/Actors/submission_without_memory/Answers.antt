@@ -7,8 +7,8 @@ use Rattle.world.proofs.actors.Actors.submission_without_memory.Goals as goal
 pub returns-in-Ok : goal.returns-in-Ok
 returns-in-Ok c =
     let same = c.from.ensures ∙ c.get.ensures in
-    let to = place_of c.args.session c.from.result c.len.result _ same (c.len.ensures ∙ c.args.self.now.shards.ok.0) c.requires.seat in
-    let lt = place_below c.args.session _ _ _ to c.requires.seats in
+    let to = place_of c.args.session c.from.result c.len.result _ same (c.len.ensures ∙ c.args.self.now.shards.ok.0) c.requires.station in
+    let lt = place_below c.args.session _ _ _ to c.requires.stations in
     let at = item_at _ _ _ lt c.index.ensures in
     λ top events is.
     submission_unready top events c.args.self.now is c.args.session _ c.args.op.now _ _ to at lt (λ t z r. acceptable _ (c.in-Ok.ensures.allowed t z r))
@@ -16,8 +16,8 @@ returns-in-Ok c =
 pub returns-in-Err : goal.returns-in-Err
 returns-in-Err c =
     let same = c.from.ensures ∙ c.get.ensures in
-    let to = place_of c.args.session c.from.result c.len.result _ same (c.len.ensures ∙ c.args.self.now.shards.ok.0) c.requires.seat in
-    let lt = place_below c.args.session _ _ _ to c.requires.seats in
+    let to = place_of c.args.session c.from.result c.len.result _ same (c.len.ensures ∙ c.args.self.now.shards.ok.0) c.requires.station in
+    let lt = place_below c.args.session _ _ _ to c.requires.stations in
     let at = item_at _ _ _ lt c.index.ensures in
     λ top events is.
     submission_unready top events c.args.self.now is c.args.session _ c.args.op.now _ _ to at lt (λ t z r. unacceptable _ _ (c.in-Err.ensures.refused t z r))

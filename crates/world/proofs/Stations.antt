@@ -19,7 +19,7 @@ use Rattle.world.specs.Run.{Run, Event, Submit, Deliver, Collect, Submission, op
 use Rattle.world.specs.Quiet.{number_delivered, handled}
 use Rattle.world.proofs.Among.{Among, among_append, last_or_old}
 
-pub record Seats (top : TopologyValue) (w : Run) : Type 0 where
+pub record Stations (top : TopologyValue) (w : Run) : Type 0 where
   pub handled : (k : ℕ) → Among k (handled w) → k < length w.sent
   pub shards : (node : ℕ) → is_shard top node ≡ false → w.shards node ≡ new_shard
   pub sessions : (node : ℕ) → is_session top node ≡ false → (w.sessions node).current ≡ Idle
@@ -65,11 +65,11 @@ handled_go w x sends old new k m =
 
 -- ## Steps
 
-module _ (top : TopologyValue) (w : Run) (k : Seats top w) where
-  shard_seats : (s : Result ShardStep Fault) (x : Event) (node : ℕ) → is_shard top node ≡ true
-      → ((j : ℕ) → number_delivered x ≡ Some j → j < length w.sent) → Seats top (after_shard s w x node)
-  shard_seats (Err e) x node is sent = k
-  shard_seats (Ok s) x node is sent =
+module _ (top : TopologyValue) (w : Run) (k : Stations top w) where
+  shard_stations : (s : Result ShardStep Fault) (x : Event) (node : ℕ) → is_shard top node ≡ true
+      → ((j : ℕ) → number_delivered x ≡ Some j → j < length w.sent) → Stations top (after_shard s w x node)
+  shard_stations (Err e) x node is sent = k
+  shard_stations (Ok s) x node is sent =
       record {
         handled = handled_go w x s.sends k.handled sent;
         shards = λ m e. go m (m == node) refl e;
@@ -86,10 +86,10 @@ module _ (top : TopologyValue) (w : Run) (k : Seats top w) where
   session_go a node m is false q e = k.sessions m e
   session_go a node m is true q e = absurd (false≢true (sym e ∙ ap (is_session top) (eqb-true m node q) ∙ is))
 
-  session_seats : (s : Result SessionStep Fault) (x : Event) (node : ℕ) → is_session top node ≡ true
-      → ((j : ℕ) → number_delivered x ≡ Some j → j < length w.sent) → Seats top (after_session s w x node)
-  session_seats (Err e) x node is sent = k
-  session_seats (Ok s) x node is sent =
+  session_stations : (s : Result SessionStep Fault) (x : Event) (node : ℕ) → is_session top node ≡ true
+      → ((j : ℕ) → number_delivered x ≡ Some j → j < length w.sent) → Stations top (after_session s w x node)
+  session_stations (Err e) x node is sent = k
+  session_stations (Ok s) x node is sent =
       record {
         handled = handled_go w x s.sends k.handled sent;
         shards = k.shards;
@@ -97,9 +97,9 @@ module _ (top : TopologyValue) (w : Run) (k : Seats top w) where
         submitted = k.submitted;
       }
 
-  submission_seats : (s : Result SessionStep Fault) (node : ℕ) (o : Op) → is_session top node ≡ true → Seats top (after_submission s w node o)
-  submission_seats (Err e) node o is = k
-  submission_seats (Ok s) node o is =
+  submission_stations : (s : Result SessionStep Fault) (node : ℕ) (o : Op) → is_session top node ≡ true → Stations top (after_submission s w node o)
+  submission_stations (Err e) node o is = k
+  submission_stations (Ok s) node o is =
       record {
         handled = handled_go w (Submit node o) s.sends k.handled (λ j e. absurd (cc));
         shards = k.shards;
@@ -107,35 +107,35 @@ module _ (top : TopologyValue) (w : Run) (k : Seats top w) where
         submitted = λ b m. elim (last_or_old b _ w.submitted m) [ inl i ↦ k.submitted b i | inr q ↦ ap (λ z. is_session top z.session) q ∙ is ];
       }
 
-  deliver_seats : (shard session : Bool) (j : ℕ) (e : Envelope) → is_shard top e.to ≡ shard → is_session top e.to ≡ session
-      → slice_get w.sent j ≡ Some e → Seats top (deliver_if shard session top w (Deliver j) e)
-  deliver_seats false false j e q r is = k
-  deliver_seats false true j e q r is =
-      session_seats (session_handle top e.to (w.sessions e.to) e) (Deliver j) e.to r
+  deliver_stations : (shard session : Bool) (j : ℕ) (e : Envelope) → is_shard top e.to ≡ shard → is_session top e.to ≡ session
+      → slice_get w.sent j ≡ Some e → Stations top (deliver_if shard session top w (Deliver j) e)
+  deliver_stations false false j e q r is = k
+  deliver_stations false true j e q r is =
+      session_stations (session_handle top e.to (w.sessions e.to) e) (Deliver j) e.to r
       (λ i h. let same : j ≡ i = cc in subst (λ z. z < length w.sent) same (slice_get_within w.sent j e is))
-  deliver_seats true session j e q r is =
-      shard_seats (shard_handle top e.to (w.shards e.to) e) (Deliver j) e.to q
+  deliver_stations true session j e q r is =
+      shard_stations (shard_handle top e.to (w.shards e.to) e) (Deliver j) e.to q
       (λ i h. let same : j ≡ i = cc in subst (λ z. z < length w.sent) same (slice_get_within w.sent j e is))
 
-  message_seats : (j : ℕ) (o : Option Envelope) → slice_get w.sent j ≡ o → Seats top (deliver_for o top w (Deliver j))
-  message_seats j None e = k
-  message_seats j (Some e) is = deliver_seats (is_shard top e.to) (is_session top e.to) j e refl refl is
+  message_stations : (j : ℕ) (o : Option Envelope) → slice_get w.sent j ≡ o → Stations top (deliver_for o top w (Deliver j))
+  message_stations j None e = k
+  message_stations j (Some e) is = deliver_stations (is_shard top e.to) (is_session top e.to) j e refl refl is
 
-  collect_seats : (b : Bool) (node time : ℕ) → is_shard top node ≡ b → Seats top (collect_if b w node time)
-  collect_seats false node time is = k
-  collect_seats true node time is = shard_seats (shard_collect (w.shards node) time) (Collect node time) node is (λ j e. absurd (cc))
+  collect_stations : (b : Bool) (node time : ℕ) → is_shard top node ≡ b → Stations top (collect_if b w node time)
+  collect_stations false node time is = k
+  collect_stations true node time is = shard_stations (shard_collect (w.shards node) time) (Collect node time) node is (λ j e. absurd (cc))
 
-  submit_seats : (b : Bool) (node : ℕ) (o : Op) → is_session top node ≡ b → Seats top (submit_if b top w node o)
-  submit_seats false node o is = k
-  submit_seats true node o is = submission_seats (session_submit top node (w.sessions node) o) node o is
+  submit_stations : (b : Bool) (node : ℕ) (o : Op) → is_session top node ≡ b → Stations top (submit_if b top w node o)
+  submit_stations false node o is = k
+  submit_stations true node o is = submission_stations (session_submit top node (w.sessions node) o) node o is
 
-  pub step_seats : (x : Event) → Seats top (step top w x)
-  step_seats (Submit node o) = submit_seats (is_session top node) node o refl
-  step_seats (Deliver j) = message_seats j (slice_get w.sent j) refl
-  step_seats (Collect node time) = collect_seats (is_shard top node) node time refl
+  pub step_stations : (x : Event) → Stations top (step top w x)
+  step_stations (Submit node o) = submit_stations (is_session top node) node o refl
+  step_stations (Deliver j) = message_stations j (slice_get w.sent j) refl
+  step_stations (Collect node time) = collect_stations (is_shard top node) node time refl
 
-pub opening_seats : (top : TopologyValue) → Seats top (opening top)
-opening_seats top =
+pub opening_stations : (top : TopologyValue) → Stations top (opening top)
+opening_stations top =
     record {
       handled = λ k m. absurd m;
       shards = λ node e. refl;

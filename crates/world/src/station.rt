@@ -17,7 +17,7 @@ use logical_time::{Fault, Node};
 use messages::{Envelope, Op, Outbox, Outcome};
 
 /// A session, and its open operation.
-pub struct Seat {
+pub struct Station {
     /// Its node.
     pub node: Node,
     /// Its home, as the number of a data centre.
@@ -28,7 +28,7 @@ pub struct Seat {
     pub op: Option<Op>,
 }
 
-impl Seat {
+impl Station {
     /// The session handles an envelope. What ended is added to the transcript, where there is room for it. Refused as the
     /// session refuses it; then nothing changes.
     pub fn hear(

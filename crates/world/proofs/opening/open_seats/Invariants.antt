@@ -1,6 +1,0 @@
-use Rattle.std.proofs.Common.{◌≡◌, ◌≤◌, length}
-use Rattle.world.proofs.Beginning.{AreFirst, SitsFirst}
-use Rattle.world.proofs.opening.open_seats.Given as goal
-
-abbrev pub invariant-loop-session : goal.invariant-loop-session
-invariant-loop-session l = (l.count ≡ length l.topology.homes) × (l.count ≤ l.seats.cap) × AreFirst (SitsFirst l.topology) l.session l.seats.items
