@@ -21,8 +21,8 @@ pub record Begins (bytes : List ℕ) (ops : List Op) (rest : List ℕ) : Type 0 
 abbrev pub IsRefusal : Fault → List ℕ → Type 0
 IsRefusal f bytes = reply_spelling (Err f) ≡ Some bytes
 
--- the encoding of an answer: its spelling; the refusal by `Oversize` where it has none; or the refusal by `Memory`, which
--- was wanting for its spelling
+-- the encoding of an answer: its spelling; the refusal by `Oversize` where it has none; or the refusal by `Memory` where
+-- memory was refused for it
 abbrev pub IsEncoding : Reply → List ℕ → Type 0
 IsEncoding answer bytes = (reply_spelling answer ≡ Some bytes) ⊎ (((reply_spelling answer ≡ None) × IsRefusal Oversize bytes) ⊎ IsRefusal Memory bytes)
 
@@ -37,7 +37,8 @@ pub record Answered {P : Type 0} (steps : P → Op → Reply → P → Type 0) (
   pub chain : Chain steps p ops answers q
   pub encoded : AreEncodings answers replies
 
--- all requests that the bytes spell are answered, and in the rest no frame is whole, and nothing amiss
+-- all requests that the bytes spell are answered, and in the rest no frame is whole, and nothing amiss. So there are no
+-- other requests in them: `bytes_spell_one_list`
 pub record UpToDate {P : Type 0} (steps : P → Op → Reply → P → Type 0) (p : P) (bytes rest replies : List ℕ) (q : P) : Type 0 where
   pub ops : List Op
   pub begins : Begins bytes ops rest
