@@ -8,7 +8,9 @@ use Rattle.std.proofs.lemmas.Grind.{flat_map-append}
 use Rattle.messages.specs.declared.op.Op.{Op}
 use Rattle.wire.specs.Fields.{frame}
 use Rattle.wire.specs.Requests.{request, is_spelled}
-use Rattle.wire.specs.Frames.{ReaderValue, text, frames}
+use Rattle.logical_time.specs.declared.fault.Fault.{Fault}
+use Rattle.wire.specs.Frames.{ReaderValue, text, frames, waits, faulty, whole, front_of, NoneFirst}
+use Rattle.wire.proofs.Streams.{one_way}
 use Rattle.wire.specs.Answers.{Taken}
 use Rattle.front.specs.Served.{Begins}
 
@@ -38,3 +40,13 @@ begins-taken op old new t =
       spelled = ap (λ (b : Bool). b && true) g.0;
       text = t.2 ∙ ap (λ (s : List ℕ). s ++ text new) (sym g.1 ∙ sym (append-nil (frame (request op))));
     }
+
+-- bytes begin with one list of requests alone, if the rest begins with none
+pub begins-one : (bytes : List ℕ) (xs ys : List Op) (a b : List ℕ) → Begins bytes xs a → Begins bytes ys b → NoneFirst a → NoneFirst b → (xs ≡ ys) × (a ≡ b)
+begins-one bytes xs ys a b p q na nb = one_way xs ys a b p.spelled q.spelled na nb (sym p.text ∙ q.text)
+
+pub waits-none : (rest : List ℕ) → front_of rest ≡ waits → NoneFirst rest
+waits-none rest e op used w = let bad : waits ≡ whole op used = sym e ∙ w in absurd cc
+
+pub faulty-none : (rest : List ℕ) (f : Fault) → front_of rest ≡ faulty f → NoneFirst rest
+faulty-none rest f e op used w = let bad : faulty f ≡ whole op used = sym e ∙ w in absurd cc

@@ -39,7 +39,8 @@ pub record Answered {P : Type 0} (steps : P → Op → Reply → P → Type 0) (
   pub chain : Chain steps p ops answers q
   pub encoded : AreEncodings answers replies
 
--- all requests that the bytes spell are answered, and in the rest no frame is whole, and no fault stands first
+-- All requests that the bytes spell are answered, and in the rest no frame is whole, and no fault stands first. So there are
+-- no other requests in them: `bytes_spell_one_list`.
 pub record UpToDate {P : Type 0} (steps : P → Op → Reply → P → Type 0) (p : P) (bytes rest replies : List ℕ) (q : P) : Type 0 where
   pub ops : List Op
   pub begins : Begins bytes ops rest

@@ -6,6 +6,7 @@
 
 mod answering;
 mod ended;
+mod law;
 mod line;
 mod memory;
 mod port;
@@ -14,6 +15,7 @@ mod socket;
 mod writing;
 
 pub use ended::Ended;
+pub use law::bytes_spell_one_list;
 pub use line::Line;
 pub use memory::{Failing, MemoryLine};
 pub use port::Port;
