@@ -5,7 +5,7 @@
 ghost use Rattle.std.specs.Prelude.{◌≡◌, ◌&&◌, nat_le, length, IfOk};
 ghost use Rattle.column_family.specs.Limits.{is_key, is_name, is_end, is_value};
 
-use bytes::Bytes;
+use crate::shared_bytes::SharedBytes;
 use std::alloc::{AllocError, Global};
 use std::marker::Model;
 
@@ -25,7 +25,7 @@ fn has_length(bytes: &[u8], longest: usize) -> bool
 
 /// The name of a column family.
 #[derive(Drop, Clone, PartialEq, Eq, PartialOrd, Ord)]
-pub struct Family(Bytes);
+pub struct Family(SharedBytes);
 
 impl Model for Family {
     ghost use Rattle.std.specs.Prelude.{List, ℕ};
@@ -42,7 +42,7 @@ impl Family {
     pub fn from_slice(alloc: Global, bytes: &[u8]) -> Result<Family, AllocError>
         ensures { IfOk result (λ copy. copy ≡ bytes.now) }
     {
-        Ok(Family(Bytes::copy_from_slice(alloc, bytes)?))
+        Ok(Family(SharedBytes::from_slice(alloc, bytes)?))
     }
 
     /// The bytes.
@@ -55,7 +55,7 @@ impl Family {
 
 /// The key of a row.
 #[derive(Drop, Clone, PartialEq, Eq, PartialOrd, Ord)]
-pub struct Key(Bytes);
+pub struct Key(SharedBytes);
 
 impl Model for Key {
     ghost use Rattle.std.specs.Prelude.{List, ℕ};
@@ -72,7 +72,7 @@ impl Key {
     pub fn from_slice(alloc: Global, bytes: &[u8]) -> Result<Key, AllocError>
         ensures { IfOk result (λ copy. copy ≡ bytes.now) }
     {
-        Ok(Key(Bytes::copy_from_slice(alloc, bytes)?))
+        Ok(Key(SharedBytes::from_slice(alloc, bytes)?))
     }
 
     /// The bytes.
@@ -92,7 +92,7 @@ impl Key {
 
 /// The name of a column, or an end of a range of names.
 #[derive(Drop, Clone, PartialEq, Eq, PartialOrd, Ord)]
-pub struct Name(Bytes);
+pub struct Name(SharedBytes);
 
 impl Model for Name {
     ghost use Rattle.std.specs.Prelude.{List, ℕ};
@@ -109,7 +109,7 @@ impl Name {
     pub fn from_slice(alloc: Global, bytes: &[u8]) -> Result<Name, AllocError>
         ensures { IfOk result (λ copy. copy ≡ bytes.now) }
     {
-        Ok(Name(Bytes::copy_from_slice(alloc, bytes)?))
+        Ok(Name(SharedBytes::from_slice(alloc, bytes)?))
     }
 
     /// The bytes.
@@ -136,7 +136,7 @@ impl Name {
 
 /// The value of a column.
 #[derive(Drop, Clone, PartialEq, Eq)]
-pub struct Value(Bytes);
+pub struct Value(SharedBytes);
 
 impl Model for Value {
     ghost use Rattle.std.specs.Prelude.{List, ℕ};
@@ -153,7 +153,7 @@ impl Value {
     pub fn from_slice(alloc: Global, bytes: &[u8]) -> Result<Value, AllocError>
         ensures { IfOk result (λ copy. copy ≡ bytes.now) }
     {
-        Ok(Value(Bytes::copy_from_slice(alloc, bytes)?))
+        Ok(Value(SharedBytes::from_slice(alloc, bytes)?))
     }
 
     /// The bytes.

@@ -9,6 +9,7 @@ mod byte_strings;
 mod newest;
 mod normalizing;
 mod schema;
+mod shared_bytes;
 
 pub use batch::{Batch, Change, Committed, Mutation, Row};
 pub use byte_strings::{Family, Key, Name, Value};
