@@ -1,8 +1,9 @@
 -- How a fault that ends the program is told.
-use Rattle.std.specs.Prelude.{ℕ, List, [], ◌∷◌, ◌++◌, Option, Some, None, codes}
+use Rattle.std.specs.Prelude.{◌≡◌, ℕ, false, List, [], ◌∷◌, ◌++◌, Option, Some, None, IfSome, codes}
 use Rattle.logical_time.specs.declared.fault.Fault.{Fault}
 use Rattle.logical_time.specs.declared.fault.Fault.TheVariants.{ClockSpent, Memory, Script, ReadFailed, WriteFailed}
 use Rattle.program.specs.declared.output.Output.{Output}
+use Rattle.program.specs.Lines.{has_end}
 use Rattle.program.specs.Outputs.{Writes}
 
 -- the line of a fault: no other ends the program
@@ -19,6 +20,7 @@ abbrev pub told_text : Fault → Option (List ℕ) → List ℕ
 told_text e None = fault_line e
 told_text e (Some line) = fault_line e ++ (line ++ 10 ∷ [])
 
--- this was written, or a beginning of it and the output has failed
-abbrev pub Tells : {E : Type 0} → (E → Option (List ℕ)) → Fault → Option (List ℕ) → Output E → Output E → Type 0
-Tells contents e more old new = Writes contents old new (told_text e more)
+-- This was told: it was written, or a beginning of it and the output has failed. What more is known is one line.
+pub record Tells {E : Type 0} (contents : E → Option (List ℕ)) (e : Fault) (more : Option (List ℕ)) (old new : Output E) : Type 0 where
+  pub line : IfSome more (λ l. has_end l ≡ false)
+  pub text : Writes contents old new (told_text e more)

@@ -1,6 +1,7 @@
 //! How a fault is told.
 ghost use Rattle.std.specs.Prelude.{◌≡◌};
-ghost use Rattle.program.specs.Telling.{fault_line, Tells};
+ghost use Rattle.program.specs.Outputs.{Writes};
+ghost use Rattle.program.specs.Telling.{fault_line, told_text, Tells};
 
 use crate::line::Line;
 use crate::output::Output;
@@ -22,8 +23,12 @@ fn fault_line(fault: Fault) -> &'static str
 }
 
 // Writes the line of the fault and the line for people, until the output fails.
-fn write_lines<E: Write>(errors: &mut Output<E>, fault: Fault, more: Option<Line>) -> Result<(), Fault>
-    ensures { Tells E.contents fault more errors.old errors.new }
+fn write_lines<E: Write>(
+    errors: &mut Output<E>,
+    fault: Fault,
+    more: Option<Line>,
+) -> Result<(), Fault>
+    ensures { Writes E.contents errors.old errors.new (told_text fault more) }
 {
     errors.write_all(fault_line(fault).as_bytes())?;
     let Some(line) = more else {

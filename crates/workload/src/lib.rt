@@ -4,6 +4,7 @@
 #![tactic(auto)]
 
 mod draining;
+mod explaining;
 mod performing;
 mod reading;
 mod script;
@@ -13,7 +14,7 @@ mod text;
 mod transcript;
 
 pub use draining::drain;
-pub use performing::{Task, perform};
+pub use performing::{Task, perform, sim};
 pub use reading::read_script;
 pub use script::{Event, Events, Script};
 pub use simulating::simulate;

@@ -21,4 +21,4 @@ returns g c =
     let start : Appends (g.E.Write.contents c.args.errors.now.writer) (g.E.Write.contents c.write_all.new.self.writer) line = search rules in
     rw (c.in-Some.is, ← c.as_str.ensures.text)
     (written c.write_all-3.result WriteFailed _ (g.E.Write.contents c.write_all-2.new.self.writer) _ (line ++ text) (10 ∷ []) _ (sym (append_assoc line text (10 ∷ [])))
-        (then_appended _ (g.E.Write.contents c.write_all.new.self.writer) _ line text start (search rules)) c.write_all-3.ensures.whole c.write_all-3.ensures.part c.write_all-3.ensures.failed)
+    (then_appended _ (g.E.Write.contents c.write_all.new.self.writer) _ line text start (search rules)) c.write_all-3.ensures.whole c.write_all-3.ensures.part c.write_all-3.ensures.failed)

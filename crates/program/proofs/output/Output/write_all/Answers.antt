@@ -1,4 +1,4 @@
-use Rattle.std.proofs.Common.{◌+◌, ◌-◌, length, drop, arith, rules}
+use Rattle.std.proofs.Common.{drop, arith, rules}
 use Rattle.std.proofs.lemmas.List.{take_all, length-drop}
 use Rattle.std.proofs.lemmas.Result.{err_from_is_err_and}
 use Rattle.program.proofs.Written.{more_written, part_written, nothing_kept}

@@ -1,4 +1,4 @@
-use Rattle.std.proofs.Common.{◌≡◌, ◌≤◌, length, take, IsNone}
+use Rattle.std.proofs.Common.{◌≤◌, length, take, IsNone}
 use Rattle.std.specs.Io.KnownBytes.{Appends}
 use Rattle.program.proofs.output.Output.write_all.Given as goal
 
