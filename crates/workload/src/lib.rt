@@ -12,6 +12,7 @@ mod shape;
 mod simulating;
 mod text;
 mod transcript;
+mod wrong;
 
 pub use draining::drain;
 pub use performing::{Task, perform, sim};
