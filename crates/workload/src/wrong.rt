@@ -31,8 +31,8 @@ pub(crate) enum Wrong {
 
 pub(crate) type Sound = Result<(), Wrong>;
 
-// The value itself is wrong.
-fn wrong<D: Display + Drop>(known: Known, what: D) -> Wrong {
+// The value itself is wrong, for this reason.
+fn here<D: Display + Drop>(known: Known, what: D) -> Wrong {
     let place = String::new(known.alloc);
     match format!(in known.alloc; "{what}") {
         Ok(what) => Wrong::At { place, what },
@@ -44,7 +44,7 @@ pub(crate) fn need<D: Display + Drop>(known: Known, is_sound: bool, what: D) -> 
     if is_sound {
         return Ok(());
     }
-    Err(wrong(known, what))
+    Err(here(known, what))
 }
 
 // What is wrong stands under this step.
@@ -64,7 +64,7 @@ pub(crate) fn unknown(known: Known, kind: &str, name: &str) -> Sound {
     let shown = end
         .and_then(|c: (usize, char)| name.get(..c.0))
         .unwrap_or(name);
-    Err(wrong(known, format_args!("unknown {kind} {shown:?}")))
+    Err(here(known, format_args!("unknown {kind} {shown:?}")))
 }
 
 pub(crate) fn text(known: Known, json: &Json) -> Sound {
@@ -78,7 +78,7 @@ pub(crate) fn flag(known: Known, json: &Json) -> Sound {
 /// A whole number within these limits.
 pub(crate) fn whole(known: Known, json: &Json, least: u64, most: u64) -> Sound {
     let Some(number) = json.as_u64() else {
-        return Err(wrong(known, "not a whole number"));
+        return Err(here(known, "not a whole number"));
     };
     let is_within = least <= number && number <= most;
     need(
@@ -94,11 +94,11 @@ where
     F: Fn(Known, &Json) -> Sound,
 {
     let Some(items) = json.as_array() else {
-        return Err(wrong(known, "not a list"));
+        return Err(here(known, "not a list"));
     };
     let count = items.len();
     if count < least || most < count {
-        return Err(wrong(known, format_args!("{count} items, not {least} to {most}")));
+        return Err(here(known, format_args!("{count} items, not {least} to {most}")));
     }
     for (place, item) in items.iter().enumerate() {
         under(known, format_args!("[{place}]"), check(known, item))?;
@@ -119,7 +119,7 @@ pub(crate) fn items(known: Known, json: &Json, count: usize, form: &str) -> Soun
 /// An object with no other members.
 pub(crate) fn members(known: Known, json: &Json, names: &[&str]) -> Sound {
     let Some(members) = json.as_object() else {
-        return Err(wrong(known, "not an object"));
+        return Err(here(known, "not an object"));
     };
     for name in members.keys() {
         if !names.contains(&name.as_str()) {
@@ -170,6 +170,6 @@ pub(crate) fn of<F: Fn(Known, &Json) -> Sound>(
 pub(crate) fn tag<'v>(known: Known, json: &'v Json) -> Result<&'v str, Wrong> {
     match json.get(0usize).and_then(Json::as_str) {
         Some(tag) => Ok(tag),
-        None => Err(wrong(known, "not a list that begins with its kind")),
+        None => Err(here(known, "not a list that begins with its kind")),
     }
 }
