@@ -2,8 +2,8 @@
 //!
 //! Nothing rests on this: `reading` says what a script is. It is looked at only after a script was refused.
 use crate::wrong::{
-    Known, Sound, Wrong, at, each, either, flag, items, members, need, of, tag, text, texts,
-    unknown, whole,
+    Known, Sound, Wrong, either, flag, item, items, listed, member, members, need, tag, text,
+    texts, under, unknown, whole,
 };
 use serde_json::Value as Json;
 use std::alloc::Global;
@@ -12,6 +12,12 @@ use std::alloc::Global;
 const MEMBERS: [&str; 5] = ["dcs", "shards", "families", "homes", "events"];
 /// What the list of families has to be.
 const FAMILIES: &str = "not 1 to 16 different names of 1 to 64 letters, digits or _";
+/// How many events a script may have.
+const MOST_EVENTS: usize = 100_000;
+/// The last time.
+const LAST_TIME: u64 = 0xffff_ffff_ffff;
+/// The greatest count of a range.
+const MOST_COLUMNS: u64 = 0xffff_ffff;
 
 fn mutation(known: Known, json: &Json) -> Sound {
     match tag(known, json)? {
@@ -26,101 +32,103 @@ fn mutation(known: Known, json: &Json) -> Sound {
 
 fn change(known: Known, json: &Json) -> Sound {
     items(known, json, 3, "[FAMILY, KEY, MUTATION]")?;
-    at(known, json, 0, text)?;
-    at(known, json, 1, text)?;
-    at(known, json, 2, mutation)
+    under(known, "[0]", text(known, item(json, 0)))?;
+    under(known, "[1]", text(known, item(json, 1)))?;
+    under(known, "[2]", mutation(known, item(json, 2)))
 }
 
-fn changes(known: Known, json: &Json) -> Sound {
-    each(known, json, 0, usize::MAX, change)
-}
-
-fn count(known: Known, json: &Json) -> Sound {
-    whole(known, json, 0, 0xffff_ffff)
+fn batch(known: Known, json: &Json) -> Sound {
+    for (place, item) in listed(known, json, 0, usize::MAX)?.iter().enumerate() {
+        under(known, format_args!("[{place}]"), change(known, item))?;
+    }
+    Ok(())
 }
 
 fn range(known: Known, json: &Json) -> Sound {
     members(known, json, &["start", "finish", "reversed", "count"])?;
-    of(known, json, "start", text)?;
-    of(known, json, "finish", text)?;
-    of(known, json, "reversed", flag)?;
-    of(known, json, "count", count)
+    for name in ["start", "finish"] {
+        if let Some(end) = json.get(name) {
+            under(known, format_args!(".{name}"), text(known, end))?;
+        }
+    }
+    if let Some(reversed) = json.get("reversed") {
+        under(known, ".reversed", flag(known, reversed))?;
+    }
+    if let Some(count) = json.get("count") {
+        under(known, ".count", whole(known, count, 0, MOST_COLUMNS))?;
+    }
+    Ok(())
 }
 
 fn predicate(known: Known, json: &Json) -> Sound {
     either(known, json, "names", "range")?;
-    of(known, json, "names", texts)?;
-    of(known, json, "range", range)
+    match json.get("names") {
+        Some(names) => under(known, ".names", texts(known, names)),
+        None => under(known, ".range", range(known, member(json, "range"))),
+    }
 }
 
 fn read(known: Known, json: &Json) -> Sound {
     items(known, json, 3, "[FAMILY, [KEY, ..], PREDICATE]")?;
-    at(known, json, 0, text)?;
-    at(known, json, 1, texts)?;
-    at(known, json, 2, predicate)
+    under(known, "[0]", text(known, item(json, 0)))?;
+    under(known, "[1]", texts(known, item(json, 1)))?;
+    under(known, "[2]", predicate(known, item(json, 2)))
 }
 
 fn op(known: Known, json: &Json) -> Sound {
     either(known, json, "batch", "read")?;
-    of(known, json, "batch", changes)?;
-    of(known, json, "read", read)
+    match json.get("batch") {
+        Some(changes) => under(known, ".batch", batch(known, changes)),
+        None => under(known, ".read", read(known, member(json, "read"))),
+    }
 }
 
-fn session(known: Known, json: &Json) -> Sound {
-    whole(known, json, 0, known.session)
-}
-
-fn message(known: Known, json: &Json) -> Sound {
-    whole(known, json, 0, u64::MAX)
-}
-
-fn shard(known: Known, json: &Json) -> Sound {
-    whole(known, json, 0, known.shard)
-}
-
-fn time(known: Known, json: &Json) -> Sound {
-    whole(known, json, 0, 0xffff_ffff_ffff)
+// A whole number from 0 on, at a place.
+fn number(known: Known, json: &Json, place: usize, most: u64) -> Sound {
+    under(
+        known,
+        format_args!("[{place}]"),
+        whole(known, item(json, place), 0, most),
+    )
 }
 
 fn event(known: Known, json: &Json) -> Sound {
     match tag(known, json)? {
         "submit" => {
             items(known, json, 3, r#"["submit", SESSION, OPERATION]"#)?;
-            at(known, json, 1, session)?;
-            at(known, json, 2, op)
+            number(known, json, 1, known.session)?;
+            under(known, "[2]", op(known, item(json, 2)))
         }
         "deliver" => {
             items(known, json, 2, r#"["deliver", MESSAGE]"#)?;
-            at(known, json, 1, message)
+            number(known, json, 1, u64::MAX)
         }
         "collect" => {
             items(known, json, 3, r#"["collect", SHARD, TIME]"#)?;
-            at(known, json, 1, shard)?;
-            at(known, json, 2, time)
+            number(known, json, 1, known.shard)?;
+            number(known, json, 2, LAST_TIME)
         }
         "drain" => items(known, json, 1, r#"["drain"]"#),
         name => unknown(known, "event", name),
     }
 }
 
-fn home(known: Known, json: &Json) -> Sound {
-    whole(known, json, 0, known.dc)
+fn events(known: Known, json: &Json) -> Sound {
+    for (place, item) in listed(known, json, 0, MOST_EVENTS)?.iter().enumerate() {
+        under(known, format_args!("[{place}]"), event(known, item))?;
+    }
+    Ok(())
 }
 
 fn homes(known: Known, json: &Json) -> Sound {
-    each(known, json, 1, 16, home)
-}
-
-fn events(known: Known, json: &Json) -> Sound {
-    each(known, json, 0, 100_000, event)
-}
-
-fn dcs(known: Known, json: &Json) -> Sound {
-    whole(known, json, 1, 4)
-}
-
-fn shards(known: Known, json: &Json) -> Sound {
-    whole(known, json, 1, 8)
+    for (place, item) in listed(known, json, 1, 16)?.iter().enumerate() {
+        under(
+            known,
+            format_args!("[{place}]"),
+            whole(known, item, 0, known.dc),
+        )?;
+    }
+    Ok(())
 }
 
 fn script(known: Known, json: &Json) -> Sound {
@@ -129,11 +137,11 @@ fn script(known: Known, json: &Json) -> Sound {
         let is_there = json.get(name).is_some();
         need(known, is_there, format_args!("no member {name:?}"))?;
     }
-    of(known, json, "dcs", dcs)?;
-    of(known, json, "shards", shards)?;
-    of(known, json, "families", texts)?;
-    of(known, json, "homes", homes)?;
-    of(known, json, "events", events)
+    under(known, ".dcs", whole(known, member(json, "dcs"), 1, 4))?;
+    under(known, ".shards", whole(known, member(json, "shards"), 1, 8))?;
+    under(known, ".families", texts(known, member(json, "families")))?;
+    under(known, ".homes", homes(known, member(json, "homes")))?;
+    under(known, ".events", events(known, member(json, "events")))
 }
 
 /// What is wrong with a value that is no script, after its place; none where memory is refused. Linear in the value.

@@ -47,8 +47,8 @@ pub(crate) fn need<D: Display + Drop>(known: Known, is_sound: bool, what: D) -> 
     Err(here(known, what))
 }
 
-// What is wrong stands under this step.
-fn under<D: Display + Drop>(known: Known, step: D, found: Sound) -> Sound {
+/// What is wrong stands under this step.
+pub(crate) fn under<D: Display + Drop>(known: Known, step: D, found: Sound) -> Sound {
     let Err(Wrong::At { place, what }) = found else {
         return found;
     };
@@ -88,11 +88,13 @@ pub(crate) fn whole(known: Known, json: &Json, least: u64, most: u64) -> Sound {
     )
 }
 
-/// Each item of a list, of which there may be so many.
-pub(crate) fn each<F>(known: Known, json: &Json, least: usize, most: usize, check: F) -> Sound
-where
-    F: Fn(Known, &Json) -> Sound,
-{
+/// The items of a list, of which there may be so many.
+pub(crate) fn listed<'v>(
+    known: Known,
+    json: &'v Json,
+    least: usize,
+    most: usize,
+) -> Result<&'v Vec<Json>, Wrong> {
     let Some(items) = json.as_array() else {
         return Err(here(known, "not a list"));
     };
@@ -100,14 +102,14 @@ where
     if count < least || most < count {
         return Err(here(known, format_args!("{count} items, not {least} to {most}")));
     }
-    for (place, item) in items.iter().enumerate() {
-        under(known, format_args!("[{place}]"), check(known, item))?;
-    }
-    Ok(())
+    Ok(items)
 }
 
 pub(crate) fn texts(known: Known, json: &Json) -> Sound {
-    each(known, json, 0, usize::MAX, text)
+    for (place, item) in listed(known, json, 0, usize::MAX)?.iter().enumerate() {
+        under(known, format_args!("[{place}]"), text(known, item))?;
+    }
+    Ok(())
 }
 
 /// A list of so many items.
@@ -122,7 +124,7 @@ pub(crate) fn members(known: Known, json: &Json, names: &[&str]) -> Sound {
         return Err(here(known, "not an object"));
     };
     for name in members.keys() {
-        if !names.contains(&name.as_str()) {
+        if !names.iter().any(|other: &&str| *other == name.as_str()) {
             return unknown(known, "member", name.as_str());
         }
     }
@@ -140,30 +142,14 @@ pub(crate) fn either(known: Known, json: &Json, first: &str, second: &str) -> So
     )
 }
 
-/// The item at a place, if it is there.
-pub(crate) fn at<F: Fn(Known, &Json) -> Sound>(
-    known: Known,
-    json: &Json,
-    place: usize,
-    check: F,
-) -> Sound {
-    match json.get(place) {
-        Some(item) => under(known, format_args!("[{place}]"), check(known, item)),
-        None => Ok(()),
-    }
+/// The item at a place, of a list that has it.
+pub(crate) fn item(json: &Json, place: usize) -> &Json {
+    json.get(place).unwrap_or(json)
 }
 
-/// The member of a name, if it is there.
-pub(crate) fn of<F: Fn(Known, &Json) -> Sound>(
-    known: Known,
-    json: &Json,
-    name: &str,
-    check: F,
-) -> Sound {
-    match json.get(name) {
-        Some(member) => under(known, format_args!(".{name}"), check(known, member)),
-        None => Ok(()),
-    }
+/// The member of a name, of an object that has it.
+pub(crate) fn member<'v>(json: &'v Json, name: &str) -> &'v Json {
+    json.get(name).unwrap_or(json)
 }
 
 /// What a list begins with.
