@@ -7,21 +7,20 @@ use Rattle.command_line.specs.declared.reading.Asked.{Asked}
 use Rattle.command_line.specs.declared.reading.Asked.TheVariants.{Sim, Told}
 use Rattle.command_line.specs.Told.{Answers}
 
-module _ {W E : Type 0} (contents : W → Option (List ℕ)) (written : E → Option (List ℕ)) where
-  -- 0, and nothing is told
-  pub record IsDone (status : ℕ) (told told' : Output E) : Type 0 where
-    pub is_ended : status ≡ 0
-    pub nothing_told : told' ≡ told
+-- 0, and nothing is told
+pub record IsDone {E : Type 0} (status : ℕ) (told told' : Output E) : Type 0 where
+  pub is_ended : status ≡ 0
+  pub nothing_told : told' ≡ told
 
-  -- 1, and a fault is told
-  pub record HasFailed (status : ℕ) (told told' : Output E) : Type 0 where
-    pub is_ended : status ≡ 1
-    pub fault : Fault
-    pub more : Option (List ℕ)
-    pub tells : Tells written fault more told told'
+-- 1, and a fault is told
+pub record HasFailed {E : Type 0} (written : E → Option (List ℕ)) (status : ℕ) (told told' : Output E) : Type 0 where
+  pub is_ended : status ≡ 1
+  pub fault : Fault
+  pub more : Option (List ℕ)
+  pub tells : Tells written fault more told told'
 
-  -- this exit status, these outputs
-  abbrev pub IsAnswer : Result Asked Fault → ℕ → Output W → Output W → Output E → Output E → Type 0
-  IsAnswer (Ok (Sim name)) status old new told told' = IsDone status told told' ⊎ HasFailed status told told'
-  IsAnswer (Ok (Told t)) status old new told told' = Answers contents written t status old new told told'
-  IsAnswer (Err e) status old new told told' = (status ≡ 1) × (new ≡ old) × Tells written e None told told'
+-- this exit status, these outputs
+abbrev pub IsAnswer : {W E : Type 0} → (W → Option (List ℕ)) → (E → Option (List ℕ)) → Result Asked Fault → ℕ → Output W → Output W → Output E → Output E → Type 0
+IsAnswer contents written (Ok (Sim name)) status old new told told' = IsDone status told told' ⊎ HasFailed written status told told'
+IsAnswer contents written (Ok (Told t)) status old new told told' = Answers contents written t status old new told told'
+IsAnswer contents written (Err e) status old new told told' = (status ≡ 1) × (new ≡ old) × Tells written e None told told'

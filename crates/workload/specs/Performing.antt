@@ -1,5 +1,5 @@
 -- What the program makes of its input.
-use Rattle.std.specs.Prelude.{◌≡◌, ℕ, List, Option, Some, None, option_and_then, Err, IsSome, ◌⊎◌}
+use Rattle.std.specs.Prelude.{◌≡◌, ℕ, List, Option, Some, None, option_and_then, Err, IsSome, IfSome, ◌⊎◌}
 use Rattle.std.specs.Str.{IsUtf8}
 use Rattle.std.specs.Io.KnownBytes.{Appends}
 use Rattle.serde_json.specs.Read.{read}
@@ -46,8 +46,7 @@ IsRefused bytes _ = ⊥
 
 -- these are the bytes that were left, where those are known
 abbrev pub AreRead : Option (List ℕ) → List ℕ → Type 0
-AreRead None bytes = Unit {0}
-AreRead (Some left) bytes = bytes ≡ left
+AreRead known bytes = IfSome known (λ left. bytes ≡ left)
 
 module _ {R W E : Type 0} (remaining : R → Option (List ℕ)) (contents : W → Option (List ℕ)) (written : E → Option (List ℕ)) where
   -- the text for the bytes that were read is written, and nothing is told
@@ -89,3 +88,7 @@ module _ {R W E : Type 0} (remaining : R → Option (List ℕ)) (contents : W �
     pub more : Option (List ℕ)
     pub cause : EndsBy fault input input' old new
     pub tells : Tells written fault more told told'
+
+-- 1, and that the input could not be read is told
+abbrev pub TellsUnread : {E : Type 0} → (E → Option (List ℕ)) → ℕ → Output E → Output E → Type 0
+TellsUnread written status told told' = (status ≡ 1) × (more : Option (List ℕ)) × Tells written ReadFailed more told told'

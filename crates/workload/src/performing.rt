@@ -1,6 +1,6 @@
 //! The program, over any reader and writers.
-ghost use Rattle.std.specs.Prelude.{◌≡◌, ◌⊎◌, IfOk, IfErr};
-ghost use Rattle.workload.specs.Performing.{IsTextFor, IsRefused, Prints, Ends};
+ghost use Rattle.std.specs.Prelude.{◌≡◌, ◌⊎◌, IsSome, IfOk, IfErr};
+ghost use Rattle.workload.specs.Performing.{IsTextFor, IsRefused, Prints, Ends, TellsUnread};
 
 use crate::explaining;
 use crate::reading::read_script;
@@ -101,6 +101,7 @@ fn run_sim<R: Read, W: Write, E: Write>(
 ) -> u8
     ensures status { (result ≡ 0) ⊎ (result ≡ 1) }
     ensures printed { result ≡ 0 → Prints R.remaining W.contents E.contents input.old output.old output.new errors.old errors.new }
+    ensures unread { IsSome input.old.failure → TellsUnread E.contents result errors.old errors.new }
     ensures ended { result ≡ 1 → Ends R.remaining W.contents E.contents input.old input.new output.old output.new errors.old errors.new }
 {
     let bytes = match input.read_all(alloc) {
@@ -136,6 +137,7 @@ pub fn perform<R: Read, W: Write, E: Write>(
 ) -> u8
     ensures status { (result ≡ 0) ⊎ (result ≡ 1) }
     ensures printed { result ≡ 0 → Prints R.remaining W.contents E.contents input.old output.old output.new errors.old errors.new }
+    ensures unread { IsSome input.old.failure → TellsUnread E.contents result errors.old errors.new }
     ensures ended { result ≡ 1 → Ends R.remaining W.contents E.contents input.old input.new output.old output.new errors.old errors.new }
 {
     match task {
