@@ -1,10 +1,12 @@
 //! Command lines.
+use crate::showing::text_of;
 use crate::steps::Subject;
-use command_line::{Asked, read_words};
+use command_line::{Asked, Told, read_words};
 use logical_time::Fault;
+use program::Output;
 use std::alloc::Global;
 
-/// Takes command lines, and shows their exit status and which file is to be run.
+/// Takes command lines, and shows which file is to be run, or the exit status and what is written and told.
 #[derive(Drop)]
 pub(crate) struct Line;
 
@@ -16,15 +18,20 @@ fn copies(alloc: Global, words: &[&str]) -> Result<Vec<String>, Fault> {
     Ok(copies)
 }
 
+fn add_answer(alloc: Global, told: &Told, seen: &mut String) -> Result<(), Fault> {
+    let mut output = Output::new(Vec::new(alloc));
+    let mut errors = Output::new(Vec::new(alloc));
+    let status = told.answer(&mut output, &mut errors);
+    let (written, told) = (text_of(&output.writer), text_of(&errors.writer));
+    Ok(write!(seen, "{status}\n{written}{told}")?)
+}
+
 impl Subject for Line {
     fn step(&mut self, alloc: Global, words: &[&str], seen: &mut String) -> Result<(), Fault> {
         let words = copies(alloc, words)?;
-        let asked = read_words(alloc, words.as_slice())?;
-        let status = asked.status();
-        write!(seen, "{status}")?;
-        if let Asked::Sim(name) = &asked {
-            write!(seen, " {name}")?;
+        match read_words(alloc, words.as_slice())? {
+            Asked::Sim(name) => Ok(write!(seen, "{name}")?),
+            Asked::Told(told) => add_answer(alloc, &told, seen),
         }
-        Ok(())
     }
 }

@@ -1,13 +1,26 @@
 //! Readers and writers that fail.
 use crate::scripts::run;
 use crate::showing::text_of;
+use program::{Input, Output};
 use std::io;
-use std::io::Read;
+use std::io::{Read, Write};
 use workload::{Task, perform};
 
 /// A script whose transcript has 17 bytes.
 const SCRIPT: &[u8] =
     br#"{"dcs":1,"shards":1,"families":["f"],"homes":[0],"events":[["submit",0,{"batch":[]}]]}"#;
+
+/// At which of their calls a writer and one for errors fail; 0 is never.
+const FAILURES: [(usize, usize); 8] = [
+    (0, 1),
+    (1, 0),
+    (2, 0),
+    (3, 0),
+    (4, 0),
+    (1, 1),
+    (1, 3),
+    (1, 8),
+];
 
 /// Reads nothing.
 #[derive(Drop)]
@@ -19,30 +32,74 @@ impl Read for Failing {
     }
 }
 
+/// Takes six bytes at a time, fails at one of its calls, and would take more after it.
+#[derive(Drop)]
+struct FailingOnce {
+    taken: Vec<u8>,
+    calls: usize,
+    fails_at: usize,
+}
+
+impl FailingOnce {
+    /// Counts a call.
+    fn call(&mut self) -> io::Result<()> {
+        self.calls = self.calls.saturating_add(1);
+        if self.calls == self.fails_at {
+            return Err(io::Error::from(io::ErrorKind::StorageFull));
+        }
+        Ok(())
+    }
+}
+
+impl Write for FailingOnce {
+    fn write(&mut self, bytes: &[u8]) -> io::Result<usize> {
+        self.call()?;
+        let some = &bytes[..bytes.len().min(6)];
+        self.taken.extend_from_slice(some)?;
+        Ok(some.len())
+    }
+
+    fn flush(&mut self) -> io::Result<()> {
+        self.call()
+    }
+}
+
 /// Tells how reading the script ends.
-fn tell_reader<R: Read>(rt: &HostRuntime, kind: &str, reader: &mut R) -> io::Result<()> {
-    let (status, out, errors) = run(rt.alloc(), reader);
+fn tell_reader<R: Read + Drop>(
+    rt: &HostRuntime,
+    kind: &str,
+    opened: io::Result<R>,
+) -> io::Result<()> {
+    let (status, out, errors) = run(rt.alloc(), opened)?;
     let (out, errors) = (text_of(&out), text_of(&errors));
     print!(rt; "{kind}: {status}\n{out}{errors}")
 }
 
-/// Tells what a writer with room for eight bytes gets of the transcript.
-fn tell_full(rt: &HostRuntime) -> io::Result<()> {
-    let mut room = [0u8; 8];
-    let mut full = &mut room[..];
-    let mut errors: Vec<u8> = Vec::new(rt.alloc());
-    let mut script = SCRIPT;
-    let status = perform(rt.alloc(), &Task::Sim, &mut script, &mut full, &mut errors);
-    let (out, errors) = (text_of(&room), text_of(&errors));
-    print!(rt; "a full writer: {status}\n{out}\n{errors}")
+/// Tells what writers get that fail at these calls.
+fn tell_writers(rt: &HostRuntime, out_fails: usize, errors_fail: usize) -> io::Result<()> {
+    let alloc = rt.alloc();
+    let failing = |fails_at: usize| FailingOnce {
+        taken: Vec::new(alloc),
+        calls: 0,
+        fails_at,
+    };
+    let mut input = Input::new(String::from_str(alloc, "script.json")?, Ok(SCRIPT));
+    let mut output = Output::new(failing(out_fails));
+    let mut errors = Output::new(failing(errors_fail));
+    let status = perform(alloc, &Task::Sim, &mut input, &mut output, &mut errors);
+    let (out, told) = (text_of(&output.writer.taken), text_of(&errors.writer.taken));
+    println!(rt; "fails at {out_fails} and {errors_fail}: {status} {out:?} {told:?}")
 }
 
 pub(crate) fn tell(rt: &HostRuntime) -> io::Result<()> {
-    let mut whole = SCRIPT;
-    tell_reader(rt, "a whole script", &mut whole)?;
-    let mut broken = SCRIPT.chain(Failing);
-    tell_reader(rt, "a failing reader", &mut broken)?;
-    let mut mangled: &[u8] = b"\xff";
-    tell_reader(rt, "no text", &mut mangled)?;
-    tell_full(rt)
+    tell_reader(rt, "a whole script", Ok(SCRIPT))?;
+    tell_reader(rt, "a failing reader", Ok(SCRIPT.chain(Failing)))?;
+    let missing = io::Error::from(io::ErrorKind::NotFound);
+    tell_reader::<&[u8]>(rt, "a missing file", Err(missing))?;
+    let mangled: &[u8] = b"{\"dcs\":\"\xff\"}";
+    tell_reader(rt, "no text", Ok(mangled))?;
+    for (out_fails, errors_fail) in FAILURES {
+        tell_writers(rt, out_fails, errors_fail)?;
+    }
+    Ok(())
 }

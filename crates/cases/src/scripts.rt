@@ -1,6 +1,7 @@
 //! Whole runs of scripts, and texts that are scripts or not.
 use crate::building::number;
 use crate::showing::text_of;
+use program::{Input, Output};
 use std::alloc::{AllocError, Global};
 use std::io::Read;
 use std::{fs, io};
@@ -31,36 +32,37 @@ const SCRIPTS: [&str; 21] = [
     "write_is_replicated",
 ];
 
-/// What is told of a text that is no script, and of a script that ends early.
-const NO_SCRIPT: &[u8] = b"eiger: fault 35 Script\n";
+/// The name of what is read.
+const NAME: &str = "script.json";
+/// How it is told that it is no script, or ends early.
+const NO_SCRIPT: &str = "eiger: fault 35 Script\n";
 
-/// A run of what the reader gives: its status, what it writes, and what is told of faults.
-pub(crate) fn run<R: Read>(alloc: Global, reader: &mut R) -> (u8, Vec<u8>, Vec<u8>) {
-    let mut out: Vec<u8> = Vec::new(alloc);
-    let mut errors: Vec<u8> = Vec::new(alloc);
-    let status = perform(alloc, &Task::Sim, reader, &mut out, &mut errors);
-    (status, out, errors)
+/// A run of what was opened: its status, what it writes, and what is told of faults.
+pub(crate) fn run<R: Read>(
+    alloc: Global,
+    opened: io::Result<R>,
+) -> Result<(u8, Vec<u8>, Vec<u8>), AllocError>
+where
+    R: Drop,
+{
+    let mut input = Input::new(String::from_str(alloc, NAME)?, opened);
+    let mut output = Output::new(Vec::new(alloc));
+    let mut errors = Output::new(Vec::new(alloc));
+    let status = perform(alloc, &Task::Sim, &mut input, &mut output, &mut errors);
+    Ok((status, output.writer, errors.writer))
 }
 
 /// Whether a run of the script writes this transcript, and no fault is told.
-fn writes(alloc: Global, script: &[u8], transcript: &[u8]) -> bool {
-    let mut reader = script;
-    let (status, out, errors) = run(alloc, &mut reader);
-    status == 0 && errors.is_empty() && out.as_slice() == transcript
-}
-
-/// Whether a run of the text ends with this status, and this is told. Where a fault is told, nothing may be written.
-fn ends_with(alloc: Global, text: &str, status: u8, told: &[u8]) -> bool {
-    let mut reader = text.as_bytes();
-    let (ended, out, errors) = run(alloc, &mut reader);
-    ended == status && errors.as_slice() == told && (told.is_empty() || out.is_empty())
+fn writes(alloc: Global, script: &[u8], transcript: &[u8]) -> Result<bool, AllocError> {
+    let (status, out, errors) = run(alloc, Ok(script))?;
+    Ok(status == 0 && errors.is_empty() && out.as_slice() == transcript)
 }
 
 /// Tells whether the script of this name writes its transcript.
 fn tell_script(rt: &HostRuntime, name: &str) -> io::Result<()> {
     let script = fs::read(rt, format!(in rt.alloc(); "{name}.json")?)?;
     let transcript = fs::read(rt, format!(in rt.alloc(); "{name}.transcript")?)?;
-    let is_written = writes(rt.alloc(), &script, &transcript);
+    let is_written = writes(rt.alloc(), &script, &transcript)?;
     let told = if is_written {
         "as written"
     } else {
@@ -69,18 +71,30 @@ fn tell_script(rt: &HostRuntime, name: &str) -> io::Result<()> {
     println!(rt; "{name}: {told}")
 }
 
-/// Tells how many lines of the file end with this status, and this is told.
-fn tell_lines(rt: &HostRuntime, file: &str, status: u8, told: &[u8]) -> io::Result<()> {
+/// Whether a run of the script ends with the fault, and this is said of it, and nothing is written; where nothing is to be
+/// said, whether it ends well.
+fn ends(alloc: Global, script: &str, said: &str) -> Result<bool, AllocError> {
+    let (status, out, errors) = run(alloc, Ok(script.as_bytes()))?;
+    if said.is_empty() {
+        return Ok(status == 0 && errors.is_empty());
+    }
+    let told = format!(in alloc; "{NO_SCRIPT}{NAME}: {said}\n")?;
+    Ok(status == 1 && out.is_empty() && errors.as_slice() == told.as_bytes())
+}
+
+/// Tells how many lines of the file, each a script and what is said of it, end so. The others are told in full.
+fn tell_lines(rt: &HostRuntime, file: &str) -> io::Result<()> {
     let text = fs::read_to_string(rt, file)?;
     let mut ended = 0u64;
     for line in text.lines() {
-        if ends_with(rt.alloc(), line, status, told) {
+        let (script, said) = line.split_once(" => ").unwrap_or((line, ""));
+        if ends(rt.alloc(), script, said)? {
             ended = ended.wrapping_add(1);
         } else {
             println!(rt; "{line}")?;
         }
     }
-    println!(rt; "{file}: {ended} with status {status}")
+    println!(rt; "{file}: {ended} as said")
 }
 
 /// Adds the first part, the second as often as stands before, and the last.
@@ -109,8 +123,7 @@ fn script_of(alloc: Global, lines: &str) -> Result<String, AllocError> {
 fn tell_limits(rt: &HostRuntime) -> io::Result<()> {
     let lines = fs::read_to_string(rt, "limits.parts")?;
     let script = script_of(rt.alloc(), lines.as_str())?;
-    let mut reader = script.as_bytes();
-    let (status, out, _) = run(rt.alloc(), &mut reader);
+    let (status, out, _) = run(rt.alloc(), Ok(script.as_bytes()))?;
     let out = text_of(&out);
     print!(rt; "limits: {status}\n{out}")
 }
@@ -119,8 +132,8 @@ pub(crate) fn tell(rt: &HostRuntime) -> io::Result<()> {
     for name in SCRIPTS {
         tell_script(rt, name)?;
     }
-    tell_lines(rt, "scripts.txt", 0, b"")?;
-    tell_lines(rt, "not_scripts.txt", 1, NO_SCRIPT)?;
-    tell_lines(rt, "not_sent.txt", 1, NO_SCRIPT)?;
+    tell_lines(rt, "scripts.txt")?;
+    tell_lines(rt, "not_scripts.txt")?;
+    tell_lines(rt, "not_sent.txt")?;
     tell_limits(rt)
 }

@@ -1,1 +1,1 @@
-pub mod Status
+pub mod Told

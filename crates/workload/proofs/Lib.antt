@@ -1,6 +1,7 @@
 pub mod Lists
 pub mod Written
 pub mod Told
+pub mod Refused
 pub mod Shown
 pub mod Spelled
 pub mod Drains

@@ -4,6 +4,7 @@
 #![tactic(auto)]
 
 mod draining;
+mod explaining;
 mod performing;
 mod reading;
 mod script;
@@ -11,9 +12,10 @@ mod shape;
 mod simulating;
 mod text;
 mod transcript;
+mod wrong;
 
 pub use draining::drain;
-pub use performing::{Task, perform};
+pub use performing::{Task, perform, sim};
 pub use reading::read_script;
 pub use script::{Event, Events, Script};
 pub use simulating::simulate;

@@ -135,8 +135,12 @@ fn happen(world: &mut World, event: &Event, transcript: &mut Transcript) -> Resu
     }
 }
 
-// An event happens, and is told.
-fn play(world: &mut World, event: &Event, transcript: &mut Transcript) -> Result<(), Fault>
+/// An event happens, and is told.
+pub(crate) fn play(
+    world: &mut World,
+    event: &Event,
+    transcript: &mut Transcript,
+) -> Result<(), Fault>
     ensures ok { OnOk result (Adds transcript.old transcript.new (Plays world.old event.now world.new)) }
     ensures ends { IfErr result (EndsWith world.old event.now) }
 {

@@ -1,0 +1,26 @@
+-- How a command line is answered.
+use Rattle.std.specs.Prelude.{◌≡◌, ℕ, List, Option, None, Result, Ok, Err, ◌⊎◌}
+use Rattle.logical_time.specs.declared.fault.Fault.{Fault}
+use Rattle.program.specs.declared.output.Output.{Output}
+use Rattle.program.specs.Telling.{Tells}
+use Rattle.command_line.specs.declared.reading.Asked.{Asked}
+use Rattle.command_line.specs.declared.reading.Asked.TheVariants.{Sim, Told}
+use Rattle.command_line.specs.Told.{Answers}
+
+-- 0, and nothing is told
+pub record IsDone {E : Type 0} (status : ℕ) (told told' : Output E) : Type 0 where
+  pub is_ended : status ≡ 0
+  pub nothing_told : told' ≡ told
+
+-- 1, and a fault is told
+pub record HasFailed {E : Type 0} (written : E → Option (List ℕ)) (status : ℕ) (told told' : Output E) : Type 0 where
+  pub is_ended : status ≡ 1
+  pub fault : Fault
+  pub more : Option (List ℕ)
+  pub tells : Tells written fault more told told'
+
+-- this exit status, these outputs
+abbrev pub IsAnswer : {W E : Type 0} → (W → Option (List ℕ)) → (E → Option (List ℕ)) → Result Asked Fault → ℕ → Output W → Output W → Output E → Output E → Type 0
+IsAnswer contents written (Ok (Sim name)) status old new told told' = IsDone status told told' ⊎ HasFailed written status told told'
+IsAnswer contents written (Ok (Told t)) status old new told told' = Answers contents written t status old new told told'
+IsAnswer contents written (Err e) status old new told told' = (status ≡ 1) × (new ≡ old) × Tells written e None told told'

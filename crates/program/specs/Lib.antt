@@ -1,0 +1,4 @@
+pub mod Inputs
+pub mod Lines
+pub mod Outputs
+pub mod Telling
