@@ -1,0 +1,6 @@
+pub mod Lists
+pub mod Sending
+pub mod Lanes
+pub mod Recording
+pub mod Receiving
+pub mod Seating

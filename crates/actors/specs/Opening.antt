@@ -1,0 +1,36 @@
+-- Seats before their first event.
+use Rattle.std.specs.Prelude.{◌≡◌, ℕ, Bool, List, [], map, Option, None}
+use Rattle.messages.specs.Topology.{TopologyValue}
+use Rattle.links.specs.Links.{OutLinkValue, InLinkValue, reached_from, reaching}
+use Rattle.links.specs.Mesh.{new_out_link, new_in_link}
+use Rattle.links.specs.declared.ends.Ends.{Ends}
+use Rattle.actors.specs.Seats.{LaneValue, SeatValue}
+
+-- the way over a ring, on which nothing waits
+abbrev pub new_lane : OutLinkValue → LaneValue
+new_lane l = record { to = l.to; sent = l.sent; waiting = [] }
+
+-- all rings of the actor with this node, through which nothing went yet
+pub record AreItsRings (top : TopologyValue) (node : ℕ) (ends : Ends) : Type 0 where
+  pub capacity : ℕ
+  pub outgoing : ends.outgoing.items ≡ map (new_out_link capacity) (reached_from top node)
+  pub incoming : ends.incoming.items ≡ map (new_in_link node) (reaching top node)
+
+-- a seat with these rings that did nothing yet
+abbrev pub new_seat : TopologyValue → ℕ → ℕ → Bool → List OutLinkValue → List InLinkValue → SeatValue
+new_seat top node limit free outgoing incoming =
+    record {
+      topology = top;
+      node = node;
+      limit = limit;
+      free = free;
+      journal = [];
+      outcomes = [];
+      accepted = 0;
+      refusals = [];
+      backlog = [];
+      outgoing = map new_lane outgoing;
+      outbox = [];
+      incoming = incoming;
+      held = None;
+    }

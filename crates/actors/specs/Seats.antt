@@ -1,0 +1,70 @@
+-- What a seat holds, and the facts that it keeps while its lock is free.
+use Rattle.std.specs.Prelude.{◌≡◌, ℕ, ◌==◌, Bool, if◌then◌else◌, List, [], ◌∷◌, ◌++◌, map, slice_get, Option, Some, None, All}
+use Rattle.logical_time.specs.declared.fault.Fault.{Fault}
+use Rattle.messages.specs.declared.envelope.Envelope.{Envelope}
+use Rattle.messages.specs.declared.outcome.Outcome.{Outcome}
+use Rattle.messages.specs.declared.event.Event.{Event}
+use Rattle.messages.specs.Topology.{TopologyValue}
+use Rattle.links.specs.Links.{InLinkValue}
+use Rattle.actors.specs.Journals.{IsOwn, receipts_from, held_from}
+use Rattle.actors.specs.Machines.{CameFrom, IsRecorded}
+
+-- a way to an actor: all that went into the ring that leads there, and what waits for it, each in order
+pub record LaneValue : Type 0 where
+  pub to : ℕ
+  pub sent : List Envelope
+  pub waiting : List Envelope
+
+-- A seat: which actor it is, and how many events its journal may hold; whether its machine is free for an operation; its
+-- events, the outcomes that they gave, and how many operations were accepted; the operations that were refused, each with
+-- how many were accepted before; what is still to be done; what was sent and what was received; and the envelope that is
+-- held back after a refusal.
+pub record SeatValue : Type 0 where
+  pub topology : TopologyValue
+  pub node : ℕ
+  pub limit : ℕ
+  pub free : Bool
+  pub journal : List Event
+  pub outcomes : List (ℕ × Outcome)
+  pub accepted : ℕ
+  pub refusals : List (ℕ × Fault)
+  pub backlog : List Event
+  pub outgoing : List LaneValue
+  pub outbox : List Envelope
+  pub incoming : List InLinkValue
+  pub held : Option Envelope
+
+-- what went to an actor by its way, and what waits there
+abbrev pub through : List LaneValue → ℕ → List Envelope
+through [] node = []
+through (l ∷ ls) node = if l.to == node then l.sent ++ l.waiting else through ls node
+
+abbrev pub ends_of : List LaneValue → List ℕ
+ends_of lanes = map (λ (l : LaneValue). l.to) lanes
+
+abbrev pub sources_of : List InLinkValue → List ℕ
+sources_of links = map (λ (l : InLinkValue). l.from) links
+
+-- all that went into each ring
+abbrev pub rings : List LaneValue → List (List Envelope)
+rings lanes = map (λ (l : LaneValue). l.sent) lanes
+
+-- no two links lead to one actor, or from one
+abbrev pub IsApart : List ℕ → Type 0
+IsApart nodes = (j k node : ℕ) → slice_get nodes j ≡ Some node → slice_get nodes k ≡ Some node → j ≡ k
+
+-- what was taken from each ring is the receipts of the journal from there, and then what is held back
+abbrev pub Received : List Event → List InLinkValue → Option Envelope → Type 0
+Received journal incoming held =
+    (k : ℕ) (l : InLinkValue) → slice_get incoming k ≡ Some l → l.received ≡ receipts_from l.from journal ++ held_from l.from held
+
+-- What a seat keeps while its lock is free. Its machine came from its journal; what the journal's events sent to each actor
+-- is what went into the ring there, then what waits for that, then what is in the outbox; and what was taken from each ring
+-- is the journal's receipts from there, and then what is held back.
+pub record Keeps {M : Type 0} (came_from : CameFrom M) (untaken : M → Option (ℕ × Outcome)) (machine : M) (d : SeatValue) : Type 0 where
+  pub recorded : IsRecorded came_from untaken d.topology d.node (through d.outgoing) machine d.journal d.outcomes d.outbox d.accepted
+  pub received : Received d.journal d.incoming d.held
+  pub ends : IsApart (ends_of d.outgoing)
+  pub sources : IsApart (sources_of d.incoming)
+  -- no message brings what is still to be done
+  pub own : All IsOwn d.backlog

@@ -1,0 +1,70 @@
+-- What a turn of a seat does.
+use Rattle.std.specs.Prelude.{◌≡◌, ◌≤◌, ℕ, ◌⊎◌, true, false, List, [], ◌∷◌, ◌++◌, Option, Some, None}
+use Rattle.logical_time.specs.declared.fault.Fault.{Fault}
+use Rattle.logical_time.specs.Fault.{number_of}
+use Rattle.messages.specs.declared.envelope.Envelope.{Envelope}
+use Rattle.messages.specs.declared.op.Op.{Op}
+use Rattle.messages.specs.declared.event.Event.{Event}
+use Rattle.messages.specs.declared.event.Event.TheVariants as event
+use Rattle.actors.specs.Journals.{submissions, IsBeginning}
+use Rattle.actors.specs.Seats.{SeatValue, rings}
+use Rattle.actors.specs.declared.turn.Turn.{Turn}
+use Rattle.actors.specs.declared.turn.Turn.TheVariants.{Idle, Moved, Handled, Submitted, Collected, Refused}
+
+-- a refusal of an operation for what it asks
+abbrev pub IsOfRequest : Fault → Type 0
+IsOfRequest fault = number_of fault ≤ 9
+
+-- the seat is the same but for what is on its way
+pub record HasSame (old new : SeatValue) : Type 0 where
+  pub topology : new.topology ≡ old.topology
+  pub node : new.node ≡ old.node
+  pub limit : new.limit ≡ old.limit
+  pub journal : new.journal ≡ old.journal
+  pub outcomes : new.outcomes ≡ old.outcomes
+  pub accepted : new.accepted ≡ old.accepted
+  pub refusals : new.refusals ≡ old.refusals
+  pub backlog : new.backlog ≡ old.backlog
+  pub free : new.free ≡ old.free
+
+-- This one event was added to the journal; outcomes may have been added.
+pub record HasDone (event : Event) (old new : SeatValue) : Type 0 where
+  pub journal : new.journal ≡ old.journal ++ event ∷ []
+  pub outcomes : IsBeginning old.outcomes new.outcomes
+  pub refusals : new.refusals ≡ old.refusals
+  pub topology : new.topology ≡ old.topology
+  pub node : new.node ≡ old.node
+  pub limit : new.limit ≡ old.limit
+
+-- No event was done, since there was none: no envelope, and nothing that is still to be done, or no machine that is free
+-- for it.
+pub record HasRested (old new : SeatValue) : Type 0 where
+  pub same : HasSame old new
+  pub held : new.held ≡ None
+  pub nothing : (new.backlog ≡ []) ⊎ (new.free ≡ false)
+
+-- the first item of the backlog was refused for what it asks, and taken off
+pub record HasRefused (fault : Fault) (old new : SeatValue) : Type 0 where
+  pub journal : new.journal ≡ old.journal
+  pub outcomes : new.outcomes ≡ old.outcomes
+  pub off : (event : Event) × (old.backlog ≡ event ∷ new.backlog)
+  pub refusals : new.refusals ≡ old.refusals ++ (submissions old.journal, fault) ∷ []
+  pub request : IsOfRequest fault
+  pub topology : new.topology ≡ old.topology
+  pub node : new.node ≡ old.node
+  pub limit : new.limit ≡ old.limit
+
+-- what a turn answers whose event of the backlog got this number
+abbrev pub turn_of : Option ℕ → Turn
+turn_of None = Collected
+turn_of (Some number) = Submitted number
+
+-- What a turn that answers this made of the seat: at most one event is added to the journal, the one that the answer names.
+abbrev pub IsTurn : Turn → SeatValue → SeatValue → Type 0
+IsTurn Idle old new = HasRested old new × (rings new.outgoing ≡ rings old.outgoing)
+IsTurn Moved old new = HasRested old new
+IsTurn Handled old new = (e : Envelope) × HasDone (event.Handle e) old new × (new.backlog ≡ old.backlog)
+IsTurn (Submitted number) old new =
+    (o : Op) × HasDone (event.Submit o) old new × (old.backlog ≡ event.Submit o ∷ new.backlog) × (number ≡ submissions new.journal)
+IsTurn Collected old new = (time : ℕ) × HasDone (event.Collect time) old new × (old.backlog ≡ event.Collect time ∷ new.backlog)
+IsTurn (Refused fault) old new = HasRefused fault old new

@@ -1,0 +1,55 @@
+//! The ends of rings where an actor takes envelopes.
+ghost use Rattle.std.specs.Prelude.{◌≡◌, ◌≤◌, ◌<◌, List, length, None};
+ghost use Rattle.messages.specs.declared.event.Event.{Event};
+ghost use Rattle.actors.specs.Seats.{IsApart, Received, sources_of};
+
+use links::InLink;
+use messages::Envelope;
+
+/// Takes an envelope from the first of these rings that has one, from the place `first` up to the place `end`; `next` is then
+/// the place after that ring.
+fn poll(incoming: &mut Vec<InLink>, first: usize, end: usize, next: &mut usize) -> Option<Envelope>
+    requires { end ≤ length incoming.old.items }
+    ensures sources { sources_of incoming.new.items ≡ sources_of incoming.old.items }
+    ensures received { (journal : List Event) → IsApart (sources_of incoming.old.items) → Received journal incoming.old.items None → Received journal incoming.new.items result }
+{
+    for place in first..end {
+        if let Some(envelope) = incoming[place].pop() {
+            *next = place + 1;
+            return Some(envelope);
+        }
+    }
+    None
+}
+
+/// Takes an envelope from the rings, looking at them in turn from the place `next` on, which then is the one after the ring
+/// that had it. Costs the number of rings. Takes no memory.
+fn take_next(incoming: &mut Vec<InLink>, next: &mut usize) -> Option<Envelope>
+    ensures sources { sources_of incoming.new.items ≡ sources_of incoming.old.items }
+    ensures received { (journal : List Event) → IsApart (sources_of incoming.old.items) → Received journal incoming.old.items None → Received journal incoming.new.items result }
+{
+    let count = incoming.len();
+    let start = (*next).min(count);
+    match poll(incoming, start, count, next) {
+        Some(envelope) => Some(envelope),
+        None => poll(incoming, 0, start, next),
+    }
+}
+
+/// Holds this envelope, if it is one, in place of another.
+pub fn hold(held: &mut Option<Envelope>, envelope: Option<Envelope>)
+    ensures { held.new ≡ envelope }
+{
+    *held = envelope;
+}
+
+/// Takes the next envelope from the rings, if none is held.
+pub fn refill(held: &mut Option<Envelope>, incoming: &mut Vec<InLink>, next: &mut usize)
+    ensures sources { sources_of incoming.new.items ≡ sources_of incoming.old.items }
+    ensures received { (journal : List Event) → IsApart (sources_of incoming.old.items) → Received journal incoming.old.items held.old → Received journal incoming.new.items held.new }
+{
+    if held.is_none() {
+        let taken = take_next(incoming, next);
+        hold(held, taken);
+    }
+}

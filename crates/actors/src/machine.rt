@@ -1,0 +1,64 @@
+//! What a seat runs.
+ghost use Rattle.std.specs.Prelude.{◌≡◌, ◌<◌, ◌++◌, ◌∷◌, [], ℕ, Bool, List, Option, None, option_to_list, IfOk, OnOk, IfErr, OnErr};
+ghost use Rattle.messages.specs.declared.envelope.Envelope.{Envelope};
+ghost use Rattle.messages.specs.declared.outcome.Outcome.{Outcome};
+ghost use Rattle.messages.specs.declared.event.Event.{Event};
+ghost use Rattle.messages.specs.Topology.{TopologyValue, node_count};
+ghost use Rattle.actors.specs.Journals.{number_after, followed_by};
+
+use logical_time::{Fault, Node};
+use messages::{Event, Outbox, Outcome, Topology};
+use std::alloc::Global;
+
+/// An actor as a machine: each event is one step of it. What its steps make of it is a relation to its journal, since a
+/// machine may keep less than what its journal tells. It must be closed.
+pub trait Machine: Sized {
+    /// When a machine came from a journal of the actor with a node of a topology: the journal's events sent such
+    /// envelopes to each node, in order, and such outcomes were taken, each with the number of its operation.
+    ghost came_from: { TopologyValue → ℕ → List Event → (ℕ → List Envelope) → List (ℕ × Outcome) → Self → Type 0 };
+
+    /// The outcome that wasn't taken yet, with the number of its operation.
+    ghost untaken: { Self → Option (ℕ × Outcome) };
+
+    /// Whether it is free for an operation.
+    ghost is_free: { Self → Bool };
+
+    /// The machine of a node before its first event. Refused with `Memory` alone.
+    fn new(alloc: Global, topology: &Topology, node: Node) -> Result<Self, Fault>
+        requires { node < node_count topology.now }
+        ensures came { IfOk result (λ m. came_from topology.now node [] (λ to. []) [] m) }
+        ensures untaken { IfOk result (λ m. untaken m ≡ None) }
+        ensures memory { IfErr result (λ e. e ≡ Fault.Memory) };
+
+    /// Does one event, and puts what it sends at the end of the outbox. The answer of a submission is the number of its
+    /// operation, from 1. A refusal changes nothing, and hands the event back.
+    fn step(&mut self, event: Event, outbox: &mut Outbox) -> Result<Option<u64>, (Fault, Event)>
+        requires { untaken self.old ≡ None }
+        ensures came { (top : TopologyValue) (node : ℕ) (journal : List Event) (before : ℕ → List Envelope) (outcomes : List (ℕ × Outcome))
+            → came_from top node journal (followed_by before outbox.old.sent) outcomes self.old
+            → OnOk result (came_from top node (journal ++ event ∷ []) (followed_by before outbox.new.sent) outcomes self.new) }
+        ensures number { (top : TopologyValue) (node : ℕ) (journal : List Event) (sent : ℕ → List Envelope) (outcomes : List (ℕ × Outcome))
+            → came_from top node journal sent outcomes self.old → IfOk result (λ number. number ≡ number_after journal event) }
+        ensures same { (top : TopologyValue) (node : ℕ) (journal : List Event) (sent : ℕ → List Envelope) (outcomes : List (ℕ × Outcome))
+            → came_from top node journal sent outcomes self.old → OnErr result (came_from top node journal sent outcomes self.new) }
+        ensures none { OnErr result (untaken self.new ≡ None) }
+        ensures free { OnErr result (is_free self.new ≡ is_free self.old) }
+        ensures unsent { OnErr result (outbox.new.sent ≡ outbox.old.sent) }
+        ensures back { IfErr result (λ e. e.1 ≡ event) };
+
+    /// The outcome that wasn't taken yet, with the number of its operation.
+    fn take_answer(&mut self) -> Option<(u64, Outcome)>
+        ensures answer { result ≡ untaken self.old }
+        ensures taken { untaken self.new ≡ None }
+        ensures free { is_free self.new ≡ is_free self.old }
+        ensures came { (top : TopologyValue) (node : ℕ) (journal : List Event) (sent : ℕ → List Envelope) (outcomes : List (ℕ × Outcome))
+            → came_from top node journal sent outcomes self.old
+            → came_from top node journal sent (outcomes ++ option_to_list (untaken self.old)) self.new };
+
+    /// Whether it is free for an operation.
+    fn free(&self) -> bool
+        ensures { result ≡ is_free self.now };
+
+    /// Ends it.
+    fn close(self);
+}

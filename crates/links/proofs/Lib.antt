@@ -1,0 +1,4 @@
+pub mod Received
+pub mod Ranges
+pub mod Laid
+pub mod Rows

@@ -1,0 +1,14 @@
+use Rattle.std.proofs.Common.{rules}
+use Rattle.links.specs.Links as spec
+use Rattle.links.proofs.Rows.{rows_out, rows_in}
+use Rattle.links.proofs.laying.mesh.Goals as goal
+
+pub loop-from-preserved : goal.loop-from-preserved
+loop-from-preserved c =
+    let top = c.args.topology.now in
+    let inv = c.loop-from.invariant in
+    record {
+      count = search rules;
+      outgoing = λ node. rows_out (spec.reached_from top) c.loop-from.from c.args.capacity node _ _ (inv.outgoing node) (c.in_ok-lay_from.ensures.outgoing node);
+      incoming = λ node lt. rows_in (λ from. spec.may_exchange top from node) c.loop-from.from node _ _ (inv.incoming node lt) (c.in_ok-lay_from.ensures.incoming node lt);
+    }
