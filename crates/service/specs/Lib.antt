@@ -1,3 +1,0 @@
-pub mod Port
-pub mod Meaning
-pub mod Connections
