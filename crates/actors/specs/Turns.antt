@@ -68,3 +68,12 @@ IsTurn (Submitted number) old new =
     (o : Op) × HasDone (event.Submit o) old new × (old.backlog ≡ event.Submit o ∷ new.backlog) × (number ≡ submissions new.journal)
 IsTurn Collected old new = (time : ℕ) × HasDone (event.Collect time) old new × (old.backlog ≡ event.Collect time ∷ new.backlog)
 IsTurn (Refused fault) old new = HasRefused fault old new
+
+-- it did an item of the backlog
+abbrev pub IsWork : Turn → Type 0
+IsWork Idle = ⊥
+IsWork Moved = ⊥
+IsWork Handled = ⊥
+IsWork (Submitted number) = Unit {0}
+IsWork Collected = Unit {0}
+IsWork (Refused fault) = Unit {0}
