@@ -1,6 +1,6 @@
 //! Workers that go round the seats.
-ghost use Rattle.std.specs.Prelude.{◌≡◌, ◌<◌, ◌≤◌, length, IfOk, IfErr};
-ghost use Rattle.actors.specs.Reports.{IsWithin, IsReport};
+ghost use Rattle.std.specs.Prelude.{◌≡◌, ◌<◌, ◌≤◌, length, All, IfOk, IfErr};
+ghost use Rattle.actors.specs.Reports.{IsWithin};
 
 use crate::machine::Machine;
 use crate::report::{End, Report, Shift};
@@ -48,7 +48,7 @@ fn one_turn<M: Machine, G: Gate, R: Wait>(
     (turn, done)
 }
 
-/// Goes round the seats, from the one that is the worker's.
+/// Goes round the seats, from the one that is the worker's. Without a seat there is nothing to do.
 fn go_round<M: Machine, G: Gate, R: Wait>(
     rt: &R,
     seats: &[Mutex<Seat<M>>],
@@ -56,9 +56,14 @@ fn go_round<M: Machine, G: Gate, R: Wait>(
     turns: u64,
     gate: &G,
 ) -> Shift
-    requires { 0 < length seats.now }
     ensures { IsWithin turns result }
 {
+    if seats.is_empty() {
+        return Shift {
+            turns: 0,
+            end: End::Rest,
+        };
+    }
     let mut place = worker % seats.len();
     let mut taken = 0;
     let mut resting = 0;
@@ -108,18 +113,13 @@ impl Pool {
     ) -> Result<Report, Fault>
         requires workers { (0 < workers) × (workers ≤ 16) }
         requires seats { 0 < length seats.now }
-        ensures ok { IfOk result (λ report. IsReport workers turns report.shifts.items) }
+        ensures count { IfOk result (λ report. length report.shifts.items ≡ workers) }
+        ensures each { IfOk result (λ report. All (IsWithin turns) report.shifts.items) }
         ensures memory { IfErr result (λ e. e ≡ Fault.Memory) }
     {
-        let shifts = thread::map_indices(
-            rt,
-            alloc,
-            workers,
-            &|worker: usize| -> Shift
-                requires { 0 < length seats.now }
-                ensures { IsWithin turns result }
-            { go_round(rt, seats, worker, turns, gate) },
-        )?;
+        let shifts = thread::map_indices(rt, alloc, workers, &|worker: usize| {
+            go_round(rt, seats, worker, turns, gate)
+        })?;
         Ok(Report { shifts })
     }
 }
