@@ -117,9 +117,14 @@ impl Pool {
         ensures each { IfOk result (λ report. All (IsWithin turns) report.shifts.items) }
         ensures memory { IfErr result (λ e. e ≡ Fault.Memory) }
     {
-        let shifts = thread::map_indices(rt, alloc, workers, &|worker: usize| {
-            go_round(rt, seats, worker, turns, gate)
-        })?;
+        let shifts = thread::map_indices(
+            rt,
+            alloc,
+            workers,
+            &|worker: usize| -> Shift
+                ensures { IsWithin turns result }
+            { go_round(rt, seats, worker, turns, gate) },
+        )?;
         Ok(Report { shifts })
     }
 }
