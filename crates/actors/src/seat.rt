@@ -1,10 +1,9 @@
 //! Machines in their seats.
-ghost use Rattle.std.specs.Prelude.{◌≡◌, ◌≤◌, ◌<◌, ◌+◌, ◌++◌, ◌∷◌, [], ◌⊎◌, ℕ, List, length, Some, None, Ok, Err, All, false, IsSome, IfOk, OnOk, IfErr, OnErr};
-ghost use Rattle.messages.specs.declared.envelope.Envelope.{Envelope};
+ghost use Rattle.std.specs.Prelude.{◌≡◌, ◌≤◌, ◌<◌, ◌++◌, ◌==◌, ◌&&◌, ◌⊎◌, length, None, All, false, IsSome, IfOk, OnOk, IfErr, OnErr};
 ghost use Rattle.messages.specs.declared.event.Event.TheVariants as event;
 ghost use Rattle.messages.specs.Topology.{node_count};
-ghost use Rattle.actors.specs.Journals.{submissions, number_after, IsOwn};
-ghost use Rattle.actors.specs.Seats.{SeatValue, IsApart, rings, through};
+ghost use Rattle.actors.specs.Journals.{submissions, number_after, followed_by, IsOwn};
+ghost use Rattle.actors.specs.Seats.{Keeps, rings, through};
 ghost use Rattle.actors.specs.Turns.{IsTurn, HasSame, HasDone, IsWork, turn_of};
 ghost use Rattle.actors.specs.Opening.{AreItsRings, new_seat};
 ghost use Rattle.actors.specs.declared.turn.Turn.TheVariants.{Handled};
@@ -104,9 +103,10 @@ impl<M: Machine> Seat<M> {
         self.node
     }
 
-    /// Its events, oldest first.
+    /// Its events, oldest first. The machine came from them, what they sent is on its way, and what was received is in them.
     pub fn journal(&self) -> &[Event]
-        ensures { result.now ≡ self.now.journal }
+        ensures value { result.now ≡ self.now.journal }
+        ensures keeps { (machine : M) × Keeps M.came_from M.untaken machine self.now }
     {
         self.recorded.journal.as_slice()
     }
@@ -135,6 +135,7 @@ impl<M: Machine> Seat<M> {
 
     /// Whether nothing of its own is left to do: its machine is free, and its backlog is empty.
     pub fn is_done(&self) -> bool
+        ensures { result ≡ ((length self.now.backlog == 0) && self.now.free) }
     {
         self.backlog.is_empty() && self.is_free()
     }
@@ -166,7 +167,6 @@ impl<M: Machine> Seat<M> {
         ensures backlog { self.new.backlog ≡ self.old.backlog }
         ensures err { OnErr result (self.new ≡ self.old) }
         ensures full { self.old.limit ≤ length self.old.journal → IfErr result (λ e. e.0 ≡ Fault.JournalFull) }
-        ensures room { OnOk result (length self.old.journal < self.old.limit) }
         ensures back { IfErr result (λ e. e.1 ≡ op) }
     {
         match self.own(Event::Submit(op)) {
@@ -186,7 +186,6 @@ impl<M: Machine> Seat<M> {
         ensures backlog { self.new.backlog ≡ self.old.backlog }
         ensures err { OnErr result (self.new ≡ self.old) }
         ensures full { self.old.limit ≤ length self.old.journal → IfErr result (λ e. e ≡ Fault.JournalFull) }
-        ensures room { OnOk result (length self.old.journal < self.old.limit) }
     {
         match self.own(Event::Collect(time)) {
             Ok(_) => Ok(()),
@@ -206,7 +205,6 @@ impl<M: Machine> Seat<M> {
         ensures accepted { self.new.accepted ≡ submissions self.new.journal }
         ensures err { OnErr result (self.new ≡ self.old) }
         ensures full { self.old.limit ≤ length self.old.journal → IfErr result (λ e. e.0 ≡ Fault.JournalFull) }
-        ensures room { OnOk result (length self.old.journal < self.old.limit) }
         ensures back { IfErr result (λ e. e.1 ≡ event) }
     {
         self.recorded.happen(event)
@@ -236,7 +234,6 @@ impl<M: Machine> Seat<M> {
         ensures ok { OnOk result (IsTurn Handled self.old self.new) }
         ensures err { OnErr result (self.new ≡ self.old) }
         ensures full { self.old.limit ≤ length self.old.journal → IfErr result (λ e. e ≡ Fault.JournalFull) }
-        ensures room { OnOk result (length self.old.journal < self.old.limit) }
     {
         let Some(envelope) = self.held.take() else {
             unreachable!()
@@ -256,8 +253,8 @@ impl<M: Machine> Seat<M> {
         ensures ok { IfOk result (λ turn. IsTurn turn self.old self.new) }
         ensures work { IfOk result IsWork }
         ensures err { OnErr result (self.new ≡ self.old) }
+        ensures full { self.old.limit ≤ length self.old.journal → IfErr result (λ e. e ≡ Fault.JournalFull) }
     {
-        self.refusals.reserve(1)?;
         let Some(event) = self.backlog.pop_front() else {
             unreachable!()
         };
@@ -267,12 +264,18 @@ impl<M: Machine> Seat<M> {
                 self.backlog.push_front_reserved(event);
                 Err(fault)
             }
-            Err((fault, event)) => {
-                self.refusals
-                    .push_reserved((self.recorded.accepted, fault));
-                let_go(event);
-                Ok(Turn::Refused(fault))
-            }
+            Err((fault, event)) => match self.refusals.reserve(1) {
+                Ok(()) => {
+                    self.refusals
+                        .push_reserved((self.recorded.accepted, fault));
+                    let_go(event);
+                    Ok(Turn::Refused(fault))
+                }
+                Err(_) => {
+                    self.backlog.push_front_reserved(event);
+                    Err(Fault::Memory)
+                }
+            },
         }
     }
 
@@ -284,6 +287,7 @@ impl<M: Machine> Seat<M> {
     pub fn turn(&mut self) -> Result<Turn, Fault>
         ensures ok { IfOk result (λ turn. IsTurn turn self.old self.new) }
         ensures err { OnErr result (HasSame self.old self.new) }
+        ensures full { self.old.limit ≤ length self.old.journal → IfErr result (λ e. (e ≡ Fault.JournalFull) ⊎ (e ≡ Fault.Memory)) }
     {
         let moved = self.flush()?;
         self.take_in();
@@ -298,7 +302,10 @@ impl<M: Machine> Seat<M> {
     }
 
     /// Ends the seat, and hands back its machine.
-    pub fn close(self) -> M {
+    pub fn close(self) -> M
+        ensures came { M.came_from self.topology self.node self.journal (followed_by (through self.outgoing) self.outbox) self.outcomes result }
+        ensures taken { M.untaken result ≡ None }
+    {
         let Seat {
             topology: _,
             node: _,
