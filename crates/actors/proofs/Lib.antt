@@ -4,3 +4,5 @@ pub mod Lanes
 pub mod Recording
 pub mod Receiving
 pub mod Seating
+pub mod Working
+pub mod Beginning

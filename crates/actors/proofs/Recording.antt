@@ -12,7 +12,7 @@ use Rattle.messages.specs.Topology.{TopologyValue}
 use Rattle.actors.specs.Journals.{op_in, submissions, number_after, followed_by}
 use Rattle.actors.specs.Machines.{CameFrom, IsRecorded}
 
-counted : (journal : List Event) (event : Event) → submissions (journal ++ event ∷ []) ≡ unwrap_or (number_after journal event) (submissions journal)
+pub counted : (journal : List Event) (event : Event) → submissions (journal ++ event ∷ []) ≡ unwrap_or (number_after journal event) (submissions journal)
 counted journal (Submit o) = rw (filter_map-append op_in journal (Submit o ∷ [])) (length-append (filter_map op_in journal) (o ∷ []))
 counted journal (Handle e) = rw (filter_map-append op_in journal (Handle e ∷ []), append-nil) refl
 counted journal (Collect time) = rw (filter_map-append op_in journal (Collect time ∷ []), append-nil) refl

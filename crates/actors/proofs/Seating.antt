@@ -1,6 +1,6 @@
 -- What a seat keeps, as it changes.
-use Rattle.std.proofs.Common.{◌≡◌, ◌≤◌, ℕ, ◌+◌, ◌<◌, ◌==◌, Bool, true, false, cond, List, [], ◌∷◌, ◌++◌, length, Option, Some, None, refl, ap, sym, subst, ◌∙◌, append_assoc, arith}
-use Rattle.std.specs.Prelude.{All, filter_map, option_to_list}
+use Rattle.std.proofs.Common.{◌≡◌, ◌≤◌, ℕ, zero, suc, ◌+◌, ◌<◌, ◌==◌, Bool, true, false, cond, List, [], ◌∷◌, ◌++◌, length, Option, Some, None, refl, ap, sym, subst, ◌∙◌, append_assoc, arith}
+use Rattle.std.specs.Prelude.{All, filter_map, option_to_list, Result, Ok, Err, OnOk, OnErr}
 use mathlib.Core.Path.{fun_ext}
 use Rattle.std.specs.List.{slice_get}
 use Rattle.std.proofs.lemmas.List.{append-nil}
@@ -12,7 +12,8 @@ use Rattle.messages.specs.declared.event.Event.TheVariants.{Submit, Handle, Coll
 use Rattle.messages.specs.Actors.{envelope_of}
 use Rattle.messages.specs.Topology.{TopologyValue}
 use Rattle.links.specs.Links.{InLinkValue}
-use Rattle.actors.specs.Journals.{IsOwn, from_node, receipts_from, held_from, followed_by}
+use Rattle.actors.specs.Journals.{IsOwn, IsBeginning, from_node, receipts_from, held_from, followed_by}
+use Rattle.actors.specs.Turns.{HasDone}
 use Rattle.actors.specs.Machines.{CameFrom, IsRecorded}
 use Rattle.actors.specs.Seats.{LaneValue, SeatValue, through, ends_of, sources_of, IsApart, Received, Keeps}
 
@@ -68,6 +69,16 @@ module _ {M : Type 0} (came_from : CameFrom M) (untaken : M → Option (ℕ × O
     own = backlog;
   }
 
+  -- a call did an event that no message brings, or nothing
+  pub kept_did : {A B : Type 0} (r : Result A B) (machine next : M) (d n : SeatValue) (event : Event) → Keeps came_from untaken machine d → IsOwn event
+      → OnOk r (IsRecorded came_from untaken n.topology n.node (through n.outgoing) next n.journal n.outcomes n.outbox n.accepted)
+      → OnErr r (IsRecorded came_from untaken n.topology n.node (through n.outgoing) next n.journal n.outcomes n.outbox n.accepted)
+      → OnOk r (n.journal ≡ d.journal ++ event ∷ []) → OnErr r ((n.journal ≡ d.journal) × (n.outcomes ≡ d.outcomes) × (n.outbox ≡ d.outbox) × (n.accepted ≡ d.accepted))
+      → n.incoming ≡ d.incoming → n.held ≡ d.held → n.outgoing ≡ d.outgoing → All IsOwn n.backlog
+      → Keeps came_from untaken next n
+  kept_did (Ok a) machine next d n event kept own done undone journal same incoming held outgoing backlog = kept_own machine next d n event kept own done journal incoming held outgoing backlog
+  kept_did (Err b) machine next d n event kept own done undone journal same incoming held outgoing backlog = kept_same machine next d n kept undone same.0 incoming held outgoing backlog
+
   -- an envelope may have been taken from a ring
   pub kept_taken : (machine : M) (d n : SeatValue) → Keeps came_from untaken machine d
       → IsRecorded came_from untaken n.topology n.node (through n.outgoing) machine n.journal n.outcomes n.outbox n.accepted
@@ -91,3 +102,22 @@ module _ {M : Type 0} (came_from : CameFrom M) (untaken : M → Option (ℕ × O
     taken = was.taken;
     accepted = was.accepted;
   }
+
+pub has_done : {A B : Type 0} (r : Result A B) (d n : SeatValue) (event : Event)
+    → OnOk r (length d.journal < d.limit) → OnOk r (n.journal ≡ d.journal ++ event ∷ []) → OnOk r (IsBeginning d.outcomes n.outcomes) → n.refusals ≡ d.refusals → n.topology ≡ d.topology → n.node ≡ d.node → n.limit ≡ d.limit
+    → OnOk r (HasDone event d n)
+has_done (Ok a) d n event room journal outcomes refusals topology node limit =
+    record { room = room; journal = journal; outcomes = outcomes; refusals = refusals; topology = topology; node = node; limit = limit }
+has_done (Err b) d n event room journal outcomes refusals topology node limit = tt
+
+pub own_first : (events rest : List Event) (event : Event) → events ≡ event ∷ rest → All IsOwn events → IsOwn event
+own_first events rest event is own = first (subst (λ (es : List Event). All IsOwn es) is own)
+  where
+    first : All IsOwn (event ∷ rest) → IsOwn event
+    first all = all 0 event (omega arith)
+
+pub own_rest : (events rest : List Event) (event : Event) → events ≡ event ∷ rest → All IsOwn events → All IsOwn rest
+own_rest events rest event is own = others (subst (λ (es : List Event). All IsOwn es) is own)
+  where
+    others : All IsOwn (event ∷ rest) → All IsOwn rest
+    others all k d lt = all (suc k) d (omega arith)

@@ -1,5 +1,5 @@
 -- What a turn of a seat does.
-use Rattle.std.specs.Prelude.{◌≡◌, ◌≤◌, ℕ, ◌⊎◌, true, false, List, [], ◌∷◌, ◌++◌, Option, Some, None}
+use Rattle.std.specs.Prelude.{◌≡◌, ◌≤◌, ◌<◌, ℕ, ◌⊎◌, true, false, List, [], ◌∷◌, ◌++◌, length, Option, Some, None}
 use Rattle.logical_time.specs.declared.fault.Fault.{Fault}
 use Rattle.logical_time.specs.Fault.{number_of}
 use Rattle.messages.specs.declared.envelope.Envelope.{Envelope}
@@ -27,8 +27,9 @@ pub record HasSame (old new : SeatValue) : Type 0 where
   pub backlog : new.backlog ≡ old.backlog
   pub free : new.free ≡ old.free
 
--- This one event was added to the journal; outcomes may have been added.
+-- This one event was added to the journal, where there was room for it; outcomes may have been added.
 pub record HasDone (event : Event) (old new : SeatValue) : Type 0 where
+  pub room : length old.journal < old.limit
   pub journal : new.journal ≡ old.journal ++ event ∷ []
   pub outcomes : IsBeginning old.outcomes new.outcomes
   pub refusals : new.refusals ≡ old.refusals
@@ -68,3 +69,12 @@ IsTurn (Submitted number) old new =
     (o : Op) × HasDone (event.Submit o) old new × (old.backlog ≡ event.Submit o ∷ new.backlog) × (number ≡ submissions new.journal)
 IsTurn Collected old new = (time : ℕ) × HasDone (event.Collect time) old new × (old.backlog ≡ event.Collect time ∷ new.backlog)
 IsTurn (Refused fault) old new = HasRefused fault old new
+
+-- it did an item of the backlog
+abbrev pub IsWork : Turn → Type 0
+IsWork Idle = ⊥
+IsWork Moved = ⊥
+IsWork Handled = ⊥
+IsWork (Submitted number) = Unit {0}
+IsWork Collected = Unit {0}
+IsWork (Refused fault) = Unit {0}

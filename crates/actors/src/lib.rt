@@ -8,14 +8,14 @@
 mod incoming;
 mod lane;
 mod machine;
-//mod pool;
+mod pool;
 mod recorded;
 mod report;
-//mod seat;
+mod seat;
 mod turn;
 
 pub use machine::Machine;
-//pub use pool::{Gate, Open, Pool};
+pub use pool::{Gate, Open, Pool};
 pub use report::{End, Report, Shift};
-//pub use seat::Seat;
+pub use seat::Seat;
 pub use turn::Turn;

@@ -1,0 +1,81 @@
+-- A seat before its first event keeps what seats keep.
+use Rattle.std.proofs.Common.{◌≡◌, ℕ, zero, suc, ◌+◌, ◌≤◌, ◌<◌, ◌==◌, Bool, true, false, cond, List, [], ◌∷◌, ◌++◌, length, map, Option, Some, None, refl, ap, sym, subst, ◌∙◌, inl, inr, arith}
+use Rattle.std.specs.Prelude.{filter, All}
+use Rattle.std.specs.List.{slice_get, range_with_len}
+use Rattle.messages.specs.declared.envelope.Envelope.{Envelope}
+use Rattle.messages.specs.declared.outcome.Outcome.{Outcome}
+use Rattle.messages.specs.declared.event.Event.{Event}
+use Rattle.messages.specs.Topology.{TopologyValue, node_count}
+use Rattle.links.specs.Links.{OutLinkValue, InLinkValue, may_exchange, reached_from, reaching}
+use Rattle.links.specs.Mesh.{new_out_link, new_in_link}
+use Rattle.links.specs.declared.ends.Ends.{Ends}
+use Rattle.actors.specs.Journals.{IsOwn, receipts_from, held_from, followed_by}
+use Rattle.actors.specs.Machines.{CameFrom, IsRecorded}
+use Rattle.actors.specs.Seats.{LaneValue, SeatValue, through, ends_of, sources_of, IsApart, Received, Keeps}
+use Rattle.actors.specs.Opening.{new_lane, AreItsRings}
+use Rattle.actors.proofs.Seating.{recorded_moved}
+
+both_empty : (b : Bool) (xs : List Envelope) → xs ≡ [] → cond b [] xs ≡ []
+both_empty true xs e = refl
+both_empty false xs e = e
+
+quiet : (capacity : ℕ) (ns : List ℕ) (n : ℕ) → through (map new_lane (map (new_out_link capacity) ns)) n ≡ []
+quiet capacity [] n = refl
+quiet capacity (m ∷ ns) n = both_empty (m == n) _ (quiet capacity ns n)
+
+same_ends : (capacity : ℕ) (ns : List ℕ) → ends_of (map new_lane (map (new_out_link capacity) ns)) ≡ ns
+same_ends capacity [] = refl
+same_ends capacity (n ∷ ns) = ap (λ (ms : List ℕ). n ∷ ms) (same_ends capacity ns)
+
+same_sources : (node : ℕ) (ns : List ℕ) → sources_of (map (new_in_link node) ns) ≡ ns
+same_sources node [] = refl
+same_sources node (n ∷ ns) = ap (λ (ms : List ℕ). n ∷ ms) (same_sources node ns)
+
+nothing_taken : (node : ℕ) (ns : List ℕ) (k : ℕ) (l : InLinkValue) → slice_get (map (new_in_link node) ns) k ≡ Some l → l.received ≡ []
+nothing_taken node [] k l at = absurd cc
+nothing_taken node (n ∷ ns) zero l at = let is : new_in_link node n ≡ l = cc in ap (λ (x : InLinkValue). x.received) (sym is)
+nothing_taken node (n ∷ ns) (suc k) l at = nothing_taken node ns k l at
+
+at_least : (p : ℕ → Bool) (n a k m : ℕ) → slice_get (filter p (range_with_len a n)) k ≡ Some m → a ≤ m
+at_least p zero a k m at = absurd cc
+at_least p (suc n) a k m at = by (p a) k at (λ j here. at_least p n (a + 1) j m here)
+  where
+    by : (b : Bool) (k : ℕ) → slice_get (cond b (a ∷ filter p (range_with_len (a + 1) n)) (filter p (range_with_len (a + 1) n))) k ≡ Some m
+        → ((j : ℕ) → slice_get (filter p (range_with_len (a + 1) n)) j ≡ Some m → a + 1 ≤ m) → a ≤ m
+    by true zero at rest = let is : a ≡ m = cc in omega arith
+    by true (suc k) at rest = let le = rest k at in omega arith
+    by false k at rest = let le = rest k at in omega arith
+
+apart_cons : (a : ℕ) (ns : List ℕ) → ((k m : ℕ) → slice_get ns k ≡ Some m → a + 1 ≤ m) → IsApart ns → IsApart (a ∷ ns)
+apart_cons a ns above apart zero zero m at_j at_k = refl
+apart_cons a ns above apart zero (suc k) m at_j at_k = absurd (let is : a ≡ m = cc in let le = above k m at_k in omega arith)
+apart_cons a ns above apart (suc j) zero m at_j at_k = absurd (let is : a ≡ m = cc in let le = above j m at_j in omega arith)
+apart_cons a ns above apart (suc j) (suc k) m at_j at_k = ap suc (apart j k m at_j at_k)
+
+range_apart : (p : ℕ → Bool) (n a : ℕ) → IsApart (filter p (range_with_len a n))
+range_apart p zero a = λ j k m at_j at_k. absurd cc
+range_apart p (suc n) a = by (p a) (λ k m at. at_least p n (a + 1) k m at) (range_apart p n (a + 1))
+  where
+    by : (b : Bool) → ((k m : ℕ) → slice_get (filter p (range_with_len (a + 1) n)) k ≡ Some m → a + 1 ≤ m) → IsApart (filter p (range_with_len (a + 1) n))
+        → IsApart (cond b (a ∷ filter p (range_with_len (a + 1) n)) (filter p (range_with_len (a + 1) n)))
+    by true above rest = apart_cons a _ above rest
+    by false above rest = rest
+
+pub opened : {M : Type 0} (came_from : CameFrom M) (untaken : M → Option (ℕ × Outcome)) (machine : M) (d : SeatValue) (ends : Ends)
+    → IsRecorded came_from untaken d.topology d.node (λ to. []) machine [] [] [] 0 → AreItsRings d.topology d.node ends
+    → d.journal ≡ [] → d.outcomes ≡ [] → d.outbox ≡ [] → d.accepted ≡ 0 → d.backlog ≡ [] → d.outgoing ≡ map new_lane ends.outgoing.items → d.incoming ≡ ends.incoming.items → d.held ≡ None
+    → Keeps came_from untaken machine d
+opened came_from untaken machine d ends recorded its journal outcomes outbox accepted backlog outgoing incoming held =
+    let reached = reached_from d.topology d.node in
+    let out : d.outgoing ≡ map new_lane (map (new_out_link its.capacity) reached) = outgoing ∙ ap (λ ls. map new_lane ls) its.outgoing in
+    let into : d.incoming ≡ map (new_in_link d.node) (reaching d.topology d.node) = incoming ∙ its.incoming in
+    record {
+      recorded =
+          rw (journal, outcomes, outbox, accepted)
+            (recorded_moved came_from untaken d.topology d.node (λ to. []) (through d.outgoing) machine [] [] [] [] 0 recorded
+              (λ n. rw out (ap (λ xs. xs ++ []) (quiet its.capacity reached n))));
+      received = rw (journal, into, held) (λ k l at. nothing_taken d.node (reaching d.topology d.node) k l at);
+      ends = rw (out, same_ends its.capacity reached) (range_apart (λ to. may_exchange d.topology d.node to) (node_count d.topology) 0);
+      sources = rw (into, same_sources d.node (reaching d.topology d.node)) (range_apart (λ from. may_exchange d.topology from d.node) (node_count d.topology) 0);
+      own = rw backlog (λ k e lt. absurd (omega arith));
+    }

@@ -1,0 +1,31 @@
+-- What a turn answers, by what it did.
+use Rattle.std.proofs.Common.{◌≡◌, ℕ, ◌+◌, List, [], ◌∷◌, ◌++◌, Option, Some, None, refl, ap, sym, subst, ◌∙◌, arith}
+use Rattle.std.specs.Prelude.{◌⊎◌, false}
+use Rattle.std.specs.Option.{unwrap_or}
+use Rattle.messages.specs.declared.event.Event.{Event}
+use Rattle.messages.specs.declared.op.Op.{Op}
+use Rattle.messages.specs.declared.envelope.Envelope.{Envelope}
+use Rattle.messages.specs.declared.event.Event.TheVariants.{Submit, Handle, Collect}
+use Rattle.logical_time.specs.declared.fault.Fault.{Fault}
+use Rattle.links.specs.Links.{InLinkValue}
+use Rattle.actors.specs.Journals.{IsOwn, submissions, number_after}
+use Rattle.actors.specs.Seats.{LaneValue, SeatValue, rings}
+use Rattle.actors.specs.Turns.{IsTurn, IsWork, HasDone, HasSame, HasRested, HasRefused, turn_of}
+use Rattle.actors.specs.declared.turn.Turn.{Turn}
+use Rattle.actors.specs.declared.turn.Turn.TheVariants.{Idle, Moved, Handled, Submitted, Collected, Refused}
+use Rattle.actors.proofs.Recording.{counted}
+
+pub submitted : (journal next : List Event) (o : Op) (n : ℕ) → Some n ≡ Some (submissions journal + 1) → next ≡ journal ++ Submit o ∷ [] → n ≡ submissions next
+submitted journal next o n is more =
+    let same : n ≡ submissions journal + 1 = ap (λ m. unwrap_or m 0) is in
+    same ∙ sym (ap (λ j. submissions j) more ∙ counted journal (Submit o))
+
+pub worked : (event : Event) (number : Option ℕ) (t : Turn) (d n : SeatValue) → t ≡ turn_of number → number ≡ number_after d.journal event → IsOwn event → HasDone event d n
+    → d.backlog ≡ event ∷ n.backlog → IsTurn t d n
+worked (Submit o) number t d n is numbered own done off =
+    let turn : t ≡ Submitted (submissions d.journal + 1) = is ∙ ap turn_of numbered in
+    rw turn (o, done, off, sym (ap (λ j. submissions j) done.journal ∙ counted d.journal (Submit o)))
+worked (Handle e) number t d n is numbered own done off = absurd cc
+worked (Collect time) number t d n is numbered own done off =
+    let turn : t ≡ Collected = is ∙ ap turn_of numbered in
+    rw turn (time, done, off)

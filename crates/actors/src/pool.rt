@@ -1,0 +1,130 @@
+//! Workers that go round the seats.
+ghost use Rattle.std.specs.Prelude.{◌≡◌, ◌<◌, ◌≤◌, length, All, IfOk, IfErr};
+ghost use Rattle.actors.specs.Reports.{IsWithin};
+
+use crate::machine::Machine;
+use crate::report::{End, Report, Shift};
+use crate::seat::Seat;
+use crate::turn::Turn;
+use logical_time::{Fault, Node};
+use std::alloc::Global;
+use std::sync::{Mutex, Wait};
+use std::thread;
+use std::thread::Threads;
+
+/// What stands before and after each turn of a worker, while the seat's lock is held.
+pub trait Gate: Sync {
+    /// A worker is going to take a turn of the seat with this node.
+    fn before(&self, node: Node);
+
+    /// It took the turn, which did something, or was refused, or was idle.
+    fn after(&self, node: Node, did: bool);
+}
+
+/// The gate that does nothing.
+pub struct Open;
+
+impl Gate for Open {
+    fn before(&self, _node: Node) {}
+
+    fn after(&self, _node: Node, _did: bool) {}
+}
+
+/// Workers that go round the seats.
+pub struct Pool;
+
+/// Takes a turn of a seat, under its lock. The answer is the turn's, and whether nothing of its own was left to do.
+fn one_turn<M: Machine, G: Gate, R: Wait>(
+    rt: &R,
+    seat: &Mutex<Seat<M>>,
+    gate: &G,
+) -> (Result<Turn, Fault>, bool) {
+    let mut seat = seat.lock(rt);
+    gate.before(seat.node());
+    let turn = seat.turn();
+    let did = !matches!(turn, Ok(Turn::Idle));
+    let done = seat.is_done();
+    gate.after(seat.node(), did);
+    (turn, done)
+}
+
+/// Goes round the seats, from the one that is the worker's. Without a seat there is nothing to do.
+fn go_round<M: Machine, G: Gate, R: Wait>(
+    rt: &R,
+    seats: &[Mutex<Seat<M>>],
+    worker: usize,
+    turns: u64,
+    gate: &G,
+) -> Shift
+    ensures { IsWithin turns result }
+{
+    if seats.is_empty() {
+        return Shift {
+            turns: 0,
+            end: End::Rest,
+        };
+    }
+    let mut place = worker % seats.len();
+    let mut taken = 0;
+    let mut resting = 0;
+    while taken < turns {
+        let (turn, done) = one_turn(rt, &seats[place], gate);
+        taken += 1;
+        match turn {
+            Err(fault) => {
+                return Shift {
+                    turns: taken,
+                    end: End::Fault(fault),
+                };
+            }
+            Ok(Turn::Idle) if done => resting += 1,
+            Ok(_) => resting = 0,
+        }
+        if resting >= seats.len() {
+            return Shift {
+                turns: taken,
+                end: End::Rest,
+            };
+        }
+        place = if place + 1 < seats.len() {
+            place + 1
+        } else {
+            0
+        };
+    }
+    Shift {
+        turns: taken,
+        end: End::Turns,
+    }
+}
+
+impl Pool {
+    /// Runs the seats by so many workers, each for at most so many turns. A worker goes round the seats, worker w from the
+    /// seat `w mod seats` on: it locks one and takes a turn of it. It stops after its turns, after a turn that was refused,
+    /// or after a round in which all seats were idle, all machines free and all backlogs empty. It waits for locks. 1 to 16
+    /// workers and at least one seat are the caller's condition. Refused with `Memory` alone.
+    pub fn run<M: Machine + Send, G: Gate, R: Threads + Wait + Sync>(
+        rt: &R,
+        alloc: Global,
+        seats: &[Mutex<Seat<M>>],
+        workers: usize,
+        turns: u64,
+        gate: &G,
+    ) -> Result<Report, Fault>
+        requires workers { (0 < workers) × (workers ≤ 16) }
+        requires seats { 0 < length seats.now }
+        ensures count { IfOk result (λ report. length report.shifts.items ≡ workers) }
+        ensures each { IfOk result (λ report. All (IsWithin turns) report.shifts.items) }
+        ensures memory { IfErr result (λ e. e ≡ Fault.Memory) }
+    {
+        let shifts = thread::map_indices(
+            rt,
+            alloc,
+            workers,
+            &|worker: usize| -> Shift
+                ensures { IsWithin turns result }
+            { go_round(rt, seats, worker, turns, gate) },
+        )?;
+        Ok(Report { shifts })
+    }
+}

@@ -1,0 +1,322 @@
+//! Machines in their seats.
+ghost use Rattle.std.specs.Prelude.{◌≡◌, ◌≤◌, ◌<◌, ◌++◌, ◌==◌, ◌&&◌, ◌⊎◌, length, None, All, false, IsSome, IfOk, OnOk, IfErr, OnErr};
+ghost use Rattle.messages.specs.declared.event.Event.TheVariants as event;
+ghost use Rattle.messages.specs.Topology.{node_count};
+ghost use Rattle.actors.specs.Journals.{submissions, number_after, followed_by, IsOwn};
+ghost use Rattle.actors.specs.Seats.{Keeps, rings, through};
+ghost use Rattle.actors.specs.Turns.{IsTurn, HasSame, HasDone, IsWork, turn_of};
+ghost use Rattle.actors.specs.Opening.{AreItsRings, new_seat};
+ghost use Rattle.actors.specs.declared.turn.Turn.TheVariants.{Handled};
+
+use crate::incoming;
+use crate::lane;
+use crate::lane::Lane;
+use crate::machine::Machine;
+use crate::recorded::{Recorded, envelope_in, let_go, op_of};
+use crate::turn::Turn;
+use links::{Ends, InLink};
+use logical_time::{Fault, Node, Time};
+use messages::{Envelope, Event, Op, Outbox, Outcome, Topology};
+use std::alloc::Global;
+use std::collections::VecDeque;
+use std::marker::Model;
+
+/// The greatest number of a refusal of an operation for what it asks.
+const LAST_OF_REQUEST: u16 = 9;
+
+/// A machine with its journal, its backlog and its ends of the rings. It must be closed.
+pub struct Seat<M: Machine> {
+    topology: Topology,
+    node: Node,
+    recorded: Recorded<M>,
+    refusals: Vec<(u64, Fault)>,
+    backlog: VecDeque<Event>,
+    outgoing: Vec<Lane>,
+    incoming: Vec<InLink>,
+    next: usize,
+    held: Option<Envelope>,
+}
+
+impl<M: Machine> Model for Seat<M> {
+    ghost use Rattle.actors.specs.Seats.{SeatValue, Keeps};
+
+    ghost Value = { SeatValue };
+
+    ghost view = { λ s. record { topology = s.topology; node = s.node; limit = s.recorded.limit; free = M.is_free s.recorded.machine; journal = s.recorded.journal.items; outcomes = s.recorded.outcomes.items; accepted = s.recorded.accepted; refusals = s.refusals.items; backlog = s.backlog.items; outgoing = s.outgoing.items; outbox = s.recorded.outbox.sent; incoming = s.incoming.items; held = s.held } };
+
+    ghost invariant = { λ s. Keeps M.came_from M.untaken s.recorded.machine (record { topology = s.topology; node = s.node; limit = s.recorded.limit; free = M.is_free s.recorded.machine; journal = s.recorded.journal.items; outcomes = s.recorded.outcomes.items; accepted = s.recorded.accepted; refusals = s.refusals.items; backlog = s.backlog.items; outgoing = s.outgoing.items; outbox = s.recorded.outbox.sent; incoming = s.incoming.items; held = s.held }) };
+}
+
+/// What a turn answers whose event of the backlog got this number.
+fn done(number: Option<u64>) -> Turn
+    ensures { result ≡ turn_of number }
+{
+    match number {
+        Some(number) => Turn::Submitted(number),
+        None => Turn::Collected,
+    }
+}
+
+impl<M: Machine> Seat<M> {
+    /// The seat of the actor with a node, with all its rings, before its first event. Its journal may hold so many events.
+    /// Refused with `Memory` alone.
+    pub fn new(
+        alloc: Global,
+        topology: &Topology,
+        node: Node,
+        ends: Ends,
+        limit: usize,
+    ) -> Result<Seat<M>, Fault>
+        requires node { node < node_count topology.now }
+        requires rings { AreItsRings topology.now node ends }
+        ensures ok { IfOk result (λ s. s ≡ new_seat topology.now node limit s.free ends.outgoing.items ends.incoming.items) }
+        ensures memory { IfErr result (λ e. e ≡ Fault.Memory) }
+    {
+        let topology = topology.copied()?;
+        let Ends { outgoing, incoming } = ends;
+        let outgoing = lane::lanes_over(alloc, outgoing)?;
+        let recorded = Recorded::new(alloc, &topology, node, limit)?;
+        Ok(Seat {
+            topology,
+            node,
+            recorded,
+            refusals: Vec::new(alloc),
+            backlog: VecDeque::new(alloc),
+            outgoing,
+            incoming,
+            next: 0,
+            held: None,
+        })
+    }
+
+    /// Which actors there are.
+    pub fn topology(&self) -> &Topology
+        ensures { result.now ≡ self.now.topology }
+    {
+        &self.topology
+    }
+
+    /// The node of its actor.
+    pub fn node(&self) -> Node
+        ensures { result ≡ self.now.node }
+    {
+        self.node
+    }
+
+    /// Its events, oldest first. The machine came from them, what they sent is on its way, and what was received is in them.
+    pub fn journal(&self) -> &[Event]
+        ensures value { result.now ≡ self.now.journal }
+        ensures keeps { (machine : M) × Keeps M.came_from M.untaken machine self.now }
+    {
+        self.recorded.journal.as_slice()
+    }
+
+    /// The outcomes that its events gave, each with the number of its operation, oldest first.
+    pub fn outcomes(&self) -> &[(u64, Outcome)]
+        ensures { result.now ≡ self.now.outcomes }
+    {
+        self.recorded.outcomes.as_slice()
+    }
+
+    /// The operations of the backlog that were refused for what they ask, oldest first: how many were accepted before, and
+    /// the refusal.
+    pub fn refusals(&self) -> &[(u64, Fault)]
+        ensures { result.now ≡ self.now.refusals }
+    {
+        self.refusals.as_slice()
+    }
+
+    /// Whether its machine is free for an operation.
+    pub fn is_free(&self) -> bool
+        ensures { result ≡ self.now.free }
+    {
+        self.recorded.machine.free()
+    }
+
+    /// Whether nothing of its own is left to do: its machine is free, and its backlog is empty.
+    pub fn is_done(&self) -> bool
+        ensures { result ≡ ((length self.now.backlog == 0) && self.now.free) }
+    {
+        self.backlog.is_empty() && self.is_free()
+    }
+
+    /// Adds events to the backlog, in their order. That no message brings them, and that the actor is of their kind, is the
+    /// caller's condition. Refused with `Memory` alone, and then nothing changes, and they are handed back.
+    pub fn load(&mut self, events: Vec<Event>) -> Result<(), (Fault, Vec<Event>)>
+        requires { All IsOwn events.items }
+        ensures ok { OnOk result (self.new ≡ record self.old { backlog = self.old.backlog ++ events.items }) }
+        ensures err { OnErr result (self.new ≡ self.old) }
+        ensures back { IfErr result (λ e. (e.0 ≡ Fault.Memory) × (e.1.items ≡ events.items)) }
+    {
+        let mut more = VecDeque::from_vec(events);
+        match self.backlog.append(&mut more) {
+            Ok(()) => {
+                more.destroy_empty();
+                Ok(())
+            }
+            Err(_) => Err((Fault::Memory, more.into_vec())),
+        }
+    }
+
+    /// The machine accepts an operation, and answers its number. Refused with `JournalFull` before all else where the
+    /// journal is full, with `Memory`, and as the machine refuses it; then nothing changes, and the operation is handed
+    /// back.
+    pub fn submit(&mut self, op: Op) -> Result<u64, (Fault, Op)>
+        ensures ok { OnOk result (HasDone (event.Submit op) self.old self.new) }
+        ensures number { IfOk result (λ number. number ≡ submissions self.new.journal) }
+        ensures backlog { self.new.backlog ≡ self.old.backlog }
+        ensures err { OnErr result (self.new ≡ self.old) }
+        ensures full { self.old.limit ≤ length self.old.journal → IfErr result (λ e. e.0 ≡ Fault.JournalFull) }
+        ensures back { IfErr result (λ e. e.1 ≡ op) }
+    {
+        match self.own(Event::Submit(op)) {
+            Ok(Some(number)) => Ok(number),
+            Ok(None) => unreachable!(),
+            Err((fault, event)) => match op_of(event) {
+                Some(op) => Err((fault, op)),
+                None => unreachable!(),
+            },
+        }
+    }
+
+    /// The machine collects up to a time. Refused with `JournalFull` before all else where the journal is full, with
+    /// `Memory`, and as the machine refuses it; then nothing changes.
+    pub fn collect(&mut self, time: Time) -> Result<(), Fault>
+        ensures ok { OnOk result (HasDone (event.Collect time) self.old self.new) }
+        ensures backlog { self.new.backlog ≡ self.old.backlog }
+        ensures err { OnErr result (self.new ≡ self.old) }
+        ensures full { self.old.limit ≤ length self.old.journal → IfErr result (λ e. e ≡ Fault.JournalFull) }
+    {
+        match self.own(Event::Collect(time)) {
+            Ok(_) => Ok(()),
+            Err((fault, event)) => {
+                let_go(event);
+                Err(fault)
+            }
+        }
+    }
+
+    /// Does an event that no message brings. Refused as `Recorded::happen` refuses it.
+    fn own(&mut self, event: Event) -> Result<Option<u64>, (Fault, Event)>
+        requires { IsOwn event }
+        ensures ok { OnOk result (HasDone event self.old self.new) }
+        ensures number { IfOk result (λ number. number ≡ number_after self.old.journal event) }
+        ensures same { (self.new.backlog ≡ self.old.backlog) × (self.new.held ≡ self.old.held) }
+        ensures accepted { self.new.accepted ≡ submissions self.new.journal }
+        ensures err { OnErr result (self.new ≡ self.old) }
+        ensures full { self.old.limit ≤ length self.old.journal → IfErr result (λ e. e.0 ≡ Fault.JournalFull) }
+        ensures back { IfErr result (λ e. e.1 ≡ event) }
+    {
+        self.recorded.happen(event)
+    }
+
+    /// Moves what waits into the rings, each ring's in order; a full ring holds back its own alone. Whether an envelope
+    /// went into a ring. Refused with `Memory` alone.
+    fn flush(&mut self) -> Result<bool, Fault>
+        ensures same { self.new ≡ record self.old { outgoing = self.new.outgoing; outbox = self.new.outbox } }
+        ensures still { IfOk result (λ moved. moved ≡ false → rings self.new.outgoing ≡ rings self.old.outgoing) }
+        ensures memory { IfErr result (λ e. e ≡ Fault.Memory) }
+    {
+        lane::sort(&mut self.recorded.outbox, &mut self.outgoing)?;
+        Ok(lane::flush(&mut self.outgoing))
+    }
+
+    /// Takes an envelope from a ring, if none is held back.
+    fn take_in(&mut self)
+        ensures { self.new ≡ record self.old { incoming = self.new.incoming; held = self.new.held } }
+    {
+        incoming::refill(&mut self.held, &mut self.incoming, &mut self.next);
+    }
+
+    /// Handles the envelope that is held, or goes on holding it back.
+    fn handle(&mut self) -> Result<(), Fault>
+        requires { IsSome self.old.held }
+        ensures ok { OnOk result (IsTurn Handled self.old self.new) }
+        ensures err { OnErr result (self.new ≡ self.old) }
+        ensures full { self.old.limit ≤ length self.old.journal → IfErr result (λ e. e ≡ Fault.JournalFull) }
+    {
+        let Some(envelope) = self.held.take() else {
+            unreachable!()
+        };
+        match self.recorded.happen(Event::Handle(envelope)) {
+            Ok(_) => Ok(()),
+            Err((fault, event)) => {
+                incoming::hold(&mut self.held, envelope_in(event));
+                Err(fault)
+            }
+        }
+    }
+
+    /// Does the first item of the backlog. Where it is refused for what it asks, it is taken off; else it stays.
+    fn work(&mut self) -> Result<Turn, Fault>
+        requires { 0 < length self.old.backlog }
+        ensures ok { IfOk result (λ turn. IsTurn turn self.old self.new) }
+        ensures work { IfOk result IsWork }
+        ensures err { OnErr result (self.new ≡ self.old) }
+        ensures full { self.old.limit ≤ length self.old.journal → IfErr result (λ e. e ≡ Fault.JournalFull) }
+    {
+        let Some(event) = self.backlog.pop_front() else {
+            unreachable!()
+        };
+        match self.recorded.happen(event) {
+            Ok(number) => Ok(done(number)),
+            Err((fault, event)) if fault.number() > LAST_OF_REQUEST => {
+                self.backlog.push_front_reserved(event);
+                Err(fault)
+            }
+            Err((fault, event)) => match self.refusals.reserve(1) {
+                Ok(()) => {
+                    self.refusals
+                        .push_reserved((self.recorded.accepted, fault));
+                    let_go(event);
+                    Ok(Turn::Refused(fault))
+                }
+                Err(_) => {
+                    self.backlog.push_front_reserved(event);
+                    Err(Fault::Memory)
+                }
+            },
+        }
+    }
+
+    /// Moves what waits into the rings, each ring's in order; a full ring holds back its own alone. Then handles one envelope
+    /// if one is there, looking at the rings in turn; else does the first item of the backlog, if the machine is free. An
+    /// envelope that was refused is the next one to be handled. Refused with `JournalFull` before all else where there is
+    /// an event to do and the journal is full, with `Memory`, and as the machine refuses the event; then waiting sends may
+    /// have moved. Costs what its event costs, the look at the rings, and what goes into them.
+    pub fn turn(&mut self) -> Result<Turn, Fault>
+        ensures ok { IfOk result (λ turn. IsTurn turn self.old self.new) }
+        ensures err { OnErr result (HasSame self.old self.new) }
+        ensures full { self.old.limit ≤ length self.old.journal → IfErr result (λ e. (e ≡ Fault.JournalFull) ⊎ (e ≡ Fault.Memory)) }
+    {
+        let moved = self.flush()?;
+        self.take_in();
+        if self.held.is_some() {
+            self.handle()?;
+            return Ok(Turn::Handled);
+        }
+        if !self.backlog.is_empty() && self.is_free() {
+            return self.work();
+        }
+        Ok(if moved { Turn::Moved } else { Turn::Idle })
+    }
+
+    /// Ends the seat, and hands back its machine.
+    pub fn close(self) -> M
+        ensures came { M.came_from self.topology self.node self.journal (followed_by (through self.outgoing) self.outbox) self.outcomes result }
+        ensures taken { M.untaken result ≡ None }
+    {
+        let Seat {
+            topology: _,
+            node: _,
+            recorded,
+            refusals: _,
+            backlog: _,
+            outgoing: _,
+            incoming: _,
+            next: _,
+            held: _,
+        } = self;
+        recorded.close()
+    }
+}
