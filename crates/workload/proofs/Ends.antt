@@ -1,7 +1,7 @@
 -- What ends a script: a clock that is spent, or an event that names what isn't there.
-use Rattle.std.proofs.Common.{◌≡◌, ◌≢◌, ℕ, List, [], ◌∷◌, Option, Some, None, Result, Ok, Err, ◌⊎◌, inl, inr, refl, ap}
+use Rattle.std.proofs.Common.{◌≡◌, ℕ, List, [], ◌∷◌, Option, Some, None, Result, Ok, Err, ◌⊎◌, inl, inr, refl, ap}
 use Rattle.logical_time.specs.declared.fault.Fault.{Fault}
-use Rattle.logical_time.specs.declared.fault.Fault.TheVariants.{Memory, ClockSpent, WriteFailed, Script as NoScript}
+use Rattle.logical_time.specs.declared.fault.Fault.TheVariants.{ClockSpent, Script as NoScript}
 use Rattle.messages.specs.Topology.{TopologyValue}
 use Rattle.world.specs.declared.run_event.RunEvent.{RunEvent as Event}
 use Rattle.world.specs.declared.run_event.RunEvent.TheVariants.{Submit, Deliver, Collect}
@@ -51,12 +51,3 @@ told_ends top w (x ∷ xs) e h = by (told_ends top (step top w x) xs e) (either_
 
 pub script_ends : (s : Script) (e : Fault) → simulated s ≡ Err e → (e ≡ ClockSpent) ⊎ (e ≡ NoScript)
 script_ends s e h = told_ends s.topology (opening s.topology) (events_of s) e h
-
--- no script ends since a writer fails
-pub fails_unwritten : (s : Script) (e : Fault) → (e ≡ Memory) ⊎ (simulated s ≡ Err e) → e ≢ WriteFailed
-fails_unwritten s e (inl memory) = λ failed. absurd cc
-fails_unwritten s e (inr ends) = by (script_ends s e ends)
-  where
-    by : EndsEarly e → e ≢ WriteFailed
-    by (inl spent) = λ failed. absurd cc
-    by (inr none) = λ failed. absurd cc
