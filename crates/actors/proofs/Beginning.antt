@@ -72,8 +72,8 @@ opened came_from untaken machine d ends recorded its journal outcomes outbox acc
     record {
       recorded =
           rw (journal, outcomes, outbox, accepted)
-            (recorded_moved came_from untaken d.topology d.node (λ to. []) (through d.outgoing) machine [] [] [] [] 0 recorded
-              (λ n. rw out (ap (λ xs. xs ++ []) (quiet its.capacity reached n))));
+          (recorded_moved came_from untaken d.topology d.node (λ to. []) (through d.outgoing) machine [] [] [] [] 0 recorded
+          (λ n. rw out (ap (λ xs. xs ++ []) (quiet its.capacity reached n))));
       received = rw (journal, into, held) (λ k l at. nothing_taken d.node (reaching d.topology d.node) k l at);
       ends = rw (out, same_ends its.capacity reached) (range_apart (λ to. may_exchange d.topology d.node to) (node_count d.topology) 0);
       sources = rw (into, same_sources d.node (reaching d.topology d.node)) (range_apart (λ from. may_exchange d.topology from d.node) (node_count d.topology) 0);

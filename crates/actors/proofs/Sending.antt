@@ -55,6 +55,6 @@ none_kept n (x ∷ es) (suc i) lt none =
 pub taken_out : (n : ℕ) (es : List Envelope) (i : ℕ) (e : Envelope) → slice_get es i ≡ Some e → (e.to ≡ n → sends_to n (take i es) ≡ [])
     → sends_to n (e ∷ []) ++ sends_to n (take i es ++ drop (i + 1) es) ≡ sends_to n es
 taken_out n es i e at none = elim (eqb_tells e.to n) [
-    | inl same ↦ rw (add-one, same.0) (sym (taken_first n es i e at same.1 (none same.1)))
-    | inr away ↦ rw (add-one, away.0) (taken_others n es i e at away.1)
-  ]
+  | inl same ↦ rw (add-one, same.0) (sym (taken_first n es i e at same.1 (none same.1)))
+  | inr away ↦ rw (add-one, away.0) (taken_others n es i e at away.1)
+]

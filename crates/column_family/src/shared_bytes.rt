@@ -30,10 +30,7 @@ impl SharedBytes {
     pub(crate) fn from_slice(alloc: Global, bytes: &[u8]) -> Result<SharedBytes, AllocError>
         ensures { IfOk result (λ copy. copy ≡ bytes.now) }
     {
-        Ok(SharedBytes(Arc::new(
-            alloc,
-            SmallVec::from_slice(alloc, bytes)?,
-        )?))
+        Ok(SharedBytes(Arc::new(alloc, SmallVec::from_slice(alloc, bytes)?)?))
     }
 
     /// The bytes.

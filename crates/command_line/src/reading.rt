@@ -31,8 +31,12 @@ fn command<'a>(alloc: Global) -> Result<Command<'a>, AllocError> {
         .after_help("Example: eiger sim examples/insert_and_read_back.json")
         .arg(file)?;
     Command::new(alloc, "eiger")
-        .about("A causally consistent column-family store: runs scripts of its operations and messages")
-        .after_help("Example: eiger sim examples/insert_and_read_back.json\nExit status: 0; 1 after a fault, told on standard error; 2 for a refused command line")
+        .about(
+            "A causally consistent column-family store: runs scripts of its operations and messages",
+        )
+        .after_help(
+            "Example: eiger sim examples/insert_and_read_back.json\nExit status: 0; 1 after a fault, told on standard error; 2 for a refused command line",
+        )
         .subcommand_required(true)
         .subcommand(sim)
 }
