@@ -1,5 +1,5 @@
 -- The rings from one actor, as they are laid one after the other, and those of all actors.
-use Rattle.std.proofs.Common.{◌≡◌, ℕ, zero, suc, ◌+◌, ◌<◌, ◌==◌, Bool, true, false, cond, ◌&&◌, List, [], ◌∷◌, ◌++◌, map, refl, ap, sym, ◌∙◌, inl, inr, append_assoc, arith}
+use Rattle.std.proofs.Common.{◌≡◌, ℕ, ◌+◌, ◌==◌, Bool, true, false, cond, ◌&&◌, List, [], ◌∷◌, ◌++◌, map, refl, ap, sym, ◌∙◌, inl, inr, append_assoc, arith}
 use Rattle.std.specs.Prelude.{◌≢◌, filter, nat_lt, if◌then◌else◌}
 use Rattle.std.specs.List.{range_with_len}
 use Rattle.std.proofs.lemmas.List.{append-nil}
@@ -40,42 +40,41 @@ pub laid_in : (may : ℕ → Bool) (from to node : ℕ) (start now next : List I
     → next ≡ now ++ (if node == to then new_in_link to from ∷ [] else [])
     → next ≡ start ++ (if (nat_lt node (to + 1) && may node) then new_in_link node from ∷ [] else [])
 laid_in may from to node start now next allowed so_far more = elim (eqb_tells node to) [
-    | inl same ↦
-        let none : now ≡ start = so_far ∙ (rw (not_yet node to same.1) (append-nil start)) in
-        let one : next ≡ now ++ new_in_link to from ∷ [] = more ∙ rw same.0 refl in
-        let may_node : may node ≡ true = ap may same.1 ∙ allowed in
-        one ∙ (ap (λ xs. xs ++ new_in_link to from ∷ []) none ∙ (ap (λ (n : ℕ). start ++ new_in_link n from ∷ []) (sym same.1) ∙ rw (now_below node to same.1, may_node) refl))
-    | inr away ↦
-        let none : next ≡ now = more ∙ (rw away.0 (append-nil now)) in
-        none ∙ (so_far ∙ rw (later node to away.1) refl)
-  ]
+  | inl same ↦
+      let none : now ≡ start = so_far ∙ (rw (not_yet node to same.1) (append-nil start)) in
+      let one : next ≡ now ++ new_in_link to from ∷ [] = more ∙ rw same.0 refl in
+      let may_node : may node ≡ true = ap may same.1 ∙ allowed in
+      one ∙ (ap (λ xs. xs ++ new_in_link to from ∷ []) none ∙ (ap (λ (n : ℕ). start ++ new_in_link n from ∷ []) (sym same.1) ∙ rw (now_below node to same.1, may_node) refl))
+  | inr away ↦
+      let none : next ≡ now = more ∙ (rw away.0 (append-nil now)) in
+      none ∙ (so_far ∙ rw (later node to away.1) refl)
+]
 
 pub passed_in : (may : ℕ → Bool) (from to node : ℕ) (start now : List InLinkValue) → may to ≡ false
     → now ≡ start ++ (if (nat_lt node to && may node) then new_in_link node from ∷ [] else [])
     → now ≡ start ++ (if (nat_lt node (to + 1) && may node) then new_in_link node from ∷ [] else [])
 passed_in may from to node start now never so_far = elim (eqb_tells node to) [
-    | inl same ↦
-        let may_not : may node ≡ false = ap may same.1 ∙ never in
-        so_far ∙ (rw (not_yet node to same.1, now_below node to same.1, may_not) refl)
-    | inr away ↦ so_far ∙ rw (later node to away.1) refl
-  ]
+  | inl same ↦
+      let may_not : may node ≡ false = ap may same.1 ∙ never in
+      so_far ∙ (rw (not_yet node to same.1, now_below node to same.1, may_not) refl)
+  | inr away ↦ so_far ∙ rw (later node to away.1) refl
+]
 
 -- all rows
-
 
 pub rows_out : (reached : ℕ → List ℕ) (from capacity node : ℕ) (now next : List OutLinkValue)
     → now ≡ (if nat_lt node from then map (new_out_link capacity) (reached node) else [])
     → next ≡ now ++ (if node == from then map (new_out_link capacity) (reached from) else [])
     → next ≡ (if nat_lt node (from + 1) then map (new_out_link capacity) (reached node) else [])
 rows_out reached from capacity node now next so_far more = elim (eqb_tells node from) [
-    | inl same ↦
-        let none : now ≡ [] = so_far ∙ (rw (not_yet node from same.1) refl) in
-        let one : next ≡ map (new_out_link capacity) (reached from) = more ∙ rw (same.0, none) refl in
-        one ∙ (ap (λ (n : ℕ). map (new_out_link capacity) (reached n)) (sym same.1) ∙ rw (now_below node from same.1) refl)
-    | inr away ↦
-        let none : next ≡ now = more ∙ (rw away.0 (append-nil now)) in
-        none ∙ (so_far ∙ rw (later node from away.1) refl)
-  ]
+  | inl same ↦
+      let none : now ≡ [] = so_far ∙ (rw (not_yet node from same.1) refl) in
+      let one : next ≡ map (new_out_link capacity) (reached from) = more ∙ rw (same.0, none) refl in
+      one ∙ (ap (λ (n : ℕ). map (new_out_link capacity) (reached n)) (sym same.1) ∙ rw (now_below node from same.1) refl)
+  | inr away ↦
+      let none : next ≡ now = more ∙ (rw away.0 (append-nil now)) in
+      none ∙ (so_far ∙ rw (later node from away.1) refl)
+]
 
 pub rows_in : (may : ℕ → Bool) (from node : ℕ) (now next : List InLinkValue)
     → now ≡ map (new_in_link node) (filter may (range_with_len 0 from))
