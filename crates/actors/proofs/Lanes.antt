@@ -1,6 +1,6 @@
 -- The ways of a seat, where one changes.
-use Rattle.std.proofs.Common.{◌≡◌, ℕ, zero, suc, ◌+◌, ◌<◌, ◌==◌, Bool, true, false, cond, ◌||◌, List, [], ◌∷◌, ◌++◌, length, get_or, set, take, drop, Option, Some, None, refl, ap, sym, subst, ◌∙◌, add-one, append_assoc, inl, inr, arith}
-use Rattle.std.specs.Prelude.{◌≢◌, map}
+use Rattle.std.proofs.Common.{◌≡◌, ℕ, zero, suc, ◌+◌, ◌<◌, ◌==◌, Bool, true, false, cond, List, [], ◌∷◌, ◌++◌, length, get_or, set, take, drop, Some, refl, ap, sym, ◌∙◌, add-one, append_assoc, inl, inr, arith}
+use Rattle.std.specs.Prelude.{◌≢◌}
 use Rattle.std.specs.List.{slice_get, list_any}
 use Rattle.std.proofs.lemmas.List.{append-nil}
 use Rattle.std.proofs.Math.Seq.{map-set_same}
@@ -54,9 +54,9 @@ passed false b e xs t u apart more = more
 
 other_end : (x e node : ℕ) → (x == e) ≡ false → (x == node) ≡ true → (e == node) ≡ false
 other_end x e node apart is = elim (eqb_tells e node) [
-    | inl same ↦ absurd (let h : (x == e) ≡ true = ap (λ n. x == n) same.1 ∙ is in cc)
-    | inr away ↦ away.0
-  ]
+  | inl same ↦ absurd (let h : (x == e) ≡ true = ap (λ n. x == n) same.1 ∙ is in cc)
+  | inr away ↦ away.0
+]
 
 pub more_through : (ls : List LaneValue) (k : ℕ) (d l : LaneValue) (e : Envelope) (node : ℕ) → k < length ls → d ≡ get_or ls k d → has_way e.to (take k ls) ≡ false
     → d.to ≡ e.to → l.to ≡ d.to → l.sent ≡ d.sent → l.waiting ≡ d.waiting ++ e ∷ []

@@ -1,5 +1,5 @@
 -- Envelopes to a node among those of a list, where one is taken out.
-use Rattle.std.proofs.Common.{◌≡◌, ℕ, zero, suc, ◌+◌, ◌<◌, ◌==◌, Bool, true, false, cond, List, [], ◌∷◌, ◌++◌, length, get_or, take, drop, refl, ap, sym, subst, ◌∙◌, add-one, Option, Some, None, inl, inr, arith}
+use Rattle.std.proofs.Common.{◌≡◌, ℕ, zero, suc, ◌+◌, ◌<◌, ◌==◌, Bool, true, false, cond, List, [], ◌∷◌, ◌++◌, length, take, drop, refl, ap, sym, add-one, Some, inl, inr, arith}
 use Rattle.std.specs.Prelude.{◌≢◌}
 use Rattle.std.specs.List.{slice_get}
 use Rattle.std.proofs.lemmas.Bool.Decides.{nat_tests, eqb_tells}
@@ -55,6 +55,6 @@ none_kept n (x ∷ es) (suc i) lt none =
 pub taken_out : (n : ℕ) (es : List Envelope) (i : ℕ) (e : Envelope) → slice_get es i ≡ Some e → (e.to ≡ n → sends_to n (take i es) ≡ [])
     → sends_to n (e ∷ []) ++ sends_to n (take i es ++ drop (i + 1) es) ≡ sends_to n es
 taken_out n es i e at none = elim (eqb_tells e.to n) [
-    | inl same ↦ rw (add-one, same.0) (sym (taken_first n es i e at same.1 (none same.1)))
-    | inr away ↦ rw (add-one, away.0) (taken_others n es i e at away.1)
-  ]
+  | inl same ↦ rw (add-one, same.0) (sym (taken_first n es i e at same.1 (none same.1)))
+  | inr away ↦ rw (add-one, away.0) (taken_others n es i e at away.1)
+]

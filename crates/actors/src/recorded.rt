@@ -118,7 +118,12 @@ impl<M: Machine> Recorded<M> {
     }
 
     /// The machine of a node, before its first event. Refused with `Memory` alone.
-    pub fn new(alloc: Global, topology: &Topology, node: Node, limit: usize) -> Result<Recorded<M>, Fault>
+    pub fn new(
+        alloc: Global,
+        topology: &Topology,
+        node: Node,
+        limit: usize,
+    ) -> Result<Recorded<M>, Fault>
         requires { node < node_count topology.now }
         ensures recorded { IfOk result (λ r. IsRecorded M.came_from M.untaken topology.now node (λ to. []) r.machine [] [] [] 0) }
         ensures empty { IfOk result (λ r. (r.journal.items ≡ []) × (r.outcomes.items ≡ []) × (r.outbox.sent ≡ []) × (r.accepted ≡ 0) × (r.limit ≡ limit)) }

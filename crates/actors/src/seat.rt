@@ -8,12 +8,11 @@ ghost use Rattle.actors.specs.Turns.{IsTurn, HasSame, HasDone, IsWork, turn_of};
 ghost use Rattle.actors.specs.Opening.{AreItsRings, new_seat};
 ghost use Rattle.actors.specs.declared.turn.Turn.TheVariants.{Handled};
 
-use crate::incoming;
-use crate::lane;
 use crate::lane::Lane;
 use crate::machine::Machine;
 use crate::recorded::{Recorded, envelope_in, let_go, op_of};
 use crate::turn::Turn;
+use crate::{incoming, lane};
 use links::{Ends, InLink};
 use logical_time::{Fault, Node, Time};
 use messages::{Envelope, Event, Op, Outbox, Outcome, Topology};
@@ -266,8 +265,7 @@ impl<M: Machine> Seat<M> {
             }
             Err((fault, event)) => match self.refusals.reserve(1) {
                 Ok(()) => {
-                    self.refusals
-                        .push_reserved((self.recorded.accepted, fault));
+                    self.refusals.push_reserved((self.recorded.accepted, fault));
                     let_go(event);
                     Ok(Turn::Refused(fault))
                 }

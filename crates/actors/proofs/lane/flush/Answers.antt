@@ -13,7 +13,7 @@ loop-place-preserved c =
       ends = same_ends _ _ d c.flush.new.self h c.flush.ensures.to ∙ inv.ends;
       whole = λ node. still_through _ _ d c.flush.new.self node lt h c.flush.ensures.to c.flush.ensures.whole ∙ inv.whole node;
       still = elim c.if-flush.branch [
-          | then-flush w ↦ λ m. absurd (let e : true ≡ false = sym w.moved-is ∙ m in cc)
-          | else-flush w ↦ λ m. let quiet : c.flush.result ≡ false = search rules in same_rings _ _ d c.flush.new.self h (c.flush.ensures.still quiet) ∙ inv.still (sym w.moved-is ∙ m)
-        ];
+        | then-flush w ↦ λ m. absurd (let e : true ≡ false = sym w.moved-is ∙ m in cc)
+        | else-flush w ↦ λ m. let quiet : c.flush.result ≡ false = search rules in same_rings _ _ d c.flush.new.self h (c.flush.ensures.still quiet) ∙ inv.still (sym w.moved-is ∙ m)
+      ];
     }

@@ -1,4 +1,4 @@
-use Rattle.std.proofs.Common.{◌≡◌, ◌<◌, ◌++◌, ◌∷◌, [], length, slice_get, get_or, Some, rules}
+use Rattle.std.proofs.Common.{◌≡◌, ◌<◌, length, slice_get, get_or, Some, rules}
 use Rattle.actors.specs.Ways.{IsFirstWay}
 use Rattle.actors.proofs.Lists.{here}
 use Rattle.actors.proofs.Lanes.{taken_one}
@@ -13,4 +13,4 @@ loop-number-preserved-in-Continue-1 c =
     let at : slice_get c.loop-number.outbox.sent c.loop-number.number ≡ Some e = here c.loop-number.outbox.sent c.loop-number.number e lt is in
     let way : IsFirstWay e.to c.loop-number.lanes.items c.in-Some.place = search rules in
     taken_one c.loop-number.lanes.items _ c.loop-number.outbox.sent _ c.take.new.outbox.sent c.loop-number.number c.in-Some.place d c.take.new.self e
-      c.loop-number.invariant lt at way c.index_mut.ensures.value c.take.ensures.to c.take.ensures.sent (c.in_ok-take-in-Some.ensures.waiting e at) c.in_ok-take-in-Some.ensures.rest
+    c.loop-number.invariant lt at way c.index_mut.ensures.value c.take.ensures.to c.take.ensures.sent (c.in_ok-take-in-Some.ensures.waiting e at) c.in_ok-take-in-Some.ensures.rest

@@ -6,4 +6,4 @@ pub invariant_of-result : goal.invariant_of-result
 invariant_of-result g c =
     let empty = c.in_ok-recorded.ensures.empty in
     opened g.M.Machine.came_from g.M.Machine.untaken c.in_ok-recorded.recorded.machine _ c.args.ends c.in_ok-recorded.ensures.recorded (rw c.in_ok-topology.ensures c.requires.rings)
-      empty.0 empty.1 empty.2 empty.3 (search rules) c.in_ok-outgoing.ensures.ok refl refl
+    empty.0 empty.1 empty.2 empty.3 (search rules) c.in_ok-outgoing.ensures.ok refl refl

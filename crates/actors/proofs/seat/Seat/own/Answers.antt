@@ -1,4 +1,4 @@
-use Rattle.std.proofs.Common.{refl, rules}
+use Rattle.std.proofs.Common.{refl}
 use Rattle.actors.specs.Seats.{through}
 use Rattle.actors.proofs.Seating.{kept_did, has_done}
 use Rattle.actors.proofs.seat.Seat.own.Goals as goal
@@ -8,8 +8,8 @@ invariant_of-self g c =
     let s = c.self.inside in
     let r = c.self.invariant.recorded in
     kept_did g.M.Machine.came_from g.M.Machine.untaken c.happen.result s.recorded.machine c.happen.new.self.machine _ _ c.args.event c.self.invariant c.requires
-      (c.happen.ensures.recorded s.topology s.node (through s.outgoing.items) r) (c.happen.ensures.refused s.topology s.node (through s.outgoing.items) r)
-      c.happen.ensures.journal c.happen.ensures.same refl refl refl c.self.invariant.own
+    (c.happen.ensures.recorded s.topology s.node (through s.outgoing.items) r) (c.happen.ensures.refused s.topology s.node (through s.outgoing.items) r)
+    c.happen.ensures.journal c.happen.ensures.same refl refl refl c.self.invariant.own
 
 pub returns-clause-ok : goal.returns-clause-ok
 returns-clause-ok g c =
