@@ -1,5 +1,5 @@
 -- The seats of a topology, as one more is made.
-use Rattle.std.proofs.Common.{◌≡◌, ℕ, zero, suc, ◌+◌, ◌<◌, List, [], ◌∷◌, ◌++◌, length, get_or, drop, map, Option, Some, None, refl, ap, sym, subst, ◌∙◌, ◌⊎◌, inl, inr, add-one, drop-cons, arith}
+use Rattle.std.proofs.Common.{◌≡◌, ℕ, zero, suc, ◌+◌, ◌<◌, List, [], ◌∷◌, ◌++◌, length, get_or, drop, Some, refl, ap, sym, subst, ◌∙◌, ◌⊎◌, inl, inr, add-one, drop-cons}
 use mathlib.Core.Path.{ap₂}
 use Rattle.std.specs.List.{slice_get}
 use Rattle.std.proofs.lemmas.List.{length-append}
@@ -42,9 +42,9 @@ pub one_more_seat : (top : TopologyValue) (ring limit count : ℕ) (seats next :
 one_more_seat top ring limit count seats next x so_far new is = record {
   all = rw (is, length-append seats (x ∷ []), so_far.all) refl;
   each = λ node s at. elim (last_or_before seats x s node (subst (λ (l : List SeatValue). slice_get l node ≡ Some s) is at)) [
-      | inl before ↦ so_far.each node s before
-      | inr last ↦
-          let place : count ≡ node = sym (last.0 ∙ so_far.all) in
-          subst (λ (n : ℕ). IsNewSeat top ring limit n s) place (subst (λ (y : SeatValue). IsNewSeat top ring limit count y) last.1 new)
-    ];
+    | inl before ↦ so_far.each node s before
+    | inr last ↦
+        let place : count ≡ node = sym (last.0 ∙ so_far.all) in
+        subst (λ (n : ℕ). IsNewSeat top ring limit n s) place (subst (λ (y : SeatValue). IsNewSeat top ring limit count y) last.1 new)
+  ];
 }

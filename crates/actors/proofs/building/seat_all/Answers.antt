@@ -1,4 +1,4 @@
-use Rattle.std.proofs.Common.{◌≡◌, ◌<◌, drop, get_or, length, rules}
+use Rattle.std.proofs.Common.{◌≡◌, ◌<◌, get_or, length, rules}
 use Rattle.actors.specs.Opening.{new_seat}
 use Rattle.actors.proofs.Built.{first_of, others_of, its_rings, is_new, one_more_seat}
 use Rattle.actors.proofs.building.seat_all.Goals as goal
