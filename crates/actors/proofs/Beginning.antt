@@ -1,17 +1,15 @@
 -- A seat before its first event keeps what seats keep.
-use Rattle.std.proofs.Common.{◌≡◌, ℕ, zero, suc, ◌+◌, ◌≤◌, ◌<◌, ◌==◌, Bool, true, false, cond, List, [], ◌∷◌, ◌++◌, length, map, Option, Some, None, refl, ap, sym, subst, ◌∙◌, inl, inr, arith}
-use Rattle.std.specs.Prelude.{filter, All}
+use Rattle.std.proofs.Common.{◌≡◌, ℕ, zero, suc, ◌+◌, ◌≤◌, ◌==◌, Bool, true, false, cond, List, [], ◌∷◌, ◌++◌, map, Option, Some, None, refl, ap, sym, ◌∙◌, arith}
+use Rattle.std.specs.Prelude.{filter}
 use Rattle.std.specs.List.{slice_get, range_with_len}
 use Rattle.messages.specs.declared.envelope.Envelope.{Envelope}
 use Rattle.messages.specs.declared.outcome.Outcome.{Outcome}
-use Rattle.messages.specs.declared.event.Event.{Event}
-use Rattle.messages.specs.Topology.{TopologyValue, node_count}
-use Rattle.links.specs.Links.{OutLinkValue, InLinkValue, may_exchange, reached_from, reaching}
+use Rattle.messages.specs.Topology.{node_count}
+use Rattle.links.specs.Links.{InLinkValue, may_exchange, reached_from, reaching}
 use Rattle.links.specs.Mesh.{new_out_link, new_in_link}
 use Rattle.links.specs.declared.ends.Ends.{Ends}
-use Rattle.actors.specs.Journals.{IsOwn, receipts_from, held_from, followed_by}
 use Rattle.actors.specs.Machines.{CameFrom, IsRecorded}
-use Rattle.actors.specs.Seats.{LaneValue, SeatValue, through, ends_of, sources_of, IsApart, Received, Keeps}
+use Rattle.actors.specs.Seats.{SeatValue, through, ends_of, sources_of, IsApart, Keeps}
 use Rattle.actors.specs.Opening.{new_lane, AreItsRings}
 use Rattle.actors.proofs.Seating.{recorded_moved}
 

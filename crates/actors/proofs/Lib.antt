@@ -6,3 +6,4 @@ pub mod Receiving
 pub mod Seating
 pub mod Working
 pub mod Beginning
+pub mod Built

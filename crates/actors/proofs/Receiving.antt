@@ -1,5 +1,5 @@
 -- The links to an actor, where an envelope is taken from one.
-use Rattle.std.proofs.Common.{◌≡◌, ℕ, zero, suc, ◌<◌, ◌==◌, Bool, true, false, cond, List, [], ◌∷◌, ◌++◌, length, get_or, set, Option, Some, None, refl, ap, sym, subst, ◌∙◌, inl, inr, arith}
+use Rattle.std.proofs.Common.{◌≡◌, ℕ, zero, suc, ◌<◌, List, [], ◌∷◌, ◌++◌, length, get_or, set, Option, Some, None, refl, ap, sym, subst, ◌∙◌, inl, inr}
 use Rattle.std.specs.Prelude.{◌≢◌}
 use Rattle.std.specs.List.{slice_get}
 use Rattle.std.proofs.lemmas.List.{append-nil}
@@ -8,7 +8,7 @@ use Rattle.std.proofs.lemmas.Bool.Decides.{eqb_tells}
 use Rattle.messages.specs.declared.envelope.Envelope.{Envelope}
 use Rattle.messages.specs.declared.event.Event.{Event}
 use Rattle.links.specs.Links.{InLinkValue}
-use Rattle.actors.specs.Journals.{from_node, receipts_from, held_from}
+use Rattle.actors.specs.Journals.{receipts_from, held_from}
 use Rattle.actors.specs.Seats.{IsApart, Received, sources_of}
 use Rattle.actors.proofs.Lists.{set_here, set_away, here}
 use Rattle.actors.proofs.Sending.{test_true, test_false}

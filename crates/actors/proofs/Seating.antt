@@ -1,8 +1,7 @@
 -- What a seat keeps, as it changes.
-use Rattle.std.proofs.Common.{◌≡◌, ◌≤◌, ℕ, zero, suc, ◌+◌, ◌<◌, ◌==◌, Bool, true, false, cond, List, [], ◌∷◌, ◌++◌, length, Option, Some, None, refl, ap, sym, subst, ◌∙◌, append_assoc, arith}
-use Rattle.std.specs.Prelude.{All, filter_map, option_to_list, Result, Ok, Err, OnOk, OnErr}
+use Rattle.std.proofs.Common.{◌≡◌, ℕ, suc, ◌<◌, ◌==◌, List, [], ◌∷◌, ◌++◌, length, Option, Some, None, refl, sym, subst, ◌∙◌, arith}
+use Rattle.std.specs.Prelude.{All, filter_map, Result, Ok, Err, OnOk, OnErr}
 use mathlib.Core.Path.{fun_ext}
-use Rattle.std.specs.List.{slice_get}
 use Rattle.std.proofs.lemmas.List.{append-nil}
 use Rattle.std.proofs.lemmas.List.Elements.{filter_map-append, filter-append}
 use Rattle.messages.specs.declared.envelope.Envelope.{Envelope}
@@ -11,11 +10,10 @@ use Rattle.messages.specs.declared.event.Event.{Event}
 use Rattle.messages.specs.declared.event.Event.TheVariants.{Submit, Handle, Collect}
 use Rattle.messages.specs.Actors.{envelope_of}
 use Rattle.messages.specs.Topology.{TopologyValue}
-use Rattle.links.specs.Links.{InLinkValue}
-use Rattle.actors.specs.Journals.{IsOwn, IsBeginning, from_node, receipts_from, held_from, followed_by}
+use Rattle.actors.specs.Journals.{IsOwn, IsBeginning, receipts_from, followed_by}
 use Rattle.actors.specs.Turns.{HasDone}
 use Rattle.actors.specs.Machines.{CameFrom, IsRecorded}
-use Rattle.actors.specs.Seats.{LaneValue, SeatValue, through, ends_of, sources_of, IsApart, Received, Keeps}
+use Rattle.actors.specs.Seats.{SeatValue, through, sources_of, Received, Keeps}
 
 receipts_more : (n : ℕ) (journal : List Event) (event : Event) → receipts_from n (journal ++ event ∷ []) ≡ receipts_from n journal ++ receipts_from n (event ∷ [])
 receipts_more n journal event =

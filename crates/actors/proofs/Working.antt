@@ -1,18 +1,14 @@
 -- What a turn answers, by what it did.
-use Rattle.std.proofs.Common.{◌≡◌, ℕ, ◌+◌, List, [], ◌∷◌, ◌++◌, Option, Some, None, refl, ap, sym, subst, ◌∙◌, arith}
-use Rattle.std.specs.Prelude.{◌⊎◌, false}
+use Rattle.std.proofs.Common.{◌≡◌, ℕ, ◌+◌, List, [], ◌∷◌, ◌++◌, Option, Some, ap, sym, ◌∙◌}
 use Rattle.std.specs.Option.{unwrap_or}
 use Rattle.messages.specs.declared.event.Event.{Event}
 use Rattle.messages.specs.declared.op.Op.{Op}
-use Rattle.messages.specs.declared.envelope.Envelope.{Envelope}
 use Rattle.messages.specs.declared.event.Event.TheVariants.{Submit, Handle, Collect}
-use Rattle.logical_time.specs.declared.fault.Fault.{Fault}
-use Rattle.links.specs.Links.{InLinkValue}
 use Rattle.actors.specs.Journals.{IsOwn, submissions, number_after}
-use Rattle.actors.specs.Seats.{LaneValue, SeatValue, rings}
-use Rattle.actors.specs.Turns.{IsTurn, IsWork, HasDone, HasSame, HasRested, HasRefused, turn_of}
+use Rattle.actors.specs.Seats.{SeatValue}
+use Rattle.actors.specs.Turns.{IsTurn, HasDone, turn_of}
 use Rattle.actors.specs.declared.turn.Turn.{Turn}
-use Rattle.actors.specs.declared.turn.Turn.TheVariants.{Idle, Moved, Handled, Submitted, Collected, Refused}
+use Rattle.actors.specs.declared.turn.Turn.TheVariants.{Submitted, Collected}
 use Rattle.actors.proofs.Recording.{counted}
 
 pub submitted : (journal next : List Event) (o : Op) (n : ℕ) → Some n ≡ Some (submissions journal + 1) → next ≡ journal ++ Submit o ∷ [] → n ≡ submissions next

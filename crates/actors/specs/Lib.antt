@@ -4,4 +4,5 @@ pub mod Seats
 pub mod Ways
 pub mod Turns
 pub mod Opening
+pub mod Building
 pub mod Reports

@@ -1,5 +1,5 @@
 -- Seats before their first event.
-use Rattle.std.specs.Prelude.{◌≡◌, ℕ, Bool, List, [], map, Option, None}
+use Rattle.std.specs.Prelude.{◌≡◌, ℕ, Bool, List, [], map, None}
 use Rattle.messages.specs.Topology.{TopologyValue}
 use Rattle.links.specs.Links.{OutLinkValue, InLinkValue, reached_from, reaching}
 use Rattle.links.specs.Mesh.{new_out_link, new_in_link}

@@ -5,6 +5,7 @@
 //! locks (`pool`). `specs/Seats` says what a seat keeps while its lock is free: no fact crosses threads but that.
 #![tactic(auto)]
 
+mod building;
 mod incoming;
 mod lane;
 mod machine;
@@ -14,6 +15,7 @@ mod report;
 mod seat;
 mod turn;
 
+pub use building::Mesh;
 pub use machine::Machine;
 pub use pool::{Gate, Open, Pool};
 pub use report::{End, Report, Shift};

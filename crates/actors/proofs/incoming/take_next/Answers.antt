@@ -1,4 +1,3 @@
-use Rattle.std.proofs.Common.{rules}
 use Rattle.actors.proofs.incoming.take_next.Goals as goal
 
 pub returns-in-None-clause-received : goal.returns-in-None-clause-received

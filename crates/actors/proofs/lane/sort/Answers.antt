@@ -1,4 +1,4 @@
-use Rattle.std.proofs.Common.{◌≡◌, ◌<◌, ◌++◌, ◌∷◌, [], length, slice_get, get_or, Some, rules}
+use Rattle.std.proofs.Common.{◌≡◌, ◌<◌, length, slice_get, get_or, Some, rules}
 use Rattle.actors.specs.Ways.{IsFirstWay}
 use Rattle.actors.proofs.Lists.{here}
 use Rattle.actors.proofs.Lanes.{taken_one}

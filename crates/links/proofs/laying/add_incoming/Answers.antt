@@ -1,5 +1,5 @@
-use Rattle.std.proofs.Common.{refl, rules}
-use Rattle.links.proofs.Laid.{in_more, out_same}
+use Rattle.std.proofs.Common.{rules}
+use Rattle.links.proofs.Laid.{in_more}
 use Rattle.links.proofs.laying.add_incoming.Goals as goal
 
 pub returns-clause-incoming : goal.returns-clause-incoming

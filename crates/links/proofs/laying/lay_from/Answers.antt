@@ -1,4 +1,4 @@
-use Rattle.std.proofs.Common.{◌≡◌, ◌∙◌, Bool, ℕ, true, false, rules, sym}
+use Rattle.std.proofs.Common.{◌≡◌, Bool, ℕ, true, false, rules}
 use Rattle.links.specs.Links as spec
 use Rattle.links.proofs.Rows.{laid_out, passed_out, laid_in, passed_in}
 use Rattle.links.proofs.laying.lay_from.Goals.{then-may_exchange+in_ok-lay, else-may_exchange}

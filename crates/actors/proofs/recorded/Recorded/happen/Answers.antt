@@ -1,4 +1,4 @@
-use Rattle.std.proofs.Common.{◌≡◌, ◌∷◌, [], ◌++◌, refl, rules}
+use Rattle.std.proofs.Common.{rules}
 use Rattle.actors.specs.Journals.{followed_by}
 use Rattle.actors.proofs.Recording.{recorded_more}
 use Rattle.actors.proofs.recorded.Recorded.happen.Goals as goal

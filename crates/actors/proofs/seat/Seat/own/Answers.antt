@@ -1,4 +1,4 @@
-use Rattle.std.proofs.Common.{refl, rules}
+use Rattle.std.proofs.Common.{refl}
 use Rattle.actors.specs.Seats.{through}
 use Rattle.actors.proofs.Seating.{kept_did, has_done}
 use Rattle.actors.proofs.seat.Seat.own.Goals as goal

@@ -1,0 +1,31 @@
+use Rattle.std.proofs.Common.{◌≡◌, ◌<◌, get_or, length, rules}
+use Rattle.actors.specs.Opening.{new_seat}
+use Rattle.actors.proofs.Built.{first_of, others_of, its_rings, is_new, one_more_seat}
+use Rattle.actors.proofs.building.seat_all.Goals as goal
+
+pub new-requires-in-loop-node-clause-rings : goal.new-requires-in-loop-node-clause-rings
+new-requires-in-loop-node-clause-rings g c =
+    let own = c.remove.result in
+    let lt : c.loop-node.node < length c.args.ends.items = search rules in
+    let below : c.loop-node.node < c.node_count-count.result = search rules in
+    let first : own ≡ get_or c.loop-node.ends.items 0 own = search rules in
+    let at = first_of c.args.ends.items c.loop-node.ends.items c.loop-node.node own c.loop-node.invariant.rest lt first in
+    rw c.new.ensures (its_rings c.args.topology.now c.args.ring c.loop-node.node c.args.ends.items own c.requires (rw (← c.node_count-count.ensures.value) below) at)
+
+pub loop-node-preserved : goal.loop-node-preserved
+loop-node-preserved g c =
+    let top = c.args.topology.now in
+    let own = c.remove.result in
+    let inv = c.loop-node.invariant in
+    let node = c.loop-node.node in
+    let lt : c.loop-node.node < length c.args.ends.items = search rules in
+    let below : c.loop-node.node < c.node_count-count.result = search rules in
+    let first : own ≡ get_or c.loop-node.ends.items 0 own = search rules in
+    let at = first_of c.args.ends.items c.loop-node.ends.items node own inv.rest lt first in
+    let ok : c.in-Ok.seat ≡ new_seat top node c.args.journal c.in-Ok.seat.free own.outgoing.items own.incoming.items = rw (← c.new.ensures) c.in-Ok.ensures.ok in
+    record {
+      rest = others_of c.args.ends.items c.loop-node.ends.items _ node own inv.rest lt c.remove.ensures.by_index.2;
+      room = search rules;
+      seats = one_more_seat top c.args.ring c.args.journal node c.loop-node.seats.items _ c.in-Ok.seat inv.seats
+          (is_new top c.args.ring c.args.journal node c.args.ends.items own c.in-Ok.seat c.requires (rw (← c.node_count-count.ensures.value) below) at ok) c.push_reserved.ensures.items;
+    }
