@@ -1,12 +1,12 @@
 //! Command lines.
 use crate::showing::text_of;
 use crate::steps::Subject;
-use command_line::{Asked, Told, read_words};
+use command_line::{Asked, Serving, Told, read_words};
 use logical_time::Fault;
 use program::Output;
 use std::alloc::Global;
 
-/// Takes command lines, and shows which file is to be run, or the exit status and what is written and told.
+/// Takes command lines, and shows which file is to be run, or which server, or the exit status and what is written and told.
 #[derive(Drop)]
 pub(crate) struct Line;
 
@@ -26,11 +26,22 @@ fn add_answer(alloc: Global, told: &Told, seen: &mut String) -> Result<(), Fault
     Ok(write!(seen, "{status}\n{written}{told}")?)
 }
 
+fn add_server(serving: &Serving, seen: &mut String) -> Result<(), Fault> {
+    let (port, topology) = (serving.port, &serving.topology);
+    let (dcs, shards) = (topology.dcs(), topology.shards().get());
+    write!(seen, "port {port}, {dcs} of {shards} shards, homes")?;
+    for home in topology.homes() {
+        write!(seen, " {home}")?;
+    }
+    Ok(())
+}
+
 impl Subject for Line {
     fn step(&mut self, alloc: Global, words: &[&str], seen: &mut String) -> Result<(), Fault> {
         let words = copies(alloc, words)?;
         match read_words(alloc, words.as_slice())? {
             Asked::Sim(name) => Ok(write!(seen, "{name}")?),
+            Asked::Serve(serving) => add_server(&serving, seen),
             Asked::Told(told) => add_answer(alloc, &told, seen),
         }
     }

@@ -4,7 +4,9 @@
 #![tactic(auto)]
 
 mod reading;
+mod serving;
 mod told;
 
 pub use reading::{Asked, read_words, refuse_words};
+pub use serving::Serving;
 pub use told::Told;

@@ -2,6 +2,7 @@
 ghost use Rattle.std.specs.Prelude.{◌≡◌, IfErr};
 ghost use Rattle.logical_time.specs.declared.fault.Fault.TheVariants as fault;
 
+use crate::serving::{Serving, serve_command, serving_of};
 use crate::told::Told;
 use clap::error::ErrorKind;
 use clap::{Arg, ArgAction, ArgMatches, Command, Error};
@@ -17,6 +18,8 @@ const NO_TEXT: &str = "error: a word of the command line isn't UTF-8\n";
 pub enum Asked {
     /// The transcript of the script in the file of this name.
     Sim(String),
+    /// A server.
+    Serve(Serving),
     /// An answer that is known already.
     Told(Told),
 }
@@ -31,24 +34,26 @@ fn command<'a>(alloc: Global) -> Result<Command<'a>, AllocError> {
         .after_help("Example: eiger sim examples/insert_and_read_back.json")
         .arg(file)?;
     Command::new(alloc, "eiger")
-        .about(
-            "A causally consistent column-family store: runs scripts of its operations and messages",
-        )
+        .about("A causally consistent column-family store: runs scripts, and serves connections")
         .after_help(
             "Example: eiger sim examples/insert_and_read_back.json\nExit status: 0; 1 after a fault, told on standard error; 2 for a refused command line",
         )
         .subcommand_required(true)
-        .subcommand(sim)
+        .subcommand(sim)?
+        .subcommand(serve_command(alloc)?)
 }
 
 /// What accepted words ask for.
 fn accepted(alloc: Global, matches: &ArgMatches<'_>) -> Result<Asked, AllocError> {
-    let name = match matches.subcommand() {
-        Some(("sim", found)) => found.get_str("FILE"),
-        _ => None,
-    };
-    match name {
-        Some(name) => Ok(Asked::Sim(String::from_str(alloc, name)?)),
+    match matches.subcommand() {
+        Some(("sim", found)) => {
+            let name = found.get_str("FILE").unwrap_or("");
+            Ok(Asked::Sim(String::from_str(alloc, name)?))
+        }
+        Some((_, found)) => match serving_of(alloc, found)? {
+            Ok(serving) => Ok(Asked::Serve(serving)),
+            Err(told) => Ok(Asked::Told(told)),
+        },
         None => Ok(Asked::Told(Told::Refused(String::new(alloc)))),
     }
 }

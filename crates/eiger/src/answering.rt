@@ -3,6 +3,7 @@ ghost use Rattle.std.specs.Prelude.{◌≡◌, ◌⊎◌, IsErr};
 ghost use Rattle.workload.specs.Performing.{TellsUnread};
 ghost use Rattle.eiger.specs.Answering.{IsDone, HasFailed, IsAnswer};
 
+use crate::serving::serve;
 use command_line::Asked;
 use logical_time::Fault;
 use program::{Input, Output, tell};
@@ -42,6 +43,7 @@ pub(crate) fn answer<W: Write, E: Write>(
             let file = File::open(rt, name.as_str());
             sim(rt.alloc(), name, file, output, errors)
         }
+        Ok(Asked::Serve(serving)) => serve(rt, &serving, output, errors),
         Ok(Asked::Told(told)) => told.answer(output, errors),
         Err(fault) => tell(errors, fault, None),
     }

@@ -1,0 +1,108 @@
+//! What a server is asked for.
+use crate::told::Told;
+use clap::{Arg, ArgAction, ArgMatches, Command, value_parser};
+use column_family::{Family, Schema};
+use messages::Topology;
+use std::alloc::{AllocError, Global};
+
+/// A server that is asked for.
+#[derive(Drop)]
+pub struct Serving {
+    /// The port that it listens on.
+    pub port: u16,
+    /// Its data centres, shards, column families and sessions: each connection is the next session.
+    pub topology: Topology,
+}
+
+// An option with a value.
+fn option<'a>(alloc: Global, name: &'a str, shown: &'a str, help: &'a str) -> Arg<'a> {
+    Arg::new(alloc, name)
+        .long(name)
+        .value_name(shown)
+        .action(ArgAction::Set)
+        .help(help)
+}
+
+/// The subcommand that asks for a server.
+pub(crate) fn serve_command<'a>(alloc: Global) -> Result<Command<'a>, AllocError> {
+    let port = option(alloc, "port", "P", "Listens on this port of 127.0.0.1")
+        .required(true)
+        .value_parser(value_parser!(u16).range(1024..65536));
+    let sessions = option(
+        alloc,
+        "sessions",
+        "N",
+        "Serves so many connections, one after the other",
+    )
+    .required(true)
+    .value_parser(value_parser!(u16).range(1..17));
+    let dcs = option(alloc, "dcs", "D", "So many data centres")
+        .value_parser(value_parser!(u16).range(1..5))
+        .default_value("1");
+    let shards = option(alloc, "shards", "S", "So many shards in each")
+        .value_parser(value_parser!(u16).range(1..9))
+        .default_value("2");
+    let families = option(
+        alloc,
+        "families",
+        "LIST",
+        "The names of the column families, with commas",
+    )
+    .default_value("f");
+    Command::new(alloc, "serve")
+        .about(
+            "Serves connections with frames of requests, as docs/formats.md says; connection i, from 0, is a session with home i mod D",
+        )
+        .after_help("Example: eiger serve --port 7000 --sessions 2")
+        .arg(port)?
+        .arg(sessions)?
+        .arg(dcs)?
+        .arg(shards)?
+        .arg(families)
+}
+
+// The families with these names, which have commas between them, if there may be such.
+fn schema_of(alloc: Global, names: &str) -> Result<Option<Schema>, AllocError> {
+    let mut families = Vec::new(alloc);
+    for name in names.split(',') {
+        families.push(Family::from_slice(alloc, name.as_bytes())?)?;
+    }
+    Ok(Schema::new(families))
+}
+
+// The homes of so many sessions: they go round the data centres.
+fn homes_of(alloc: Global, sessions: u16, dcs: u16) -> Result<Vec<u16>, AllocError> {
+    let mut homes = Vec::new(alloc);
+    for session in 0..sessions {
+        homes.push(session.checked_rem(dcs).unwrap_or(0))?;
+    }
+    Ok(homes)
+}
+
+// The actors that are asked for, if the families may have these names.
+fn topology_of(alloc: Global, found: &ArgMatches<'_>) -> Result<Option<Topology>, AllocError> {
+    let (dcs, shards) = (found.get_one::<u16>("dcs"), found.get_one::<u16>("shards"));
+    let (dcs, shards) = (dcs.unwrap_or(1), shards.unwrap_or(2));
+    let sessions = found.get_one::<u16>("sessions").unwrap_or(1);
+    let homes = homes_of(alloc, sessions, dcs)?;
+    match schema_of(alloc, found.get_str("families").unwrap_or("f"))? {
+        Some(schema) => Ok(Topology::new(dcs, shards, schema, homes).ok()),
+        None => Ok(None),
+    }
+}
+
+/// The server that accepted words ask for, or why there is none.
+pub(crate) fn serving_of(
+    alloc: Global,
+    found: &ArgMatches<'_>,
+) -> Result<Result<Serving, Told>, AllocError> {
+    let port = found.get_one::<u16>("port").unwrap_or(0);
+    if let Some(topology) = topology_of(alloc, found)? {
+        return Ok(Ok(Serving { port, topology }));
+    }
+    let names = found.get_str("families").unwrap_or("");
+    let text = format!(in alloc;
+        "error: invalid value '{names}' for '--families <LIST>': 1 to 16 names are wanted, each once, of 1 to 64 letters, digits and underscores\n"
+    )?;
+    Ok(Err(Told::Refused(text)))
+}

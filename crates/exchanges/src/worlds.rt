@@ -1,0 +1,28 @@
+//! Worlds whose sessions serve lines, and what clients send.
+use column_family::{Family, Schema};
+use logical_time::{Fault, Node};
+use messages::Topology;
+use std::alloc::Global;
+use world::World;
+
+/// A client's requests: a batch that inserts a column, and a read of it.
+pub(crate) const REQUESTS: &str =
+    "000000130100000001016600016200000178000000013100000012020166000000010001620000000001000178";
+
+/// A world of one shard with these sessions.
+pub(crate) fn world(alloc: Global, homes: &[u16]) -> Result<World, Fault> {
+    let mut families = Vec::new(alloc);
+    families.push(Family::from_slice(alloc, b"f")?)?;
+    let schema = Schema::new(families).ok_or(Fault::UnknownFamily)?;
+    let topology = Topology::new(1, 1, schema, Vec::from_slice(alloc, homes)?)?;
+    World::new(alloc, &topology)
+}
+
+/// The node of the first session.
+pub(crate) fn session_of(world: &World) -> Result<Node, Fault> {
+    let session = Node::new(1);
+    match world.topology().session_of(session) {
+        Some(_) => Ok(session),
+        None => Err(Fault::Script),
+    }
+}

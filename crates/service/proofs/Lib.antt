@@ -1,0 +1,9 @@
+pub mod Asked
+pub mod Chains
+pub mod Connected
+pub mod Entries
+pub mod Homes
+pub mod Idle
+pub mod Meant
+pub mod Ports
+pub mod Searched

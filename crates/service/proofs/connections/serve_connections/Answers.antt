@@ -1,0 +1,17 @@
+use Rattle.std.proofs.Common.{◌≡◌, ◌∙◌, ◌<◌, length, ap, arith, refl, subst, sym}
+use Rattle.messages.specs.Topology.{TopologyValue, session_node, is_session}
+use Rattle.world.specs.World.{WorldValue}
+use Rattle.service.specs.Connections.{AreServed}
+use Rattle.service.proofs.Connected.{served_next}
+use Rattle.service.proofs.Homes.{session_here}
+use Rattle.service.proofs.connections.serve_connections.Goals as goal
+
+pub loop-index-init : goal.loop-index-init
+loop-index-init c = record { topology = refl; served = refl }
+
+pub session_node-session-requires : goal.session_node-session-requires
+session_node-session-requires c =
+    let same = ap (λ (t : TopologyValue). length t.homes) (c.topology.ensures.value ∙ c.loop-index.invariant.topology) in
+    let lt = c.loop-index-test.true in
+    let le = c.requires in
+    omega arith

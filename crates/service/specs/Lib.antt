@@ -1,0 +1,3 @@
+pub mod Port
+pub mod Meaning
+pub mod Connections

@@ -1,0 +1,52 @@
+-- What replies mean: from the bytes of a connection to the meaning of each answer.
+use Rattle.std.specs.Prelude.{◌≡◌, ℕ, List, Some, Ok, Err, ⊤}
+use Rattle.column_family.specs.History.{History}
+use Rattle.slice.specs.declared.read.Read.{Read}
+use Rattle.slice.specs.declared.read.AnsweredRow.{AnsweredRow}
+use Rattle.table.specs.Meaning.{meaning}
+use Rattle.messages.specs.declared.op.Op.{Op}
+use Rattle.messages.specs.declared.op.Op.TheVariants as op
+use Rattle.messages.specs.declared.outcome.Outcome.{Outcome}
+use Rattle.messages.specs.declared.outcome.Outcome.TheVariants as outcome
+use Rattle.messages.specs.Topology.{TopologyValue, home_of}
+use Rattle.wire.specs.Replies.{Reply}
+use Rattle.world.specs.declared.run_event.RunEvent.{RunEvent as Event}
+use Rattle.world.specs.declared.completed.Completed.{Completed}
+use Rattle.world.specs.Run.{Run}
+use Rattle.world.specs.Entries.{IsTold}
+use Rattle.world.specs.Histories.{IsHistory}
+use Rattle.service.specs.Port.{IsEndOf, IsAnswered, Asks}
+
+-- A read's reply is the meaning of its request on the history of the data centre, at the effective time that it names.
+pub record IsReadMeant (top : TopologyValue) (w : Run) (dc : ℕ) (o : Op) (time : ℕ) (answer : List AnsweredRow) : Type 0 where
+  pub read : Read
+  pub asked : o ≡ op.Read read
+  pub meant : (h : History) → IsHistory top w dc h → answer ≡ meaning read h time
+
+-- What an outcome tells of the operation that ended with it, by the history of its home: a write's is the commit time and the
+-- stamp of its own decision there and of its batch in that history; a read's is its meaning.
+abbrev pub Tells : TopologyValue → Run → Completed → Op → Outcome → Type 0
+Tells top w c o (outcome.Wrote commit stamp) = IsTold top w c commit stamp
+Tells top w c o (outcome.Read time answer) = IsReadMeant top w c.home o time answer
+Tells top w c o outcome.Collected = ⊤
+
+-- An outcome is the end of this session's request in the run's transcript, at the session's home, and tells of it: so all that
+-- is promised of entries holds of it.
+pub record IsMeant (top : TopologyValue) (w : Run) (session number : ℕ) (o : Op) (result : Outcome) : Type 0 where
+  pub entry : Completed
+  pub ended : IsEndOf w session number entry
+  pub home : home_of top session ≡ Some entry.home
+  pub op_is : entry.op ≡ o
+  pub outcome_is : entry.outcome ≡ result
+  pub tells : Tells top w entry o result
+
+-- the request is answered, and the answer means it
+pub record IsAnsweredWell (top : TopologyValue) (session : ℕ) (left : Run) (before : List Event) (o : Op) (result : Outcome) (after : List Event) : Type 0 where
+  pub answered : IsAnswered top session o before result after
+  pub meant : IsMeant top left session answered.number o result
+
+-- A step of a session's connection, where `left` is the run after the whole connection: the request is answered on the world,
+-- and an outcome has its meaning in `left`; a refusal tells nothing.
+abbrev pub Replies : TopologyValue → ℕ → Run → List Event → Op → Reply → List Event → Type 0
+Replies top session left before o (Ok result) after = IsAnsweredWell top session left before o result after
+Replies top session left before o (Err fault) after = Asks top session before o (Err fault) after

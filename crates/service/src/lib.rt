@@ -1,0 +1,14 @@
+//! Requests that come over a line, answered by a session of a world.
+//!
+//! `specs/Port.antt` says what a request makes of a world and how it is answered, `Meaning` what the replies mean:
+//! together with what a line is served by, that leads from the bytes of a connection to the meaning of each answer.
+#![tactic(auto)]
+
+mod asking;
+mod connections;
+mod port;
+mod session;
+
+pub use connections::serve_connections;
+pub use port::WorldPort;
+pub use session::serve_session;
