@@ -88,14 +88,24 @@ fn failing_writes(alloc: Global, step: usize, replies: &[u8]) -> Result<(u64, u6
     Ok((0, right))
 }
 
+/// How serving ended, in a word.
+fn word_of(ended: Ended) -> &'static str {
+    match ended {
+        Ended::Clean => "clean",
+        Ended::Refused(_) => "refused",
+        Ended::ReadFailed => "read failed",
+        Ended::WriteFailed => "write failed",
+    }
+}
+
 fn tell_step(rt: &HostRuntime, step: usize) -> Result<(), Fault> {
     let alloc = rt.alloc();
     let (ended, replies) = serve(alloc, step, Failing::Never)?;
     let (reads, right_reads) = failing_reads(alloc, step, &replies)?;
     let (writes, right_writes) = failing_writes(alloc, step, &replies)?;
-    let shown = digits(alloc, &replies)?;
+    let (word, shown) = (word_of(ended), digits(alloc, &replies)?);
     let line = format!(in alloc;
-        "steps of {step}: {ended:?} {shown}, reads {reads} right {right_reads}, writes {writes} right {right_writes}"
+        "steps of {step}: {word} {shown}, reads {reads} right {right_reads}, writes {writes} right {right_writes}"
     )?;
     print(rt, line.as_str())
 }
