@@ -1,16 +1,37 @@
 //! Connections over loopback: one that asks and ends, one that is closed inside a frame, and one after it.
 use crate::showing::{bytes_of, digits, print};
-use crate::worlds::{REQUESTS, world};
+use crate::worlds::REQUESTS;
 use logical_time::Fault;
 use service::serve_connections;
 use std::alloc::Global;
 use std::io::{Read, Write};
-use std::net::{Net, Shutdown, TcpListener, TcpStream};
-use std::thread;
+use std::net::{Shutdown, TcpListener, TcpStream};
 use world::World;
 
+/// How many clients there are.
+const CLIENTS: u16 = 3;
+
+/// A listener on some port of 127.0.0.1, and the port.
+pub(crate) fn listen(rt: &HostRuntime) -> Result<(TcpListener, u16), Fault> {
+    let Ok(listener) = TcpListener::bind(rt, "127.0.0.1:0") else {
+        return Err(Fault::ReadFailed);
+    };
+    let Ok(address) = listener.local_addr() else {
+        return Err(Fault::ReadFailed);
+    };
+    Ok((listener, address.port()))
+}
+
+/// Serves the clients, if the world has a session for each.
+pub(crate) fn serve(alloc: Global, listener: &TcpListener, world: &mut World) -> Result<(), Fault> {
+    if world.topology().homes().len() < CLIENTS as usize {
+        return Err(Fault::Script);
+    }
+    serve_connections(alloc, listener, world, CLIENTS)
+}
+
 /// Sends the bytes, ends its side, and gives what comes back.
-fn exchange<R: Net>(rt: &R, alloc: Global, port: u16, sent: &[u8]) -> Result<Vec<u8>, Fault> {
+fn exchange(rt: &HostRuntime, alloc: Global, port: u16, sent: &[u8]) -> Result<Vec<u8>, Fault> {
     let Ok(mut stream) = TcpStream::connect(rt, ("127.0.0.1", port)) else {
         return Err(Fault::ReadFailed);
     };
@@ -24,9 +45,9 @@ fn exchange<R: Net>(rt: &R, alloc: Global, port: u16, sent: &[u8]) -> Result<Vec
     }
 }
 
-/// What three clients are answered: the first sends its requests, the second ends inside its second frame, and the third
-/// sends what the first sent.
-fn clients<R: Net>(rt: &R, alloc: Global, port: u16) -> Result<[Vec<u8>; 3], Fault> {
+/// What the clients are answered: the first sends its requests, the second ends inside its second frame, and the third sends
+/// what the first sent.
+pub(crate) fn clients(rt: &HostRuntime, alloc: Global, port: u16) -> Result<[Vec<u8>; 3], Fault> {
     let requests = bytes_of(alloc, REQUESTS)?;
     let inside = &requests[..requests.len().min(30)];
     let first = exchange(rt, alloc, port, &requests)?;
@@ -35,31 +56,10 @@ fn clients<R: Net>(rt: &R, alloc: Global, port: u16) -> Result<[Vec<u8>; 3], Fau
     Ok([first, second, third])
 }
 
-fn tell_in(rt: &HostRuntime, world: &mut World) -> Result<(), Fault> {
-    let alloc = rt.alloc();
-    let Ok(listener) = TcpListener::bind(rt, "127.0.0.1:0") else {
-        return Err(Fault::ReadFailed);
-    };
-    let Ok(address) = listener.local_addr() else {
-        return Err(Fault::ReadFailed);
-    };
-    let port = address.port();
-    let (served, told) = thread::join(
-        rt,
-        || serve_connections(alloc, &listener, world, 3),
-        || clients(rt, alloc, port),
-    );
-    served?;
-    for replies in told? {
-        print(rt, digits(alloc, &replies)?.as_str())?;
+/// Tells what the clients were answered.
+pub(crate) fn tell(rt: &HostRuntime, told: &[Vec<u8>]) -> Result<(), Fault> {
+    for replies in told {
+        print(rt, digits(rt.alloc(), replies)?.as_str())?;
     }
     Ok(())
-}
-
-/// Tells what three clients of one world are answered.
-pub(crate) fn tell(rt: &HostRuntime) -> Result<(), Fault> {
-    let mut world = world(rt.alloc(), &[0, 0, 0])?;
-    let told = tell_in(rt, &mut world);
-    world.close();
-    told
 }

@@ -10,9 +10,20 @@ mod showing;
 mod worlds;
 
 use logical_time::Fault;
+use std::thread;
 
 fn main(rt: HostRuntime) -> Result<(), Fault> {
     frames::tell(&rt)?;
     lines::tell(&rt)?;
-    connections::tell(&rt)
+    let (listener, port) = connections::listen(&rt)?;
+    let mut world = worlds::world(rt.alloc(), &[0, 0, 0])?;
+    let handle = &rt;
+    let (served, told) = thread::join(
+        &rt,
+        || connections::serve(handle.alloc(), &listener, &mut world),
+        || connections::clients(handle, handle.alloc(), port),
+    );
+    world.close();
+    served?;
+    connections::tell(&rt, &told?)
 }
