@@ -9,7 +9,7 @@ use std::net::{Shutdown, TcpListener, TcpStream};
 use world::World;
 
 /// How many clients there are.
-const CLIENTS: u16 = 3;
+const SESSIONS: u16 = 3;
 
 /// A listener on some port of 127.0.0.1, and the port.
 pub(crate) fn listen(rt: &HostRuntime) -> Result<(TcpListener, u16), Fault> {
@@ -24,10 +24,10 @@ pub(crate) fn listen(rt: &HostRuntime) -> Result<(TcpListener, u16), Fault> {
 
 /// Serves the clients, if the world has a session for each.
 pub(crate) fn serve(alloc: Global, listener: &TcpListener, world: &mut World) -> Result<(), Fault> {
-    if world.topology().homes().len() < CLIENTS as usize {
+    if world.topology().homes().len() < SESSIONS as usize {
         return Err(Fault::Script);
     }
-    serve_connections(alloc, listener, world, CLIENTS)
+    serve_connections(alloc, listener, world, SESSIONS)
 }
 
 /// Sends the bytes, ends its side, and gives what comes back.

@@ -26,7 +26,7 @@ fn fault_of(reader: &mut Reader, pieces: &[&[u8]]) -> Option<Fault> {
     reader.finish().err()
 }
 
-fn found(alloc: Global, pieces: &[&[u8]]) -> Result<Found, Fault> {
+fn read_all(alloc: Global, pieces: &[&[u8]]) -> Result<Found, Fault> {
     let mut reader = Reader::new(alloc);
     let fault = fault_of(&mut reader, pieces);
     let mut again = Vec::new(alloc);
@@ -41,7 +41,7 @@ fn cuts_that_differ(alloc: Global, stream: &[u8], whole: &Found) -> Result<usize
     let mut differ = 0usize;
     for at in 0..stream.len() {
         let (first, rest) = stream.split_at(at);
-        if !found(alloc, &[first, rest])?.is(whole) {
+        if !read_all(alloc, &[first, rest])?.is(whole) {
             differ = differ.saturating_add(1);
         }
     }
@@ -50,9 +50,9 @@ fn cuts_that_differ(alloc: Global, stream: &[u8], whole: &Found) -> Result<usize
 
 fn tell_stream(rt: &HostRuntime, name: &str, stream: &[u8]) -> Result<(), Fault> {
     let alloc = rt.alloc();
-    let whole = found(alloc, &[stream])?;
+    let whole = read_all(alloc, &[stream])?;
     let bytes: Vec<&[u8]> = stream.chunks(1).collect(alloc)?;
-    let single = if found(alloc, &bytes)?.is(&whole) {
+    let single = if read_all(alloc, &bytes)?.is(&whole) {
         "the same"
     } else {
         "another"
