@@ -1,8 +1,8 @@
 //! A session served over a line in memory, in small steps, and with each call of the line failing in turn.
 use crate::showing::{bytes_of, digits, print};
-use crate::worlds::{REQUESTS, session_of, world};
+use crate::worlds::{REQUESTS, world};
 use front::{Ended, Failing, MemoryLine};
-use logical_time::Fault;
+use logical_time::{Fault, Node};
 use service::serve_session;
 use std::alloc::Global;
 use world::World;
@@ -23,7 +23,10 @@ fn serve_in(
     step: usize,
     failing: Failing,
 ) -> Result<Served, Fault> {
-    let session = session_of(world)?;
+    let session = Node::new(1);
+    if world.topology().session_of(session).is_none() {
+        return Err(Fault::Script);
+    }
     let input = bytes_of(alloc, REQUESTS)?;
     let mut line = MemoryLine::new(alloc, input, step.max(1), failing);
     let ended = serve_session(alloc, world, session, &mut line);

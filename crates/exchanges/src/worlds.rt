@@ -1,6 +1,6 @@
 //! Worlds whose sessions serve lines, and what clients send.
 use column_family::{Family, Schema};
-use logical_time::{Fault, Node};
+use logical_time::Fault;
 use messages::Topology;
 use std::alloc::Global;
 use world::World;
@@ -16,13 +16,4 @@ pub(crate) fn world(alloc: Global, homes: &[u16]) -> Result<World, Fault> {
     let schema = Schema::new(families).ok_or(Fault::UnknownFamily)?;
     let topology = Topology::new(1, 1, schema, Vec::from_slice(alloc, homes)?)?;
     World::new(alloc, &topology)
-}
-
-/// The node of the first session.
-pub(crate) fn session_of(world: &World) -> Result<Node, Fault> {
-    let session = Node::new(1);
-    match world.topology().session_of(session) {
-        Some(_) => Ok(session),
-        None => Err(Fault::Script),
-    }
 }
