@@ -60,7 +60,7 @@ fn tell_stream(rt: &HostRuntime, name: &str, stream: &[u8]) -> Result<(), Fault>
     let differ = cuts_that_differ(alloc, stream, &whole)?;
     let (again, fault) = (digits(alloc, &whole.again)?, number_of(whole.fault));
     let line = format!(in alloc;
-        "{name}: fault {fault}, {differ} cuts differ, {single} byte by byte, read {again}"
+        "{name}: fault {fault}, {differ} cuts differ, {single} byte by byte, read [{again}]"
     )?;
     print(rt, line.as_str())
 }

@@ -57,10 +57,10 @@ fn is_cut_read(read: usize, served: &Served, replies: &[u8]) -> bool {
     served.0 == Ended::ReadFailed && served.1.as_slice() == replies_to(read, replies)
 }
 
-/// Whether a line whose write failed has a beginning of the replies.
-fn is_cut_write(written: usize, served: &Served, replies: &[u8]) -> bool {
-    let whole = written.min(replies.len());
-    served.0 == Ended::WriteFailed && served.1.as_slice() == &replies[..whole]
+/// Whether a line whose write failed has a beginning of the replies, and not all of them.
+fn is_cut_write(served: &Served, replies: &[u8]) -> bool {
+    let said = served.1.as_slice();
+    served.0 == Ended::WriteFailed && said.len() < replies.len() && replies.starts_with(said)
 }
 
 /// How many reads fail as they should, one by one, until none is left.
@@ -85,8 +85,7 @@ fn failing_writes(alloc: Global, step: usize, replies: &[u8]) -> Result<(u64, u6
         if served.0 == Ended::Clean {
             return Ok((number.saturating_sub(1), right));
         }
-        let written = step.saturating_mul(number.saturating_sub(1) as usize);
-        right = right.saturating_add(u64::from(is_cut_write(written, &served, replies)));
+        right = right.saturating_add(u64::from(is_cut_write(&served, replies)));
     }
     Ok((0, right))
 }
