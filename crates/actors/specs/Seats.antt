@@ -9,10 +9,12 @@ use Rattle.links.specs.Links.{InLinkValue}
 use Rattle.actors.specs.Journals.{IsOwn, receipts_from, held_from}
 use Rattle.actors.specs.Machines.{CameFrom, IsRecorded}
 
--- a way to an actor: all that went into the ring that leads there, and what waits for it, each in order
+-- a way to an actor: all that went into the ring that leads there, how many places of the ring are known to be free, and what
+-- waits for one, in order
 pub record LaneValue : Type 0 where
   pub to : ℕ
   pub sent : List Envelope
+  pub free : ℕ
   pub waiting : List Envelope
 
 -- A seat: which actor it is, and how many events its journal may hold; whether its machine is free for an operation; its

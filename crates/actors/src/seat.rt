@@ -1,9 +1,10 @@
 //! Machines in their seats.
-ghost use Rattle.std.specs.Prelude.{◌≡◌, ◌≤◌, ◌<◌, ◌++◌, ◌==◌, ◌&&◌, ◌⊎◌, length, None, All, false, IsSome, IfOk, OnOk, IfErr, OnErr};
+ghost use Rattle.std.specs.Prelude.{◌≡◌, ◌≤◌, ◌<◌, ◌++◌, ◌==◌, ◌&&◌, ◌⊎◌, length, None, All, true, false, IsSome, IfOk, OnOk, IfErr, OnErr};
 ghost use Rattle.messages.specs.declared.event.Event.TheVariants as event;
 ghost use Rattle.messages.specs.Topology.{node_count};
 ghost use Rattle.actors.specs.Journals.{submissions, number_after, followed_by, IsOwn};
 ghost use Rattle.actors.specs.Seats.{Keeps, rings, through};
+ghost use Rattle.actors.specs.Resting.{unsent, IsFlushed, IsSorted, WasEmpty};
 ghost use Rattle.actors.specs.Turns.{IsTurn, HasSame, HasDone, IsWork, turn_of};
 ghost use Rattle.actors.specs.Opening.{AreItsRings, new_seat};
 ghost use Rattle.actors.specs.declared.turn.Turn.TheVariants.{Handled};
@@ -213,7 +214,10 @@ impl<M: Machine> Seat<M> {
     /// went into a ring. Refused with `Memory` alone.
     fn flush(&mut self) -> Result<bool, Fault>
         ensures same { self.new ≡ record self.old { outgoing = self.new.outgoing; outbox = self.new.outbox } }
-        ensures still { IfOk result (λ moved. moved ≡ false → rings self.new.outgoing ≡ rings self.old.outgoing) }
+        ensures still { IfOk result (λ moved. moved ≡ false → (rings self.new.outgoing ≡ rings self.old.outgoing) × (unsent self.new ≡ unsent self.old)) }
+        ensures fewer { IfOk result (λ moved. moved ≡ true → unsent self.new < unsent self.old) }
+        ensures sorted { OnOk result (IsSorted self.new.outgoing self.new.outbox) }
+        ensures flushed { OnOk result (All IsFlushed self.new.outgoing) }
         ensures memory { IfErr result (λ e. e ≡ Fault.Memory) }
     {
         lane::sort(&mut self.recorded.outbox, &mut self.outgoing)?;
@@ -222,7 +226,8 @@ impl<M: Machine> Seat<M> {
 
     /// Takes an envelope from a ring, if none is held back.
     fn take_in(&mut self)
-        ensures { self.new ≡ record self.old { incoming = self.new.incoming; held = self.new.held } }
+        ensures same { self.new ≡ record self.old { incoming = self.new.incoming; held = self.new.held } }
+        ensures looked { self.new.held ≡ None → All WasEmpty self.new.incoming }
     {
         incoming::refill(&mut self.held, &mut self.incoming, &mut self.next);
     }
