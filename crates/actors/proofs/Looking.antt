@@ -1,15 +1,19 @@
 -- The rings to an actor, where one of them was looked at.
-use Rattle.std.proofs.Common.{◌≡◌, ℕ, ◌+◌, ◌≤◌, ◌<◌, ◌⊎◌, List, ◌∷◌, [], length, map, set, get_or, Some, ap, sym, subst, ◌∙◌, inl, inr, arith}
-use Rattle.std.specs.Prelude.{All}
+use Rattle.std.proofs.Common.{◌≡◌, ℕ, ◌+◌, ◌≤◌, ◌<◌, ◌⊎◌, List, ◌∷◌, [], length, map, set, get_or, ◌++◌, Option, Some, None, refl, ap, sym, subst, ◌∙◌, inl, inr, arith}
+use Rattle.std.specs.Prelude.{All, IfSome, IsSome}
 use Rattle.std.specs.List.{slice_get}
 use Rattle.std.proofs.lemmas.List.{length-map}
 use Rattle.std.proofs.lemmas.Bool.{cases_lt}
 use Rattle.std.proofs.lemmas.Bool.Decides.{eqb_tells}
 use Rattle.messages.specs.declared.envelope.Envelope.{Envelope}
+use Rattle.messages.specs.declared.event.Event.{Event}
+use Rattle.messages.specs.declared.event.Event.TheVariants.{Handle}
 use Rattle.links.specs.Links.{InLinkValue}
-use Rattle.actors.specs.Seats.{sources_of}
+use Rattle.actors.specs.Seats.{SeatValue, sources_of}
 use Rattle.actors.specs.Resting.{WasEmpty}
-use Rattle.actors.specs.Looking.{WereEmpty, IsFound, IsFoundInTurn}
+use Rattle.actors.specs.Looking.{WereEmpty, IsFound, IsFoundInTurn, IsNext, IsNextOf}
+use Rattle.actors.specs.Turns.{HasLooked}
+use Rattle.actors.specs.declared.turn.Turn.TheVariants.{Handled}
 use Rattle.actors.proofs.Lists.{here, all_of, set_at, set_here, set_away}
 use Rattle.actors.proofs.Receiving.{source_at, same_sources}
 
@@ -57,3 +61,30 @@ looked_at_all old new first count length_is high others low =
 
 pub looked_up_to : (links : List InLinkValue) (first end place : ℕ) → end ≤ place → WereEmpty links first place → WereEmpty links first end
 looked_up_to links first end place past before k l above below at = before k l above (omega (arith, below, past)) at
+
+-- the next envelope, where one was held back or was looked for
+pub next_held : (d n : SeatValue) → (d.held ≡ None → IfSome n.held (λ e. IsFoundInTurn n.incoming d.next n.next e)) → (IsSome d.held → n.held ≡ d.held)
+    → IfSome n.held (λ e. IsNext d n e)
+next_held d n found kept = by d.held n.held found kept
+  where
+    by : (o h : Option Envelope) → (o ≡ None → IfSome h (λ e. IsFoundInTurn n.incoming d.next n.next e)) → (IsSome o → h ≡ o) → IfSome h (λ e. IsNextOf o d n e)
+    by None h found kept = found refl
+    by (Some x) h found kept = rw (kept refl) refl
+
+-- the same, seen from before and after steps that touch neither what is held nor the rings
+next_from : (d s m n : SeatValue) (e : Envelope) → s.held ≡ d.held → s.next ≡ d.next → n.incoming ≡ m.incoming → n.next ≡ m.next → IsNext s m e → IsNext d n e
+next_from d s m n e held place incoming after next = by d.held (subst (λ (o : Option Envelope). IsNextOf o s m e) held next)
+  where
+    by : (o : Option Envelope) → IsNextOf o s m e → IsNextOf o d n e
+    by None found = rw (incoming, after, ← place) found
+    by (Some x) is = is
+
+-- it is handled
+pub next_handled : (d s m n : SeatValue) → IsSome m.held → IfSome m.held (λ e. IsNext s m e) → IfSome m.held (λ e. n.journal ≡ m.journal ++ Handle e ∷ [])
+    → s.held ≡ d.held → s.next ≡ d.next → m.journal ≡ d.journal → n.incoming ≡ m.incoming → n.next ≡ m.next → HasLooked Handled d n
+next_handled d s m n some next event held place journal incoming after = by m.held some next event
+  where
+    by : (h : Option Envelope) → IsSome h → IfSome h (λ e. IsNext s m e) → IfSome h (λ e. n.journal ≡ m.journal ++ Handle e ∷ []) → HasLooked Handled d n
+    by None some next event = absurd cc
+    by (Some e) some next event =
+        (e, event ∙ ap (λ (j : List Event). j ++ Handle e ∷ []) journal, next_from d s m n e held place incoming after next)

@@ -1,8 +1,8 @@
 -- The rings to an actor, as they are looked at one after the other.
-use Rattle.std.specs.Prelude.{◌≡◌, ℕ, ◌+◌, ◌≤◌, ◌<◌, ◌⊎◌, List, length, slice_get, Some}
+use Rattle.std.specs.Prelude.{◌≡◌, ℕ, ◌+◌, ◌≤◌, ◌<◌, ◌⊎◌, List, length, slice_get, Option, Some, None}
 use Rattle.messages.specs.declared.envelope.Envelope.{Envelope}
 use Rattle.links.specs.Links.{InLinkValue}
-use Rattle.actors.specs.Seats.{sources_of}
+use Rattle.actors.specs.Seats.{SeatValue, sources_of}
 use Rattle.actors.specs.Resting.{WasEmpty}
 
 -- the rings from the first of these places up to the second were empty when they were looked at
@@ -22,3 +22,11 @@ pub record IsFound (links : List InLinkValue) (first end after : ℕ) (e : Envel
 abbrev pub IsFoundInTurn : List InLinkValue → ℕ → ℕ → Envelope → Type 0
 IsFoundInTurn links first after e =
     IsFound links first (length links) after e ⊎ (WereEmpty links first (length links) × IsFound links 0 first after e)
+
+-- the envelope that a seat handles next: the one that was held back, or else the one that is found
+abbrev pub IsNextOf : Option Envelope → SeatValue → SeatValue → Envelope → Type 0
+IsNextOf (Some held) old new e = e ≡ held
+IsNextOf None old new e = IsFoundInTurn new.incoming old.next new.next e
+
+abbrev pub IsNext : SeatValue → SeatValue → Envelope → Type 0
+IsNext old new e = IsNextOf old.held old new e

@@ -32,5 +32,6 @@ new_seat top node limit free outgoing incoming =
       outgoing = map new_lane outgoing;
       outbox = [];
       incoming = incoming;
+      next = 0;
       held = None;
     }

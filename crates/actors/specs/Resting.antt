@@ -27,11 +27,15 @@ IsSorted lanes outbox = (node : ℕ) → has_way node lanes ≡ true → sends_t
 abbrev pub WasEmpty : InLinkValue → Type 0
 WasEmpty l = l.known ≡ 0
 
--- Nothing is left to do: what was sent is in the rings, but where one is full; no envelope is held, and none was found in a
--- ring; and no event is still to be done, or the machine isn't free for it.
+-- no envelope is held, and none was found in a ring
+pub record HasNoEnvelope (s : SeatValue) : Type 0 where
+  pub held : s.held ≡ None
+  pub looked : All WasEmpty s.incoming
+
+-- Nothing is left to do: what was sent is in the rings, but where one is full; there is no envelope; and no event is still to
+-- be done, or the machine isn't free for it.
 pub record IsResting (s : SeatValue) : Type 0 where
   pub sorted : IsSorted s.outgoing s.outbox
   pub flushed : All IsFlushed s.outgoing
-  pub held : s.held ≡ None
-  pub looked : All WasEmpty s.incoming
+  pub none : HasNoEnvelope s
   pub nothing : (s.backlog ≡ []) ⊎ (s.free ≡ false)

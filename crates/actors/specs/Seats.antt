@@ -19,8 +19,8 @@ pub record LaneValue : Type 0 where
 
 -- A seat: which actor it is, and how many events its journal may hold; whether its machine is free for an operation; its
 -- events, the outcomes that they gave, and how many operations were accepted; the operations that were refused, each with
--- how many were accepted before; what is still to be done; what was sent and what was received; and the envelope that is
--- held back after a refusal.
+-- how many were accepted before; what is still to be done; what was sent and what was received; the place of the ring that is
+-- looked at first; and the envelope that is held back after a refusal.
 pub record SeatValue : Type 0 where
   pub topology : TopologyValue
   pub node : ℕ
@@ -34,6 +34,7 @@ pub record SeatValue : Type 0 where
   pub outgoing : List LaneValue
   pub outbox : List Envelope
   pub incoming : List InLinkValue
+  pub next : ℕ
   pub held : Option Envelope
 
 -- what went to an actor by its way, and what waits there

@@ -8,7 +8,8 @@ use Rattle.messages.specs.declared.event.Event.{Event}
 use Rattle.messages.specs.declared.event.Event.TheVariants as event
 use Rattle.actors.specs.Journals.{submissions, IsBeginning}
 use Rattle.actors.specs.Seats.{SeatValue, rings}
-use Rattle.actors.specs.Resting.{unsent, IsResting}
+use Rattle.actors.specs.Resting.{unsent, HasNoEnvelope, IsResting}
+use Rattle.actors.specs.Looking.{IsNext}
 use Rattle.actors.specs.declared.turn.Turn.{Turn}
 use Rattle.actors.specs.declared.turn.Turn.TheVariants.{Idle, Moved, Handled, Submitted, Collected, Refused}
 
@@ -69,6 +70,15 @@ IsTurn (Submitted number) old new =
     (o : Op) × HasDone (event.Submit o) old new × (old.backlog ≡ event.Submit o ∷ new.backlog) × (number ≡ submissions new.journal)
 IsTurn Collected old new = (time : ℕ) × HasDone (event.Collect time) old new × (old.backlog ≡ event.Collect time ∷ new.backlog)
 IsTurn (Refused fault) old new = HasRefused fault old new
+
+-- Envelopes go before the backlog: a turn that handled one handled the next one, and for any other turn there was none.
+abbrev pub HasLooked : Turn → SeatValue → SeatValue → Type 0
+HasLooked Idle old new = HasNoEnvelope new
+HasLooked Moved old new = HasNoEnvelope new
+HasLooked Handled old new = (e : Envelope) × (new.journal ≡ old.journal ++ event.Handle e ∷ []) × IsNext old new e
+HasLooked (Submitted number) old new = HasNoEnvelope new
+HasLooked Collected old new = HasNoEnvelope new
+HasLooked (Refused fault) old new = HasNoEnvelope new
 
 -- it did an item of the backlog
 abbrev pub IsWork : Turn → Type 0
