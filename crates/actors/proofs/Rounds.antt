@@ -1,22 +1,24 @@
 -- Seats after turns, one by one and round by round.
-use Rattle.std.proofs.Common.{◌≡◌, ℕ, ◌+◌, ◌-◌, ◌≤◌, ◌<◌, List, [], ◌∷◌, ◌++◌, length, set, get_or, Some, refl, ap, sym, subst, ◌∙◌, append_assoc, inl, inr, arith}
+use Rattle.std.proofs.Common.{◌≡◌, ℕ, ◌+◌, ◌-◌, ◌≤◌, ◌<◌, ◌⊎◌, List, [], ◌∷◌, ◌++◌, length, set, get_or, Some, refl, ap, sym, subst, ◌∙◌, append_assoc, inl, inr, arith}
 use Rattle.std.specs.Prelude.{All}
 use Rattle.std.specs.List.{slice_get}
 use Rattle.std.proofs.lemmas.List.{append-nil, length-append, length-set}
 use Rattle.std.proofs.lemmas.List.Sums.{sum_by-set}
 use Rattle.std.proofs.lemmas.Bool.Decides.{eqb_tells}
 use Rattle.std.proofs.lemmas.Option.{slice_get_within, slice_get-get_or}
+use Rattle.logical_time.specs.declared.fault.Fault.{Fault}
+use Rattle.logical_time.specs.declared.fault.Fault.TheVariants.{JournalFull, Memory}
 use Rattle.messages.specs.declared.event.Event.{Event}
 use Rattle.actors.specs.Journals.{IsBeginning}
 use Rattle.actors.specs.Seats.{SeatValue}
 use Rattle.actors.specs.Resting.{unsent, IsResting}
 use Rattle.actors.specs.Turns.{HasSame, HasDone, HasRefused, IsTurn}
-use Rattle.actors.specs.Draining.{IsLater, AreLater, IsIdleRound, HasCome, IsRound, events_left, all_left, all_unsent, stirred, with_turn}
+use Rattle.actors.specs.Draining.{OneCanRefuse, IsLater, AreLater, IsIdleRound, HasCome, IsRound, events_left, all_left, all_unsent, once_moved, with_turn}
 use Rattle.actors.specs.declared.turn.Turn.{Turn}
 use Rattle.actors.specs.declared.turn.Turn.TheVariants.{Idle, Moved, Handled, Submitted, Collected, Refused}
 use Rattle.actors.specs.declared.draining.Round.{Round}
 use Rattle.actors.specs.declared.draining.Round.TheVariants.{Quiet, Stirred, Worked}
-use Rattle.actors.proofs.Lists.{here, all_of, set_here, set_away}
+use Rattle.actors.proofs.Lists.{here, all_of, set_at, set_here, set_away}
 
 same_beginning : {X : Type 0} (xs ys : List X) → ys ≡ xs → IsBeginning xs ys
 same_beginning xs ys is = ([], is ∙ sym (append-nil xs))
@@ -180,7 +182,7 @@ module _ (start now : List SeatValue) (k : ℕ) (d n : SeatValue) (lt : k < leng
   idle_turn Stirred same turn so_far = let next = idle_next turn in (next.0 ∙ so_far.0, omega (arith, next.1, so_far.1))
   idle_turn Worked same turn so_far = let next = idle_next turn in omega (arith, next.0, so_far)
 
-  moved_turn : (round : Round) → IsTurn Moved d n → SoFar round start now k → SoFar (stirred round) start (set now k n) (k + 1)
+  moved_turn : (round : Round) → IsTurn Moved d n → SoFar round start now k → SoFar (once_moved round) start (set now k n) (k + 1)
   moved_turn Quiet turn so_far = let next = moved_next turn in (next.0 ∙ so_far.0, omega (arith, next.1, so_far.1))
   moved_turn Stirred turn so_far = let next = moved_next turn in (next.0 ∙ so_far.0, omega (arith, next.1, so_far.1))
   moved_turn Worked turn so_far = let next = moved_next turn in omega (arith, next.0, so_far)
@@ -229,3 +231,7 @@ pub as_much_left : (round : Round) (old new : List SeatValue) → round ≡ Stir
 as_much_left Quiet old new is round = absurd cc
 as_much_left Stirred old new is round = round.0
 as_much_left Worked old new is round = absurd cc
+
+pub refused_at : (now : List SeatValue) (k : ℕ) (d n : SeatValue) (fault : Fault) → k < length now → HasSame d n → (d.limit ≤ length d.journal → (fault ≡ JournalFull) ⊎ (fault ≡ Memory))
+    → OneCanRefuse fault (set now k n)
+refused_at now k d n fault lt same full = (k, n, set_at now k n lt, rw (same.limit, same.journal) full)

@@ -1,6 +1,8 @@
 -- What a drain of seats does.
-use Rattle.std.specs.Prelude.{◌≡◌, ◌<◌, ℕ, ◌+◌, ◌-◌, List, ◌++◌, length, slice_get, Some}
+use Rattle.std.specs.Prelude.{◌≡◌, ◌≤◌, ◌<◌, ℕ, ◌⊎◌, ◌+◌, ◌-◌, List, ◌++◌, length, slice_get, Some}
 use Rattle.std.specs.List.{sum_by}
+use Rattle.logical_time.specs.declared.fault.Fault.{Fault}
+use Rattle.logical_time.specs.declared.fault.Fault.TheVariants.{JournalFull, Memory}
 use Rattle.messages.specs.declared.event.Event.{Event}
 use Rattle.actors.specs.Journals.{IsBeginning}
 use Rattle.actors.specs.Seats.{SeatValue}
@@ -36,10 +38,19 @@ pub record IsIdleRound (old new : List SeatValue) : Type 0 where
 abbrev pub HasCome : List SeatValue → List SeatValue → Type 0
 HasCome old new = (last : List SeatValue) × AreLater old last × IsIdleRound last new
 
+-- a turn of the seat can be refused so: where its journal is full, for that or for memory alone
+abbrev pub CanRefuse : Fault → SeatValue → Type 0
+CanRefuse fault s = s.limit ≤ length s.journal → (fault ≡ JournalFull) ⊎ (fault ≡ Memory)
+
+-- a turn of one of the seats can
+abbrev pub OneCanRefuse : Fault → List SeatValue → Type 0
+OneCanRefuse fault seats = (k : ℕ) × (s : SeatValue) × (slice_get seats k ≡ Some s) × CanRefuse fault s
+
 -- how many events a seat can still do, and items of its backlog be refused
 abbrev pub events_left : SeatValue → ℕ
 events_left s = (s.limit - length s.journal) + length s.backlog
 
+-- the same of all seats
 abbrev pub all_left : List SeatValue → ℕ
 all_left seats = sum_by events_left seats
 
@@ -48,15 +59,15 @@ abbrev pub all_unsent : List SeatValue → ℕ
 all_unsent seats = sum_by unsent seats
 
 -- what a round did, where one more turn moved what waited
-abbrev pub stirred : Round → Round
-stirred Quiet = Stirred
-stirred Stirred = Stirred
-stirred Worked = Worked
+abbrev pub once_moved : Round → Round
+once_moved Quiet = Stirred
+once_moved Stirred = Stirred
+once_moved Worked = Worked
 
 -- what a round did with one more turn
 abbrev pub with_turn : Round → Turn → Round
 with_turn round Idle = round
-with_turn round Moved = stirred round
+with_turn round Moved = once_moved round
 with_turn round Handled = Worked
 with_turn round (Submitted number) = Worked
 with_turn round Collected = Worked

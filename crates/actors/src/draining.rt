@@ -1,8 +1,8 @@
 //! Turns of seats, one after the other, until nothing is left to do.
-ghost use Rattle.std.specs.Prelude.{◌≡◌, ◌<◌, true, false, All, IfOk, OnOk};
+ghost use Rattle.std.specs.Prelude.{◌≡◌, ◌<◌, true, false, All, IfOk, OnOk, IfErr};
 ghost use Rattle.actors.specs.Resting.{IsResting};
 ghost use Rattle.actors.specs.Draining as spec;
-ghost use Rattle.actors.specs.Draining.{AreLater, IsRound, HasCome, all_left};
+ghost use Rattle.actors.specs.Draining.{AreLater, IsRound, HasCome, OneCanRefuse, all_left};
 
 use crate::machine::Machine;
 use crate::seat::Seat;
@@ -11,7 +11,7 @@ use logical_time::Fault;
 
 /// What the turns of a round did.
 #[derive(Clone, Copy)]
-pub enum Round {
+enum Round {
     /// Nothing.
     Quiet,
     /// Sends that waited went into their rings, and nothing else.
@@ -36,6 +36,7 @@ fn with_turn(round: Round, turn: Turn) -> Round
 fn one_round<M: Machine>(seats: &mut [Seat<M>]) -> Result<Round, Fault>
     ensures later { AreLater seats.old seats.new }
     ensures round { IfOk result (λ round. IsRound round seats.old seats.new) }
+    ensures refused { IfErr result (λ fault. OneCanRefuse fault seats.new) }
 {
     let mut round = Round::Quiet;
     for place in 0..seats.len() {
@@ -50,6 +51,7 @@ fn rounds<M: Machine>(seats: &mut [Seat<M>]) -> Result<bool, Fault>
     ensures later { AreLater seats.old seats.new }
     ensures less { IfOk result (λ worked. worked ≡ true → all_left seats.new < all_left seats.old) }
     ensures come { IfOk result (λ worked. worked ≡ false → HasCome seats.old seats.new) }
+    ensures refused { IfErr result (λ fault. OneCanRefuse fault seats.new) }
 {
     loop {
         match one_round(seats)? {
@@ -68,6 +70,7 @@ pub fn drain<M: Machine>(seats: &mut [Seat<M>]) -> Result<(), Fault>
     ensures later { AreLater seats.old seats.new }
     ensures come { OnOk result (HasCome seats.old seats.new) }
     ensures resting { OnOk result (All IsResting seats.new) }
+    ensures refused { IfErr result (λ fault. OneCanRefuse fault seats.new) }
 {
     while rounds(seats)? {}
     Ok(())
