@@ -1,9 +1,10 @@
 -- Shards and sessions as machines: one event more in the journal, and before the first.
-use Rattle.std.proofs.Common.{append-nil, ◌≡◌, ◌∙◌, ℕ, zero, ◌+◌, ◌<◌, Bool, true, false, List, [], ◌∷◌, ◌++◌, map, length, Option, Some, None, Result, Ok, Err, ◌⊎◌, inl, inr, refl, sym, ap, subst, arith}
-use Rattle.std.specs.Prelude.{◌==◌, if◌then◌else◌, filter, filter_map, option_to_list}
+use Rattle.std.proofs.Common.{append-nil, ◌≡◌, ◌∙◌, ℕ, zero, ◌+◌, ◌-◌, ◌<◌, Bool, true, false, List, [], ◌∷◌, ◌++◌, map, length, Option, Some, None, Result, Ok, Err, ◌⊎◌, inl, inr, refl, sym, ap, subst, arith}
+use Rattle.std.specs.Prelude.{◌==◌, if◌then◌else◌, filter, filter_map, slice_get, option_to_list, option_and_then}
 use Rattle.std.specs.List.{cons_option}
 use Rattle.std.specs.Option.{unwrap_or}
 use Rattle.std.proofs.lemmas.List.{append_assoc, length-append, map-append}
+use Rattle.std.proofs.lemmas.Bool.Decides.{nat_tests}
 use Rattle.std.proofs.lemmas.List.Elements.{filter-append, filter_map-append}
 use Rattle.logical_time.specs.declared.fault.Fault.{Fault}
 use Rattle.messages.specs.declared.envelope.Envelope.{Envelope}
@@ -11,7 +12,7 @@ use Rattle.messages.specs.declared.outcome.Outcome.{Outcome}
 use Rattle.messages.specs.declared.op.Op.{Op}
 use Rattle.messages.specs.declared.event.Event.{Event}
 use Rattle.messages.specs.declared.event.Event.TheVariants.{Submit, Handle, Collect}
-use Rattle.messages.specs.Topology.{TopologyValue, is_shard, home_of}
+use Rattle.messages.specs.Topology.{TopologyValue, shard_count, is_shard, node_count, home_of}
 use Rattle.messages.specs.Shard.{ShardState, ShardStep, new_shard}
 use Rattle.messages.specs.Session.{SessionState, SessionStep, Finished, new_session}
 use Rattle.messages.specs.ShardEvents.{shard_handle, shard_collect}
@@ -24,7 +25,8 @@ use Rattle.client.specs.declared.kept.Kept.{Kept as SessionKept}
 use Rattle.client.specs.Represents as session
 use Rattle.client.specs.State.{finished_of, state_of}
 use Rattle.actors.specs.Journals.{op_in, submissions, sends_to, followed_by}
-use Rattle.world.proofs.Moves.{op_count, shard_took, session_took}
+use Rattle.world.proofs.Prefixes.{get_there}
+use Rattle.world.proofs.Moves.{counts_session, op_count, shard_took, session_took}
 use Rattle.world.proofs.Counted.{step_count}
 use Rattle.world.proofs.Replays.{unfolds, replay_push}
 use Rattle.threaded.specs.declared.actor.Actor.{Actor}
@@ -350,6 +352,14 @@ outcome_taken k w ended top node journal sent outcomes came =
 pub nothing_taken : (k : ShardKept) (top : TopologyValue) (node : ℕ) (journal : List Event) (sent : ℕ → List Envelope) (outcomes : List (ℕ × Outcome))
     → CameFrom top node journal sent outcomes (actor.Shard k) → CameFrom top node journal sent (outcomes ++ []) (actor.Shard k)
 nothing_taken k top node journal sent outcomes came = subst (λ l. CameFrom top node journal sent l (actor.Shard k)) (sym (append-nil outcomes)) came
+
+-- each session has a home
+pub session_home : (top : TopologyValue) (node : ℕ) → is_shard top node ≡ false → node < node_count top → (home : ℕ) × (home_of top node ≡ Some home)
+session_home top node away lt =
+    let is = counts_session top node lt away in
+    let below : node - shard_count top < length top.homes = grind (arith, nat_tests) in
+    let home = get_there top.homes (node - shard_count top) below in
+    (home.0, ap (λ b. option_and_then (λ i. slice_get top.homes i) (if b then Some (node - shard_count top) else None)) is ∙ home.1)
 
 pub session_opens : (top : TopologyValue) (node : ℕ) (k : SessionKept) → is_shard top node ≡ false → k.node ≡ node
     → ((home : ℕ) → home_of top node ≡ Some home → session.Represents k top (new_session home)) → (home : ℕ) → home_of top node ≡ Some home

@@ -35,7 +35,11 @@ pub enum Actor {
 
 /// A shard does one event. A submission is refused with `StrangerEnd`, and what else as the shard refuses it; then it
 /// stands for what it stood for, and the event is handed back.
-fn step_shard(shard: &mut Shard, event: Event, outbox: &mut Outbox) -> Result<Option<u64>, (Fault, Event)>
+fn step_shard(
+    shard: &mut Shard,
+    event: Event,
+    outbox: &mut Outbox,
+) -> Result<Option<u64>, (Fault, Event)>
     ensures came { (top : TopologyValue) (node : ℕ) (journal : List ActorEvent) (before : ℕ → List Envelope) (outcomes : List (ℕ × Outcome))
         → CameFrom top node journal (followed_by before outbox.old.sent) outcomes (actor.Shard shard.old)
         → OnOk result (CameFrom top node (journal ++ event ∷ []) (followed_by before outbox.new.sent) outcomes (actor.Shard shard.new)) }
@@ -127,11 +131,7 @@ impl Machine for Actor {
         }
     }
 
-    fn step(
-        &mut self,
-        event: Event,
-        outbox: &mut Outbox,
-    ) -> Result<Option<u64>, (Fault, Event)> {
+    fn step(&mut self, event: Event, outbox: &mut Outbox) -> Result<Option<u64>, (Fault, Event)> {
         match self {
             Actor::Shard(shard) => step_shard(shard, event, outbox),
             Actor::Session {
