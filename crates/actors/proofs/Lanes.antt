@@ -1,14 +1,16 @@
 -- The ways of a seat, where one changes.
-use Rattle.std.proofs.Common.{◌≡◌, ℕ, zero, suc, ◌+◌, ◌<◌, ◌==◌, Bool, true, false, cond, List, [], ◌∷◌, ◌++◌, length, get_or, set, take, drop, Some, refl, ap, sym, ◌∙◌, add-one, append_assoc, inl, inr, arith}
+use Rattle.std.proofs.Common.{◌≡◌, ℕ, zero, suc, ◌+◌, ◌≤◌, ◌<◌, ◌==◌, Bool, true, false, cond, List, [], ◌∷◌, ◌++◌, length, get_or, set, take, drop, Some, refl, ap, sym, subst, ◌∙◌, add-one, append_assoc, inl, inr, arith}
 use Rattle.std.specs.Prelude.{◌≢◌}
 use Rattle.std.specs.List.{slice_get, list_any}
-use Rattle.std.proofs.lemmas.List.{append-nil}
+use Rattle.std.proofs.lemmas.List.{append-nil, length-append, length-take-le, length-drop, take_all}
+use Rattle.std.proofs.lemmas.List.Sums.{sum_by-set}
 use Rattle.std.proofs.Math.Seq.{map-set_same}
 use Rattle.std.proofs.lemmas.Bool.Decides.{eqb_tells}
 use Rattle.messages.specs.declared.envelope.Envelope.{Envelope}
 use Rattle.actors.specs.Journals.{sends_to, followed_by}
 use Rattle.actors.specs.Seats.{LaneValue, through, ends_of, rings}
 use Rattle.actors.specs.Ways.{has_way, IsFirstWay}
+use Rattle.actors.specs.Resting.{waiting_on, IsSorted}
 use Rattle.actors.proofs.Lists.{here, either_false, true_or}
 use Rattle.actors.proofs.Sending.{test_true, test_false, taken_out, none_next, none_kept}
 
@@ -69,15 +71,24 @@ more_through (x ∷ ls) (suc k) d l e node lt is first leads to sent waiting =
     let p = either_false (x.to == e.to) _ first in
     passed (x.to == node) (e.to == node) e _ _ _ (other_end x.to e.to node p.0) (more_through ls k d l e node (omega arith) is p.1 leads to sent waiting)
 
+-- how many wait, where one way is put in the place of another
+pub waiting_set : (ls : List LaneValue) (k : ℕ) (d l : LaneValue) → k < length ls → d ≡ get_or ls k d → waiting_on (set ls k l) + length d.waiting ≡ waiting_on ls + length l.waiting
+waiting_set ls k d l lt is =
+    subst (λ (x : LaneValue). waiting_on (set ls k l) + length x.waiting ≡ waiting_on ls + length l.waiting) (sym is) (sum_by-set (λ (x : LaneValue). length x.waiting) ls k l d lt)
+
+length_without : (es : List Envelope) (number : ℕ) → number < length es → length (take number es ++ drop (number + 1) es) + 1 ≡ length es
+length_without es number lt = rw (length-append (take number es) (drop (number + 1) es), length-take-le number es (omega (arith, lt)), length-drop (number + 1) es) (omega (arith, lt))
+
 -- what is held of ways and outbox while it is sorted
 pub record Sorted (ls start : List LaneValue) (outbox first : List Envelope) (number : ℕ) : Type 0 where
   pub ends : ends_of ls ≡ ends_of start
   pub rings : rings ls ≡ rings start
   pub whole : (node : ℕ) → followed_by (through ls) outbox node ≡ followed_by (through start) first node
+  pub count : waiting_on ls + length outbox ≡ waiting_on start + length first
   pub passed : (node : ℕ) → has_way node ls ≡ true → sends_to node (take number outbox) ≡ []
 
 pub begun : (ls : List LaneValue) (outbox : List Envelope) → Sorted ls ls outbox outbox 0
-begun ls outbox = record { ends = refl; rings = refl; whole = λ node. refl; passed = λ node way. refl }
+begun ls outbox = record { ends = refl; rings = refl; whole = λ node. refl; count = refl; passed = λ node way. refl }
 
 pub taken_one : (ls start : List LaneValue) (outbox first next : List Envelope) (number k : ℕ) (d l : LaneValue) (e : Envelope)
     → Sorted ls start outbox first number → number < length outbox → slice_get outbox number ≡ Some e
@@ -94,6 +105,11 @@ taken_one ls start outbox first next number k d l e so_far lt at way is to sent 
       whole = λ node.
           let none : e.to ≡ node → sends_to node (take number outbox) ≡ [] = λ h. so_far.passed node (way_there node ls k d d_at (leads ∙ h)) in
           rw (more_through ls k d l e node way.within is way.first leads to sent waiting, rest, append_assoc, taken_out node outbox number e at none) (so_far.whole node);
+      count =
+          let ways = waiting_set ls k d l way.within is in
+          let one : length l.waiting ≡ length d.waiting + 1 = rw waiting (length-append d.waiting (e ∷ [])) in
+          let left : length next + 1 ≡ length outbox = rw rest (length_without outbox number lt) in
+          omega (arith, ways, one, left, so_far.count);
       passed = λ node there.
           let was : has_way node ls ≡ true = ap (λ ns. list_any (λ to. to == node) ns) (sym ends) ∙ there in
           rw (rest, add-one) (none_kept node outbox number lt (so_far.passed node was));
@@ -106,7 +122,11 @@ passed_one ls start outbox first number e so_far at none = record {
   ends = so_far.ends;
   rings = so_far.rings;
   whole = so_far.whole;
+  count = so_far.count;
   passed = λ node there.
       let away : e.to ≢ node = λ h. let both : has_way node ls ≡ false = ap (λ n. has_way n ls) (sym h) ∙ none in cc in
       rw add-one (none_next node outbox number e at away (so_far.passed node there));
 }
+
+pub sorted_all : (ls start : List LaneValue) (outbox first : List Envelope) (number : ℕ) → Sorted ls start outbox first number → length outbox ≤ number → IsSorted ls outbox
+sorted_all ls start outbox first number so_far past node way = subst (λ (es : List Envelope). sends_to node es ≡ []) (take_all number outbox past) (so_far.passed node way)

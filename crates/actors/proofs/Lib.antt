@@ -3,7 +3,9 @@ pub mod Sending
 pub mod Lanes
 pub mod Recording
 pub mod Receiving
+pub mod Looking
 pub mod Seating
 pub mod Working
+pub mod Rounds
 pub mod Beginning
 pub mod Built

@@ -17,7 +17,7 @@ abbrev source : Option InLinkValue → Option ℕ
 source None = None
 source (Some l) = Some l.from
 
-source_at : (links : List InLinkValue) (k : ℕ) (l : InLinkValue) → slice_get links k ≡ Some l → slice_get (sources_of links) k ≡ Some l.from
+pub source_at : (links : List InLinkValue) (k : ℕ) (l : InLinkValue) → slice_get links k ≡ Some l → slice_get (sources_of links) k ≡ Some l.from
 source_at [] k l at = absurd cc
 source_at (m ∷ links) zero l at = ap (λ (o : Option InLinkValue). source o) at
 source_at (m ∷ links) (suc k) l at = source_at links k l at

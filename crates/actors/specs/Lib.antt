@@ -2,7 +2,10 @@ pub mod Journals
 pub mod Machines
 pub mod Seats
 pub mod Ways
+pub mod Resting
+pub mod Looking
 pub mod Turns
+pub mod Draining
 pub mod Opening
 pub mod Building
 pub mod Reports

@@ -8,7 +8,7 @@ use Rattle.actors.specs.Seats.{LaneValue, SeatValue}
 
 -- the way over a ring, on which nothing waits
 abbrev pub new_lane : OutLinkValue → LaneValue
-new_lane l = record { to = l.to; sent = l.sent; waiting = [] }
+new_lane l = record { to = l.to; sent = l.sent; free = l.free; waiting = [] }
 
 -- all rings of the actor with this node, through which nothing went yet
 pub record AreItsRings (top : TopologyValue) (node : ℕ) (ends : Ends) : Type 0 where
@@ -32,5 +32,6 @@ new_seat top node limit free outgoing incoming =
       outgoing = map new_lane outgoing;
       outbox = [];
       incoming = incoming;
+      next = 0;
       held = None;
     }

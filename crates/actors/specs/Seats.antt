@@ -9,16 +9,18 @@ use Rattle.links.specs.Links.{InLinkValue}
 use Rattle.actors.specs.Journals.{IsOwn, receipts_from, held_from}
 use Rattle.actors.specs.Machines.{CameFrom, IsRecorded}
 
--- a way to an actor: all that went into the ring that leads there, and what waits for it, each in order
+-- a way to an actor: all that went into the ring that leads there, how many places of the ring are known to be free, and what
+-- waits for one, in order
 pub record LaneValue : Type 0 where
   pub to : ℕ
   pub sent : List Envelope
+  pub free : ℕ
   pub waiting : List Envelope
 
 -- A seat: which actor it is, and how many events its journal may hold; whether its machine is free for an operation; its
 -- events, the outcomes that they gave, and how many operations were accepted; the operations that were refused, each with
--- how many were accepted before; what is still to be done; what was sent and what was received; and the envelope that is
--- held back after a refusal.
+-- how many were accepted before; what is still to be done; what was sent and what was received; the place of the ring that is
+-- looked at first; and the envelope that is held back after a refusal.
 pub record SeatValue : Type 0 where
   pub topology : TopologyValue
   pub node : ℕ
@@ -32,6 +34,7 @@ pub record SeatValue : Type 0 where
   pub outgoing : List LaneValue
   pub outbox : List Envelope
   pub incoming : List InLinkValue
+  pub next : ℕ
   pub held : Option Envelope
 
 -- what went to an actor by its way, and what waits there

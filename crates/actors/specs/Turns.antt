@@ -1,5 +1,5 @@
 -- What a turn of a seat does.
-use Rattle.std.specs.Prelude.{◌≡◌, ◌≤◌, ◌<◌, ℕ, ◌⊎◌, false, [], ◌∷◌, ◌++◌, length, Option, Some, None}
+use Rattle.std.specs.Prelude.{◌≡◌, ◌≤◌, ◌<◌, ℕ, [], ◌∷◌, ◌++◌, length, Option, Some, None}
 use Rattle.logical_time.specs.declared.fault.Fault.{Fault}
 use Rattle.logical_time.specs.Fault.{number_of}
 use Rattle.messages.specs.declared.envelope.Envelope.{Envelope}
@@ -8,6 +8,8 @@ use Rattle.messages.specs.declared.event.Event.{Event}
 use Rattle.messages.specs.declared.event.Event.TheVariants as event
 use Rattle.actors.specs.Journals.{submissions, IsBeginning}
 use Rattle.actors.specs.Seats.{SeatValue, rings}
+use Rattle.actors.specs.Resting.{unsent, HasNoEnvelope, IsResting}
+use Rattle.actors.specs.Looking.{IsNext}
 use Rattle.actors.specs.declared.turn.Turn.{Turn}
 use Rattle.actors.specs.declared.turn.Turn.TheVariants.{Idle, Moved, Handled, Submitted, Collected, Refused}
 
@@ -37,12 +39,10 @@ pub record HasDone (event : Event) (old new : SeatValue) : Type 0 where
   pub node : new.node ≡ old.node
   pub limit : new.limit ≡ old.limit
 
--- No event was done, since there was none: no envelope, and nothing that is still to be done, or no machine that is free
--- for it.
+-- no event was done, since there was none
 pub record HasRested (old new : SeatValue) : Type 0 where
   pub same : HasSame old new
-  pub held : new.held ≡ None
-  pub nothing : (new.backlog ≡ []) ⊎ (new.free ≡ false)
+  pub resting : IsResting new
 
 -- the first item of the backlog was refused for what it asks, and taken off
 pub record HasRefused (fault : Fault) (old new : SeatValue) : Type 0 where
@@ -61,14 +61,24 @@ turn_of None = Collected
 turn_of (Some number) = Submitted number
 
 -- What a turn that answers this made of the seat: at most one event is added to the journal, the one that the answer names.
+-- Where it is none, envelopes went into their rings, or none did.
 abbrev pub IsTurn : Turn → SeatValue → SeatValue → Type 0
-IsTurn Idle old new = HasRested old new × (rings new.outgoing ≡ rings old.outgoing)
-IsTurn Moved old new = HasRested old new
+IsTurn Idle old new = HasRested old new × (rings new.outgoing ≡ rings old.outgoing) × (unsent new ≡ unsent old)
+IsTurn Moved old new = HasRested old new × (unsent new < unsent old)
 IsTurn Handled old new = (e : Envelope) × HasDone (event.Handle e) old new × (new.backlog ≡ old.backlog)
 IsTurn (Submitted number) old new =
     (o : Op) × HasDone (event.Submit o) old new × (old.backlog ≡ event.Submit o ∷ new.backlog) × (number ≡ submissions new.journal)
 IsTurn Collected old new = (time : ℕ) × HasDone (event.Collect time) old new × (old.backlog ≡ event.Collect time ∷ new.backlog)
 IsTurn (Refused fault) old new = HasRefused fault old new
+
+-- Envelopes go before the backlog: a turn that handled one handled the next one, and for any other turn there was none.
+abbrev pub HasLooked : Turn → SeatValue → SeatValue → Type 0
+HasLooked Idle old new = HasNoEnvelope new
+HasLooked Moved old new = HasNoEnvelope new
+HasLooked Handled old new = (e : Envelope) × (new.journal ≡ old.journal ++ event.Handle e ∷ []) × IsNext old new e
+HasLooked (Submitted number) old new = HasNoEnvelope new
+HasLooked Collected old new = HasNoEnvelope new
+HasLooked (Refused fault) old new = HasNoEnvelope new
 
 -- it did an item of the backlog
 abbrev pub IsWork : Turn → Type 0

@@ -1,7 +1,9 @@
 //! The ends of rings where an actor takes envelopes.
-ghost use Rattle.std.specs.Prelude.{◌≡◌, ◌≤◌, ◌<◌, List, length, None};
+ghost use Rattle.std.specs.Prelude.{◌≡◌, ◌≤◌, ◌<◌, ◌⊎◌, ℕ, List, All, length, slice_get, None, IsSome, IfSome, IfNone};
 ghost use Rattle.messages.specs.declared.event.Event.{Event};
 ghost use Rattle.actors.specs.Seats.{IsApart, Received, sources_of};
+ghost use Rattle.actors.specs.Resting.{WasEmpty};
+ghost use Rattle.actors.specs.Looking.{WereEmpty, IsFound, IsFoundInTurn};
 
 use links::InLink;
 use messages::Envelope;
@@ -12,6 +14,9 @@ fn poll(incoming: &mut Vec<InLink>, first: usize, end: usize, next: &mut usize) 
     requires { end ≤ length incoming.old.items }
     ensures sources { sources_of incoming.new.items ≡ sources_of incoming.old.items }
     ensures received { (journal : List Event) → IsApart (sources_of incoming.old.items) → Received journal incoming.old.items None → Received journal incoming.new.items result }
+    ensures found { IfSome result (λ e. IsFound incoming.new.items first end next.new e) }
+    ensures none { IfNone result (WereEmpty incoming.new.items first end × (next.new ≡ next.old)) }
+    ensures others { (k : ℕ) → (k < first) ⊎ (end ≤ k) → slice_get incoming.new.items k ≡ slice_get incoming.old.items k }
 {
     for place in first..end {
         if let Some(envelope) = incoming[place].pop() {
@@ -27,6 +32,8 @@ fn poll(incoming: &mut Vec<InLink>, first: usize, end: usize, next: &mut usize) 
 fn take_next(incoming: &mut Vec<InLink>, next: &mut usize) -> Option<Envelope>
     ensures sources { sources_of incoming.new.items ≡ sources_of incoming.old.items }
     ensures received { (journal : List Event) → IsApart (sources_of incoming.old.items) → Received journal incoming.old.items None → Received journal incoming.new.items result }
+    ensures found { IfSome result (λ e. IsFoundInTurn incoming.new.items next.old next.new e) }
+    ensures none { IfNone result (All WasEmpty incoming.new.items × (next.new ≡ next.old)) }
 {
     let count = incoming.len();
     let start = (*next).min(count);
@@ -47,6 +54,9 @@ pub fn hold(held: &mut Option<Envelope>, envelope: Option<Envelope>)
 pub fn refill(held: &mut Option<Envelope>, incoming: &mut Vec<InLink>, next: &mut usize)
     ensures sources { sources_of incoming.new.items ≡ sources_of incoming.old.items }
     ensures received { (journal : List Event) → IsApart (sources_of incoming.old.items) → Received journal incoming.old.items held.old → Received journal incoming.new.items held.new }
+    ensures found { held.old ≡ None → IfSome held.new (λ e. IsFoundInTurn incoming.new.items next.old next.new e) }
+    ensures none { held.new ≡ None → All WasEmpty incoming.new.items }
+    ensures held { IsSome held.old → (held.new ≡ held.old) × (next.new ≡ next.old) }
 {
     if held.is_none() {
         let taken = take_next(incoming, next);

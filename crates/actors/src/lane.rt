@@ -1,10 +1,11 @@
 //! The ways from one actor to others.
-ghost use Rattle.std.specs.Prelude.{◌≡◌, ◌<◌, ◌++◌, ◌∷◌, [], ◌+◌, ℕ, true, false, Some, length, take, drop, slice_get, map, IfSome, IfNone, IfOk, IfErr, OnOk, OnErr};
+ghost use Rattle.std.specs.Prelude.{◌≡◌, ◌<◌, ◌++◌, ◌∷◌, [], ◌+◌, ℕ, true, false, Some, All, length, take, drop, slice_get, map, IfSome, IfNone, IfOk, IfErr, OnOk, OnErr};
 ghost use Rattle.std.specs.List.{list_any};
 ghost use Rattle.actors.specs.Journals.{followed_by};
 ghost use Rattle.actors.specs.Seats.{LaneValue, through, ends_of, rings};
 ghost use Rattle.actors.specs.Opening.{new_lane};
 ghost use Rattle.actors.specs.Ways.{has_way, IsFirstWay};
+ghost use Rattle.actors.specs.Resting.{waiting_on, IsFlushed, IsSorted};
 
 use links::OutLink;
 use logical_time::{Fault, Node};
@@ -25,13 +26,13 @@ impl Model for Lane {
 
     ghost Value = { LaneValue };
 
-    ghost view = { λ l. record { to = l.link.to; sent = l.link.sent; waiting = l.waiting.items } };
+    ghost view = { λ l. record { to = l.link.to; sent = l.link.sent; free = l.link.free; waiting = l.waiting.items } };
 }
 
 impl Lane {
     /// A way on which nothing waits.
     pub fn new(alloc: Global, link: OutLink) -> Lane
-        ensures { result ≡ record { to = link.to; sent = link.sent; waiting = [] } }
+        ensures { result ≡ record { to = link.to; sent = link.sent; free = link.free; waiting = [] } }
     {
         Lane {
             link,
@@ -67,7 +68,9 @@ impl Lane {
     pub fn flush(&mut self) -> bool
         ensures to { self.new.to ≡ self.old.to }
         ensures whole { self.new.sent ++ self.new.waiting ≡ self.old.sent ++ self.old.waiting }
-        ensures still { result ≡ false → self.new.sent ≡ self.old.sent }
+        ensures still { result ≡ false → (self.new.sent ≡ self.old.sent) × (self.new.waiting ≡ self.old.waiting) }
+        ensures fewer { result ≡ true → length self.new.waiting < length self.old.waiting }
+        ensures flushed { IsFlushed self.new }
     {
         let mut moved = false;
         while !self.waiting.is_empty() && !self.link.is_full() {
@@ -111,6 +114,8 @@ pub fn sort(outbox: &mut Outbox, lanes: &mut Vec<Lane>) -> Result<(), Fault>
     ensures ends { ends_of lanes.new.items ≡ ends_of lanes.old.items }
     ensures rings { rings lanes.new.items ≡ rings lanes.old.items }
     ensures whole { (node : ℕ) → followed_by (through lanes.new.items) outbox.new.sent node ≡ followed_by (through lanes.old.items) outbox.old.sent node }
+    ensures count { waiting_on lanes.new.items + length outbox.new.sent ≡ waiting_on lanes.old.items + length outbox.old.sent }
+    ensures sorted { OnOk result (IsSorted lanes.new.items outbox.new.sent) }
     ensures memory { IfErr result (λ e. e ≡ Fault.Memory) }
 {
     let mut number = 0;
@@ -129,7 +134,9 @@ pub fn sort(outbox: &mut Outbox, lanes: &mut Vec<Lane>) -> Result<(), Fault>
 pub fn flush(lanes: &mut Vec<Lane>) -> bool
     ensures ends { ends_of lanes.new.items ≡ ends_of lanes.old.items }
     ensures whole { (node : ℕ) → through lanes.new.items node ≡ through lanes.old.items node }
-    ensures still { result ≡ false → rings lanes.new.items ≡ rings lanes.old.items }
+    ensures still { result ≡ false → (rings lanes.new.items ≡ rings lanes.old.items) × (waiting_on lanes.new.items ≡ waiting_on lanes.old.items) }
+    ensures fewer { result ≡ true → waiting_on lanes.new.items < waiting_on lanes.old.items }
+    ensures flushed { All IsFlushed lanes.new.items }
 {
     let mut moved = false;
     for place in 0..lanes.len() {

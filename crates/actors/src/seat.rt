@@ -1,10 +1,12 @@
 //! Machines in their seats.
-ghost use Rattle.std.specs.Prelude.{◌≡◌, ◌≤◌, ◌<◌, ◌++◌, ◌==◌, ◌&&◌, ◌⊎◌, length, None, All, false, IsSome, IfOk, OnOk, IfErr, OnErr};
+ghost use Rattle.std.specs.Prelude.{◌≡◌, ◌≤◌, ◌<◌, ◌++◌, ◌∷◌, [], ◌==◌, ◌&&◌, ◌⊎◌, length, None, All, true, false, IsSome, IfSome, IfOk, OnOk, IfErr, OnErr};
 ghost use Rattle.messages.specs.declared.event.Event.TheVariants as event;
 ghost use Rattle.messages.specs.Topology.{node_count};
 ghost use Rattle.actors.specs.Journals.{submissions, number_after, followed_by, IsOwn};
 ghost use Rattle.actors.specs.Seats.{Keeps, rings, through};
-ghost use Rattle.actors.specs.Turns.{IsTurn, HasSame, HasDone, IsWork, turn_of};
+ghost use Rattle.actors.specs.Resting.{unsent, IsFlushed, IsSorted, WasEmpty};
+ghost use Rattle.actors.specs.Looking.{IsNext};
+ghost use Rattle.actors.specs.Turns.{IsTurn, HasLooked, HasSame, HasDone, IsWork, turn_of};
 ghost use Rattle.actors.specs.Opening.{AreItsRings, new_seat};
 ghost use Rattle.actors.specs.declared.turn.Turn.TheVariants.{Handled};
 
@@ -41,9 +43,9 @@ impl<M: Machine> Model for Seat<M> {
 
     ghost Value = { SeatValue };
 
-    ghost view = { λ s. record { topology = s.topology; node = s.node; limit = s.recorded.limit; free = M.is_free s.recorded.machine; journal = s.recorded.journal.items; outcomes = s.recorded.outcomes.items; accepted = s.recorded.accepted; refusals = s.refusals.items; backlog = s.backlog.items; outgoing = s.outgoing.items; outbox = s.recorded.outbox.sent; incoming = s.incoming.items; held = s.held } };
+    ghost view = { λ s. record { topology = s.topology; node = s.node; limit = s.recorded.limit; free = M.is_free s.recorded.machine; journal = s.recorded.journal.items; outcomes = s.recorded.outcomes.items; accepted = s.recorded.accepted; refusals = s.refusals.items; backlog = s.backlog.items; outgoing = s.outgoing.items; outbox = s.recorded.outbox.sent; incoming = s.incoming.items; next = s.next; held = s.held } };
 
-    ghost invariant = { λ s. Keeps M.came_from M.untaken s.recorded.machine (record { topology = s.topology; node = s.node; limit = s.recorded.limit; free = M.is_free s.recorded.machine; journal = s.recorded.journal.items; outcomes = s.recorded.outcomes.items; accepted = s.recorded.accepted; refusals = s.refusals.items; backlog = s.backlog.items; outgoing = s.outgoing.items; outbox = s.recorded.outbox.sent; incoming = s.incoming.items; held = s.held }) };
+    ghost invariant = { λ s. Keeps M.came_from M.untaken s.recorded.machine (record { topology = s.topology; node = s.node; limit = s.recorded.limit; free = M.is_free s.recorded.machine; journal = s.recorded.journal.items; outcomes = s.recorded.outcomes.items; accepted = s.recorded.accepted; refusals = s.refusals.items; backlog = s.backlog.items; outgoing = s.outgoing.items; outbox = s.recorded.outbox.sent; incoming = s.incoming.items; next = s.next; held = s.held }) };
 }
 
 /// What a turn answers whose event of the backlog got this number.
@@ -213,7 +215,10 @@ impl<M: Machine> Seat<M> {
     /// went into a ring. Refused with `Memory` alone.
     fn flush(&mut self) -> Result<bool, Fault>
         ensures same { self.new ≡ record self.old { outgoing = self.new.outgoing; outbox = self.new.outbox } }
-        ensures still { IfOk result (λ moved. moved ≡ false → rings self.new.outgoing ≡ rings self.old.outgoing) }
+        ensures still { IfOk result (λ moved. moved ≡ false → (rings self.new.outgoing ≡ rings self.old.outgoing) × (unsent self.new ≡ unsent self.old)) }
+        ensures fewer { IfOk result (λ moved. moved ≡ true → unsent self.new < unsent self.old) }
+        ensures sorted { OnOk result (IsSorted self.new.outgoing self.new.outbox) }
+        ensures flushed { OnOk result (All IsFlushed self.new.outgoing) }
         ensures memory { IfErr result (λ e. e ≡ Fault.Memory) }
     {
         lane::sort(&mut self.recorded.outbox, &mut self.outgoing)?;
@@ -222,7 +227,9 @@ impl<M: Machine> Seat<M> {
 
     /// Takes an envelope from a ring, if none is held back.
     fn take_in(&mut self)
-        ensures { self.new ≡ record self.old { incoming = self.new.incoming; held = self.new.held } }
+        ensures same { self.new ≡ record self.old { incoming = self.new.incoming; next = self.new.next; held = self.new.held } }
+        ensures looked { self.new.held ≡ None → All WasEmpty self.new.incoming }
+        ensures next { IfSome self.new.held (λ e. IsNext self.old self.new e) }
     {
         incoming::refill(&mut self.held, &mut self.incoming, &mut self.next);
     }
@@ -231,6 +238,8 @@ impl<M: Machine> Seat<M> {
     fn handle(&mut self) -> Result<(), Fault>
         requires { IsSome self.old.held }
         ensures ok { OnOk result (IsTurn Handled self.old self.new) }
+        ensures event { IfSome self.old.held (λ e. OnOk result (self.new.journal ≡ self.old.journal ++ event.Handle e ∷ [])) }
+        ensures rings { (self.new.incoming ≡ self.old.incoming) × (self.new.next ≡ self.old.next) }
         ensures err { OnErr result (self.new ≡ self.old) }
         ensures full { self.old.limit ≤ length self.old.journal → IfErr result (λ e. e ≡ Fault.JournalFull) }
     {
@@ -251,6 +260,7 @@ impl<M: Machine> Seat<M> {
         requires { 0 < length self.old.backlog }
         ensures ok { IfOk result (λ turn. IsTurn turn self.old self.new) }
         ensures work { IfOk result IsWork }
+        ensures rings { (self.new.incoming ≡ self.old.incoming) × (self.new.held ≡ self.old.held) }
         ensures err { OnErr result (self.new ≡ self.old) }
         ensures full { self.old.limit ≤ length self.old.journal → IfErr result (λ e. e ≡ Fault.JournalFull) }
     {
@@ -284,6 +294,7 @@ impl<M: Machine> Seat<M> {
     /// have moved. Costs what its event costs, the look at the rings, and what goes into them.
     pub fn turn(&mut self) -> Result<Turn, Fault>
         ensures ok { IfOk result (λ turn. IsTurn turn self.old self.new) }
+        ensures looked { IfOk result (λ turn. HasLooked turn self.old self.new) }
         ensures err { OnErr result (HasSame self.old self.new) }
         ensures full { self.old.limit ≤ length self.old.journal → IfErr result (λ e. (e ≡ Fault.JournalFull) ⊎ (e ≡ Fault.Memory)) }
     {

@@ -11,11 +11,13 @@ pub record OutLinkValue : Type 0 where
   pub sent : List Envelope
   pub free : ℕ
 
--- the receiver's end: the actors from which and to which it leads, and all that was taken from the ring, oldest first
+-- the receiver's end: the actors from which and to which it leads, all that was taken from the ring, oldest first, and how many
+-- envelopes are known to be in it
 pub record InLinkValue : Type 0 where
   pub from : ℕ
   pub to : ℕ
   pub received : List Envelope
+  pub known : ℕ
 
 -- an envelope with the addresses of a link
 abbrev pub readdressed : ℕ → ℕ → Envelope → Envelope

@@ -26,7 +26,7 @@ new_out_link capacity to = record { to = to; sent = []; free = capacity }
 
 -- the receiver's end of it
 abbrev pub new_in_link : ℕ → ℕ → InLinkValue
-new_in_link to from = record { from = from; to = to; received = [] }
+new_in_link to from = record { from = from; to = to; received = []; known = 0 }
 
 -- The rings of a topology: each actor holds the ends of one to each actor to which it may send, and of one from each actor
 -- from which it may receive, by their nodes.

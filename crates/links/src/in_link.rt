@@ -1,5 +1,5 @@
 //! The end of a ring where a receiver takes envelopes.
-ghost use Rattle.std.specs.Prelude.{◌≡◌, ◌++◌, ◌∷◌, [], IfSome, IfNone};
+ghost use Rattle.std.specs.Prelude.{◌≡◌, ◌<◌, ◌++◌, ◌∷◌, [], IsSome, IfSome, IfNone};
 
 use logical_time::Node;
 use messages::Envelope;
@@ -16,13 +16,13 @@ pub struct InLink {
 }
 
 impl Model for InLink {
-    ghost use Rattle.std.specs.Prelude.{map};
+    ghost use Rattle.std.specs.Prelude.{length, map};
     ghost use Rattle.links.specs.Links.{InLinkValue, readdressed};
-    ghost use Rattle.rtrb.specs.Ring.{received};
+    ghost use Rattle.rtrb.specs.Ring.{received, known_items};
 
     ghost Value = { InLinkValue };
 
-    ghost view = { λ l. record { from = l.from; to = l.to; received = map (readdressed l.from l.to) (received l.consumer) } };
+    ghost view = { λ l. record { from = l.from; to = l.to; received = map (readdressed l.from l.to) (received l.consumer); known = length (known_items l.consumer) } };
 }
 
 impl InLink {
@@ -50,6 +50,9 @@ impl InLink {
         ensures from { IfSome result (λ envelope. envelope.from ≡ self.old.from) }
         ensures to { IfSome result (λ envelope. envelope.to ≡ self.old.to) }
         ensures none { IfNone result (self.new.received ≡ self.old.received) }
+        // it looks, and finds what is known to be there
+        ensures looked { IfNone result (self.new.known ≡ 0) }
+        ensures succeeds { 0 < self.old.known → IsSome result }
     {
         match self.consumer.pop() {
             Ok(envelope) => Some(Envelope {
