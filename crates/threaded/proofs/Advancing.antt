@@ -1,26 +1,28 @@
 -- Journals go on by an event, until nothing can be taken.
-use Rattle.std.proofs.Common.{append-nil, ◌≡◌, ◌∙◌, ℕ, zero, suc, ◌+◌, ◌-◌, ◌<◌, ◌≤◌, Bool, true, false, ◌&&◌, List, [], ◌∷◌, ◌++◌, drop, length, Option, Some, None, ◌⊎◌, inl, inr, refl, sym, ap, subst, arith, slice_get, get_or}
-use Rattle.std.specs.Prelude.{◌==◌, slice_set, slice_index_or}
-use Rattle.std.specs.List.{sum_by, list_all}
+use Rattle.std.proofs.Common.{append-nil, ◌≡◌, ◌∙◌, ℕ, suc, ◌+◌, ◌-◌, ◌<◌, ◌≤◌, Bool, true, false, ◌&&◌, List, [], ◌∷◌, ◌++◌, length, Some, ◌⊎◌, inl, inr, refl, sym, ap, subst, arith, slice_get, get_or, eqb-true}
+use Rattle.std.specs.Prelude.{◌==◌, ◌||◌, nat_lt, slice_set, slice_index_or}
+use Rattle.std.specs.List.{list_all}
 use Rattle.std.proofs.lemmas.Bool.{false≢true}
+use Rattle.std.proofs.lemmas.Bool.Decides.{nat_tests}
 use Rattle.std.proofs.lemmas.List.Sums.{sum_by-set}
 use Rattle.std.proofs.lemmas.List.{length-append}
 use Rattle.std.proofs.lemmas.Option.{slice_get_within, get_or_from_slice_get}
 use Rattle.logical_time.specs.declared.fault.Fault.{Fault}
-use Rattle.logical_time.specs.declared.fault.Fault.TheVariants.{Memory, StrangerEnd}
+use Rattle.logical_time.specs.declared.fault.Fault.TheVariants.{StrangerEnd}
+use Rattle.messages.specs.declared.envelope.Envelope.{Envelope}
 use Rattle.messages.specs.declared.event.Event.{Event as ActorEvent}
 use Rattle.messages.specs.Topology.{node_count}
 use Rattle.actors.specs.Seats.{SeatValue}
-use Rattle.world.specs.World.{WorldValue, run_of, Takes}
+use Rattle.world.specs.World.{WorldValue, run_of}
 use Rattle.world.specs.Journals.{journal_in}
-use Rattle.world.proofs.Among.{Among, all_among, get_among}
-use Rattle.world.proofs.Prefixes.{get_there}
+use Rattle.world.proofs.Among.{all_among, get_among}
 use Rattle.world.proofs.Replacing.{item_at}
-use Rattle.threaded.specs.OneRun.{seat_of, journal_at, journal_of, DoLinksMatch}
+use Rattle.threaded.specs.OneRun.{journal_at, journal_of, DoLinksMatch}
 use Rattle.threaded.specs.Links.{AreLinks}
-use Rattle.threaded.specs.Joining.{IsUnderWay, Joins, IsNext, IsWhole, IsAwaited, HasHappened, HasGone, IsHalted, Rests, IsUnjoined, count_left}
+use Rattle.threaded.specs.Joining.{IsUnderWay, Joins, IsNext, IsWhole, HasHappened, HasGone, IsHalted, Rests, IsUnjoined, count_left}
 use Rattle.threaded.specs.Concluded.{AreConcluded}
 use Rattle.threaded.proofs.Lists.{no_rest}
+use Rattle.threaded.proofs.Going.{with_event, moved}
 use Rattle.threaded.proofs.Joined.{joins_on, left_within}
 use Rattle.threaded.proofs.Stuck.{not_strange, all_whole}
 use Rattle.threaded.proofs.Whole.{concluded}
@@ -116,10 +118,24 @@ module _ (seats : List SeatValue) (places : List ℕ) (w : WorldValue) (left : L
       let sums = sum_by-set (λ k. k) left node m 0 left_is_there in
       let on = joins_on seats places w left links j node lt y next h.event h.takes.allowed h.is now
       (subst (λ z. AreLinks z (length (run_of z).sent) now) h.takes.happened are) in (
-        subst (λ z. Joins seats places z (slice_set left node m) now) (sym h.takes.happened) (subst (λ k. Joins seats places _ (slice_set left node k) now) len on),
+        subst (λ z. Joins seats places z (slice_set left node m) now) (sym h.takes.happened) (subst (λ k. Joins seats places (with_event w h.event) (slice_set left node k) now) len on),
         ap (λ (z : WorldValue). z.top) h.takes.happened,
         omega arith,
       )
+
+  pub one_left : (y : ActorEvent) → IsNext seats w left node y → (n : ℕ) → n ≡ slice_index_or left node n → 1 ≤ n
+  one_left y next n at =
+      let there = item_at left node n left_is_there at in
+      let both : Some (length next.more + 1) ≡ Some n = sym next.remain ∙ there in
+      let same : length next.more + 1 ≡ n = cc in
+      omega arith
+
+  pub no_fewer_sent : (y : ActorEvent) (v : WorldValue) → HasHappened w node y v → length (run_of w).sent ≤ length (run_of v).sent
+  no_fewer_sent y v h =
+      let m = moved w h.event node y h.takes.allowed h.is in
+      let len : length (run_of (with_event w h.event)).sent ≡ length (run_of w).sent + length m.0.sends =
+      ap (λ (es : List Envelope). length es) m.1.sent ∙ length-append (run_of w).sent m.0.sends in
+      subst (λ z. length (run_of w).sent ≤ length (run_of z).sent) (sym h.takes.happened) (omega arith)
 
   -- it is awaited
   pub stays : (y : ActorEvent) → IsNext seats w left node y → (v : WorldValue) (now : List (List (List ℕ))) → HasGone false w node y v now
@@ -144,12 +160,52 @@ module _ (seats : List SeatValue) (places : List ℕ) (w : WorldValue) (left : L
   halted y next e (inl memory) = inl memory
   halted y next e (inr (is, strange)) = inr (is, λ fits. not_strange seats places w left links j fits node lt y next strange)
 
+-- ## A round
+
+-- what a round made so far: whether an event was taken; if none was, the actors up to a node rest
+pub record IsRound (seats : List SeatValue) (old : List ℕ) (did : Bool) (w : WorldValue) (left : List ℕ) (node : ℕ) : Type 0 where
+  pub fewer : did ≡ true → count_left left < count_left old
+  pub same : did ≡ false → left ≡ old
+  pub rest : did ≡ false → (k : ℕ) → k < node → Rests seats left w k
+
+below_or_last : (i k : ℕ) → i < k + 1 → (i < k) ⊎ (i ≡ k)
+below_or_last i k lt = by (nat_lt i k) refl
+  where
+    by : (b : Bool) → nat_lt i k ≡ b → (i < k) ⊎ (i ≡ k)
+    by true q = inl (grind (arith, nat_tests))
+    by false q = inr (grind (arith, nat_tests))
+
+pub round_on : (seats : List SeatValue) (old : List ℕ) (did moved : Bool) (w v : WorldValue) (left now : List ℕ) (node : ℕ) → IsRound seats old did w left node
+    → (moved ≡ true → count_left now < count_left left) → (moved ≡ false → (v ≡ w) × (now ≡ left)) → (moved ≡ false → Rests seats now v node)
+    → IsRound seats old (did || moved) v now (node + 1)
+round_on seats old true true w v left now node r fewer same rests =
+    let a = r.fewer refl in
+    let b = fewer refl in
+    record { fewer = λ q. omega arith; same = λ q. absurd (cc); rest = λ q. absurd (cc) }
+round_on seats old true false w v left now node r fewer same rests =
+    let a = r.fewer refl in
+    let b : count_left now ≡ count_left left = ap count_left (same refl).1 in
+    record { fewer = λ q. omega arith; same = λ q. absurd (cc); rest = λ q. absurd (cc) }
+round_on seats old false true w v left now node r fewer same rests =
+    let a : count_left left ≡ count_left old = ap count_left (r.same refl) in
+    let b = fewer refl in
+    record { fewer = λ q. omega arith; same = λ q. absurd (cc); rest = λ q. absurd (cc) }
+round_on seats old false false w v left now node r fewer same rests =
+    record {
+      fewer = λ q. absurd (cc);
+      same = λ q. (same refl).1 ∙ r.same refl;
+      rest = λ q k lt. elim (below_or_last k node lt) [
+        | inl below ↦
+            subst (λ l. Rests seats l v k) (sym (same refl).1) (subst (λ z. Rests seats left z k) (sym (same refl).0) (r.rest refl k below))
+        | inr last ↦ subst (λ n. Rests seats now v n) (sym last) (rests refl)
+      ];
+    }
+
 -- ## The end
 
 module _ (seats : List SeatValue) (places : List ℕ) (w : WorldValue) (left : List ℕ) (links : List (List (List ℕ))) (j : Joins seats places w left links) where
   is_zero : (n : ℕ) → (n == 0) ≡ true → n ≡ 0
-  is_zero zero q = refl
-  is_zero (suc n) q = absurd (cc)
+  is_zero n q = eqb-true n 0 q
 
   pub all_joined : list_all (λ n. n == 0) left ≡ true → AreConcluded seats w
   all_joined done = concluded seats places w left links j (λ node lt. whole node (j.each node lt))

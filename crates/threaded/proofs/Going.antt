@@ -1,7 +1,6 @@
 -- What an actor can do next is taken by the run, as a step of that actor.
-use Rattle.std.proofs.Common.{◌≡◌, ◌∙◌, ℕ, zero, suc, ◌+◌, ◌<◌, Bool, true, false, List, [], ◌∷◌, ◌++◌, Option, Some, None, Result, Ok, Err, ◌⊎◌, inl, inr, refl, sym, ap, subst, arith, slice_get, eqb-true}
+use Rattle.std.proofs.Common.{◌≡◌, ◌∙◌, ℕ, ◌<◌, Bool, true, false, List, [], ◌∷◌, ◌++◌, Option, Some, None, Result, Ok, Err, inl, inr, refl, sym, ap, subst, slice_get, eqb-true}
 use Rattle.std.specs.Prelude.{◌==◌, if◌then◌else◌, option_map, option_and_then}
-use Rattle.std.specs.List.{cons_option}
 use Rattle.std.proofs.lemmas.List.{append_assoc}
 use Rattle.logical_time.specs.declared.fault.Fault.{Fault}
 use Rattle.messages.specs.declared.op.Op.{Op}
@@ -17,9 +16,9 @@ use Rattle.messages.specs.Submitting.{session_submit}
 use Rattle.messages.specs.Actors.{ActorState, OfShard, OfSession, ActorStep, of_shard, of_session, actor_step, Replayed, before_rest, replay}
 use Rattle.world.specs.declared.run_event.RunEvent.{RunEvent as Event}
 use Rattle.world.specs.declared.run_event.RunEvent.TheVariants.{Submit, Deliver, Collect}
-use Rattle.world.specs.Run.{Run, opening, step, run}
-use Rattle.world.specs.Refusals.{Refusal, NoSuchActor, refused_by, refusal_of_message, refusal_of}
-use Rattle.world.specs.World.{WorldValue, run_of, refusal_in, Takes}
+use Rattle.world.specs.Run.{Run, opening, step}
+use Rattle.world.specs.Refusals.{NoSuchActor, refused_by, refusal_of_message, refusal_of}
+use Rattle.world.specs.World.{WorldValue, run_of, refusal_in}
 use Rattle.world.specs.Journals.{actor_in, event_at}
 use Rattle.world.proofs.Prefixes.{IsAccepted, not_both}
 use Rattle.world.proofs.Refusals.{allowed_is_added}

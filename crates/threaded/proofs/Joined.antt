@@ -1,33 +1,31 @@
 -- Journals that are joined as far as a world goes, and one event further.
-use Rattle.std.proofs.Common.{append-nil, ◌≡◌, ◌∙◌, ℕ, ◌+◌, ◌<◌, ◌≤◌, Bool, true, false, List, [], ◌∷◌, ◌++◌, map, length, Option, Some, None, ◌⊎◌, inl, inr, refl, sym, ap, subst, arith, slice_get, eqb-true, eq-eqb}
+use Rattle.std.proofs.Common.{◌≡◌, ◌∙◌, ℕ, ◌<◌, Bool, true, false, List, [], ◌∷◌, ◌++◌, length, Some, None, inl, inr, refl, sym, ap, subst, slice_get, eqb-true, eq-eqb}
 use Rattle.std.specs.Prelude.{◌==◌, if◌then◌else◌, slice_set}
 use Rattle.std.proofs.lemmas.List.{append_assoc}
 use Rattle.std.proofs.lemmas.Option.{slice_get_within}
-use Rattle.messages.specs.declared.envelope.Envelope.{Envelope}
 use Rattle.messages.specs.declared.event.Event.{Event as ActorEvent}
 use Rattle.messages.specs.Topology.{TopologyValue, is_shard, node_count}
-use Rattle.messages.specs.Actors.{ActorState, OfShard, OfSession, ActorStep, actor_step, opening_actor, Replayed, replay_of}
+use Rattle.messages.specs.Actors.{OfShard, OfSession, ActorStep, opening_actor, Replayed, replay_of}
 use Rattle.actors.specs.Journals.{followed_by}
-use Rattle.actors.specs.Seats.{SeatValue, Keeps, through}
+use Rattle.actors.specs.Seats.{SeatValue, through}
 use Rattle.write_txn.proofs.Lists.{read_set}
 use Rattle.world.specs.declared.run_event.RunEvent.{RunEvent as Event}
-use Rattle.world.specs.Run.{Run, run}
-use Rattle.world.specs.Refusals.{IsRun}
-use Rattle.world.specs.World.{WorldValue, run_of, refusal_in, Takes}
+use Rattle.world.specs.Run.{run}
+use Rattle.world.specs.World.{WorldValue, run_of, refusal_in}
 use Rattle.world.specs.Journals.{actor_in, event_at, journal_in, held_in}
-use Rattle.world.proofs.Among.{Among, find_some}
+use Rattle.world.proofs.Among.{find_some}
 use Rattle.world.proofs.Happenings.{among_get}
 use Rattle.world.proofs.Runs.{every_run}
 use Rattle.world.proofs.Refusals.{run_goes_on}
 use Rattle.world.proofs.Running.{length_set}
 use Rattle.world.proofs.Moves.{Moves}
 use Rattle.world.proofs.JournalSteps.{AreKnown, apart_too, journal_here, journal_there}
-use Rattle.world.proofs.OwnJournals.{AreOwnJournals, run_journals}
+use Rattle.world.proofs.OwnJournals.{run_journals}
 use Rattle.threaded.specs.declared.actor.Actor.{Actor}
 use Rattle.threaded.specs.Machines.{HasPartsApart, StaysApart, untaken_of, CameFrom}
 use Rattle.threaded.specs.OneRun.{seat_of, journal_at, journal_of, AreSeatsOf}
 use Rattle.threaded.specs.Links.{AreLinks}
-use Rattle.threaded.specs.Joining.{IsKept, AreKept, ArePlaces, IsUnderWay, Joins, IsNext, IsAble, HasHappened}
+use Rattle.threaded.specs.Joining.{AreKept, IsUnderWay, Joins, IsNext, IsAble}
 use Rattle.threaded.proofs.Lists.{begins_or_whole}
 use Rattle.threaded.proofs.Going.{with_event, moved, replay_takes}
 
@@ -108,7 +106,7 @@ module _ (seats : List SeatValue) (places : List ℕ) (w : WorldValue) (left : L
 module _ (seats : List SeatValue) (places : List ℕ) (w : WorldValue) (left : List ℕ) (links : List (List (List ℕ))) (j : Joins seats places w left links) (node : ℕ)
     (lt : node < node_count w.top) (y : ActorEvent) (next : IsNext seats w left node y) (x : Event) (allowed : refusal_in w x ≡ None)
     (is : event_at (run_of w) node x ≡ Some y) where
-  step : ActorStep
+  abbrev step : ActorStep
   step = (moved w x node y allowed is).0
 
   moves : Moves w.top (run_of w) (run_of (with_event w x)) x node y step

@@ -1,27 +1,22 @@
 -- What waits on the links: after an event, and after a message was put on its link.
-use Rattle.std.proofs.Common.{append-nil, ◌≡◌, ◌∙◌, ℕ, suc, ◌+◌, ◌<◌, ◌≤◌, Bool, true, false, ◌&&◌, cond, List, [], ◌∷◌, ◌++◌, map, length, take, Option, Some, None, ◌⊎◌, inl, inr, refl, sym, ap, subst, arith, slice_get, eqb-true, eq-eqb}
-use Rattle.std.specs.Prelude.{◌==◌, if◌then◌else◌, filter, filter_map}
-use Rattle.std.specs.List.{cons_option}
+use Rattle.std.proofs.Common.{append-nil, ◌≡◌, ◌∙◌, ℕ, suc, ◌+◌, Bool, true, false, ◌&&◌, cond, List, [], ◌∷◌, ◌++◌, map, length, take, Some, inl, refl, sym, ap, subst, arith, slice_get, eqb-true, eq-eqb}
+use Rattle.std.specs.Prelude.{◌==◌, filter_map}
 use Rattle.std.proofs.lemmas.List.{append_assoc}
 use Rattle.std.proofs.lemmas.List.Elements.{filter-append, filter_map-append}
-use Rattle.std.proofs.lemmas.Option.{slice_get_within}
 use Rattle.std.proofs.Math.Seq.{take-append_seam, take-length}
 use Rattle.messages.specs.declared.envelope.Envelope.{Envelope}
 use Rattle.messages.specs.declared.event.Event.{Event as ActorEvent}
-use Rattle.messages.specs.declared.event.Event.TheVariants.{Submit as SubmitHere, Handle, Collect as CollectHere}
-use Rattle.messages.specs.Topology.{TopologyValue, node_count}
+use Rattle.messages.specs.declared.event.Event.TheVariants.{Handle}
+use Rattle.messages.specs.Topology.{TopologyValue}
 use Rattle.messages.specs.Actors.{ActorStep, envelope_of}
 use Rattle.actors.specs.Journals.{from_node, receipts_from, sends_to}
 use Rattle.world.specs.declared.run_event.RunEvent.{RunEvent as Event}
-use Rattle.world.specs.declared.run_event.RunEvent.TheVariants.{Deliver}
 use Rattle.world.specs.Run.{Run}
-use Rattle.world.specs.World.{WorldValue, run_of}
-use Rattle.world.specs.Journals.{event_at, journal_in, sent_from}
+use Rattle.world.specs.Journals.{journal_in, sent_from}
 use Rattle.world.proofs.Among.{Among, append_second, filter_only}
 use Rattle.world.proofs.Moves.{Moves}
-use Rattle.world.proofs.JournalSteps.{AreKnown, apart_too, journal_here, journal_there}
-use Rattle.threaded.specs.Links.{waiting_on, IsSquare, IsLink, IsFirst, AreLinks}
-use Rattle.threaded.specs.Joining.{IsAwaited, IsOther, IsStrange}
+use Rattle.world.proofs.JournalSteps.{AreKnown, journal_here, journal_there}
+use Rattle.threaded.specs.Links.{IsLink, IsFirst}
 use Rattle.threaded.proofs.Lists.{numbered_later, numbered_more, FirstNumber, first_number, take_one_more}
 
 -- ## After an event

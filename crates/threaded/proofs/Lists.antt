@@ -1,6 +1,5 @@
 -- Lists: beginnings, ends, and what is found in them.
-use Rattle.std.proofs.Common.{append-nil, ◌≡◌, ◌∙◌, ℕ, zero, suc, ◌+◌, ◌<◌, ◌≤◌, Bool, true, false, List, [], ◌∷◌, ◌++◌, map, length, take, slice_get, Option, Some, None, ◌⊎◌, inl, inr, refl, sym, ap, arith}
-use Rattle.std.proofs.lemmas.List.{append_assoc}
+use Rattle.std.proofs.Common.{append-nil, ◌≡◌, ◌∙◌, ℕ, zero, suc, List, [], ◌∷◌, ◌++◌, map, length, take, slice_get, Option, Some, ◌⊎◌, inl, inr, refl, sym, ap}
 
 -- a beginning of a list with one more at its end is one of the list, or the whole
 pub begins_or_whole : {X : Type 0} (xs : List X) (x : X) (before after : List X) → xs ++ x ∷ [] ≡ before ++ after
@@ -71,3 +70,10 @@ pub take_one_more : {X : Type 0} (xs : List X) (n : ℕ) (x : X) → slice_get x
 take_one_more [] n x e = absurd (cc)
 take_one_more (y ∷ xs) zero x e = let same : y ≡ x = cc in ap (λ z. z ∷ []) same
 take_one_more (y ∷ xs) (suc n) x e = ap (λ l. y ∷ l) (take_one_more xs n x e)
+
+-- what stands in a list with one more at its end
+pub last_or_before : {X : Type 0} (xs : List X) (x y : X) (i : ℕ) → slice_get (xs ++ x ∷ []) i ≡ Some y → (slice_get xs i ≡ Some y) ⊎ ((i ≡ length xs) × (x ≡ y))
+last_or_before [] x y zero at = let same : x ≡ y = cc in inr (refl, same)
+last_or_before [] x y (suc i) at = absurd (cc)
+last_or_before (z ∷ xs) x y zero at = inl at
+last_or_before (z ∷ xs) x y (suc i) at = elim (last_or_before xs x y i at) [ inl old ↦ inl old | inr new ↦ inr (ap suc new.0, new.1) ]

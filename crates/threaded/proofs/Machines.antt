@@ -1,6 +1,6 @@
 -- Shards and sessions as machines: one event more in the journal, and before the first.
-use Rattle.std.proofs.Common.{append-nil, ◌≡◌, ◌∙◌, ℕ, zero, ◌+◌, ◌-◌, ◌<◌, Bool, true, false, List, [], ◌∷◌, ◌++◌, map, length, Option, Some, None, Result, Ok, Err, ◌⊎◌, inl, inr, refl, sym, ap, subst, arith}
-use Rattle.std.specs.Prelude.{◌==◌, if◌then◌else◌, filter, filter_map, slice_get, option_to_list, option_and_then}
+use Rattle.std.proofs.Common.{append-nil, ◌≡◌, ◌∙◌, ℕ, ◌+◌, ◌-◌, ◌<◌, Bool, true, false, List, [], ◌∷◌, ◌++◌, map, length, Option, Some, None, Result, Ok, Err, ◌⊎◌, inl, inr, refl, sym, ap, subst, arith}
+use Rattle.std.specs.Prelude.{◌==◌, if◌then◌else◌, filter_map, slice_get, option_to_list, option_and_then}
 use Rattle.std.specs.List.{cons_option}
 use Rattle.std.specs.Option.{unwrap_or}
 use Rattle.std.proofs.lemmas.List.{append_assoc, length-append, map-append}
@@ -14,7 +14,7 @@ use Rattle.messages.specs.declared.event.Event.{Event}
 use Rattle.messages.specs.declared.event.Event.TheVariants.{Submit, Handle, Collect}
 use Rattle.messages.specs.Topology.{TopologyValue, shard_count, is_shard, node_count, home_of}
 use Rattle.messages.specs.Shard.{ShardState, ShardStep, new_shard}
-use Rattle.messages.specs.Session.{SessionState, SessionStep, Finished, new_session}
+use Rattle.messages.specs.Session.{SessionState, SessionStep, new_session}
 use Rattle.messages.specs.ShardEvents.{shard_handle, shard_collect}
 use Rattle.messages.specs.SessionEvents.{session_handle, session_taken}
 use Rattle.messages.specs.Submitting.{session_submit}
@@ -23,7 +23,7 @@ use Rattle.shard.specs.declared.kept.Kept.{Kept as ShardKept}
 use Rattle.shard.specs.Kept as shard
 use Rattle.client.specs.declared.kept.Kept.{Kept as SessionKept}
 use Rattle.client.specs.Represents as session
-use Rattle.client.specs.State.{finished_of, state_of}
+use Rattle.client.specs.State.{finished_of}
 use Rattle.actors.specs.Journals.{op_in, submissions, sends_to, followed_by}
 use Rattle.world.proofs.Prefixes.{get_there}
 use Rattle.world.proofs.Moves.{counts_session, op_count, shard_took, session_took}

@@ -1,12 +1,13 @@
 -- Queues in rows: one of them changes, and no other.
-use Rattle.std.proofs.Common.{◌≡◌, ◌∙◌, ℕ, zero, suc, ◌+◌, ◌<◌, ◌≤◌, Bool, true, false, ◌&&◌, List, [], ◌∷◌, ◌++◌, length, Option, Some, None, refl, sym, ap, subst, arith, slice_get, eqb-true, eq-eqb}
+use Rattle.std.proofs.Common.{◌≡◌, ◌∙◌, ℕ, ◌<◌, ◌≤◌, Bool, true, false, ◌&&◌, List, [], ◌∷◌, ◌++◌, length, Option, Some, None, inl, inr, refl, sym, ap, subst, slice_get, eqb-true, eq-eqb}
 use Rattle.std.specs.Prelude.{◌==◌, if◌then◌else◌, slice_set, slice_index_or}
 use Rattle.std.specs.Option.{unwrap_or}
 use Rattle.std.proofs.lemmas.Bool.{false≢true}
-use Rattle.std.proofs.lemmas.Option.{slice_get_past, slice_get-get_or, slice_get_within}
+use Rattle.std.proofs.lemmas.Option.{slice_get_past, slice_get-get_or}
 use Rattle.write_txn.proofs.Lists.{read_set}
 use Rattle.world.proofs.Running.{length_set}
 use Rattle.threaded.specs.Links.{waiting_for, waiting_on, IsSquare}
+use Rattle.threaded.proofs.Lists.{last_or_before}
 
 same : (k : ℕ) → (k == k) ≡ true
 same k = eq-eqb k k refl
@@ -46,7 +47,38 @@ none_taken queues to old new lt is none =
 pub beyond : (queues : List (List ℕ)) (to : ℕ) → length queues ≤ to → (waiting_for queues to ≡ []) × (waiting_for queues to ≡ [])
 beyond queues to le = let none = ap (λ o. unwrap_or o []) (slice_get_past queues to le) in (none, none)
 
+pub one_more_empty : (queues : List (List ℕ)) → ((to : ℕ) → waiting_for queues to ≡ []) → (to : ℕ) → waiting_for (queues ++ [] ∷ []) to ≡ []
+one_more_empty queues empty to = go (slice_get (queues ++ [] ∷ []) to) refl
+  where
+    go : (o : Option (List ℕ)) → slice_get (queues ++ [] ∷ []) to ≡ o → unwrap_or o [] ≡ []
+    go None q = refl
+    go (Some l) q = elim (last_or_before queues [] l to q) [ inl old ↦ ap (λ o. unwrap_or o []) (sym old) ∙ empty to | inr new ↦ sym new.1 ]
+
 -- ## Rows
+
+-- each of these rows has so many queues, which are empty
+pub record AreRows (count : ℕ) (rows : List (List (List ℕ))) : Type 0 where
+  pub each : (from : ℕ) (queues : List (List ℕ)) → slice_get rows from ≡ Some queues → (length queues ≡ count) × ((to : ℕ) → waiting_for queues to ≡ [])
+
+pub one_more_row : (count : ℕ) (rows : List (List (List ℕ))) (queues : List (List ℕ)) → AreRows count rows → length queues ≡ count → ((to : ℕ) → waiting_for queues to ≡ [])
+    → AreRows count (rows ++ queues ∷ [])
+one_more_row count rows queues are len empty =
+    record {
+      each = λ from l at. elim (last_or_before rows queues l from at) [
+        | inl old ↦ are.each from l old
+        | inr new ↦ subst (λ z. (length z ≡ count) × ((to : ℕ) → waiting_for z to ≡ [])) new.1 (len, empty)
+      ];
+    }
+
+pub rows_square : (count : ℕ) (rows : List (List (List ℕ))) → AreRows count rows → length rows ≡ count → IsSquare count rows
+rows_square count rows are len = record { senders = len; receivers = λ from queues at. (are.each from queues at).0 }
+
+pub rows_empty : (count : ℕ) (rows : List (List (List ℕ))) → AreRows count rows → (from to : ℕ) → waiting_on rows from to ≡ []
+rows_empty count rows are from to = go (slice_get rows from) refl
+  where
+    go : (o : Option (List (List ℕ))) → slice_get rows from ≡ o → waiting_for (unwrap_or o []) to ≡ []
+    go None q = refl
+    go (Some l) q = (are.each from l q).1 to
 
 row_here : (links : List (List (List ℕ))) (from : ℕ) (new : List (List ℕ)) → from < length links → unwrap_or (slice_get (slice_set links from new) from) [] ≡ new
 row_here links from new lt = ap (λ o. unwrap_or o []) (set_here links from new lt)
@@ -56,7 +88,7 @@ pub still_square : (count : ℕ) (links : List (List (List ℕ))) (from : ℕ) (
 still_square count links from old new lt is len square =
     record {
       senders = same_count links from new ∙ square.senders;
-      receivers = λ f queues at. by (f == from) refl f queues at;
+      receivers = λ f queues at. by (f == from) f queues at refl;
     }
   where
     was : slice_get links from ≡ Some old

@@ -1,15 +1,15 @@
 -- Seats are looked through, and the joining of their journals begins.
-use Rattle.std.proofs.Common.{append-nil, ◌≡◌, ◌∙◌, ℕ, zero, suc, ◌+◌, ◌<◌, ◌≤◌, Bool, true, false, cond, List, [], ◌∷◌, ◌++◌, map, length, take, Option, Some, None, ◌⊎◌, inl, inr, refl, sym, ap, subst, arith, slice_get}
+use Rattle.std.proofs.Common.{append-nil, ◌≡◌, ◌∙◌, ℕ, zero, suc, ◌+◌, ◌<◌, Bool, true, false, cond, List, [], ◌∷◌, ◌++◌, map, length, take, Some, None, ◌⊎◌, inl, inr, refl, sym, ap, subst, arith, slice_get}
 use Rattle.std.specs.Prelude.{◌==◌, filter, find, flat_map, nat_lt, slice_index_or}
 use Rattle.std.specs.List.{range_with_len}
 use Rattle.std.proofs.lemmas.Bool.Decides.{nat_tests}
 use Rattle.std.proofs.lemmas.List.{append_assoc, length-append}
-use Rattle.std.proofs.lemmas.Option.{slice_get_within}
+use Rattle.std.proofs.Math.Seq.{take-length}
+use Rattle.std.proofs.lemmas.Option.{slice_get_within, slice_get-get_or}
 use Rattle.logical_time.specs.declared.fault.Fault.{Fault}
-use Rattle.logical_time.specs.declared.fault.Fault.TheVariants.{Memory, StrangerEnd}
-use Rattle.messages.specs.declared.event.Event.{Event as ActorEvent}
+use Rattle.logical_time.specs.declared.fault.Fault.TheVariants.{StrangerEnd}
 use Rattle.messages.specs.Topology.{TopologyValue, is_topology, node_count, session_node}
-use Rattle.messages.specs.Actors.{Replayed, replay_of}
+use Rattle.messages.specs.Actors.{Replayed}
 use Rattle.actors.specs.Seats.{SeatValue}
 use Rattle.world.specs.declared.completed.Completed.{Completed}
 use Rattle.world.specs.Run.{run}
@@ -20,29 +20,23 @@ use Rattle.world.proofs.Replacing.{item_at}
 use Rattle.world.proofs.Refusals.{kept_is_run}
 use Rattle.world.proofs.OwnJournals.{run_journals}
 use Rattle.threaded.specs.Machines.{HasPartsApart, StaysApart}
-use Rattle.threaded.specs.OneRun.{seat_of, journal_at, journal_of, AreOfTopology, AreSeatsOf, DoLinksMatch, AreOfOneRun}
-use Rattle.threaded.specs.Links.{waiting_on, IsSquare, AreLinks}
-use Rattle.threaded.specs.Joining.{IsKept, AreKept, IsPlace, ArePlaces, AreLengths, IsUnderWay, Joins, IsUnjoined, IsUnseated, IsUnconcluded}
+use Rattle.threaded.specs.OneRun.{seat_of, journal_at, journal_of, AreOfTopology, DoLinksMatch, AreOfOneRun}
+use Rattle.threaded.specs.Links.{waiting_on, IsSquare}
+use Rattle.threaded.specs.Joining.{IsKept, IsPlace, ArePlaces, AreLengths, IsUnderWay, Joins, IsUnjoined, IsUnseated, IsUnconcluded}
+use Rattle.threaded.proofs.Lists.{last_or_before}
 use Rattle.threaded.proofs.Joined.{run_apart}
 
 -- ## Lists
-
--- what stands in a list with one more at its end
-pub last_or_before : {X : Type 0} (xs : List X) (x y : X) (i : ℕ) → slice_get (xs ++ x ∷ []) i ≡ Some y → (slice_get xs i ≡ Some y) ⊎ ((i ≡ length xs) × (x ≡ y))
-last_or_before [] x y zero at = let same : x ≡ y = cc in inr (refl, same)
-last_or_before [] x y (suc i) at = absurd (cc)
-last_or_before (z ∷ xs) x y zero at = inl at
-last_or_before (z ∷ xs) x y (suc i) at = elim (last_or_before xs x y i at) [ inl old ↦ inl old | inr new ↦ inr (ap suc new.0, new.1) ]
 
 -- none of the first so many is found
 abbrev pub NoneBefore : {X : Type 0} → (X → Bool) → List X → ℕ → Type 0
 NoneBefore {X} p xs k = (i : ℕ) (x : X) → i < k → slice_get xs i ≡ Some x → p x ≡ false
 
 pub found_first : {X : Type 0} (p : X → Bool) (xs : List X) (k : ℕ) (x : X) → NoneBefore p xs k → slice_get xs k ≡ Some x → p x ≡ true → find p xs ≡ Some x
-found_first p [] k x none at yes = absurd (cc)
-found_first p (y ∷ xs) zero x none at yes = let same : y ≡ x = cc in ap (λ z. cond (p z) (Some z) (find p xs)) same ∙ ap (λ b. cond b (Some x) (find p xs)) yes
-found_first p (y ∷ xs) (suc k) x none at yes =
-    ap (λ b. cond b (Some y) (find p xs)) (none 0 y (omega arith) refl) ∙ found_first p xs k x (λ i z lt there. none (suc i) z (omega arith) there) at yes
+found_first p [] k x none at is = absurd (cc)
+found_first p (y ∷ xs) zero x none at is = let same : y ≡ x = cc in ap (λ z. cond (p z) (Some z) (find p xs)) same ∙ ap (λ b. cond b (Some x) (find p xs)) is
+found_first p (y ∷ xs) (suc k) x none at is =
+    ap (λ b. cond b (Some y) (find p xs)) (none 0 y (omega arith) refl) ∙ found_first p xs k x (λ i z lt there. none (suc i) z (omega arith) there) at is
 
 pub none_found : {X : Type 0} (p : X → Bool) (xs : List X) → NoneBefore p xs (length xs) → find p xs ≡ None
 none_found p [] none = refl
@@ -103,6 +97,9 @@ place_found node seats place s lt at is are =
     let here = item_at seats place s lt at in
     record { seat = s; at = here; found = found_first (λ (z : SeatValue). z.node == node) seats place s are here is }
 
+pub nowhere : (node : ℕ) (seats : List SeatValue) → AreElsewhere node seats (length seats) → seat_of seats node ≡ None
+nowhere node seats are = none_found (λ (s : SeatValue). s.node == node) seats are
+
 pub no_place : (seats : List SeatValue) → ArePlaces 0 seats []
 no_place seats = record { len = refl; each = λ node place at. absurd (cc) }
 
@@ -122,23 +119,25 @@ unseated seats count node lt none = inr (refl, (node, lt, none))
 
 -- ## Lengths
 
-pub seat_there : (seats : List SeatValue) (places : List ℕ) (node place : ℕ) → ArePlaces (length places) seats places → node < length places
-    → place ≡ slice_index_or places node place → place < length seats
-seat_there seats places node place are lt at = let p = are.each node place (item_at places node place lt at) in slice_get_within seats place p.seat p.at
+pub seat_there : (seats : List SeatValue) (places : List ℕ) (node : ℕ) → ArePlaces (length places) seats places → node < length places
+    → slice_index_or places node 0 < length seats
+seat_there seats places node are lt =
+    let p = are.each node (slice_index_or places node 0) (slice_get-get_or places node 0 lt) in slice_get_within seats (slice_index_or places node 0) p.seat p.at
 
 pub no_length : (seats : List SeatValue) → AreLengths 0 seats []
 no_length seats = record { len = refl; each = λ node n at. absurd (cc) }
 
-pub one_more_length : (seats : List SeatValue) (places lengths : List ℕ) (node place : ℕ) (s : SeatValue) (n : ℕ) → ArePlaces (length places) seats places → node < length places
-    → place ≡ slice_index_or places node place → s ≡ slice_index_or seats place s → n ≡ length s.journal → IsKept s → AreLengths node seats lengths
+pub one_more_length : (seats : List SeatValue) (places lengths : List ℕ) (node : ℕ) (s : SeatValue) (n : ℕ) → ArePlaces (length places) seats places → node < length places
+    → s ≡ slice_index_or seats (slice_index_or places node 0) s → n ≡ length s.journal → IsKept s → AreLengths node seats lengths
     → AreLengths (node + 1) seats (lengths ++ n ∷ [])
-one_more_length seats places lengths node place s n are lt at here is kept so_far =
+one_more_length seats places lengths node s n are lt here is kept so_far =
     record {
       len = length-append lengths (n ∷ []) ∙ ap (λ m. m + 1) so_far.len;
       each = λ m k there. elim (last_or_before lengths n k m there) [
         | inl old ↦ so_far.each m k old
         | inr new ↦
-            let p = are.each node place (item_at places node place lt at) in
+            let place = slice_index_or places node 0 in
+            let p = are.each node place (slice_get-get_or places node 0 lt) in
             let seat = item_at seats place s (slice_get_within seats place p.seat p.at) here in
             let both : Some p.seat ≡ Some s = sym p.at ∙ seat in
             let same : p.seat ≡ s = cc in
@@ -166,7 +165,7 @@ module _ (top : TopologyValue) (seats : List SeatValue) (places left : List ℕ)
     (sound : is_topology top.dcs top.shards top.homes ≡ true) (count : length seats ≡ node_count top) (of : AreOfTopology top seats)
     (stand : ArePlaces (node_count top) seats places) (lengths : AreLengths (length places) seats left)
     (square : IsSquare (node_count top) links) (empty : (from to : ℕ) → waiting_on links from to ≡ []) where
-  w : WorldValue
+  abbrev pub w : WorldValue
   w = record { top = top; events = [] }
 
   left_there : (node : ℕ) → node < node_count top → (n : ℕ) × (slice_get left node ≡ Some n)
@@ -226,8 +225,8 @@ module _ (seats : List SeatValue) (s : SeatValue) (lt : 0 < length seats) (at : 
 
   pub no_seat : (n : ℕ) → n ≡ node_count s.topology → (e : Fault) → IsUnseated n seats e → IsUnconcluded seats e
   no_seat n is e (inl memory) = inl memory
-  no_seat n is e (inr (stranger, node, below, none)) =
-      inr (stranger, λ one. let found = one.are.each node (subst (λ k. node < k) (is ∙ ap node_count (sym (its_topology one))) below) in let q = sym found.1 ∙ none in absurd (cc))
+  no_seat n is e (inr (stranger, missing)) =
+      inr (stranger, λ one. let found = one.are.each missing.0 (subst (λ k. missing.0 < k) (is ∙ ap node_count (sym (its_topology one))) missing.1) in let q = sym found.1 ∙ missing.2 in absurd (cc))
 
   pub unjoined : (top : TopologyValue) → top ≡ s.topology → (e : Fault) → IsUnjoined top seats e → IsUnconcluded seats e
   unjoined top is e (inl memory) = inl memory
@@ -238,11 +237,12 @@ module _ (seats : List SeatValue) (s : SeatValue) (lt : 0 < length seats) (at : 
 
 filter_more : {X : Type 0} (p : X → Bool) (xs : List X) (x : X) → filter p (xs ++ x ∷ []) ≡ filter p xs ++ cond (p x) (x ∷ []) []
 filter_more p [] x = refl
-filter_more {X} p (y ∷ xs) x = by (p y)
+filter_more {X} p (y ∷ xs) x = by (filter_more p xs x) (p y)
   where
-    by : (b : Bool) → cond b (y ∷ filter p (xs ++ x ∷ [])) (filter p (xs ++ x ∷ [])) ≡ cond b (y ∷ filter p xs) (filter p xs) ++ cond (p x) (x ∷ []) []
-    by true = ap (λ l. y ∷ l) (filter_more p xs x)
-    by false = filter_more p xs x
+    by : filter p (xs ++ x ∷ []) ≡ filter p xs ++ cond (p x) (x ∷ []) [] → (b : Bool)
+        → cond b (y ∷ filter p (xs ++ x ∷ [])) (filter p (xs ++ x ∷ [])) ≡ cond b (y ∷ filter p xs) (filter p xs) ++ cond (p x) (x ∷ []) []
+    by rest true = ap (λ l. y ∷ l) rest
+    by rest false = rest
 
 take_more : {X : Type 0} (xs : List X) (n : ℕ) (x : X) → slice_get xs n ≡ Some x → take (suc n) xs ≡ take n xs ++ x ∷ []
 take_more [] n x e = absurd (cc)
@@ -261,25 +261,24 @@ one_more_entry transcript session place c lt at =
     ∙ ap (filter (λ (z : Completed). z.node == session)) (take_more transcript place c (item_at transcript place c lt at))
     ∙ filter_more (λ (z : Completed). z.node == session) (take place transcript) c
 
+-- a list with one more entry, if it is of the session
 pub another_entry : (transcript : List Completed) (session place : ℕ) (c : Completed) (old list now : List Completed) → place < length transcript
-    → c ≡ slice_index_or transcript place c → (c.node == session) ≡ true → list ≡ old ++ first_entries transcript session place → now ≡ list ++ c ∷ []
-    → now ≡ old ++ first_entries transcript session (place + 1)
-another_entry transcript session place c old list now lt at yes is more =
-    more ∙ ap (λ l. l ++ c ∷ []) is ∙ append_assoc old (first_entries transcript session place) (c ∷ [])
-    ∙ ap (λ b. old ++ first_entries transcript session place ++ cond b (c ∷ []) []) (sym yes)
-    ∙ ap (λ l. old ++ l) (sym (one_more_entry transcript session place c lt at))
+    → c ≡ slice_index_or transcript place c → list ≡ old ++ first_entries transcript session place
+    → now ≡ list ++ cond (c.node == session) (c ∷ []) [] → now ≡ old ++ first_entries transcript session (place + 1)
+another_entry transcript session place c old list now lt at is more =
+    let rest : List Completed = cond (c.node == session) (c ∷ []) [] in
+    let all : old ++ (first_entries transcript session place ++ rest) ≡ old ++ first_entries transcript session (place + 1) =
+    ap (λ l. old ++ l) (sym (one_more_entry transcript session place c lt at)) in
+    more ∙ ap (λ l. l ++ rest) is ∙ append_assoc old (first_entries transcript session place) rest ∙ all
 
-pub no_entry : (transcript : List Completed) (session place : ℕ) (c : Completed) (old list : List Completed) → place < length transcript
-    → c ≡ slice_index_or transcript place c → (c.node == session) ≡ false → list ≡ old ++ first_entries transcript session place
-    → list ≡ old ++ first_entries transcript session (place + 1)
-no_entry transcript session place c old list lt at no is =
-    is ∙ ap (λ l. old ++ l) (sym (append-nil (first_entries transcript session place)))
-    ∙ ap (λ b. old ++ first_entries transcript session place ++ cond b (c ∷ []) []) (sym no)
-    ∙ ap (λ l. old ++ l) (sym (one_more_entry transcript session place c lt at))
+pub all_entries : (transcript : List Completed) (session place : ℕ) (old list : List Completed) → place ≡ length transcript
+    → list ≡ old ++ first_entries transcript session place → list ≡ old ++ filter (λ (c : Completed). c.node == session) transcript
+all_entries transcript session place old list end is =
+    is ∙ ap (λ l. old ++ filter (λ (c : Completed). c.node == session) l) (ap (λ n. take n transcript) end ∙ take-length transcript)
 
 range_more : (start n : ℕ) → range_with_len start (suc n) ≡ range_with_len start n ++ (start + n) ∷ []
 range_more start zero = ap (λ k. k ∷ []) (omega arith)
-range_more start (suc n) = ap (λ l. start ∷ l) (range_more (suc start) n ∙ ap (λ k. range_with_len (suc start) n ++ k ∷ []) (omega arith))
+range_more start (suc n) = ap (λ l. start ∷ l) (range_more (start + 1) n ∙ ap (λ k. range_with_len (start + 1) n ++ k ∷ []) (omega arith))
 
 flat_more : {X Y : Type 0} (f : X → List Y) (xs : List X) (x : X) → flat_map f (xs ++ x ∷ []) ≡ flat_map f xs ++ f x
 flat_more f [] x = append-nil (f x)
@@ -293,8 +292,10 @@ pub another_session : (top : TopologyValue) (transcript : List Completed) (n nod
     → list ≡ of_sessions top transcript n → now ≡ list ++ filter (λ (c : Completed). c.node == node) transcript → now ≡ of_sessions top transcript (n + 1)
 another_session top transcript n node list now is so_far more =
     let one : suc n ≡ n + 1 = omega arith in
+    let none : n ≡ 0 + n = omega arith in
     more ∙ ap (λ l. l ++ filter (λ (c : Completed). c.node == node) transcript) so_far
     ∙ ap (λ k. of_sessions top transcript n ++ filter (λ (c : Completed). c.node == k) transcript) is
     ∙ sym (flat_more (λ i. filter (λ (c : Completed). c.node == session_node top i) transcript) (range_with_len 0 n) n)
+    ∙ ap (λ k. flat_map (λ i. filter (λ (c : Completed). c.node == session_node top i) transcript) (range_with_len 0 n ++ k ∷ [])) none
     ∙ ap (flat_map (λ i. filter (λ (c : Completed). c.node == session_node top i) transcript)) (sym (range_more 0 n))
     ∙ ap (of_sessions top transcript) one

@@ -1,25 +1,25 @@
 -- Where nothing of any journal can be taken and something is left, the links don't match.
-use Rattle.std.proofs.Common.{append-nil, ◌≡◌, ◌∙◌, ℕ, zero, suc, ◌+◌, ◌-◌, ◌<◌, ◌≤◌, Bool, true, false, cond, List, [], ◌∷◌, ◌++◌, length, Option, Some, None, ◌⊎◌, inl, inr, refl, sym, ap, subst, arith, le_refl, eq-eqb}
-use Rattle.std.specs.Prelude.{◌==◌, filter, filter_map}
+use Rattle.std.proofs.Common.{append-nil, ◌≡◌, ◌∙◌, ℕ, zero, suc, ◌-◌, ◌<◌, cond, List, [], ◌∷◌, ◌++◌, Option, Some, None, ◌⊎◌, inl, inr, refl, sym, ap, subst, arith, eq-eqb}
+use Rattle.std.specs.Prelude.{◌==◌, filter_map}
 use Rattle.std.proofs.lemmas.List.{append_assoc}
 use Rattle.std.proofs.lemmas.List.Elements.{filter-append, filter_map-append}
 use Rattle.messages.specs.declared.envelope.Envelope.{Envelope}
 use Rattle.messages.specs.declared.event.Event.{Event as ActorEvent}
 use Rattle.messages.specs.declared.event.Event.TheVariants.{Submit, Handle, Collect}
-use Rattle.messages.specs.Topology.{TopologyValue, node_count}
-use Rattle.messages.specs.Actors.{ActorState, clock_of, ActorStep, actor_step, envelope_of, opening_actor, Replayed, replay, replay_of, sent_in, sent_by}
+use Rattle.messages.specs.Topology.{node_count}
+use Rattle.messages.specs.Actors.{clock_of, ActorStep, actor_step, envelope_of, opening_actor, Replayed, replay, replay_of, sent_in, sent_by}
 use Rattle.actors.specs.Journals.{from_node, receipts_from, sends_to}
 use Rattle.actors.specs.Seats.{SeatValue}
 use Rattle.world.specs.World.{WorldValue, run_of}
 use Rattle.world.specs.Journals.{actor_in, journal_in, held_in, sent_from}
-use Rattle.world.proofs.Among.{Among, among_contains, append_first, append_second, filter_only}
+use Rattle.world.proofs.Among.{Among, among_contains, append_second, filter_only}
 use Rattle.world.proofs.Ticks.{step_ticks}
 use Rattle.world.proofs.Replays.{rest_above}
 use Rattle.world.proofs.OwnJournals.{run_journals}
 use Rattle.threaded.specs.OneRun.{journal_of, DoLinksMatch}
-use Rattle.threaded.specs.Joining.{Joins, IsNext, IsWhole, IsAble, IsAwaited, IsOther, IsStrange, Rests}
-use Rattle.threaded.proofs.Lists.{same_rest, same_head, no_rest}
-use Rattle.threaded.proofs.Going.{replay_continues, Continues}
+use Rattle.threaded.specs.Joining.{Joins, IsNext, IsWhole, IsAwaited, IsOther, IsStrange, Rests}
+use Rattle.threaded.proofs.Lists.{same_rest, same_head}
+use Rattle.threaded.proofs.Going.{replay_continues}
 use Rattle.threaded.proofs.Joined.{able}
 
 module _ (seats : List SeatValue) (places : List ℕ) (w : WorldValue) (left : List ℕ) (links : List (List (List ℕ))) (j : Joins seats places w left links)
@@ -118,35 +118,41 @@ module _ (seats : List SeatValue) (places : List ℕ) (w : WorldValue) (left : L
     abbrev clock_after : (node : ℕ) → node < node_count w.top → (y : ActorEvent) → IsNext seats w left node y → ℕ
     clock_after node lt y next = clock_of (able seats places w left links j node lt y next).0.state
 
+    -- whoever awaits an envelope awaits an earlier event of its sender
+    module _ (node : ℕ) (lt : node < node_count w.top) (e : Envelope) (next : IsNext seats w left node (Handle e)) (awaited : IsAwaited w node (Handle e)) (bound : ℕ)
+        (below : clock_after node lt (Handle e) next < suc bound)
+        (earlier : (m : ℕ) (its : m < node_count w.top) (y : ActorEvent) (then : IsNext seats w left m y) → IsAwaited w m y → clock_after m its y then < bound → ⊥) where
+      abbrev its_step : (s : ActorStep) × (actor_step w.top node (actor_in w.top (run_of w) node) (Handle e) ≡ Some s)
+      its_step = able seats places w left links j node lt (Handle e) next
+
+      older : e.time < clock_of its_step.0.state
+      older = (step_ticks w.top node (actor_in w.top (run_of w) node) (Handle e) its_step.0 its_step.1).handled e refl
+
+      from_sender : Rests seats left w e.from → ⊥
+      from_sender (inl whole) =
+          let s = sent_later node lt e next.more next.whole awaited.1 [] (whole ∙ sym (append-nil (taken e.from))) in
+          let both : Some (record { state = actor_in w.top (run_of w) e.from; sent = []; finished = [] }) ≡ Some s.0 = s.1 in
+          let nothing : record { state = actor_in w.top (run_of w) e.from; sent = []; finished = [] } ≡ s.0 = cc in
+          subst (λ (z : Replayed). Among e z.sent) (sym nothing) s.2
+      from_sender (inr (z, then, still)) =
+          let s = sent_later node lt e next.more next.whole awaited.1 (z ∷ then.more) then.whole in
+          let t = able seats places w left links j e.from awaited.0 z then in
+          let rises = (step_ticks w.top e.from (actor_in w.top (run_of w) e.from) z t.0 t.1).rises in
+          let limit = clock_of t.0.state - 1 in
+          let above = rest_above w.top e.from limit (actor_in w.top (run_of w) e.from) (z ∷ then.more) s.0 s.1
+          (λ u takes. let both : Some t.0 ≡ Some u = sym t.1 ∙ takes in
+          let same : t.0 ≡ u = cc in
+          subst (λ (v : ActorStep). limit < clock_of v.state) same (omega arith)) e s.2 in
+          let first = older in
+          earlier e.from awaited.0 z then still (omega arith)
+
     waits_for_earlier : (bound node : ℕ) (lt : node < node_count w.top) (y : ActorEvent) (next : IsNext seats w left node y) → IsAwaited w node y
         → clock_after node lt y next < bound → ⊥
     waits_for_earlier zero node lt y next awaited below = absurd (omega arith)
     waits_for_earlier (suc bound) node lt (Submit o) next awaited below = awaited
     waits_for_earlier (suc bound) node lt (Collect time) next awaited below = awaited
-    waits_for_earlier (suc bound) node lt (Handle e) next awaited below = from_sender (rests e.from awaited.0)
-      where
-        its_step : (s : ActorStep) × (actor_step w.top node (actor_in w.top (run_of w) node) (Handle e) ≡ Some s)
-        its_step = able seats places w left links j node lt (Handle e) next
-
-        older : e.time < clock_of its_step.0.state
-        older = (step_ticks w.top node (actor_in w.top (run_of w) node) (Handle e) its_step.0 its_step.1).handled e refl
-
-        from_sender : Rests seats left w e.from → ⊥
-        from_sender (inl whole) =
-            let s = sent_later node lt e next.more next.whole awaited.1 [] (whole ∙ sym (append-nil (taken e.from))) in
-            let nothing : record { state = actor_in w.top (run_of w) e.from; sent = []; finished = [] } ≡ s.0 = cc in
-            subst (λ (z : Replayed). Among e z.sent) (sym nothing) s.2
-        from_sender (inr (z, then, still)) =
-            let s = sent_later node lt e next.more next.whole awaited.1 (z ∷ then.more) then.whole in
-            let t = able seats places w left links j e.from awaited.0 z then in
-            let rises = (step_ticks w.top e.from (actor_in w.top (run_of w) e.from) z t.0 t.1).rises in
-            let limit = clock_of t.0.state - 1 in
-            let above = rest_above w.top e.from limit (actor_in w.top (run_of w) e.from) (z ∷ then.more) s.0 s.1
-            (λ u takes. let both : Some t.0 ≡ Some u = sym t.1 ∙ takes in
-            let same : t.0 ≡ u = cc in
-            subst (λ (v : ActorStep). limit < clock_of v.state) same (omega arith)) e s.2 in
-            let first = older in
-            waits_for_earlier bound e.from awaited.0 z then still (omega arith)
+    waits_for_earlier (suc bound) node lt (Handle e) next awaited below =
+        from_sender node lt e next awaited bound below (waits_for_earlier bound) (rests e.from awaited.0)
 
     pub all_whole : (node : ℕ) → node < node_count w.top → IsWhole seats w node
     all_whole node lt = go (rests node lt)

@@ -1,5 +1,5 @@
 -- Events of actors that a world takes.
-use Rattle.std.proofs.Common.{◌≡◌, ◌∙◌, ℕ, ◌<◌, ◌≤◌, Bool, true, false, ◌&&◌, List, [], ◌∷◌, ◌++◌, length, Option, Some, None, ◌⊎◌, inl, inr, refl, sym, ap, subst, arith, slice_get, eqb-true, eq-eqb}
+use Rattle.std.proofs.Common.{◌≡◌, ◌∙◌, ℕ, ◌<◌, ◌≤◌, Bool, true, false, ◌&&◌, List, [], ◌∷◌, length, Option, Some, None, inl, inr, refl, sym, ap, subst, slice_get, eqb-true, eq-eqb}
 use Rattle.std.specs.Prelude.{◌==◌, if◌then◌else◌, slice_index_or, option_and_then, cond}
 use Rattle.std.specs.List.{cons_option}
 use Rattle.std.proofs.lemmas.Option.{slice_get_within}
@@ -9,21 +9,20 @@ use Rattle.messages.specs.declared.op.Op.{Op}
 use Rattle.messages.specs.declared.envelope.Envelope.{Envelope}
 use Rattle.messages.specs.declared.event.Event.{Event as ActorEvent}
 use Rattle.messages.specs.declared.event.Event.TheVariants.{Submit as SubmitHere, Handle, Collect as CollectHere}
-use Rattle.messages.specs.Topology.{TopologyValue, is_shard, is_session, node_count}
+use Rattle.messages.specs.Topology.{is_shard, is_session, node_count}
 use Rattle.messages.specs.Actors.{ActorStep, actor_step, envelope_of}
 use Rattle.actors.specs.Journals.{from_node, receipts_from}
-use Rattle.world.specs.declared.run_event.RunEvent.{RunEvent as Event}
 use Rattle.world.specs.declared.run_event.RunEvent.TheVariants.{Submit, Deliver, Collect}
 use Rattle.world.specs.Run.{Run}
-use Rattle.world.specs.Refusals.{Refusal, refusal_of}
+use Rattle.world.specs.Refusals.{Refusal}
 use Rattle.world.specs.World.{WorldValue, run_of, refusal_in, Takes, IsRefusedAs}
-use Rattle.world.specs.Journals.{actor_in, event_at, journal_in}
+use Rattle.world.specs.Journals.{actor_in}
 use Rattle.world.proofs.Replacing.{item_at}
 use Rattle.world.proofs.Moves.{Moves}
 use Rattle.world.proofs.JournalSteps.{AreKnown}
 use Rattle.world.proofs.OwnJournals.{run_journals}
 use Rattle.threaded.specs.Links.{waiting_on, IsSquare, IsLink, IsFirst, AreLinks}
-use Rattle.threaded.specs.Joining.{IsAble, HasHappened, IsAwaited, IsOther, IsStrange, HasGone, IsHalted}
+use Rattle.threaded.specs.Joining.{IsAble, HasHappened, HasGone, IsHalted}
 use Rattle.threaded.proofs.Going.{submission_allowed, collection_allowed, delivery_allowed, with_event, moved}
 use Rattle.threaded.proofs.Linked.{link_stays, link_taken, none_waits, first_waits}
 
@@ -78,7 +77,7 @@ module _ (w : WorldValue) (node number : ℕ) (lt : node < node_count w.top) (e 
 -- ## Links after an event
 
 pub equal_tests : (a b c d : ℕ) → ((a == b) && (c == d)) ≡ true → (a ≡ b) × (c ≡ d)
-pub equal_tests a b c d both = go (a == b) refl both
+equal_tests a b c d both = go (a == b) refl both
   where
     go : (t : Bool) → (a == b) ≡ t → (t && (c == d)) ≡ true → (a ≡ b) × (c ≡ d)
     go false q h = absurd (cc)
@@ -132,14 +131,22 @@ module _ (w v : WorldValue) (node : ℕ) (y : ActorEvent) (some : 0 < w.top.shar
               apart false r g = r
               apart true r g = absurd (cc)
 
+pub received : (w v : WorldValue) (node number : ℕ) (e : Envelope) (links now : List (List (List ℕ))) → 0 < w.top.shards → HasHappened w node (Handle e) v
+    → slice_get (run_of w).sent number ≡ Some e → AreLinks w (length (run_of w).sent) links → ((count : ℕ) → IsSquare count links → IsSquare count now)
+    → waiting_on links e.from node ≡ number ∷ waiting_on now e.from node
+    → ((f t : ℕ) → ((e.from == f) && (node == t)) ≡ false → waiting_on now f t ≡ waiting_on links f t)
+    → HasGone true w node (Handle e) v now
+received w v node number e links now some h at are square first others =
+    (h, links_received w v node (Handle e) some h e refl number at links now (square (node_count w.top) are.square) first others are)
+
 -- where nothing waits on a link, what is next there is awaited
 pub awaited : (w : WorldValue) (node : ℕ) (e : Envelope) (links now : List (List (List ℕ))) → node < node_count w.top → e.from < node_count w.top
-    → IsSquare (node_count w.top) now → (waiting_on links e.from node ≡ []) × (waiting_on now e.from node ≡ [])
+    → ((count : ℕ) → IsSquare count links → IsSquare count now) → (waiting_on links e.from node ≡ []) × (waiting_on now e.from node ≡ [])
     → ((f t : ℕ) → ((e.from == f) && (node == t)) ≡ false → waiting_on now f t ≡ waiting_on links f t)
     → AreLinks w (length (run_of w).sent) links → HasGone false w node (Handle e) w now
 awaited w node e links now to from square none others are = (
   refl,
-  record { square = square; each = λ f t lf lt. by f t lf lt ((e.from == f) && (node == t)) refl },
+  record { square = square (node_count w.top) are.square; each = λ f t lf lt. by f t lf lt ((e.from == f) && (node == t)) refl },
   (from, none_waits (run_of w) (waiting_on links e.from node) e.from node (are.each e.from node from to) none.0),
 )
   where

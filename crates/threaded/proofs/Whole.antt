@@ -1,10 +1,8 @@
 -- Where the world took all journals, they are of one run.
-use Rattle.std.proofs.Common.{append-nil, ◌≡◌, ◌∙◌, ℕ, ◌<◌, List, ◌++◌, map, length, Some, None, refl, sym, ap, subst}
-use Rattle.std.specs.Prelude.{Contains, option_to_list}
-use Rattle.messages.specs.declared.envelope.Envelope.{Envelope}
-use Rattle.messages.specs.declared.event.Event.{Event as ActorEvent}
+use Rattle.std.proofs.Common.{append-nil, ◌≡◌, ◌∙◌, ℕ, ◌<◌, List, ◌++◌, map, Some, None, sym, ap, subst}
+use Rattle.std.specs.Prelude.{option_to_list}
 use Rattle.messages.specs.declared.event.Event.TheVariants.{Handle}
-use Rattle.messages.specs.Topology.{TopologyValue, node_count}
+use Rattle.messages.specs.Topology.{node_count}
 use Rattle.messages.specs.Actors.{Replayed, replay_of, sent_in, sent_by}
 use Rattle.client.specs.State.{finished_of}
 use Rattle.actors.specs.Journals.{receipts_from, sends_to}
@@ -13,7 +11,7 @@ use Rattle.world.specs.World.{WorldValue, run_of}
 use Rattle.world.specs.Journals.{journal_in, held_in, sent_from, ended_at}
 use Rattle.world.proofs.Among.{Among, contains_among}
 use Rattle.world.proofs.OwnJournals.{run_journals, handled_there}
-use Rattle.threaded.specs.Machines.{StaysApart, as_finished, untaken_of}
+use Rattle.threaded.specs.Machines.{StaysApart, as_finished}
 use Rattle.threaded.specs.OneRun.{seat_of, journal_of, DoLinksMatch, AreOfOneRun}
 use Rattle.threaded.specs.Joining.{Joins, IsWhole}
 use Rattle.threaded.specs.Concluded.{AreConcluded}

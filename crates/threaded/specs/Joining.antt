@@ -1,5 +1,5 @@
 -- Journals on their way to one run: what a world took of them, and what is left.
-use Rattle.std.specs.Prelude.{◌≡◌, ℕ, ◌+◌, ◌<◌, ◌≤◌, Bool, true, false, List, [], ◌∷◌, ◌++◌, length, slice_get, Some, None, ◌⊎◌}
+use Rattle.std.specs.Prelude.{◌≡◌, ℕ, ◌+◌, ◌<◌, ◌≤◌, Bool, true, false, List, ◌∷◌, ◌++◌, length, slice_get, Some, None, ◌⊎◌}
 use Rattle.std.specs.List.{sum_by}
 use Rattle.logical_time.specs.declared.fault.Fault.{Fault}
 use Rattle.logical_time.specs.declared.fault.Fault.TheVariants.{Memory, StrangerEnd}
@@ -11,7 +11,6 @@ use Rattle.messages.specs.Actors.{ActorStep, actor_step}
 use Rattle.actors.specs.Journals.{receipts_from, sends_to}
 use Rattle.actors.specs.Seats.{SeatValue, Keeps}
 use Rattle.world.specs.declared.run_event.RunEvent.{RunEvent as Event}
-use Rattle.world.specs.Run.{Run}
 use Rattle.world.specs.Refusals.{IsRun}
 use Rattle.world.specs.World.{WorldValue, run_of, Takes}
 use Rattle.world.specs.Journals.{actor_in, event_at, journal_in, sent_from}

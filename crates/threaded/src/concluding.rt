@@ -1,5 +1,5 @@
 //! Seats whose journals are joined to a run.
-ghost use Rattle.std.specs.Prelude.{◌≡◌, ◌<◌, ◌↔◌, ◌++◌, ◌==◌, ℕ, true, None, length, filter, IfOk, OnOk, IfErr, IfSome, IfNone};
+ghost use Rattle.std.specs.Prelude.{◌≡◌, ◌<◌, ◌↔◌, ◌++◌, ◌==◌, ◌∷◌, [], ℕ, true, None, cond, length, filter, IfOk, OnOk, IfErr, IfSome, IfNone};
 ghost use Rattle.logical_time.specs.declared.fault.Fault.TheVariants.{Memory};
 ghost use Rattle.world.specs.World.{run_of};
 ghost use Rattle.world.specs.declared.completed.Completed.{Completed as Ended};
@@ -33,6 +33,7 @@ fn are_of(topology: &Topology, seats: &[Seat<Actor>]) -> bool
 }
 
 /// Where the seat of the actor with a node stands, if there is one.
+#[tactic(auto, using(crate::proofs::Starting::place_found, crate::proofs::Starting::one_more_elsewhere, crate::proofs::Starting::nowhere))]
 fn place_of(seats: &[Seat<Actor>], node: Node) -> Option<usize>
     ensures some { IfSome result (IsPlace seats.now node) }
     ensures none { IfNone result (seat_of seats.now node ≡ None) }
@@ -142,8 +143,19 @@ fn copied(entry: &Completed) -> Result<Completed, Fault>
     })
 }
 
+/// Adds an entry at the end, if it is of the session. Refused with `Memory` alone.
+fn add_entry(list: &mut Vec<Completed>, entry: &Completed, session: Node) -> Result<(), Fault>
+    ensures ok { OnOk result (list.new.items ≡ list.old.items ++ cond (entry.now.node == session) (entry.now ∷ []) []) }
+    ensures memory { IfErr result (λ e. e ≡ Memory) }
+{
+    if entry.node == session {
+        list.push(copied(entry)?)?;
+    }
+    Ok(())
+}
+
 /// Adds the entries of a session at the end, in their order. Refused with `Memory` alone.
-#[tactic(auto, using(crate::proofs::Starting::entries_begin, crate::proofs::Starting::another_entry, crate::proofs::Starting::no_entry))]
+#[tactic(auto, using(crate::proofs::Starting::another_entry, crate::proofs::Starting::all_entries))]
 fn add_entries(
     list: &mut Vec<Completed>,
     transcript: &[Completed],
@@ -153,9 +165,7 @@ fn add_entries(
     ensures memory { IfErr result (λ e. e ≡ Memory) }
 {
     for place in 0..transcript.len() {
-        if transcript[place].node == session {
-            list.push(copied(&transcript[place])?)?;
-        }
+        add_entry(list, &transcript[place], session)?;
     }
     Ok(())
 }

@@ -48,11 +48,13 @@ fn deliver(world: &mut World, node: Node, number: usize, envelope: &Envelope) ->
     if !same_envelope(&world.messages()[number], envelope) {
         return Err(Fault::StrangerEnd);
     }
-    world.deliver(number)
+    world.deliver(number)?;
+    Ok(())
 }
 
 /// An actor handles an envelope, if that is the next one on its link. The answer is whether it was sent already. Refused
 /// with `StrangerEnd` where it is from no actor, or where another one is the next, and with `Memory`.
+#[tactic(auto, using(crate::proofs::Taking::next_is_first, crate::proofs::Taking::awaited, crate::proofs::Taking::received, crate::proofs::Taking::from_no_actor))]
 fn receive(
     world: &mut World,
     links: &mut Links,
@@ -66,11 +68,10 @@ fn receive(
     ensures gone { IfOk result (λ did. HasGone did world.old node (Handle envelope.now) world.new links.new) }
     ensures halted { IfErr result (IsHalted world.old node (Handle envelope.now)) }
 {
-    let from = envelope.from.get();
-    if from >= world.topology().node_count() {
+    if envelope.from.get() >= world.topology().node_count() {
         return Err(Fault::StrangerEnd);
     }
-    match links.pop(usize::from(from), usize::from(node.get())) {
+    match links.pop(envelope.from, node) {
         None => Ok(false),
         Some(number) => {
             deliver(world, node, number, envelope)?;
@@ -82,6 +83,7 @@ fn receive(
 /// The world takes an event of an actor, which the actor doesn't refuse. The answer is whether it did, or awaits what the
 /// event handles. Refused with `StrangerEnd` where the event handles what isn't the next envelope on its link, and with
 /// `Memory`.
+#[tactic(auto, using(crate::proofs::Taking::submitted, crate::proofs::Taking::collected))]
 pub fn happen(
     world: &mut World,
     links: &mut Links,

@@ -1,5 +1,5 @@
 //! Journals that are joined to a run, event by event.
-ghost use Rattle.std.specs.Prelude.{◌≡◌, ◌<◌, ◌≤◌, ◌==◌, ℕ, true, false, length, IfOk, OnOk, IfErr, IfSome, IfNone};
+ghost use Rattle.std.specs.Prelude.{◌≡◌, ◌<◌, ◌≤◌, ◌==◌, ◌||◌, ℕ, true, false, length, IfOk, OnOk, IfErr, IfSome, IfNone};
 ghost use Rattle.std.specs.List.{list_all};
 ghost use Rattle.messages.specs.Topology.{node_count};
 ghost use Rattle.world.specs.World.{run_of};
@@ -37,11 +37,16 @@ fn post(world: &World, links: &mut Links, first: usize) -> Result<(), Fault>
 {
     for number in first..world.sent() {
         let envelope = &world.messages()[number];
-        let from = usize::from(envelope.from.get());
-        let to = usize::from(envelope.to.get());
-        links.push(from, to, number)?;
+        links.push(envelope.from, envelope.to, number)?;
     }
     Ok(())
+}
+
+/// Whether one of these holds.
+fn any_of(a: bool, b: bool) -> bool
+    ensures { result ≡ (a || b) }
+{
+    a || b
 }
 
 /// Whether nothing is left.
@@ -53,6 +58,7 @@ fn is_done(left: &[usize]) -> bool
 
 impl Joining {
     /// The next event of an actor's journal, if one is left.
+    #[tactic(auto, using(crate::proofs::Advancing::left_is_there, crate::proofs::Advancing::places_within, crate::proofs::Advancing::seat_within, crate::proofs::Advancing::journal_there, crate::proofs::Advancing::none_left, crate::proofs::Advancing::left_fit, crate::proofs::Advancing::next_is))]
     fn next<'a>(&self, seats: &'a [Seat<Actor>], node: Node) -> Option<&'a Event>
         requires joins { Joins seats.now self.now.places.items self.now.world self.now.left.items self.now.links }
         requires node { node < node_count self.now.world.top }
@@ -70,11 +76,12 @@ impl Joining {
 
     /// The next event of an actor's journal is taken, if one is left and what it handles was sent. The answer is whether one
     /// was. Refused with `StrangerEnd` where the links don't match, and with `Memory`.
+    #[tactic(auto, using(crate::proofs::Joined::able, crate::proofs::Advancing::left_is_there, crate::proofs::Advancing::advanced, crate::proofs::Advancing::stays, crate::proofs::Advancing::halted))]
     fn advance(&mut self, seats: &[Seat<Actor>], node: Node) -> Result<bool, Fault>
         requires joins { Joins seats.now self.old.places.items self.old.world self.old.left.items self.old.links }
         requires node { node < node_count self.old.world.top }
         ensures joins { OnOk result (Joins seats.now self.new.places.items self.new.world self.new.left.items self.new.links) }
-        ensures top { self.new.world.top ≡ self.old.world.top }
+        ensures top { OnOk result (self.new.world.top ≡ self.old.world.top) }
         ensures fewer { IfOk result (λ did. did ≡ true → count_left self.new.left.items < count_left self.old.left.items) }
         ensures same { IfOk result (λ did. did ≡ false → (self.new.world ≡ self.old.world) × (self.new.left.items ≡ self.old.left.items)) }
         ensures rests { IfOk result (λ did. did ≡ false → Rests seats.now self.new.left.items self.new.world node) }
@@ -98,7 +105,7 @@ impl Joining {
         requires joins { Joins seats.now self.old.places.items self.old.world self.old.left.items self.old.links }
         requires node { node < node_count self.old.world.top }
         ensures joins { OnOk result (Joins seats.now self.new.places.items self.new.world self.new.left.items self.new.links) }
-        ensures top { self.new.world.top ≡ self.old.world.top }
+        ensures top { OnOk result (self.new.world.top ≡ self.old.world.top) }
         ensures fewer { IfOk result (λ did. did ≡ true → count_left self.new.left.items < count_left self.old.left.items) }
         ensures same { IfOk result (λ did. did ≡ false → (self.new.world ≡ self.old.world) × (self.new.left.items ≡ self.old.left.items)) }
         ensures rests { IfOk result (λ did. did ≡ false → Rests seats.now self.new.left.items self.new.world node) }
@@ -116,16 +123,15 @@ impl Joining {
     fn go_round(&mut self, seats: &[Seat<Actor>]) -> Result<bool, Fault>
         requires joins { Joins seats.now self.old.places.items self.old.world self.old.left.items self.old.links }
         ensures joins { OnOk result (Joins seats.now self.new.places.items self.new.world self.new.left.items self.new.links) }
-        ensures top { self.new.world.top ≡ self.old.world.top }
+        ensures top { OnOk result (self.new.world.top ≡ self.old.world.top) }
         ensures fewer { IfOk result (λ did. did ≡ true → count_left self.new.left.items < count_left self.old.left.items) }
         ensures rest { IfOk result (λ did. did ≡ false → (node : ℕ) → node < node_count self.new.world.top → Rests seats.now self.new.left.items self.new.world node) }
         ensures refused { IfErr result (IsUnjoined self.old.world.top seats.now) }
     {
         let mut did = false;
         for node in 0..self.world.topology().node_count() {
-            if self.advance_far(seats, Node::new(node))? {
-                did = true;
-            }
+            let moved = self.advance_far(seats, Node::new(node))?;
+            did = any_of(did, moved);
         }
         Ok(did)
     }
@@ -136,7 +142,7 @@ impl Joining {
     pub fn join(&mut self, seats: &[Seat<Actor>]) -> Result<(), Fault>
         requires joins { Joins seats.now self.old.places.items self.old.world self.old.left.items self.old.links }
         ensures joined { OnOk result (AreConcluded seats.now self.new.world) }
-        ensures top { self.new.world.top ≡ self.old.world.top }
+        ensures top { OnOk result (self.new.world.top ≡ self.old.world.top) }
         ensures refused { IfErr result (IsUnjoined self.old.world.top seats.now) }
     {
         while self.go_round(seats)? {}

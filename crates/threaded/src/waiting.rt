@@ -2,7 +2,7 @@
 ghost use Rattle.std.specs.Prelude.{◌≡◌, ◌<◌, ◌++◌, ◌∷◌, [], ◌==◌, ◌&&◌, ℕ, false, length, IfOk, OnOk, IfErr, IfSome, IfNone};
 ghost use Rattle.threaded.specs.Links.{waiting_for, waiting_on, IsSquare};
 
-use logical_time::Fault;
+use logical_time::{Fault, Node};
 use std::alloc::Global;
 use std::collections::VecDeque;
 use std::marker::Model;
@@ -65,13 +65,14 @@ impl Model for Queues {
 
 impl Queues {
     /// Links to so many actors, on which nothing waits. Refused with `Memory` alone.
+    #[tactic(auto, using(crate::proofs::Queues::one_more_empty))]
     fn new(alloc: Global, count: usize) -> Result<Queues, Fault>
         ensures len { IfOk result (λ q. length q ≡ count) }
         ensures empty { IfOk result (λ q. (to : ℕ) → waiting_for q to ≡ []) }
         ensures memory { IfErr result (λ e. e ≡ Fault.Memory) }
     {
         let mut queues = Vec::new(alloc);
-        for _ in 0..count {
+        while queues.len() < count {
             queues.push(Numbers::new(alloc))?;
         }
         Ok(Queues { queues })
@@ -123,13 +124,14 @@ impl Model for Links {
 
 impl Links {
     /// Links between so many actors, on which nothing waits. Refused with `Memory` alone.
+    #[tactic(auto, using(crate::proofs::Queues::one_more_row, crate::proofs::Queues::rows_square, crate::proofs::Queues::rows_empty))]
     pub fn new(alloc: Global, count: usize) -> Result<Links, Fault>
         ensures square { IfOk result (λ links. IsSquare count links) }
         ensures empty { IfOk result (λ links. (from to : ℕ) → waiting_on links from to ≡ []) }
         ensures memory { IfErr result (λ e. e ≡ Fault.Memory) }
     {
         let mut rows = Vec::new(alloc);
-        for _ in 0..count {
+        while rows.len() < count {
             rows.push(Queues::new(alloc, count)?)?;
         }
         Ok(Links { rows })
@@ -137,28 +139,30 @@ impl Links {
 
     /// Puts a number on a link, if there is that link. Refused with `Memory` alone.
     #[tactic(auto, using(crate::proofs::Queues::still_square, crate::proofs::Queues::put_on, crate::proofs::Queues::aside_on))]
-    pub fn push(&mut self, from: usize, to: usize, number: usize) -> Result<(), Fault>
+    pub fn push(&mut self, from: Node, to: Node, number: usize) -> Result<(), Fault>
         ensures square { (count : ℕ) → IsSquare count self.old → OnOk result (IsSquare count self.new) }
         ensures here { (count : ℕ) → IsSquare count self.old → from < count → to < count → OnOk result (waiting_on self.new from to ≡ waiting_on self.old from to ++ number ∷ []) }
         ensures there { (f t : ℕ) → ((from == f) && (to == t)) ≡ false → OnOk result (waiting_on self.new f t ≡ waiting_on self.old f t) }
         ensures memory { IfErr result (λ e. e ≡ Fault.Memory) }
     {
-        if from < self.rows.len() {
-            self.rows[from].push(to, number)?;
+        let row = usize::from(from.get());
+        if row < self.rows.len() {
+            self.rows[row].push(usize::from(to.get()), number)?;
         }
         Ok(())
     }
 
     /// Takes the first number off a link.
     #[tactic(auto, using(crate::proofs::Queues::still_square, crate::proofs::Queues::taken_on, crate::proofs::Queues::none_on, crate::proofs::Queues::no_row, crate::proofs::Queues::aside_on))]
-    pub fn pop(&mut self, from: usize, to: usize) -> Option<usize>
+    pub fn pop(&mut self, from: Node, to: Node) -> Option<usize>
         ensures square { (count : ℕ) → IsSquare count self.old → IsSquare count self.new }
         ensures some { IfSome result (λ number. waiting_on self.old from to ≡ number ∷ waiting_on self.new from to) }
         ensures none { IfNone result ((waiting_on self.old from to ≡ []) × (waiting_on self.new from to ≡ [])) }
         ensures there { (f t : ℕ) → ((from == f) && (to == t)) ≡ false → waiting_on self.new f t ≡ waiting_on self.old f t }
     {
-        if from < self.rows.len() {
-            self.rows[from].pop(to)
+        let row = usize::from(from.get());
+        if row < self.rows.len() {
+            self.rows[row].pop(usize::from(to.get()))
         } else {
             None
         }

@@ -1,4 +1,4 @@
-use Rattle.std.proofs.Common.{◌≡◌, ◌++◌, ◌∷◌, [], sym, subst}
+use Rattle.std.proofs.Common.{◌++◌, ◌∷◌, [], sym, subst}
 use Rattle.actors.specs.Journals.{followed_by}
 use Rattle.threaded.specs.declared.actor.Actor.TheVariants as actor
 use Rattle.threaded.specs.Machines.{CameFrom}

@@ -1,4 +1,4 @@
-use Rattle.std.proofs.Common.{◌≡◌, sym}
+use Rattle.std.proofs.Common.{sym}
 use Rattle.threaded.proofs.Machines.{shard_opens, session_home, session_opens}
 use Rattle.threaded.proofs.actor.ActorMachine.new.Goals as goal
 

@@ -1,5 +1,4 @@
 use Rattle.std.proofs.Common.{◌≡◌, ◌<◌, ◌≤◌, true, false}
-use Rattle.messages.specs.Topology.{node_count}
 use Rattle.threaded.specs.Joining.{Joins, count_left}
 use Rattle.threaded.proofs.joining.Joining.advance_far.Given as goal
 
@@ -7,6 +6,7 @@ abbrev pub invariant-loop-did : goal.invariant-loop-did
 invariant-loop-did l = record {
   joins : Joins l.seats l.self.places.items l.self.world l.self.left.items l.self.links;
   top : l.self.world.top ≡ l.fn.self.world.top;
+  no_more : count_left l.self.left.items ≤ count_left l.fn.self.left.items;
   fewer : l.did ≡ true → count_left l.self.left.items < count_left l.fn.self.left.items;
   world : l.did ≡ false → l.self.world ≡ l.fn.self.world;
   left : l.did ≡ false → l.self.left.items ≡ l.fn.self.left.items;

@@ -1,5 +1,4 @@
-use Rattle.std.proofs.Common.{◌≡◌, ◌<◌, ◌≤◌, ℕ, true, false}
-use Rattle.messages.specs.Topology.{node_count}
+use Rattle.std.proofs.Common.{◌≡◌, ◌<◌, ℕ, true, false}
 use Rattle.threaded.specs.Joining.{Joins, Rests, count_left}
 use Rattle.threaded.proofs.joining.Joining.go_round.Given as goal
 
