@@ -1,0 +1,6 @@
+use Rattle.std.proofs.Common.{◌≡◌, refl, eqb-true, eq-eqb}
+use Rattle.std.proofs.lemmas.Slice.Eq.{slice_eq-Decides}
+use Rattle.equality.proofs.lists.same_key_list.Goals as goal
+
+pub returns : goal.returns
+returns c = slice_eq-Decides (λ x y. slice_eq-Decides (λ m n. (eqb-true m n, eq-eqb m n)) x y _ refl) c.args.a.now c.args.b.now c.eq.result c.eq.ensures

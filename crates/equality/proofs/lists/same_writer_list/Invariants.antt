@@ -1,0 +1,8 @@
+use Rattle.std.proofs.Common.{◌≡◌, ℕ, length, take}
+use Rattle.equality.proofs.lists.same_writer_list.Given as goal
+
+abbrev pub invariant-loop-place : goal.invariant-loop-place
+invariant-loop-place l = record {
+  lengths : length l.a ≡ length l.b;
+  same : take l.place l.a ≡ take l.place l.b;
+}

@@ -1,0 +1,15 @@
+//! Whether two envelopes, or two topologies, are the same: by all that they say, and not by where it lies.
+//!
+//! Each function answers exactly whether the values are equal. Lists of rows are compared row by row, and a body by the
+//! function of its own kind.
+#![tactic(auto)]
+
+mod bodies;
+mod envelopes;
+mod kinds;
+mod lists;
+mod rows;
+mod topologies;
+
+pub use envelopes::same_envelope;
+pub use topologies::same_topology;

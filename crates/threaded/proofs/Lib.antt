@@ -1,0 +1,12 @@
+pub mod Machines
+pub mod Lists
+pub mod Going
+pub mod Linked
+pub mod Joined
+pub mod Stuck
+pub mod Whole
+pub mod Queues
+pub mod Taking
+pub mod Posting
+pub mod Advancing
+pub mod Starting

@@ -1,0 +1,5 @@
+use Rattle.threaded.proofs.Starting.{AreFirstOf}
+use Rattle.threaded.proofs.concluding.are_of.Given as goal
+
+abbrev pub invariant-loop-place : goal.invariant-loop-place
+invariant-loop-place l = AreFirstOf l.topology l.seats l.place

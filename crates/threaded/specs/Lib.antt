@@ -1,0 +1,5 @@
+pub mod Machines
+pub mod OneRun
+pub mod Links
+pub mod Joining
+pub mod Concluded

@@ -1,0 +1,82 @@
+-- When a shard or a session came from a journal: where stamps stay apart, it stands for the journal's replay.
+use Rattle.std.specs.Prelude.{◌≡◌, ℕ, Bool, true, false, not, List, [], ◌∷◌, ◌++◌, map, Option, Some, None, option_to_list}
+use Rattle.store.specs.Keeps.{AreApart}
+use Rattle.messages.specs.declared.envelope.Envelope.{Envelope}
+use Rattle.messages.specs.declared.outcome.Outcome.{Outcome}
+use Rattle.messages.specs.declared.event.Event.{Event}
+use Rattle.messages.specs.Topology.{TopologyValue, is_shard}
+use Rattle.messages.specs.Session.{Finished}
+use Rattle.messages.specs.Actors.{ActorState, OfShard, OfSession, Replayed, replay_of}
+use Rattle.shard.specs.Kept as shard
+use Rattle.client.specs.Represents as session
+use Rattle.client.specs.State.{finished_of}
+use Rattle.actors.specs.Journals.{submissions, sends_to}
+use Rattle.threaded.specs.declared.actor.Actor.{Actor}
+use Rattle.threaded.specs.declared.actor.Actor.TheVariants as actor
+
+-- ## What is asked of stamps
+
+-- The parts that a shard applied have their stamps apart. Nothing is asked of a session.
+abbrev pub HasPartsApart : ActorState → Type 0
+HasPartsApart (OfShard a) = AreApart a.applied
+HasPartsApart (OfSession a) = Unit {0}
+
+-- so it is wherever the replay of a journal comes
+abbrev pub StaysApart : TopologyValue → ℕ → List Event → Type 0
+StaysApart top node journal =
+    (before after : List Event) (r : Replayed) → journal ≡ before ++ after → replay_of top node before ≡ Some r → HasPartsApart r.state
+
+-- ## What a machine keeps
+
+-- whether it is a shard
+abbrev pub is_of_shard : Actor → Bool
+is_of_shard (actor.Shard k) = true
+is_of_shard (actor.Session k waits ended) = false
+
+-- the outcome that wasn't taken yet, with the number of its operation
+abbrev pub untaken_of : Actor → Option (ℕ × Outcome)
+untaken_of (actor.Shard k) = None
+untaken_of (actor.Session k waits ended) = ended
+
+-- a shard is always free for an event, a session while it waits for no operation
+abbrev pub is_free : Actor → Bool
+is_free (actor.Shard k) = true
+is_free (actor.Session k waits ended) = not waits
+
+-- how many operations it accepted
+abbrev pub accepted_by : Actor → ℕ
+accepted_by (actor.Shard k) = 0
+accepted_by (actor.Session k waits ended) = k.count
+
+-- what it keeps stands for this state of the actor with a node
+abbrev pub Stands : TopologyValue → ℕ → Actor → ActorState → Type 0
+Stands top node (actor.Shard k) (OfShard a) = shard.Represents top node k a
+Stands top node (actor.Shard k) (OfSession a) = ⊥
+Stands top node (actor.Session k waits ended) (OfShard a) = ⊥
+Stands top node (actor.Session k waits ended) (OfSession a) = (k.node ≡ node) × session.Represents k top a
+
+-- ## What a journal made of it
+
+-- an outcome with the number of its operation, as a replay tells it
+abbrev pub as_finished : (ℕ × Outcome) → Finished
+as_finished p = record { number = p.0; outcome = p.1 }
+
+-- The machine stands for where the replay of the journal leads; what that sent is what went to each node, in order; and what
+-- it finished are the outcomes that were taken, and then the one that wasn't.
+pub record IsReplay (top : TopologyValue) (node : ℕ) (journal : List Event) (sent : ℕ → List Envelope) (outcomes : List (ℕ × Outcome))
+    (machine : Actor) : Type 0 where
+  pub replay : Replayed
+  pub replays : replay_of top node journal ≡ Some replay
+  pub stands : Stands top node machine replay.state
+  pub sends : (to : ℕ) → sent to ≡ sends_to to replay.sent
+  pub finishes : replay.finished ≡ map as_finished outcomes ++ option_to_list (finished_of (untaken_of machine))
+
+-- The machine came from the journal of the actor with a node. No event of it was refused: where stamps stay apart up to an
+-- event, the replay goes on with that. Where they stay apart to the end, the machine is its replay.
+pub record CameFrom (top : TopologyValue) (node : ℕ) (journal : List Event) (sent : ℕ → List Envelope) (outcomes : List (ℕ × Outcome))
+    (machine : Actor) : Type 0 where
+  pub kind : is_shard top node ≡ is_of_shard machine
+  pub accepted : accepted_by machine ≡ submissions journal
+  pub goes : (before : List Event) (x : Event) (after : List Event) → journal ≡ before ++ x ∷ after → StaysApart top node before
+      → (r : Replayed) × (replay_of top node (before ++ x ∷ []) ≡ Some r)
+  pub comes : StaysApart top node journal → IsReplay top node journal sent outcomes machine
