@@ -24,10 +24,12 @@ impl Model for SocketLine {
 }
 
 impl SocketLine {
-    /// The line of a connection, before any call.
+    /// The line of a connection, before any call. What is written to it goes out at once.
     pub fn new(stream: TcpStream) -> SocketLine
         ensures { result ≡ record { heard = None; said = None; ended = false; failures = 0 } }
     {
+        // a reply isn't kept back until the peer has taken the one before; where that is refused, replies come later
+        let _refused = stream.set_nodelay(true);
         SocketLine {
             stream,
             ended: false,
