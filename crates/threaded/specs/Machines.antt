@@ -16,7 +16,7 @@ use Rattle.threaded.specs.declared.actor.Actor.TheVariants as actor
 
 -- ## What is asked of stamps
 
--- The parts that a shard applied have their stamps apart. Nothing is asked of a session.
+-- The parts that a shard applied are in normal form and have their stamps apart. Nothing is asked of a session.
 abbrev pub HasPartsApart : ActorState → Type 0
 HasPartsApart (OfShard a) = AreApart a.applied
 HasPartsApart (OfSession a) = Unit {0}

@@ -76,6 +76,7 @@ impl Concluded {
 
     /// The operations that ended, by the nodes of their sessions, each session's in order.
     pub fn transcript(&self) -> &[Completed]
+        ensures run { AreConcluded self.now.seats self.now.world }
         ensures listed { result.now ≡ by_session self.now.world.top (run_of self.now.world).transcript }
         // whatever the threads did, each read is answered with the meaning of its request on one table: its home's history at
         // its effective time
@@ -102,6 +103,7 @@ impl Concluded {
     /// with `Memory` alone.
     pub fn history(&self, alloc: Global, dc: u16) -> Result<History, Fault>
         requires { dc < self.now.world.top.dcs }
+        ensures run { AreConcluded self.now.seats self.now.world }
         ensures listed { IfOk result (λ h. IsHistory self.now.world.top (run_of self.now.world) dc h) }
         // an entry for each transaction that is decided there, and no other
         ensures tells { IfOk result (λ h. TellsDecided self.now.world.top (run_of self.now.world) dc h) }

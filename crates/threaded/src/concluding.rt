@@ -189,9 +189,9 @@ fn by_session(alloc: Global, world: &World) -> Result<Vec<Completed>, Fault>
 }
 
 /// What the journals of these seats conclude: a run of all actors, whose journals they are. Refused with `StrangerEnd`
-/// exactly where the seats aren't one for each node of one topology, or where on some link the receipts aren't a beginning of
-/// what the sender's journal sent there; and with `Memory`. Then the seats are handed back. Each journal's events are done
-/// once more: linear in them, beside what they cost.
+/// exactly where the seats aren't one for each node of one topology, where on some link the receipts aren't a beginning of
+/// what the sender's journal sent there, or where an envelope was handled that is from no actor; and with `Memory`. Then the
+/// seats are handed back. Each journal's events are done once more: linear in them, beside what they cost.
 pub fn conclude(
     alloc: Global,
     seats: Vec<Seat<Actor>>,
