@@ -1,6 +1,6 @@
 -- A seat before its first event keeps what seats keep.
-use Rattle.std.proofs.Common.{◌≡◌, ℕ, zero, suc, ◌+◌, ◌≤◌, ◌==◌, Bool, true, false, cond, List, [], ◌∷◌, ◌++◌, map, Option, Some, None, refl, ap, sym, ◌∙◌, arith}
-use Rattle.std.specs.Prelude.{filter}
+use Rattle.std.proofs.Common.{◌≡◌, ℕ, zero, suc, ◌+◌, ◌≤◌, ◌<◌, ◌==◌, Bool, true, false, cond, List, [], ◌∷◌, ◌++◌, map, Option, Some, None, refl, ap, sym, ◌∙◌, arith}
+use Rattle.std.specs.Prelude.{All, filter}
 use Rattle.std.specs.List.{slice_get, range_with_len}
 use Rattle.messages.specs.declared.envelope.Envelope.{Envelope}
 use Rattle.messages.specs.declared.outcome.Outcome.{Outcome}
@@ -11,6 +11,7 @@ use Rattle.links.specs.declared.ends.Ends.{Ends}
 use Rattle.actors.specs.Machines.{CameFrom, IsRecorded}
 use Rattle.actors.specs.Seats.{SeatValue, through, ends_of, sources_of, IsApart, Keeps}
 use Rattle.actors.specs.Opening.{new_lane, AreItsRings}
+use Rattle.actors.proofs.Lists.{all_of}
 use Rattle.actors.proofs.Seating.{recorded_moved}
 
 both_empty : (b : Bool) (xs : List Envelope) → xs ≡ [] → cond b [] xs ≡ []
@@ -59,6 +60,20 @@ range_apart p (suc n) a = by (p a) (λ k m at. at_least p n (a + 1) k m at) (ran
     by true above rest = apart_cons a _ above rest
     by false above rest = rest
 
+-- what a test finds in a range is within it
+at_most : (p : ℕ → Bool) (n a k m : ℕ) → slice_get (filter p (range_with_len a n)) k ≡ Some m → m < a + n
+at_most p zero a k m at = absurd cc
+at_most p (suc n) a k m at = by (p a) k at (λ j here. at_most p n (a + 1) j m here)
+  where
+    by : (b : Bool) (k : ℕ) → slice_get (cond b (a ∷ filter p (range_with_len (a + 1) n)) (filter p (range_with_len (a + 1) n))) k ≡ Some m
+        → ((j : ℕ) → slice_get (filter p (range_with_len (a + 1) n)) j ≡ Some m → m < a + 1 + n) → m < a + suc n
+    by true zero at rest = let is : a ≡ m = cc in omega (arith, is)
+    by true (suc k) at rest = let lt = rest k at in omega (arith, lt)
+    by false k at rest = let lt = rest k at in omega (arith, lt)
+
+range_within : (p : ℕ → Bool) (n : ℕ) → All (λ m. m < n) (filter p (range_with_len 0 n))
+range_within p n = all_of (λ m. m < n) (filter p (range_with_len 0 n)) (λ k m lt at. let most = at_most p n 0 k m at in omega (arith, most))
+
 pub opened : {M : Type 0} (came_from : CameFrom M) (untaken : M → Option (ℕ × Outcome)) (machine : M) (d : SeatValue) (ends : Ends)
     → IsRecorded came_from untaken d.topology d.node (λ to. []) machine [] [] [] 0 → AreItsRings d.topology d.node ends
     → d.journal ≡ [] → d.outcomes ≡ [] → d.outbox ≡ [] → d.accepted ≡ 0 → d.backlog ≡ [] → d.outgoing ≡ map new_lane ends.outgoing.items → d.incoming ≡ ends.incoming.items → d.held ≡ None
@@ -75,5 +90,9 @@ opened came_from untaken machine d ends recorded its journal outcomes outbox acc
       received = rw (journal, into, held) (λ k l at. nothing_taken d.node (reaching d.topology d.node) k l at);
       ends = rw (out, same_ends its.capacity reached) (range_apart (λ to. may_exchange d.topology d.node to) (node_count d.topology) 0);
       sources = rw (into, same_sources d.node (reaching d.topology d.node)) (range_apart (λ from. may_exchange d.topology from d.node) (node_count d.topology) 0);
+      reached =
+          rw (into, same_sources d.node (reaching d.topology d.node)) (range_within (λ from. may_exchange d.topology from d.node) (node_count d.topology));
+      handled = rw journal (λ e has. absurd (let lt = has.1 in omega (arith, lt)));
+      held_back = rw held tt;
       own = rw backlog (λ k e lt. absurd (omega arith));
     }

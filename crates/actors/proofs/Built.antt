@@ -27,9 +27,9 @@ its_rings top ring node ends own mesh lt at = record {
 }
 
 pub is_new : (top : TopologyValue) (ring limit node : ℕ) (ends : List Ends) (own : Ends) (s : SeatValue) → IsMesh top ring ends → node < node_count top → slice_get ends node ≡ Some own
-    → s ≡ new_seat top node limit s.free own.outgoing.items own.incoming.items → IsNewSeat top ring limit node s
+    → s ≡ new_seat top node limit own.outgoing.items own.incoming.items → IsNewSeat top ring limit node s
 is_new top ring limit node ends own s mesh lt at is =
-    is ∙ ap₂ (λ out into. new_seat top node limit s.free out into) (ap (λ o. outgoing_of o) (sym at) ∙ mesh.outgoing node lt) (ap (λ o. incoming_of o) (sym at) ∙ mesh.incoming node lt)
+    is ∙ ap₂ (λ out into. new_seat top node limit out into) (ap (λ o. outgoing_of o) (sym at) ∙ mesh.outgoing node lt) (ap (λ o. incoming_of o) (sym at) ∙ mesh.incoming node lt)
 
 last_or_before : {X : Type 0} (xs : List X) (x s : X) (k : ℕ) → slice_get (xs ++ x ∷ []) k ≡ Some s → (slice_get xs k ≡ Some s) ⊎ ((k ≡ length xs) × (x ≡ s))
 last_or_before [] x s zero at = inr (refl, cc)

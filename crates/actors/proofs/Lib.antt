@@ -5,6 +5,7 @@ pub mod Recording
 pub mod Receiving
 pub mod Looking
 pub mod Seating
+pub mod Refusing
 pub mod Working
 pub mod Rounds
 pub mod Beginning

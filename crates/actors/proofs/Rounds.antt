@@ -7,13 +7,14 @@ use Rattle.std.proofs.lemmas.List.Sums.{sum_by-set}
 use Rattle.std.proofs.lemmas.Bool.Decides.{eqb_tells}
 use Rattle.std.proofs.lemmas.Option.{slice_get_within, slice_get-get_or}
 use Rattle.logical_time.specs.declared.fault.Fault.{Fault}
-use Rattle.logical_time.specs.declared.fault.Fault.TheVariants.{JournalFull, Memory}
 use Rattle.messages.specs.declared.event.Event.{Event}
 use Rattle.actors.specs.Journals.{IsBeginning}
+use Rattle.actors.specs.Machines.{Refuses}
 use Rattle.actors.specs.Seats.{SeatValue}
 use Rattle.actors.specs.Resting.{unsent, IsResting}
-use Rattle.actors.specs.Turns.{HasSame, HasDone, HasRefused, IsTurn}
-use Rattle.actors.specs.Draining.{OneCanRefuse, IsLater, AreLater, IsIdleRound, HasCome, IsRound, events_left, all_left, all_unsent, once_moved, with_turn}
+use Rattle.actors.specs.Turns.{HasSame, HasDone, HasRested, IsIdle, IsTurn, HasLooked}
+use Rattle.actors.specs.Refusals.{CanRefuse}
+use Rattle.actors.specs.Draining.{Taken, AreTaken, HaveTaken, HaveStopped, OneCanRefuse, IsLater, AreLater, IsIdleRound, HasCome, IsRound, events_left, all_left, all_unsent, once_moved, with_turn}
 use Rattle.actors.specs.declared.turn.Turn.{Turn}
 use Rattle.actors.specs.declared.turn.Turn.TheVariants.{Idle, Moved, Handled, Submitted, Collected, Refused}
 use Rattle.actors.specs.declared.draining.Round.{Round}
@@ -50,20 +51,20 @@ done_later event d n done gone backlog = record {
   backlog = (gone, backlog);
 }
 
-pub turn_later : (turn : Turn) (d n : SeatValue) → IsTurn turn d n → IsLater d n
-turn_later Idle d n is = same_later d n is.0.same
-turn_later Moved d n is = same_later d n is.0.same
-turn_later Handled d n is = done_later _ d n is.1 [] (sym is.2)
-turn_later (Submitted number) d n is = done_later _ d n is.1 (_ ∷ []) is.2
-turn_later Collected d n is = done_later _ d n is.1 (_ ∷ []) is.2
-turn_later (Refused fault) d n is = record {
+pub turn_later : (refuses : Refuses) (turn : Turn) (d n : SeatValue) → IsTurn refuses turn d n → IsLater d n
+turn_later refuses Idle d n is = same_later d n is.0.same
+turn_later refuses Moved d n is = same_later d n is.0.same
+turn_later refuses Handled d n is = done_later _ d n is.1 [] (sym is.2)
+turn_later refuses (Submitted number) d n is = done_later _ d n is.1 (_ ∷ []) is.2
+turn_later refuses Collected d n is = done_later _ d n is.1 (_ ∷ []) is.2
+turn_later refuses (Refused fault) d n is = record {
   topology = is.topology;
   node = is.node;
   limit = is.limit;
   journal = same_beginning d.journal n.journal is.journal;
   outcomes = same_beginning d.outcomes n.outcomes is.outcomes;
   refusals = (_ ∷ [], is.refusals);
-  backlog = (is.off.0 ∷ [], is.off.1);
+  backlog = (is.off.event ∷ [], is.off.first);
 }
 
 later_twice : (a b c : SeatValue) → IsLater a b → IsLater b c → IsLater a c
@@ -132,20 +133,20 @@ unsent_set now k d n lt is =
 abbrev pub SoFar : Round → List SeatValue → List SeatValue → ℕ → Type 0
 SoFar Quiet start now place =
     (all_left now ≡ all_left start) × (all_unsent now ≡ all_unsent start)
-    × ((k : ℕ) (b a : SeatValue) → k < place → slice_get start k ≡ Some b → slice_get now k ≡ Some a → IsTurn Idle b a)
+    × ((k : ℕ) (b a : SeatValue) → k < place → slice_get start k ≡ Some b → slice_get now k ≡ Some a → IsIdle b a)
 SoFar Stirred start now place = (all_left now ≡ all_left start) × (all_unsent now < all_unsent start)
 SoFar Worked start now place = all_left now < all_left start
 
 -- this is what is left to do and unsent after one more turn, where it rested
 module _ (start now : List SeatValue) (k : ℕ) (d n : SeatValue) (lt : k < length now) (is : d ≡ get_or now k d) where
-  idle_next : IsTurn Idle d n → (all_left (set now k n) ≡ all_left now) × (all_unsent (set now k n) ≡ all_unsent now)
+  idle_next : IsIdle d n → (all_left (set now k n) ≡ all_left now) × (all_unsent (set now k n) ≡ all_unsent now)
   idle_next turn =
       let left = left_set now k d n lt is in
       let same = left_same d n turn.0.same in
       let sends = unsent_set now k d n lt is in
       (omega (arith, left, same), omega (arith, sends, turn.2))
 
-  moved_next : IsTurn Moved d n → (all_left (set now k n) ≡ all_left now) × (all_unsent (set now k n) < all_unsent now)
+  moved_next : HasRested d n × (unsent n < unsent d) → (all_left (set now k n) ≡ all_left now) × (all_unsent (set now k n) < all_unsent now)
   moved_next turn =
       let left = left_set now k d n lt is in
       let same = left_same d n turn.0.same in
@@ -160,9 +161,9 @@ module _ (start now : List SeatValue) (k : ℕ) (d n : SeatValue) (lt : k < leng
   most_left Stirred so_far = omega (arith, so_far.0)
   most_left Worked so_far = omega (arith, so_far)
 
-  quiet_more : slice_get now k ≡ slice_get start k → IsTurn Idle d n
-      → ((j : ℕ) (b a : SeatValue) → j < k → slice_get start j ≡ Some b → slice_get now j ≡ Some a → IsTurn Idle b a)
-      → (j : ℕ) (b a : SeatValue) → j < k + 1 → slice_get start j ≡ Some b → slice_get (set now k n) j ≡ Some a → IsTurn Idle b a
+  quiet_more : slice_get now k ≡ slice_get start k → IsIdle d n
+      → ((j : ℕ) (b a : SeatValue) → j < k → slice_get start j ≡ Some b → slice_get now j ≡ Some a → IsIdle b a)
+      → (j : ℕ) (b a : SeatValue) → j < k + 1 → slice_get start j ≡ Some b → slice_get (set now k n) j ≡ Some a → IsIdle b a
   quiet_more same turn before j b a below at_b at_a = elim (eqb_tells j k) [
     | inl here_is ↦
         let a_is : a ≡ n = set_here now k n a lt (subst (λ (i : ℕ). slice_get (set now k n) i ≡ Some a) here_is.1 at_a) in
@@ -175,30 +176,30 @@ module _ (start now : List SeatValue) (k : ℕ) (d n : SeatValue) (lt : k < leng
   worked_less : (round : Round) → SoFar round start now k → events_left n < events_left d → all_left (set now k n) < all_left start
   worked_less round so_far less = let most = most_left round so_far in let next = worked_next less in omega (arith, most, next)
 
-  idle_turn : (round : Round) → slice_get now k ≡ slice_get start k → IsTurn Idle d n → SoFar round start now k → SoFar round start (set now k n) (k + 1)
+  idle_turn : (round : Round) → slice_get now k ≡ slice_get start k → IsIdle d n → SoFar round start now k → SoFar round start (set now k n) (k + 1)
   idle_turn Quiet same turn so_far =
       let next = idle_next turn in
       (next.0 ∙ so_far.0, next.1 ∙ so_far.1, quiet_more same turn so_far.2)
   idle_turn Stirred same turn so_far = let next = idle_next turn in (next.0 ∙ so_far.0, omega (arith, next.1, so_far.1))
   idle_turn Worked same turn so_far = let next = idle_next turn in omega (arith, next.0, so_far)
 
-  moved_turn : (round : Round) → IsTurn Moved d n → SoFar round start now k → SoFar (once_moved round) start (set now k n) (k + 1)
+  moved_turn : (round : Round) → HasRested d n × (unsent n < unsent d) → SoFar round start now k → SoFar (once_moved round) start (set now k n) (k + 1)
   moved_turn Quiet turn so_far = let next = moved_next turn in (next.0 ∙ so_far.0, omega (arith, next.1, so_far.1))
   moved_turn Stirred turn so_far = let next = moved_next turn in (next.0 ∙ so_far.0, omega (arith, next.1, so_far.1))
   moved_turn Worked turn so_far = let next = moved_next turn in omega (arith, next.0, so_far)
 
-  pub one_turn : (round : Round) (turn : Turn) → slice_get now k ≡ slice_get start k → IsTurn turn d n → SoFar round start now k → SoFar (with_turn round turn) start (set now k n) (k + 1)
-  one_turn round Idle same is_turn so_far = idle_turn round same is_turn so_far
-  one_turn round Moved same is_turn so_far = moved_turn round is_turn so_far
-  one_turn round Handled same is_turn so_far = worked_less round so_far (left_done _ d n is_turn.1 (rw (is_turn.2) (omega arith)))
-  one_turn round (Submitted number) same is_turn so_far =
+  pub one_turn : (refuses : Refuses) (round : Round) (turn : Turn) → slice_get now k ≡ slice_get start k → IsTurn refuses turn d n → SoFar round start now k → SoFar (with_turn round turn) start (set now k n) (k + 1)
+  one_turn refuses round Idle same is_turn so_far = idle_turn round same is_turn so_far
+  one_turn refuses round Moved same is_turn so_far = moved_turn round is_turn so_far
+  one_turn refuses round Handled same is_turn so_far = worked_less round so_far (left_done _ d n is_turn.1 (rw (is_turn.2) (omega arith)))
+  one_turn refuses round (Submitted number) same is_turn so_far =
       let off = one_off _ d.backlog n.backlog is_turn.2 in
       worked_less round so_far (left_done _ d n is_turn.1 (omega (arith, off)))
-  one_turn round Collected same is_turn so_far =
+  one_turn refuses round Collected same is_turn so_far =
       let off = one_off _ d.backlog n.backlog is_turn.2 in
       worked_less round so_far (left_done _ d n is_turn.1 (omega (arith, off)))
-  one_turn round (Refused fault) same is_turn so_far =
-      let off = one_off is_turn.off.0 d.backlog n.backlog is_turn.off.1 in
+  one_turn refuses round (Refused fault) same is_turn so_far =
+      let off = one_off is_turn.off.event d.backlog n.backlog is_turn.off.first in
       let journal : length n.journal ≡ length d.journal = ap (λ (l : List Event). length l) is_turn.journal in
       worked_less round so_far (omega (arith, off, journal, is_turn.limit))
 
@@ -215,9 +216,6 @@ round_done Quiet start now place later past so_far = record {
 round_done Stirred start now place later past so_far = so_far
 round_done Worked start now place later past so_far = so_far
 
-pub come_after : (start now new : List SeatValue) → AreLater start now → HasCome now new → HasCome start new
-come_after start now new later come = (come.0, seats_twice start now come.0 later come.1, come.2)
-
 pub all_resting : (start new : List SeatValue) → HasCome start new → All IsResting new
 all_resting start new come =
     all_of IsResting new (λ k s lt at.
@@ -232,6 +230,60 @@ as_much_left Quiet old new is round = absurd cc
 as_much_left Stirred old new is round = round.0
 as_much_left Worked old new is round = absurd cc
 
-pub refused_at : (now : List SeatValue) (k : ℕ) (d n : SeatValue) (fault : Fault) → k < length now → HasSame d n → (d.limit ≤ length d.journal → (fault ≡ JournalFull) ⊎ (fault ≡ Memory))
-    → OneCanRefuse fault (set now k n)
-refused_at now k d n fault lt same full = (k, n, set_at now k n lt, rw (same.limit, same.journal) full)
+-- ## A chain of turns
+
+pub none_taken : (refuses : Refuses) (seats : List SeatValue) → HaveTaken refuses seats seats
+none_taken refuses seats = ([], refl)
+
+chained : (refuses : Refuses) (turns more : List Taken) (start middle last : List SeatValue) → AreTaken refuses turns start middle → AreTaken refuses more middle last
+    → AreTaken refuses (turns ++ more) start last
+chained refuses [] more start middle last first then = subst (λ (l : List SeatValue). AreTaken refuses more l last) first then
+chained refuses (t ∷ turns) more start middle last first then = (first.0, chained refuses turns more (set start t.place t.after) middle last first.1 then)
+
+pub taken_twice : (refuses : Refuses) (start middle last : List SeatValue) → HaveTaken refuses start middle → HaveTaken refuses middle last → HaveTaken refuses start last
+taken_twice refuses start middle last first then = (first.0 ++ then.0, chained refuses first.0 then.0 start middle last first.1 then.1)
+
+pub stopped_later : (refuses : Refuses) (fault : Fault) (start middle last : List SeatValue) → HaveTaken refuses start middle → HaveStopped refuses fault middle last
+    → HaveStopped refuses fault start last
+stopped_later refuses fault start middle last first then = (then.0, taken_twice refuses start middle then.0 first then.1, then.2)
+
+-- one seat changed
+one_later : (start : List SeatValue) (k : ℕ) (d n : SeatValue) → slice_get start k ≡ Some d → IsLater d n → AreLater start (set start k n)
+one_later start k d n at one =
+    let lt : k < length start = slice_get_within start k d at in
+    let both : Some d ≡ Some (get_or start k d) = sym at ∙ slice_get-get_or start k d lt in
+    let is : d ≡ get_or start k d = cc in
+    seat_later start start k d n (same_seats start) lt is one
+
+turns_later : (refuses : Refuses) (turns : List Taken) (start new : List SeatValue) → AreTaken refuses turns start new → AreLater start new
+turns_later refuses [] start new is = subst (λ (l : List SeatValue). AreLater start l) (sym is) (same_seats start)
+turns_later refuses (t ∷ turns) start new taken =
+    seats_twice start (set start t.place t.after) new (one_later start t.place taken.0.before t.after taken.0.at (turn_later refuses t.turn taken.0.before t.after taken.0.turn))
+    (turns_later refuses turns (set start t.place t.after) new taken.1)
+
+pub taken_later : (refuses : Refuses) (start new : List SeatValue) → HaveTaken refuses start new → AreLater start new
+taken_later refuses start new taken = turns_later refuses taken.0 start new taken.1
+
+pub come_after : (refuses : Refuses) (start now new : List SeatValue) → HaveTaken refuses start now → HasCome now new → HasCome start new
+come_after refuses start now new taken come = (come.0, seats_twice start now come.0 (taken_later refuses start now taken) come.1, come.2)
+
+pub stopped_so : (refuses : Refuses) (fault : Fault) (start new : List SeatValue) → HaveStopped refuses fault start new → AreLater start new
+stopped_so refuses fault start new stopped =
+    let stop = stopped.2 in
+    let last = one_later stopped.0 stop.place stop.before stop.after stop.at (same_later stop.before stop.after stop.same) in
+    seats_twice start stopped.0 new (taken_later refuses start stopped.0 stopped.1) (subst (λ (l : List SeatValue). AreLater stopped.0 l) (sym stop.is) last)
+
+module _ (refuses : Refuses) (start now : List SeatValue) (k : ℕ) (d n : SeatValue) (lt : k < length now) (is : d ≡ get_or now k d) (so_far : HaveTaken refuses start now) where
+  pub taken_more : (turn : Turn) → IsTurn refuses turn d n → HasLooked turn d n → HaveTaken refuses start (set now k n)
+  taken_more turn took looked =
+      taken_twice refuses start now (set now k n) so_far (
+        record { place = k; turn = turn; after = n } ∷ [],
+        (record { before = d; at = here now k d lt is; turn = took; looked = looked }, refl),
+      )
+
+  pub stopped_here : (fault : Fault) → HasSame d n → CanRefuse refuses fault n → HaveStopped refuses fault start (set now k n)
+  stopped_here fault same refused = (now, so_far, record { place = k; before = d; after = n; at = here now k d lt is; is = refl; same = same; refused = refused })
+
+pub refused_at : (refuses : Refuses) (now : List SeatValue) (k : ℕ) (n : SeatValue) (fault : Fault) → k < length now → CanRefuse refuses fault n
+    → OneCanRefuse refuses fault (set now k n)
+refused_at refuses now k n fault lt refused = (k, n, set_at now k n lt, refused)

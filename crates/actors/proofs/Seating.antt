@@ -1,19 +1,22 @@
 -- What a seat keeps, as it changes.
-use Rattle.std.proofs.Common.{◌≡◌, ℕ, suc, ◌<◌, ◌==◌, List, [], ◌∷◌, ◌++◌, length, Option, Some, None, refl, sym, subst, ◌∙◌, arith}
-use Rattle.std.specs.Prelude.{All, filter_map, Result, Ok, Err, OnOk, OnErr}
+use Rattle.std.proofs.Common.{◌≡◌, ℕ, zero, suc, ◌<◌, ◌==◌, inl, inr, List, [], ◌∷◌, ◌++◌, length, Option, Some, None, refl, sym, subst, ◌∙◌, arith}
+use Rattle.std.specs.Prelude.{All, Contains, IfSome, IsSome, filter_map, Result, Ok, Err, OnOk, OnErr}
+use Rattle.std.specs.List.{slice_get}
 use mathlib.Core.Path.{fun_ext}
 use Rattle.std.proofs.lemmas.List.{append-nil}
-use Rattle.std.proofs.lemmas.List.Elements.{filter_map-append, filter-append}
+use Rattle.std.proofs.lemmas.List.Elements.{filter_map-append, filter-append, Contains-append_cases}
 use Rattle.messages.specs.declared.envelope.Envelope.{Envelope}
 use Rattle.messages.specs.declared.outcome.Outcome.{Outcome}
 use Rattle.messages.specs.declared.event.Event.{Event}
 use Rattle.messages.specs.declared.event.Event.TheVariants.{Submit, Handle, Collect}
 use Rattle.messages.specs.Actors.{envelope_of}
-use Rattle.messages.specs.Topology.{TopologyValue}
+use Rattle.messages.specs.Topology.{TopologyValue, node_count}
+use Rattle.links.specs.Links.{InLinkValue}
 use Rattle.actors.specs.Journals.{IsOwn, IsBeginning, receipts_from, followed_by}
 use Rattle.actors.specs.Turns.{HasDone}
 use Rattle.actors.specs.Machines.{CameFrom, IsRecorded}
-use Rattle.actors.specs.Seats.{SeatValue, through, sources_of, Received, Keeps}
+use Rattle.actors.specs.Seats.{SeatValue, through, sources_of, Received, CameBy, Keeps}
+use Rattle.actors.specs.Looking.{IsFound, IsFoundInTurn}
 
 receipts_more : (n : ℕ) (journal : List Event) (event : Event) → receipts_from n (journal ++ event ∷ []) ≡ receipts_from n journal ++ receipts_from n (event ∷ [])
 receipts_more n journal event =
@@ -27,17 +30,59 @@ none_received n (Collect time) own = refl
 receipts_own : (n : ℕ) (journal : List Event) (event : Event) → IsOwn event → receipts_from n (journal ++ event ∷ []) ≡ receipts_from n journal
 receipts_own n journal event own = receipts_more n journal event ∙ (rw (none_received n event own) (append-nil (receipts_from n journal)))
 
+-- ## By which ring an envelope came
+
+only_one : {X : Type 0} (x y : X) → Contains (x ∷ []) y → x ≡ y
+only_one x y (zero, lt, is) = is
+only_one x y (suc k, lt, is) = absurd (omega arith)
+
+handled_own : (links : List InLinkValue) (journal : List Event) (event : Event) → IsOwn event → ((e : Envelope) → Contains journal (Handle e) → CameBy links e)
+    → (e : Envelope) → Contains (journal ++ event ∷ []) (Handle e) → CameBy links e
+handled_own links journal event own before e has = elim (Contains-append_cases journal (event ∷ []) (Handle e) has) [
+  | inl old ↦ before e old
+  | inr new ↦ absurd (let none : envelope_of (Handle e) ≡ None = subst (λ x. IsOwn x) (only_one event (Handle e) new) own in cc)
+]
+
+handled_more : (links : List InLinkValue) (journal : List Event) (x : Envelope) → CameBy links x → ((e : Envelope) → Contains journal (Handle e) → CameBy links e)
+    → (e : Envelope) → Contains (journal ++ Handle x ∷ []) (Handle e) → CameBy links e
+handled_more links journal x by before e has = elim (Contains-append_cases journal (Handle x ∷ []) (Handle e) has) [
+  | inl old ↦ before e old
+  | inr new ↦
+      let is : Handle x ≡ Handle e = only_one (Handle x) (Handle e) new in
+      let same : x ≡ e = cc in
+      subst (λ (z : Envelope). CameBy links z) same by
+]
+
+get_contains : {X : Type 0} (xs : List X) (k : ℕ) (x : X) → slice_get xs k ≡ Some x → Contains xs x
+get_contains [] k x at = absurd cc
+get_contains (y ∷ xs) zero x at = let is : y ≡ x = cc in (0, omega arith, is)
+get_contains (y ∷ xs) (suc k) x at = let r = get_contains xs k x at in (suc r.0, omega (arith, r.1), r.2)
+
+found_came : (links : List InLinkValue) (first after : ℕ) (e : Envelope) → IsFoundInTurn links first after e → CameBy links e
+found_came links first after e (inl found) = get_contains (sources_of links) found.place e.from found.from
+found_came links first after e (inr found) = get_contains (sources_of links) found.1.place e.from found.1.from
+
+-- what is held after a look at the rings, where it wasn't held before, came by one of them
+pub taken_came : {X : Type 0} (old new : Option Envelope) (was now : List InLinkValue) (first after : ℕ) → sources_of now ≡ sources_of was
+    → (old ≡ None → IfSome new (λ e. IsFoundInTurn now first after e)) → (IsSome old → (new ≡ old) × X) → IfSome old (CameBy was) → IfSome new (CameBy now)
+taken_came None None was now first after sources found kept came = tt
+taken_came None (Some e) was now first after sources found kept came = found_came now first after e (found refl)
+taken_came (Some x) new was now first after sources found kept came = rw ((kept refl).0, sources) came
+
 module _ {M : Type 0} (came_from : CameFrom M) (untaken : M → Option (ℕ × Outcome)) where
   -- an event that no message brings
   pub kept_own : (machine next : M) (d n : SeatValue) (event : Event) → Keeps came_from untaken machine d → IsOwn event
       → IsRecorded came_from untaken n.topology n.node (through n.outgoing) next n.journal n.outcomes n.outbox n.accepted
       → n.journal ≡ d.journal ++ event ∷ [] → n.incoming ≡ d.incoming → n.held ≡ d.held → n.outgoing ≡ d.outgoing → All IsOwn n.backlog
-      → Keeps came_from untaken next n
-  kept_own machine next d n event kept own recorded journal incoming held outgoing backlog = record {
+      → n.topology ≡ d.topology → Keeps came_from untaken next n
+  kept_own machine next d n event kept own recorded journal incoming held outgoing backlog topology = record {
     recorded = recorded;
     received = rw (journal, incoming, held) (λ k l at. kept.received k l at ∙ rw (receipts_own l.from d.journal event own) refl);
     ends = rw outgoing kept.ends;
     sources = rw incoming kept.sources;
+    reached = rw (incoming, topology) kept.reached;
+    handled = rw (journal, incoming) (handled_own d.incoming d.journal event own kept.handled);
+    held_back = rw (held, incoming) kept.held_back;
     own = backlog;
   }
 
@@ -45,12 +90,15 @@ module _ {M : Type 0} (came_from : CameFrom M) (untaken : M → Option (ℕ × O
   pub kept_handled : (machine next : M) (d n : SeatValue) (e : Envelope) → Keeps came_from untaken machine d → d.held ≡ Some e
       → IsRecorded came_from untaken n.topology n.node (through n.outgoing) next n.journal n.outcomes n.outbox n.accepted
       → n.journal ≡ d.journal ++ Handle e ∷ [] → n.incoming ≡ d.incoming → n.held ≡ None → n.outgoing ≡ d.outgoing → n.backlog ≡ d.backlog
-      → Keeps came_from untaken next n
-  kept_handled machine next d n e kept holds recorded journal incoming held outgoing backlog = record {
+      → n.topology ≡ d.topology → Keeps came_from untaken next n
+  kept_handled machine next d n e kept holds recorded journal incoming held outgoing backlog topology = record {
     recorded = recorded;
     received = rw (journal, incoming, held) (λ k l at. kept.received k l at ∙ (rw (holds, receipts_more l.from d.journal (Handle e)) (sym (append-nil _))));
     ends = rw outgoing kept.ends;
     sources = rw incoming kept.sources;
+    reached = rw (incoming, topology) kept.reached;
+    handled = rw (journal, incoming) (handled_more d.incoming d.journal e (subst (λ o. IfSome o (CameBy d.incoming)) holds kept.held_back) kept.handled);
+    held_back = rw held tt;
     own = rw backlog kept.own;
   }
 
@@ -58,12 +106,15 @@ module _ {M : Type 0} (came_from : CameFrom M) (untaken : M → Option (ℕ × O
   pub kept_same : (machine next : M) (d n : SeatValue) → Keeps came_from untaken machine d
       → IsRecorded came_from untaken n.topology n.node (through n.outgoing) next n.journal n.outcomes n.outbox n.accepted
       → n.journal ≡ d.journal → n.incoming ≡ d.incoming → n.held ≡ d.held → n.outgoing ≡ d.outgoing → All IsOwn n.backlog
-      → Keeps came_from untaken next n
-  kept_same machine next d n kept recorded journal incoming held outgoing backlog = record {
+      → n.topology ≡ d.topology → Keeps came_from untaken next n
+  kept_same machine next d n kept recorded journal incoming held outgoing backlog topology = record {
     recorded = recorded;
     received = rw (journal, incoming, held) kept.received;
     ends = rw outgoing kept.ends;
     sources = rw incoming kept.sources;
+    reached = rw (incoming, topology) kept.reached;
+    handled = rw (journal, incoming) kept.handled;
+    held_back = rw (held, incoming) kept.held_back;
     own = backlog;
   }
 
@@ -73,20 +124,25 @@ module _ {M : Type 0} (came_from : CameFrom M) (untaken : M → Option (ℕ × O
       → OnErr r (IsRecorded came_from untaken n.topology n.node (through n.outgoing) next n.journal n.outcomes n.outbox n.accepted)
       → OnOk r (n.journal ≡ d.journal ++ event ∷ []) → OnErr r ((n.journal ≡ d.journal) × (n.outcomes ≡ d.outcomes) × (n.outbox ≡ d.outbox) × (n.accepted ≡ d.accepted))
       → n.incoming ≡ d.incoming → n.held ≡ d.held → n.outgoing ≡ d.outgoing → All IsOwn n.backlog
-      → Keeps came_from untaken next n
-  kept_did (Ok a) machine next d n event kept own done undone journal same incoming held outgoing backlog = kept_own machine next d n event kept own done journal incoming held outgoing backlog
-  kept_did (Err b) machine next d n event kept own done undone journal same incoming held outgoing backlog = kept_same machine next d n kept undone same.0 incoming held outgoing backlog
+      → n.topology ≡ d.topology → Keeps came_from untaken next n
+  kept_did (Ok a) machine next d n event kept own done undone journal same incoming held outgoing backlog topology =
+      kept_own machine next d n event kept own done journal incoming held outgoing backlog topology
+  kept_did (Err b) machine next d n event kept own done undone journal same incoming held outgoing backlog topology =
+      kept_same machine next d n kept undone same.0 incoming held outgoing backlog topology
 
   -- an envelope may have been taken from a ring
   pub kept_taken : (machine : M) (d n : SeatValue) → Keeps came_from untaken machine d
       → IsRecorded came_from untaken n.topology n.node (through n.outgoing) machine n.journal n.outcomes n.outbox n.accepted
       → sources_of n.incoming ≡ sources_of d.incoming → Received n.journal n.incoming n.held → n.outgoing ≡ d.outgoing → n.backlog ≡ d.backlog
-      → Keeps came_from untaken machine n
-  kept_taken machine d n kept recorded sources received outgoing backlog = record {
+      → n.topology ≡ d.topology → n.journal ≡ d.journal → IfSome n.held (CameBy n.incoming) → Keeps came_from untaken machine n
+  kept_taken machine d n kept recorded sources received outgoing backlog topology journal came = record {
     recorded = recorded;
     received = received;
     ends = rw outgoing kept.ends;
     sources = rw sources kept.sources;
+    reached = rw (sources, topology) kept.reached;
+    handled = rw (journal, sources) kept.handled;
+    held_back = came;
     own = rw backlog kept.own;
   }
 

@@ -5,6 +5,7 @@ use Rattle.messages.specs.declared.event.Event.{Event}
 use Rattle.messages.specs.declared.op.Op.{Op}
 use Rattle.messages.specs.declared.event.Event.TheVariants.{Submit, Handle, Collect}
 use Rattle.actors.specs.Journals.{IsOwn, submissions, number_after}
+use Rattle.actors.specs.Machines.{Refuses}
 use Rattle.actors.specs.Seats.{SeatValue}
 use Rattle.actors.specs.Turns.{IsTurn, HasDone, turn_of}
 use Rattle.actors.specs.declared.turn.Turn.{Turn}
@@ -16,12 +17,12 @@ submitted journal next o n is more =
     let same : n ≡ submissions journal + 1 = ap (λ m. unwrap_or m 0) is in
     same ∙ sym (ap (λ j. submissions j) more ∙ counted journal (Submit o))
 
-pub worked : (event : Event) (number : Option ℕ) (t : Turn) (d n : SeatValue) → t ≡ turn_of number → number ≡ number_after d.journal event → IsOwn event → HasDone event d n
-    → d.backlog ≡ event ∷ n.backlog → IsTurn t d n
-worked (Submit o) number t d n is numbered own done off =
+pub worked : (refuses : Refuses) (event : Event) (number : Option ℕ) (t : Turn) (d n : SeatValue) → t ≡ turn_of number → number ≡ number_after d.journal event → IsOwn event → HasDone event d n
+    → d.backlog ≡ event ∷ n.backlog → IsTurn refuses t d n
+worked refuses (Submit o) number t d n is numbered own done off =
     let turn : t ≡ Submitted (submissions d.journal + 1) = is ∙ ap turn_of numbered in
     rw turn (o, done, off, sym (ap (λ j. submissions j) done.journal ∙ counted d.journal (Submit o)))
-worked (Handle e) number t d n is numbered own done off = absurd cc
-worked (Collect time) number t d n is numbered own done off =
+worked refuses (Handle e) number t d n is numbered own done off = absurd cc
+worked refuses (Collect time) number t d n is numbered own done off =
     let turn : t ≡ Collected = is ∙ ap turn_of numbered in
     rw turn (time, done, off)

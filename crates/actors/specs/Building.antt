@@ -9,7 +9,7 @@ use Rattle.actors.specs.Opening.{new_seat}
 -- the seat with this node, with rings for so many envelopes, and a journal for so many events
 abbrev pub IsNewSeat : TopologyValue → ℕ → ℕ → ℕ → SeatValue → Type 0
 IsNewSeat top ring limit node s =
-    s ≡ new_seat top node limit s.free (map (new_out_link ring) (reached_from top node)) (map (new_in_link node) (reaching top node))
+    s ≡ new_seat top node limit (map (new_out_link ring) (reached_from top node)) (map (new_in_link node) (reaching top node))
 
 -- one for each of so many nodes, by their nodes
 pub record AreNewSeats (top : TopologyValue) (ring limit count : ℕ) (seats : List SeatValue) : Type 0 where

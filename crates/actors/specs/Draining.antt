@@ -1,13 +1,14 @@
 -- What a drain of seats does.
-use Rattle.std.specs.Prelude.{◌≡◌, ◌≤◌, ◌<◌, ℕ, ◌⊎◌, ◌+◌, ◌-◌, List, ◌++◌, length, slice_get, Some}
+use Rattle.std.specs.Prelude.{◌≡◌, ◌<◌, ℕ, ◌+◌, ◌-◌, List, [], ◌∷◌, ◌++◌, length, slice_get, set, Some}
 use Rattle.std.specs.List.{sum_by}
 use Rattle.logical_time.specs.declared.fault.Fault.{Fault}
-use Rattle.logical_time.specs.declared.fault.Fault.TheVariants.{JournalFull, Memory}
 use Rattle.messages.specs.declared.event.Event.{Event}
 use Rattle.actors.specs.Journals.{IsBeginning}
+use Rattle.actors.specs.Machines.{Refuses}
 use Rattle.actors.specs.Seats.{SeatValue}
 use Rattle.actors.specs.Resting.{unsent}
-use Rattle.actors.specs.Turns.{IsTurn}
+use Rattle.actors.specs.Turns.{HasSame, IsIdle, IsTurn, HasLooked}
+use Rattle.actors.specs.Refusals.{CanRefuse}
 use Rattle.actors.specs.declared.turn.Turn.{Turn}
 use Rattle.actors.specs.declared.turn.Turn.TheVariants.{Idle, Moved, Handled, Submitted, Collected, Refused}
 use Rattle.actors.specs.declared.draining.Round.{Round}
@@ -32,19 +33,51 @@ pub record AreLater (old new : List SeatValue) : Type 0 where
 -- a turn of each seat, of which none did anything
 pub record IsIdleRound (old new : List SeatValue) : Type 0 where
   pub count : length new ≡ length old
-  pub each : (k : ℕ) (before after : SeatValue) → slice_get old k ≡ Some before → slice_get new k ≡ Some after → IsTurn Idle before after
+  pub each : (k : ℕ) (before after : SeatValue) → slice_get old k ≡ Some before → slice_get new k ≡ Some after → IsIdle before after
 
 -- seats after turns, of which the last were an idle round
 abbrev pub HasCome : List SeatValue → List SeatValue → Type 0
 HasCome old new = (last : List SeatValue) × AreLater old last × IsIdleRound last new
 
--- a turn of the seat can be refused so: where its journal is full, for that or for memory alone
-abbrev pub CanRefuse : Fault → SeatValue → Type 0
-CanRefuse fault s = s.limit ≤ length s.journal → (fault ≡ JournalFull) ⊎ (fault ≡ Memory)
+-- a turn that was taken: of the seat at which place, what it answered, and the seat after it
+pub record Taken : Type 0 where
+  pub place : ℕ
+  pub turn : Turn
+  pub after : SeatValue
 
--- a turn of one of the seats can
-abbrev pub OneCanRefuse : Fault → List SeatValue → Type 0
-OneCanRefuse fault seats = (k : ℕ) × (s : SeatValue) × (slice_get seats k ≡ Some s) × CanRefuse fault s
+-- what a turn made of the seat at its place
+pub record IsTaken (refuses : Refuses) (seats : List SeatValue) (t : Taken) : Type 0 where
+  pub before : SeatValue
+  pub at : slice_get seats t.place ≡ Some before
+  pub turn : IsTurn refuses t.turn before t.after
+  pub looked : HasLooked t.turn before t.after
+
+-- the seats after turns, one after the other, each of one seat
+abbrev pub AreTaken : Refuses → List Taken → List SeatValue → List SeatValue → Type 0
+AreTaken refuses [] old new = new ≡ old
+AreTaken refuses (t ∷ turns) old new = IsTaken refuses old t × AreTaken refuses turns (set old t.place t.after) new
+
+-- the seats after some turns
+abbrev pub HaveTaken : Refuses → List SeatValue → List SeatValue → Type 0
+HaveTaken refuses old new = (turns : List Taken) × AreTaken refuses turns old new
+
+-- a turn of the seat at a place was refused so
+pub record IsStop (refuses : Refuses) (fault : Fault) (old new : List SeatValue) : Type 0 where
+  pub place : ℕ
+  pub before : SeatValue
+  pub after : SeatValue
+  pub at : slice_get old place ≡ Some before
+  pub is : new ≡ set old place after
+  pub same : HasSame before after
+  pub refused : CanRefuse refuses fault after
+
+-- the seats after some turns and then one that was refused so
+abbrev pub HaveStopped : Refuses → Fault → List SeatValue → List SeatValue → Type 0
+HaveStopped refuses fault old new = (last : List SeatValue) × HaveTaken refuses old last × IsStop refuses fault last new
+
+-- a turn of one of the seats can be refused so
+abbrev pub OneCanRefuse : Refuses → Fault → List SeatValue → Type 0
+OneCanRefuse refuses fault seats = (k : ℕ) × (s : SeatValue) × (slice_get seats k ≡ Some s) × CanRefuse refuses fault s
 
 -- how many events a seat can still do, and items of its backlog be refused
 abbrev pub events_left : SeatValue → ℕ

@@ -5,6 +5,7 @@ pub mod Ways
 pub mod Resting
 pub mod Looking
 pub mod Turns
+pub mod Refusals
 pub mod Draining
 pub mod Opening
 pub mod Building

@@ -1,5 +1,5 @@
 -- Seats before their first event.
-use Rattle.std.specs.Prelude.{◌≡◌, ℕ, Bool, List, [], map, None}
+use Rattle.std.specs.Prelude.{◌≡◌, ℕ, true, List, [], map, None}
 use Rattle.messages.specs.Topology.{TopologyValue}
 use Rattle.links.specs.Links.{OutLinkValue, InLinkValue, reached_from, reaching}
 use Rattle.links.specs.Mesh.{new_out_link, new_in_link}
@@ -16,14 +16,14 @@ pub record AreItsRings (top : TopologyValue) (node : ℕ) (ends : Ends) : Type 0
   pub outgoing : ends.outgoing.items ≡ map (new_out_link capacity) (reached_from top node)
   pub incoming : ends.incoming.items ≡ map (new_in_link node) (reaching top node)
 
--- a seat with these rings that did nothing yet
-abbrev pub new_seat : TopologyValue → ℕ → ℕ → Bool → List OutLinkValue → List InLinkValue → SeatValue
-new_seat top node limit free outgoing incoming =
+-- a seat with these rings that did nothing yet, and is free for an operation
+abbrev pub new_seat : TopologyValue → ℕ → ℕ → List OutLinkValue → List InLinkValue → SeatValue
+new_seat top node limit outgoing incoming =
     record {
       topology = top;
       node = node;
       limit = limit;
-      free = free;
+      free = true;
       journal = [];
       outcomes = [];
       accepted = 0;

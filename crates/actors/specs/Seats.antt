@@ -1,10 +1,11 @@
 -- What a seat holds, and the facts that it keeps while its lock is free.
-use Rattle.std.specs.Prelude.{◌≡◌, ℕ, ◌==◌, Bool, if◌then◌else◌, List, [], ◌∷◌, ◌++◌, map, slice_get, Option, Some, All}
+use Rattle.std.specs.Prelude.{◌≡◌, ℕ, ◌==◌, ◌<◌, Bool, if◌then◌else◌, List, [], ◌∷◌, ◌++◌, map, slice_get, Option, Some, All, Contains, IfSome}
 use Rattle.logical_time.specs.declared.fault.Fault.{Fault}
 use Rattle.messages.specs.declared.envelope.Envelope.{Envelope}
 use Rattle.messages.specs.declared.outcome.Outcome.{Outcome}
 use Rattle.messages.specs.declared.event.Event.{Event}
-use Rattle.messages.specs.Topology.{TopologyValue}
+use Rattle.messages.specs.declared.event.Event.TheVariants.{Handle}
+use Rattle.messages.specs.Topology.{TopologyValue, node_count}
 use Rattle.links.specs.Links.{InLinkValue}
 use Rattle.actors.specs.Journals.{IsOwn, receipts_from, held_from}
 use Rattle.actors.specs.Machines.{CameFrom, IsRecorded}
@@ -61,6 +62,10 @@ abbrev pub Received : List Event → List InLinkValue → Option Envelope → Ty
 Received journal incoming held =
     (k : ℕ) (l : InLinkValue) → slice_get incoming k ≡ Some l → l.received ≡ receipts_from l.from journal ++ held_from l.from held
 
+-- the envelope is from an actor from which one of these rings leads
+abbrev pub CameBy : List InLinkValue → Envelope → Type 0
+CameBy incoming e = Contains (sources_of incoming) e.from
+
 -- What a seat keeps while its lock is free. Its machine came from its journal; what the journal's events sent to each actor
 -- is what went into the ring there, then what waits for that, then what is in the outbox; and what was taken from each ring
 -- is the journal's receipts from there, and then what is held back.
@@ -69,5 +74,9 @@ pub record Keeps {M : Type 0} (came_from : CameFrom M) (untaken : M → Option (
   pub received : Received d.journal d.incoming d.held
   pub ends : IsApart (ends_of d.outgoing)
   pub sources : IsApart (sources_of d.incoming)
+  -- there are the actors from which its rings lead, and each envelope that was handled or is held back is from one of them
+  pub reached : All (λ from. from < node_count d.topology) (sources_of d.incoming)
+  pub handled : (e : Envelope) → Contains d.journal (Handle e) → CameBy d.incoming e
+  pub held_back : IfSome d.held (CameBy d.incoming)
   -- no message brings what is still to be done
   pub own : All IsOwn d.backlog

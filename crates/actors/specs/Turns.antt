@@ -1,5 +1,5 @@
 -- What a turn of a seat does.
-use Rattle.std.specs.Prelude.{◌≡◌, ◌≤◌, ◌<◌, ℕ, [], ◌∷◌, ◌++◌, length, Option, Some, None}
+use Rattle.std.specs.Prelude.{◌≡◌, ◌≤◌, ◌<◌, ℕ, List, [], ◌∷◌, ◌++◌, length, Option, Some, None}
 use Rattle.logical_time.specs.declared.fault.Fault.{Fault}
 use Rattle.logical_time.specs.Fault.{number_of}
 use Rattle.messages.specs.declared.envelope.Envelope.{Envelope}
@@ -7,6 +7,7 @@ use Rattle.messages.specs.declared.op.Op.{Op}
 use Rattle.messages.specs.declared.event.Event.{Event}
 use Rattle.messages.specs.declared.event.Event.TheVariants as event
 use Rattle.actors.specs.Journals.{submissions, IsBeginning}
+use Rattle.actors.specs.Machines.{Refuses}
 use Rattle.actors.specs.Seats.{SeatValue, rings}
 use Rattle.actors.specs.Resting.{unsent, HasNoEnvelope, IsResting}
 use Rattle.actors.specs.Looking.{IsNext}
@@ -44,11 +45,18 @@ pub record HasRested (old new : SeatValue) : Type 0 where
   pub same : HasSame old new
   pub resting : IsResting new
 
+-- The machine refuses this event of the backlog for what it asks, and there was room in the journal for it; it was taken off.
+pub record HasTakenOff (refuses : Refuses) (fault : Fault) (old new : SeatValue) : Type 0 where
+  pub event : Event
+  pub first : old.backlog ≡ event ∷ new.backlog
+  pub room : length old.journal < old.limit
+  pub refused : refuses old.topology old.node old.journal event fault
+
 -- the first item of the backlog was refused for what it asks, and taken off
-pub record HasRefused (fault : Fault) (old new : SeatValue) : Type 0 where
+pub record HasRefused (refuses : Refuses) (fault : Fault) (old new : SeatValue) : Type 0 where
   pub journal : new.journal ≡ old.journal
   pub outcomes : new.outcomes ≡ old.outcomes
-  pub off : (event : Event) × (old.backlog ≡ event ∷ new.backlog)
+  pub off : HasTakenOff refuses fault old new
   pub refusals : new.refusals ≡ old.refusals ++ (submissions old.journal, fault) ∷ []
   pub request : IsOfRequest fault
   pub topology : new.topology ≡ old.topology
@@ -60,16 +68,24 @@ abbrev pub turn_of : Option ℕ → Turn
 turn_of None = Collected
 turn_of (Some number) = Submitted number
 
+-- no event was done, and no envelope went into a ring
+abbrev pub IsIdle : SeatValue → SeatValue → Type 0
+IsIdle old new = HasRested old new × (rings new.outgoing ≡ rings old.outgoing) × (unsent new ≡ unsent old)
+
+-- an envelope was handled
+abbrev pub HasHandled : SeatValue → SeatValue → Type 0
+HasHandled old new = (e : Envelope) × HasDone (event.Handle e) old new × (new.backlog ≡ old.backlog)
+
 -- What a turn that answers this made of the seat: at most one event is added to the journal, the one that the answer names.
 -- Where it is none, envelopes went into their rings, or none did.
-abbrev pub IsTurn : Turn → SeatValue → SeatValue → Type 0
-IsTurn Idle old new = HasRested old new × (rings new.outgoing ≡ rings old.outgoing) × (unsent new ≡ unsent old)
-IsTurn Moved old new = HasRested old new × (unsent new < unsent old)
-IsTurn Handled old new = (e : Envelope) × HasDone (event.Handle e) old new × (new.backlog ≡ old.backlog)
-IsTurn (Submitted number) old new =
+abbrev pub IsTurn : Refuses → Turn → SeatValue → SeatValue → Type 0
+IsTurn refuses Idle old new = IsIdle old new
+IsTurn refuses Moved old new = HasRested old new × (unsent new < unsent old)
+IsTurn refuses Handled old new = HasHandled old new
+IsTurn refuses (Submitted number) old new =
     (o : Op) × HasDone (event.Submit o) old new × (old.backlog ≡ event.Submit o ∷ new.backlog) × (number ≡ submissions new.journal)
-IsTurn Collected old new = (time : ℕ) × HasDone (event.Collect time) old new × (old.backlog ≡ event.Collect time ∷ new.backlog)
-IsTurn (Refused fault) old new = HasRefused fault old new
+IsTurn refuses Collected old new = (time : ℕ) × HasDone (event.Collect time) old new × (old.backlog ≡ event.Collect time ∷ new.backlog)
+IsTurn refuses (Refused fault) old new = HasRefused refuses fault old new
 
 -- Envelopes go before the backlog: a turn that handled one handled the next one, and for any other turn there was none.
 abbrev pub HasLooked : Turn → SeatValue → SeatValue → Type 0

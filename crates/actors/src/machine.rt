@@ -1,5 +1,6 @@
 //! What a seat runs.
-ghost use Rattle.std.specs.Prelude.{◌≡◌, ◌<◌, ◌++◌, ◌∷◌, [], ℕ, Bool, List, Option, None, option_to_list, IfOk, OnOk, IfErr, OnErr};
+ghost use Rattle.std.specs.Prelude.{◌≡◌, ◌<◌, ◌⊎◌, ◌++◌, ◌∷◌, [], ℕ, Bool, true, List, Option, None, option_to_list, IfOk, OnOk, IfErr, OnErr};
+ghost use Rattle.logical_time.specs.declared.fault.Fault.{Fault};
 ghost use Rattle.messages.specs.declared.envelope.Envelope.{Envelope};
 ghost use Rattle.messages.specs.declared.outcome.Outcome.{Outcome};
 ghost use Rattle.messages.specs.declared.event.Event.{Event};
@@ -23,15 +24,21 @@ pub trait Machine: Sized {
     /// Whether it is free for an operation.
     ghost is_free: { Self → Bool };
 
-    /// The machine of a node before its first event. Refused with `Memory` alone.
+    /// With which fault the machine of the actor with a node of a topology refuses an event, where it came from a
+    /// journal; but for memory.
+    ghost refuses: { TopologyValue → ℕ → List Event → Event → Fault → Type 0 };
+
+    /// The machine of a node before its first event, free for an operation. Refused with `Memory` alone.
     fn new(alloc: Global, topology: &Topology, node: Node) -> Result<Self, Fault>
         requires { node < node_count topology.now }
         ensures came { IfOk result (λ m. came_from topology.now node [] (λ to. []) [] m) }
         ensures untaken { IfOk result (λ m. untaken m ≡ None) }
+        ensures free { IfOk result (λ m. is_free m ≡ true) }
         ensures memory { IfErr result (λ e. e ≡ Fault.Memory) };
 
     /// Does one event, and puts what it sends at the end of the outbox. The answer of a submission is the number of its
-    /// operation, from 1. A refusal changes nothing, and hands the event back.
+    /// operation, from 1. Refused as its kind of machine refuses the event, and with `Memory`; then nothing changes, and
+    /// the event is handed back.
     fn step(&mut self, event: Event, outbox: &mut Outbox) -> Result<Option<u64>, (Fault, Event)>
         requires { untaken self.old ≡ None }
         ensures came { (top : TopologyValue) (node : ℕ) (journal : List Event) (before : ℕ → List Envelope) (outcomes : List (ℕ × Outcome))
@@ -41,6 +48,8 @@ pub trait Machine: Sized {
             → came_from top node journal sent outcomes self.old → IfOk result (λ number. number ≡ number_after journal event) }
         ensures same { (top : TopologyValue) (node : ℕ) (journal : List Event) (sent : ℕ → List Envelope) (outcomes : List (ℕ × Outcome))
             → came_from top node journal sent outcomes self.old → OnErr result (came_from top node journal sent outcomes self.new) }
+        ensures refused { (top : TopologyValue) (node : ℕ) (journal : List Event) (sent : ℕ → List Envelope) (outcomes : List (ℕ × Outcome))
+            → came_from top node journal sent outcomes self.old → IfErr result (λ e. (e.0 ≡ Fault.Memory) ⊎ refuses top node journal event e.0) }
         ensures none { OnErr result (untaken self.new ≡ None) }
         ensures free { OnErr result (is_free self.new ≡ is_free self.old) }
         ensures unsent { OnErr result (outbox.new.sent ≡ outbox.old.sent) }

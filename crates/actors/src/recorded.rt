@@ -1,5 +1,5 @@
 //! A machine with its journal.
-ghost use Rattle.std.specs.Prelude.{◌≡◌, ◌≤◌, ◌<◌, ◌++◌, ◌∷◌, [], ℕ, List, None, option_to_list, length, vec_len, vec_capacity, IfOk, OnOk, IfErr, OnErr};
+ghost use Rattle.std.specs.Prelude.{◌≡◌, ◌≤◌, ◌<◌, ◌⊎◌, ◌++◌, ◌∷◌, [], ℕ, true, List, None, option_to_list, length, vec_len, vec_capacity, IfOk, OnOk, IfErr, OnErr};
 ghost use Rattle.messages.specs.declared.envelope.Envelope.{Envelope};
 ghost use Rattle.messages.specs.Actors.{envelope_of};
 ghost use Rattle.messages.specs.Topology.{TopologyValue, node_count};
@@ -94,6 +94,9 @@ impl<M: Machine> Recorded<M> {
         ensures limit { self.new.limit ≡ self.old.limit }
         ensures full { self.old.limit ≤ length self.old.journal.items → IfErr result (λ e. e.0 ≡ Fault.JournalFull) }
         ensures room { OnOk result (length self.old.journal.items < self.old.limit) }
+        ensures fault { (top : TopologyValue) (node : ℕ) (before : ℕ → List Envelope)
+            → IsRecorded M.came_from M.untaken top node before self.old.machine self.old.journal.items self.old.outcomes.items self.old.outbox.sent self.old.accepted
+            → length self.old.journal.items < self.old.limit → IfErr result (λ e. (e.0 ≡ Fault.Memory) ⊎ M.refuses top node self.old.journal.items event e.0) }
         ensures back { IfErr result (λ e. e.1 ≡ event) }
     {
         if self.journal.len() >= self.limit {
@@ -117,7 +120,7 @@ impl<M: Machine> Recorded<M> {
         Ok(number)
     }
 
-    /// The machine of a node, before its first event. Refused with `Memory` alone.
+    /// The machine of a node, before its first event, free for an operation. Refused with `Memory` alone.
     pub fn new(
         alloc: Global,
         topology: &Topology,
@@ -126,6 +129,7 @@ impl<M: Machine> Recorded<M> {
     ) -> Result<Recorded<M>, Fault>
         requires { node < node_count topology.now }
         ensures recorded { IfOk result (λ r. IsRecorded M.came_from M.untaken topology.now node (λ to. []) r.machine [] [] [] 0) }
+        ensures free { IfOk result (λ r. M.is_free r.machine ≡ true) }
         ensures empty { IfOk result (λ r. (r.journal.items ≡ []) × (r.outcomes.items ≡ []) × (r.outbox.sent ≡ []) × (r.accepted ≡ 0) × (r.limit ≡ limit)) }
         ensures memory { IfErr result (λ e. e ≡ Fault.Memory) }
     {

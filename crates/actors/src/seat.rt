@@ -1,14 +1,15 @@
 //! Machines in their seats.
 ghost use Rattle.std.specs.Prelude.{◌≡◌, ◌≤◌, ◌<◌, ◌++◌, ◌∷◌, [], ◌==◌, ◌&&◌, ◌⊎◌, length, None, All, true, false, IsSome, IfSome, IfOk, OnOk, IfErr, OnErr};
+ghost use Rattle.messages.specs.declared.event.Event.{Event as ActorEvent};
 ghost use Rattle.messages.specs.declared.event.Event.TheVariants as event;
 ghost use Rattle.messages.specs.Topology.{node_count};
 ghost use Rattle.actors.specs.Journals.{submissions, number_after, followed_by, IsOwn};
 ghost use Rattle.actors.specs.Seats.{Keeps, rings, through};
 ghost use Rattle.actors.specs.Resting.{unsent, IsFlushed, IsSorted, WasEmpty};
 ghost use Rattle.actors.specs.Looking.{IsNext};
-ghost use Rattle.actors.specs.Turns.{IsTurn, HasLooked, HasSame, HasDone, IsWork, turn_of};
+ghost use Rattle.actors.specs.Turns.{IsTurn, HasHandled, HasLooked, HasSame, HasDone, IsOfRequest, IsWork, turn_of};
+ghost use Rattle.actors.specs.Refusals.{IsRefusal, IsFirst, CanRefuse};
 ghost use Rattle.actors.specs.Opening.{AreItsRings, new_seat};
-ghost use Rattle.actors.specs.declared.turn.Turn.TheVariants.{Handled};
 
 use crate::lane::Lane;
 use crate::machine::Machine;
@@ -59,7 +60,8 @@ fn done(number: Option<u64>) -> Turn
 }
 
 impl<M: Machine> Seat<M> {
-    /// The seat of the actor with a node, with all its rings, before its first event. Its journal may hold so many events.
+    /// The seat of the actor with a node, with all its rings, before its first event, free for an operation. Its journal
+    /// may hold so many events.
     /// Refused with `Memory` alone.
     pub fn new(
         alloc: Global,
@@ -70,7 +72,7 @@ impl<M: Machine> Seat<M> {
     ) -> Result<Seat<M>, Fault>
         requires node { node < node_count topology.now }
         requires rings { AreItsRings topology.now node ends }
-        ensures ok { IfOk result (λ s. s ≡ new_seat topology.now node limit s.free ends.outgoing.items ends.incoming.items) }
+        ensures ok { IfOk result (λ s. s ≡ new_seat topology.now node limit ends.outgoing.items ends.incoming.items) }
         ensures memory { IfErr result (λ e. e ≡ Fault.Memory) }
     {
         let topology = topology.copied()?;
@@ -104,10 +106,11 @@ impl<M: Machine> Seat<M> {
         self.node
     }
 
-    /// Its events, oldest first. The machine came from them, what they sent is on its way, and what was received is in them.
+    /// Its events, oldest first. The machine came from them, what they sent is on its way, and what was received is in them;
+    /// the seat is free where the machine is.
     pub fn journal(&self) -> &[Event]
         ensures value { result.now ≡ self.now.journal }
-        ensures keeps { (machine : M) × Keeps M.came_from M.untaken machine self.now }
+        ensures keeps { (machine : M) × Keeps M.came_from M.untaken machine self.now × (self.now.free ≡ M.is_free machine) }
     {
         self.recorded.journal.as_slice()
     }
@@ -141,8 +144,9 @@ impl<M: Machine> Seat<M> {
         self.backlog.is_empty() && self.is_free()
     }
 
-    /// Adds events to the backlog, in their order. That no message brings them, and that the actor is of their kind, is the
-    /// caller's condition. Refused with `Memory` alone, and then nothing changes, and they are handed back.
+    /// Adds events to the backlog, in their order. That no message brings them is the caller's condition. One that isn't of
+    /// the actor's kind is refused at its turn, as the machine refuses it, and stays unless it is refused for what it asks.
+    /// Refused with `Memory` alone, and then nothing changes, and they are handed back.
     pub fn load(&mut self, events: Vec<Event>) -> Result<(), (Fault, Vec<Event>)>
         requires { All IsOwn events.items }
         ensures ok { OnOk result (self.new ≡ record self.old { backlog = self.old.backlog ++ events.items }) }
@@ -168,6 +172,7 @@ impl<M: Machine> Seat<M> {
         ensures backlog { self.new.backlog ≡ self.old.backlog }
         ensures err { OnErr result (self.new ≡ self.old) }
         ensures full { self.old.limit ≤ length self.old.journal → IfErr result (λ e. e.0 ≡ Fault.JournalFull) }
+        ensures refused { IfErr result (λ e. IsRefusal M.refuses self.old (event.Submit op) e.0) }
         ensures back { IfErr result (λ e. e.1 ≡ op) }
     {
         match self.own(Event::Submit(op)) {
@@ -187,6 +192,7 @@ impl<M: Machine> Seat<M> {
         ensures backlog { self.new.backlog ≡ self.old.backlog }
         ensures err { OnErr result (self.new ≡ self.old) }
         ensures full { self.old.limit ≤ length self.old.journal → IfErr result (λ e. e ≡ Fault.JournalFull) }
+        ensures refused { IfErr result (IsRefusal M.refuses self.old (event.Collect time)) }
     {
         match self.own(Event::Collect(time)) {
             Ok(_) => Ok(()),
@@ -206,6 +212,7 @@ impl<M: Machine> Seat<M> {
         ensures accepted { self.new.accepted ≡ submissions self.new.journal }
         ensures err { OnErr result (self.new ≡ self.old) }
         ensures full { self.old.limit ≤ length self.old.journal → IfErr result (λ e. e.0 ≡ Fault.JournalFull) }
+        ensures refused { IfErr result (λ e. IsRefusal M.refuses self.old event e.0) }
         ensures back { IfErr result (λ e. e.1 ≡ event) }
     {
         self.recorded.happen(event)
@@ -237,11 +244,12 @@ impl<M: Machine> Seat<M> {
     /// Handles the envelope that is held, or goes on holding it back.
     fn handle(&mut self) -> Result<(), Fault>
         requires { IsSome self.old.held }
-        ensures ok { OnOk result (IsTurn Handled self.old self.new) }
+        ensures ok { OnOk result (HasHandled self.old self.new) }
         ensures event { IfSome self.old.held (λ e. OnOk result (self.new.journal ≡ self.old.journal ++ event.Handle e ∷ [])) }
         ensures rings { (self.new.incoming ≡ self.old.incoming) × (self.new.next ≡ self.old.next) }
         ensures err { OnErr result (self.new ≡ self.old) }
         ensures full { self.old.limit ≤ length self.old.journal → IfErr result (λ e. e ≡ Fault.JournalFull) }
+        ensures refused { IfSome self.old.held (λ e. IfErr result (IsRefusal M.refuses self.old (event.Handle e))) }
     {
         let Some(envelope) = self.held.take() else {
             unreachable!()
@@ -258,11 +266,13 @@ impl<M: Machine> Seat<M> {
     /// Does the first item of the backlog. Where it is refused for what it asks, it is taken off; else it stays.
     fn work(&mut self) -> Result<Turn, Fault>
         requires { 0 < length self.old.backlog }
-        ensures ok { IfOk result (λ turn. IsTurn turn self.old self.new) }
+        ensures ok { IfOk result (λ turn. IsTurn M.refuses turn self.old self.new) }
         ensures work { IfOk result IsWork }
         ensures rings { (self.new.incoming ≡ self.old.incoming) × (self.new.held ≡ self.old.held) }
         ensures err { OnErr result (self.new ≡ self.old) }
         ensures full { self.old.limit ≤ length self.old.journal → IfErr result (λ e. e ≡ Fault.JournalFull) }
+        ensures refused { (event : ActorEvent) → IsFirst self.old event
+            → IfErr result (λ fault. (fault ≡ Fault.Memory) ⊎ (IsRefusal M.refuses self.old event fault × (IsOfRequest fault → ⊥))) }
     {
         let Some(event) = self.backlog.pop_front() else {
             unreachable!()
@@ -290,13 +300,15 @@ impl<M: Machine> Seat<M> {
     /// Moves what waits into the rings, each ring's in order; a full ring holds back its own alone. Then handles one envelope
     /// if one is there, looking at the rings in turn; else does the first item of the backlog, if the machine is free. An
     /// envelope that was refused is the next one to be handled. Refused with `JournalFull` before all else where there is
-    /// an event to do and the journal is full, with `Memory`, and as the machine refuses the event; then waiting sends may
-    /// have moved. Costs what its event costs, the look at the rings, and what goes into them.
+    /// an event to do and the journal is full, with `Memory`, and as the machine refuses the event, but not for what an item
+    /// of the backlog asks; then waiting sends may have moved. Costs what its event costs, the look at the rings, and what
+    /// goes into them.
     pub fn turn(&mut self) -> Result<Turn, Fault>
-        ensures ok { IfOk result (λ turn. IsTurn turn self.old self.new) }
+        ensures ok { IfOk result (λ turn. IsTurn M.refuses turn self.old self.new) }
         ensures looked { IfOk result (λ turn. HasLooked turn self.old self.new) }
         ensures err { OnErr result (HasSame self.old self.new) }
         ensures full { self.old.limit ≤ length self.old.journal → IfErr result (λ e. (e ≡ Fault.JournalFull) ⊎ (e ≡ Fault.Memory)) }
+        ensures refused { IfErr result (λ fault. CanRefuse M.refuses fault self.new) }
     {
         let moved = self.flush()?;
         self.take_in();
@@ -314,6 +326,7 @@ impl<M: Machine> Seat<M> {
     pub fn close(self) -> M
         ensures came { M.came_from self.topology self.node self.journal (followed_by (through self.outgoing) self.outbox) self.outcomes result }
         ensures taken { M.untaken result ≡ None }
+        ensures free { M.is_free result ≡ self.free }
     {
         let Seat {
             topology: _,

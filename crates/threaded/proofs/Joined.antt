@@ -1,9 +1,11 @@
 -- Journals that are joined as far as a world goes, and one event further.
 use Rattle.std.proofs.Common.{◌≡◌, ◌∙◌, ℕ, ◌<◌, Bool, true, false, List, [], ◌∷◌, ◌++◌, length, Some, None, inl, inr, refl, sym, ap, subst, slice_get, eqb-true, eq-eqb}
-use Rattle.std.specs.Prelude.{◌==◌, if◌then◌else◌, slice_set}
+use Rattle.std.specs.Prelude.{◌==◌, if◌then◌else◌, slice_set, Contains}
 use Rattle.std.proofs.lemmas.List.{append_assoc}
 use Rattle.std.proofs.lemmas.Option.{slice_get_within}
+use Rattle.messages.specs.declared.envelope.Envelope.{Envelope}
 use Rattle.messages.specs.declared.event.Event.{Event as ActorEvent}
+use Rattle.messages.specs.declared.event.Event.TheVariants.{Handle}
 use Rattle.messages.specs.Topology.{TopologyValue, is_shard, node_count}
 use Rattle.messages.specs.Actors.{OfShard, OfSession, ActorStep, opening_actor, Replayed, replay_of}
 use Rattle.actors.specs.Journals.{followed_by}
@@ -22,7 +24,7 @@ use Rattle.world.proofs.Moves.{Moves}
 use Rattle.world.proofs.JournalSteps.{AreKnown, apart_too, journal_here, journal_there}
 use Rattle.world.proofs.OwnJournals.{run_journals}
 use Rattle.threaded.specs.declared.actor.Actor.{Actor}
-use Rattle.threaded.specs.Machines.{HasPartsApart, StaysApart, untaken_of, CameFrom}
+use Rattle.threaded.specs.Machines.{HasPartsApart, StaysApart, untaken_of, is_free, CameFrom}
 use Rattle.threaded.specs.OneRun.{seat_of, journal_at, journal_of, AreSeatsOf}
 use Rattle.threaded.specs.Links.{AreLinks}
 use Rattle.threaded.specs.Joining.{AreKept, IsUnderWay, Joins, IsNext, IsAble}
@@ -55,7 +57,7 @@ apart_more top events node journal y some is apart before after r q replays =
 
 -- ## The seat of a node
 
--- a seat's machine came from its journal
+-- a seat's machine came from its journal, and what that handled is from an actor
 pub record IsSeated (top : TopologyValue) (seats : List SeatValue) (node : ℕ) : Type 0 where
   pub seat : SeatValue
   pub found : seat_of seats node ≡ Some seat
@@ -63,6 +65,8 @@ pub record IsSeated (top : TopologyValue) (seats : List SeatValue) (node : ℕ) 
   pub machine : Actor
   pub came : CameFrom top node seat.journal (followed_by (through seat.outgoing) seat.outbox) seat.outcomes machine
   pub taken : untaken_of machine ≡ None
+  pub free : seat.free ≡ is_free machine
+  pub senders : (e : Envelope) → Contains seat.journal (Handle e) → e.from < node_count top
 
 seated : (top : TopologyValue) (seats : List SeatValue) (node : ℕ) → AreSeatsOf top seats → AreKept (node_count top) seats → node < node_count top → IsSeated top seats node
 seated top seats node are kept lt =
@@ -81,6 +85,11 @@ seated top seats node are kept lt =
           subst (λ t. CameFrom t node s.0.journal (followed_by (through s.0.outgoing) s.0.outbox) s.0.outcomes m.0) of
           (subst (λ n. CameFrom s.0.topology n s.0.journal (followed_by (through s.0.outgoing) s.0.outbox) s.0.outcomes m.0) own m.1.recorded.came);
       taken = m.1.recorded.taken;
+      free = m.2;
+      senders = λ e has.
+          let by = m.1.handled e has in
+          let within = m.1.reached by.0 e.from by.1 in
+          subst (λ t. e.from < node_count t) of (subst (λ n. n < node_count s.0.topology) by.2 within);
     }
 
 -- ## What is next

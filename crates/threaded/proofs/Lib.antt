@@ -1,4 +1,6 @@
+pub mod Ending
 pub mod Machines
+pub mod Refusing
 pub mod Lists
 pub mod Going
 pub mod Linked

@@ -1,6 +1,6 @@
 -- Shards and sessions as machines: one event more in the journal, and before the first.
 use Rattle.std.proofs.Common.{append-nil, ◌≡◌, ◌∙◌, ℕ, ◌+◌, ◌-◌, ◌<◌, Bool, true, false, List, [], ◌∷◌, ◌++◌, map, length, Option, Some, None, Result, Ok, Err, ◌⊎◌, inl, inr, refl, sym, ap, subst, arith}
-use Rattle.std.specs.Prelude.{◌==◌, if◌then◌else◌, filter_map, slice_get, option_to_list, option_and_then}
+use Rattle.std.specs.Prelude.{◌==◌, not, if◌then◌else◌, filter_map, slice_get, option_to_list, option_and_then}
 use Rattle.std.specs.List.{cons_option}
 use Rattle.std.specs.Option.{unwrap_or}
 use Rattle.std.proofs.lemmas.List.{append_assoc, length-append, map-append}
@@ -14,7 +14,7 @@ use Rattle.messages.specs.declared.event.Event.{Event}
 use Rattle.messages.specs.declared.event.Event.TheVariants.{Submit, Handle, Collect}
 use Rattle.messages.specs.Topology.{TopologyValue, shard_count, is_shard, node_count, home_of}
 use Rattle.messages.specs.Shard.{ShardState, ShardStep, new_shard}
-use Rattle.messages.specs.Session.{SessionState, SessionStep, new_session}
+use Rattle.messages.specs.Session.{SessionState, SessionStep, new_session, is_idle}
 use Rattle.messages.specs.ShardEvents.{shard_handle, shard_collect}
 use Rattle.messages.specs.SessionEvents.{session_handle, session_taken}
 use Rattle.messages.specs.Submitting.{session_submit}
@@ -23,7 +23,7 @@ use Rattle.shard.specs.declared.kept.Kept.{Kept as ShardKept}
 use Rattle.shard.specs.Kept as shard
 use Rattle.client.specs.declared.kept.Kept.{Kept as SessionKept}
 use Rattle.client.specs.Represents as session
-use Rattle.client.specs.State.{finished_of}
+use Rattle.client.specs.State.{state_of, finished_of}
 use Rattle.actors.specs.Journals.{op_in, submissions, sends_to, followed_by}
 use Rattle.world.proofs.Prefixes.{get_there}
 use Rattle.world.proofs.Moves.{counts_session, op_count, shard_took, session_took}
@@ -31,7 +31,8 @@ use Rattle.world.proofs.Counted.{step_count}
 use Rattle.world.proofs.Replays.{unfolds, replay_push}
 use Rattle.threaded.specs.declared.actor.Actor.{Actor}
 use Rattle.threaded.specs.declared.actor.Actor.TheVariants as actor
-use Rattle.threaded.specs.Machines.{HasPartsApart, StaysApart, is_of_shard, untaken_of, accepted_by, Stands, as_finished, IsReplay, CameFrom}
+use Rattle.threaded.specs.Machines.{HasPartsApart, StaysApart, is_of_shard, untaken_of, accepted_by, WaitsAsOpen, Stands, as_finished, IsReplay, CameFrom}
+use Rattle.threaded.proofs.Ending.{TookOutcome, unfinished, waits_heard, waits_submitted, free_is}
 
 -- ## Sessions stay sessions
 
@@ -102,7 +103,7 @@ as_list (Some x) = refl
 
 module _ (top : TopologyValue) (node : ℕ) (journal : List Event) (before : ℕ → List Envelope) (outcomes : List (ℕ × Outcome)) (old new : Actor) (x : Event)
     (sent now : List Envelope) (came : CameFrom top node journal (followed_by before sent) outcomes old) (taken : untaken_of old ≡ None)
-    (did : (a : ActorState) → Stands top node old a → DidStep top node x new sent now a) where
+    (did : (a : ActorState) → Stands top node old a → DidStep top node x new sent now a) (waits : WaitsAsOpen new) where
   goes_on : (apart : StaysApart top node journal) → (r : Replayed) × (replay_of top node (journal ++ x ∷ []) ≡ Some r)
   goes_on apart =
       let c = came.comes apart in
@@ -120,6 +121,7 @@ module _ (top : TopologyValue) (node : ℕ) (journal : List Event) (before : ℕ
         replay = record { state = d.step.state; sent = c.replay.sent ++ d.step.sends; finished = c.replay.finished ++ cons_option d.step.finishes [] };
         replays = replays;
         stands = d.stands here;
+        free = free_is top node new d.step.state waits (d.stands here);
         sends = λ to.
             ap (λ l. before to ++ sends_to to l) (d.sends here)
             ∙ ap (λ l. before to ++ l) (filter-append (λ (e : Envelope). e.to == to) sent d.step.sends)
@@ -140,6 +142,7 @@ module _ (top : TopologyValue) (node : ℕ) (journal : List Event) (before : ℕ
       record {
         kind = came.kind ∙ sym kind;
         accepted = accepted;
+        waits = waits;
         goes = λ b y after q apart. elim (last_or_inner journal x b y after q) [
           | inl last ↦
               let r = goes_on (subst (λ l. StaysApart top node l) last.0 apart) in
@@ -179,7 +182,7 @@ module _ (top : TopologyValue) (node : ℕ) (x : Event) (step : ShardState → R
       let count : submissions (x ∷ []) ≡ 0 = ap (λ o. length (cons_option o [])) none in
       let more = submissions_more journal x in
       let is : 0 ≡ submissions journal = came.accepted in
-      one_more top node journal before outcomes (actor.Shard k) (actor.Shard l) x sent now came refl shard_did refl (omega arith)
+      one_more top node journal before outcomes (actor.Shard k) (actor.Shard l) x sent now came refl shard_did tt refl (omega arith)
 
 pub shard_handled : (e : Envelope) (k l : ShardKept) (sent now : List Envelope)
     → ((top : TopologyValue) (me : ℕ) (a : ShardState) → shard.Represents top me k a → shard.IsStepOf top me (shard_handle top me a e) l sent now)
@@ -213,11 +216,13 @@ shard_still k l still top node journal sent outcomes came =
     record {
       kind = came.kind;
       accepted = came.accepted;
+      waits = tt;
       goes = came.goes;
       comes = λ apart. let c = came.comes apart in record {
         replay = c.replay;
         replays = c.replays;
         stands = go c.replay.state c.stands;
+        free = c.free;
         sends = c.sends;
         finishes = c.finishes;
       };
@@ -230,15 +235,18 @@ shard_still k l still top node journal sent outcomes came =
 pub shard_opens : (top : TopologyValue) (node : ℕ) (k : ShardKept) → is_shard top node ≡ true → shard.Represents top node k new_shard
     → CameFrom top node [] (λ to. []) [] (actor.Shard k)
 shard_opens top node k is represents =
+    let here : Stands top node (actor.Shard k) (opening_actor top node) = subst (λ a. Stands top node (actor.Shard k) a)
+    (sym (ap (λ b. if b then OfShard new_shard else OfSession (new_session (unwrap_or (home_of top node) 0))) is)) represents in
     record {
       kind = is;
       accepted = refl;
+      waits = tt;
       goes = λ before x after q. none before x after q;
       comes = λ apart. record {
         replay = record { state = opening_actor top node; sent = []; finished = [] };
         replays = refl;
-        stands = subst (λ a. Stands top node (actor.Shard k) a)
-            (sym (ap (λ b. if b then OfShard new_shard else OfSession (new_session (unwrap_or (home_of top node) 0))) is)) represents;
+        stands = here;
+        free = free_is top node (actor.Shard k) (opening_actor top node) tt here;
         sends = λ to. refl;
         finishes = refl;
       };
@@ -256,7 +264,8 @@ module _ (top : TopologyValue) (node : ℕ) (x : Event) (step : ℕ → SessionS
     (ended : Option (ℕ × Outcome)) (sent now : List Envelope)
     (does : (a : SessionState) → session.Represents k top a → session.IsStepOf (step k.node a) top l sent now)
     (node_stays : m.node ≡ k.node) (taken : (a : SessionState) → session.Represents l top a → session.Represents m top (session_taken a))
-    (ends : ended ≡ l.untaken) where
+    (ends : ended ≡ l.untaken) (waits : (a : SessionState) (s : SessionStep) → WaitsAsOpen (actor.Session k w None) → step node a ≡ Ok s → a ≡ state_of k
+    → s.state ≡ state_of l → WaitsAsOpen (actor.Session m v ended)) where
   session_did : (a : ActorState) → Stands top node (actor.Session k w None) a → DidStep top node x (actor.Session m v ended) sent now a
   session_did (OfShard a) stands = absurd stands
   session_did (OfSession a) stands =
@@ -286,6 +295,14 @@ module _ (top : TopologyValue) (node : ℕ) (x : Event) (step : ℕ → SessionS
       let after : op_count d.step.state ≡ b.0.count = ap op_count b.1 in
       sym new ∙ sym after ∙ more ∙ ap (λ z. z + submissions (x ∷ [])) old
 
+  waits_now : WaitsAsOpen (actor.Session k w None) → (a : ActorState) → Stands top node (actor.Session k w None) a → WaitsAsOpen (actor.Session m v ended)
+  waits_now tied (OfShard a) stands = absurd stands
+  waits_now tied (OfSession a) stands = go (step node a) refl (subst (λ n. session.IsStepOf (step n a) top l sent now) stands.0 (does a stands.1))
+    where
+      go : (r : Result SessionStep Fault) → step node a ≡ r → session.IsStepOf r top l sent now → WaitsAsOpen (actor.Session m v ended)
+      go (Err e) q h = absurd h
+      go (Ok s) q h = waits a s tied q stands.1.state h.state.state
+
   pub session_came : (journal : List Event) (before : ℕ → List Envelope) (outcomes : List (ℕ × Outcome))
       → CameFrom top node journal (followed_by before sent) outcomes (actor.Session k w None)
       → CameFrom top node (journal ++ x ∷ []) (followed_by before now) outcomes (actor.Session m v ended)
@@ -293,34 +310,36 @@ module _ (top : TopologyValue) (node : ℕ) (x : Event) (step : ℕ → SessionS
       let c = came.comes (session_apart top node journal came.kind) in
       let count = counted c.replay.state c.stands in
       let more = submissions_more journal x in
-      one_more top node journal before outcomes (actor.Session k w None) (actor.Session m v ended) x sent now came refl session_did refl
+      one_more top node journal before outcomes (actor.Session k w None) (actor.Session m v ended) x sent now came refl session_did
+      (waits_now came.waits c.replay.state c.stands) refl
       (count ∙ ap (λ z. z + submissions (x ∷ [])) came.accepted ∙ sym more)
 
--- what a session's step made of it, and then the taking of its outcome
-pub record TookOutcome (l m : SessionKept) (ended : Option (ℕ × Outcome)) : Type 0 where
-  pub node : m.node ≡ l.node
-  pub taken : (top : TopologyValue) (a : SessionState) → session.Represents l top a → session.Represents m top (session_taken a)
-  pub ends : ended ≡ l.untaken
+-- with its outcome taken, a session stands for what it stood for without it
+abbrev pub IsTaken : SessionKept → SessionKept → Type 0
+IsTaken l m = (top : TopologyValue) (a : SessionState) → session.Represents l top a → session.Represents m top (session_taken a)
+
+node_taken : (l m : SessionKept) {w v : Bool} {ended : Option (ℕ × Outcome)} → TookOutcome l m w v ended → m.node ≡ l.node
+node_taken l m took = ap (λ (z : SessionKept). z.node) took.kept
 
 pub session_heard : (e : Envelope) (k l m : SessionKept) (w v : Bool) (none ended : Option (ℕ × Outcome)) (sent now : List Envelope)
     → ((top : TopologyValue) (a : SessionState) → session.Represents k top a → session.IsStepOf (session_handle top k.node a e) top l sent now)
-    → l.node ≡ k.node → TookOutcome l m ended → none ≡ None
+    → l.node ≡ k.node → IsTaken l m → TookOutcome l m w v ended → none ≡ None
     → (top : TopologyValue) (node : ℕ) (journal : List Event) (before : ℕ → List Envelope) (outcomes : List (ℕ × Outcome))
     → CameFrom top node journal (followed_by before sent) outcomes (actor.Session k w none)
     → CameFrom top node (journal ++ Handle e ∷ []) (followed_by before now) outcomes (actor.Session m v ended)
-session_heard e k l m w v none ended sent now does stays took is top node journal before outcomes came =
-    session_came top node (Handle e) (λ n a. session_handle top n a e) (λ a. refl) k l m w v ended sent now (does top) (took.node ∙ stays) (took.taken top) took.ends
-    journal before outcomes (subst (λ o. CameFrom top node journal (followed_by before sent) outcomes (actor.Session k w o)) is came)
+session_heard e k l m w v none ended sent now does stays taken took is top node journal before outcomes came =
+    session_came top node (Handle e) (λ n a. session_handle top n a e) (λ a. refl) k l m w v ended sent now (does top) (node_taken l m took ∙ stays) (taken top) took.ends
+    (waits_heard e top node k l m w v ended took) journal before outcomes (subst (λ o. CameFrom top node journal (followed_by before sent) outcomes (actor.Session k w o)) is came)
 
 pub session_submitted : (o : Op) (k l m : SessionKept) (w v : Bool) (none ended : Option (ℕ × Outcome)) (sent now : List Envelope)
     → ((top : TopologyValue) (a : SessionState) → session.Represents k top a → session.IsStepOf (session_submit top k.node a o) top l sent now)
-    → l.node ≡ k.node → TookOutcome l m ended → none ≡ None
+    → l.node ≡ k.node → IsTaken l m → TookOutcome l m true v ended → none ≡ None
     → (top : TopologyValue) (node : ℕ) (journal : List Event) (before : ℕ → List Envelope) (outcomes : List (ℕ × Outcome))
     → CameFrom top node journal (followed_by before sent) outcomes (actor.Session k w none)
     → CameFrom top node (journal ++ Submit o ∷ []) (followed_by before now) outcomes (actor.Session m v ended)
-session_submitted o k l m w v none ended sent now does stays took is top node journal before outcomes came =
-    session_came top node (Submit o) (λ n a. session_submit top n a o) (λ a. refl) k l m w v ended sent now (does top) (took.node ∙ stays) (took.taken top) took.ends
-    journal before outcomes (subst (λ z. CameFrom top node journal (followed_by before sent) outcomes (actor.Session k w z)) is came)
+session_submitted o k l m w v none ended sent now does stays taken took is top node journal before outcomes came =
+    session_came top node (Submit o) (λ n a. session_submit top n a o) (λ a. refl) k l m w v ended sent now (does top) (node_taken l m took ∙ stays) (taken top) took.ends
+    (λ a s tied q was. waits_submitted o top node l m v ended took a s q) journal before outcomes (subst (λ z. CameFrom top node journal (followed_by before sent) outcomes (actor.Session k w z)) is came)
 
 -- a session's outcome is taken
 pub outcome_taken : (k : SessionKept) (w : Bool) (ended : Option (ℕ × Outcome)) (top : TopologyValue) (node : ℕ) (journal : List Event)
@@ -330,11 +349,13 @@ outcome_taken k w ended top node journal sent outcomes came =
     record {
       kind = came.kind;
       accepted = came.accepted;
+      waits = came.waits;
       goes = came.goes;
       comes = λ apart. let c = came.comes apart in record {
         replay = c.replay;
         replays = c.replays;
         stands = go c.replay.state c.stands;
+        free = c.free;
         sends = c.sends;
         finishes = c.finishes ∙ ap (λ l. map as_finished outcomes ++ l) (told ended) ∙ sym (map-append as_finished outcomes (option_to_list ended))
             ∙ sym (append-nil (map as_finished (outcomes ++ option_to_list ended)));
@@ -365,15 +386,21 @@ pub session_opens : (top : TopologyValue) (node : ℕ) (k : SessionKept) → is_
     → ((home : ℕ) → home_of top node ≡ Some home → session.Represents k top (new_session home)) → (home : ℕ) → home_of top node ≡ Some home
     → CameFrom top node [] (λ to. []) [] (actor.Session k false None)
 session_opens top node k away own represents home is =
+    let here : Stands top node (actor.Session k false None) (opening_actor top node) = subst (λ a. Stands top node (actor.Session k false None) a)
+    (sym (opens_session top node away ∙ ap (λ o. OfSession (new_session (unwrap_or o 0))) is)) (own, represents home is) in
+    let state = (represents home is).state in
+    let waits : WaitsAsOpen (actor.Session k false None) =
+    (ap (λ (z : SessionState). not (is_idle z.current)) state, unfinished k.untaken (sym (ap (λ (z : SessionState). z.untaken) state))) in
     record {
       kind = away;
       accepted = sym (ap (λ (z : SessionState). z.count) (represents home is).state);
+      waits = waits;
       goes = λ before x after q. none before x after q;
       comes = λ apart. record {
         replay = record { state = opening_actor top node; sent = []; finished = [] };
         replays = refl;
-        stands = subst (λ a. Stands top node (actor.Session k false None) a) (sym (opens_session top node away ∙ ap (λ o. OfSession (new_session (unwrap_or o 0))) is))
-            (own, represents home is);
+        stands = here;
+        free = free_is top node (actor.Session k false None) (opening_actor top node) waits here;
         sends = λ to. refl;
         finishes = refl;
       };

@@ -1,6 +1,6 @@
 -- Where nothing of any journal can be taken and something is left, the links don't match.
 use Rattle.std.proofs.Common.{append-nil, ◌≡◌, ◌∙◌, ℕ, zero, suc, ◌-◌, ◌<◌, cond, List, [], ◌∷◌, ◌++◌, Option, Some, None, ◌⊎◌, inl, inr, refl, sym, ap, subst, arith, eq-eqb}
-use Rattle.std.specs.Prelude.{◌==◌, filter_map}
+use Rattle.std.specs.Prelude.{◌==◌, filter_map, Contains}
 use Rattle.std.proofs.lemmas.List.{append_assoc}
 use Rattle.std.proofs.lemmas.List.Elements.{filter-append, filter_map-append}
 use Rattle.messages.specs.declared.envelope.Envelope.{Envelope}
@@ -20,7 +20,7 @@ use Rattle.threaded.specs.OneRun.{journal_of, DoLinksMatch}
 use Rattle.threaded.specs.Joining.{Joins, IsNext, IsWhole, IsAwaited, IsOther, IsStrange, Rests}
 use Rattle.threaded.proofs.Lists.{same_rest, same_head}
 use Rattle.threaded.proofs.Going.{replay_continues}
-use Rattle.threaded.proofs.Joined.{able}
+use Rattle.threaded.proofs.Joined.{seat_is, able}
 
 module _ (seats : List SeatValue) (places : List ℕ) (w : WorldValue) (left : List ℕ) (links : List (List (List ℕ))) (j : Joins seats places w left links)
     (fits : DoLinksMatch w.top (journal_of seats)) where
@@ -56,13 +56,14 @@ module _ (seats : List SeatValue) (places : List ℕ) (w : WorldValue) (left : L
   module _ (node : ℕ) (lt : node < node_count w.top) (e : Envelope) (more : List ActorEvent) (whole : journal_of seats node ≡ taken node ++ Handle e ∷ more) where
     sender : e.from < node_count w.top
     sender =
-        fits.senders node e lt
-        (among_contains (Handle e) (journal_of seats node) (subst (λ l. Among (Handle e) l) (sym whole) (append_second (Handle e) (taken node) (Handle e ∷ more) (inl refl))))
+        let s = seat_is seats places w left links j node lt in
+        let there = among_contains (Handle e) (journal_of seats node) (subst (λ l. Among (Handle e) l) (sym whole) (append_second (Handle e) (taken node) (Handle e ∷ more) (inl refl))) in
+        s.senders e (subst (λ l. Contains l (Handle e)) (sym s.journal) there)
 
     follows : (after : List Envelope) → sends_to node (sent_by w.top e.from (journal_of seats e.from)) ≡ after
         → (end : List Envelope) × (receipts_from e.from (taken node) ++ e ∷ end ≡ after)
     follows after q =
-        let b = fits.begins e.from node sender lt in (
+        let b = fits e.from node sender lt in (
           receipts_from e.from more ++ b.0,
           sym (append_assoc (receipts_from e.from (taken node)) (e ∷ receipts_from e.from more) b.0) ∙ ap (λ l. l ++ b.0) (sym (receipts node e more whole)) ∙ sym b.1 ∙ q,
         )

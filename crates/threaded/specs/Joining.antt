@@ -15,13 +15,13 @@ use Rattle.world.specs.Refusals.{IsRun}
 use Rattle.world.specs.World.{WorldValue, run_of, Takes}
 use Rattle.world.specs.Journals.{actor_in, event_at, journal_in, sent_from}
 use Rattle.threaded.specs.declared.actor.Actor.{Actor}
-use Rattle.threaded.specs.Machines.{StaysApart, untaken_of, CameFrom}
+use Rattle.threaded.specs.Machines.{StaysApart, untaken_of, is_free, CameFrom}
 use Rattle.threaded.specs.OneRun.{seat_of, journal_of, AreSeatsOf, DoLinksMatch, AreOfOneRun}
 use Rattle.threaded.specs.Links.{AreLinks}
 
--- the facts of a seat hold of its machine
+-- the facts of a seat hold of its machine, and it is free where that is
 abbrev pub IsKept : SeatValue → Type 0
-IsKept s = (machine : Actor) × Keeps CameFrom untaken_of machine s
+IsKept s = (machine : Actor) × Keeps CameFrom untaken_of machine s × (s.free ≡ is_free machine)
 
 -- so it is of the seat of each of so many nodes
 abbrev pub AreKept : ℕ → List SeatValue → Type 0

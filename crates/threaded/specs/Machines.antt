@@ -1,14 +1,22 @@
--- When a shard or a session came from a journal: where stamps stay apart, it stands for the journal's replay.
-use Rattle.std.specs.Prelude.{◌≡◌, ℕ, Bool, true, false, not, List, [], ◌∷◌, ◌++◌, map, Option, Some, None, option_to_list}
+-- When a shard or a session came from a journal: where stamps stay apart, it stands for the journal's replay. And with which
+-- fault it refuses an event then.
+use Rattle.std.specs.Prelude.{◌≡◌, ℕ, Bool, true, false, not, List, [], ◌∷◌, ◌++◌, map, Option, Some, None, option_to_list, Result, Ok, Err}
+use Rattle.logical_time.specs.declared.fault.Fault.{Fault}
+use Rattle.logical_time.specs.declared.fault.Fault.TheVariants.{StrangerEnd}
 use Rattle.store.specs.Keeps.{AreApart}
 use Rattle.messages.specs.declared.envelope.Envelope.{Envelope}
 use Rattle.messages.specs.declared.outcome.Outcome.{Outcome}
 use Rattle.messages.specs.declared.event.Event.{Event}
+use Rattle.messages.specs.declared.event.Event.TheVariants.{Submit, Handle, Collect}
 use Rattle.messages.specs.Topology.{TopologyValue, is_shard}
-use Rattle.messages.specs.Session.{Finished}
+use Rattle.messages.specs.Session.{Finished, is_idle}
+use Rattle.messages.specs.ShardEvents.{shard_handle, shard_collect}
+use Rattle.messages.specs.SessionEvents.{session_handle}
+use Rattle.messages.specs.Submitting.{session_submit}
 use Rattle.messages.specs.Actors.{ActorState, OfShard, OfSession, Replayed, replay_of}
 use Rattle.shard.specs.Kept as shard
 use Rattle.client.specs.Represents as session
+use Rattle.client.specs.Current.{open_of}
 use Rattle.client.specs.State.{finished_of}
 use Rattle.actors.specs.Journals.{submissions, sends_to}
 use Rattle.threaded.specs.declared.actor.Actor.{Actor}
@@ -43,6 +51,16 @@ abbrev pub is_free : Actor → Bool
 is_free (actor.Shard k) = true
 is_free (actor.Session k waits ended) = not waits
 
+-- A session waits exactly while an operation of it is open, and keeps no outcome beside the one that wasn't taken.
+abbrev pub WaitsAsOpen : Actor → Type 0
+WaitsAsOpen (actor.Shard k) = Unit {0}
+WaitsAsOpen (actor.Session k waits ended) = (waits ≡ not (is_idle (open_of k.current))) × (k.untaken ≡ None)
+
+-- no operation of the actor is open
+abbrev pub has_none_open : ActorState → Bool
+has_none_open (OfShard a) = true
+has_none_open (OfSession a) = is_idle a.current
+
 -- how many operations it accepted
 abbrev pub accepted_by : Actor → ℕ
 accepted_by (actor.Shard k) = 0
@@ -61,13 +79,14 @@ Stands top node (actor.Session k waits ended) (OfSession a) = (k.node ≡ node) 
 abbrev pub as_finished : (ℕ × Outcome) → Finished
 as_finished p = record { number = p.0; outcome = p.1 }
 
--- The machine stands for where the replay of the journal leads; what that sent is what went to each node, in order; and what
--- it finished are the outcomes that were taken, and then the one that wasn't.
+-- The machine stands for where the replay of the journal leads, and is free where no operation is open there; what that sent is
+-- what went to each node, in order; and what it finished are the outcomes that were taken, and then the one that wasn't.
 pub record IsReplay (top : TopologyValue) (node : ℕ) (journal : List Event) (sent : ℕ → List Envelope) (outcomes : List (ℕ × Outcome))
     (machine : Actor) : Type 0 where
   pub replay : Replayed
   pub replays : replay_of top node journal ≡ Some replay
   pub stands : Stands top node machine replay.state
+  pub free : is_free machine ≡ has_none_open replay.state
   pub sends : (to : ℕ) → sent to ≡ sends_to to replay.sent
   pub finishes : replay.finished ≡ map as_finished outcomes ++ option_to_list (finished_of (untaken_of machine))
 
@@ -77,6 +96,37 @@ pub record CameFrom (top : TopologyValue) (node : ℕ) (journal : List Event) (s
     (machine : Actor) : Type 0 where
   pub kind : is_shard top node ≡ is_of_shard machine
   pub accepted : accepted_by machine ≡ submissions journal
+  pub waits : WaitsAsOpen machine
   pub goes : (before : List Event) (x : Event) (after : List Event) → journal ≡ before ++ x ∷ after → StaysApart top node before
       → (r : Replayed) × (replay_of top node (before ++ x ∷ []) ≡ Some r)
   pub comes : StaysApart top node journal → IsReplay top node journal sent outcomes machine
+
+-- ## What it refuses then
+
+abbrev pub fault_of : {X : Type 0} → Result X Fault → Option Fault
+fault_of (Ok x) = None
+fault_of (Err e) = Some e
+
+-- With which fault an actor in a state refuses an event, if it does: as its step is refused by the protocol, and with
+-- `StrangerEnd` what is for the other kind of actor.
+abbrev pub refusal_at : TopologyValue → ℕ → ActorState → Event → Option Fault
+refusal_at top node (OfShard a) (Submit o) = Some StrangerEnd
+refusal_at top node (OfShard a) (Handle e) = fault_of (shard_handle top node a e)
+refusal_at top node (OfShard a) (Collect time) = fault_of (shard_collect a time)
+refusal_at top node (OfSession a) (Submit o) = fault_of (session_submit top node a o)
+refusal_at top node (OfSession a) (Handle e) = fault_of (session_handle top node a e)
+refusal_at top node (OfSession a) (Collect time) = Some StrangerEnd
+
+-- the event is for the other kind of actor
+abbrev pub is_strange : TopologyValue → ℕ → Event → Bool
+is_strange top node (Submit o) = is_shard top node
+is_strange top node (Handle e) = false
+is_strange top node (Collect time) = not (is_shard top node)
+
+-- After a journal the actor with a node refuses an event with this fault: with `StrangerEnd` what is for the other kind of
+-- actor, and, where stamps stay apart, as the state to which the journal's replay leads refuses it. Nothing is asked of a
+-- session's.
+pub record Refuses (top : TopologyValue) (node : ℕ) (journal : List Event) (event : Event) (fault : Fault) : Type 0 where
+  pub stranger : is_strange top node event ≡ true → fault ≡ StrangerEnd
+  pub refused : StaysApart top node journal
+      → (r : Replayed) × (replay_of top node journal ≡ Some r) × (refusal_at top node r.state event ≡ Some fault)

@@ -1,8 +1,6 @@
 -- Seats whose journals are of one run: one for each actor, which on each link received a beginning of what was sent there.
-use Rattle.std.specs.Prelude.{◌≡◌, ℕ, ◌<◌, ◌==◌, true, List, [], length, find, slice_get, Option, Some, None, Contains}
-use Rattle.messages.specs.declared.envelope.Envelope.{Envelope}
+use Rattle.std.specs.Prelude.{◌≡◌, ℕ, ◌<◌, ◌==◌, true, List, [], length, find, slice_get, Option, Some, None}
 use Rattle.messages.specs.declared.event.Event.{Event}
-use Rattle.messages.specs.declared.event.Event.TheVariants.{Handle}
 use Rattle.messages.specs.Topology.{TopologyValue, is_topology, node_count}
 use Rattle.messages.specs.Actors.{sent_by}
 use Rattle.actors.specs.Journals.{receipts_from, sends_to, IsBeginning}
@@ -31,12 +29,11 @@ pub record AreSeatsOf (top : TopologyValue) (seats : List SeatValue) : Type 0 wh
   pub topology : AreOfTopology top seats
   pub each : (node : ℕ) → node < node_count top → (s : SeatValue) × (seat_of seats node ≡ Some s)
 
--- What each journal handles is from an actor, and on each link the receipts are a beginning of what the sender's journal sent
--- there.
-pub record DoLinksMatch (top : TopologyValue) (journals : ℕ → List Event) : Type 0 where
-  pub senders : (node : ℕ) (e : Envelope) → node < node_count top → Contains (journals node) (Handle e) → e.from < node_count top
-  pub begins : (from to : ℕ) → from < node_count top → to < node_count top
-      → IsBeginning (receipts_from from (journals to)) (sends_to to (sent_by top from (journals from)))
+-- On each link the receipts are a beginning of what the sender's journal sent there.
+abbrev pub DoLinksMatch : TopologyValue → (ℕ → List Event) → Type 0
+DoLinksMatch top journals =
+    (from to : ℕ) → from < node_count top → to < node_count top
+    → IsBeginning (receipts_from from (journals to)) (sends_to to (sent_by top from (journals from)))
 
 -- the seats are one for each node of one topology, and their links match
 pub record AreOfOneRun (seats : List SeatValue) : Type 0 where

@@ -1,5 +1,5 @@
 //! Shards and sessions as machines.
-ghost use Rattle.std.specs.Prelude.{◌≡◌, ◌<◌, ◌++◌, ◌∷◌, [], ℕ, List, None, not, option_to_list, IfOk, OnOk, IfErr, OnErr};
+ghost use Rattle.std.specs.Prelude.{◌≡◌, ◌<◌, ◌⊎◌, ◌++◌, ◌∷◌, [], ℕ, true, false, List, None, not, option_to_list, IsSome, IfOk, OnOk, IfErr, OnErr};
 ghost use Rattle.messages.specs.declared.envelope.Envelope.{Envelope};
 ghost use Rattle.messages.specs.declared.outcome.Outcome.{Outcome};
 ghost use Rattle.messages.specs.declared.event.Event.{Event as ActorEvent};
@@ -8,7 +8,7 @@ ghost use Rattle.messages.specs.Session.{SessionState};
 ghost use Rattle.messages.specs.SessionEvents.{session_taken};
 ghost use Rattle.client.specs.Represents.{Represents};
 ghost use Rattle.actors.specs.Journals.{number_after, followed_by};
-ghost use Rattle.threaded.specs.Machines.{CameFrom, untaken_of, is_free};
+ghost use Rattle.threaded.specs.Machines.{CameFrom, untaken_of, is_free, Refuses};
 ghost use Rattle.threaded.specs.declared.actor.Actor.TheVariants as actor;
 
 use actors::Machine;
@@ -33,8 +33,8 @@ pub enum Actor {
     },
 }
 
-/// A shard does one event. A submission is refused with `StrangerEnd`, and what else as the shard refuses it; then it
-/// stands for what it stood for, and the event is handed back.
+/// A shard does one event. A submission is refused with `StrangerEnd`, and what else as the shard refuses it: as the
+/// protocol does, and with `Memory`; then it stands for what it stood for, and the event is handed back.
 fn step_shard(
     shard: &mut Shard,
     event: Event,
@@ -46,6 +46,8 @@ fn step_shard(
     ensures number { (journal : List ActorEvent) → IfOk result (λ number. number ≡ number_after journal event) }
     ensures same { (top : TopologyValue) (node : ℕ) (journal : List ActorEvent) (sent : ℕ → List Envelope) (outcomes : List (ℕ × Outcome))
         → CameFrom top node journal sent outcomes (actor.Shard shard.old) → OnErr result (CameFrom top node journal sent outcomes (actor.Shard shard.new)) }
+    ensures refused { (top : TopologyValue) (node : ℕ) (journal : List ActorEvent) (sent : ℕ → List Envelope) (outcomes : List (ℕ × Outcome))
+        → CameFrom top node journal sent outcomes (actor.Shard shard.old) → IfErr result (λ e. (e.0 ≡ Fault.Memory) ⊎ Refuses top node journal event e.0) }
     ensures unsent { OnErr result (outbox.new.sent ≡ outbox.old.sent) }
     ensures back { IfErr result (λ e. e.1 ≡ event) }
 {
@@ -65,6 +67,9 @@ fn step_shard(
 /// Takes what a session finished, if it finished something; then it waits no more.
 fn end(session: &mut Session, waits: &mut bool, ended: &mut Option<(u64, Outcome)>)
     ensures ended { ended.new ≡ session.old.untaken }
+    ensures kept { session.new ≡ record session.old { untaken = None } }
+    ensures stays { session.old.untaken ≡ None → waits.new ≡ waits.old }
+    ensures over { IsSome session.old.untaken → waits.new ≡ false }
     ensures node { session.new.node ≡ session.old.node }
     ensures taken { (top : TopologyValue) (a : SessionState) → Represents session.old top a → Represents session.new top (session_taken a) }
 {
@@ -74,8 +79,8 @@ fn end(session: &mut Session, waits: &mut bool, ended: &mut Option<(u64, Outcome
     }
 }
 
-/// A session does one event. A collection is refused with `StrangerEnd`, and what else as the session refuses it; then
-/// nothing changes, and the event is handed back.
+/// A session does one event. A collection is refused with `StrangerEnd`, and what else as the session refuses it: as the
+/// protocol does, and with `Memory`; then nothing changes, and the event is handed back.
 fn step_session(
     session: &mut Session,
     waits: &mut bool,
@@ -90,6 +95,8 @@ fn step_session(
     ensures number { (top : TopologyValue) (node : ℕ) (journal : List ActorEvent) (sent : ℕ → List Envelope) (outcomes : List (ℕ × Outcome))
         → CameFrom top node journal sent outcomes (actor.Session session.old waits.old ended.old) → IfOk result (λ number. number ≡ number_after journal event) }
     ensures same { OnErr result ((session.new ≡ session.old) × (waits.new ≡ waits.old) × (ended.new ≡ ended.old)) }
+    ensures refused { (top : TopologyValue) (node : ℕ) (journal : List ActorEvent) (sent : ℕ → List Envelope) (outcomes : List (ℕ × Outcome))
+        → CameFrom top node journal sent outcomes (actor.Session session.old waits.old ended.old) → IfErr result (λ e. (e.0 ≡ Fault.Memory) ⊎ Refuses top node journal event e.0) }
     ensures unsent { OnErr result (outbox.new.sent ≡ outbox.old.sent) }
     ensures back { IfErr result (λ e. e.1 ≡ event) }
 {
@@ -119,6 +126,8 @@ impl Machine for Actor {
     ghost untaken = { untaken_of };
 
     ghost is_free = { is_free };
+
+    ghost refuses = { Refuses };
 
     fn new(alloc: Global, topology: &Topology, node: Node) -> Result<Actor, Fault> {
         match Shard::new(alloc, topology, node) {

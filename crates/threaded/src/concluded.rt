@@ -8,11 +8,13 @@ ghost use Rattle.world.specs.Fresh.{FirstRoundsAreWhole};
 ghost use Rattle.world.specs.Promises.{EntriesAreOfSubmissions, OutcomesAreListed, ReadsShowOneTable, ReadsShowTheirPast, ReadsAreFresh, StampsFollowCauses, TimesNeverFall, OperationsEndOnce};
 ghost use Rattle.world.specs.Histories.{IsHistory};
 ghost use Rattle.world.specs.World.{run_of};
+ghost use Rattle.threaded.specs.OneRun.{seat_of};
 ghost use Rattle.threaded.specs.Concluded.{AreConcluded, by_session};
 
 use crate::actor::Actor;
+use crate::concluding::place_of;
 use actors::Seat;
-use logical_time::Fault;
+use logical_time::{Fault, Node};
 use messages::Topology;
 use std::alloc::Global;
 use std::marker::Model;
@@ -72,6 +74,15 @@ impl Concluded {
         ensures run { AreConcluded self.now.seats self.now.world }
     {
         self.seats.as_slice()
+    }
+
+    /// The seat of the actor with a node, if there is one.
+    pub fn seat(&self, node: Node) -> Option<&Seat<Actor>>
+        ensures some { IfSome result (λ s. seat_of self.now.seats node ≡ Some s.now) }
+        ensures none { IfNone result (seat_of self.now.seats node ≡ None) }
+    {
+        let place = place_of(self.seats.as_slice(), node)?;
+        Some(&self.seats[place])
     }
 
     /// The operations that ended, by the nodes of their sessions, each session's in order.

@@ -34,7 +34,7 @@ fn are_of(topology: &Topology, seats: &[Seat<Actor>]) -> bool
 
 /// Where the seat of the actor with a node stands, if there is one.
 #[tactic(auto, using(crate::proofs::Starting::place_found, crate::proofs::Starting::one_more_elsewhere, crate::proofs::Starting::nowhere))]
-fn place_of(seats: &[Seat<Actor>], node: Node) -> Option<usize>
+pub(crate) fn place_of(seats: &[Seat<Actor>], node: Node) -> Option<usize>
     ensures some { IfSome result (IsPlace seats.now node) }
     ensures none { IfNone result (seat_of seats.now node ≡ None) }
 {
@@ -189,9 +189,9 @@ fn by_session(alloc: Global, world: &World) -> Result<Vec<Completed>, Fault>
 }
 
 /// What the journals of these seats conclude: a run of all actors, whose journals they are. Refused with `StrangerEnd`
-/// exactly where the seats aren't one for each node of one topology, where on some link the receipts aren't a beginning of
-/// what the sender's journal sent there, or where an envelope was handled that is from no actor; and with `Memory`. Then the
-/// seats are handed back. Each journal's events are done once more: linear in them, beside what they cost.
+/// exactly where the seats aren't one for each node of one topology, or where on some link the receipts aren't a beginning of
+/// what the sender's journal sent there; and with `Memory`. Then the seats are handed back. Each journal's events are done
+/// once more: linear in them, beside what they cost.
 pub fn conclude(
     alloc: Global,
     seats: Vec<Seat<Actor>>,

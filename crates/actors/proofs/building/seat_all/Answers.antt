@@ -22,7 +22,7 @@ loop-node-preserved g c =
     let below : c.loop-node.node < c.node_count-count.result = search rules in
     let first : own ≡ get_or c.loop-node.ends.items 0 own = search rules in
     let at = first_of c.args.ends.items c.loop-node.ends.items node own inv.rest lt first in
-    let ok : c.in-Ok.seat ≡ new_seat top node c.args.journal c.in-Ok.seat.free own.outgoing.items own.incoming.items = rw (← c.new.ensures) c.in-Ok.ensures.ok in
+    let ok : c.in-Ok.seat ≡ new_seat top node c.args.journal own.outgoing.items own.incoming.items = rw (← c.new.ensures) c.in-Ok.ensures.ok in
     record {
       rest = others_of c.args.ends.items c.loop-node.ends.items _ node own inv.rest lt c.remove.ensures.by_index.2;
       room = search rules;

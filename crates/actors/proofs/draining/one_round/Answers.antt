@@ -1,8 +1,8 @@
 use Rattle.std.proofs.Common.{◌≡◌, ◌<◌, ◌≤◌, get_or, length, sym, subst, rules}
 use Rattle.std.proofs.lemmas.Result.{err_from_is_err_and}
 use Rattle.actors.specs.Seats.{SeatValue}
-use Rattle.actors.specs.Turns.{HasSame, IsTurn}
-use Rattle.actors.proofs.Rounds.{same_later, turn_later, seat_later, others_wait, one_turn, round_done, refused_at}
+use Rattle.actors.specs.Turns.{HasSame, IsTurn, HasLooked}
+use Rattle.actors.proofs.Rounds.{same_later, turn_later, seat_later, others_wait, one_turn, round_done, taken_more, stopped_here, refused_at}
 use Rattle.actors.proofs.draining.one_round.Goals as goal
 
 pub returns-in_err-turn-clause-later : goal.returns-in_err-turn-clause-later
@@ -24,7 +24,20 @@ returns-in_err-turn-clause-refused g c =
     let lt : place < length now = search rules in
     let fault = c.in_err-turn.field-0.0 in
     let p = err_from_is_err_and c.from_residual.result c.from_residual.ensures.1 in
-    rw (p.1, p.2) (refused_at now place (get_or now place d) n fault lt c.in_err-turn.ensures.err c.in_err-turn.ensures.full)
+    rw (p.1, p.2) (refused_at g.M.Machine.refuses now place n fault lt c.in_err-turn.ensures.refused)
+
+pub returns-in_err-turn-clause-stopped : goal.returns-in_err-turn-clause-stopped
+returns-in_err-turn-clause-stopped g c =
+    let now = c.loop-place.seats in
+    let place = c.loop-place.place in
+    let d = c.index-seats-place.result in
+    let n = c.turn.new.self in
+    let lt : place < length now = search rules in
+    let is : d ≡ get_or now place d = search rules in
+    let fault = c.in_err-turn.field-0.0 in
+    let same = subst (λ (s : SeatValue). HasSame s n) (sym is) c.in_err-turn.ensures.err in
+    let p = err_from_is_err_and c.from_residual.result c.from_residual.ensures.1 in
+    rw (p.1, p.2) (stopped_here g.M.Machine.refuses c.args.seats.now now place d n lt is c.loop-place.invariant.taken fault same c.in_err-turn.ensures.refused)
 
 pub loop-place-preserved : goal.loop-place-preserved
 loop-place-preserved g c =
@@ -37,12 +50,14 @@ loop-place-preserved g c =
     let turn = c.in_ok-turn.turn in
     let lt : place < length now = search rules in
     let is : d ≡ get_or now place d = search rules in
-    let took = subst (λ (s : SeatValue). IsTurn turn s n) (sym is) c.in_ok-turn.ensures.ok in
+    let took = subst (λ (s : SeatValue). IsTurn g.M.Machine.refuses turn s n) (sym is) c.in_ok-turn.ensures.ok in
+    let looked = subst (λ (s : SeatValue). HasLooked turn s n) (sym is) c.in_ok-turn.ensures.looked in
     let here : place ≤ place = search rules in
     record {
-      later = seat_later start now place d n inv.later lt is (turn_later turn d n took);
+      later = seat_later start now place d n inv.later lt is (turn_later g.M.Machine.refuses turn d n took);
+      taken = taken_more g.M.Machine.refuses start now place d n lt is inv.taken turn took looked;
       waiting = others_wait start now place n inv.waiting;
-      so_far = rw c.with_turn-round.ensures (one_turn start now place d n lt is c.loop-place.round turn (inv.waiting place here) took inv.so_far);
+      so_far = rw c.with_turn-round.ensures (one_turn start now place d n lt is g.M.Machine.refuses c.loop-place.round turn (inv.waiting place here) took inv.so_far);
     }
 
 pub returns-clause-round : goal.returns-clause-round

@@ -1,0 +1,55 @@
+-- With which faults a seat refuses.
+use Rattle.std.proofs.Common.{◌≡◌, ℕ, ◌≤◌, ◌<◌, ◌⊎◌, true, [], ◌∷◌, length, List, Option, Some, None, refl, sym, ap, subst, ◌∙◌, inl, inr, arith}
+use Rattle.std.specs.Prelude.{Result, Ok, Err, IfErr, OnErr, IfSome}
+use Rattle.std.proofs.lemmas.Bool.{cases_lt}
+use Rattle.logical_time.specs.declared.fault.Fault.{Fault}
+use Rattle.logical_time.specs.declared.fault.Fault.TheVariants.{JournalFull, Memory}
+use Rattle.logical_time.specs.Fault.{number_of}
+use Rattle.messages.specs.declared.envelope.Envelope.{Envelope}
+use Rattle.messages.specs.declared.event.Event.{Event}
+use Rattle.messages.specs.declared.event.Event.TheVariants.{Handle}
+use Rattle.actors.specs.Machines.{Refuses}
+use Rattle.actors.specs.Seats.{SeatValue}
+use Rattle.actors.specs.Turns.{IsOfRequest, HasTakenOff}
+use Rattle.actors.specs.Refusals.{IsRefusal, IsFirst, IsDueOf, CanRefuse}
+
+-- an event is refused so, where it is refused with `JournalFull` if the journal is full, and else for memory or as the machine refuses it
+pub refusal_of : (refuses : Refuses) (s : SeatValue) (event : Event) (fault : Fault) → (s.limit ≤ length s.journal → fault ≡ JournalFull)
+    → (length s.journal < s.limit → (fault ≡ Memory) ⊎ refuses s.topology s.node s.journal event fault) → IsRefusal refuses s event fault
+refusal_of refuses s event fault full room = elim (cases_lt (length s.journal) s.limit) [
+  | inl below ↦ inr (below, room below)
+  | inr above ↦ inl (above, full above)
+]
+
+pub is_refusal : {A B : Type 0} (refuses : Refuses) (s : SeatValue) (event : Event) (r : Result A (Fault × B))
+    → (s.limit ≤ length s.journal → IfErr r (λ e. e.0 ≡ JournalFull))
+    → (length s.journal < s.limit → IfErr r (λ e. (e.0 ≡ Memory) ⊎ refuses s.topology s.node s.journal event e.0)) → IfErr r (λ e. IsRefusal refuses s event e.0)
+is_refusal refuses s event (Ok a) full room = tt
+is_refusal refuses s event (Err e) full room = refusal_of refuses s event e.0 full room
+
+-- it is the envelope that is held
+pub held_refused : (refuses : Refuses) (s : SeatValue) (held : Envelope) (fault : Fault) → s.held ≡ Some held → IsRefusal refuses s (Handle held) fault
+    → IfSome s.held (λ e. IsRefusal refuses s (Handle e) fault)
+held_refused refuses s held fault is refused = subst (λ o. IfSome o (λ e. IsRefusal refuses s (Handle e) fault)) (sym is) refused
+
+-- it is the first item of the backlog, which the seat is to do
+pub work_refused : {A : Type 0} (refuses : Refuses) (s n : SeatValue) (r : Result A Fault) → 0 < length s.backlog → s.held ≡ None → s.free ≡ true → OnErr r (n ≡ s)
+    → ((event : Event) → IsFirst s event → IfErr r (λ fault. (fault ≡ Memory) ⊎ (IsRefusal refuses s event fault × (IsOfRequest fault → ⊥))))
+    → IfErr r (λ fault. CanRefuse refuses fault n)
+work_refused refuses s n (Ok a) some none free same refused = tt
+work_refused refuses s n (Err e) some none free same refused = subst (λ (z : SeatValue). CanRefuse refuses e z) (sym same) (by s.backlog refl)
+  where
+    by : (items : List Event) → s.backlog ≡ items → CanRefuse refuses e s
+    by [] is = absurd (let len : length s.backlog ≡ 0 = ap (λ (l : List Event). length l) is in omega (arith, len, some))
+    by (x ∷ more) is =
+        elim (refused x (more, is)) [
+          | inl memory ↦ inl memory
+          | inr back ↦ inr (x, subst (λ o. IsDueOf o s x) (sym none) (free, (more, is)), (back.0, λ own. back.1))
+        ]
+
+-- a refusal of an operation for what it asks is the machine's, and there was room
+pub taken_off : (refuses : Refuses) (event : Event) (fault : Fault) (old new : SeatValue) → old.backlog ≡ event ∷ new.backlog → IsOfRequest fault
+    → IsRefusal refuses old event fault → HasTakenOff refuses fault old new
+taken_off refuses event fault old new first request (inl full) = absurd (let is : number_of fault ≡ 24 = ap number_of full.1 in omega (arith, is, request))
+taken_off refuses event fault old new first request (inr (room, inl memory)) = absurd (let is : number_of fault ≡ 23 = ap number_of memory in omega (arith, is, request))
+taken_off refuses event fault old new first request (inr (room, inr refused)) = record { event = event; first = first; room = room; refused = refused }
