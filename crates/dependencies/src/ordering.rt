@@ -5,13 +5,15 @@ ghost use Rattle.messages.specs.Words.{in_writer_order};
 use logical_time::{Fault, Writer, Writers};
 use std::alloc::Global;
 
-// These writers in the order of their transactions' numbers, each once.
-fn sorted(mut writers: Vec<Writer>) -> Writers
-    ensures { result ≡ in_writer_order writers.items }
+// These writers in the order of their transactions' numbers, each once. Linear where they are two lists in order, which
+// the stable sort joins. Refused with `Memory` alone.
+fn sorted(mut writers: Vec<Writer>) -> Result<Writers, Fault>
+    ensures ok { IfOk result (λ all. all ≡ in_writer_order writers.items) }
+    ensures memory { IfErr result (λ e. e ≡ Fault.Memory) }
 {
-    writers.sort_unstable();
+    writers.sort()?;
     writers.dedup();
-    Writers::from_vec(writers)
+    Ok(Writers::from_vec(writers))
 }
 
 /// These writers and those in the order of their transactions' numbers, each once. In the order of n log n for n
@@ -24,7 +26,8 @@ pub(crate) fn in_order(
     ensures ok { IfOk result (λ all. all ≡ in_writer_order (writers.now ++ others.now)) }
     ensures memory { IfErr result (λ e. e ≡ Fault.Memory) }
 {
-    let mut all = Vec::from_slice(alloc, writers)?;
+    let mut all = Vec::with_capacity(alloc, writers.len() + others.len())?;
+    all.extend_from_slice(writers)?;
     all.extend_from_slice(others)?;
-    Ok(sorted(all))
+    sorted(all)
 }

@@ -48,12 +48,9 @@ pub(crate) fn mark_row(
     ensures err { OnErr result ((r : Row) (t : TxnValue) → time_at rows.new.entries r t ≡ time_at rows.old.entries r t) }
     ensures memory { IfErr result (λ e. e ≡ fault.Memory) }
 {
-    if !rows.contains_key(row) {
-        return add_row(alloc, rows, row, txn, time);
-    }
     match rows.get_mut(row) {
         Some(marks) => marks.mark(txn, time),
-        None => Ok(()),
+        None => add_row(alloc, rows, row, txn, time),
     }
 }
 
@@ -62,9 +59,6 @@ fn clear_mark(rows: &mut BTreeMap<Row, RowMarks>, row: &Row, txn: TxnId) -> bool
     ensures cleared { (r : Row) (t : TxnValue) → time_at rows.new.entries r t ≡ (if is_same_mark row.now txn r t then None else time_at rows.old.entries r t) }
     ensures none { result ≡ true → marks_of rows.new.entries row.now ≡ [] }
 {
-    if !rows.contains_key(row) {
-        return false;
-    }
     match rows.get_mut(row) {
         Some(marks) => {
             marks.clear(txn);

@@ -94,11 +94,8 @@ pub(crate) fn note(
     ensures ok { OnOk result (is_listed (rows_of touched.new.entries txn) row ≡ true) }
     ensures memory { IfErr result (λ e. e ≡ fault.Memory) }
 {
-    if !touched.contains_key(&txn) {
-        return note_first(alloc, touched, row, txn);
-    }
     match touched.get_mut(&txn) {
         Some(rows) => rows.add(row),
-        None => Ok(()),
+        None => note_first(alloc, touched, row, txn),
     }
 }

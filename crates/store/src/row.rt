@@ -100,12 +100,9 @@ fn reserve_column(
     ensures succeeds { 0 < (column_held columns.old.entries name.now).room → IsOk result }
     ensures memory { IfErr result (λ e. e ≡ fault.Memory) }
 {
-    if !columns.contains_key(name) {
-        return add_column(alloc, columns, name);
-    }
     match columns.get_mut(name) {
         Some(chain) => chain.reserve(1),
-        None => Ok(()),
+        None => add_column(alloc, columns, name),
     }
 }
 

@@ -96,12 +96,9 @@ fn reserve_change(
     if !leaves_version(&change.mutation) {
         return Ok(());
     }
-    if !rows.contains_key(&change.row) {
-        return add_row(alloc, rows, change);
-    }
     match rows.get_mut(&change.row) {
         Some(held) => held.reserve(alloc, &change.mutation),
-        None => Ok(()),
+        None => add_row(alloc, rows, change),
     }
 }
 

@@ -4,6 +4,7 @@ ghost use Rattle.logical_time.specs.declared.fault.Fault.TheVariants as fault;
 ghost use Rattle.column_family.specs.Location.{Location};
 ghost use Rattle.column_family.specs.Normal.{IsNormal};
 ghost use Rattle.store.specs.declared.part.Applied.{Applied};
+ghost use Rattle.store.specs.Crowded.{AreListed};
 ghost use Rattle.store.specs.Kept.{HasRoom, HaveKept, HaveSameVersions, HavePut};
 ghost use Rattle.store.specs.Keeps.{Keeps, IsNewStamp, IsOvertaken};
 ghost use Rattle.column_family.specs.History.{newest_at};
@@ -24,6 +25,23 @@ use std::alloc::Global;
 use std::collections::BTreeMap;
 use std::marker::Model;
 use txn_state::Prepared;
+
+// Puts what a part leaves, for which there is room, and lists the rows that are crowded then.
+fn put_part(
+    rows: &mut BTreeMap<Row, RowChains>,
+    crowded: &mut Crowded,
+    prepared: Prepared,
+    commit: Time,
+    stamp: Stamp,
+)
+    requires { HasRoom rows.old.entries prepared.part.batch }
+    ensures put { HavePut (record { writer = prepared.part.writer; stamp = stamp; evt = commit }) prepared.part.batch rows.old.entries rows.new.entries }
+    ensures listed { AreListed crowded.old rows.old.entries → AreListed crowded.new rows.new.entries }
+{
+    let (part, _) = prepared.surrender();
+    let origin = Origin::new(part.writer, stamp, commit);
+    put_changes(rows, crowded, part.batch.into_vec(), &origin);
+}
 
 /// What a shard keeps of the parts that were applied: the versions of each column and of each row's deletion, and
 /// the horizon, the time below which no read is answered any more.
@@ -107,15 +125,23 @@ impl Store {
             Ok(()) => {}
             Err(fault) => return Err((fault, prepared)),
         }
-        let (part, _) = prepared.surrender();
-        let origin = Origin::new(part.writer, stamp, commit);
-        put_changes(
-            &mut self.rows,
-            &mut self.crowded,
-            part.batch.into_vec(),
-            &origin,
-        );
+        put_part(&mut self.rows, &mut self.crowded, prepared, commit, stamp);
         Ok(())
+    }
+
+    /// Applies a part as `apply` does, where there is room for its batch: so it isn't refused, takes no memory, and looks
+    /// for each place once.
+    #[tactic(auto, using(crate::proofs::KeepsApplied::keeps_applied, crate::proofs::Overtaken::overtaken))]
+    pub fn apply_in_room(&mut self, prepared: Prepared, commit: Time, stamp: Stamp)
+        requires { HasRoom self.old.rows prepared.part.batch }
+        ensures put { HavePut (record { writer = prepared.part.writer; stamp = stamp; evt = commit }) prepared.part.batch self.old.rows self.new.rows }
+        ensures low { self.new.low ≡ self.old.low }
+        ensures keeps { (all : List Applied) → Keeps self.old all → IsNormal prepared.part.batch → IsNewStamp stamp all → Keeps self.new (all ++ record { part = prepared.part; commit = commit; stamp = stamp } ∷ []) }
+
+        // A mutation that is committed no earlier than a newer one of its location changes the table at no time.
+        ensures overtaken { (all : List Applied) (l : Location) → IsOvertaken all l stamp commit → (t : ℕ) → newest_at (history_of (all ++ record { part = prepared.part; commit = commit; stamp = stamp } ∷ [])) t l ≡ newest_at (history_of all) t l }
+    {
+        put_part(&mut self.rows, &mut self.crowded, prepared, commit, stamp);
     }
 
     /// The slice of the row's newest versions, with what it rests on and its earliest valid time: it is right at

@@ -18,7 +18,7 @@ fn apply(store: &mut Store, prepared: Prepared, commit: Time, stamp: Stamp)
     requires { HasRoom store.old.rows prepared.part.batch }
     ensures { KeepsAlso prepared commit stamp store.old store.new }
 {
-    store.apply(prepared, commit, stamp).unwrap();
+    store.apply_in_room(prepared, commit, stamp);
 }
 
 /// Applies the part of a transaction, if one is prepared, and takes its marks away.

@@ -4,5 +4,5 @@ use Rattle.store.proofs.WriterOrder.{same_writer}
 use Rattle.dependencies.proofs.Ordered.{sorted_once}
 use Rattle.dependencies.proofs.ordering.sorted.Goals as goal
 
-pub returns : goal.returns
-returns c = sorted_once _ _ _ c.sort_unstable.ensures.sorted c.sort_unstable.ensures.permutation (c.from_vec.ensures ∙ dedup_is same_writer _ _ c.dedup.ensures.filtered)
+pub returns-clause-ok : goal.returns-clause-ok
+returns-clause-ok c = sorted_once _ _ _ c.in_ok-sort.ensures.sorted c.in_ok-sort.ensures.permutation (c.from_vec.ensures ∙ dedup_is same_writer _ _ c.dedup.ensures.filtered)

@@ -6,8 +6,8 @@ use Rattle.store.proofs.Maps.{each_row, found, not_found}
 use Rattle.store.proofs.Places.{own_at, no_room_missing, on_ok}
 use Rattle.store.proofs.rows.reserve_change.Goals as goal
 
-pub returns-then-not-contains_key-clause-succeeds : goal.returns-then-not-contains_key-clause-succeeds
-returns-then-not-contains_key-clause-succeeds c = λ room.
+pub returns-in-None-clause-succeeds : goal.returns-in-None-clause-succeeds
+returns-in-None-clause-succeeds c = λ room.
     let f = not_found row_cmp no_row c.args.rows.now c.args.change.now.row (search rules) in
     absurd (no_room_missing c.args.rows.now.entries c.args.change.now (search rules) f room)
 
