@@ -41,6 +41,7 @@ impl Subject for Line {
         let words = copies(alloc, words)?;
         match read_words(alloc, words.as_slice())? {
             Asked::Sim(name) => Ok(write!(seen, "{name}")?),
+            Asked::Run { name, workers } => Ok(write!(seen, "{name} by {workers}")?),
             Asked::Serve(serving) => add_server(&serving, seen),
             Asked::Told(told) => add_answer(alloc, &told, seen),
         }

@@ -4,7 +4,7 @@ use crate::showing::text_of;
 use program::{Input, Output};
 use std::io;
 use std::io::{Read, Write};
-use workload::{Task, perform};
+use workload::{InWorld, perform};
 
 /// A script whose transcript has 17 bytes.
 const SCRIPT: &[u8] =
@@ -86,7 +86,7 @@ fn tell_writers(rt: &HostRuntime, out_fails: usize, errors_fail: usize) -> io::R
     let mut input = Input::new(String::from_str(alloc, "script.json")?, Ok(SCRIPT));
     let mut output = Output::new(failing(out_fails));
     let mut errors = Output::new(failing(errors_fail));
-    let status = perform(alloc, &Task::Sim, &mut input, &mut output, &mut errors);
+    let status = perform(alloc, &InWorld, &mut input, &mut output, &mut errors);
     let (out, told) = (text_of(&output.writer.taken), text_of(&errors.writer.taken));
     println!(rt; "fails at {out_fails} and {errors_fail}: {status} {out:?} {told:?}")
 }

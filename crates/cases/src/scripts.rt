@@ -5,7 +5,7 @@ use program::{Input, Output};
 use std::alloc::{AllocError, Global};
 use std::io::Read;
 use std::{fs, io};
-use workload::{Task, perform};
+use workload::{InWorld, perform};
 
 /// The names of the scripts with a transcript.
 const SCRIPTS: [&str; 21] = [
@@ -48,7 +48,7 @@ where
     let mut input = Input::new(String::from_str(alloc, NAME)?, opened);
     let mut output = Output::new(Vec::new(alloc));
     let mut errors = Output::new(Vec::new(alloc));
-    let status = perform(alloc, &Task::Sim, &mut input, &mut output, &mut errors);
+    let status = perform(alloc, &InWorld, &mut input, &mut output, &mut errors);
     Ok((status, output.writer, errors.writer))
 }
 

@@ -7,11 +7,14 @@ use crate::serving::serve;
 use command_line::Asked;
 use logical_time::Fault;
 use program::{Input, Output, tell};
+use running::{Workers, perform_by_threads};
 use std::alloc::Global;
 use std::fs::File;
 use std::io;
 use std::io::{Read, Write};
-use workload::{Task, perform};
+use std::sync::Wait;
+use std::thread::Threads;
+use workload::{InWorld, perform};
 
 // Runs the script in what was opened under this name.
 fn sim<R: Read + Drop, W: Write, E: Write>(
@@ -25,13 +28,35 @@ fn sim<R: Read + Drop, W: Write, E: Write>(
     ensures missing { IsErr opened → TellsUnread E.contents result errors.old errors.new }
 {
     let mut input = Input::new(name, opened);
-    perform(alloc, &Task::Sim, &mut input, output, errors)
+    perform(alloc, &InWorld, &mut input, output, errors)
+}
+
+// Runs the script in what was opened under this name by so many threads.
+fn run<T: Threads + Wait + Sync, R: Read + Drop, W: Write, E: Write>(
+    threads: &T,
+    alloc: Global,
+    workers: u16,
+    name: String,
+    opened: io::Result<R>,
+    output: &mut Output<W>,
+    errors: &mut Output<E>,
+) -> u8
+    ensures ended { IsDone result errors.old errors.new ⊎ HasFailed E.contents result errors.old errors.new }
+    ensures missing { IsErr opened → TellsUnread E.contents result errors.old errors.new }
+{
+    let workers = match Workers::new(usize::from(workers)) {
+        Some(workers) => workers,
+        None => Workers::one(),
+    };
+    let mut script = Input::new(name, opened);
+    perform_by_threads(threads, alloc, &workers, &mut script, output, errors)
 }
 
 /// Does what a command line asks for. Gives the exit status: 0; 1 after a fault was told; 2 for a command line that is
 /// refused.
-pub(crate) fn answer<W: Write, E: Write>(
+pub(crate) fn answer<T: Threads + Wait + Sync, W: Write, E: Write>(
     rt: &HostRuntime,
+    threads: &T,
     asked: Result<Asked, Fault>,
     output: &mut Output<W>,
     errors: &mut Output<E>,
@@ -42,6 +67,10 @@ pub(crate) fn answer<W: Write, E: Write>(
         Ok(Asked::Sim(name)) => {
             let file = File::open(rt, name.as_str());
             sim(rt.alloc(), name, file, output, errors)
+        }
+        Ok(Asked::Run { name, workers }) => {
+            let file = File::open(rt, name.as_str());
+            run(threads, rt.alloc(), workers, name, file, output, errors)
         }
         Ok(Asked::Serve(serving)) => serve(rt, &serving, output, errors),
         Ok(Asked::Told(told)) => told.answer(output, errors),

@@ -1,4 +1,4 @@
-//! Whether two envelopes, or two topologies, are the same: by all that they say, and not by where it lies.
+//! Whether two envelopes, two operations or two topologies are the same: by all that they say, and not by where it lies.
 //!
 //! Each function answers exactly whether the values are equal. Lists of rows are compared row by row, and a body by the
 //! function of its own kind.
@@ -8,8 +8,10 @@ mod bodies;
 mod envelopes;
 mod kinds;
 mod lists;
+mod operations;
 mod rows;
 mod topologies;
 
 pub use envelopes::same_envelope;
+pub use operations::same_op;
 pub use topologies::same_topology;

@@ -1,7 +1,7 @@
 -- How a fault that ends the program is told.
 use Rattle.std.specs.Prelude.{◌≡◌, ℕ, false, List, [], ◌∷◌, ◌++◌, Option, Some, None, IfSome, codes}
 use Rattle.logical_time.specs.declared.fault.Fault.{Fault}
-use Rattle.logical_time.specs.declared.fault.Fault.TheVariants.{ClockSpent, Memory, Script, ReadFailed, WriteFailed}
+use Rattle.logical_time.specs.declared.fault.Fault.TheVariants.{ClockSpent, Memory, JournalFull, StrangerEnd, Script, ReadFailed, WriteFailed}
 use Rattle.program.specs.declared.output.Output.{Output}
 use Rattle.program.specs.Lines.{has_end}
 use Rattle.program.specs.Outputs.{Writes}
@@ -10,6 +10,8 @@ use Rattle.program.specs.Outputs.{Writes}
 abbrev pub fault_line : Fault → List ℕ
 fault_line ClockSpent = codes "eiger: fault 22 ClockSpent\n"
 fault_line Memory = codes "eiger: fault 23 Memory\n"
+fault_line JournalFull = codes "eiger: fault 24 JournalFull\n"
+fault_line StrangerEnd = codes "eiger: fault 25 StrangerEnd\n"
 fault_line Script = codes "eiger: fault 35 Script\n"
 fault_line ReadFailed = codes "eiger: fault 36 ReadFailed\n"
 fault_line WriteFailed = codes "eiger: fault 37 WriteFailed\n"

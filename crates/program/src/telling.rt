@@ -15,6 +15,8 @@ fn fault_line(fault: Fault) -> &'static str
     match fault {
         Fault::ClockSpent => "eiger: fault 22 ClockSpent\n",
         Fault::Memory => "eiger: fault 23 Memory\n",
+        Fault::JournalFull => "eiger: fault 24 JournalFull\n",
+        Fault::StrangerEnd => "eiger: fault 25 StrangerEnd\n",
         Fault::Script => "eiger: fault 35 Script\n",
         Fault::ReadFailed => "eiger: fault 36 ReadFailed\n",
         Fault::WriteFailed => "eiger: fault 37 WriteFailed\n",

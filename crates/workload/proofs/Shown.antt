@@ -41,7 +41,7 @@ read_of : (o : Op) (time : ℕ) (answer : List AnsweredRow) → Fits o (outcome.
 read_of (op.Batch batch) time answer h = absurd h
 read_of (op.Read read) time answer h = (read, refl)
 
-shows : (top : TopologyValue) (events : List Event) → 0 < top.shards → (node number time : ℕ) (answer : List AnsweredRow)
+pub shows : (top : TopologyValue) (events : List Event) → 0 < top.shards → (node number time : ℕ) (answer : List AnsweredRow)
     → Contains (map entry_of (run top events).transcript) (entry.Read node number time answer)
     → ShowsOneTable top (run top events) node number time answer
 shows top events some node number time answer has =

@@ -48,13 +48,15 @@ IsRefused bytes _ = ⊥
 abbrev pub AreRead : Option (List ℕ) → List ℕ → Type 0
 AreRead known bytes = IfSome known (λ left. bytes ≡ left)
 
-module _ {R W E : Type 0} (remaining : R → Option (List ℕ)) (contents : W → Option (List ℕ)) (written : E → Option (List ℕ)) where
-  -- the text for the bytes that were read is written, and nothing is told
+-- What a task makes of bytes: these are texts for them, and they may be refused for this.
+module _ (is_text : List ℕ → List ℕ → Type 0) (is_refused : List ℕ → Fault → Type 0)
+    {R W E : Type 0} (remaining : R → Option (List ℕ)) (contents : W → Option (List ℕ)) (written : E → Option (List ℕ)) where
+  -- a text for the bytes that were read is written, and nothing is told
   pub record Prints (input : Input R) (old new : Output W) (told told' : Output E) : Type 0 where
     pub bytes : List ℕ
     pub text : List ℕ
     pub are_read : AreRead (bytes_left remaining input) bytes
-    pub is_text : IsTextFor bytes text
+    pub text_for : is_text bytes text
     pub is_written : Appends (contents old.writer) (contents new.writer) text
     pub nothing_told : told' ≡ told
 
@@ -62,25 +64,24 @@ module _ {R W E : Type 0} (remaining : R → Option (List ℕ)) (contents : W �
   pub record Refuses (input : Input R) (old new : Output W) (e : Fault) : Type 0 where
     pub bytes : List ℕ
     pub are_read : AreRead (bytes_left remaining input) bytes
-    pub is_refused : IsRefused bytes e
+    pub refused : is_refused bytes e
     pub nothing_written : new ≡ old
 
-  -- the output has failed after a beginning of the text for the bytes that were read
+  -- the output has failed after a beginning of a text for the bytes that were read
   pub record IsCutShort (input : Input R) (old new : Output W) : Type 0 where
     pub bytes : List ℕ
     pub text : List ℕ
     pub are_read : AreRead (bytes_left remaining input) bytes
-    pub is_text : IsTextFor bytes text
+    pub text_for : is_text bytes text
     pub fails : FailsWriting contents old new text
 
   -- why a run ends with a fault, and what is written then
   abbrev pub EndsBy : Fault → Input R → Input R → Output W → Output W → Type 0
-  EndsBy NoScript input input' old new = Refuses input old new NoScript
-  EndsBy ClockSpent input input' old new = Refuses input old new ClockSpent
-  EndsBy Memory input input' old new = new ≡ old
-  EndsBy ReadFailed input input' old new = IsSome input'.failure × (new ≡ old)
-  EndsBy WriteFailed input input' old new = IsCutShort input old new
-  EndsBy _ input input' old new = ⊥
+  EndsBy e input input' old new =
+      Refuses input old new e
+      ⊎ ((e ≡ Memory) × (new ≡ old))
+      ⊎ ((e ≡ ReadFailed) × IsSome input'.failure × (new ≡ old))
+      ⊎ ((e ≡ WriteFailed) × IsCutShort input old new)
 
   -- it ends with a fault, for its cause, and tells it
   pub record Ends (input input' : Input R) (old new : Output W) (told told' : Output E) : Type 0 where

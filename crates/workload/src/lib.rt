@@ -15,7 +15,7 @@ mod transcript;
 mod wrong;
 
 pub use draining::drain;
-pub use performing::{Task, perform, sim};
+pub use performing::{InWorld, Task, explain, perform, sim};
 pub use reading::read_script;
 pub use script::{Event, Events, Script};
 pub use simulating::simulate;

@@ -1,5 +1,6 @@
 //! The program, over any reader and writers.
-ghost use Rattle.std.specs.Prelude.{◌≡◌, ◌⊎◌, IsSome, IfOk, IfErr};
+ghost use Rattle.std.specs.Prelude.{◌≡◌, ◌⊎◌, ℕ, List, IsSome, IfOk, IfErr};
+ghost use Rattle.logical_time.specs.declared.fault.Fault.{Fault as Refusal};
 ghost use Rattle.workload.specs.Performing.{IsTextFor, IsRefused, Prints, Ends, TellsUnread};
 
 use crate::explaining;
@@ -17,11 +18,39 @@ use std::io::{Read, Write};
 use std::str;
 use world::World;
 
-/// What the program is asked to do.
+/// What the program is asked to make of its input.
+pub trait Task {
+    /// When a text is one for these bytes.
+    ghost is_text: { List ℕ → List ℕ → Type 0 };
+
+    /// When bytes may be refused with a fault.
+    ghost is_refused: { List ℕ → Refusal → Type 0 };
+
+    /// A text for the bytes. May wait, where the task holds a handle for that.
+    fn text(&self, alloc: Global, input: &[u8]) -> Result<Vec<u8>, Fault>
+        ensures text { IfOk result (λ text. is_text input.now text.items) }
+        ensures refused { IfErr result (is_refused input.now) };
+
+    /// What people need to know of such a refusal, if more can be said.
+    fn explain(&self, alloc: Global, input: &[u8], fault: Fault) -> Option<String>;
+}
+
+/// Runs a script in a world, and tells its transcript.
 #[derive(Clone, Copy)]
-pub enum Task {
-    /// Reads a script, runs it and writes its transcript.
-    Sim,
+pub struct InWorld;
+
+impl Task for InWorld {
+    ghost is_text = { IsTextFor };
+
+    ghost is_refused = { IsRefused };
+
+    fn text(&self, alloc: Global, input: &[u8]) -> Result<Vec<u8>, Fault> {
+        sim(alloc, input)
+    }
+
+    fn explain(&self, alloc: Global, input: &[u8], fault: Fault) -> Option<String> {
+        explain(alloc, input, fault)
+    }
 }
 
 /// The text of the transcript of the script that the bytes spell. Refused with `Script` where they spell none, or where a
@@ -65,8 +94,8 @@ fn explain_end(alloc: Global, script: &Script) -> Option<String> {
     format!(in alloc; "events[{place}]: {why}").ok()
 }
 
-// What people need to know of a fault of these bytes.
-fn explain(alloc: Global, input: &[u8], fault: Fault) -> Option<String> {
+/// What people need to know of a fault of these bytes as a script, if more can be said.
+pub fn explain(alloc: Global, input: &[u8], fault: Fault) -> Option<String> {
     if fault == Fault::Memory {
         return None;
     }
@@ -92,17 +121,20 @@ fn line<D: Display + Drop>(alloc: Global, name: &str, said: Option<D>) -> Option
     Line::new(format!(in alloc; "{name}: {said}").ok()?)
 }
 
-// Does the task of a run.
-fn run_sim<R: Read, W: Write, E: Write>(
+/// Does a task, and may wait as that does: reads all that the input has left, and writes the answer. Gives the status of the program: 0, or 1 after a
+/// fault was told: `ReadFailed` where the input failed, what the task refuses, `Memory`, or `WriteFailed` where the output
+/// failed. Only after the last may something be written, a beginning of the answer.
+pub fn perform<T: Task, R: Read, W: Write, E: Write>(
     alloc: Global,
+    task: &T,
     input: &mut Input<R>,
     output: &mut Output<W>,
     errors: &mut Output<E>,
 ) -> u8
     ensures status { (result ≡ 0) ⊎ (result ≡ 1) }
-    ensures printed { result ≡ 0 → Prints R.remaining W.contents E.contents input.old output.old output.new errors.old errors.new }
+    ensures printed { result ≡ 0 → Prints T.is_text T.is_refused R.remaining W.contents E.contents input.old output.old output.new errors.old errors.new }
     ensures unread { IsSome input.old.failure → TellsUnread E.contents result errors.old errors.new }
-    ensures ended { result ≡ 1 → Ends R.remaining W.contents E.contents input.old input.new output.old output.new errors.old errors.new }
+    ensures ended { result ≡ 1 → Ends T.is_text T.is_refused R.remaining W.contents E.contents input.old input.new output.old output.new errors.old errors.new }
 {
     let bytes = match input.read_all(alloc) {
         Ok(bytes) => bytes,
@@ -111,36 +143,19 @@ fn run_sim<R: Read, W: Write, E: Write>(
             return tell(errors, fault, more);
         }
     };
-    let text = match sim(alloc, &bytes) {
+    let text = match task.text(alloc, &bytes) {
         Ok(text) => text,
         Err(fault) => {
-            let more = line(alloc, input.name.as_str(), explain(alloc, &bytes, fault));
+            let more = line(
+                alloc,
+                input.name.as_str(),
+                task.explain(alloc, &bytes, fault),
+            );
             return tell(errors, fault, more);
         }
     };
     match output.write_all(&text) {
         Ok(()) => 0,
         Err(fault) => tell(errors, fault, line(alloc, "the output", output.failure)),
-    }
-}
-
-/// Does a task: reads all that the input has left, and writes the answer. Gives the status of the program: 0, or 1 after a
-/// fault was told: `ReadFailed` where the input failed, `Script` where the bytes spell no script or a message that was not
-/// sent is to be delivered, `ClockSpent`, `Memory`, or `WriteFailed` where the output failed. Only after the last may
-/// something be written, a beginning of the transcript.
-pub fn perform<R: Read, W: Write, E: Write>(
-    alloc: Global,
-    task: &Task,
-    input: &mut Input<R>,
-    output: &mut Output<W>,
-    errors: &mut Output<E>,
-) -> u8
-    ensures status { (result ≡ 0) ⊎ (result ≡ 1) }
-    ensures printed { result ≡ 0 → Prints R.remaining W.contents E.contents input.old output.old output.new errors.old errors.new }
-    ensures unread { IsSome input.old.failure → TellsUnread E.contents result errors.old errors.new }
-    ensures ended { result ≡ 1 → Ends R.remaining W.contents E.contents input.old input.new output.old output.new errors.old errors.new }
-{
-    match task {
-        Task::Sim => run_sim(alloc, input, output, errors),
     }
 }

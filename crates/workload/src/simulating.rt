@@ -11,32 +11,9 @@ use crate::draining::drain;
 use crate::script::{Event, Script};
 use crate::transcript::{Entry, Transcript};
 use logical_time::{Fault, Node, Time};
-use messages::{Op, Outcome};
+use messages::Op;
 use std::alloc::Global;
 use world::{Completed, World};
-
-// An operation that ended, as an entry.
-fn entry(completed: &Completed) -> Result<Entry, Fault>
-    ensures ok { IfOk result (λ e. e ≡ entry_of completed.now) }
-    ensures memory { IfErr result (λ e. e ≡ Fault.Memory) }
-{
-    let (node, number) = (completed.node, completed.number);
-    match completed.outcome.copied()? {
-        Outcome::Wrote { commit, stamp } => Ok(Entry::Wrote {
-            node,
-            number,
-            commit,
-            stamp,
-        }),
-        Outcome::Read { effective, answer } => Ok(Entry::Read {
-            node,
-            number,
-            effective,
-            answer,
-        }),
-        Outcome::Collected => Ok(Entry::Collected { node, number }),
-    }
-}
 
 // The operations that ended are told.
 fn tell(ended: &[Completed], transcript: &mut Transcript) -> Result<(), Fault>
@@ -44,7 +21,8 @@ fn tell(ended: &[Completed], transcript: &mut Transcript) -> Result<(), Fault>
     ensures memory { IfErr result (λ e. e ≡ Fault.Memory) }
 {
     for completed in ended {
-        transcript.push(entry(completed)?)?;
+        let entry = Entry::ended(completed.node, completed.number, &completed.outcome)?;
+        transcript.push(entry)?;
     }
     Ok(())
 }

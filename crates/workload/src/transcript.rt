@@ -2,6 +2,7 @@
 ghost use Rattle.std.specs.Prelude.{◌≡◌, ◌++◌, [], ◌∷◌, OnOk, OnErr, IfErr};
 
 use logical_time::{Fault, Node, Stamp, Time};
+use messages::Outcome;
 use slice::Answer;
 use std::alloc::{AllocFailed, Global};
 use std::marker::Model;
@@ -45,6 +46,33 @@ pub enum Entry {
         /// Why.
         fault: Fault,
     },
+}
+
+impl Entry {
+    ghost use Rattle.std.specs.Prelude.{◌≡◌, IfOk, IfErr};
+    ghost use Rattle.workload.specs.Simulation.{entry_by};
+
+    /// The entry of an operation of a session that ended so. Refused with `Memory` alone.
+    pub fn ended(node: Node, number: u64, outcome: &Outcome) -> Result<Entry, Fault>
+        ensures ok { IfOk result (λ e. e ≡ entry_by node number outcome.now) }
+        ensures memory { IfErr result (λ e. e ≡ Fault.Memory) }
+    {
+        match outcome.copied()? {
+            Outcome::Wrote { commit, stamp } => Ok(Entry::Wrote {
+                node,
+                number,
+                commit,
+                stamp,
+            }),
+            Outcome::Read { effective, answer } => Ok(Entry::Read {
+                node,
+                number,
+                effective,
+                answer,
+            }),
+            Outcome::Collected => Ok(Entry::Collected { node, number }),
+        }
+    }
 }
 
 /// The transcript of a script: its entries in the order of completion or refusal.

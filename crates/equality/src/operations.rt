@@ -1,0 +1,37 @@
+//! Operations.
+ghost use Rattle.std.specs.Prelude.{◌≡◌, ◌↔◌, true};
+ghost use Rattle.messages.specs.declared.op.Op.TheVariants as op;
+
+use crate::lists::same_batch;
+use crate::rows::same_read;
+use column_family::Batch;
+use messages::Op;
+use slice::Read;
+
+fn is_batch(b: &Op, batch: &Batch) -> bool
+    ensures { (result ≡ true) ↔ (b.now ≡ op.Batch batch.now) }
+{
+    match b {
+        Op::Batch(its_batch) => same_batch(its_batch, batch),
+        Op::Read(_) => false,
+    }
+}
+
+fn is_read(b: &Op, read: &Read) -> bool
+    ensures { (result ≡ true) ↔ (b.now ≡ op.Read read.now) }
+{
+    match b {
+        Op::Batch(_) => false,
+        Op::Read(its_read) => same_read(its_read, read),
+    }
+}
+
+/// Whether two operations ask the same. Costs what they are long.
+pub fn same_op(a: &Op, b: &Op) -> bool
+    ensures { (result ≡ true) ↔ (a.now ≡ b.now) }
+{
+    match a {
+        Op::Batch(batch) => is_batch(b, batch),
+        Op::Read(read) => is_read(b, read),
+    }
+}

@@ -1,0 +1,4 @@
+pub mod ToldMore
+pub mod AskedMore
+pub mod Faulty
+pub mod Shown

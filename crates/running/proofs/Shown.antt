@@ -1,0 +1,175 @@
+-- What is told of sessions is what the run has of them.
+use Rattle.std.proofs.Common.{◌≡◌, ◌∙◌, ℕ, zero, suc, ◌+◌, ◌<◌, ◌≤◌, Bool, true, false, cond, List, [], ◌∷◌, ◌++◌, map, length, take, Option, Some, None, inl, inr, refl, sym, ap, subst, arith}
+use Rattle.std.specs.Prelude.{filter, flat_map, ◌==◌, All, Contains}
+use Rattle.std.specs.List.{range_with_len}
+use Rattle.std.proofs.lemmas.Bool.Decides.{nat_tests}
+use Rattle.std.proofs.lemmas.List.Elements.{filter-append}
+use Rattle.logical_time.specs.declared.fault.Fault.{Fault}
+use Rattle.slice.specs.declared.read.AnsweredRow.{AnsweredRow}
+use Rattle.messages.specs.declared.outcome.Outcome.{Outcome}
+use Rattle.messages.specs.declared.outcome.Outcome.TheVariants as outcome
+use Rattle.messages.specs.Topology.{TopologyValue, is_topology, shard_count, node_count, session_node}
+use Rattle.messages.specs.Session.{Finished}
+use Rattle.actors.specs.Seats.{SeatValue}
+use Rattle.actors.specs.Resting.{IsResting}
+use Rattle.world.specs.declared.completed.Completed.{Completed}
+use Rattle.world.specs.Run.{run}
+use Rattle.world.specs.World.{WorldValue, run_of}
+use Rattle.world.specs.Journals.{finished_as, ended_at}
+use Rattle.world.proofs.Among.{Among, among_append, among_contains, contains_among, filter_among, filter_only, map_among, map_only}
+use Rattle.threaded.specs.Machines.{as_finished}
+use Rattle.threaded.specs.OneRun.{seat_of}
+use Rattle.threaded.specs.Concluded.{AreConcluded, by_session}
+use Rattle.workload.specs.declared.script.Script.{Script}
+use Rattle.workload.specs.declared.transcript.Entry.{Entry}
+use Rattle.workload.specs.declared.transcript.Entry.TheVariants as entry
+use Rattle.workload.specs.Simulation.{entry_by, entry_of, is_outcome, ShowsOneTable}
+use Rattle.workload.proofs.Shown.{shows}
+use Rattle.running.specs.Asked.{asked_of, HasTaken}
+use Rattle.running.specs.Told.{count_before, refusal_by, told_before, left_after, told_by, told_at, told_of}
+use Rattle.running.specs.Running.{IsThreadTranscriptOf}
+
+-- ## One session
+
+module _ (node : ℕ) where
+  abbrev entry_in : (ℕ × Outcome) → Entry
+  entry_in o = entry_by node o.0 o.1
+
+  is_one : (number : ℕ) (o : Outcome) → is_outcome (entry_by node number o) ≡ true
+  is_one number (outcome.Wrote commit stamp) = refl
+  is_one number (outcome.Read time answer) = refl
+  is_one number outcome.Collected = refl
+
+  no_outcome : (rs : List (ℕ × Fault)) → filter is_outcome (map (refusal_by node) rs) ≡ []
+  no_outcome [] = refl
+  no_outcome (r ∷ rs) = no_outcome rs
+
+  outcomes_told : (os : List (ℕ × Outcome)) (rs : List (ℕ × Fault)) → filter is_outcome (told_by node os rs) ≡ map entry_in os
+  outcomes_told [] rs = no_outcome rs
+  outcomes_told (o ∷ os) rs =
+      let rest = told_by node os (left_after o.0 rs) in
+      filter-append is_outcome (told_before node o.0 rs) (entry_in o ∷ rest)
+      ∙ ap (λ l. l ++ filter is_outcome (entry_in o ∷ rest)) (no_outcome (take (count_before o.0 rs) rs))
+      ∙ ap (λ b. cond b (entry_in o ∷ filter is_outcome rest) (filter is_outcome rest)) (is_one o.0 o.1)
+      ∙ ap (λ l. entry_in o ∷ l) (outcomes_told os (left_after o.0 rs))
+
+  abbrev entry_as : Finished → Entry
+  entry_as f = entry_by node f.number f.outcome
+
+  as_entries : (os : List (ℕ × Outcome)) → map entry_as (map as_finished os) ≡ map entry_in os
+  as_entries [] = refl
+  as_entries (o ∷ os) = ap (λ l. entry_in o ∷ l) (as_entries os)
+
+  of_this : (c : Completed) → (c.node == node) ≡ true → entry_as (finished_as c) ≡ entry_of c
+  of_this c is = let same : c.node ≡ node = grind (arith, nat_tests) in ap (λ n. entry_by n c.number c.outcome) (sym same)
+
+  entries_at : (cs : List Completed) → map entry_as (map finished_as (filter (λ (c : Completed). c.node == node) cs)) ≡ map entry_of (filter (λ (c : Completed). c.node == node) cs)
+  entries_at [] = refl
+  entries_at (c ∷ cs) = by (entries_at cs) (c.node == node) refl
+    where
+      kept : List Completed
+      kept = filter (λ (d : Completed). d.node == node) cs
+
+      by : map entry_as (map finished_as (filter (λ (d : Completed). d.node == node) cs)) ≡ map entry_of (filter (λ (d : Completed). d.node == node) cs) → (b : Bool)
+          → (c.node == node) ≡ b → map entry_as (map finished_as (cond (c.node == node) (c ∷ kept) kept)) ≡ map entry_of (cond (c.node == node) (c ∷ kept) kept)
+      by rest true q =
+          ap (λ b. map entry_as (map finished_as (cond b (c ∷ kept) kept))) q ∙ ap (λ e. e ∷ map entry_as (map finished_as kept)) (of_this c q)
+          ∙ ap (λ l. entry_of c ∷ l) rest ∙ ap (λ b. map entry_of (cond b (c ∷ kept) kept)) (sym q)
+      by rest false q = ap (λ b. map entry_as (map finished_as (cond b (c ∷ kept) kept))) q ∙ rest ∙ ap (λ b. map entry_of (cond b (c ∷ kept) kept)) (sym q)
+
+-- what is told of a session with a seat
+seat_told : (node : ℕ) (transcript : List Completed) (s : SeatValue)
+    → map as_finished s.outcomes ≡ map finished_as (filter (λ (c : Completed). c.node == node) transcript)
+    → filter is_outcome (told_at node (Some s)) ≡ map entry_of (filter (λ (c : Completed). c.node == node) transcript)
+seat_told node transcript s same =
+    outcomes_told node s.outcomes s.refusals ∙ sym (as_entries node s.outcomes) ∙ ap (λ (l : List Finished). map (entry_as node) l) same ∙ entries_at node transcript
+
+-- ## All sessions
+
+map_append : {Y Z : Type 0} (g : Y → Z) (xs ys : List Y) → map g (xs ++ ys) ≡ map g xs ++ map g ys
+map_append g [] ys = refl
+map_append g (x ∷ xs) ys = ap (λ l. g x ∷ l) (map_append g xs ys)
+
+module _ {X Y : Type 0} where
+  filter_flat : (p : Y → Bool) (f : X → List Y) (xs : List X) → filter p (flat_map f xs) ≡ flat_map (λ x. filter p (f x)) xs
+  filter_flat p f [] = refl
+  filter_flat p f (x ∷ xs) = filter-append p (f x) (flat_map f xs) ∙ ap (λ l. filter p (f x) ++ l) (filter_flat p f xs)
+
+  map_flat : {Z : Type 0} (g : Y → Z) (f : X → List Y) (xs : List X) → map g (flat_map f xs) ≡ flat_map (λ x. map g (f x)) xs
+  map_flat g f [] = refl
+  map_flat g f (x ∷ xs) = map_append g (f x) (flat_map f xs) ∙ ap (λ l. map g (f x) ++ l) (map_flat g f xs)
+
+  among_flat : (f : X → List Y) (xs : List X) (y : Y) → Among y (flat_map f xs) → (x : X) × Among y (f x)
+  among_flat f [] y m = absurd m
+  among_flat f (x ∷ xs) y m = elim (among_append y (f x) (flat_map f xs) m) [ inl here ↦ (x, here) | inr later ↦ among_flat f xs y later ]
+
+flat_same : {Y : Type 0} (f g : ℕ → List Y) (start n : ℕ) → ((i : ℕ) → i < start + n → f i ≡ g i) → flat_map f (range_with_len start n) ≡ flat_map g (range_with_len start n)
+flat_same f g start zero same = refl
+flat_same f g start (suc n) same =
+    ap (λ l. l ++ flat_map f (range_with_len (start + 1) n)) (same start (omega arith))
+    ∙ ap (λ l. g start ++ l) (flat_same f g (start + 1) n (λ i lt. same i (omega (arith, lt))))
+
+pub all_outcomes : (seats : List SeatValue) (w : WorldValue) → AreConcluded seats w
+    → filter is_outcome (told_of w.top seats) ≡ map entry_of (by_session w.top (run_of w).transcript)
+all_outcomes seats w are =
+    filter_flat is_outcome (λ i. told_at (session_node w.top i) (seat_of seats (session_node w.top i))) sessions
+    ∙ flat_same
+    (λ i. filter is_outcome (told_at (session_node w.top i) (seat_of seats (session_node w.top i))))
+    (λ i. map entry_of (filter (λ (c : Completed). c.node == session_node w.top i) (run_of w).transcript))
+    0 (length w.top.homes) each
+    ∙ sym (map_flat entry_of (λ i. filter (λ (c : Completed). c.node == session_node w.top i) (run_of w).transcript) sessions)
+  where
+    sessions : List ℕ
+    sessions = range_with_len 0 (length w.top.homes)
+
+    each : (i : ℕ) → i < 0 + length w.top.homes
+        → filter is_outcome (told_at (session_node w.top i) (seat_of seats (session_node w.top i)))
+        ≡ map entry_of (filter (λ (c : Completed). c.node == session_node w.top i) (run_of w).transcript)
+    each i lt =
+        let node = session_node w.top i in
+        let below : node < node_count w.top = omega (arith, lt) in
+        let seat = are.are.each node below in
+        ap (λ o. filter is_outcome (told_at node o)) seat.1
+        ∙ seat_told node (run_of w).transcript seat.0 (are.outcomes node seat.0 below seat.1)
+
+-- a topology has a node
+pub some_seats : (top : TopologyValue) (homes : List ℕ) (n : ℕ) → n ≡ node_count top → homes ≡ top.homes → 1 ≤ length homes → 0 < n
+some_seats top homes n is same le =
+    let l : 1 ≤ length top.homes = subst (λ (h : List ℕ). 1 ≤ length h) same le in
+    let k : n ≡ shard_count top + length top.homes = is in
+    omega (arith, l, k)
+
+some_shards : (top : TopologyValue) → is_topology top.dcs top.shards top.homes ≡ true → 0 < top.shards
+some_shards top sound = grind (arith, nat_tests)
+
+pub is_transcript : (s : Script) (entries : List Entry) (seats : List SeatValue) (w : WorldValue) → w.top ≡ s.topology → AreConcluded seats w
+    → All IsResting seats
+    → ((node : ℕ) (seat : SeatValue) → node < node_count s.topology → seat_of seats node ≡ Some seat → HasTaken s.topology (asked_of s node) seat)
+    → entries ≡ told_of w.top seats → IsThreadTranscriptOf s entries
+is_transcript s entries seats w same are resting taken told =
+    record {
+      seats = seats;
+      world = w;
+      actors = same;
+      concluded = are;
+      resting = resting;
+      taken = taken;
+      told = told ∙ ap (λ t. told_of t seats) same;
+      outcomes = outcomes ∙ ap (λ t. map entry_of (by_session t (run_of w).transcript)) same;
+      reads = λ node number time answer has. subst (λ t. ShowsOneTable t (run_of w) node number time answer) same (read node number time answer has);
+    }
+  where
+    outcomes : filter is_outcome entries ≡ map entry_of (by_session w.top (run_of w).transcript)
+    outcomes = ap (filter is_outcome) told ∙ all_outcomes seats w are
+
+    read : (node number time : ℕ) (answer : List AnsweredRow) → Contains entries (entry.Read node number time answer)
+        → ShowsOneTable w.top (run_of w) node number time answer
+    read node number time answer has =
+        let e = entry.Read node number time answer in
+        let here : Among e (filter is_outcome entries) = filter_among is_outcome entries e (contains_among _ _ has) refl in
+        let there : Among e (map entry_of (by_session w.top (run_of w).transcript)) = subst (λ l. Among e l) outcomes here in
+        let (c, listed, is) = map_only entry_of (by_session w.top (run_of w).transcript) e there in
+        let (i, among) = among_flat (λ i. filter (λ (d : Completed). d.node == session_node w.top i) (run_of w).transcript) (range_with_len 0 (length w.top.homes)) c listed in
+        let in_all : Among c (run_of w).transcript = (filter_only (λ (d : Completed). d.node == session_node w.top i) (run_of w).transcript c among).0 in
+        let back : Among e (map entry_of (run_of w).transcript) = subst (λ x. Among x (map entry_of (run_of w).transcript)) (sym is) (map_among entry_of (run_of w).transcript c in_all) in
+        shows w.top w.events (some_shards w.top are.are.sound) node number time answer (among_contains _ _ back)

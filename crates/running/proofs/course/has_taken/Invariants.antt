@@ -1,0 +1,10 @@
+use Rattle.std.proofs.Common.{take}
+use Rattle.running.specs.Asked.{asked_in}
+use Rattle.running.specs.Course.{IsWithin, HasCome}
+use Rattle.running.proofs.course.has_taken.Given as goal
+
+abbrev pub invariant-loop-place : goal.invariant-loop-place
+invariant-loop-place l = record {
+  within : IsWithin l.seat l.course;
+  come : HasCome l.script.topology l.seat l.course (asked_in l.node (take l.place l.script.events));
+}

@@ -1,0 +1,7 @@
+use Rattle.std.proofs.Common.{◌≡◌, drop}
+use Rattle.running.specs.Faults.{first_fault}
+use Rattle.running.proofs.running_seats.check.Given as goal
+
+-- none of those before ended with a fault
+abbrev pub invariant-loop-place : goal.invariant-loop-place
+invariant-loop-place l = first_fault l.shifts ≡ first_fault (drop l.place l.shifts)

@@ -1,0 +1,6 @@
+pub mod Asked
+pub mod Course
+pub mod Told
+pub mod Faults
+pub mod Running
+pub mod Performing

@@ -1,0 +1,19 @@
+//! Scripts that threads run: each actor has its part of the script as the backlog of its seat, a pool of workers goes round
+//! the seats, and what they did is concluded to a run and told.
+//!
+//! `specs/Running.antt` says what is told. No lock says what a seat was given; so each journal is compared with what the
+//! script asks of its actor, and what is told stands on that.
+#![tactic(auto)]
+
+mod asking;
+mod course;
+mod performing;
+mod running_seats;
+mod scripts;
+mod seats;
+mod telling;
+mod workers;
+
+pub use performing::{perform_by_threads, text_by_threads};
+pub use scripts::run;
+pub use workers::Workers;

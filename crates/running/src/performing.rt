@@ -1,0 +1,90 @@
+//! The program, where threads run the script.
+ghost use Rattle.std.specs.Prelude.{◌≡◌, ◌⊎◌, IsSome, IfOk, IfErr};
+ghost use Rattle.workload.specs.Performing.{Prints, Ends, TellsUnread};
+ghost use Rattle.running.specs.Performing.{IsThreadTextFor, IsThreadRefused};
+
+use crate::scripts::run;
+use crate::workers::Workers;
+use logical_time::Fault;
+use program::{Input, Line, Output, tell};
+use std::alloc::Global;
+use std::fmt::Display;
+use std::io::{Read, Write};
+use std::str;
+use std::sync::Wait;
+use std::thread::Threads;
+use workload::{explain, read_script, transcript_text};
+
+/// The text of what threads make of the script that the bytes spell. Waits for locks. Refused with `Script` where they spell
+/// none, and as `run` is.
+pub fn text_by_threads<T: Threads + Wait + Sync>(
+    rt: &T,
+    alloc: Global,
+    workers: &Workers,
+    input: &[u8],
+) -> Result<Vec<u8>, Fault>
+    ensures text { IfOk result (λ text. IsThreadTextFor input.now text.items) }
+    ensures refused { IfErr result (IsThreadRefused input.now) }
+{
+    let Ok(text) = str::from_utf8(input) else {
+        return Err(Fault::Script);
+    };
+    let script = read_script(alloc, text)?;
+    let transcript = run(rt, alloc, &script, workers)?;
+    transcript_text(alloc, &transcript)
+}
+
+// What people need to know of a fault of such a run.
+fn why(alloc: Global, input: &[u8], fault: Fault) -> Option<String> {
+    let said = match fault {
+        Fault::Script => return explain(alloc, input, fault),
+        Fault::ClockSpent => "no time is left for the clock",
+        Fault::JournalFull => "the journal of an actor is full",
+        Fault::StrangerEnd => "what was done is no run of the script",
+        _ => return None,
+    };
+    String::from_str(alloc, said).ok()
+}
+
+// What is said of the input or the output of this name.
+fn line<D: Display + Drop>(alloc: Global, name: &str, said: Option<D>) -> Option<Line> {
+    let said = said?;
+    Line::new(format!(in alloc; "{name}: {said}").ok()?)
+}
+
+/// Reads a script, has so many workers run it, and writes what came of it, as `perform` of `workload` does for a run in a world;
+/// waits for locks. Gives the status of the program: 0, or 1 after a fault was told: `ReadFailed` where the input failed, as
+/// `text_by_threads` is refused, `Memory`, or `WriteFailed` where the output failed. Only after the last may something be
+/// written, a beginning of the transcript.
+pub fn perform_by_threads<T: Threads + Wait + Sync, R: Read, W: Write, E: Write>(
+    rt: &T,
+    alloc: Global,
+    workers: &Workers,
+    input: &mut Input<R>,
+    output: &mut Output<W>,
+    errors: &mut Output<E>,
+) -> u8
+    ensures status { (result ≡ 0) ⊎ (result ≡ 1) }
+    ensures printed { result ≡ 0 → Prints IsThreadTextFor IsThreadRefused R.remaining W.contents E.contents input.old output.old output.new errors.old errors.new }
+    ensures unread { IsSome input.old.failure → TellsUnread E.contents result errors.old errors.new }
+    ensures ended { result ≡ 1 → Ends IsThreadTextFor IsThreadRefused R.remaining W.contents E.contents input.old input.new output.old output.new errors.old errors.new }
+{
+    let bytes = match input.read_all(alloc) {
+        Ok(bytes) => bytes,
+        Err(fault) => {
+            let more = line(alloc, input.name.as_str(), input.failure);
+            return tell(errors, fault, more);
+        }
+    };
+    let text = match text_by_threads(rt, alloc, workers, &bytes) {
+        Ok(text) => text,
+        Err(fault) => {
+            let more = line(alloc, input.name.as_str(), why(alloc, &bytes, fault));
+            return tell(errors, fault, more);
+        }
+    };
+    match output.write_all(&text) {
+        Ok(()) => 0,
+        Err(fault) => tell(errors, fault, line(alloc, "the output", output.failure)),
+    }
+}
