@@ -1,5 +1,4 @@
 pub mod Lists
-pub mod Written
 pub mod Told
 pub mod Refused
 pub mod Shown

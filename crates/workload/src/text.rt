@@ -1,6 +1,7 @@
 //! The texts of transcripts.
-ghost use Rattle.std.specs.Prelude.{◌≡◌, ◌++◌, OnOk, IfOk, IfErr, string_bytes, codes};
+ghost use Rattle.std.specs.Prelude.{◌≡◌, ◌++◌, OnOk, IfOk, IfErr, string_bytes, codes, decimal};
 ghost use Rattle.std.specs.List.{flat_map};
+ghost use Rattle.hex.specs.Hex.{encode_lower};
 ghost use Rattle.workload.specs.Text.{column_text, row_text, op_text, commit_text, answer_text, refusal_text, entry_text, text_of};
 
 use crate::transcript::{Entry, Transcript};
@@ -8,39 +9,53 @@ use logical_time::{Fault, Node, Stamp, Time};
 use slice::{Answer, AnsweredRow, Column};
 use std::alloc::{AllocError, Global};
 
-// ` NAME=VALUE`.
-fn add_column(alloc: Global, text: &mut String, column: &Column) -> Result<(), AllocError>
-    ensures { OnOk result (string_bytes text.new ≡ string_bytes text.old ++ column_text column.now) }
+// Bytes in hexadecimal: two digits for each, which take the place of as many bytes.
+fn add_hex(text: &mut Vec<u8>, bytes: &[u8]) -> Result<(), AllocError>
+    ensures { OnOk result (text.new.items ≡ text.old.items ++ encode_lower bytes.now) }
 {
-    let name = hex::encode(alloc, column.name.as_slice())?;
-    let value = hex::encode(alloc, column.value.as_slice())?;
-    write!(text, " {name}={value}")
+    let start = text.len();
+    text.extend_from_slice(bytes)?;
+    text.extend_from_slice(bytes)?;
+    hex::encode_to_slice(bytes, &mut text.as_mut_slice()[start..]).unwrap();
+    Ok(())
 }
 
-fn add_columns(alloc: Global, text: &mut String, columns: &[Column]) -> Result<(), AllocError>
-    ensures { OnOk result (string_bytes text.new ≡ string_bytes text.old ++ flat_map column_text columns.now) }
+// ` NAME=VALUE`.
+fn add_column(text: &mut Vec<u8>, column: &Column) -> Result<(), AllocError>
+    ensures { OnOk result (text.new.items ≡ text.old.items ++ column_text column.now) }
+{
+    text.push(b' ')?;
+    add_hex(text, column.name.as_slice())?;
+    text.push(b'=')?;
+    add_hex(text, column.value.as_slice())
+}
+
+fn add_columns(text: &mut Vec<u8>, columns: &[Column]) -> Result<(), AllocError>
+    ensures { OnOk result (text.new.items ≡ text.old.items ++ flat_map column_text columns.now) }
 {
     for column in columns {
-        add_column(alloc, text, column)?;
+        add_column(text, column)?;
     }
     Ok(())
 }
 
 // `  KEY:`, then each column.
-fn add_row(alloc: Global, text: &mut String, row: &AnsweredRow) -> Result<(), AllocError>
-    ensures { OnOk result (string_bytes text.new ≡ string_bytes text.old ++ row_text row.now) }
+fn add_row(text: &mut Vec<u8>, row: &AnsweredRow) -> Result<(), AllocError>
+    ensures { OnOk result (text.new.items ≡ text.old.items ++ row_text row.now) }
 {
-    let key = hex::encode(alloc, row.key.as_slice())?;
-    write!(text, "  {key}:")?;
-    add_columns(alloc, text, row.columns.as_slice())?;
-    text.push_str("\n")
+    text.extend_from_slice("  ".as_bytes())?;
+    add_hex(text, row.key.as_slice())?;
+    text.push(b':')?;
+    add_columns(text, row.columns.as_slice())?;
+    text.push(b'\n')?;
+    Ok(())
 }
 
-fn add_rows(alloc: Global, text: &mut String, answer: &Answer) -> Result<(), AllocError>
-    ensures { OnOk result (string_bytes text.new ≡ string_bytes text.old ++ flat_map row_text answer.now) }
+fn add_rows(text: &mut Vec<u8>, answer: &Answer) -> Result<(), AllocError>
+    ensures { OnOk result (text.new.items ≡ text.old.items ++ flat_map row_text answer.now) }
 {
     for row in answer.as_slice() {
-        add_row(alloc, text, row)?;
+        add_row(text, row)?;
     }
     Ok(())
 }
@@ -62,18 +77,12 @@ fn add_commit(text: &mut String, commit: Time, stamp: Stamp) -> Result<(), Alloc
     write!(text, " wrote commit {commit} stamp {time}.{coordinator}\n")
 }
 
-// ` read at T`, and the end of the line; then each row.
-fn add_answer(
-    alloc: Global,
-    text: &mut String,
-    effective: Time,
-    answer: &Answer,
-) -> Result<(), AllocError>
-    ensures { OnOk result (string_bytes text.new ≡ string_bytes text.old ++ answer_text effective answer.now) }
+// ` read at T`, and the end of the line.
+fn add_effective(text: &mut String, effective: Time) -> Result<(), AllocError>
+    ensures { OnOk result (string_bytes text.new ≡ string_bytes text.old ++ (codes " read at " ++ decimal effective ++ codes "\n")) }
 {
     let time = effective.get();
-    write!(text, " read at {time}\n")?;
-    add_rows(alloc, text, answer)
+    write!(text, " read at {time}\n")
 }
 
 // `node N refused R`, and the end of the line.
@@ -84,9 +93,73 @@ fn add_refusal(text: &mut String, node: Node, fault: Fault) -> Result<(), AllocE
     write!(text, "node {node} refused {refusal}\n")
 }
 
+// A write. Its line is put together in the place of what the given one held, as are the lines of the others.
+fn add_wrote(
+    text: &mut Vec<u8>,
+    line: &mut String,
+    node: Node,
+    number: u64,
+    commit: Time,
+    stamp: Stamp,
+) -> Result<(), AllocError>
+    ensures { OnOk result (text.new.items ≡ text.old.items ++ (op_text node number ++ commit_text commit stamp)) }
+{
+    line.clear();
+    add_op(line, node, number)?;
+    add_commit(line, commit, stamp)?;
+    text.extend_from_slice(line.as_bytes())
+}
+
+// A read, with its rows.
+fn add_read(
+    text: &mut Vec<u8>,
+    line: &mut String,
+    node: Node,
+    number: u64,
+    effective: Time,
+    answer: &Answer,
+) -> Result<(), AllocError>
+    ensures { OnOk result (text.new.items ≡ text.old.items ++ (op_text node number ++ answer_text effective answer.now)) }
+{
+    line.clear();
+    add_op(line, node, number)?;
+    add_effective(line, effective)?;
+    text.extend_from_slice(line.as_bytes())?;
+    add_rows(text, answer)
+}
+
+// A read that came too late.
+fn add_collected(
+    text: &mut Vec<u8>,
+    line: &mut String,
+    node: Node,
+    number: u64,
+) -> Result<(), AllocError>
+    ensures { OnOk result (text.new.items ≡ text.old.items ++ (op_text node number ++ codes " collected\n")) }
+{
+    line.clear();
+    add_op(line, node, number)?;
+    line.push_str(" collected\n")?;
+    text.extend_from_slice(line.as_bytes())
+}
+
+// A refusal.
+fn add_refused(
+    text: &mut Vec<u8>,
+    line: &mut String,
+    node: Node,
+    fault: Fault,
+) -> Result<(), AllocError>
+    ensures { OnOk result (text.new.items ≡ text.old.items ++ refusal_text node fault) }
+{
+    line.clear();
+    add_refusal(line, node, fault)?;
+    text.extend_from_slice(line.as_bytes())
+}
+
 // An entry, with the rows of a read.
-fn add_entry(alloc: Global, text: &mut String, entry: &Entry) -> Result<(), AllocError>
-    ensures { OnOk result (string_bytes text.new ≡ string_bytes text.old ++ entry_text entry.now) }
+fn add_entry(text: &mut Vec<u8>, line: &mut String, entry: &Entry) -> Result<(), AllocError>
+    ensures { OnOk result (text.new.items ≡ text.old.items ++ entry_text entry.now) }
 {
     match entry {
         Entry::Wrote {
@@ -94,32 +167,24 @@ fn add_entry(alloc: Global, text: &mut String, entry: &Entry) -> Result<(), Allo
             number,
             commit,
             stamp,
-        } => {
-            add_op(text, *node, *number)?;
-            add_commit(text, *commit, *stamp)
-        }
+        } => add_wrote(text, line, *node, *number, *commit, *stamp),
         Entry::Read {
             node,
             number,
             effective,
             answer,
-        } => {
-            add_op(text, *node, *number)?;
-            add_answer(alloc, text, *effective, answer)
-        }
-        Entry::Collected { node, number } => {
-            add_op(text, *node, *number)?;
-            write!(text, " collected\n")
-        }
-        Entry::Refused { node, fault } => add_refusal(text, *node, *fault),
+        } => add_read(text, line, *node, *number, *effective, answer),
+        Entry::Collected { node, number } => add_collected(text, line, *node, *number),
+        Entry::Refused { node, fault } => add_refused(text, line, *node, *fault),
     }
 }
 
-fn add_entries(alloc: Global, text: &mut String, entries: &[Entry]) -> Result<(), AllocError>
-    ensures { OnOk result (string_bytes text.new ≡ string_bytes text.old ++ text_of entries.now) }
+fn add_entries(alloc: Global, text: &mut Vec<u8>, entries: &[Entry]) -> Result<(), AllocError>
+    ensures { OnOk result (text.new.items ≡ text.old.items ++ text_of entries.now) }
 {
+    let mut line = String::new(alloc);
     for entry in entries {
-        add_entry(alloc, text, entry)?;
+        add_entry(text, &mut line, entry)?;
     }
     Ok(())
 }
@@ -130,7 +195,7 @@ pub fn transcript_text(alloc: Global, transcript: &Transcript) -> Result<Vec<u8>
     ensures ok { IfOk result (λ text. text.items ≡ text_of transcript.now) }
     ensures memory { IfErr result (λ e. e ≡ Fault.Memory) }
 {
-    let mut text = String::new(alloc);
+    let mut text = Vec::new(alloc);
     add_entries(alloc, &mut text, transcript.as_slice())?;
-    Ok(text.into_bytes())
+    Ok(text)
 }
