@@ -1,13 +1,15 @@
 -- A line in memory.
 use Rattle.std.specs.Prelude.{ℕ, List, Bool, Some}
 use Rattle.front.specs.Lines.{LineValue}
+use Rattle.front.specs.declared.memory.Failing.{Failing}
 
--- what was read and what wasn't; what was written; whether the end was told; and how many calls failed
+-- what was read and what wasn't; what was written; whether the end was told; which call is to fail, and how many have failed
 pub record MemoryValue : Type 0 where
   pub heard : List ℕ
   pub unread : List ℕ
   pub said : List ℕ
   pub ended : Bool
+  pub failing : Failing
   pub failures : ℕ
 
 -- as a line, it tells its bytes
