@@ -13,4 +13,5 @@ mod hearing;
 mod kept;
 mod session;
 
+pub use messages::{Op, Outcome};
 pub use session::Session;
