@@ -12,7 +12,7 @@ use Rattle.messages.specs.Clock.{ticked, on_clock}
 use Rattle.messages.specs.Topology.{TopologyValue}
 use Rattle.messages.specs.Words.{in_writer_order}
 use Rattle.messages.specs.Session.{SessionState, SessionStep, is_idle}
-use Rattle.messages.specs.Submitting.{begun, submit_fault, submit_if, session_submit}
+use Rattle.messages.specs.Submitting.{begun, busy_or, plan_fault, submit_fault, submit_if, session_submit}
 use Rattle.client.specs.declared.kept.Kept.{Kept}
 use Rattle.client.specs.Accepted.{fault_of, opened, accepted, posted}
 use Rattle.client.specs.Current.{open_of}
@@ -31,10 +31,12 @@ ticked_some clock time n e lt = go (nat_lt (max clock time + 1) (2 ^ 48)) (grind
     go true h = ap Some (sym e)
     go false h = absurd (cc)
 
-same_fault : (k : Kept) (dcs : ℕ) (homes : List ℕ) (b : Bool) (o : Op) → submit_fault b (kept_in k dcs homes) o ≡ submit_fault b (topology_of k) o
-same_fault k dcs homes false o = refl
-same_fault k dcs homes true (op.Batch batch) = refl
-same_fault k dcs homes true (op.Read read) = refl
+same_plan : (k : Kept) (dcs : ℕ) (homes : List ℕ) (o : Op) → plan_fault (kept_in k dcs homes) o ≡ plan_fault (topology_of k) o
+same_plan k dcs homes (op.Batch batch) = refl
+same_plan k dcs homes (op.Read read) = refl
+
+same_fault : (k : Kept) (dcs : ℕ) (homes : List ℕ) (o : Op) → submit_fault (kept_in k dcs homes) (state_of k) o ≡ submit_fault (topology_of k) (state_of k) o
+same_fault k dcs homes o = ap (busy_or (is_idle (open_of k.current))) (same_plan k dcs homes o)
 
 ordered_kept : (k : Kept) → dependencies_of k ≡ in_writer_order (dependencies_of k ++ [])
 ordered_kept k = sym (ap in_writer_order (append-nil (dependencies_of k)) ∙ ordered_stay (k.dependencies ++ k.added))
@@ -56,7 +58,7 @@ opened_fits k n (op.Read read) = (refl, refl, refl)
 accepts : (k : Kept) (dcs : ℕ) (homes : List ℕ) (n : ℕ) (o : Op) → fault_of k o ≡ None → ticked k.clock k.clock ≡ Some n
     → session_submit (kept_in k dcs homes) k.node (state_of k) o ≡ Ok (begun (kept_in k dcs homes) k.node n (state_of k) o)
 accepts k dcs homes n o allowed time =
-    ap (λ f. submit_if f (kept_in k dcs homes) k.node (state_of k) o) (same_fault k dcs homes (is_idle (open_of k.current)) o ∙ allowed)
+    ap (λ f. submit_if f (kept_in k dcs homes) k.node (state_of k) o) (same_fault k dcs homes o ∙ allowed)
     ∙ ap (λ t. on_clock t (λ m. begun (kept_in k dcs homes) k.node m (state_of k) o)) time
 
 kept_step : (k : Kept) (dcs : ℕ) (homes : List ℕ) (n : ℕ) (o : Op) (before : List Envelope)
@@ -100,7 +102,7 @@ refused_if None (Some n) e x y P Q p q pn qn h = subst (λ r. IsRefusalOf r e) (
 kept_refuses : (k : Kept) (dcs : ℕ) (homes : List ℕ) (o : Op) (e : Fault)
     → IsRefusalOf (session_submit (topology_of k) k.node (state_of k) o) e → IsRefusalOf (session_submit (kept_in k dcs homes) k.node (state_of k) o) e
 kept_refuses k dcs homes o e h =
-    subst (λ f. IsRefusalOf (submit_if f (kept_in k dcs homes) k.node (state_of k) o) e) (sym (same_fault k dcs homes (is_idle (open_of k.current)) o))
+    subst (λ f. IsRefusalOf (submit_if f (kept_in k dcs homes) k.node (state_of k) o) e) (sym (same_fault k dcs homes o))
     (refused_if (fault_of k o) (ticked k.clock k.clock) e (λ n. begun (topology_of k) k.node n (state_of k) o) (λ n. begun (kept_in k dcs homes) k.node n (state_of k) o)
     (λ f. submit_if f (topology_of k) k.node (state_of k) o) (λ f. submit_if f (kept_in k dcs homes) k.node (state_of k) o)
     (λ g. refl) (λ g. refl) refl refl h)
@@ -149,7 +151,7 @@ stands_alike : (k : Kept) (o : Op) (top : TopologyValue) (a : SessionState) → 
 stands_alike k o top a r =
     subst (λ t. Alike (session_submit t k.node a o)) (sym r.topology)
     (subst (λ b. Alike (session_submit (kept_in k top.dcs top.homes) k.node b o)) (sym r.state)
-    (subst (λ f. Alike (submit_if f (kept_in k top.dcs top.homes) k.node (state_of k) o)) (sym (same_fault k top.dcs top.homes (is_idle (open_of k.current)) o))
+    (subst (λ f. Alike (submit_if f (kept_in k top.dcs top.homes) k.node (state_of k) o)) (sym (same_fault k top.dcs top.homes o))
     (ends_alike (fault_of k o) (ticked k.clock k.clock) (λ n. begun (topology_of k) k.node n (state_of k) o) (λ n. begun (kept_in k top.dcs top.homes) k.node n (state_of k) o)
     (λ f. submit_if f (topology_of k) k.node (state_of k) o) (λ f. submit_if f (kept_in k top.dcs top.homes) k.node (state_of k) o)
     (λ g. refl) (λ g. refl) refl refl)))

@@ -6,19 +6,17 @@ use Rattle.messages.specs.declared.op.Op.TheVariants as op
 use Rattle.messages.specs.declared.body.Body.TheVariants as body
 use Rattle.messages.specs.declared.envelope.Envelope.{Envelope}
 use Rattle.messages.specs.Words.{envelope}
-use Rattle.messages.specs.Session.{is_idle}
 use Rattle.messages.specs.Submitting.{home_node, begin_of, prepare_of, share_of, submit_fault}
 use Rattle.messages.specs.Rounds.{asked_nodes}
 use Rattle.planner.specs.Plan.{coordinator_of, cohorts_of, shards_asked}
 use Rattle.client.specs.declared.kept.Kept.{Kept}
 use Rattle.client.specs.declared.current.Current.{Current}
 use Rattle.client.specs.declared.current.Current.TheVariants.{Write, First}
-use Rattle.client.specs.Current.{open_of}
 use Rattle.client.specs.State.{dependencies_of, state_of, topology_of}
 
 -- why an operation is refused before the clock is looked at, if it is
 abbrev pub fault_of : Kept → Op → Option Fault
-fault_of k o = submit_fault (is_idle (open_of k.current)) (topology_of k) o
+fault_of k o = submit_fault (topology_of k) (state_of k) o
 
 -- the operation that is then open
 abbrev pub opened : Kept → Op → Current

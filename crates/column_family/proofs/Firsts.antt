@@ -53,9 +53,9 @@ is_eq-then Greater y = refl
 
 pub row_test : (a b : Row) → is_eq (row_cmp a b) ≡ is_same_row b a
 row_test a b =
-    is_eq-then (slice_cmp nat_cmp a.family b.family) (slice_cmp nat_cmp a.key b.key)
-    ∙ ap (λ (x : Bool). x && is_eq (slice_cmp nat_cmp a.key b.key)) (is_eq-slice_cmp a.family b.family ∙ bytes_eq-flip a.family b.family)
-    ∙ ap (λ (x : Bool). bytes_eq b.family a.family && x) (is_eq-slice_cmp a.key b.key ∙ bytes_eq-flip a.key b.key)
+    is_eq-then (slice_cmp nat_cmp a.key b.key) (slice_cmp nat_cmp a.family b.family)
+    ∙ ap (λ (x : Bool). x && is_eq (slice_cmp nat_cmp a.family b.family)) (is_eq-slice_cmp a.key b.key ∙ bytes_eq-flip a.key b.key)
+    ∙ ap (λ (x : Bool). bytes_eq b.key a.key && x) (is_eq-slice_cmp a.family b.family ∙ bytes_eq-flip a.family b.family)
 
 held_or : (b : Bool) (x d : ℕ) (o : Option ℕ) → unwrap_or (if b then Some x else o) d ≡ (if b then x else unwrap_or o d)
 held_or true x d o = refl

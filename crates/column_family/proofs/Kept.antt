@@ -95,10 +95,10 @@ IsOfOne v = (v None ≡ true) × ((n m : List ℕ) → v (Some n) ≡ true → v
 
 pub one_row : (r s : Row) → is_same_row r s ≡ true → r ≡ s
 one_row r s h =
-    let b = both_true (bytes_eq r.family s.family) (bytes_eq r.key s.key) h in
-    let f = (bytes_eq-Decides r.family s.family).0 b.0 in
-    let k = (bytes_eq-Decides r.key s.key).0 b.1 in
-    λ i. record { family = f i; key = k i }
+    let b = both_true (bytes_eq r.key s.key) (bytes_eq r.family s.family) h in
+    let k = (bytes_eq-Decides r.key s.key).0 b.0 in
+    let f = (bytes_eq-Decides r.family s.family).0 b.1 in
+    λ i. record { key = k i; family = f i }
 
 -- ---- where a place is taken, what stands there passes the test
 taken_passes : (number : Row → ℕ) (n : ℕ) (r : Row) (v : Option (List ℕ) → Bool) → IsNumbering number n → (es : Placed) → AllByRecursion (IsPlaced number n) es → (q : Place) → q.row ≡ number r → v q.column ≡ true → is_taken es q ≡ true → is_some (last_of (concerns r v) (values_of es)) ≡ true
@@ -120,7 +120,7 @@ taken_passes number n r v apart (e ∷ es) all q row passes taken =
     concerned r v c rows passes =
         let f : bytes_eq r.family c.row.family ≡ true = (bytes_eq-Decides r.family c.row.family).1 (ap (λ (s : Row). s.family) (sym rows)) in
         let k : bytes_eq r.key c.row.key ≡ true = (bytes_eq-Decides r.key c.row.key).1 (ap (λ (s : Row). s.key) (sym rows)) in
-        rw (f, k) passes
+        rw (k, f) passes
 
 -- ---- a change that is put at its place
 untaken : (es : Placed) (e : Place × Change) (q : Place) → is_taken (e ∷ es) q ≡ false → (is_eq (place_cmp q e.0) ≡ false) × (is_taken es q ≡ false)

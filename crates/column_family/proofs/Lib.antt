@@ -6,3 +6,4 @@ pub mod Options
 pub mod Order
 pub mod UpTo
 pub mod Joins
+pub mod RowOrder

@@ -37,7 +37,7 @@ row_itself : (r s : Row) → r ≡ s → is_same_row r s ≡ true
 row_itself r s e =
     let f : bytes_eq r.family s.family ≡ true = (bytes_eq-Decides r.family s.family).1 (ap (λ (t : Row). t.family) e) in
     let k : bytes_eq r.key s.key ≡ true = (bytes_eq-Decides r.key s.key).1 (ap (λ (t : Row). t.key) e) in
-    rw f k
+    rw k f
 
 first_apart : (cs : List Change) → IsNumbering (changes_before cs) (length cs)
 first_apart [] r s h e = absurd (omega arith)

@@ -13,7 +13,7 @@ pub record Location : Type 0 where
 
 -- whether both are one row: the same key in the same family
 abbrev pub is_same_row : Row → Row → Bool
-is_same_row r s = bytes_eq r.family s.family && bytes_eq r.key s.key
+is_same_row r s = bytes_eq r.key s.key && bytes_eq r.family s.family
 
 -- whether the mutation inserts or deletes the column of this name
 abbrev pub changes_name : Mutation → List ℕ → Bool

@@ -4,6 +4,7 @@ use Rattle.std.specs.declared.cmp.Ordering.{Ordering}
 use Rattle.std.specs.Ordering.{nat_cmp, is_eq, ordering_then}
 use Rattle.std.specs.Option.{option_cmp}
 use Rattle.std.specs.Cmp.Lexicographic.{slice_cmp}
+use Rattle.std.specs.List.{list_any}
 use Rattle.std.specs.Map.{lookup, values_of}
 use Rattle.std.specs.BTreeMap.{insert_entry}
 use Rattle.column_family.specs.declared.batch.Row.{Row}
@@ -23,9 +24,13 @@ abbrev pub first_from : ℕ → List Change → Row → ℕ → ℕ
 first_from i [] r n = n
 first_from i (c ∷ cs) r n = if is_same_row r c.row then i else first_from (i + 1) cs r n
 
--- rows are ordered by family, then by key
+-- rows are ordered by key, then by family
 abbrev pub row_cmp : Row → Row → Ordering
-row_cmp a b = ordering_then (slice_cmp nat_cmp a.family b.family) (slice_cmp nat_cmp a.key b.key)
+row_cmp a b = ordering_then (slice_cmp nat_cmp a.key b.key) (slice_cmp nat_cmp a.family b.family)
+
+-- whether the row is one of these
+abbrev pub is_listed : List Row → Row → Bool
+is_listed rows r = list_any (λ s. is_eq (row_cmp r s)) rows
 
 -- places are ordered by row, and within a row the row itself stands before its columns
 abbrev pub place_cmp : Place → Place → Ordering

@@ -6,13 +6,13 @@ use logical_time::{Stamp, Time};
 use std::alloc::{AllocError, AllocFailed, Global};
 use std::marker::Model;
 
-/// A row: a key in a column family.
+/// A row: a key in a column family. Two rows are compared by their keys first, in which most differ.
 #[derive(Drop, Clone, PartialEq, Eq, PartialOrd, Ord)]
 pub struct Row {
-    /// The column family.
-    pub family: Family,
     /// The key.
     pub key: Key,
+    /// The column family.
+    pub family: Family,
 }
 
 /// What is done to a row (Cassandra's mutation: an insertion of a column, or a deletion).

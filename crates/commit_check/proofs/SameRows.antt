@@ -13,7 +13,8 @@ use Rattle.pending.specs.Marks.{MarkList}
 use Rattle.messages.specs.declared.rows_at.RowAt.{RowAt}
 use Rattle.messages.specs.declared.rows_now.RowNow.{RowNow}
 use Rattle.messages.specs.Shard.{ShardState, PreparedPart}
-use Rattle.messages.specs.Rows.{row_of, row_now, row_at}
+use Rattle.slice.specs.Rows.{row_of}
+use Rattle.messages.specs.Rows.{row_now, row_at}
 use Rattle.messages.proofs.RowParts.{row_now_shown, row_at_shown}
 use Rattle.commit_check.specs.declared.reading_at.ComingPart.{ComingPart}
 use Rattle.commit_check.specs.Coming.{MayCome, after}

@@ -8,7 +8,7 @@ use Rattle.store.specs.Keeps.{Keeps}
 use Rattle.store.specs.Part.{IsNewestPart, IsRightPart}
 use Rattle.pending.specs.Marks.{MarkList, time_at}
 use Rattle.messages.specs.declared.rows_now.RowNow.{RowNow}
-use Rattle.messages.specs.Rows.{row_of}
+use Rattle.slice.specs.Rows.{row_of}
 use Rattle.commit_check.specs.declared.reading_at.ComingPart.{ComingPart}
 use Rattle.commit_check.specs.Coming.{applied_after, MayCome}
 use Rattle.commit_check.specs.Marked.{IsLatest}

@@ -10,7 +10,6 @@ ghost use Rattle.messages.specs.Reads.{at_time};
 ghost use Rattle.commit_check.specs.Coming.{MayCome, after};
 ghost use Rattle.commit_check.specs.Found.{IsFoundAt};
 
-use crate::row::row_of;
 use column_family::{Batch, Key};
 use logical_time::{Fault, Stamp, Time, Writer};
 use messages::{AtTime, RowAt, RowsAt};
@@ -43,7 +42,7 @@ fn found_at(
     ensures ok { IfOk result (IsFoundAt store.now (option_copied coming.entry) time read.now key.now) }
     ensures memory { IfErr result (λ e. e ≡ fault.Memory) }
 {
-    let row = row_of(read, key)?;
+    let row = read.row_of(key)?;
     match coming {
         None => store.read_at(&row, &read.predicate, time),
         Some(part) => store.read_with(

@@ -9,7 +9,6 @@ ghost use Rattle.messages.specs.Known.{AreOnce};
 ghost use Rattle.commit_check.specs.Marked.{AreMarksOf, IsLatest};
 ghost use Rattle.commit_check.specs.Found.{IsFoundNow};
 
-use crate::row::row_of;
 use column_family::{Key, Row};
 use logical_time::{Fault, Time};
 use messages::{RowNow, RowsNow};
@@ -39,7 +38,7 @@ fn found_now(
     ensures ok { IfOk result (IsFoundNow store.now marks.now clock read.now key.now) }
     ensures memory { IfErr result (λ e. e ≡ fault.Memory) }
 {
-    let row = row_of(read, key)?;
+    let row = read.row_of(key)?;
     let part = store.read_now(&row, &read.predicate)?;
     Ok(RowNow {
         key: key.clone()?,

@@ -1,25 +1,20 @@
 -- Writers put in order.
 use Rattle.std.proofs.Common.{◌≡◌, List, [], ◌∷◌, ◌++◌, refl, ap, ◌∙◌, sym, append-nil}
 use Rattle.std.specs.declared.cmp.Ordering.TheVariants.{Less}
-use Rattle.std.specs.List.{AllByRecursion, dedup}
-use Rattle.std.specs.Prelude.{IsSorted}
-use Rattle.std.specs.List.Sorted.{IsPermutation, IsStrictlySortedBy}
-use Rattle.std.proofs.lemmas.List.Sorted.{Contains-permutation, IsPermutation-sym}
+use Rattle.std.specs.List.{AllByRecursion}
+use Rattle.std.specs.Prelude.{◌↔◌, Contains}
+use Rattle.std.specs.List.Sorted.{IsStrictlySortedBy}
 use Rattle.logical_time.specs.Stamps.{WriterValue, writer_cmp}
 use Rattle.store.proofs.SameParts.{same_sorted}
-use Rattle.store.proofs.WriterOrder.{exact_writer, kept_once, only_kept, same_writer, strictly_sorted, writer_total}
+use Rattle.logical_time.proofs.WriterOrder.{exact_writer, writer_total}
 use Rattle.messages.specs.Words.{placed_writer, with_writer, in_writer_order}
 use Rattle.messages.proofs.WritersInOrder.{writers_ascend, writers_stay}
 
--- sorted and each once, they stand in order
-pub sorted_once : (ws vs all : List WriterValue) → IsSorted writer_cmp vs → IsPermutation ws vs → all ≡ dedup same_writer vs → all ≡ in_writer_order ws
-sorted_once ws vs all sorted permuted is =
-    is
-    ∙ same_sorted writer_cmp writer_total exact_writer (dedup same_writer vs) (in_writer_order ws) (strictly_sorted vs sorted) (writers_ascend ws)
-    (λ w. (
-      (λ has. (writers_stay ws w).1 (Contains-permutation vs ws w (IsPermutation-sym ws vs permuted) (only_kept vs w has))),
-      (λ has. kept_once vs w (Contains-permutation ws vs w permuted ((writers_stay ws w).0 has))),
-    ))
+-- the same writers, sorted and each once, stand in order
+pub sorted_once : (ws all : List WriterValue) → IsStrictlySortedBy writer_cmp all → ((w : WriterValue) → Contains all w ↔ Contains ws w) → all ≡ in_writer_order ws
+sorted_once ws all sorted same =
+    same_sorted writer_cmp writer_total exact_writer all (in_writer_order ws) sorted (writers_ascend ws)
+    (λ w. ((λ has. (writers_stay ws w).1 ((same w).0 has)), (λ has. (same w).1 ((writers_stay ws w).0 has))))
 
 first_stays : (w : WriterValue) (ws : List WriterValue) → AllByRecursion (λ y. writer_cmp w y ≡ Less) ws → with_writer w ws ≡ w ∷ ws
 first_stays w [] h = refl

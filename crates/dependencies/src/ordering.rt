@@ -5,17 +5,6 @@ ghost use Rattle.messages.specs.Words.{in_writer_order};
 use logical_time::{Fault, Writer, Writers};
 use std::alloc::Global;
 
-// These writers in the order of their transactions' numbers, each once. Linear where they are two lists in order, which
-// the stable sort joins. Refused with `Memory` alone.
-fn sorted(mut writers: Vec<Writer>) -> Result<Writers, Fault>
-    ensures ok { IfOk result (λ all. all ≡ in_writer_order writers.items) }
-    ensures memory { IfErr result (λ e. e ≡ Fault.Memory) }
-{
-    writers.sort()?;
-    writers.dedup();
-    Ok(Writers::from_vec(writers))
-}
-
 /// These writers and those in the order of their transactions' numbers, each once. In the order of n log n for n
 /// writers. Refused with `Memory` alone.
 pub(crate) fn in_order(
@@ -29,5 +18,5 @@ pub(crate) fn in_order(
     let mut all = Vec::with_capacity(alloc, writers.len() + others.len())?;
     all.extend_from_slice(writers)?;
     all.extend_from_slice(others)?;
-    sorted(all)
+    Ok(Writers::sorted(all)?)
 }

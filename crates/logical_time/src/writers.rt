@@ -1,7 +1,10 @@
 //! Lists of writers.
-ghost use Rattle.std.specs.Prelude.{◌≡◌};
+ghost use Rattle.std.specs.Prelude.{◌≡◌, ◌↔◌, Contains, IfOk};
+ghost use Rattle.std.specs.List.Sorted.{IsStrictlySortedBy};
+ghost use Rattle.logical_time.specs.Stamps.{WriterValue, writer_cmp};
 
 use crate::ids::Writer;
+use std::alloc::AllocError;
 use std::marker::Model;
 
 /// Transactions that something rests on, in order and each once.
@@ -25,6 +28,17 @@ impl Writers {
         ensures { result ≡ writers.items }
     {
         Writers { writers }
+    }
+
+    /// These writers in the order of their transactions' numbers, each once. In the order of n log n for n writers, and
+    /// linear where they are two lists in order, one after the other.
+    pub fn sorted(mut writers: Vec<Writer>) -> Result<Writers, AllocError>
+        ensures same { IfOk result (λ all. (w : WriterValue) → Contains all w ↔ Contains writers.items w) }
+        ensures sorted { IfOk result (λ all. IsStrictlySortedBy writer_cmp all) }
+    {
+        writers.sort()?;
+        writers.dedup();
+        Ok(Writers { writers })
     }
 
     /// The writers.

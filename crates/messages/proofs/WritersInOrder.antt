@@ -4,37 +4,11 @@ use Rattle.std.specs.Prelude.{◌↔◌, Contains}
 use Rattle.std.specs.declared.cmp.Ordering.{Ordering}
 use Rattle.std.specs.declared.cmp.Ordering.TheVariants.{Less, Equal, Greater}
 use Rattle.std.specs.Ordering.{ordering_reverse}
-use Rattle.std.specs.Cmp.{IsTotalOrder}
 use Rattle.std.specs.List.{AllByRecursion}
 use Rattle.std.specs.List.Sorted.{IsStrictlySortedBy}
-use Rattle.std.proofs.lemmas.Bool.Decides.{nat_tests}
-use Rattle.std.proofs.lemmas.Cmp.{on_total, then_total, nat_cmp_total}
-use Rattle.logical_time.specs.Stamps.{TxnValue, WriterValue, txn_cmp, writer_cmp}
+use Rattle.logical_time.specs.Stamps.{WriterValue, writer_cmp}
+use Rattle.logical_time.proofs.WriterOrder.{exact_writer, writer_total}
 use Rattle.messages.specs.Words.{placed_writer, with_writer, in_writer_order}
-
-txn_total : IsTotalOrder txn_cmp
-txn_total = then_total (on_total (λ (t : TxnValue). t.session) nat_cmp_total) (on_total (λ (t : TxnValue). t.number) nat_cmp_total)
-
-writer_total : IsTotalOrder writer_cmp
-writer_total = then_total (on_total (λ (w : WriterValue). w.txn) txn_total) (on_total (λ (w : WriterValue). w.shard) nat_cmp_total)
-
-same_session : (v w : WriterValue) → writer_cmp v w ≡ Equal → v.txn.session ≡ w.txn.session
-same_session v w e = grind (arith, nat_tests)
-
-same_number : (v w : WriterValue) → writer_cmp v w ≡ Equal → v.txn.number ≡ w.txn.number
-same_number v w e = grind (arith, nat_tests)
-
-same_shard : (v w : WriterValue) → writer_cmp v w ≡ Equal → v.shard ≡ w.shard
-same_shard v w e = grind (arith, nat_tests)
-
-joined : (v w : WriterValue) → v.txn.session ≡ w.txn.session → v.txn.number ≡ w.txn.number → v.shard ≡ w.shard → v ≡ w
-joined v w session number shard =
-    ap (λ s. record { txn = record { session = s; number = v.txn.number }; shard = v.shard }) session
-    ∙ ap (λ n. record { txn = record { session = w.txn.session; number = n }; shard = v.shard }) number
-    ∙ ap (λ s. record { txn = w.txn; shard = s }) shard
-
-same : (v w : WriterValue) → writer_cmp v w ≡ Equal → v ≡ w
-same v w e = joined v w (same_session v w e) (same_number v w e) (same_shard v w e)
 
 -- ## Order
 
@@ -112,7 +86,7 @@ from_placed Greater w x v xs others eq h (inr has) = elim (first_or_later x v xs
 from_with : (w v : WriterValue) (xs : List WriterValue) → (w ≡ v) ⊎ Contains xs v → Contains (with_writer w xs) v
 from_with w v [] (inl own) = first w v [] own
 from_with w v [] (inr has) = later w v [] has
-from_with w v (x ∷ xs) has = from_placed (writer_cmp w x) w x v xs (with_writer w xs) (same w x) (from_with w v xs) has
+from_with w v (x ∷ xs) has = from_placed (writer_cmp w x) w x v xs (with_writer w xs) (exact_writer w x) (from_with w v xs) has
 
 into_order : (ws : List WriterValue) (v : WriterValue) → Contains (in_writer_order ws) v → Contains ws v
 into_order [] v has = has

@@ -11,7 +11,8 @@ use Rattle.messages.specs.Topology.{TopologyValue, dc_of, shard_node}
 use Rattle.messages.specs.Words.{is_same_txn, in_writer_order, envelope}
 use Rattle.messages.specs.Shard.{ShardState, ShardStep, WaitingRead, PreparedPart, quiet}
 use Rattle.messages.specs.Known.{is_applied}
-use Rattle.messages.specs.Rows.{row_of, row_now, row_at, touches_row}
+use Rattle.slice.specs.Rows.{row_of}
+use Rattle.messages.specs.Rows.{row_now, row_at, touches_row}
 
 -- the step that sends one envelope and changes the clock alone
 abbrev pub answer : ℕ → ShardState → Envelope → ShardStep

@@ -9,6 +9,7 @@ use Rattle.column_family.specs.History.{History, newest, newest_of, stamp_of}
 use Rattle.slice.specs.declared.column.Column.{Column}
 use Rattle.slice.specs.declared.predicate.Predicate.{Predicate}
 use Rattle.slice.specs.declared.read.Read.{Read}
+use Rattle.slice.specs.Rows.{row_of}
 use Rattle.slice.specs.Slice.{slice_of}
 use Rattle.slice.specs.Live.{live_columns, columns_changed}
 use Rattle.slice.specs.Rests.{is_looked_at}
@@ -19,9 +20,6 @@ use Rattle.messages.specs.declared.rows_at.RowAt.{RowAt}
 use Rattle.messages.specs.Words.{in_writer_order}
 use Rattle.messages.specs.Shard.{ShardState, PreparedPart}
 use Rattle.messages.specs.Known.{is_applied}
-
-abbrev pub row_of : Read → List ℕ → Row
-row_of read key = record { family = read.family; key = key }
 
 -- the slice of the row by the newest versions of what was applied
 abbrev pub columns_of : List Applied → Row → Predicate → List Column

@@ -73,10 +73,14 @@ abbrev pub plan_fault : TopologyValue → Op → Option Fault
 plan_fault top (op.Batch batch) = batch_fault top.schema batch
 plan_fault top (op.Read read) = read_fault top.schema read
 
--- why a submission is refused before the clock is looked at: an open operation, then what the planner refuses
-abbrev pub submit_fault : Bool → TopologyValue → Op → Option Fault
-submit_fault false top o = Some Busy
-submit_fault true top o = plan_fault top o
+-- refused where an operation is open, and else as this says
+abbrev pub busy_or : Bool → Option Fault → Option Fault
+busy_or false fault = Some Busy
+busy_or true fault = fault
+
+-- why a session refuses a submission before the clock is looked at: an open operation, then what the planner refuses
+abbrev pub submit_fault : TopologyValue → SessionState → Op → Option Fault
+submit_fault top a o = busy_or (is_idle a.current) (plan_fault top o)
 
 abbrev pub submit_if : Option Fault → TopologyValue → ℕ → SessionState → Op → Result SessionStep Fault
 submit_if (Some e) top me a o = Err e
@@ -85,4 +89,4 @@ submit_if None top me a o = on_clock (ticked a.clock a.clock) (λ n. begun top m
 -- A session accepts an operation, which then has the next number: an event without a message. Refused where one is
 -- open, where the planner refuses it, and where the clock would leave its range, in this order.
 abbrev pub session_submit : TopologyValue → ℕ → SessionState → Op → Result SessionStep Fault
-session_submit top me a o = submit_if (submit_fault (is_idle a.current) top o) top me a o
+session_submit top me a o = submit_if (submit_fault top a o) top me a o

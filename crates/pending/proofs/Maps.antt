@@ -1,32 +1,14 @@
 -- What is marked after a step of a map.
 use Rattle.std.proofs.Common.{◌≡◌, ℕ, ap, sym, subst, refl, ◌∙◌, Bool, true, false, List, [], Option, Some, None}
 use Rattle.std.specs.Prelude.{unwrap_or, if◌then◌else◌, ◌&&◌}
-use Rattle.std.specs.Ordering.{nat_cmp, is_eq, ordering_then}
+use Rattle.std.specs.Ordering.{is_eq}
 use Rattle.std.specs.declared.cmp.Ordering.{Ordering}
-use Rattle.std.specs.declared.cmp.Ordering.TheVariants.{Less, Equal, Greater}
-use Rattle.std.specs.Cmp.Lexicographic.{slice_cmp}
 use Rattle.std.specs.BTreeMap.{BTreeMap, get, Updates}
-use Rattle.std.proofs.lemmas.Map.Lookups.{exact_bytes}
 use Rattle.logical_time.specs.Stamps.{TxnValue, txn_cmp}
 use Rattle.column_family.specs.declared.batch.Row.{Row}
 use Rattle.column_family.specs.Places.{row_cmp}
+use Rattle.column_family.proofs.RowOrder.{same_row}
 use Rattle.pending.specs.Marks.{RowList, listed, time_in, time_at, marks_of, is_same_mark}
-
--- both are equal where one after the other are
-pub both_equal : (a b : Ordering) → is_eq (ordering_then a b) ≡ true → (a ≡ Equal) × (b ≡ Equal)
-both_equal Less b h = absurd (cc)
-both_equal Equal Less h = absurd (cc)
-both_equal Equal Equal h = (refl, refl)
-both_equal Equal Greater h = absurd (cc)
-both_equal Greater b h = absurd (cc)
-
--- rows that compare as equal are the same
-pub same_row : (a b : Row) → is_eq (row_cmp a b) ≡ true → a ≡ b
-same_row a b h =
-    let e = both_equal (slice_cmp nat_cmp a.family b.family) (slice_cmp nat_cmp a.key b.key) h in
-    let f = exact_bytes a.family b.family e.0 in
-    let k = exact_bytes a.key b.key e.1 in
-    λ i. record { family = f i; key = k i }
 
 -- by what a test answers
 pub by_cases : {P : Type 0} (b : Bool) → (b ≡ true → P) → (b ≡ false → P) → P

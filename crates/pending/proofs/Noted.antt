@@ -2,18 +2,15 @@
 use Rattle.std.proofs.Common.{◌≡◌, ℕ, ap, sym, subst, refl, ◌∙◌, Bool, true, false, ◌||◌, List, [], ◌∷◌, Option, Some, None, IsSome, Result, Ok, Err, OnOk, OnErr}
 use Rattle.std.specs.Prelude.{unwrap_or, if◌then◌else◌, ◌&&◌}
 use Rattle.std.specs.Ordering.{is_eq}
-use Rattle.std.specs.Cmp.{IsTotalOrder}
 use Rattle.std.specs.BTreeMap.{BTreeMap, Updates}
-use Rattle.std.proofs.lemmas.Cmp.{on_total, then_total, nat_list_cmp_total, eq_by_cmp_equiv}
+use Rattle.std.proofs.lemmas.Cmp.{eq_by_cmp_equiv}
 use Rattle.logical_time.specs.Stamps.{TxnValue, txn_cmp}
 use Rattle.column_family.specs.declared.batch.Row.{Row}
-use Rattle.column_family.specs.Places.{row_cmp}
-use Rattle.pending.specs.Marks.{MarkList, time_at, rows_of, is_same_mark, is_listed, IsNoted}
-use Rattle.pending.proofs.Maps.{by_cases, same_row}
+use Rattle.column_family.proofs.RowOrder.{row_total, same_row}
+use Rattle.column_family.specs.Places.{is_listed, row_cmp}
+use Rattle.pending.specs.Marks.{MarkList, time_at, rows_of, is_same_mark, IsNoted}
+use Rattle.pending.proofs.Maps.{by_cases}
 use Rattle.pending.proofs.Times.{same_txn}
-
-row_total : IsTotalOrder row_cmp
-row_total = then_total (on_total (λ (r : Row). r.family) nat_list_cmp_total) (on_total (λ (r : Row). r.key) nat_list_cmp_total)
 
 -- a mark is noted where its row is
 pub noted_mark : (ms ns : MarkList) (ts : List (TxnValue × List Row)) (row : Row) (txn : TxnValue) (time : ℕ) → is_listed (rows_of ts txn) row ≡ true → IsNoted ms ts → ((r : Row) (t : TxnValue) → time_at ns r t ≡ (if is_same_mark row txn r t then Some time else time_at ms r t)) → IsNoted ns ts

@@ -17,7 +17,7 @@ use Rattle.std.proofs.lemmas.Map.Made.{Contains-from_values_of}
 use Rattle.std.proofs.lemmas.Map.Views.{lookup-from_Contains, Contains-keys_from_lookup, IsSome-lookup_from_Contains, IfSome-lookup_from_All}
 use Rattle.logical_time.specs.Stamps.{TxnValue, txn_cmp}
 use Rattle.pending.specs.Marks.{RowList, time_in, IsLeast, IsBelow}
-use Rattle.pending.proofs.Maps.{both_equal}
+use Rattle.column_family.proofs.RowOrder.{both_equal}
 
 pub txn_total : IsTotalOrder txn_cmp
 txn_total = then_total (on_total (λ (t : TxnValue). t.session) nat_cmp_total) (on_total (λ (t : TxnValue). t.number) nat_cmp_total)

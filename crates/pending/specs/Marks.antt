@@ -7,7 +7,7 @@ use Rattle.std.specs.List.{Contains, list_any}
 use Rattle.std.specs.List.Sorted.{IsStrictlySortedBy}
 use Rattle.logical_time.specs.Stamps.{TxnValue, txn_cmp}
 use Rattle.column_family.specs.declared.batch.Row.{Row}
-use Rattle.column_family.specs.Places.{row_cmp}
+use Rattle.column_family.specs.Places.{is_listed, row_cmp}
 
 -- the marks of a row: transactions with their times
 abbrev pub RowList : Type 0
@@ -40,10 +40,6 @@ time_at ms r t = time_in (marks_of ms r) t
 -- whether a mark on the row r of the transaction t is the one on the row s of the transaction u
 abbrev pub is_same_mark : Row → TxnValue → Row → TxnValue → Bool
 is_same_mark r t s u = is_eq (row_cmp r s) && is_eq (txn_cmp t u)
-
--- whether the row is one of these
-abbrev pub is_listed : List Row → Row → Bool
-is_listed rows r = list_any (λ s. is_eq (row_cmp r s)) rows
 
 -- each row with a mark of a transaction is noted for it
 abbrev pub IsNoted : MarkList → List (TxnValue × List Row) → Type 0

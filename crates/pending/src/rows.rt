@@ -5,10 +5,10 @@ ghost use Rattle.std.specs.Map.{lookup};
 ghost use Rattle.logical_time.specs.declared.fault.Fault.TheVariants as fault;
 ghost use Rattle.logical_time.specs.Stamps.{TxnValue, txn_cmp};
 ghost use Rattle.column_family.specs.declared.batch.Row.{Row};
-ghost use Rattle.column_family.specs.Places.{row_cmp};
+ghost use Rattle.column_family.specs.Places.{is_listed, row_cmp};
 ghost use Rattle.std.specs.List.{Contains};
 ghost use Rattle.std.specs.List.Sorted.{IsStrictlySortedBy};
-ghost use Rattle.pending.specs.Marks.{time_at, marks_of, is_same_mark, is_listed, IsLeast, IsBelow};
+ghost use Rattle.pending.specs.Marks.{time_at, marks_of, is_same_mark, IsLeast, IsBelow};
 ghost use Rattle.pending.specs.Marked.{IsMarkedBelow, AreBelow};
 
 use crate::row_marks::RowMarks;

@@ -5,7 +5,8 @@ ghost use Rattle.std.specs.Map.{lookup};
 ghost use Rattle.logical_time.specs.declared.fault.Fault.TheVariants as fault;
 ghost use Rattle.logical_time.specs.Stamps.{TxnValue, txn_cmp};
 ghost use Rattle.column_family.specs.declared.batch.Row.{Row};
-ghost use Rattle.pending.specs.Marks.{rows_of, is_listed};
+ghost use Rattle.column_family.specs.Places.{is_listed};
+ghost use Rattle.pending.specs.Marks.{rows_of};
 
 use column_family::Row;
 use logical_time::{Fault, TxnId};

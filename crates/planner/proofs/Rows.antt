@@ -47,7 +47,7 @@ row_itself : (r : Row) → is_same_row r r ≡ true
 row_itself r =
     let f : bytes_eq r.family r.family ≡ true = (bytes_eq-Decides r.family r.family).1 refl in
     let k : bytes_eq r.key r.key ≡ true = (bytes_eq-Decides r.key r.key).1 refl in
-    rw f k
+    rw k f
 
 -- a name that an effective mutation touches
 name_of : Mutation → List ℕ

@@ -10,6 +10,7 @@ use Rattle.messages.specs.declared.outcome.Outcome.{Outcome}
 use Rattle.messages.specs.Topology.{TopologyValue, session_node}
 use Rattle.actors.specs.Seats.{SeatValue}
 use Rattle.threaded.specs.OneRun.{seat_of}
+use Rattle.threaded.proofs.Starting.{flat_more, range_more}
 use Rattle.workload.specs.declared.script.Script.{Script}
 use Rattle.workload.specs.declared.transcript.Entry.{Entry}
 use Rattle.workload.specs.Simulation.{entry_by}
@@ -126,14 +127,6 @@ module _ (node : ℕ) where
 -- what is told of the first so many sessions
 abbrev pub first_told : TopologyValue → List SeatValue → ℕ → List Entry
 first_told top seats n = flat_map (λ i. told_at (session_node top i) (seat_of seats (session_node top i))) (range_with_len 0 n)
-
-range_more : (start n : ℕ) → range_with_len start (suc n) ≡ range_with_len start n ++ (start + n) ∷ []
-range_more start zero = ap (λ k. k ∷ []) (omega arith)
-range_more start (suc n) = ap (λ l. start ∷ l) (range_more (start + 1) n ∙ ap (λ k. range_with_len (start + 1) n ++ k ∷ []) (omega arith))
-
-flat_more : {X Y : Type 0} (f : X → List Y) (xs : List X) (x : X) → flat_map f (xs ++ x ∷ []) ≡ flat_map f xs ++ f x
-flat_more f [] x = append-nil (f x)
-flat_more f (y ∷ xs) x = ap (λ l. f y ++ l) (flat_more f xs x) ∙ sym (append_assoc (f y) (flat_map f xs) (f x))
 
 pub one_more_told : (top : TopologyValue) (seats : List SeatValue) (n : ℕ)
     → first_told top seats (n + 1) ≡ first_told top seats n ++ told_at (session_node top n) (seat_of seats (session_node top n))

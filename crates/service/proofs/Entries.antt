@@ -36,7 +36,7 @@ module _ (top : TopologyValue) (w : Run) (node : ℕ) (o : Op) where
   abbrev a : SessionState
   a = w.sessions node
 
-  accepted : (f : Option Fault) (c : Option ℕ) → submit_fault (is_idle a.current) top o ≡ f → ticked a.clock a.clock ≡ c
+  accepted : (f : Option Fault) (c : Option ℕ) → submit_fault top a o ≡ f → ticked a.clock a.clock ≡ c
       → refused_by (session_submit top node a o) ≡ None → (n : ℕ) × (session_submit top node a o ≡ Ok (begun top node n a o))
   accepted (Some e) c p q none = absurd (none_some (sym (ap (λ z. refused_by (submitted_if z top node a o)) p) ∙ none))
     where
@@ -61,7 +61,7 @@ module _ (top : TopologyValue) (w : Run) (node : ℕ) (o : Op) where
   pub listed_then : refusal_of top w (Submit node o) ≡ None → IsListed (step top w (Submit node o)) node (a.count + 1) o
   listed_then none =
       let here = as_session (is_session top node) refl none in
-      let took = accepted (submit_fault (is_idle a.current) top o) (ticked a.clock a.clock) refl refl here.1 in
+      let took = accepted (submit_fault top a o) (ticked a.clock a.clock) refl refl here.1 in
       let s = begun top node took.0 a o in
       let is : step top w (Submit node o) ≡ after_submission (Ok s) w node o =
       ap (λ b. submit_if b top w node o) here.0 ∙ ap (λ r. after_submission r w node o) took.1 in

@@ -21,7 +21,7 @@ use Rattle.messages.specs.declared.op.Op.TheVariants as op
 use Rattle.messages.specs.Topology.{TopologyValue, is_session}
 use Rattle.messages.specs.Clock.{ticked, on_clock}
 use Rattle.messages.specs.Session.{SessionState, Idle, is_idle}
-use Rattle.messages.specs.Submitting.{begun, plan_fault, submit_fault, submit_if, session_submit}
+use Rattle.messages.specs.Submitting.{begun, busy_or, plan_fault, submit_fault, submit_if, session_submit}
 use Rattle.world.specs.declared.run_event.RunEvent.TheVariants.{Submit}
 use Rattle.world.specs.Run.{Run}
 use Rattle.world.specs.Refusals.{Refusal, Refused, NoSuchActor, refused_by, refusal_of}
@@ -118,6 +118,6 @@ module _ (top : TopologyValue) (w : Run) (node : ℕ) (o : Op) where
 
   pub not_busy : a.current ≡ Idle → refusal_of top w (Submit node o) ≡ Some (Refused Busy) → ⊥
   not_busy idle is =
-      let fault : submit_fault (is_idle a.current) top o ≡ plan_fault top o = ap (λ c. submit_fault (is_idle c) top o) idle in
+      let fault : submit_fault top a o ≡ plan_fault top o = ap (λ c. busy_or (is_idle c) (plan_fault top o)) idle in
       let here = as_session (is_session top node) is in
       refusals (plan_fault top o) (ticked a.clock a.clock) (plan_low top o) (sym (ap (λ f. refused_by (submit_if f top node a o)) fault) ∙ here) refl

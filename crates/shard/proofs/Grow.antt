@@ -18,7 +18,7 @@ use Rattle.messages.specs.declared.envelope.Envelope.{Envelope}
 use Rattle.messages.specs.Words.{is_same_txn}
 use Rattle.messages.specs.Shard.{ShardState, PreparedPart, WaitingRead}
 use Rattle.messages.specs.Known.{is_applied}
-use Rattle.messages.specs.Rows.{row_of}
+use Rattle.slice.specs.Rows.{row_of}
 use Rattle.messages.specs.Honest.{Told, all_told}
 use Rattle.store.specs.Part.{has_row}
 use Rattle.shard.specs.Sound.{Seen, IsSettled, Grows, RowNowSound, RowAtSound, BodySound, WaitSound}

@@ -14,7 +14,8 @@ use Rattle.messages.specs.Topology.{TopologyValue}
 use Rattle.messages.specs.Words.{is_same_txn}
 use Rattle.messages.specs.Shard.{ShardState, ShardStep, WaitingRead, quiet}
 use Rattle.messages.specs.Known.{is_applied}
-use Rattle.messages.specs.Rows.{row_of, row_at}
+use Rattle.slice.specs.Rows.{row_of}
+use Rattle.messages.specs.Rows.{row_at}
 use Rattle.messages.specs.Reads.{answer, at_time as rows_or_collected, part_at, without, lessened, is_nothing, is_free, let_go}
 use Rattle.shard.specs.Sound.{Seen, IsExcluded, IsSettled, RowAtSound, BodySound, AreSound, WaitSound, Holds, Onward, Able}
 use Rattle.shard.proofs.Lists.{each_joined, each_mapped, same_txn}

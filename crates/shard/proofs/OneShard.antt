@@ -12,7 +12,7 @@ use Rattle.messages.specs.declared.rows_at.RowAt.{RowAt}
 use Rattle.messages.specs.declared.envelope.Envelope.{Envelope}
 use Rattle.messages.specs.Topology.{TopologyValue}
 use Rattle.messages.specs.Shard.{ShardState}
-use Rattle.messages.specs.Rows.{row_of}
+use Rattle.slice.specs.Rows.{row_of}
 use Rattle.messages.specs.Honest.{IsHonest}
 use Rattle.messages.specs.declared.body.Body.TheVariants as body
 use Rattle.store.proofs.Lists.{none_in_empty}

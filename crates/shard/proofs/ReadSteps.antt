@@ -16,7 +16,8 @@ use Rattle.messages.specs.Topology.{TopologyValue}
 use Rattle.messages.specs.Words.{envelope}
 use Rattle.messages.specs.Shard.{ShardState, PreparedPart}
 use Rattle.messages.specs.Known.{is_applied}
-use Rattle.messages.specs.Rows.{row_of, touches_row, marks_on, least_mark, row_now}
+use Rattle.slice.specs.Rows.{row_of}
+use Rattle.messages.specs.Rows.{touches_row, marks_on, least_mark, row_now}
 use Rattle.messages.specs.Reads.{part_at, marks_below, asked_below, check_of, is_waiting, waiting_read, read_at_of, read_at_if, on_read, on_read_at}
 use Rattle.messages.proofs.Greatest.{mark_below_clock, mark_below_each}
 use Rattle.messages.proofs.WritersInOrder.{writers_stay}

@@ -23,7 +23,7 @@ use Rattle.messages.specs.declared.event.Event.TheVariants.{Handle}
 use Rattle.messages.specs.Actors.{envelope_of}
 use Rattle.messages.specs.Words.{envelope}
 use Rattle.messages.specs.Honest.{all_told}
-use Rattle.messages.specs.Rows.{row_of}
+use Rattle.slice.specs.Rows.{row_of}
 use Rattle.shard.specs.Events.{ShardRun, envelopes_handled}
 use Rattle.shard.specs.Right.{part_now, part_then}
 use Rattle.shard.specs.Worked.{two_shards, key_a, key_b, name_x, x_gets, x_of, first_of, stamp, written_then_read, read_then_written, read_at_its_mark, collected_then_read, commit_at_its_mark, excluded_at_its_commit_time, read_above_its_time, two_of_one_stamp}

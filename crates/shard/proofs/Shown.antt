@@ -10,7 +10,8 @@ use Rattle.store.specs.declared.part.Applied.{Applied}
 use Rattle.store.specs.Part.{history_of, applied_by, IsRestedOn, IsPartOf, IsNewestPart, IsRightPart}
 use Rattle.store.proofs.Lists.{kept, kept_only}
 use Rattle.messages.specs.Shard.{ShardState}
-use Rattle.messages.specs.Rows.{row_of, columns_of, is_rested_on, writers_of, row_now, row_at}
+use Rattle.slice.specs.Rows.{row_of}
+use Rattle.messages.specs.Rows.{columns_of, is_rested_on, writers_of, row_now, row_at}
 use Rattle.messages.proofs.Rested.{tested_if_rested}
 use Rattle.messages.proofs.WritersInOrder.{writers_ascend, writers_stay}
 use Rattle.shard.specs.Right.{part_now, part_then}

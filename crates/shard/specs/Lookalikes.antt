@@ -13,7 +13,7 @@ use Rattle.messages.specs.declared.envelope.Envelope.{Envelope}
 use Rattle.messages.specs.Shard.{ShardState, PreparedPart, Decision}
 use Rattle.messages.specs.Topology.{TopologyValue}
 use Rattle.messages.specs.Honest.{Told, StampedTxn, all_told, part_in, stamps_met, IsHonest}
-use Rattle.messages.specs.Rows.{row_of}
+use Rattle.slice.specs.Rows.{row_of}
 use Rattle.shard.specs.Events.{ShardRun, envelopes_handled}
 use Rattle.shard.specs.Right.{part_now, IsRightAt, IsRightShard}
 

@@ -14,7 +14,7 @@ use Rattle.messages.specs.Topology.{TopologyValue}
 use Rattle.messages.specs.Shard.{ShardState, Decision}
 use Rattle.messages.specs.Reads.{is_waiting}
 use Rattle.messages.specs.Honest.{Told, all_told}
-use Rattle.messages.specs.Rows.{row_of}
+use Rattle.slice.specs.Rows.{row_of}
 use Rattle.messages.specs.declared.event.Event.{Event}
 use Rattle.messages.specs.declared.event.Event.TheVariants.{Handle}
 use Rattle.shard.specs.Events.{ShardRun, shard_run, envelopes_handled}

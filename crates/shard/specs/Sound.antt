@@ -18,7 +18,8 @@ use Rattle.messages.specs.declared.envelope.Envelope.{Envelope}
 use Rattle.messages.specs.Topology.{TopologyValue}
 use Rattle.messages.specs.Shard.{ShardState, ShardStep, Own, PreparedPart, BegunBallot, Decision, KeptPart, KeptBallot, WaitingRead}
 use Rattle.messages.specs.Known.{is_applied}
-use Rattle.messages.specs.Rows.{row_of, touches_row}
+use Rattle.slice.specs.Rows.{row_of}
+use Rattle.messages.specs.Rows.{touches_row}
 use Rattle.messages.specs.Replication.{is_ready}
 use Rattle.messages.specs.Honest.{Told, all_told, stamps_met}
 use Rattle.shard.specs.Right.{part_now, part_then, IsAppliedAsDecided}

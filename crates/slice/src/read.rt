@@ -3,8 +3,8 @@ ghost use Rattle.std.specs.Prelude.{◌≡◌, ◌++◌, [], ◌∷◌, OnOk, On
 
 use crate::column::Columns;
 use crate::predicate::Predicate;
-use column_family::{Family, Key};
-use std::alloc::{AllocFailed, Global};
+use column_family::{Family, Key, Row};
+use std::alloc::{AllocError, AllocFailed, Global};
 use std::marker::Model;
 
 /// Keys as a request lists them, repeats included.
@@ -46,6 +46,21 @@ pub struct Read {
     pub keys: Keys,
     /// Which columns.
     pub predicate: Predicate,
+}
+
+impl Read {
+    ghost use Rattle.std.specs.Prelude.{IfOk};
+    ghost use Rattle.slice.specs.Rows as rows;
+
+    /// The row that it means by a key.
+    pub fn row_of(&self, key: &Key) -> Result<Row, AllocError>
+        ensures { IfOk result (λ row. row ≡ rows.row_of self.now key.now) }
+    {
+        Ok(Row {
+            family: self.family.clone()?,
+            key: key.clone()?,
+        })
+    }
 }
 
 /// An asked row of an answer.

@@ -1,6 +1,6 @@
 -- A part put together from the columns that are seen.
 use Rattle.std.proofs.Common.{◌≡◌, ◌∙◌, ap, sym, subst, ℕ, max, Bool, true, false, List, [], ◌∷◌, ◌++◌, map, filter_map, Option, Some, None, option_map, Contains, Result, Ok, Err, IfOk}
-use Rattle.std.specs.Prelude.{if◌then◌else◌, option_to_list}
+use Rattle.std.specs.Prelude.{if◌then◌else◌, option_to_list, ◌↔◌}
 use Rattle.std.specs.List.{cons_option}
 use Rattle.std.specs.List.Sorted.{IsStrictlySortedBy}
 use Rattle.logical_time.specs.Stamps.{WriterValue, writer_cmp}
@@ -33,9 +33,9 @@ pub part_made : (p : Predicate) (part : Part) (items : List Seen) (d : Option Ve
     → AreAskedFor p (map named items) → live ≡ filter_map (λ s. live_of d (named s)) items
     → (AreAsked p live → part.columns ≡ slice_of p live)
     → found ≡ filter_map (λ s. writer_of p part.columns d (named s)) items ++ option_to_list (option_map (λ v. v.what.writer) d)
-    → ((w : WriterValue) → Contains found w → Contains part.writers w) → ((w : WriterValue) → Contains part.writers w → Contains found w)
+    → ((w : WriterValue) → Contains part.writers w ↔ Contains found w)
     → IsStrictlySortedBy writer_cmp part.writers → part.evt ≡ max (evt_or_0 d) (greatest_of (map (λ s. s.version.now.evt) items)) → IsMadeOf d (map named items) p part
-part_made p part items d live found asks lives cut writes keeps adds_none in_order evt =
+part_made p part items d live found asks lives cut writes same in_order evt =
     let seen = map named items in
     let columns : live ≡ filter_map (live_of d) seen = lives ∙ sym (given_seen (live_of d) named items) in
     let asked = subst (AreAsked p) (sym columns) (live_asked p d seen asks) in
@@ -44,8 +44,8 @@ part_made p part items d live found asks lives cut writes keeps adds_none in_ord
     record {
       columns = cut asked ∙ ap (slice_of p) columns;
       writers = λ w. (
-        λ has. subst (λ ws. Contains ws w) writers (adds_none w has),
-        λ has. keeps w (subst (λ ws. Contains ws w) (sym writers) has),
+        λ has. subst (λ ws. Contains ws w) writers ((same w).0 has),
+        λ has. (same w).1 (subst (λ ws. Contains ws w) (sym writers) has),
       );
       in_order = in_order;
       evt = evt ∙ ap (λ ts. max (evt_or_0 d) (greatest_of ts)) (sym (map_of_map (λ (s : NamedVersion). s.1.evt) named items));

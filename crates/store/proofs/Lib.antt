@@ -1,6 +1,5 @@
 pub mod Maps
 pub mod Places
-pub mod WriterOrder
 pub mod Changes
 pub mod Lists
 pub mod Changed

@@ -1,22 +1,22 @@
 -- The rows that a collection has to look at are listed, and no other row has anything to collect.
 use Rattle.std.proofs.Common.{◌≡◌, ◌∙◌, refl, sym, ap, subst, ℕ, ◌≤◌, Bool, true, false, ◌&&◌, ◌||◌, List, [], ◌∷◌, map, length, Option, Some, None, arith}
 use Rattle.std.proofs.lemmas.Bool.Decides.{nat_tests}
-use Rattle.std.proofs.lemmas.Cmp.{on_total, then_total, nat_list_cmp_total, eq_by_cmp_equiv}
+use Rattle.std.proofs.lemmas.Cmp.{eq_by_cmp_equiv}
 use Rattle.std.specs.Prelude.{if◌then◌else◌, filter, unwrap_or}
 use Rattle.std.specs.BTreeMap.{BTreeMap, get}
-use Rattle.std.specs.Cmp.{IsTotalOrder}
 use Rattle.std.specs.List.{list_any}
 use Rattle.std.specs.Ordering.{is_eq}
 use Rattle.column_family.specs.declared.batch.Row.{Row}
+use Rattle.column_family.proofs.RowOrder.{row_total, same_row}
 use Rattle.column_family.specs.declared.batch.Mutation.{Mutation}
 use Rattle.column_family.specs.Location.{is_same_row}
-use Rattle.column_family.specs.Places.{row_cmp}
+use Rattle.column_family.specs.Places.{is_listed, row_cmp}
 use Rattle.column_family.proofs.Firsts.{row_test}
 use Rattle.versions.specs.declared.version.Version.{Version}
 use Rattle.versions.specs.Chain.{Held, is_kept, kept_below, kept_from}
 use Rattle.store.specs.Kept.{Place, Chains, chain_of, chain_at, held_by, no_row, name_cmp, column_held, is_of_place, HaveKept}
-use Rattle.store.specs.Crowded.{Listed, is_listed, holds_more, is_crowded, is_crowded_in, AreListed}
-use Rattle.store.proofs.Maps.{by_cases, same_row}
+use Rattle.store.specs.Crowded.{Listed, holds_more, is_crowded, is_crowded_in, AreListed}
+use Rattle.store.proofs.Maps.{by_cases}
 
 -- ---- rows of which no chain holds more than one version
 one_at_most : (h : Held) → holds_more h ≡ false → length h.versions ≤ 1
@@ -100,9 +100,6 @@ one_more : (own left : Bool) (t : ℕ) (xs : List Version) → if_collected left
 one_more true true t xs = kept_twice t xs
 one_more true false t xs = refl
 one_more false left t xs = refl
-
-row_total : IsTotalOrder row_cmp
-row_total = then_total (on_total (λ (r : Row). r.family) nat_list_cmp_total) (on_total (λ (r : Row). r.key) nat_list_cmp_total)
 
 -- what is left to collect when one row of it is collected
 pub collected_more : (t : ℕ) (ls ns : List (Row × Chains)) (all : Row → Place → List Version) (left rest : List Row) (row : Row) → left ≡ row ∷ rest

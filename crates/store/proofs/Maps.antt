@@ -2,7 +2,7 @@
 use Rattle.std.proofs.Common.{◌≡◌, ℕ, ap, sym, subst, refl, Bool, true, false, List, Option, Some, None}
 use Rattle.std.specs.Prelude.{unwrap_or, if◌then◌else◌}
 use Rattle.std.specs.Str.{bytes_eq}
-use Rattle.std.specs.Ordering.{nat_cmp, is_eq, ordering_then}
+use Rattle.std.specs.Ordering.{nat_cmp, is_eq}
 use Rattle.std.specs.declared.cmp.Ordering.{Ordering}
 use Rattle.std.specs.declared.cmp.Ordering.TheVariants.{Less, Equal, Greater}
 use Rattle.std.specs.Cmp.Lexicographic.{slice_cmp}
@@ -14,6 +14,7 @@ use Rattle.column_family.specs.declared.batch.Row.{Row}
 use Rattle.column_family.specs.Location.{is_same_row}
 use Rattle.column_family.specs.Places.{row_cmp}
 use Rattle.column_family.proofs.Firsts.{row_test}
+use Rattle.column_family.proofs.RowOrder.{same_row}
 use Rattle.store.specs.Kept.{name_cmp, held_by, nothing_held, column_held, no_row, Chains}
 
 -- by what a test answers
@@ -29,21 +30,6 @@ equal_is Greater h = absurd (cc)
 -- names that compare as equal are the same
 pub same_name : (a b : List ℕ) → is_eq (name_cmp a b) ≡ true → a ≡ b
 same_name a b h = exact_bytes a b (equal_is (slice_cmp nat_cmp a b) h)
-
-both_equal : (a b : Ordering) → is_eq (ordering_then a b) ≡ true → (a ≡ Equal) × (b ≡ Equal)
-both_equal Less b h = absurd (cc)
-both_equal Equal Less h = absurd (cc)
-both_equal Equal Equal h = (refl, refl)
-both_equal Equal Greater h = absurd (cc)
-both_equal Greater b h = absurd (cc)
-
--- rows that compare as equal are the same
-pub same_row : (a b : Row) → is_eq (row_cmp a b) ≡ true → a ≡ b
-same_row a b h =
-    let e = both_equal (slice_cmp nat_cmp a.family b.family) (slice_cmp nat_cmp a.key b.key) h in
-    let f = exact_bytes a.family b.family e.0 in
-    let k = exact_bytes a.key b.key e.1 in
-    λ i. record { family = f i; key = k i }
 
 -- after a step at a key, what is held at each key stands to what was as the relation says: at the key, and elsewhere
 pub step_each : {K X : Type 0} (R : K → K → Ordering) → ((a b : K) → is_eq (R a b) ≡ true → a ≡ b) → (d : X) (P : Bool → X → X → Type 0) (m n : BTreeMap K X) (k : K) (w : X)

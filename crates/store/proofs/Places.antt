@@ -41,7 +41,7 @@ both_true false b e f = absurd (cc)
 pub own_at : (c : Change) (p : Place) → is_of_place p c.mutation ≡ true → is_at c.row p c ≡ true
 own_at c p e =
     both_true (is_same_row c.row c.row) (is_of_place p c.mutation)
-    (both_true (bytes_eq c.row.family c.row.family) (bytes_eq c.row.key c.row.key) (same_bytes c.row.family) (same_bytes c.row.key)) e
+    (both_true (bytes_eq c.row.key c.row.key) (bytes_eq c.row.family c.row.family) (same_bytes c.row.key) (same_bytes c.row.family)) e
 
 own_place : (m : Mutation) → leaves_version m ≡ true → (p : Place) × (is_of_place p m ≡ true)
 own_place (Insert n v) e = (Some n, same_bytes n)

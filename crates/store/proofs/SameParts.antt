@@ -16,7 +16,7 @@ use Rattle.slice.specs.declared.predicate.Predicate.{Predicate}
 use Rattle.store.specs.declared.part.Applied.{Applied}
 use Rattle.store.specs.declared.part.Part.{Part}
 use Rattle.store.specs.Part.{IsPartOf}
-use Rattle.store.proofs.WriterOrder.{writer_total, exact_writer}
+use Rattle.logical_time.proofs.WriterOrder.{writer_total, exact_writer}
 
 alike : (b c : Bool) → (b ≡ true → c ≡ true) → (c ≡ true → b ≡ true) → b ≡ c
 alike true c f g = sym (f refl)

@@ -3,7 +3,7 @@ use Rattle.std.specs.Prelude.{◌≡◌, ◌≤◌, length, nat_lt, Bool, true, 
 use Rattle.std.specs.List.{list_any}
 use Rattle.std.specs.Ordering.{is_eq}
 use Rattle.column_family.specs.declared.batch.Row.{Row}
-use Rattle.column_family.specs.Places.{row_cmp}
+use Rattle.column_family.specs.Places.{is_listed, row_cmp}
 use Rattle.versions.specs.Chain.{Held}
 use Rattle.store.specs.Kept.{Place, Chains, chain_at, held_by, no_row}
 
@@ -11,10 +11,6 @@ use Rattle.store.specs.Kept.{Place, Chains, chain_at, held_by, no_row}
 pub record Listed : Type 0 where
   pub rows : List Row
   pub whole : Bool
-
--- whether the row is one of these
-abbrev pub is_listed : List Row → Row → Bool
-is_listed rows r = list_any (λ s. is_eq (row_cmp r s)) rows
 
 -- whether a chain holds more than one version
 abbrev pub holds_more : Held → Bool

@@ -1,5 +1,5 @@
 -- What a store keeps: rows of chains, and the time below which it answers no more.
-use Rattle.std.specs.Prelude.{◌≡◌, ℕ, ◌+◌, ◌-◌, ◌<◌, length, Bool, true, false, ◌&&◌, List, [], ◌∷◌, map, filter, Option, Some, None, unwrap_or}
+use Rattle.std.specs.Prelude.{◌≤◌, ◌≡◌, ℕ, ◌+◌, ◌-◌, ◌<◌, length, Bool, true, false, ◌&&◌, List, [], ◌∷◌, map, filter, Option, Some, None, unwrap_or}
 use Rattle.std.specs.List.{list_any}
 use Rattle.std.specs.Ordering.{nat_cmp, is_eq}
 use Rattle.std.specs.declared.cmp.Ordering.{Ordering}
@@ -92,6 +92,10 @@ HasRoom rows changes = (r : Row) (p : Place) → list_any (is_at r p) changes �
 -- both rows of chains have the same versions at each place
 abbrev pub HaveSameVersions : List (Row × Chains) → List (Row × Chains) → Type 0
 HaveSameVersions olds news = (r : Row) (p : Place) → (chain_at news r p).versions ≡ (chain_at olds r p).versions
+
+-- at each place there is at least the room that there was
+abbrev pub HaveKeptRoom : List (Row × Chains) → List (Row × Chains) → Type 0
+HaveKeptRoom olds news = (r : Row) (p : Place) → (chain_at olds r p).room ≤ (chain_at news r p).room
 
 -- at each place the versions that these changes leave are put to what was held
 abbrev pub HavePut : Origin → List Change → List (Row × Chains) → List (Row × Chains) → Type 0

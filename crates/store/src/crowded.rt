@@ -2,10 +2,10 @@
 ghost use Rattle.std.specs.Prelude.{◌≡◌, ◌≤◌, [], ℕ, if◌then◌else◌, true, false, filter, OnOk};
 ghost use Rattle.std.specs.Ordering.{is_eq};
 ghost use Rattle.column_family.specs.declared.batch.Row.{Row};
-ghost use Rattle.column_family.specs.Places.{row_cmp};
+ghost use Rattle.column_family.specs.Places.{is_listed, row_cmp};
 ghost use Rattle.versions.specs.Chain.{kept_from};
 ghost use Rattle.store.specs.Kept.{Place, chain_at, HaveKept};
-ghost use Rattle.store.specs.Crowded.{AreListed, is_crowded_in, is_listed};
+ghost use Rattle.store.specs.Crowded.{AreListed, is_crowded_in};
 
 use crate::row::RowChains;
 use crate::rows::{collect_row, collect_rows, is_crowded};

@@ -1,9 +1,7 @@
 //! A row's part, found in its chains.
-ghost use Rattle.std.specs.Prelude.{◌≡◌, ◌++◌, IfOk, IfErr, Contains, map, filter, filter_map, is_some, option_map, option_to_list, max};
+ghost use Rattle.std.specs.Prelude.{◌≡◌, ◌++◌, IfOk, IfErr, map, filter, filter_map, is_some, option_map, option_to_list, max};
 ghost use Rattle.std.specs.Option.{option_copied};
-ghost use Rattle.std.specs.List.Sorted.{IsStrictlySortedBy};
 ghost use Rattle.logical_time.specs.declared.fault.Fault.TheVariants as fault;
-ghost use Rattle.logical_time.specs.Stamps.{WriterValue, writer_cmp};
 ghost use Rattle.column_family.specs.Places.{row_cmp};
 ghost use Rattle.store.specs.Kept.{held_by, no_row};
 ghost use Rattle.store.specs.Part.{greatest_of};
@@ -152,17 +150,6 @@ fn writers_of(
     Ok(writers)
 }
 
-// The writers in order, each once.
-fn in_order(mut writers: Vec<Writer>) -> Writers
-    ensures keeps { (w : WriterValue) → Contains writers.items w → Contains result w }
-    ensures adds_none { (w : WriterValue) → Contains result w → Contains writers.items w }
-    ensures in_order { IsStrictlySortedBy writer_cmp result }
-{
-    writers.sort_unstable();
-    writers.dedup();
-    Writers::from_vec(writers)
-}
-
 // The part that is made of these columns and this deletion, where the columns are asked for. Only the columns that it
 // shows are copied.
 fn made_of(
@@ -177,10 +164,11 @@ fn made_of(
     let live = live_ones(alloc, deletion, seen)?;
     let shown = first_of_walk(live, predicate);
     let found = live_columns(alloc, deletion, shown.as_slice())?;
-    let writers = writers_of(alloc, predicate, found.as_slice(), deletion, seen)?;
+    let rested = writers_of(alloc, predicate, found.as_slice(), deletion, seen)?;
+    let writers = Writers::sorted(rested)?;
     let columns = Columns::from_vec(alloc, found)?;
     Ok(Part {
-        writers: in_order(writers),
+        writers,
         evt: evt_of(deletion, seen),
         columns,
     })

@@ -10,7 +10,7 @@ ghost use Rattle.versions.specs.Chain.{put_of, kept_from};
 ghost use Rattle.versions.specs.Newest.{has_stamp};
 ghost use Rattle.store.specs.Crowded.{AreListed, is_crowded_in};
 ghost use Rattle.store.specs.Kept as kept;
-ghost use Rattle.store.specs.Kept.{Place, chain_at, is_at, is_of_place, HasRoom, HaveKept, HaveSameVersions, HavePut};
+ghost use Rattle.store.specs.Kept.{Place, chain_at, is_at, is_of_place, HasRoom, HaveKept, HaveKeptRoom, HaveSameVersions, HavePut};
 
 use crate::crowded::Crowded;
 use crate::origin::Origin;
@@ -109,6 +109,7 @@ pub(crate) fn reserve_changes(
     changes: &[Change],
 ) -> Result<(), Fault>
     ensures versions { HaveSameVersions rows.old.entries rows.new.entries }
+    ensures room { HaveKeptRoom rows.old.entries rows.new.entries }
     ensures ok { OnOk result (HasRoom rows.new.entries changes.now) }
     ensures succeeds { HasRoom rows.old.entries changes.now → IsOk result }
     ensures memory { IfErr result (λ e. e ≡ fault.Memory) }

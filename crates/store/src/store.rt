@@ -5,7 +5,7 @@ ghost use Rattle.column_family.specs.Location.{Location};
 ghost use Rattle.column_family.specs.Normal.{IsNormal};
 ghost use Rattle.store.specs.declared.part.Applied.{Applied};
 ghost use Rattle.store.specs.Crowded.{AreListed};
-ghost use Rattle.store.specs.Kept.{HasRoom, HaveKept, HaveSameVersions, HavePut};
+ghost use Rattle.store.specs.Kept.{HasRoom, HaveKept, HaveKeptRoom, HaveSameVersions, HavePut};
 ghost use Rattle.store.specs.Keeps.{Keeps, IsNewStamp, IsOvertaken};
 ghost use Rattle.column_family.specs.History.{newest_at};
 ghost use Rattle.store.specs.declared.sight.Moment.TheVariants.{At};
@@ -83,11 +83,13 @@ impl Store {
     }
 
     /// Makes room for the changes of a batch, so that the next `apply` of a part with that batch succeeds if no
-    /// other changing call stands between. What is held stays, also where this is refused, with `Memory` alone.
+    /// other changing call stands between. What is held and the room for more stay, also where this is refused, with
+    /// `Memory` alone.
     /// Logarithmic for each change in the rows and in the columns of its row.
     #[tactic(auto, using(crate::proofs::Lasting::keeps_same))]
     pub fn make_room(&mut self, batch: &Batch) -> Result<(), Fault>
         ensures same { HaveSameVersions self.old.rows self.new.rows }
+        ensures room { HaveKeptRoom self.old.rows self.new.rows }
         ensures low { self.new.low ≡ self.old.low }
         ensures keeps { (all : List Applied) → Keeps self.old all → Keeps self.new all }
         ensures ok { OnOk result (HasRoom self.new.rows batch.now) }
@@ -100,7 +102,7 @@ impl Store {
     /// Applies a part with this commit time and this stamp: it puts the version that each change leaves into the
     /// chain of its place, in any order of stamps. So the store keeps this part too, if it is in normal form and
     /// its stamp is new. Refused with `Memory` alone, and never after `make_room` for its batch; then what is held
-    /// stays, and the part is handed back. Logarithmic for each change in the rows and in the columns of its row;
+    /// and the room for more stay, and the part is handed back. Logarithmic for each change in the rows and in the columns of its row;
     /// in the chain it costs what a put does. For `collect` it notes each row of which a chain holds more than one
     /// version then; where there is no memory for that, nothing is refused.
     #[tactic(auto, using(crate::proofs::KeepsApplied::keeps_applied, crate::proofs::Lasting::keeps_same, crate::proofs::Overtaken::overtaken))]
@@ -115,6 +117,7 @@ impl Store {
         ensures keeps { (all : List Applied) → Keeps self.old all → IsNormal prepared.part.batch → IsNewStamp stamp all → OnOk result (Keeps self.new (all ++ record { part = prepared.part; commit = commit; stamp = stamp } ∷ [])) }
         ensures succeeds { HasRoom self.old.rows prepared.part.batch → IsOk result }
         ensures same { OnErr result (HaveSameVersions self.old.rows self.new.rows) }
+        ensures room { OnErr result (HaveKeptRoom self.old.rows self.new.rows) }
         ensures kept { (all : List Applied) → Keeps self.old all → OnErr result (Keeps self.new all) }
         ensures back { IfErr result (λ e. (e.0 ≡ fault.Memory) × (e.1 ≡ prepared)) }
 

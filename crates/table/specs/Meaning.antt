@@ -5,6 +5,7 @@ use Rattle.column_family.specs.declared.batch.Row.{Row}
 use Rattle.column_family.specs.History.{History, up_to}
 use Rattle.slice.specs.declared.read.Read.{Read}
 use Rattle.slice.specs.declared.read.AnsweredRow.{AnsweredRow}
+use Rattle.slice.specs.Rows.{row_of}
 use Rattle.slice.specs.Slice.{slice_of}
 use Rattle.slice.specs.Live.{live_columns}
 
@@ -12,9 +13,6 @@ use Rattle.slice.specs.Live.{live_columns}
 abbrev pub each_once : List (List ℕ) → List (List ℕ)
 each_once [] = []
 each_once (k ∷ ks) = k ∷ filter (λ j. not (bytes_eq k j)) (each_once ks)
-
-abbrev pub row_of : Read → List ℕ → Row
-row_of read key = record { family = read.family; key = key }
 
 -- what a read shows of a row in the table of a whole history: its slice
 abbrev pub shown_row : Read → History → List ℕ → AnsweredRow

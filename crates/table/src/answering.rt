@@ -8,7 +8,7 @@ use crate::history::History;
 use column_family::{Committed, Key, Row, up_to};
 use logical_time::{Fault, Time};
 use slice::{Answer, AnsweredRow, Columns, Predicate, Read, live_columns, select};
-use std::alloc::{AllocError, Global};
+use std::alloc::Global;
 use std::collections::BTreeSet;
 
 /// What the read means on the history at the time: each asked key once, in the order of first asking, with its
@@ -66,21 +66,11 @@ fn answer_key(
     ensures ok { IfOk result (λ row. row ≡ meaning.shown_row read.now entries.now key.now) }
     ensures memory { IfErr result (λ e. e ≡ Fault.Memory) }
 {
-    let row = row_of(read, key)?;
+    let row = read.row_of(key)?;
     let columns = slice_at(alloc, entries, &row, &read.predicate)?;
     Ok(AnsweredRow {
         key: row.key,
         columns,
-    })
-}
-
-// The row that a read means by a key.
-fn row_of(read: &Read, key: &Key) -> Result<Row, AllocError>
-    ensures { IfOk result (λ row. row ≡ meaning.row_of read.now key.now) }
-{
-    Ok(Row {
-        family: read.family.clone()?,
-        key: key.clone()?,
     })
 }
 

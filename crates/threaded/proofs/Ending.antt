@@ -129,7 +129,7 @@ begun_opens top me n a (op.Batch batch) = (refl, refl)
 begun_opens top me n a (op.Read read) = (refl, refl)
 
 submit_opens : (top : TopologyValue) (me : ℕ) (a : SessionState) (o : Op) (s : SessionStep) → session_submit top me a o ≡ Ok s → Opens s.state
-submit_opens top me a o s q = by (submit_fault (is_idle a.current) top o) q
+submit_opens top me a o s q = by (submit_fault top a o) q
   where
     by : (f : Option Fault) → submit_if f top me a o ≡ Ok s → Opens s.state
     by (Some fault) h = absurd (cc)

@@ -276,11 +276,11 @@ pub all_entries : (transcript : List Completed) (session place : ℕ) (old list 
 all_entries transcript session place old list end is =
     is ∙ ap (λ l. old ++ filter (λ (c : Completed). c.node == session) l) (ap (λ n. take n transcript) end ∙ take-length transcript)
 
-range_more : (start n : ℕ) → range_with_len start (suc n) ≡ range_with_len start n ++ (start + n) ∷ []
+pub range_more : (start n : ℕ) → range_with_len start (suc n) ≡ range_with_len start n ++ (start + n) ∷ []
 range_more start zero = ap (λ k. k ∷ []) (omega arith)
 range_more start (suc n) = ap (λ l. start ∷ l) (range_more (start + 1) n ∙ ap (λ k. range_with_len (start + 1) n ++ k ∷ []) (omega arith))
 
-flat_more : {X Y : Type 0} (f : X → List Y) (xs : List X) (x : X) → flat_map f (xs ++ x ∷ []) ≡ flat_map f xs ++ f x
+pub flat_more : {X Y : Type 0} (f : X → List Y) (xs : List X) (x : X) → flat_map f (xs ++ x ∷ []) ≡ flat_map f xs ++ f x
 flat_more f [] x = append-nil (f x)
 flat_more f (y ∷ xs) x = ap (λ l. f y ++ l) (flat_more f xs x) ∙ sym (append_assoc (f y) (flat_map f xs) (f x))
 

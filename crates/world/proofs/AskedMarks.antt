@@ -7,7 +7,8 @@ use Rattle.logical_time.specs.Stamps.{WriterValue}
 use Rattle.slice.specs.declared.read.Read.{Read}
 use Rattle.messages.specs.Shard.{ShardState, PreparedPart}
 use Rattle.messages.specs.Known.{is_applied}
-use Rattle.messages.specs.Rows.{row_of, touches_row}
+use Rattle.slice.specs.Rows.{row_of}
+use Rattle.messages.specs.Rows.{touches_row}
 use Rattle.messages.specs.Reads.{marks_below, asked_below}
 use Rattle.messages.proofs.WritersInOrder.{writers_stay}
 use Rattle.world.proofs.Among.{Among, among_contains, contains_among, any_among, filter_only, filter_among, map_only, map_among}

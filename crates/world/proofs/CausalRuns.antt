@@ -77,7 +77,7 @@ module _ (top : TopologyValue) (w : Run) (some : 0 < top.shards) (inv : Inv top 
 
   submit_go : (b : Bool) (node : ℕ) (o : Op) → Causal top (submit_if b top w node o)
   submit_go false node o = k
-  submit_go true node o = by (submit_fault (is_idle (w.sessions node).current) top o)
+  submit_go true node o = by (submit_fault top (w.sessions node) o)
     where
       go : (c : Option ℕ) → ticked (w.sessions node).clock (w.sessions node).clock ≡ c → Causal top (after_submission (on_clock c (λ n. begun top node n (w.sessions node) o)) w node o)
       go None q = k

@@ -129,7 +129,7 @@ pub step_count : (top : TopologyValue) (me : ℕ) (a : ActorState) (x : ActorEve
 step_count top me (OfShard a) (SubmitHere o) s e = absurd (cc)
 step_count top me (OfShard a) (Handle f) s e = shard_count_kept (shard_handle top me a f) s e
 step_count top me (OfShard a) (CollectHere time) s e = shard_count_kept (shard_collect a time) s e
-step_count top me (OfSession a) (SubmitHere o) s e = go (submit_fault (is_idle a.current) top o) e
+step_count top me (OfSession a) (SubmitHere o) s e = go (submit_fault top a o) e
   where
     go : (f : Option Fault) → of_session (submitted_if f top me a o) ≡ Some s → op_count s.state ≡ a.count + 1
     go (Some fault) h = absurd (cc)

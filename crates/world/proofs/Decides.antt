@@ -17,7 +17,7 @@ use Rattle.world.specs.Run.{Run}
 use Rattle.world.proofs.Among.{Among, among_append, append_first, among_last, last_or_old, filter_only, map_only}
 use Rattle.world.proofs.Growth.{NewDecision, ShardGrows}
 use Rattle.world.proofs.Facts.{near, lead, IsDecided, IsStamp, IsDone, DecidedOnce, PreparedBefore, StampFits, BallotSound, KeptBallotSound, DecisionSound, AppliedSound, Sees, WaitSound}
-use Rattle.world.proofs.Invariant.{home, EnvelopeSound, Inv}
+use Rattle.world.proofs.Invariant.{EnvelopeSound, Inv}
 use Rattle.world.proofs.Able.{Fresh, Able}
 use Rattle.world.proofs.Lasting.{before_grows, ballot_grows}
 use Rattle.world.proofs.LastingAll.{shard_grows}
@@ -61,7 +61,6 @@ module _ (top : TopologyValue) (x : Run) (node n : ℕ) (a : ShardState) (b : Be
     (apart : AreApart a.applied)
     (new : IsNewStamp (stamp_for node n b.stamp) a.applied)
     (ballot : BallotSound top x node n b)
-    (at_home : dc_of top node ≡ ballot.submission.home → dc_of top node ≡ home top b.txn.session)
     (votes : (c : ℕ) → Among c b.cohorts → PreparedBefore x (near top node c) b.txn n)
     (applied : (d : Decision) → Among d a.decided → Sees a.applied d.txn)
     (waiting : (y : WaitingRead) → Among y a.waiting → WaitSound top x node y)
@@ -179,8 +178,10 @@ module _ (top : TopologyValue) (x : Run) (node n : ℕ) (a : ShardState) (b : Be
   announce_go : (o : Option StampValue) → b.stamp ≡ o → StampFits top x node n ballot.submission ballot.batch o → (e : Envelope) → Among e (announcements top node n b o) → EnvelopeSound top x e
   announce_go (Some s) e k u m = absurd m
   announce_go None e k u (inl q) =
-      subst (λ z. EnvelopeSound top x z) (sym q)
-      (record { decided = subst (λ z. IsDecided x node b.txn n (stamp_for node n z)) e is_decided; time = le_refl n }, at_home k)
+      subst (λ z. EnvelopeSound top x z) (sym q) (
+        record { decided = subst (λ z. IsDecided x node b.txn n (stamp_for node n z)) e is_decided; time = le_refl n },
+        record { submission = ballot.submission; batch = ballot.batch; written = ballot.written; here = k },
+      )
   announce_go None e k u (inr m) =
       let q = map_only (λ d. envelope node (shard_node top d (shard_of top node)) n (ReplBegin b.txn b.rows (stamp_for node n None) b.cohorts b.dependencies)) (other_dcs top node) u m in
       let s = stamp_go None e k in
@@ -254,7 +255,6 @@ decide_able top w node n a b some inv lt like k none votes =
           (subst AreApart (sym like.applied) old.apart)
           (subst (λ l. IsNewStamp (stamp_for node n b.stamp) l) (sym like.applied) (new_go top w node n b inv lt k none b.stamp k.stamp))
           (ballot_grows gr (le_refl n) k)
-          (λ e. e ∙ inv.submitted.home k.submission k.written.among ∙ ap (λ t. home top t.session) k.written.txn)
           (λ c m. before_grows gr (le_refl n) (votes c m))
           (λ d m. subst (λ l. Sees l d.txn) (sym like.applied) (old.decided d (subst (λ l. Among d l) like.decided m)).applied)
           (λ y m. kept.waiting y (subst (λ l. Among y l) like.waiting m))

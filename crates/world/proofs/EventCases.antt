@@ -71,7 +71,7 @@ submit_cases top w node o P c = by (is_session top node) refl
     go is None = clocked is (ticked (w.sessions node).clock (w.sessions node).clock) refl
 
     by : (b : Bool) → is_session top node ≡ b → P (submit_if b top w node o)
-    by true is = go is (submit_fault (is_idle (w.sessions node).current) top o)
+    by true is = go is (submit_fault top (w.sessions node) o)
     by false is = c.nothing
 
 collect_cases : (top : TopologyValue) (w : Run) (node time : ℕ) (P : Run → Type 0) → TimedCases top w (Collect node time) P

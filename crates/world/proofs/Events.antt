@@ -7,7 +7,7 @@ use Rattle.messages.specs.declared.envelope.Envelope.{Envelope}
 use Rattle.messages.specs.Topology.{TopologyValue, is_shard, is_session}
 use Rattle.messages.specs.Clock.{ticked, on_clock}
 use Rattle.messages.specs.Session.{is_idle}
-use Rattle.messages.specs.Submitting.{begun, plan_fault, submit_fault, submit_if as session_submit_if}
+use Rattle.messages.specs.Submitting.{begun, busy_or, plan_fault, submit_fault, submit_if as session_submit_if}
 use Rattle.messages.specs.SessionEvents.{heard, session_handle}
 use Rattle.messages.specs.ShardEvents.{handled, shard_handle, collected}
 use Rattle.world.specs.Run.{Run, Event, Submit, Deliver, Collect, after_shard, after_session, after_submission, submit_if, deliver_if, deliver_for, collect_if, step}
@@ -89,13 +89,13 @@ module _ (top : TopologyValue) (w : Run) (some : 0 < top.shards) (inv : Inv top 
 
   -- ## A submission
 
-  accepted : (o : Op) (b : Bool) → submit_fault b top o ≡ None → plan_fault top o ≡ None
+  accepted : (o : Op) (b : Bool) → busy_or b (plan_fault top o) ≡ None → plan_fault top o ≡ None
   accepted o true e = e
   accepted o false e = absurd (cc)
 
   submit_go : (b : Bool) (node : ℕ) (o : Op) → Kept top w (submit_if b top w node o)
   submit_go false node o = same_kept top w inv
-  submit_go true node o = by (submit_fault (is_idle (w.sessions node).current) top o) refl
+  submit_go true node o = by (submit_fault top (w.sessions node) o) refl
     where
       go : plan_fault top o ≡ None → (c : Option ℕ) → ticked (w.sessions node).clock (w.sessions node).clock ≡ c
           → Kept top w (after_submission (on_clock c (λ n. begun top node n (w.sessions node) o)) w node o)
@@ -104,7 +104,7 @@ module _ (top : TopologyValue) (w : Run) (some : 0 < top.shards) (inv : Inv top 
           let above = ticked_above (w.sessions node).clock (w.sessions node).clock n q in
           (begun_kept top w node n o some inv above.0 plan, begun_grows top w node n o inv above.0)
 
-      by : (f : Option Fault) → submit_fault (is_idle (w.sessions node).current) top o ≡ f
+      by : (f : Option Fault) → submit_fault top (w.sessions node) o ≡ f
           → Kept top w (after_submission (session_submit_if f top node (w.sessions node) o) w node o)
       by (Some e) q = same_kept top w inv
       by None q = go (accepted o (is_idle (w.sessions node).current) q) (ticked (w.sessions node).clock (w.sessions node).clock) refl

@@ -15,7 +15,8 @@ use Rattle.messages.specs.declared.rows_at.RowAt.{RowAt}
 use Rattle.messages.specs.declared.op.Op.TheVariants as op
 use Rattle.messages.specs.Topology.{TopologyValue, dc_of, shard_of, shard_node}
 use Rattle.messages.specs.Shard.{Role, Own, Cohort, Replica, PreparedPart, BegunBallot, Decision, KeptPart, KeptBallot, WaitingRead}
-use Rattle.messages.specs.Rows.{row_of, touches_row}
+use Rattle.slice.specs.Rows.{row_of}
+use Rattle.messages.specs.Rows.{touches_row}
 use Rattle.shard.specs.Right.{part_now, part_then}
 use Rattle.world.specs.Run.{Run, Submission}
 use Rattle.world.proofs.Among.{Among}

@@ -15,7 +15,7 @@ use Rattle.slice.specs.Slice.{is_asked}
 use Rattle.slice.proofs.LiveTable.{at}
 use Rattle.store.specs.declared.part.Applied.{Applied}
 use Rattle.store.specs.Part.{history_of as parts_of, evt_of}
-use Rattle.table.specs.Meaning.{row_of}
+use Rattle.slice.specs.Rows.{row_of}
 use Rattle.planner.specs.Partition.{shard_of as shard_of_key}
 use Rattle.planner.specs.Plan.{is_on, keys_for, shards_asked}
 use Rattle.planner.proofs.Asked.{asked_key}

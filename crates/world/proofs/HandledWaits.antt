@@ -13,7 +13,8 @@ use Rattle.messages.specs.Topology.{TopologyValue, shard_of}
 use Rattle.messages.specs.Words.{is_same_txn}
 use Rattle.messages.specs.Shard.{ShardState, ShardStep, Role, Own, Cohort, Replica, PreparedPart, BegunBallot, Vote, Decision, KeptPart, KeptBallot, Asker, WaitingRead, quiet}
 use Rattle.messages.specs.Known.{decision_of, prepared_part, kept_part, kept_ballot, standing_ballot, is_known, is_applied, has_vote, is_awaited, all_voted, is_asker}
-use Rattle.messages.specs.Rows.{row_of, touches_row}
+use Rattle.slice.specs.Rows.{row_of}
+use Rattle.messages.specs.Rows.{touches_row}
 use Rattle.messages.specs.Reads.{answer, marks_below, asked_below, is_waiting, waiting_read, read_at_of, read_at_if}
 use Rattle.messages.specs.Commits.{applied_part, commits, stamp_for, announcements, dep_oks, decide, hold, prepare_part, repl_parts, apply_part, begin_if, prepare_if, with_vote, counted_if, vote_if, early_if, yes_for, commit_if, commit_for, check_for}
 use Rattle.messages.specs.Replication.{ballot_of, remote_prepare, is_ready, ready_if, ready, dep_checks, with_ballot, sent_before, repl_begin_if, with_notice, notice_if, early_notice_if, notify_for, repl_part_if, prepare_remote_for, remember_if, dep_check_for, is_unmet, with_met, met_if, dep_ok_for}

@@ -213,7 +213,7 @@ writes_last top w node o allowed = by (is_session top node) refl
         ∙ ap (λ (z : ℕ). option_to_list (option_map (λ (b : List Change). (record { session = z; number = s.number }, b)) (batch_in o))) is
         ∙ ap (λ (z : ℕ). option_to_list (option_map (λ (b : List Change). (record { session = node; number = z }, b)) (batch_in o))) number
 
-    go : (f : Option Fault) (c : Option ℕ) → refused_by (submitted_if f top node (w.sessions node) o) ≡ None → submit_fault (is_idle (w.sessions node).current) top o ≡ f
+    go : (f : Option Fault) (c : Option ℕ) → refused_by (submitted_if f top node (w.sessions node) o) ≡ None → submit_fault top (w.sessions node) o ≡ f
         → ticked (w.sessions node).clock (w.sessions node).clock ≡ c
         → Last (after_submission (session_submit top node (w.sessions node) o) w node o)
     go (Some e) c free fault clock = absurd (cc)
@@ -229,7 +229,7 @@ writes_last top w node o allowed = by (is_session top node) refl
     by false is = absurd (let q = ap (λ b. if b then refused_by (session_submit top node (w.sessions node) o) else Some NoSuchActor) (sym is) ∙ allowed in cc)
     by true is =
         ap (λ b. filter_map write_of (submit_if b top w node o).submitted) is
-        ∙ go (submit_fault (is_idle (w.sessions node).current) top o) (ticked (w.sessions node).clock (w.sessions node).clock)
+        ∙ go (submit_fault top (w.sessions node) o) (ticked (w.sessions node).clock (w.sessions node).clock)
         (sym (ap (λ b. if b then refused_by (session_submit top node (w.sessions node) o) else Some NoSuchActor) is) ∙ allowed) refl refl
 
 -- what is noted of an accepted operation tells its write

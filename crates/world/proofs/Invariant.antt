@@ -44,6 +44,13 @@ pub record IsLead (top : TopologyValue) (w : Run) (dc node : ℕ) (t : TxnValue)
   pub written : IsWritten w t submission batch
   pub here : node ≡ lead top dc batch
 
+-- the transaction was submitted by a session that was then at home in the data centre of this shard
+pub record IsAtHome (top : TopologyValue) (w : Run) (node : ℕ) (t : TxnValue) : Type 0 where
+  pub submission : Submission
+  pub batch : List Change
+  pub written : IsWritten w t submission batch
+  pub here : dc_of top node ≡ submission.home
+
 -- a cohort's part, where the write was submitted
 pub record PrepareSound (top : TopologyValue) (w : Run) (node : ℕ) (t : TxnValue) (changes : List Change) (c : ℕ) : Type 0 where
   pub submission : Submission
@@ -95,7 +102,7 @@ Says top w from to time (Notify t) = Unit {0}
 Says top w from to time (PrepareRemote t) = Unit {0}
 Says top w from to time (DepCheck dependency waiter) = dc_of top from ≡ dc_of top to
 Says top w from to time (DepOk dependency waiter commit) = IsDone top w (dc_of top to) dependency (time + 1)
-Says top w from to time (Done t commit stamp) = TellsDecision w from time t commit stamp × (dc_of top from ≡ home top to)
+Says top w from to time (Done t commit stamp) = TellsDecision w from time t commit stamp × IsAtHome top w from t
 Says top w from to time (PartNow number rows) = TellsNow top w from to time number rows
 Says top w from to time (PartAt number bound answer) = TellsThen answer top w from to number bound
 

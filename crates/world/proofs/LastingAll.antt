@@ -15,11 +15,14 @@ use Rattle.messages.specs.Topology.{TopologyValue}
 use Rattle.messages.specs.Session.{SessionState, Open, Idle, Writing, FirstRound, SecondRound, HeardNow, HeardAt}
 use Rattle.world.specs.Run.{Run, Completed}
 use Rattle.world.proofs.Growth.{Grows}
-use Rattle.world.proofs.Invariant.{IsLead, TellsDecision, TellsThen, Says, ShardSound, IsOpen, HeardNowSound, HeardAtSound, OpenSound, SessionSound, AnsweredFrom, EndSound, CompletedSound}
+use Rattle.world.proofs.Invariant.{IsAtHome, IsLead, TellsDecision, TellsThen, Says, ShardSound, IsOpen, HeardNowSound, HeardAtSound, OpenSound, SessionSound, AnsweredFrom, EndSound, CompletedSound}
 use Rattle.world.proofs.Lasting.{written_grows, decided_grows, done_grows, before_grows, prepared_grows, ballot_grows, kept_ballot_grows, kept_part_grows, decision_grows, applied_grows, excluded_grows, row_at_grows, answers_now_grow, answers_at_grow, wait_grows}
 
 pub lead_grows : {top : TopologyValue} {w x : Run} {dc node : ℕ} {t : TxnValue} → Grows top w x → IsLead top w dc node t → IsLead top x dc node t
 lead_grows g k = record { submission = k.submission; batch = k.batch; written = written_grows g k.written; here = k.here }
+
+at_home_grows : {top : TopologyValue} {w x : Run} {node : ℕ} {t : TxnValue} → Grows top w x → IsAtHome top w node t → IsAtHome top x node t
+at_home_grows g k = record { submission = k.submission; batch = k.batch; written = written_grows g k.written; here = k.here }
 
 tells_grows : {top : TopologyValue} {w x : Run} {from n commit : ℕ} {t : TxnValue} {s : StampValue} → Grows top w x → TellsDecision w from n t commit s → TellsDecision x from n t commit s
 tells_grows g k = record { decided = decided_grows g k.decided; time = k.time }
@@ -54,7 +57,7 @@ says_grows top from to n g (Notify t) k = k
 says_grows top from to n g (PrepareRemote t) k = k
 says_grows top from to n g (DepCheck dependency waiter) k = k
 says_grows top from to n g (DepOk dependency waiter commit) k = done_grows g (le_refl _) k
-says_grows top from to n g (Done t commit stamp) k = (tells_grows g k.0, k.1)
+says_grows top from to n g (Done t commit stamp) k = (tells_grows g k.0, at_home_grows g k.1)
 says_grows top from to n g (PartNow number rows) k =
     record { read = k.read; asked = (g.sessions to).asked_now number from k.read k.asked; answers = answers_now_grow g (le_refl _) k.answers }
 says_grows top from to n g (PartAt number bound answer) k = then_grows answer top from to number bound g k

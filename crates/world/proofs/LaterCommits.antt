@@ -10,7 +10,7 @@ use Rattle.messages.specs.declared.rows_at.RowAt.{RowAt}
 use Rattle.planner.specs.Partition.{shard_of as shard_of_key}
 use Rattle.messages.specs.Topology.{TopologyValue, dc_of, shard_node}
 use Rattle.messages.specs.Shard.{Decision}
-use Rattle.messages.specs.Rows.{row_of}
+use Rattle.slice.specs.Rows.{row_of}
 use Rattle.messages.proofs.Numbering.{dc_of_shard, number_of_shard}
 use Rattle.world.specs.Run.{Run}
 use Rattle.world.specs.Histories.{batch_submitted, decisions_in}

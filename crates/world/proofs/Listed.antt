@@ -76,7 +76,7 @@ collection_finishes_none top n (OfSession a) time s q = absurd (cc)
 
 submission_finishes_none : (top : TopologyValue) (n : ℕ) (a : ActorState) (o : Op) (s : ActorStep) → actor_step top n a (SubmitHere o) ≡ Some s → s.finishes ≡ None
 submission_finishes_none top n (OfShard a) o s q = absurd (cc)
-submission_finishes_none top n (OfSession a) o s q = go (submit_fault (is_idle a.current) top o) q
+submission_finishes_none top n (OfSession a) o s q = go (submit_fault top a o) q
   where
     by : (t : Option ℕ) → of_session (on_clock t (λ k. begun top n k a o)) ≡ Some s → s.finishes ≡ None
     by None h = absurd (cc)

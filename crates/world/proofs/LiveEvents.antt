@@ -9,7 +9,7 @@ use Rattle.messages.specs.declared.envelope.Envelope.{Envelope}
 use Rattle.messages.specs.Topology.{TopologyValue, is_topology, is_shard, is_session}
 use Rattle.messages.specs.Clock.{ticked, on_clock}
 use Rattle.messages.specs.Session.{is_idle}
-use Rattle.messages.specs.Submitting.{begun, plan_fault, submit_fault, submit_if as session_submit_if}
+use Rattle.messages.specs.Submitting.{begun, busy_or, plan_fault, submit_fault, submit_if as session_submit_if}
 use Rattle.messages.specs.SessionEvents.{heard, session_handle}
 use Rattle.messages.specs.ShardEvents.{handled, shard_handle, collected}
 use Rattle.world.specs.Run.{Run, Event, Submit, Deliver, Collect, opening, after_shard, after_session, after_submission, submit_if, deliver_if, deliver_for, collect_if, step, continued, run}
@@ -135,20 +135,20 @@ module _ (top : TopologyValue) (ok : Stands top) (w : Run) (inv : Inv top w) (li
 
   -- ## A submission
 
-  accepted : (o : Op) (b : Bool) → submit_fault b top o ≡ None → (b ≡ true) × (plan_fault top o ≡ None)
+  accepted : (o : Op) (b : Bool) → busy_or b (plan_fault top o) ≡ None → (b ≡ true) × (plan_fault top o ≡ None)
   accepted o true e = (refl, e)
   accepted o false e = absurd (cc)
 
   submit_go : (b : Bool) (node : ℕ) (o : Op) → Live top (submit_if b top w node o)
   submit_go false node o = live
-  submit_go true node o = by (submit_fault (is_idle (w.sessions node).current) top o) refl
+  submit_go true node o = by (submit_fault top (w.sessions node) o) refl
     where
       go : (is_idle (w.sessions node).current ≡ true) × (plan_fault top o ≡ None) → (c : Option ℕ)
           → Live top (after_submission (on_clock c (λ n. begun top node n (w.sessions node) o)) w node o)
       go plan None = live
       go plan (Some n) = begun_live top w node n ok.some live (homed node) plan.0 stations.handled o plan.1
 
-      by : (f : Option Fault) → submit_fault (is_idle (w.sessions node).current) top o ≡ f
+      by : (f : Option Fault) → submit_fault top (w.sessions node) o ≡ f
           → Live top (after_submission (session_submit_if f top node (w.sessions node) o) w node o)
       by (Some e) q = live
       by None q = go (accepted o (is_idle (w.sessions node).current) q) (ticked (w.sessions node).clock (w.sessions node).clock)

@@ -158,7 +158,7 @@ submission_refusal top w node o is = ap (λ b. if b then refused_by (session_sub
 
 station_submitted : (top : TopologyValue) (events : List Event) (i node : ℕ) (o : Op) (a b : Actors) (s t : Station) (f : Option Fault) (c : Option ℕ) → IsRunning top (run top events) a
     → node ≡ shard_count top + i → slice_get a.stations.items i ≡ Some s → i < length a.stations.items → b.stations.items ≡ slice_set a.stations.items i t
-    → submit_fault (is_idle ((run top events).sessions node).current) top o ≡ f → ticked ((run top events).sessions node).clock ((run top events).sessions node).clock ≡ c
+    → submit_fault top ((run top events).sessions node) o ≡ f → ticked ((run top events).sessions node).clock ((run top events).sessions node).clock ≡ c
     → DidSubmitOf top (session_submit top node ((run top events).sessions node) o) o s t a.network.sent b.network.sent
     → b.topology ≡ a.topology → b.shards.items ≡ a.shards.items → b.transcript.items ≡ a.transcript.items → HasTaken top events (Submit node o) b
 station_submitted top events i node o a b s t (Some e) c is to at lt set fault clock did topology shards told =
@@ -190,7 +190,7 @@ pub station_submits : (top : TopologyValue) (events : List Event) (i node : ℕ)
 station_submits top events i node o kept a b s t is to at lt set same did topology shards told =
     let w = run top events in
     let n = at_node top events i a s node is at to in
-    station_submitted top events i node o a b s t (submit_fault (is_idle (w.sessions node).current) top o) (ticked (w.sessions node).clock (w.sessions node).clock) is n.0 at lt set refl refl
+    station_submitted top events i node o a b s t (submit_fault top (w.sessions node) o) (ticked (w.sessions node).clock (w.sessions node).clock) is n.0 at lt set refl refl
     (subst (λ z. DidSubmitOf top (session_submit top z (w.sessions node) o) o s t a.network.sent b.network.sent) n.1
     (subst (λ z. DidSubmitOf top (session_submit top s.session.node (w.sessions node) o) z s t a.network.sent b.network.sent) same (did top (w.sessions node) n.2)))
     topology shards told

@@ -15,7 +15,7 @@ use Rattle.store.specs.declared.part.Applied.{Applied}
 use Rattle.store.specs.Part.{history_of as parts_of, applied_by}
 use Rattle.store.proofs.Lists.{kept_only}
 use Rattle.store.proofs.Apart.{newest_from}
-use Rattle.table.specs.Meaning.{row_of}
+use Rattle.slice.specs.Rows.{row_of}
 use Rattle.planner.proofs.Members.{map_contains, contains_flat}
 use Rattle.messages.specs.declared.rows_at.RowAt.{RowAt}
 use Rattle.messages.specs.Topology.{TopologyValue, dc_of}

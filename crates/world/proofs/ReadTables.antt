@@ -8,7 +8,8 @@ use Rattle.slice.specs.declared.read.AnsweredRow.{AnsweredRow}
 use Rattle.slice.specs.Slice.{slice_of}
 use Rattle.slice.specs.Live.{live_columns}
 use Rattle.store.specs.Part.{history_of as parts_of, applied_by}
-use Rattle.table.specs.Meaning.{row_of, shown_row, meaning}
+use Rattle.slice.specs.Rows.{row_of}
+use Rattle.table.specs.Meaning.{shown_row, meaning}
 use Rattle.planner.specs.Partition.{shard_of as shard_of_key}
 use Rattle.planner.specs.Join.{AreRight}
 use Rattle.planner.proofs.Members.{contains_map, map_contains}

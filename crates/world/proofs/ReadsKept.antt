@@ -6,7 +6,8 @@ use Rattle.slice.specs.declared.read.Read.{Read}
 use Rattle.store.specs.declared.part.Applied.{Applied}
 use Rattle.messages.specs.Topology.{TopologyValue}
 use Rattle.messages.specs.Shard.{ShardState, Decision}
-use Rattle.messages.specs.Rows.{row_of, row_now, marks_on, least_mark}
+use Rattle.slice.specs.Rows.{row_of}
+use Rattle.messages.specs.Rows.{row_now, marks_on, least_mark}
 use Rattle.messages.specs.Reads.{asked_below, check_of, is_waiting, waiting_read, read_at_of, read_at_if, on_read, on_read_at}
 use Rattle.messages.proofs.Greatest.{mark_below_clock}
 use Rattle.messages.proofs.RowParts.{row_now_shown}

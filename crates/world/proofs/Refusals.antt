@@ -120,10 +120,10 @@ module _ (top : TopologyValue) (w : Run) where
 
   submission_refused : (b : Bool) (node : ℕ) (o : Op) (e : Fault)
       → (if b then refused_by (session_submit top node (w.sessions node) o) else Some NoSuchActor) ≡ Some (Refused e)
-      → (submit_fault (is_idle (w.sessions node).current) top o ≡ Some e)
-      ⊎ ((submit_fault (is_idle (w.sessions node).current) top o ≡ None)
+      → (submit_fault top (w.sessions node) o ≡ Some e)
+      ⊎ ((submit_fault top (w.sessions node) o ≡ None)
       × (ticked (w.sessions node).clock (w.sessions node).clock ≡ None) × (e ≡ ClockSpent))
-  submission_refused true node o e h = fault_or_spent (submit_fault (is_idle (w.sessions node).current) top o) node o e h
+  submission_refused true node o e h = fault_or_spent (submit_fault top (w.sessions node) o) node o e h
   submission_refused false node o e h = absurd (no_such e h)
 
   pub have_reasons : HaveReasons top w

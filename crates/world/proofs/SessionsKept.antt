@@ -24,7 +24,7 @@ use Rattle.world.specs.Run.{Run}
 use Rattle.world.proofs.Among.{Among, last_or_old, map_only, same_txn}
 use Rattle.world.proofs.Growth.{FirstAsked, SecondAsked, AskedAt}
 use Rattle.world.proofs.Facts.{IsWritten, lead, IsDecided, IsDone, DecisionSound, AnswersNow, AnswersAt}
-use Rattle.world.proofs.Invariant.{home, TellsNow, TellsAt, TellsThen, Says, EnvelopeSound, IsOpen, HeardNowSound, HeardAtSound, WritingSound, SecondSound, OpenSound, AnsweredFrom, Inv}
+use Rattle.world.proofs.Invariant.{home, IsAtHome, TellsNow, TellsAt, TellsThen, Says, EnvelopeSound, IsOpen, HeardNowSound, HeardAtSound, WritingSound, SecondSound, OpenSound, AnsweredFrom, Inv}
 use Rattle.world.proofs.Lasting.{answers_now_grow}
 use Rattle.world.proofs.SessionSteps.{SessionAble}
 use Rattle.world.proofs.SessionEnds.{open_txn, ended_able, waits_able, calm_able, heard_now_later, heard_at_later}
@@ -46,17 +46,24 @@ module _ (top : TopologyValue) (w : Run) (node n : ℕ) (some : 0 < top.shards) 
 
   -- ## Done
 
+  -- a session is still at home where it submitted the open write
+  still_home : (from : ℕ) (t : TxnValue) → IsAtHome top w from t → t ≡ record { session = node; number = a.count } → dc_of top from ≡ a.home
+  still_home from t k is =
+      let at : k.submission.home ≡ home top k.submission.session = inv.submitted.home k.submission k.written.among in
+      let own : k.submission.session ≡ node = ap (λ z. z.session) (k.written.txn ∙ is) in
+      k.here ∙ (at ∙ (ap (home top) own ∙ sym (inv.sessions node).home))
+
   -- the shard that decided the open write is its coordinator at the session's home
   decided_lead : (c from : ℕ) (t : TxnValue) (commit : ℕ) (stamp : StampValue) (k : WritingSound top w node a c) → IsDecided w from t commit stamp
-      → dc_of top from ≡ home top node
+      → IsAtHome top w from t
       → t ≡ record { session = node; number = a.count } → from ≡ lead top a.home k.batch
   decided_lead c from t commit stamp k d here is =
       let s : DecisionSound top w from d.decision = (inv.shards from).decided d.decision d.among in
       let opened : IsWritten w (record { session = node; number = a.count }) k.opened.submission k.batch = record { among = k.opened.among; txn = open_txn k.opened; op = k.opened.op } in
-      s.here ∙ ap₂ (λ dc b. lead top dc b) (here ∙ sym (inv.sessions node).home) (batch_one inv.submitted (written_at (d.txn ∙ is) s.written) opened)
+      s.here ∙ ap₂ (λ dc b. lead top dc b) (still_home from t here is) (batch_one inv.submitted (written_at (d.txn ∙ is) s.written) opened)
 
   written_able : (c from : ℕ) (t : TxnValue) (commit : ℕ) (stamp : StampValue) → a.current ≡ Writing c → WritingSound top w node a c → commit ≤ n → IsDecided w from t commit stamp
-      → dc_of top from ≡ home top node
+      → IsAtHome top w from t
       → t ≡ record { session = node; number = a.count } → SessionAble top w node (written n a c t commit stamp)
   written_able c from t commit stamp current k early d here is =
       let floor = (inv.sessions node).floor in
@@ -64,7 +71,7 @@ module _ (top : TopologyValue) (w : Run) (node n : ℕ) (some : 0 < top.shards) 
       let done : IsDone top w a.home t (max a.floor commit + 1) =
       record {
         node = from;
-        here = here ∙ sym (inv.sessions node).home;
+        here = still_home from t here is;
         decision = d.decision;
         among = d.among;
         txn = d.txn;
@@ -82,7 +89,7 @@ module _ (top : TopologyValue) (w : Run) (node n : ℕ) (some : 0 < top.shards) 
       (omega arith, (c, ap (λ (u : TxnValue). let z : WriterValue = record { txn = u; shard = c } in z ∷ []) is))
 
   done_go : (o : Open) → a.current ≡ o → OpenSound top w node a o → (from : ℕ) (t : TxnValue) (commit : ℕ) (stamp : StampValue) → commit ≤ n → IsDecided w from t commit stamp
-      → dc_of top from ≡ home top node
+      → IsAtHome top w from t
       → SessionAble top w node (done_in o node n a t commit stamp)
   done_go Idle current k from t commit stamp early d here = calm_able top w node n inv le
   done_go (FirstRound read heard) current k from t commit stamp early d here = calm_able top w node n inv le

@@ -13,7 +13,7 @@ use Rattle.messages.specs.declared.rows_at.RowAt.{RowAt}
 use Rattle.messages.specs.Topology.{TopologyValue, shard_of, shard_node}
 use Rattle.messages.specs.Session.{SessionState, HeardNow, HeardAt}
 use Rattle.messages.specs.Submitting.{home_node}
-use Rattle.messages.specs.Rows.{row_of}
+use Rattle.slice.specs.Rows.{row_of}
 use Rattle.messages.specs.Rounds.{asked_nodes, all_heard, rows_heard, effective_time, row_taken, accepted, rows_from, late_keys, is_late, all_heard_at, rows_taken}
 use Rattle.messages.proofs.Greatest.{effective_above_each, effective_no_greater}
 use Rattle.world.specs.Run.{Run}

@@ -176,7 +176,7 @@ step_ticks top me (OfShard a) (Handle f) s e =
     shard_clocked me a (Handle f) s f.time (λ n. handled top me n a f.from f.body) (λ n. handled_own top me n a f.from f.body) (same_time f) e
 step_ticks top me (OfShard a) (CollectHere time) s e =
     shard_clocked me a (CollectHere time) s a.clock (λ n. collected n a time) (λ n. (refl, none)) (λ g q. absurd (cc)) e
-step_ticks top me (OfSession a) (SubmitHere o) s e = go (submit_fault (is_idle a.current) top o) e
+step_ticks top me (OfSession a) (SubmitHere o) s e = go (submit_fault top a o) e
   where
     go : (f : Option Fault) → of_session (submitted_if f top me a o) ≡ Some s → Ticks me (OfSession a) (SubmitHere o) s
     go (Some fault) h = absurd (cc)

@@ -8,7 +8,7 @@ use Rattle.store.specs.Part.{applied_by, IsRestedOn}
 use Rattle.planner.specs.Partition.{shard_of as shard_of_key}
 use Rattle.messages.specs.declared.rows_at.RowAt.{RowAt}
 use Rattle.messages.specs.Topology.{TopologyValue, shard_node, dc_of}
-use Rattle.messages.specs.Rows.{row_of}
+use Rattle.slice.specs.Rows.{row_of}
 use Rattle.messages.specs.Rounds.{with_writers}
 use Rattle.messages.proofs.Numbering.{dc_of_shard}
 use Rattle.messages.proofs.WritersInOrder.{writers_stay}

@@ -6,7 +6,7 @@ use Rattle.column_family.specs.declared.batch.Change.{Change}
 use Rattle.column_family.specs.History.{up_to}
 use Rattle.slice.specs.declared.read.Read.{Read}
 use Rattle.slice.specs.Rests.{RowRestsOn}
-use Rattle.table.specs.Meaning.{row_of}
+use Rattle.slice.specs.Rows.{row_of}
 use Rattle.messages.specs.declared.op.Op.{Op}
 use Rattle.messages.specs.declared.op.Op.TheVariants as op
 use Rattle.messages.specs.declared.outcome.Outcome.{Outcome}

@@ -9,7 +9,7 @@ use Rattle.slice.specs.declared.read.AnsweredRow.{AnsweredRow}
 use Rattle.slice.specs.Slice.{is_asked}
 use Rattle.store.specs.declared.part.Applied.{Applied}
 use Rattle.planner.specs.Plan.{shards_asked}
-use Rattle.table.specs.Meaning.{row_of}
+use Rattle.slice.specs.Rows.{row_of}
 use Rattle.messages.specs.declared.rows_now.RowNow.{RowNow}
 use Rattle.messages.specs.declared.body.Body.TheVariants as body
 use Rattle.messages.specs.declared.envelope.Envelope.{Envelope}

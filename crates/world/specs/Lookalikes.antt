@@ -12,7 +12,8 @@ use Rattle.slice.specs.declared.read.Read.{Read}
 use Rattle.slice.specs.declared.read.AnsweredRow.{AnsweredRow}
 use Rattle.slice.specs.Slice.{is_asked}
 use Rattle.store.specs.declared.part.Applied.{Applied}
-use Rattle.table.specs.Meaning.{meaning, row_of}
+use Rattle.slice.specs.Rows.{row_of}
+use Rattle.table.specs.Meaning.{meaning}
 use Rattle.planner.specs.Plan.{coordinator_of}
 use Rattle.messages.specs.declared.envelope.Envelope.{Envelope}
 use Rattle.messages.specs.declared.op.Op.TheVariants as op

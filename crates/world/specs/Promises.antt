@@ -7,7 +7,8 @@ use Rattle.column_family.specs.Location.{touches}
 use Rattle.column_family.specs.History.{History}
 use Rattle.slice.specs.declared.read.Read.{Read}
 use Rattle.slice.specs.declared.read.AnsweredRow.{AnsweredRow}
-use Rattle.table.specs.Meaning.{meaning, row_of}
+use Rattle.slice.specs.Rows.{row_of}
+use Rattle.table.specs.Meaning.{meaning}
 use Rattle.messages.specs.declared.op.Op.{Op}
 use Rattle.messages.specs.declared.op.Op.TheVariants as op
 use Rattle.messages.specs.declared.outcome.Outcome.{Outcome}

@@ -47,8 +47,8 @@ clock_at top w node = if is_shard top node then (w.shards node).clock else (w.se
 -- neither, and any other event at all, only where the actor's clock would leave its range.
 pub record HaveReasons (top : TopologyValue) (w : Run) : Type 0 where
   pub submissions : (node : ℕ) (o : Op) (e : Fault) → refusal_of top w (Submit node o) ≡ Some (Refused e)
-      → (submit_fault (is_idle (w.sessions node).current) top o ≡ Some e)
-      ⊎ ((submit_fault (is_idle (w.sessions node).current) top o ≡ None)
+      → (submit_fault top (w.sessions node) o ≡ Some e)
+      ⊎ ((submit_fault top (w.sessions node) o ≡ None)
       × (ticked (w.sessions node).clock (w.sessions node).clock ≡ None) × (e ≡ ClockSpent))
   pub deliveries : (k : ℕ) (e : Fault) → refusal_of top w (Deliver k) ≡ Some (Refused e)
       → (f : Envelope) × (slice_get w.sent k ≡ Some f) × (ticked (clock_at top w f.to) f.time ≡ None) × (e ≡ ClockSpent)

@@ -1,5 +1,5 @@
 use Rattle.std.proofs.Common.{◌≡◌, take, map}
-use Rattle.messages.specs.Rows.{row_of}
+use Rattle.slice.specs.Rows.{row_of}
 use Rattle.commit_check.proofs.row.rows_of.Given as goal
 
 -- the rows of the keys so far

@@ -1,6 +1,7 @@
 use Rattle.std.proofs.Common.{rules, ◌≡◌, true, subst}
 use Rattle.column_family.specs.declared.batch.Row.{Row}
-use Rattle.pending.specs.Marks.{rows_of, is_listed}
+use Rattle.column_family.specs.Places.{is_listed}
+use Rattle.pending.specs.Marks.{rows_of}
 use Rattle.pending.proofs.Noted.{noted_either}
 use Rattle.pending.proofs.marks.mark_noted.Goals as goal
 

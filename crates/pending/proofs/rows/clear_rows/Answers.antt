@@ -2,7 +2,8 @@ use Rattle.std.proofs.Common.{None}
 use Rattle.std.specs.Prelude.{if◌then◌else◌, ◌&&◌}
 use Rattle.std.specs.Ordering.{is_eq}
 use Rattle.logical_time.specs.Stamps.{txn_cmp}
-use Rattle.pending.specs.Marks.{time_at, is_listed}
+use Rattle.column_family.specs.Places.{is_listed}
+use Rattle.pending.specs.Marks.{time_at}
 use Rattle.pending.proofs.Noted.{cleared_more}
 use Rattle.pending.proofs.rows.clear_rows.Goals as goal
 

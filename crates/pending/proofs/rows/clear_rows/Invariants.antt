@@ -3,7 +3,8 @@ use Rattle.std.specs.Prelude.{if◌then◌else◌, ◌&&◌}
 use Rattle.std.specs.Ordering.{is_eq}
 use Rattle.logical_time.specs.Stamps.{TxnValue, txn_cmp}
 use Rattle.column_family.specs.declared.batch.Row.{Row}
-use Rattle.pending.specs.Marks.{time_at, is_listed}
+use Rattle.column_family.specs.Places.{is_listed}
+use Rattle.pending.specs.Marks.{time_at}
 use Rattle.pending.proofs.rows.clear_rows.Given as goal
 
 -- with the rows that are left all are cleared

@@ -2,7 +2,7 @@ use Rattle.std.proofs.Common.{◌≡◌, rules, sym, subst, true, List}
 use Rattle.std.proofs.lemmas.Result.{on_ok_weaker}
 use Rattle.logical_time.specs.Stamps.{txn_cmp}
 use Rattle.column_family.specs.declared.batch.Row.{Row}
-use Rattle.pending.specs.Marks.{is_listed}
+use Rattle.column_family.specs.Places.{is_listed}
 use Rattle.pending.proofs.Maps.{each_entry, found}
 use Rattle.pending.proofs.Times.{same_txn}
 use Rattle.pending.proofs.touched.note.Goals as goal

@@ -3,7 +3,7 @@ use Rattle.std.proofs.lemmas.Result.{IfOk-weaker}
 use Rattle.column_family.specs.declared.batch.Row.{Row}
 use Rattle.logical_time.specs.Stamps.{TxnValue}
 use Rattle.pending.specs.Marked.{AreBelow}
-use Rattle.messages.specs.Rows.{row_of}
+use Rattle.slice.specs.Rows.{row_of}
 use Rattle.write_txn.specs.Ledger.{LedgerValue}
 use Rattle.shard.specs.UnderWay.{writer_under_way}
 use Rattle.shard.proofs.BelowTime.{writers_are_asked}

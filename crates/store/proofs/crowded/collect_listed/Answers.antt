@@ -1,4 +1,4 @@
-use Rattle.store.specs.Crowded.{is_listed}
+use Rattle.column_family.specs.Places.{is_listed}
 use Rattle.store.specs.Kept.{chain_at}
 use Rattle.store.proofs.Listed.{if_collected, collected_more}
 use Rattle.store.proofs.crowded.collect_listed.Goals as goal

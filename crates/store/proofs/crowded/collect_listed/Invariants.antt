@@ -1,6 +1,6 @@
 use Rattle.std.proofs.Common.{◌≡◌}
 use Rattle.column_family.specs.declared.batch.Row.{Row}
-use Rattle.store.specs.Crowded.{is_listed}
+use Rattle.column_family.specs.Places.{is_listed}
 use Rattle.store.specs.Kept.{Place, chain_at}
 use Rattle.store.proofs.Listed.{if_collected}
 use Rattle.store.proofs.crowded.collect_listed.Given as goal

@@ -20,14 +20,14 @@ returns-clause-ok c = λ asks.
     let d = option_copied c.args.deletion in
     let column = λ (s : Seen). live_of d (named s) in
     let live = filter_map column items in
-    let part : Part = record { columns = c.in_ok-columns.columns; writers = c.in_order.result; evt = c.evt_of.result } in
+    let part : Part = record { columns = c.in_ok-columns.columns; writers = c.in_ok-writers.writers; evt = c.evt_of.result } in
     let shows : c.in_ok-columns.columns ≡ first_of_walk p live =
     c.in_ok-columns.ensures ∙ (c.in_ok-found.ensures.ok
     ∙ (ap (filter_map column) (c.as_slice.ensures.value ∙ c.first_of_walk-shown.ensures)
     ∙ (ap (λ (ss : List Seen). filter_map column (first_of_walk p ss)) c.in_ok-live.ensures ∙ chosen_first column p items))) in
     let cut : AreAsked p live → c.in_ok-columns.columns ≡ slice_of p live = λ asked. shows ∙ cut_of_asked p live asked in
     let rest = option_to_list (option_map (λ (v : Version). v.what.writer) d) in
-    let writes : c.in_ok-writers.writers.items ≡ filter_map (λ s. writer_of p c.in_ok-columns.columns d (named s)) items ++ rest =
-    c.in_ok-writers.ensures ∙ ap (λ (cs : List Column). filter_map (λ s. writer_of p cs d (named s)) items ++ rest) (c.as_slice-2.ensures.value ∙ sym c.in_ok-columns.ensures) in
+    let writes : c.in_ok-rested.rested.items ≡ filter_map (λ s. writer_of p c.in_ok-columns.columns d (named s)) items ++ rest =
+    c.in_ok-rested.ensures ∙ ap (λ (cs : List Column). filter_map (λ s. writer_of p cs d (named s)) items ++ rest) (c.as_slice-2.ensures.value ∙ sym c.in_ok-columns.ensures) in
     let evt : c.evt_of.result ≡ max (evt_or_0 d) (greatest_of (map (λ s. s.version.now.evt) items)) = search rules in
-    part_made p part items d live c.in_ok-writers.writers.items asks refl cut writes c.in_order.ensures.keeps c.in_order.ensures.adds_none c.in_order.ensures.in_order evt
+    part_made p part items d live c.in_ok-rested.rested.items asks refl cut writes c.in_ok-writers.ensures.same c.in_ok-writers.ensures.sorted evt

@@ -3,7 +3,8 @@ use Rattle.column_family.specs.Places.{row_cmp}
 use Rattle.store.specs.Kept.{Place, Chains, no_row, chain_of}
 use Rattle.store.proofs.Collected.{row_collected}
 use Rattle.store.proofs.Listed.{if_collected, none_collected}
-use Rattle.store.proofs.Maps.{same_row, step_each, found}
+use Rattle.column_family.proofs.RowOrder.{same_row}
+use Rattle.store.proofs.Maps.{step_each, found}
 use Rattle.store.proofs.rows.collect_row.Goals as goal
 
 pub returns-in-Some : goal.returns-in-Some

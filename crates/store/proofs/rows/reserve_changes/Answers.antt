@@ -9,6 +9,10 @@ use Rattle.store.proofs.rows.reserve_changes.Goals as goal
 pub returns-in_err-reserve_change-clause-versions : goal.returns-in_err-reserve_change-clause-versions
 returns-in_err-reserve_change-clause-versions c = λ r p. c.reserve_change.ensures.versions r p ∙ c.loop-change.invariant.versions r p
 
+pub returns-in_err-reserve_change-clause-room : goal.returns-in_err-reserve_change-clause-room
+returns-in_err-reserve_change-clause-room c = λ r p.
+    let first = c.loop-change.invariant.grows r p in let next = c.reserve_change.ensures.room r p in omega arith
+
 pub returns-in_err-reserve_change-clause-succeeds : goal.returns-in_err-reserve_change-clause-succeeds
 returns-in_err-reserve_change-clause-succeeds c = λ has.
     let ok = c.reserve_change.ensures.succeeds (room_at c.args.rows.now.entries c.loop-change.rows.entries c.args.changes.now c.loop-change.change-index c.change-item.result c.loop-change-test.true c.change-item.is has c.loop-change.invariant.grows) in
