@@ -31,8 +31,8 @@ abbrev pub IsOrdered : Kept → Type 0
 IsOrdered k = in_writer_order k.dependencies ≡ k.dependencies
 
 -- a step in a topology with what is kept of it
-abbrev pub Does : SessionStep → ℕ → List ℕ → Kept → Kept → List Envelope → List Envelope → Type 0
-Does step dcs homes k l before sends = IsStep step (kept_in k dcs homes) l before (before ++ sends)
+abbrev pub Does : SessionStep → List ℕ → Kept → Kept → List Envelope → List Envelope → Type 0
+Does step homes k l before sends = IsStep step (kept_in k homes) l before (before ++ sends)
 
 -- ## Nothing happens
 
@@ -42,32 +42,32 @@ still_fits (now.Write coordinator) k n h = h
 still_fits (now.First f) k n h = h
 still_fits (now.Second s) k n h = h
 
-pub calms : (k : Kept) (dcs : ℕ) (homes : List ℕ) (n : ℕ) (before : List Envelope) → FitsIn k k.current → IsOrdered k
-    → Does (calm n (state_of k)) dcs homes k (steps.calmed n k) before []
-calms k dcs homes n before fits ordered = record {
+pub calms : (k : Kept) (homes : List ℕ) (n : ℕ) (before : List Envelope) → FitsIn k k.current → IsOrdered k
+    → Does (calm n (state_of k)) homes k (steps.calmed n k) before []
+calms k homes n before fits ordered = record {
   state = record { topology = refl; state = refl; current = still_fits k.current k n fits; ordered = ordered };
   sends = refl;
 }
 
 -- ## Done
 
-dones_if : (b : Bool) (k : Kept) (dcs : ℕ) (homes : List ℕ) (n : ℕ) (before : List Envelope) (coordinator : ℕ) (t : TxnValue) (commit : ℕ) (stamp : StampValue)
+dones_if : (b : Bool) (k : Kept) (homes : List ℕ) (n : ℕ) (before : List Envelope) (coordinator : ℕ) (t : TxnValue) (commit : ℕ) (stamp : StampValue)
     → FitsIn k k.current → IsOrdered k
-    → Does (machine.done_if b n (state_of k) coordinator t commit stamp) dcs homes k (steps.done_if b n k coordinator t commit stamp) before []
-dones_if true k dcs homes n before coordinator t commit stamp fits ordered = record {
+    → Does (machine.done_if b n (state_of k) coordinator t commit stamp) homes k (steps.done_if b n k coordinator t commit stamp) before []
+dones_if true k homes n before coordinator t commit stamp fits ordered = record {
   state = record { topology = refl; state = refl; current = tt; ordered = refl };
   sends = refl;
 }
-dones_if false k dcs homes n before coordinator t commit stamp fits ordered = calms k dcs homes n before fits ordered
+dones_if false k homes n before coordinator t commit stamp fits ordered = calms k homes n before fits ordered
 
-pub dones_in : (c : Current) (k : Kept) (dcs : ℕ) (homes : List ℕ) (n : ℕ) (before : List Envelope) (t : TxnValue) (commit : ℕ) (stamp : StampValue)
+pub dones_in : (c : Current) (k : Kept) (homes : List ℕ) (n : ℕ) (before : List Envelope) (t : TxnValue) (commit : ℕ) (stamp : StampValue)
     → c ≡ k.current → FitsIn k k.current → IsOrdered k
-    → Does (machine.done_in (open_of c) k.node n (state_of k) t commit stamp) dcs homes k (steps.done_in c n k t commit stamp) before []
-dones_in now.Idle k dcs homes n before t commit stamp e fits ordered = calms k dcs homes n before fits ordered
-dones_in (now.Write coordinator) k dcs homes n before t commit stamp e fits ordered =
-    dones_if (is_same_txn t (record { session = k.node; number = k.count })) k dcs homes n before coordinator t commit stamp fits ordered
-dones_in (now.First f) k dcs homes n before t commit stamp e fits ordered = calms k dcs homes n before fits ordered
-dones_in (now.Second s) k dcs homes n before t commit stamp e fits ordered = calms k dcs homes n before fits ordered
+    → Does (machine.done_in (open_of c) k.node n (state_of k) t commit stamp) homes k (steps.done_in c n k t commit stamp) before []
+dones_in now.Idle k homes n before t commit stamp e fits ordered = calms k homes n before fits ordered
+dones_in (now.Write coordinator) k homes n before t commit stamp e fits ordered =
+    dones_if (is_same_txn t (record { session = k.node; number = k.count })) k homes n before coordinator t commit stamp fits ordered
+dones_in (now.First f) k homes n before t commit stamp e fits ordered = calms k homes n before fits ordered
+dones_in (now.Second s) k homes n before t commit stamp e fits ordered = calms k homes n before fits ordered
 
 -- ## Reads that complete
 
@@ -75,9 +75,9 @@ dones_in (now.Second s) k dcs homes n before t commit stamp e fits ordered = cal
 settled : (k : Kept) → k.added ≡ [] → IsOrdered k → dependencies_of k ≡ k.dependencies
 settled k none ordered = ap (λ ws. in_writer_order (k.dependencies ++ ws)) none ∙ (ap in_writer_order (append-nil k.dependencies) ∙ ordered)
 
-pub completes : (k : Kept) (dcs : ℕ) (homes : List ℕ) (n : ℕ) (before : List Envelope) (read : Read) (time : ℕ) (rows : List RowAt) → k.added ≡ []
-    → IsOrdered k → Does (machine.answered n (state_of k) read time rows) dcs homes k (steps.completed n k (answered read time rows)) before []
-completes k dcs homes n before read time rows none ordered = record {
+pub completes : (k : Kept) (homes : List ℕ) (n : ℕ) (before : List Envelope) (read : Read) (time : ℕ) (rows : List RowAt) → k.added ≡ []
+    → IsOrdered k → Does (machine.answered n (state_of k) read time rows) homes k (steps.completed n k (answered read time rows)) before []
+completes k homes n before read time rows none ordered = record {
   state = record {
     topology = refl;
     state =
@@ -92,35 +92,35 @@ completes k dcs homes n before read time rows none ordered = record {
 
 -- ## PartAt
 
-hears_at : (b : Bool) (k : Kept) (dcs : ℕ) (homes : List ℕ) (n : ℕ) (before : List Envelope) (s : Second) → k.added ≡ [] → s.asked ≡ asked_of k s.read
-    → IsOrdered k → Does (machine.heard_at_if b n (state_of k) s.read s.time s.first s.heard) dcs homes k (steps.after_at (taken.heard_at_if b s) n k) before []
-hears_at true k dcs homes n before s none asked ordered =
-    completes k dcs homes n before s.read s.time (rounds.rows_taken s.time s.first s.heard) none ordered
-hears_at false k dcs homes n before s none asked ordered = record {
+hears_at : (b : Bool) (k : Kept) (homes : List ℕ) (n : ℕ) (before : List Envelope) (s : Second) → k.added ≡ [] → s.asked ≡ asked_of k s.read
+    → IsOrdered k → Does (machine.heard_at_if b n (state_of k) s.read s.time s.first s.heard) homes k (steps.after_at (taken.heard_at_if b s) n k) before []
+hears_at true k homes n before s none asked ordered =
+    completes k homes n before s.read s.time (rounds.rows_taken s.time s.first s.heard) none ordered
+hears_at false k homes n before s none asked ordered = record {
   state = record { topology = refl; state = refl; current = (none, asked); ordered = ordered };
   sends = refl;
 }
 
-takes_at : (answer : AtTime) (k : Kept) (dcs : ℕ) (homes : List ℕ) (n : ℕ) (before : List Envelope) (s : Second) (from : ℕ) → k.added ≡ []
+takes_at : (answer : AtTime) (k : Kept) (homes : List ℕ) (n : ℕ) (before : List Envelope) (s : Second) (from : ℕ) → k.added ≡ []
     → s.asked ≡ asked_of k s.read → IsOrdered k
-    → Does (machine.taken_at answer (kept_in k dcs homes) n (state_of k) s.read s.time s.first s.heard from) dcs homes k (steps.after_at (taken.taken_at answer s from) n k) before []
-takes_at at.Collected k dcs homes n before s from none asked ordered = record {
+    → Does (machine.taken_at answer (kept_in k homes) n (state_of k) s.read s.time s.first s.heard from) homes k (steps.after_at (taken.taken_at answer s from) n k) before []
+takes_at at.Collected k homes n before s from none asked ordered = record {
   state = record { topology = refl; state = refl; current = tt; ordered = ordered };
   sends = refl;
 }
-takes_at (at.Rows rows) k dcs homes n before s from none asked ordered =
+takes_at (at.Rows rows) k homes n before s from none asked ordered =
     let heard = s.heard ++ record { from = from; rows = rows } ∷ [] in
-    subst (λ nodes. Does (machine.heard_at_if (rounds.all_heard_at nodes s.time s.first heard) n (state_of k) s.read s.time s.first heard) dcs homes k
+    subst (λ nodes. Does (machine.heard_at_if (rounds.all_heard_at nodes s.time s.first heard) n (state_of k) s.read s.time s.first heard) homes k
     (steps.after_at (taken.heard_at (record s { heard = heard })) n k) before [])
     asked
-    (hears_at (rounds.all_heard_at s.asked s.time s.first heard) k dcs homes n before (record s { heard = heard }) none asked ordered)
+    (hears_at (rounds.all_heard_at s.asked s.time s.first heard) k homes n before (record s { heard = heard }) none asked ordered)
 
-awaits_at : (b : Bool) (k : Kept) (dcs : ℕ) (homes : List ℕ) (n : ℕ) (before : List Envelope) (s : Second) (from : ℕ) (answer : AtTime) → now.Second s ≡ k.current
+awaits_at : (b : Bool) (k : Kept) (homes : List ℕ) (n : ℕ) (before : List Envelope) (s : Second) (from : ℕ) (answer : AtTime) → now.Second s ≡ k.current
     → k.added ≡ [] → s.asked ≡ asked_of k s.read → IsOrdered k
-    → Does (machine.part_at_if b (kept_in k dcs homes) n (state_of k) s.read s.time s.first s.heard from answer) dcs homes k
+    → Does (machine.part_at_if b (kept_in k homes) n (state_of k) s.read s.time s.first s.heard from answer) homes k
     (steps.after_at (taken.second_taken_if b s from answer) n k) before []
-awaits_at true k dcs homes n before s from answer e none asked ordered = takes_at answer k dcs homes n before s from none asked ordered
-awaits_at false k dcs homes n before s from answer e none asked ordered = record {
+awaits_at true k homes n before s from answer e none asked ordered = takes_at answer k homes n before s from none asked ordered
+awaits_at false k homes n before s from answer e none asked ordered = record {
   state = record {
     topology = refl;
     state = ap (λ c. record (state_of k) { clock = n; current = open_of c }) (sym e);
@@ -130,22 +130,22 @@ awaits_at false k dcs homes n before s from answer e none asked ordered = record
   sends = refl;
 }
 
-parts_at : (b : Bool) (k : Kept) (dcs : ℕ) (homes : List ℕ) (n : ℕ) (before : List Envelope) (s : Second) (from : ℕ) (answer : AtTime) → now.Second s ≡ k.current
+parts_at : (b : Bool) (k : Kept) (homes : List ℕ) (n : ℕ) (before : List Envelope) (s : Second) (from : ℕ) (answer : AtTime) → now.Second s ≡ k.current
     → FitsIn k k.current → k.added ≡ [] → s.asked ≡ asked_of k s.read → IsOrdered k
-    → Does (machine.part_at_if (b && rounds.is_missing_at (asked_of k s.read) s.time s.first s.heard from) (kept_in k dcs homes) n (state_of k) s.read s.time s.first s.heard from answer) dcs homes k
+    → Does (machine.part_at_if (b && rounds.is_missing_at (asked_of k s.read) s.time s.first s.heard from) (kept_in k homes) n (state_of k) s.read s.time s.first s.heard from answer) homes k
     (steps.at_if b n k s from answer) before []
-parts_at false k dcs homes n before s from answer e fits none asked ordered = calms k dcs homes n before fits ordered
-parts_at true k dcs homes n before s from answer e fits none asked ordered =
-    subst (λ nodes. Does (machine.part_at_if (rounds.is_missing_at nodes s.time s.first s.heard from) (kept_in k dcs homes) n (state_of k) s.read s.time s.first s.heard from answer) dcs homes k
+parts_at false k homes n before s from answer e fits none asked ordered = calms k homes n before fits ordered
+parts_at true k homes n before s from answer e fits none asked ordered =
+    subst (λ nodes. Does (machine.part_at_if (rounds.is_missing_at nodes s.time s.first s.heard from) (kept_in k homes) n (state_of k) s.read s.time s.first s.heard from answer) homes k
     (steps.after_at (taken.second_taken s from answer) n k) before [])
     asked
-    (awaits_at (taken.is_awaited s from) k dcs homes n before s from answer e none asked ordered)
+    (awaits_at (taken.is_awaited s from) k homes n before s from answer e none asked ordered)
 
-pub hear_at : (c : Current) (k : Kept) (dcs : ℕ) (homes : List ℕ) (n : ℕ) (before : List Envelope) (from number : ℕ) (answer : AtTime) → c ≡ k.current
+pub hear_at : (c : Current) (k : Kept) (homes : List ℕ) (n : ℕ) (before : List Envelope) (from number : ℕ) (answer : AtTime) → c ≡ k.current
     → FitsIn k c → FitsIn k k.current → IsOrdered k
-    → Does (machine.part_at_in (open_of c) (kept_in k dcs homes) n (state_of k) from number answer) dcs homes k (steps.at_in c n k from number answer) before []
-hear_at now.Idle k dcs homes n before from number answer e fit fits ordered = calms k dcs homes n before fits ordered
-hear_at (now.Write coordinator) k dcs homes n before from number answer e fit fits ordered = calms k dcs homes n before fits ordered
-hear_at (now.First f) k dcs homes n before from number answer e fit fits ordered = calms k dcs homes n before fits ordered
-hear_at (now.Second s) k dcs homes n before from number answer e fit fits ordered =
-    parts_at (number == k.count) k dcs homes n before s from answer e fits fit.0 fit.1 ordered
+    → Does (machine.part_at_in (open_of c) (kept_in k homes) n (state_of k) from number answer) homes k (steps.at_in c n k from number answer) before []
+hear_at now.Idle k homes n before from number answer e fit fits ordered = calms k homes n before fits ordered
+hear_at (now.Write coordinator) k homes n before from number answer e fit fits ordered = calms k homes n before fits ordered
+hear_at (now.First f) k homes n before from number answer e fit fits ordered = calms k homes n before fits ordered
+hear_at (now.Second s) k homes n before from number answer e fit fits ordered =
+    parts_at (number == k.count) k homes n before s from answer e fits fit.0 fit.1 ordered

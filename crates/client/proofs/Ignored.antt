@@ -82,14 +82,14 @@ now_if_rests true top me a read before from rows first e =
     let h : HeardNow = record { from = from; rows = rows } in
     absurd (heard_rests (rounds.all_heard (rounds.asked_nodes top a read) (before ++ h ∷ [])) top me a read before h first e)
 
-now_rests : (c : Current) (k : Kept) (dcs : ℕ) (homes : List ℕ) (from number : ℕ) (rows : List RowNow) → c ≡ k.current → FitsIn k c
-    → Rests (machine.part_now_in (open_of c) (kept_in k dcs homes) k.node 0 (state_of k) from number rows) (state_of k) → heeds_now c k from number ≡ false
-now_rests now.Idle k dcs homes from number rows same fits e = refl
-now_rests (now.Write coordinator) k dcs homes from number rows same fits e = refl
-now_rests (now.Second s) k dcs homes from number rows same fits e = refl
-now_rests (now.First f) k dcs homes from number rows same fits e =
+now_rests : (c : Current) (k : Kept) (homes : List ℕ) (from number : ℕ) (rows : List RowNow) → c ≡ k.current → FitsIn k c
+    → Rests (machine.part_now_in (open_of c) (kept_in k homes) k.node 0 (state_of k) from number rows) (state_of k) → heeds_now c k from number ≡ false
+now_rests now.Idle k homes from number rows same fits e = refl
+now_rests (now.Write coordinator) k homes from number rows same fits e = refl
+now_rests (now.Second s) k homes from number rows same fits e = refl
+now_rests (now.First f) k homes from number rows same fits e =
     subst (λ nodes. ((number == k.count) && rounds.is_missing nodes f.heard from) ≡ false) (sym fits.1)
-    (now_if_rests ((number == k.count) && rounds.is_missing (asked_of k f.read) f.heard from) (kept_in k dcs homes) k.node (state_of k) f.read f.heard from rows
+    (now_if_rests ((number == k.count) && rounds.is_missing (asked_of k f.read) f.heard from) (kept_in k homes) k.node (state_of k) f.read f.heard from rows
     (ap open_of (sym same)) e)
 
 -- ## PartAt
@@ -117,27 +117,27 @@ at_if_rests : (b : Bool) (top : TopologyValue) (a : SessionState) (read : Read) 
 at_if_rests false top a read time first before from answer second e = refl
 at_if_rests true top a read time first before from answer second e = absurd (taken_rests answer top a read time first before from second e)
 
-at_rests : (c : Current) (k : Kept) (dcs : ℕ) (homes : List ℕ) (from number : ℕ) (answer : AtTime) → c ≡ k.current → FitsIn k c
-    → Rests (machine.part_at_in (open_of c) (kept_in k dcs homes) 0 (state_of k) from number answer) (state_of k) → heeds_at c k from number ≡ false
-at_rests now.Idle k dcs homes from number answer same fits e = refl
-at_rests (now.Write coordinator) k dcs homes from number answer same fits e = refl
-at_rests (now.First f) k dcs homes from number answer same fits e = refl
-at_rests (now.Second s) k dcs homes from number answer same fits e =
+at_rests : (c : Current) (k : Kept) (homes : List ℕ) (from number : ℕ) (answer : AtTime) → c ≡ k.current → FitsIn k c
+    → Rests (machine.part_at_in (open_of c) (kept_in k homes) 0 (state_of k) from number answer) (state_of k) → heeds_at c k from number ≡ false
+at_rests now.Idle k homes from number answer same fits e = refl
+at_rests (now.Write coordinator) k homes from number answer same fits e = refl
+at_rests (now.First f) k homes from number answer same fits e = refl
+at_rests (now.Second s) k homes from number answer same fits e =
     subst (λ nodes. ((number == k.count) && rounds.is_missing_at nodes s.time s.first s.heard from) ≡ false) (sym fits.1)
-    (at_if_rests ((number == k.count) && rounds.is_missing_at (asked_of k s.read) s.time s.first s.heard from) (kept_in k dcs homes) (state_of k) s.read s.time s.first s.heard from answer
+    (at_if_rests ((number == k.count) && rounds.is_missing_at (asked_of k s.read) s.time s.first s.heard from) (kept_in k homes) (state_of k) s.read s.time s.first s.heard from answer
     (ap open_of (sym same)) e)
 
 -- ## Every envelope
 
-rests : (b : Body) (k : Kept) (dcs : ℕ) (homes : List ℕ) (from : ℕ) → FitsIn k k.current
-    → Rests (machine.heard (kept_in k dcs homes) k.node 0 (state_of k) from b) (state_of k) → heeds k from b ≡ false
-rests (body.Done txn commit stamp) k dcs homes from fits e = done_rests k.current k txn commit stamp refl e
-rests (body.PartNow number rows) k dcs homes from fits e = now_rests k.current k dcs homes from number rows refl fits e
-rests (body.PartAt number time answer) k dcs homes from fits e = at_rests k.current k dcs homes from number answer refl fits e
-rests b k dcs homes from fits e = refl
+rests : (b : Body) (k : Kept) (homes : List ℕ) (from : ℕ) → FitsIn k k.current
+    → Rests (machine.heard (kept_in k homes) k.node 0 (state_of k) from b) (state_of k) → heeds k from b ≡ false
+rests (body.Done txn commit stamp) k homes from fits e = done_rests k.current k txn commit stamp refl e
+rests (body.PartNow number rows) k homes from fits e = now_rests k.current k homes from number rows refl fits e
+rests (body.PartAt number time answer) k homes from fits e = at_rests k.current k homes from number answer refl fits e
+rests b k homes from fits e = refl
 
 pub ignored_rests : (k : Kept) (e : Envelope) (top : TopologyValue) (a : SessionState) → Represents k top a → IsIgnored top k.node a e → heeds k e.from e.body ≡ false
 ignored_rests k e top a r ignored =
-    rests e.body k top.dcs top.homes e.from r.current
+    rests e.body k top.homes e.from r.current
     (subst (λ t. Rests (machine.heard t k.node 0 (state_of k) e.from e.body) (state_of k)) r.topology
     (subst (λ b. Rests (machine.heard top k.node 0 b e.from e.body) b) r.state (ignored 0)))

@@ -21,8 +21,8 @@ use Rattle.client.specs.State.{dependencies_of, state_of, topology_of}
 use Rattle.dependencies.proofs.Ordered.{ordered_stay}
 
 -- a topology with what is kept of it
-abbrev pub kept_in : Kept → ℕ → List ℕ → TopologyValue
-kept_in k dcs homes = record { dcs = dcs; shards = k.home.shards; schema = k.schema; homes = homes }
+abbrev pub kept_in : Kept → List ℕ → TopologyValue
+kept_in k homes = record { dcs = k.dcs; shards = k.home.shards; schema = k.schema; homes = homes }
 
 pub ticked_some : (clock time n : ℕ) → n ≡ max clock time + 1 → n < 2 ^ 48 → ticked clock time ≡ Some n
 ticked_some clock time n e lt = go (nat_lt (max clock time + 1) (2 ^ 48)) (grind (arith, nat_tests))
@@ -31,55 +31,55 @@ ticked_some clock time n e lt = go (nat_lt (max clock time + 1) (2 ^ 48)) (grind
     go true h = ap Some (sym e)
     go false h = absurd (cc)
 
-same_plan : (k : Kept) (dcs : ℕ) (homes : List ℕ) (o : Op) → plan_fault (kept_in k dcs homes) o ≡ plan_fault (topology_of k) o
-same_plan k dcs homes (op.Batch batch) = refl
-same_plan k dcs homes (op.Read read) = refl
+same_plan : (k : Kept) (homes : List ℕ) (o : Op) → plan_fault (kept_in k homes) o ≡ plan_fault (topology_of k) o
+same_plan k homes (op.Batch batch) = refl
+same_plan k homes (op.Read read) = refl
 
-same_fault : (k : Kept) (dcs : ℕ) (homes : List ℕ) (o : Op) → submit_fault (kept_in k dcs homes) (state_of k) o ≡ submit_fault (topology_of k) (state_of k) o
-same_fault k dcs homes o = ap (busy_or (is_idle (open_of k.current))) (same_plan k dcs homes o)
+same_fault : (k : Kept) (homes : List ℕ) (o : Op) → submit_fault (kept_in k homes) (state_of k) o ≡ submit_fault (topology_of k) (state_of k) o
+same_fault k homes o = ap (busy_or (is_idle (open_of k.current))) (same_plan k homes o)
 
 ordered_kept : (k : Kept) → dependencies_of k ≡ in_writer_order (dependencies_of k ++ [])
 ordered_kept k = sym (ap in_writer_order (append-nil (dependencies_of k)) ∙ ordered_stay (k.dependencies ++ k.added))
 
-begun_state : (k : Kept) (dcs : ℕ) (homes : List ℕ) (n : ℕ) (o : Op)
-    → (begun (kept_in k dcs homes) k.node n (state_of k) o).state ≡ state_of (accepted k n o)
-begun_state k dcs homes n (op.Batch batch) = ap (λ ds. record (state_of (accepted k n (op.Batch batch))) { dependencies = ds }) (ordered_kept k)
-begun_state k dcs homes n (op.Read read) = ap (λ ds. record (state_of (accepted k n (op.Read read))) { dependencies = ds }) (ordered_kept k)
+begun_state : (k : Kept) (homes : List ℕ) (n : ℕ) (o : Op)
+    → (begun (kept_in k homes) k.node n (state_of k) o).state ≡ state_of (accepted k n o)
+begun_state k homes n (op.Batch batch) = ap (λ ds. record (state_of (accepted k n (op.Batch batch))) { dependencies = ds }) (ordered_kept k)
+begun_state k homes n (op.Read read) = ap (λ ds. record (state_of (accepted k n (op.Read read))) { dependencies = ds }) (ordered_kept k)
 
-begun_sends : (k : Kept) (dcs : ℕ) (homes : List ℕ) (n : ℕ) (o : Op)
-    → (begun (kept_in k dcs homes) k.node n (state_of k) o).sends ≡ posted k n o
-begun_sends k dcs homes n (op.Batch batch) = refl
-begun_sends k dcs homes n (op.Read read) = refl
+begun_sends : (k : Kept) (homes : List ℕ) (n : ℕ) (o : Op)
+    → (begun (kept_in k homes) k.node n (state_of k) o).sends ≡ posted k n o
+begun_sends k homes n (op.Batch batch) = refl
+begun_sends k homes n (op.Read read) = refl
 
 opened_fits : (k : Kept) (n : ℕ) (o : Op) → FitsIn (accepted k n o) (opened k o)
 opened_fits k n (op.Batch batch) = refl
 opened_fits k n (op.Read read) = (refl, refl, refl)
 
-accepts : (k : Kept) (dcs : ℕ) (homes : List ℕ) (n : ℕ) (o : Op) → fault_of k o ≡ None → ticked k.clock k.clock ≡ Some n
-    → session_submit (kept_in k dcs homes) k.node (state_of k) o ≡ Ok (begun (kept_in k dcs homes) k.node n (state_of k) o)
-accepts k dcs homes n o allowed time =
-    ap (λ f. submit_if f (kept_in k dcs homes) k.node (state_of k) o) (same_fault k dcs homes o ∙ allowed)
-    ∙ ap (λ t. on_clock t (λ m. begun (kept_in k dcs homes) k.node m (state_of k) o)) time
+accepts : (k : Kept) (homes : List ℕ) (n : ℕ) (o : Op) → fault_of k o ≡ None → ticked k.clock k.clock ≡ Some n
+    → session_submit (kept_in k homes) k.node (state_of k) o ≡ Ok (begun (kept_in k homes) k.node n (state_of k) o)
+accepts k homes n o allowed time =
+    ap (λ f. submit_if f (kept_in k homes) k.node (state_of k) o) (same_fault k homes o ∙ allowed)
+    ∙ ap (λ t. on_clock t (λ m. begun (kept_in k homes) k.node m (state_of k) o)) time
 
-kept_step : (k : Kept) (dcs : ℕ) (homes : List ℕ) (n : ℕ) (o : Op) (before : List Envelope)
-    → IsStep (begun (kept_in k dcs homes) k.node n (state_of k) o) (kept_in k dcs homes) (accepted k n o) before (before ++ posted k n o)
-kept_step k dcs homes n o before =
+kept_step : (k : Kept) (homes : List ℕ) (n : ℕ) (o : Op) (before : List Envelope)
+    → IsStep (begun (kept_in k homes) k.node n (state_of k) o) (kept_in k homes) (accepted k n o) before (before ++ posted k n o)
+kept_step k homes n o before =
     record {
       state = record {
         topology = refl;
-        state = begun_state k dcs homes n o;
+        state = begun_state k homes n o;
         current = opened_fits k n o;
         ordered = ordered_stay (k.dependencies ++ k.added);
       };
-      sends = ap (λ es. before ++ es) (sym (begun_sends k dcs homes n o));
+      sends = ap (λ es. before ++ es) (sym (begun_sends k homes n o));
     }
 
-kept_accepts : (k : Kept) (dcs : ℕ) (homes : List ℕ) (n : ℕ) (o : Op) (before : List Envelope) → fault_of k o ≡ None
+kept_accepts : (k : Kept) (homes : List ℕ) (n : ℕ) (o : Op) (before : List Envelope) → fault_of k o ≡ None
     → ticked k.clock k.clock ≡ Some n
-    → IsStepOf (session_submit (kept_in k dcs homes) k.node (state_of k) o) (kept_in k dcs homes) (accepted k n o) before (before ++ posted k n o)
-kept_accepts k dcs homes n o before allowed time =
-    subst (λ r. IsStepOf r (kept_in k dcs homes) (accepted k n o) before (before ++ posted k n o)) (sym (accepts k dcs homes n o allowed time))
-    (kept_step k dcs homes n o before)
+    → IsStepOf (session_submit (kept_in k homes) k.node (state_of k) o) (kept_in k homes) (accepted k n o) before (before ++ posted k n o)
+kept_accepts k homes n o before allowed time =
+    subst (λ r. IsStepOf r (kept_in k homes) (accepted k n o) before (before ++ posted k n o)) (sym (accepts k homes n o allowed time))
+    (kept_step k homes n o before)
 
 pub submitted : (k l : Kept) (before after : List Envelope) (o : Op) → fault_of k o ≡ None → max k.clock k.clock + 1 < 2 ^ 48
     → l ≡ accepted k (max k.clock k.clock + 1) o → after ≡ before ++ posted k (max k.clock k.clock + 1) o
@@ -89,8 +89,8 @@ submitted k l before after o allowed lt state sends top a r =
     subst (λ m. IsStepOf (session_submit top k.node a o) top m before after) (sym state)
     (subst (λ es. IsStepOf (session_submit top k.node a o) top (accepted k n o) before es) (sym sends)
     (subst (λ t. IsStepOf (session_submit t k.node a o) t (accepted k n o) before (before ++ posted k n o)) (sym r.topology)
-    (subst (λ b. IsStepOf (session_submit (kept_in k top.dcs top.homes) k.node b o) (kept_in k top.dcs top.homes) (accepted k n o) before (before ++ posted k n o)) (sym r.state)
-    (kept_accepts k top.dcs top.homes n o before allowed (ticked_some k.clock k.clock n refl lt)))))
+    (subst (λ b. IsStepOf (session_submit (kept_in k top.homes) k.node b o) (kept_in k top.homes) (accepted k n o) before (before ++ posted k n o)) (sym r.state)
+    (kept_accepts k top.homes n o before allowed (ticked_some k.clock k.clock n refl lt)))))
 
 refused_if : (f : Option Fault) (t : Option ℕ) (e : Fault) (x y : ℕ → SessionStep) (P : Option Fault → Result SessionStep Fault)
     (Q : Option Fault → Result SessionStep Fault) → ((g : Fault) → P (Some g) ≡ Err g) → ((g : Fault) → Q (Some g) ≡ Err g) → P None ≡ on_clock t x → Q None ≡ on_clock t y
@@ -99,19 +99,19 @@ refused_if (Some g) t e x y P Q p q pn qn h = subst (λ r. IsRefusalOf r e) (sym
 refused_if None None e x y P Q p q pn qn h = subst (λ r. IsRefusalOf r e) (sym qn) (subst (λ r. IsRefusalOf r e) pn h)
 refused_if None (Some n) e x y P Q p q pn qn h = subst (λ r. IsRefusalOf r e) (sym qn) (subst (λ r. IsRefusalOf r e) pn h)
 
-kept_refuses : (k : Kept) (dcs : ℕ) (homes : List ℕ) (o : Op) (e : Fault)
-    → IsRefusalOf (session_submit (topology_of k) k.node (state_of k) o) e → IsRefusalOf (session_submit (kept_in k dcs homes) k.node (state_of k) o) e
-kept_refuses k dcs homes o e h =
-    subst (λ f. IsRefusalOf (submit_if f (kept_in k dcs homes) k.node (state_of k) o) e) (sym (same_fault k dcs homes o))
-    (refused_if (fault_of k o) (ticked k.clock k.clock) e (λ n. begun (topology_of k) k.node n (state_of k) o) (λ n. begun (kept_in k dcs homes) k.node n (state_of k) o)
-    (λ f. submit_if f (topology_of k) k.node (state_of k) o) (λ f. submit_if f (kept_in k dcs homes) k.node (state_of k) o)
+kept_refuses : (k : Kept) (homes : List ℕ) (o : Op) (e : Fault)
+    → IsRefusalOf (session_submit (topology_of k) k.node (state_of k) o) e → IsRefusalOf (session_submit (kept_in k homes) k.node (state_of k) o) e
+kept_refuses k homes o e h =
+    subst (λ f. IsRefusalOf (submit_if f (kept_in k homes) k.node (state_of k) o) e) (sym (same_fault k homes o))
+    (refused_if (fault_of k o) (ticked k.clock k.clock) e (λ n. begun (topology_of k) k.node n (state_of k) o) (λ n. begun (kept_in k homes) k.node n (state_of k) o)
+    (λ f. submit_if f (topology_of k) k.node (state_of k) o) (λ f. submit_if f (kept_in k homes) k.node (state_of k) o)
     (λ g. refl) (λ g. refl) refl refl h)
 
 pub submit_refused : (k : Kept) (o : Op) (e : Fault) → IsRefusalOf (session_submit (topology_of k) k.node (state_of k) o) e
     → (top : TopologyValue) (a : SessionState) → Represents k top a → IsRefusalOf (session_submit top k.node a o) e
 submit_refused k o e h top a r =
     subst (λ t. IsRefusalOf (session_submit t k.node a o) e) (sym r.topology)
-    (subst (λ b. IsRefusalOf (session_submit (kept_in k top.dcs top.homes) k.node b o) e) (sym r.state) (kept_refuses k top.dcs top.homes o e h))
+    (subst (λ b. IsRefusalOf (session_submit (kept_in k top.homes) k.node b o) e) (sym r.state) (kept_refuses k top.homes o e h))
 
 -- ## Whether it would be accepted
 
@@ -150,10 +150,10 @@ stands_alike : (k : Kept) (o : Op) (top : TopologyValue) (a : SessionState) → 
     × ((e : Fault) → session_submit (topology_of k) k.node (state_of k) o ≡ Err e → session_submit top k.node a o ≡ Err e)
 stands_alike k o top a r =
     subst (λ t. Alike (session_submit t k.node a o)) (sym r.topology)
-    (subst (λ b. Alike (session_submit (kept_in k top.dcs top.homes) k.node b o)) (sym r.state)
-    (subst (λ f. Alike (submit_if f (kept_in k top.dcs top.homes) k.node (state_of k) o)) (sym (same_fault k top.dcs top.homes o))
-    (ends_alike (fault_of k o) (ticked k.clock k.clock) (λ n. begun (topology_of k) k.node n (state_of k) o) (λ n. begun (kept_in k top.dcs top.homes) k.node n (state_of k) o)
-    (λ f. submit_if f (topology_of k) k.node (state_of k) o) (λ f. submit_if f (kept_in k top.dcs top.homes) k.node (state_of k) o)
+    (subst (λ b. Alike (session_submit (kept_in k top.homes) k.node b o)) (sym r.state)
+    (subst (λ f. Alike (submit_if f (kept_in k top.homes) k.node (state_of k) o)) (sym (same_fault k top.homes o))
+    (ends_alike (fault_of k o) (ticked k.clock k.clock) (λ n. begun (topology_of k) k.node n (state_of k) o) (λ n. begun (kept_in k top.homes) k.node n (state_of k) o)
+    (λ f. submit_if f (topology_of k) k.node (state_of k) o) (λ f. submit_if f (kept_in k top.homes) k.node (state_of k) o)
     (λ g. refl) (λ g. refl) refl refl)))
   where
     Alike : Result SessionStep Fault → Type 0

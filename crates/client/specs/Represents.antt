@@ -22,7 +22,7 @@ FitsIn k (Second s) = (k.added ≡ []) × (s.asked ≡ asked_nodes (topology_of 
 
 -- What is kept stands for this state of the machine, in this topology.
 pub record Represents (k : Kept) (top : TopologyValue) (a : SessionState) : Type 0 where
-  pub topology : top ≡ record top { shards = k.home.shards; schema = k.schema }
+  pub topology : top ≡ record top { dcs = k.dcs; shards = k.home.shards; schema = k.schema }
   pub state : a ≡ state_of k
   pub current : FitsIn k k.current
   pub ordered : in_writer_order k.dependencies ≡ k.dependencies

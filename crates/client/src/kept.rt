@@ -12,6 +12,8 @@ pub(crate) struct Kept {
     pub(crate) alloc: Global,
     /// The session.
     pub(crate) node: Node,
+    /// How many data centres there are, any of which can be a home.
+    pub(crate) dcs: u16,
     /// Its home.
     pub(crate) home: Home,
     /// The column families.

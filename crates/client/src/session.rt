@@ -63,6 +63,7 @@ impl Session {
         let kept = Kept {
             alloc,
             node,
+            dcs: topology.dcs(),
             home,
             schema,
             clock: Clock::new(),
@@ -161,6 +162,7 @@ impl Session {
         let Kept {
             alloc: _,
             node: _,
+            dcs: _,
             home: _,
             schema: _,
             clock: _,

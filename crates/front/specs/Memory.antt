@@ -3,12 +3,15 @@ use Rattle.std.specs.Prelude.{ℕ, List, Bool, Some}
 use Rattle.front.specs.Lines.{LineValue}
 use Rattle.front.specs.declared.memory.Failing.{Failing}
 
--- what was read and what wasn't; what was written; whether the end was told; which call is to fail, and how many have failed
+-- what was read and what wasn't; what was written; whether the end was told; how many reads and writes there were; which of
+-- them is to fail, and how many have failed
 pub record MemoryValue : Type 0 where
   pub heard : List ℕ
   pub unread : List ℕ
   pub said : List ℕ
   pub ended : Bool
+  pub reads : ℕ
+  pub writes : ℕ
   pub failing : Failing
   pub failures : ℕ
 

@@ -51,7 +51,7 @@ impl Model for MemoryLine {
 
     ghost Value = { MemoryValue };
 
-    ghost view = { λ l. record { heard = take l.at l.input.items; unread = drop l.at l.input.items; said = l.output.items; ended = l.ended; failing = l.failing; failures = l.failures } };
+    ghost view = { λ l. record { heard = take l.at l.input.items; unread = drop l.at l.input.items; said = l.output.items; ended = l.ended; reads = l.reads; writes = l.writes; failing = l.failing; failures = l.failures } };
 
     ghost invariant = { λ l. (0 < l.step) × (l.at ≤ length l.input.items) × (l.ended ≡ true → l.at ≡ length l.input.items) };
 }
@@ -60,7 +60,7 @@ impl MemoryLine {
     /// A line over this input, of which nothing is read yet. Each call gives or takes at most `step` bytes.
     pub fn new(alloc: Global, input: Vec<u8>, step: usize, failing: Failing) -> MemoryLine
         requires { 0 < step }
-        ensures { result ≡ record { heard = []; unread = input.items; said = []; ended = false; failing = failing; failures = 0 } }
+        ensures { result ≡ record { heard = []; unread = input.items; said = []; ended = false; reads = 0; writes = 0; failing = failing; failures = 0 } }
     {
         MemoryLine {
             input,

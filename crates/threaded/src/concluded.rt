@@ -5,7 +5,7 @@ ghost use Rattle.world.specs.Causes.{PastsAreDecided};
 ghost use Rattle.world.specs.Collected.{CollectedIsBelowHorizon};
 ghost use Rattle.world.specs.Entries.{TellsDecided, StampsAgree, WritesAreTold};
 ghost use Rattle.world.specs.Fresh.{FirstRoundsAreWhole};
-ghost use Rattle.world.specs.Promises.{EntriesAreOfSubmissions, OutcomesAreListed, ReadsShowOneTable, ReadsShowTheirPast, ReadsAreFresh, StampsFollowCauses, TimesNeverFall, OperationsEndOnce};
+ghost use Rattle.world.specs.Promises.{EntriesAreOfSubmissions, OutcomesAreListed, ReadsShowOneTable, ReadsShowTheirPast, ReadsAreFresh, StampsFollowCauses, TimesNeverFall, SessionsStayAtHome, OperationsEndOnce};
 ghost use Rattle.world.specs.Histories.{IsHistory};
 ghost use Rattle.world.specs.World.{run_of};
 ghost use Rattle.threaded.specs.OneRun.{seat_of};
@@ -102,9 +102,11 @@ impl Concluded {
         ensures entries { EntriesAreOfSubmissions (run_of self.now.world) }
         ensures outcomes { OutcomesAreListed self.now.world.top (run_of self.now.world) }
         ensures once { OperationsEndOnce (run_of self.now.world) }
-        // each completed write stands in the history of its home, and the times of a session never fall
+        // each completed write stands in the history of its home; the times of a session never fall while it stays in one home,
+        // as each does
         ensures told { WritesAreTold self.now.world.top (run_of self.now.world) }
         ensures times { TimesNeverFall (run_of self.now.world) }
+        ensures homes { SessionsStayAtHome (run_of self.now.world) }
     {
         let _promised = self.world.transcript();
         self.transcript.as_slice()

@@ -21,11 +21,11 @@ use Rattle.world.specs.Entries.{named_by, StampsAgree, WritesAreTold, TellsDecid
 use Rattle.world.specs.Quiet.{IsQuiet}
 use Rattle.world.specs.Settled.{Settled}
 use Rattle.world.specs.Each.{EachShardIsRight}
-use Rattle.world.specs.Promises.{number_of, LaterCommitsAreAbove, Fits, EntriesAreOfSubmissions, OutcomesAreListed, ReadsShowOneTable, AnswersStay, ReadsShowTheirPast, ReadsAreFresh, StampsFollowCauses, TimesNeverFall, OperationsEndOnce, HistoriesGrow, HandledIsHonest}
+use Rattle.world.specs.Promises.{number_of, LaterCommitsAreAbove, Fits, EntriesAreOfSubmissions, OutcomesAreListed, ReadsShowOneTable, AnswersStay, ReadsShowTheirPast, ReadsAreFresh, StampsFollowCauses, TimesNeverFall, SessionsStayAtHome, OperationsEndOnce, HistoriesGrow, HandledIsHonest}
 use Rattle.world.proofs.Among.{Among, among_contains, contains_among, append_first}
 use Rattle.world.proofs.Growth.{Grows}
 use Rattle.world.proofs.Facts.{lead, IsDone}
-use Rattle.world.proofs.Invariant.{AnsweredFrom, EndSound, Inv}
+use Rattle.world.proofs.Invariant.{home as home_at, AnsweredFrom, EndSound, Inv}
 use Rattle.world.proofs.Near.{shard_below}
 use Rattle.world.proofs.DecidedIn.{in_decisions, decided_in}
 use Rattle.world.proofs.ReadTables.{answered, one_table}
@@ -103,9 +103,19 @@ stamps_follow_causes top events some u v dc ec d e past hd qd he qe =
     older_by_time d.stamp e.stamp (omega arith)
 
 pub times_never_fall : (top : TopologyValue) (events : List Event) → 0 < top.shards → TimesNeverFall (run top events)
-times_never_fall top events some c e hc he node number =
+times_never_fall top events some c e hc he node number stays =
     let w = run top events in
     (every_causal top events some).ordered c e (contains_among c w.transcript hc) (contains_among e w.transcript he) node number
+
+pub sessions_stay_at_home : (top : TopologyValue) (events : List Event) → 0 < top.shards → SessionsStayAtHome (run top events)
+sessions_stay_at_home top events some c e hc he node = of_session c hc ∙ ap (home_at top) node ∙ sym (of_session e he)
+  where
+    of_session : (d : Completed) → Contains (run top events).transcript d → d.home ≡ home_at top d.node
+    of_session d has =
+        let w = run top events in
+        let inv = every_run top events some in
+        let opened = (inv.transcript d (contains_among d w.transcript has)).opened in
+        sym opened.home ∙ inv.submitted.home opened.submission opened.among ∙ ap (home_at top) opened.session
 
 ended_apart : (cs : List Completed) → EndedOnce cs → AllPairs (λ c e. number_of c ≢ number_of e) cs
 ended_apart [] k = no_pairs (λ c e. number_of c ≢ number_of e)

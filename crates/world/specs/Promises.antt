@@ -1,5 +1,5 @@
 -- What is promised of every run, in a customer's words: one set of whole transactions for each data centre, and one number.
-use Rattle.std.specs.Prelude.{◌≡◌, ◌≢◌, ℕ, ◌<◌, true, List, ◌++◌, Some, Contains, AllPairs}
+use Rattle.std.specs.Prelude.{◌≡◌, ◌≢◌, ℕ, ◌<◌, ◌≤◌, true, List, ◌++◌, Some, Contains, AllPairs}
 use Rattle.logical_time.specs.Stamps.{TxnValue, is_older}
 use Rattle.std.specs.List.{list_any}
 use Rattle.column_family.specs.declared.batch.Change.{Change}
@@ -115,10 +115,19 @@ StampsFollowCauses top w =
     (u v : TxnValue) (dc ec : ℕ) (d e : Decision) → Past top w v u
     → Contains (decisions_in top w dc) d → d.txn ≡ u → Contains (decisions_in top w ec) e → e.txn ≡ v → is_older d.stamp e.stamp ≡ true
 
--- the commit and effective times of a session never fall
+-- a session stayed in one home from one of its operations to another: so did the entries of all that ended from the one to the other
+abbrev pub StaysAtHome : Run → Completed → Completed → Type 0
+StaysAtHome w c e = (d : Completed) → Contains w.transcript d → d.node ≡ c.node → c.number ≤ d.number → d.number ≤ e.number → d.home ≡ c.home
+
+-- the commit and effective times of a session never fall while it stays in one home
 abbrev pub TimesNeverFall : Run → Type 0
 TimesNeverFall w =
-    (c e : Completed) → Contains w.transcript c → Contains w.transcript e → c.node ≡ e.node → c.number < e.number → IsNotBelow e.outcome (time_of c.outcome)
+    (c e : Completed) → Contains w.transcript c → Contains w.transcript e → c.node ≡ e.node → c.number < e.number → StaysAtHome w c e
+    → IsNotBelow e.outcome (time_of c.outcome)
+
+-- and today each does: all that a session ended, it ended in one home
+abbrev pub SessionsStayAtHome : Run → Type 0
+SessionsStayAtHome w = (c e : Completed) → Contains w.transcript c → Contains w.transcript e → c.node ≡ e.node → c.home ≡ e.home
 
 -- an operation ends once: no two entries of the transcript have one number
 abbrev pub OperationsEndOnce : Run → Type 0

@@ -15,7 +15,7 @@ ghost use Rattle.world.specs.Causes.{PastsAreDecided};
 ghost use Rattle.world.specs.Collected.{CollectedIsBelowHorizon, HorizonsAreOfCollections};
 ghost use Rattle.world.specs.Each.{EachShardIsRight};
 ghost use Rattle.world.specs.Entries.{TellsDecided, AreNamedOnce, CoordinatorsDecide, StampsAgree, WritesAreTold};
-ghost use Rattle.world.specs.Promises.{EntriesAreOfSubmissions, LaterCommitsAreAbove, OutcomesAreListed, RunsGrow, ReadsShowOneTable, AnswersStay, ReadsShowTheirPast, ReadsAreFresh, StampsFollowCauses, TimesNeverFall, OperationsEndOnce, HistoriesGrow, HandledIsHonest};
+ghost use Rattle.world.specs.Promises.{EntriesAreOfSubmissions, LaterCommitsAreAbove, OutcomesAreListed, RunsGrow, ReadsShowOneTable, AnswersStay, ReadsShowTheirPast, ReadsAreFresh, StampsFollowCauses, TimesNeverFall, SessionsStayAtHome, OperationsEndOnce, HistoriesGrow, HandledIsHonest};
 
 /// In every run each completed read is answered with the meaning of its request on one table: the history of its home at
 /// its effective time, as far as the run has come and however the history is ordered; and so it is at any later moment, of
@@ -108,10 +108,11 @@ pub fn transcript_tells_what_ended()
     ensures outcomes { (top : TopologyValue) (events : List Event) → 0 < top.shards → OutcomesAreListed top (run top events) }
 {}
 
-/// In every run the commit and effective times of a session never fall, and each of its operations ends once. Does nothing;
-/// its contract is the law.
+/// In every run the commit and effective times of a session never fall while it stays in one home, as each does today, and
+/// each of its operations ends once. Does nothing; its contract is the law.
 pub fn times_of_a_session_never_fall()
     ensures times { (top : TopologyValue) (events : List Event) → 0 < top.shards → TimesNeverFall (run top events) }
+    ensures homes { (top : TopologyValue) (events : List Event) → 0 < top.shards → SessionsStayAtHome (run top events) }
     ensures once { (top : TopologyValue) (events : List Event) → 0 < top.shards → OperationsEndOnce (run top events) }
 {}
 

@@ -7,7 +7,7 @@ ghost use Rattle.world.specs.Causes.{PastsAreDecided};
 ghost use Rattle.world.specs.Collected.{CollectedIsBelowHorizon};
 ghost use Rattle.world.specs.Entries.{TellsDecided, StampsAgree, WritesAreTold};
 ghost use Rattle.world.specs.Fresh.{FirstRoundsAreWhole};
-ghost use Rattle.world.specs.Promises.{EntriesAreOfSubmissions, LaterCommitsAreAbove, OutcomesAreListed, ReadsShowOneTable, AnswersStay, ReadsShowTheirPast, ReadsAreFresh, StampsFollowCauses, TimesNeverFall, OperationsEndOnce, HistoriesGrow};
+ghost use Rattle.world.specs.Promises.{EntriesAreOfSubmissions, LaterCommitsAreAbove, OutcomesAreListed, ReadsShowOneTable, AnswersStay, ReadsShowTheirPast, ReadsAreFresh, StampsFollowCauses, TimesNeverFall, SessionsStayAtHome, OperationsEndOnce, HistoriesGrow};
 ghost use Rattle.world.specs.Settled.{Settled};
 ghost use Rattle.world.specs.Histories.{IsHistory};
 ghost use Rattle.world.specs.Quiet.{IsQuiet};
@@ -185,9 +185,11 @@ impl World {
         ensures entries { EntriesAreOfSubmissions (run_of self.now) }
         ensures outcomes { OutcomesAreListed self.now.top (run_of self.now) }
         ensures once { OperationsEndOnce (run_of self.now) }
-        // each completed write stands in the history of its home, and the times of a session never fall
+        // each completed write stands in the history of its home; the times of a session never fall while it stays in one home,
+        // as each does
         ensures told { WritesAreTold self.now.top (run_of self.now) }
         ensures times { TimesNeverFall (run_of self.now) }
+        ensures homes { SessionsStayAtHome (run_of self.now) }
     {
         self.actors.transcript.as_slice()
     }

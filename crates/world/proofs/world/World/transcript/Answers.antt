@@ -18,3 +18,6 @@ returns-clause-above c = promised.above c.args.self.now (promised.is_of c.args.s
 
 pub returns-clause-given_up : goal.returns-clause-given_up
 returns-clause-given_up c = promised.given_up c.args.self.now (promised.is_of c.args.self.now c.self.inside.actors c.self.inside.log c.self.invariant c.self.view_is)
+
+pub returns-clause-homes : goal.returns-clause-homes
+returns-clause-homes c = promised.homes c.args.self.now (promised.is_of c.args.self.now c.self.inside.actors c.self.inside.log c.self.invariant c.self.view_is)
