@@ -42,7 +42,7 @@ run_apart top events node some = by (is_shard top node)
     by false = tt
 
 -- one event more of a run leaves them apart
-apart_more : (top : TopologyValue) (events : List Event) (node : ℕ) (journal : List ActorEvent) (y : ActorEvent) → 0 < top.shards
+pub apart_more : (top : TopologyValue) (events : List Event) (node : ℕ) (journal : List ActorEvent) (y : ActorEvent) → 0 < top.shards
     → journal_in (run top events) node ≡ journal ++ y ∷ [] → StaysApart top node journal → StaysApart top node (journal_in (run top events) node)
 apart_more top events node journal y some is apart before after r q replays =
     elim (begins_or_whole journal y before after (sym is ∙ q)) [

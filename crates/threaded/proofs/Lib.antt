@@ -12,3 +12,6 @@ pub mod Taking
 pub mod Posting
 pub mod Advancing
 pub mod Starting
+pub mod Clocks
+pub mod Stages
+pub mod ShownRuns

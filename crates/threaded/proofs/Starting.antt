@@ -154,7 +154,7 @@ some_nodes : (top : TopologyValue) → is_topology top.dcs top.shards top.homes 
 some_nodes top sound = grind (arith, nat_tests)
 
 -- before the first event stamps are apart
-apart_at_first : (top : TopologyValue) (node : ℕ) → 0 < top.shards → StaysApart top node []
+pub apart_at_first : (top : TopologyValue) (node : ℕ) → 0 < top.shards → StaysApart top node []
 apart_at_first top node some [] after r q replays =
     let both : Some (held_in top (run top []) node) ≡ Some r = sym ((run_journals top [] some).each node) ∙ replays in
     let same : held_in top (run top []) node ≡ r = cc in

@@ -3,3 +3,4 @@ pub mod OneRun
 pub mod Links
 pub mod Joining
 pub mod Concluded
+pub mod Shown

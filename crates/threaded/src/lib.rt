@@ -10,6 +10,7 @@ mod concluded;
 mod concluding;
 mod happening;
 mod joining;
+pub mod shown;
 mod waiting;
 
 pub use actor::Actor;
