@@ -1,16 +1,17 @@
 -- A seat before its first event keeps what seats keep.
-use Rattle.std.proofs.Common.{◌≡◌, ℕ, zero, suc, ◌+◌, ◌≤◌, ◌<◌, ◌==◌, Bool, true, false, cond, List, [], ◌∷◌, ◌++◌, map, Option, Some, None, refl, ap, sym, ◌∙◌, arith}
+use Rattle.std.proofs.Common.{◌≡◌, ℕ, zero, suc, ◌+◌, ◌≤◌, ◌<◌, ◌==◌, Bool, true, false, cond, List, [], ◌∷◌, ◌++◌, map, Option, Some, None, refl, ap, sym, subst, ◌∙◌, arith}
 use Rattle.std.specs.Prelude.{All, filter}
 use Rattle.std.specs.List.{slice_get, range_with_len}
 use Rattle.messages.specs.declared.envelope.Envelope.{Envelope}
 use Rattle.messages.specs.declared.outcome.Outcome.{Outcome}
-use Rattle.messages.specs.Topology.{node_count}
-use Rattle.links.specs.Links.{InLinkValue, may_exchange, reached_from, reaching}
+use Rattle.messages.specs.Topology.{TopologyValue, node_count}
+use Rattle.links.specs.Links.{OutLinkValue, InLinkValue, may_exchange, reached_from, reaching}
 use Rattle.links.specs.Mesh.{new_out_link, new_in_link}
 use Rattle.links.specs.declared.ends.Ends.{Ends}
-use Rattle.actors.specs.Machines.{CameFrom, IsRecorded}
+use Rattle.actors.specs.CameFrom.{CameFrom}
+use Rattle.actors.specs.Machines.{IsRecorded}
 use Rattle.actors.specs.Seats.{SeatValue, through, ends_of, sources_of, IsApart, Keeps}
-use Rattle.actors.specs.Opening.{new_lane, AreItsRings}
+use Rattle.actors.specs.Opening.{new_lane, IsUnused, AreItsRings}
 use Rattle.actors.proofs.Lists.{all_of}
 use Rattle.actors.proofs.Seating.{recorded_moved}
 
@@ -34,6 +35,16 @@ nothing_taken : (node : ℕ) (ns : List ℕ) (k : ℕ) (l : InLinkValue) → sli
 nothing_taken node [] k l at = absurd cc
 nothing_taken node (n ∷ ns) zero l at = let is : new_in_link node n ≡ l = cc in ap (λ (x : InLinkValue). x.received) (sym is)
 nothing_taken node (n ∷ ns) (suc k) l at = nothing_taken node ns k l at
+
+nothing_gone : (capacity : ℕ) (ns : List ℕ) (k : ℕ) (l : OutLinkValue) → slice_get (map (new_out_link capacity) ns) k ≡ Some l → IsUnused l
+nothing_gone capacity [] k l at = absurd cc
+nothing_gone capacity (n ∷ ns) zero l at = let is : new_out_link capacity n ≡ l = cc in ap (λ (x : OutLinkValue). x.sent) (sym is)
+nothing_gone capacity (n ∷ ns) (suc k) l at = nothing_gone capacity ns k l at
+
+-- nothing went into a seat's rings before its first event
+pub unused : (top : TopologyValue) (node : ℕ) (ends : Ends) → AreItsRings top node ends → All IsUnused ends.outgoing.items
+unused top node ends its =
+    all_of IsUnused ends.outgoing.items (λ k l lt at. nothing_gone its.capacity (reached_from top node) k l (subst (λ ls. slice_get ls k ≡ Some l) its.outgoing at))
 
 at_least : (p : ℕ → Bool) (n a k m : ℕ) → slice_get (filter p (range_with_len a n)) k ≡ Some m → a ≤ m
 at_least p zero a k m at = absurd cc
@@ -75,17 +86,17 @@ range_within : (p : ℕ → Bool) (n : ℕ) → All (λ m. m < n) (filter p (ran
 range_within p n = all_of (λ m. m < n) (filter p (range_with_len 0 n)) (λ k m lt at. let most = at_most p n 0 k m at in omega (arith, most))
 
 pub opened : {M : Type 0} (came_from : CameFrom M) (untaken : M → Option (ℕ × Outcome)) (machine : M) (d : SeatValue) (ends : Ends)
-    → IsRecorded came_from untaken d.topology d.node (λ to. []) machine [] [] [] 0 → AreItsRings d.topology d.node ends
-    → d.journal ≡ [] → d.outcomes ≡ [] → d.outbox ≡ [] → d.accepted ≡ 0 → d.backlog ≡ [] → d.outgoing ≡ map new_lane ends.outgoing.items → d.incoming ≡ ends.incoming.items → d.held ≡ None
+    → IsRecorded came_from untaken d.topology d.node (λ to. []) machine [] [] [] 0 0 true → AreItsRings d.topology d.node ends
+    → d.journal ≡ [] → d.outcomes ≡ [] → d.outbox ≡ [] → d.accepted ≡ 0 → d.clock ≡ 0 → d.timed ≡ true → d.backlog ≡ [] → d.outgoing ≡ map new_lane ends.outgoing.items → d.incoming ≡ ends.incoming.items → d.held ≡ None
     → Keeps came_from untaken machine d
-opened came_from untaken machine d ends recorded its journal outcomes outbox accepted backlog outgoing incoming held =
+opened came_from untaken machine d ends recorded its journal outcomes outbox accepted clock timed backlog outgoing incoming held =
     let reached = reached_from d.topology d.node in
     let out : d.outgoing ≡ map new_lane (map (new_out_link its.capacity) reached) = outgoing ∙ ap (λ ls. map new_lane ls) its.outgoing in
     let into : d.incoming ≡ map (new_in_link d.node) (reaching d.topology d.node) = incoming ∙ its.incoming in
     record {
       recorded =
-          rw (journal, outcomes, outbox, accepted)
-          (recorded_moved came_from untaken d.topology d.node (λ to. []) (through d.outgoing) machine [] [] [] [] 0 recorded
+          rw (journal, outcomes, outbox, accepted, clock, timed)
+          (recorded_moved came_from untaken d.topology d.node (λ to. []) (through d.outgoing) machine [] [] [] [] 0 0 true recorded
           (λ n. rw out (ap (λ xs. xs ++ []) (quiet its.capacity reached n))));
       received = rw (journal, into, held) (λ k l at. nothing_taken d.node (reaching d.topology d.node) k l at);
       ends = rw (out, same_ends its.capacity reached) (range_apart (λ to. may_exchange d.topology d.node to) (node_count d.topology) 0);

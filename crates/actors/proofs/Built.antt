@@ -31,6 +31,10 @@ pub is_new : (top : TopologyValue) (ring limit node : ℕ) (ends : List Ends) (o
 is_new top ring limit node ends own s mesh lt at is =
     is ∙ ap₂ (λ out into. new_seat top node limit out into) (ap (λ o. outgoing_of o) (sym at) ∙ mesh.outgoing node lt) (ap (λ o. incoming_of o) (sym at) ∙ mesh.incoming node lt)
 
+-- no seat was made yet
+pub none_built : (top : TopologyValue) (ring limit : ℕ) (seats : List SeatValue) → seats ≡ [] → AreNewSeats top ring limit 0 seats
+none_built top ring limit seats none = rw none (record { all = refl; each = λ node s at. absurd cc })
+
 last_or_before : {X : Type 0} (xs : List X) (x s : X) (k : ℕ) → slice_get (xs ++ x ∷ []) k ≡ Some s → (slice_get xs k ≡ Some s) ⊎ ((k ≡ length xs) × (x ≡ s))
 last_or_before [] x s zero at = inr (refl, cc)
 last_or_before [] x s (suc k) at = absurd cc

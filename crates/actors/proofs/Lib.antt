@@ -1,5 +1,6 @@
 pub mod Lists
 pub mod Sending
+pub mod Sent
 pub mod Lanes
 pub mod Recording
 pub mod Receiving
@@ -10,3 +11,6 @@ pub mod Working
 pub mod Rounds
 pub mod Beginning
 pub mod Built
+pub mod Clocks
+pub mod Showing
+pub mod Turning

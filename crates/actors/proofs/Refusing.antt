@@ -1,6 +1,6 @@
 -- With which faults a seat refuses.
 use Rattle.std.proofs.Common.{◌≡◌, ℕ, ◌≤◌, ◌<◌, ◌⊎◌, true, [], ◌∷◌, length, List, Option, Some, None, refl, sym, ap, subst, ◌∙◌, inl, inr, arith}
-use Rattle.std.specs.Prelude.{Result, Ok, Err, IfErr, OnErr, IfSome}
+use Rattle.std.specs.Prelude.{Result, Ok, Err, IfErr, OnErr, IfSome, IsSome}
 use Rattle.std.proofs.lemmas.Bool.{cases_lt}
 use Rattle.logical_time.specs.declared.fault.Fault.{Fault}
 use Rattle.logical_time.specs.declared.fault.Fault.TheVariants.{JournalFull, Memory}
@@ -47,9 +47,26 @@ work_refused refuses s n (Err e) some none free same refused = subst (λ (z : Se
           | inr back ↦ inr (x, subst (λ o. IsDueOf o s x) (sym none) (free, (more, is)), (back.0, λ own. back.1))
         ]
 
+-- the first item of the backlog was refused for something else than what it asks
+pub kept_back : (refuses : Refuses) (s : SeatValue) (event : Event) (more : List Event) (fault : Fault) → s.backlog ≡ event ∷ more → 9 < number_of fault
+    → IsRefusal refuses s event fault → (x : Event) → IsFirst s x → (fault ≡ Memory) ⊎ (IsRefusal refuses s x fault × (IsOfRequest fault → ⊥))
+kept_back refuses s event more fault is above refused x first =
+    let both : event ∷ more ≡ x ∷ first.0 = sym is ∙ first.1 in
+    let same : event ≡ x = cc in
+    inr (subst (λ (z : Event). IsRefusal refuses s z fault) same refused, λ request. omega (arith, above, request))
+
 -- a refusal of an operation for what it asks is the machine's, and there was room
 pub taken_off : (refuses : Refuses) (event : Event) (fault : Fault) (old new : SeatValue) → old.backlog ≡ event ∷ new.backlog → IsOfRequest fault
     → IsRefusal refuses old event fault → HasTakenOff refuses fault old new
 taken_off refuses event fault old new first request (inl full) = absurd (let is : number_of fault ≡ 24 = ap number_of full.1 in omega (arith, is, request))
 taken_off refuses event fault old new first request (inr (room, inl memory)) = absurd (let is : number_of fault ≡ 23 = ap number_of memory in omega (arith, is, request))
 taken_off refuses event fault old new first request (inr (room, inr refused)) = record { event = event; first = first; room = room; refused = refused }
+
+-- the envelope that is held was refused, and the seat is to handle it
+pub handle_refused : (refuses : Refuses) (s n : SeatValue) (fault : Fault) → IsSome s.held → n ≡ s → IfSome s.held (λ e. IsRefusal refuses s (Handle e) fault)
+    → CanRefuse refuses fault n
+handle_refused refuses s n fault some same refused = subst (λ (z : SeatValue). CanRefuse refuses fault z) (sym same) (by s.held refl some refused)
+  where
+    by : (o : Option Envelope) → s.held ≡ o → IsSome o → IfSome o (λ e. IsRefusal refuses s (Handle e) fault) → CanRefuse refuses fault s
+    by None is some refused = absurd (cc)
+    by (Some e) is some refused = inr (Handle e, subst (λ o. IsDueOf o s (Handle e)) (sym is) refl, (refused, λ own. absurd (cc)))

@@ -1,5 +1,5 @@
 -- What a seat keeps, as it changes.
-use Rattle.std.proofs.Common.{◌≡◌, ℕ, zero, suc, ◌<◌, ◌==◌, inl, inr, List, [], ◌∷◌, ◌++◌, length, Option, Some, None, refl, sym, subst, ◌∙◌, arith}
+use Rattle.std.proofs.Common.{◌≡◌, ℕ, zero, suc, ◌<◌, ◌==◌, Bool, inl, inr, List, [], ◌∷◌, ◌++◌, length, Option, Some, None, refl, sym, subst, ◌∙◌, arith}
 use Rattle.std.specs.Prelude.{All, Contains, IfSome, IsSome, filter_map, Result, Ok, Err, OnOk, OnErr}
 use Rattle.std.specs.List.{slice_get}
 use mathlib.Core.Path.{fun_ext}
@@ -14,7 +14,9 @@ use Rattle.messages.specs.Topology.{TopologyValue, node_count}
 use Rattle.links.specs.Links.{InLinkValue}
 use Rattle.actors.specs.Journals.{IsOwn, IsBeginning, receipts_from, followed_by}
 use Rattle.actors.specs.Turns.{HasDone}
-use Rattle.actors.specs.Machines.{CameFrom, IsRecorded}
+use Rattle.actors.specs.CameFrom.{CameFrom}
+use Rattle.actors.specs.Shown.{IsShown}
+use Rattle.actors.specs.Machines.{IsRecorded}
 use Rattle.actors.specs.Seats.{SeatValue, through, sources_of, Received, CameBy, Keeps}
 use Rattle.actors.specs.Looking.{IsFound, IsFoundInTurn}
 
@@ -72,7 +74,7 @@ taken_came (Some x) new was now first after sources found kept came = rw ((kept 
 module _ {M : Type 0} (came_from : CameFrom M) (untaken : M → Option (ℕ × Outcome)) where
   -- an event that no message brings
   pub kept_own : (machine next : M) (d n : SeatValue) (event : Event) → Keeps came_from untaken machine d → IsOwn event
-      → IsRecorded came_from untaken n.topology n.node (through n.outgoing) next n.journal n.outcomes n.outbox n.accepted
+      → IsRecorded came_from untaken n.topology n.node (through n.outgoing) next n.journal n.outcomes n.outbox n.accepted n.clock n.timed
       → n.journal ≡ d.journal ++ event ∷ [] → n.incoming ≡ d.incoming → n.held ≡ d.held → n.outgoing ≡ d.outgoing → All IsOwn n.backlog
       → n.topology ≡ d.topology → Keeps came_from untaken next n
   kept_own machine next d n event kept own recorded journal incoming held outgoing backlog topology = record {
@@ -88,7 +90,7 @@ module _ {M : Type 0} (came_from : CameFrom M) (untaken : M → Option (ℕ × O
 
   -- the envelope that was held is handled
   pub kept_handled : (machine next : M) (d n : SeatValue) (e : Envelope) → Keeps came_from untaken machine d → d.held ≡ Some e
-      → IsRecorded came_from untaken n.topology n.node (through n.outgoing) next n.journal n.outcomes n.outbox n.accepted
+      → IsRecorded came_from untaken n.topology n.node (through n.outgoing) next n.journal n.outcomes n.outbox n.accepted n.clock n.timed
       → n.journal ≡ d.journal ++ Handle e ∷ [] → n.incoming ≡ d.incoming → n.held ≡ None → n.outgoing ≡ d.outgoing → n.backlog ≡ d.backlog
       → n.topology ≡ d.topology → Keeps came_from untaken next n
   kept_handled machine next d n e kept holds recorded journal incoming held outgoing backlog topology = record {
@@ -104,7 +106,7 @@ module _ {M : Type 0} (came_from : CameFrom M) (untaken : M → Option (ℕ × O
 
   -- nothing but the machine's inside and the backlog
   pub kept_same : (machine next : M) (d n : SeatValue) → Keeps came_from untaken machine d
-      → IsRecorded came_from untaken n.topology n.node (through n.outgoing) next n.journal n.outcomes n.outbox n.accepted
+      → IsRecorded came_from untaken n.topology n.node (through n.outgoing) next n.journal n.outcomes n.outbox n.accepted n.clock n.timed
       → n.journal ≡ d.journal → n.incoming ≡ d.incoming → n.held ≡ d.held → n.outgoing ≡ d.outgoing → All IsOwn n.backlog
       → n.topology ≡ d.topology → Keeps came_from untaken next n
   kept_same machine next d n kept recorded journal incoming held outgoing backlog topology = record {
@@ -120,9 +122,9 @@ module _ {M : Type 0} (came_from : CameFrom M) (untaken : M → Option (ℕ × O
 
   -- a call did an event that no message brings, or nothing
   pub kept_did : {A B : Type 0} (r : Result A B) (machine next : M) (d n : SeatValue) (event : Event) → Keeps came_from untaken machine d → IsOwn event
-      → OnOk r (IsRecorded came_from untaken n.topology n.node (through n.outgoing) next n.journal n.outcomes n.outbox n.accepted)
-      → OnErr r (IsRecorded came_from untaken n.topology n.node (through n.outgoing) next n.journal n.outcomes n.outbox n.accepted)
-      → OnOk r (n.journal ≡ d.journal ++ event ∷ []) → OnErr r ((n.journal ≡ d.journal) × (n.outcomes ≡ d.outcomes) × (n.outbox ≡ d.outbox) × (n.accepted ≡ d.accepted))
+      → OnOk r (IsRecorded came_from untaken n.topology n.node (through n.outgoing) next n.journal n.outcomes n.outbox n.accepted n.clock n.timed)
+      → OnErr r (IsRecorded came_from untaken n.topology n.node (through n.outgoing) next n.journal n.outcomes n.outbox n.accepted n.clock n.timed)
+      → OnOk r (n.journal ≡ d.journal ++ event ∷ []) → OnErr r ((n.journal ≡ d.journal) × (n.outcomes ≡ d.outcomes) × (n.outbox ≡ d.outbox) × (n.accepted ≡ d.accepted) × (n.clock ≡ d.clock) × (n.timed ≡ d.timed))
       → n.incoming ≡ d.incoming → n.held ≡ d.held → n.outgoing ≡ d.outgoing → All IsOwn n.backlog
       → n.topology ≡ d.topology → Keeps came_from untaken next n
   kept_did (Ok a) machine next d n event kept own done undone journal same incoming held outgoing backlog topology =
@@ -132,7 +134,7 @@ module _ {M : Type 0} (came_from : CameFrom M) (untaken : M → Option (ℕ × O
 
   -- an envelope may have been taken from a ring
   pub kept_taken : (machine : M) (d n : SeatValue) → Keeps came_from untaken machine d
-      → IsRecorded came_from untaken n.topology n.node (through n.outgoing) machine n.journal n.outcomes n.outbox n.accepted
+      → IsRecorded came_from untaken n.topology n.node (through n.outgoing) machine n.journal n.outcomes n.outbox n.accepted n.clock n.timed
       → sources_of n.incoming ≡ sources_of d.incoming → Received n.journal n.incoming n.held → n.outgoing ≡ d.outgoing → n.backlog ≡ d.backlog
       → n.topology ≡ d.topology → n.journal ≡ d.journal → IfSome n.held (CameBy n.incoming) → Keeps came_from untaken machine n
   kept_taken machine d n kept recorded sources received outgoing backlog topology journal came = record {
@@ -147,14 +149,16 @@ module _ {M : Type 0} (came_from : CameFrom M) (untaken : M → Option (ℕ × O
   }
 
   -- what waited moved on its way
-  pub recorded_moved : (top : TopologyValue) (node : ℕ) (before after : ℕ → List Envelope) (machine : M) (journal : List Event) (outcomes : List (ℕ × Outcome)) (outbox rest : List Envelope) (count : ℕ)
-      → IsRecorded came_from untaken top node before machine journal outcomes outbox count
+  pub recorded_moved : (top : TopologyValue) (node : ℕ) (before after : ℕ → List Envelope) (machine : M) (journal : List Event) (outcomes : List (ℕ × Outcome)) (outbox rest : List Envelope) (count clock : ℕ) (timed : Bool)
+      → IsRecorded came_from untaken top node before machine journal outcomes outbox count clock timed
       → ((n : ℕ) → followed_by after rest n ≡ followed_by before outbox n)
-      → IsRecorded came_from untaken top node after machine journal outcomes rest count
-  recorded_moved top node before after machine journal outcomes outbox rest count was same = record {
+      → IsRecorded came_from untaken top node after machine journal outcomes rest count clock timed
+  recorded_moved top node before after machine journal outcomes outbox rest count clock timed was same = record {
     came = subst (λ (sent : ℕ → List Envelope). came_from top node journal sent outcomes machine) (sym (fun_ext same)) was.came;
     taken = was.taken;
     accepted = was.accepted;
+    clocked = was.clocked;
+    shown = subst (λ (sent : ℕ → List Envelope). IsShown came_from top node journal sent timed) (sym (fun_ext same)) was.shown;
   }
 
 pub has_done : {A B : Type 0} (r : Result A B) (d n : SeatValue) (event : Event)

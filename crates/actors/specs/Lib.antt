@@ -1,4 +1,6 @@
 pub mod Journals
+pub mod CameFrom
+pub mod Shown
 pub mod Machines
 pub mod Seats
 pub mod Ways

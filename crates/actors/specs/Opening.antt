@@ -10,6 +10,10 @@ use Rattle.actors.specs.Seats.{LaneValue, SeatValue}
 abbrev pub new_lane : OutLinkValue → LaneValue
 new_lane l = record { to = l.to; sent = l.sent; free = l.free; waiting = [] }
 
+-- nothing went into the ring yet
+abbrev pub IsUnused : OutLinkValue → Type 0
+IsUnused l = l.sent ≡ []
+
 -- all rings of the actor with this node, through which nothing went yet
 pub record AreItsRings (top : TopologyValue) (node : ℕ) (ends : Ends) : Type 0 where
   pub capacity : ℕ
@@ -27,6 +31,8 @@ new_seat top node limit outgoing incoming =
       journal = [];
       outcomes = [];
       accepted = 0;
+      clock = 0;
+      timed = true;
       refusals = [];
       backlog = [];
       outgoing = map new_lane outgoing;

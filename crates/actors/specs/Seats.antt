@@ -8,7 +8,8 @@ use Rattle.messages.specs.declared.event.Event.TheVariants.{Handle}
 use Rattle.messages.specs.Topology.{TopologyValue, node_count}
 use Rattle.links.specs.Links.{InLinkValue}
 use Rattle.actors.specs.Journals.{IsOwn, receipts_from, held_from}
-use Rattle.actors.specs.Machines.{CameFrom, IsRecorded}
+use Rattle.actors.specs.CameFrom.{CameFrom}
+use Rattle.actors.specs.Machines.{IsRecorded}
 
 -- a way to an actor: all that went into the ring that leads there, how many places of the ring are known to be free, and what
 -- waits for one, in order
@@ -19,7 +20,8 @@ pub record LaneValue : Type 0 where
   pub waiting : List Envelope
 
 -- A seat: which actor it is, and how many events its journal may hold; whether its machine is free for an operation; its
--- events, the outcomes that they gave, and how many operations were accepted; the operations that were refused, each with
+-- events, the outcomes that they gave, and how many operations were accepted; its clock, by its events alone, and whether all that
+-- was sent carries the clock of its event; the operations that were refused, each with
 -- how many were accepted before; what is still to be done; what was sent and what was received; the place of the ring that is
 -- looked at first; and the envelope that is held back after a refusal.
 pub record SeatValue : Type 0 where
@@ -30,6 +32,8 @@ pub record SeatValue : Type 0 where
   pub journal : List Event
   pub outcomes : List (ℕ × Outcome)
   pub accepted : ℕ
+  pub clock : ℕ
+  pub timed : Bool
   pub refusals : List (ℕ × Fault)
   pub backlog : List Event
   pub outgoing : List LaneValue
@@ -70,7 +74,7 @@ CameBy incoming e = Contains (sources_of incoming) e.from
 -- is what went into the ring there, then what waits for that, then what is in the outbox; and what was taken from each ring
 -- is the journal's receipts from there, and then what is held back.
 pub record Keeps {M : Type 0} (came_from : CameFrom M) (untaken : M → Option (ℕ × Outcome)) (machine : M) (d : SeatValue) : Type 0 where
-  pub recorded : IsRecorded came_from untaken d.topology d.node (through d.outgoing) machine d.journal d.outcomes d.outbox d.accepted
+  pub recorded : IsRecorded came_from untaken d.topology d.node (through d.outgoing) machine d.journal d.outcomes d.outbox d.accepted d.clock d.timed
   pub received : Received d.journal d.incoming d.held
   pub ends : IsApart (ends_of d.outgoing)
   pub sources : IsApart (sources_of d.incoming)

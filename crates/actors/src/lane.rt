@@ -3,7 +3,7 @@ ghost use Rattle.std.specs.Prelude.{◌≡◌, ◌<◌, ◌++◌, ◌∷◌, [],
 ghost use Rattle.std.specs.List.{list_any};
 ghost use Rattle.actors.specs.Journals.{followed_by};
 ghost use Rattle.actors.specs.Seats.{LaneValue, through, ends_of, rings};
-ghost use Rattle.actors.specs.Opening.{new_lane};
+ghost use Rattle.actors.specs.Opening.{new_lane, IsUnused};
 ghost use Rattle.actors.specs.Ways.{has_way, IsFirstWay};
 ghost use Rattle.actors.specs.Resting.{waiting_on, IsFlushed, IsSorted};
 
@@ -11,33 +11,47 @@ use links::OutLink;
 use logical_time::{Fault, Node};
 use messages::{Envelope, Outbox};
 use std::alloc::Global;
-use std::collections::VecDeque;
 use std::marker::Model;
 
-/// The way to one actor: its ring, and the envelopes that wait for a place in it, in order.
+/// The way to one actor: its ring, and all envelopes that were to go there, in order; copies of the first of them went into
+/// the ring, and the others wait for a place in it.
 #[derive(Drop)]
 pub struct Lane {
     link: OutLink,
-    waiting: VecDeque<Envelope>,
+    sent: Vec<Envelope>,
+    // How many of them went into the ring.
+    gone: usize,
 }
 
 impl Model for Lane {
+    ghost use Rattle.std.specs.Prelude.{◌≡◌, ◌≤◌, length, take, drop};
     ghost use Rattle.actors.specs.Seats.{LaneValue};
 
     ghost Value = { LaneValue };
 
-    ghost view = { λ l. record { to = l.link.to; sent = l.link.sent; free = l.link.free; waiting = l.waiting.items } };
+    ghost view = { λ l. record { to = l.link.to; sent = l.link.sent; free = l.link.free; waiting = drop l.gone l.sent.items } };
+
+    ghost invariant = { λ l. (l.gone ≤ length l.sent.items) × (l.link.sent ≡ take l.gone l.sent.items) };
 }
 
 impl Lane {
-    /// A way on which nothing waits.
+    /// A way on which nothing waits, over a ring into which nothing went.
     pub fn new(alloc: Global, link: OutLink) -> Lane
+        requires { link.sent ≡ [] }
         ensures { result ≡ record { to = link.to; sent = link.sent; free = link.free; waiting = [] } }
     {
         Lane {
             link,
-            waiting: VecDeque::new(alloc),
+            sent: Vec::new(alloc),
+            gone: 0,
         }
+    }
+
+    /// All that was to go there, in order: what went into the ring, and then what waits.
+    pub fn sent(&self) -> &[Envelope]
+        ensures { result.now ≡ self.now.sent ++ self.now.waiting }
+    {
+        self.sent.as_slice()
     }
 
     /// The actor to which it leads.
@@ -58,33 +72,36 @@ impl Lane {
         ensures err { OnErr result ((self.new ≡ self.old) × (outbox.new.sent ≡ outbox.old.sent)) }
         ensures memory { IfErr result (λ e. e ≡ Fault.Memory) }
     {
-        self.waiting.reserve(1)?;
+        self.sent.reserve(1)?;
         let envelope = outbox.remove(number);
-        self.waiting.push_back_reserved(envelope);
+        self.sent.push_reserved(envelope);
         Ok(())
     }
 
-    /// Moves what waits into the ring, in order, until that is full. Whether an envelope went into it. Takes no memory.
-    pub fn flush(&mut self) -> bool
+    /// Puts copies of what waits into the ring, in order, until that is full. Whether an envelope went into it. Refused with
+    /// `Memory` alone, and then some may have gone.
+    pub fn flush(&mut self) -> Result<bool, Fault>
         ensures to { self.new.to ≡ self.old.to }
         ensures whole { self.new.sent ++ self.new.waiting ≡ self.old.sent ++ self.old.waiting }
-        ensures still { result ≡ false → (self.new.sent ≡ self.old.sent) × (self.new.waiting ≡ self.old.waiting) }
-        ensures fewer { result ≡ true → length self.new.waiting < length self.old.waiting }
-        ensures flushed { IsFlushed self.new }
+        ensures still { IfOk result (λ moved. moved ≡ false → (self.new.sent ≡ self.old.sent) × (self.new.waiting ≡ self.old.waiting)) }
+        ensures fewer { IfOk result (λ moved. moved ≡ true → length self.new.waiting < length self.old.waiting) }
+        ensures flushed { OnOk result (IsFlushed self.new) }
+        ensures memory { IfErr result (λ e. e ≡ Fault.Memory) }
     {
         let mut moved = false;
-        while !self.waiting.is_empty() && !self.link.is_full() {
-            if let Some(envelope) = self.waiting.pop_front() {
-                self.link.push(envelope).unwrap();
-                moved = true;
-            }
+        while self.gone < self.sent.len() && !self.link.is_full() {
+            let copy = self.sent[self.gone].copied()?;
+            self.link.push(copy).unwrap();
+            self.gone += 1;
+            moved = true;
         }
-        moved
+        Ok(moved)
     }
 }
 
-/// The ways over these rings, on which nothing waits. Refused with `Memory` alone.
+/// The ways over these rings, into which nothing went. Refused with `Memory` alone.
 pub fn lanes_over(alloc: Global, links: Vec<OutLink>) -> Result<Vec<Lane>, Fault>
+    requires { All IsUnused links.items }
     ensures ok { IfOk result (λ lanes. lanes.items ≡ map new_lane links.items) }
     ensures memory { IfErr result (λ e. e ≡ Fault.Memory) }
 {
@@ -108,6 +125,17 @@ fn way_to(lanes: &[Lane], to: Node) -> Option<usize>
     None
 }
 
+/// All that was to go to an actor by its way, in order: nothing where none leads there.
+#[tactic(auto, using(crate::proofs::Sent::through_first, crate::proofs::Sent::through_none))]
+pub fn sent_through(lanes: &[Lane], to: Node) -> &[Envelope]
+    ensures { result.now ≡ through lanes.now to }
+{
+    match way_to(lanes, to) {
+        Some(place) => lanes[place].sent(),
+        None => &[],
+    }
+}
+
 /// Sorts what is in an outbox to the ways where it goes, in order. What goes to an actor without a way stays. Refused with
 /// `Memory` alone, and then the rest stays in the outbox.
 pub fn sort(outbox: &mut Outbox, lanes: &mut Vec<Lane>) -> Result<(), Fault>
@@ -129,20 +157,21 @@ pub fn sort(outbox: &mut Outbox, lanes: &mut Vec<Lane>) -> Result<(), Fault>
     Ok(())
 }
 
-/// Moves what waits on each way into its ring, in order; a full ring holds back its own alone. Whether an envelope went into
-/// a ring. Takes no memory.
-pub fn flush(lanes: &mut Vec<Lane>) -> bool
+/// Puts copies of what waits on each way into its ring, in order; a full ring holds back its own alone. Whether an envelope
+/// went into a ring. Refused with `Memory` alone, and then some may have gone.
+pub fn flush(lanes: &mut Vec<Lane>) -> Result<bool, Fault>
     ensures ends { ends_of lanes.new.items ≡ ends_of lanes.old.items }
     ensures whole { (node : ℕ) → through lanes.new.items node ≡ through lanes.old.items node }
-    ensures still { result ≡ false → (rings lanes.new.items ≡ rings lanes.old.items) × (waiting_on lanes.new.items ≡ waiting_on lanes.old.items) }
-    ensures fewer { result ≡ true → waiting_on lanes.new.items < waiting_on lanes.old.items }
-    ensures flushed { All IsFlushed lanes.new.items }
+    ensures still { IfOk result (λ moved. moved ≡ false → (rings lanes.new.items ≡ rings lanes.old.items) × (waiting_on lanes.new.items ≡ waiting_on lanes.old.items)) }
+    ensures fewer { IfOk result (λ moved. moved ≡ true → waiting_on lanes.new.items < waiting_on lanes.old.items) }
+    ensures flushed { OnOk result (All IsFlushed lanes.new.items) }
+    ensures memory { IfErr result (λ e. e ≡ Fault.Memory) }
 {
     let mut moved = false;
     for place in 0..lanes.len() {
-        if lanes[place].flush() {
+        if lanes[place].flush()? {
             moved = true;
         }
     }
-    moved
+    Ok(moved)
 }

@@ -1,8 +1,9 @@
 //! Machines in their seats.
-ghost use Rattle.std.specs.Prelude.{◌≡◌, ◌≤◌, ◌<◌, ◌++◌, ◌∷◌, [], ◌==◌, ◌&&◌, ◌⊎◌, length, None, All, true, false, IsSome, IfSome, IfOk, OnOk, IfErr, OnErr};
+ghost use Rattle.std.specs.Prelude.{◌≡◌, ◌≤◌, ◌<◌, ◌++◌, ◌∷◌, [], ◌==◌, ◌&&◌, ◌⊎◌, length, None, All, true, false, IsSome, IfSome, slice_get, IfOk, OnOk, IfErr, OnErr};
 ghost use Rattle.messages.specs.declared.event.Event.{Event as ActorEvent};
 ghost use Rattle.messages.specs.declared.event.Event.TheVariants as event;
 ghost use Rattle.messages.specs.Topology.{node_count};
+ghost use Rattle.std.specs.Option.{option_copied};
 ghost use Rattle.actors.specs.Journals.{submissions, number_after, followed_by, IsOwn};
 ghost use Rattle.actors.specs.Seats.{Keeps, rings, through};
 ghost use Rattle.actors.specs.Resting.{unsent, IsFlushed, IsSorted, WasEmpty};
@@ -40,13 +41,14 @@ pub struct Seat<M: Machine> {
 }
 
 impl<M: Machine> Model for Seat<M> {
+    ghost use Rattle.std.specs.Prelude.{◌++◌};
     ghost use Rattle.actors.specs.Seats.{SeatValue, Keeps};
 
     ghost Value = { SeatValue };
 
-    ghost view = { λ s. record { topology = s.topology; node = s.node; limit = s.recorded.limit; free = M.is_free s.recorded.machine; journal = s.recorded.journal.items; outcomes = s.recorded.outcomes.items; accepted = s.recorded.accepted; refusals = s.refusals.items; backlog = s.backlog.items; outgoing = s.outgoing.items; outbox = s.recorded.outbox.sent; incoming = s.incoming.items; next = s.next; held = s.held } };
+    ghost view = { λ s. record { topology = s.topology; node = s.node; limit = s.recorded.limit; free = M.is_free s.recorded.machine; journal = s.recorded.journal.items; outcomes = s.recorded.outcomes.items; accepted = s.recorded.accepted; clock = s.recorded.clock; timed = s.recorded.timed; refusals = s.refusals.items; backlog = s.backlog.items; outgoing = s.outgoing.items; outbox = s.recorded.outbox.sent ++ s.recorded.fresh.sent; incoming = s.incoming.items; next = s.next; held = s.held } };
 
-    ghost invariant = { λ s. Keeps M.came_from M.untaken s.recorded.machine (record { topology = s.topology; node = s.node; limit = s.recorded.limit; free = M.is_free s.recorded.machine; journal = s.recorded.journal.items; outcomes = s.recorded.outcomes.items; accepted = s.recorded.accepted; refusals = s.refusals.items; backlog = s.backlog.items; outgoing = s.outgoing.items; outbox = s.recorded.outbox.sent; incoming = s.incoming.items; next = s.next; held = s.held }) };
+    ghost invariant = { λ s. Keeps M.came_from M.untaken s.recorded.machine (record { topology = s.topology; node = s.node; limit = s.recorded.limit; free = M.is_free s.recorded.machine; journal = s.recorded.journal.items; outcomes = s.recorded.outcomes.items; accepted = s.recorded.accepted; clock = s.recorded.clock; timed = s.recorded.timed; refusals = s.refusals.items; backlog = s.backlog.items; outgoing = s.outgoing.items; outbox = s.recorded.outbox.sent ++ s.recorded.fresh.sent; incoming = s.incoming.items; next = s.next; held = s.held }) };
 }
 
 /// What a turn answers whose event of the backlog got this number.
@@ -128,6 +130,33 @@ impl<M: Machine> Seat<M> {
         ensures { result.now ≡ self.now.refusals }
     {
         self.refusals.as_slice()
+    }
+
+    /// Its machine.
+    pub fn machine(&self) -> &M
+        ensures { Keeps M.came_from M.untaken result.now self.now }
+    {
+        &self.recorded.machine
+    }
+
+    /// Whether each envelope that its events sent carries the clock of its event, by the events alone.
+    pub fn is_timed(&self) -> bool
+        ensures { result ≡ self.now.timed }
+    {
+        self.recorded.timed
+    }
+
+    /// The envelope of this number, from 0, among all that was sent to an actor, if there are so many. Costs a look at the
+    /// ways, and at what is on none yet.
+    #[tactic(auto, using(crate::proofs::Sent::by_way, crate::proofs::Sent::not_by_way))]
+    pub fn sent_to(&self, to: Node, number: usize) -> Option<&Envelope>
+        ensures { option_copied result ≡ slice_get (followed_by (through self.now.outgoing) self.now.outbox to) number }
+    {
+        let gone = lane::sent_through(self.outgoing.as_slice(), to);
+        if number < gone.len() {
+            return Some(&gone[number]);
+        }
+        self.recorded.unsent_to(to, number - gone.len())
     }
 
     /// Whether its machine is free for an operation.
@@ -228,8 +257,9 @@ impl<M: Machine> Seat<M> {
         ensures flushed { OnOk result (All IsFlushed self.new.outgoing) }
         ensures memory { IfErr result (λ e. e ≡ Fault.Memory) }
     {
+        self.recorded.absorb()?;
         lane::sort(&mut self.recorded.outbox, &mut self.outgoing)?;
-        Ok(lane::flush(&mut self.outgoing))
+        lane::flush(&mut self.outgoing)
     }
 
     /// Takes an envelope from a ring, if none is held back.

@@ -14,12 +14,11 @@ use Rattle.actors.specs.Seats.{SeatValue}
 use Rattle.actors.specs.Resting.{IsResting}
 use Rattle.world.specs.declared.completed.Completed.{Completed}
 use Rattle.world.specs.Run.{run}
-use Rattle.world.specs.World.{WorldValue, run_of}
 use Rattle.world.specs.Journals.{finished_as, ended_at}
 use Rattle.world.proofs.Among.{Among, among_append, among_contains, contains_among, filter_among, filter_only, map_among, map_only}
 use Rattle.threaded.specs.Machines.{as_finished}
 use Rattle.threaded.specs.OneRun.{seat_of}
-use Rattle.threaded.specs.Concluded.{AreConcluded, by_session}
+use Rattle.threaded.specs.Concluded.{InEachRun, AreConcluded, by_session}
 use Rattle.workload.specs.declared.script.Script.{Script}
 use Rattle.workload.specs.declared.transcript.Entry.{Entry}
 use Rattle.workload.specs.declared.transcript.Entry.TheVariants as entry
@@ -109,28 +108,28 @@ flat_same f g start (suc n) same =
     ap (λ l. l ++ flat_map f (range_with_len (start + 1) n)) (same start (omega arith))
     ∙ ap (λ l. g start ++ l) (flat_same f g (start + 1) n (λ i lt. same i (omega (arith, lt))))
 
-pub all_outcomes : (seats : List SeatValue) (w : WorldValue) → AreConcluded seats w
-    → filter is_outcome (told_of w.top seats) ≡ map entry_of (by_session w.top (run_of w).transcript)
-all_outcomes seats w are =
-    filter_flat is_outcome (λ i. told_at (session_node w.top i) (seat_of seats (session_node w.top i))) sessions
+pub all_outcomes : (top : TopologyValue) (seats : List SeatValue) → AreConcluded top seats
+    → InEachRun top seats (λ w. filter is_outcome (told_of top seats) ≡ map entry_of (by_session top w.transcript))
+all_outcomes top seats are events is =
+    filter_flat is_outcome (λ i. told_at (session_node top i) (seat_of seats (session_node top i))) sessions
     ∙ flat_same
-    (λ i. filter is_outcome (told_at (session_node w.top i) (seat_of seats (session_node w.top i))))
-    (λ i. map entry_of (filter (λ (c : Completed). c.node == session_node w.top i) (run_of w).transcript))
-    0 (length w.top.homes) each
-    ∙ sym (map_flat entry_of (λ i. filter (λ (c : Completed). c.node == session_node w.top i) (run_of w).transcript) sessions)
+    (λ i. filter is_outcome (told_at (session_node top i) (seat_of seats (session_node top i))))
+    (λ i. map entry_of (filter (λ (c : Completed). c.node == session_node top i) (run top events).transcript))
+    0 (length top.homes) each
+    ∙ sym (map_flat entry_of (λ i. filter (λ (c : Completed). c.node == session_node top i) (run top events).transcript) sessions)
   where
     sessions : List ℕ
-    sessions = range_with_len 0 (length w.top.homes)
+    sessions = range_with_len 0 (length top.homes)
 
-    each : (i : ℕ) → i < 0 + length w.top.homes
-        → filter is_outcome (told_at (session_node w.top i) (seat_of seats (session_node w.top i)))
-        ≡ map entry_of (filter (λ (c : Completed). c.node == session_node w.top i) (run_of w).transcript)
+    each : (i : ℕ) → i < 0 + length top.homes
+        → filter is_outcome (told_at (session_node top i) (seat_of seats (session_node top i)))
+        ≡ map entry_of (filter (λ (c : Completed). c.node == session_node top i) (run top events).transcript)
     each i lt =
-        let node = session_node w.top i in
-        let below : node < node_count w.top = omega (arith, lt) in
+        let node = session_node top i in
+        let below : node < node_count top = omega (arith, lt) in
         let seat = are.are.each node below in
         ap (λ o. filter is_outcome (told_at node o)) seat.1
-        ∙ seat_told node (run_of w).transcript seat.0 (are.outcomes node seat.0 below seat.1)
+        ∙ seat_told node (run top events).transcript seat.0 ((are.alike events is).outcomes node seat.0 below seat.1)
 
 -- a topology has a node
 pub some_seats : (top : TopologyValue) (homes : List ℕ) (n : ℕ) → n ≡ node_count top → homes ≡ top.homes → 1 ≤ length homes → 0 < n
@@ -142,34 +141,39 @@ some_seats top homes n is same le =
 some_shards : (top : TopologyValue) → is_topology top.dcs top.shards top.homes ≡ true → 0 < top.shards
 some_shards top sound = grind (arith, nat_tests)
 
-pub is_transcript : (s : Script) (entries : List Entry) (seats : List SeatValue) (w : WorldValue) → w.top ≡ s.topology → AreConcluded seats w
-    → All IsResting seats
-    → ((node : ℕ) (seat : SeatValue) → node < node_count s.topology → seat_of seats node ≡ Some seat → HasTaken s.topology (asked_of s node) seat)
-    → entries ≡ told_of w.top seats → IsThreadTranscriptOf s entries
-is_transcript s entries seats w same are resting taken told =
+-- what is told of concluded seats
+module _ (top : TopologyValue) (entries : List Entry) (seats : List SeatValue) (are : AreConcluded top seats) (told : entries ≡ told_of top seats) where
+  outcomes_in_each : InEachRun top seats (λ w. filter is_outcome entries ≡ map entry_of (by_session top w.transcript))
+  outcomes_in_each events is = ap (filter is_outcome) told ∙ all_outcomes top seats are events is
+
+  reads_in_each : (node number time : ℕ) (answer : List AnsweredRow) → Contains entries (entry.Read node number time answer)
+      → InEachRun top seats (λ w. ShowsOneTable top w node number time answer)
+  reads_in_each node number time answer has events is =
+      let e = entry.Read node number time answer in
+      let w = run top events in
+      let here : Among e (filter is_outcome entries) = filter_among is_outcome entries e (contains_among _ _ has) refl in
+      let there : Among e (map entry_of (by_session top w.transcript)) = subst (λ l. Among e l) (outcomes_in_each events is) here in
+      let (c, listed, shown) = map_only entry_of (by_session top w.transcript) e there in
+      let (i, among) = among_flat (λ i. filter (λ (d : Completed). d.node == session_node top i) w.transcript) (range_with_len 0 (length top.homes)) c listed in
+      let in_all : Among c w.transcript = (filter_only (λ (d : Completed). d.node == session_node top i) w.transcript c among).0 in
+      let back : Among e (map entry_of w.transcript) = subst (λ x. Among x (map entry_of w.transcript)) (sym shown) (map_among entry_of w.transcript c in_all) in
+      shows top events (some_shards top are.are.sound) node number time answer (among_contains _ _ back)
+
+-- the same of a script's actors
+abbrev pub EachTook : Script → List SeatValue → Type 0
+EachTook s seats = (node : ℕ) (seat : SeatValue) → node < node_count s.topology → seat_of seats node ≡ Some seat → HasTaken s.topology (asked_of s node) seat
+
+pub is_transcript : (s : Script) (entries : List Entry) (seats : List SeatValue) (top : TopologyValue) → top ≡ s.topology → AreConcluded top seats
+    → All IsResting seats → EachTook s seats → entries ≡ told_of top seats → IsThreadTranscriptOf s entries
+is_transcript s entries seats top same are resting taken told =
+    let here : AreConcluded s.topology seats = subst (λ t. AreConcluded t seats) same are in
+    let tells : entries ≡ told_of s.topology seats = told ∙ ap (λ t. told_of t seats) same in
     record {
       seats = seats;
-      world = w;
-      actors = same;
-      concluded = are;
+      concluded = here;
       resting = resting;
       taken = taken;
-      told = told ∙ ap (λ t. told_of t seats) same;
-      outcomes = outcomes ∙ ap (λ t. map entry_of (by_session t (run_of w).transcript)) same;
-      reads = λ node number time answer has. subst (λ t. ShowsOneTable t (run_of w) node number time answer) same (read node number time answer has);
+      told = tells;
+      outcomes = outcomes_in_each s.topology entries seats here tells;
+      reads = reads_in_each s.topology entries seats here tells;
     }
-  where
-    outcomes : filter is_outcome entries ≡ map entry_of (by_session w.top (run_of w).transcript)
-    outcomes = ap (filter is_outcome) told ∙ all_outcomes seats w are
-
-    read : (node number time : ℕ) (answer : List AnsweredRow) → Contains entries (entry.Read node number time answer)
-        → ShowsOneTable w.top (run_of w) node number time answer
-    read node number time answer has =
-        let e = entry.Read node number time answer in
-        let here : Among e (filter is_outcome entries) = filter_among is_outcome entries e (contains_among _ _ has) refl in
-        let there : Among e (map entry_of (by_session w.top (run_of w).transcript)) = subst (λ l. Among e l) outcomes here in
-        let (c, listed, is) = map_only entry_of (by_session w.top (run_of w).transcript) e there in
-        let (i, among) = among_flat (λ i. filter (λ (d : Completed). d.node == session_node w.top i) (run_of w).transcript) (range_with_len 0 (length w.top.homes)) c listed in
-        let in_all : Among c (run_of w).transcript = (filter_only (λ (d : Completed). d.node == session_node w.top i) (run_of w).transcript c among).0 in
-        let back : Among e (map entry_of (run_of w).transcript) = subst (λ x. Among x (map entry_of (run_of w).transcript)) (sym is) (map_among entry_of (run_of w).transcript c in_all) in
-        shows w.top w.events (some_shards w.top are.are.sound) node number time answer (among_contains _ _ back)

@@ -10,7 +10,7 @@ use Rattle.messages.specs.declared.outcome.Outcome.{Outcome}
 use Rattle.messages.specs.Topology.{TopologyValue, session_node}
 use Rattle.actors.specs.Seats.{SeatValue}
 use Rattle.threaded.specs.OneRun.{seat_of}
-use Rattle.threaded.proofs.Starting.{flat_more, range_more}
+use Rattle.threaded.proofs.Lists.{flat_more, range_more}
 use Rattle.workload.specs.declared.script.Script.{Script}
 use Rattle.workload.specs.declared.transcript.Entry.{Entry}
 use Rattle.workload.specs.Simulation.{entry_by}

@@ -4,9 +4,8 @@ use Rattle.slice.specs.declared.read.AnsweredRow.{AnsweredRow}
 use Rattle.messages.specs.Topology.{node_count}
 use Rattle.actors.specs.Seats.{SeatValue}
 use Rattle.actors.specs.Resting.{IsResting}
-use Rattle.world.specs.World.{WorldValue, run_of}
 use Rattle.threaded.specs.OneRun.{seat_of}
-use Rattle.threaded.specs.Concluded.{AreConcluded, by_session}
+use Rattle.threaded.specs.Concluded.{InEachRun, AreConcluded, by_session}
 use Rattle.workload.specs.declared.script.Script.{Script}
 use Rattle.workload.specs.declared.transcript.Entry.{Entry}
 use Rattle.workload.specs.declared.transcript.Entry.TheVariants as entry
@@ -16,19 +15,17 @@ use Rattle.running.specs.Told.{told_of}
 
 -- The entries are told of seats that did what the script asks of their actors, and whose journals are those of a run.
 pub record IsThreadTranscriptOf (s : Script) (entries : List Entry) : Type 0 where
-  -- a run of the script's actors, as a world is one; its journals are those of these seats
+  -- a seat for each of the script's actors; their journals are those of a run
   pub seats : List SeatValue
-  pub world : WorldValue
-  pub actors : world.top ≡ s.topology
-  pub concluded : AreConcluded seats world
+  pub concluded : AreConcluded s.topology seats
   -- no seat had anything left to do
   pub resting : All IsResting seats
   -- each actor did what the script asks of it, as far as it could
   pub taken : (node : ℕ) (seat : SeatValue) → node < node_count s.topology → seat_of seats node ≡ Some seat → HasTaken s.topology (asked_of s node) seat
   -- what is told of the sessions, one after the other
   pub told : entries ≡ told_of s.topology seats
-  -- the outcomes among it are those of the run, by their sessions
-  pub outcomes : filter is_outcome entries ≡ map entry_of (by_session s.topology (run_of world).transcript)
-  -- each answer of a read shows the one table of its home
+  -- the outcomes among it are those of each run with these journals, by their sessions
+  pub outcomes : InEachRun s.topology seats (λ w. filter is_outcome entries ≡ map entry_of (by_session s.topology w.transcript))
+  -- and each answer of a read shows the one table of its home there
   pub reads : (node number time : ℕ) (answer : List AnsweredRow) → Contains entries (entry.Read node number time answer)
-      → ShowsOneTable s.topology (run_of world) node number time answer
+      → InEachRun s.topology seats (λ w. ShowsOneTable s.topology w node number time answer)

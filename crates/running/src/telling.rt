@@ -104,7 +104,7 @@ fn tell_at(concluded: &Concluded, node: Node, transcript: &mut Transcript) -> Re
 
 /// Tells all sessions, one after the other. Refused with `Memory` alone.
 fn tell_sessions(concluded: &Concluded, transcript: &mut Transcript) -> Result<(), Fault>
-    ensures told { OnOk result (transcript.new ≡ transcript.old ++ told_of concluded.now.world.top concluded.now.seats) }
+    ensures told { OnOk result (transcript.new ≡ transcript.old ++ told_of concluded.now.top concluded.now.seats) }
     ensures memory { IfErr result (λ e. e ≡ Fault.Memory) }
 {
     let topology = concluded.topology();
@@ -145,7 +145,7 @@ pub(crate) fn tell(
     }
     let mut transcript = Transcript::new(alloc);
     tell_sessions(concluded, &mut transcript)?;
-    // what is promised of the run
-    let _promised = concluded.transcript();
+    // the journals are those of a run
+    let _concluded = concluded.seats();
     Ok(transcript)
 }

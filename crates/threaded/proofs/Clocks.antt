@@ -16,7 +16,7 @@ use Rattle.messages.specs.Actors.{ActorState, OfShard, OfSession, clock_of, open
 use Rattle.world.proofs.OwnSends.{handled_own}
 use Rattle.world.proofs.Ticks.{begun_own, heard_own}
 use Rattle.world.proofs.Replays.{unfolds}
-use Rattle.threaded.specs.Shown.{clock_with, clock_from, clock_after}
+use Rattle.actors.specs.Shown.{clock_with, clock_from, clock_after}
 
 -- ## Steps
 

@@ -26,7 +26,8 @@ use Rattle.world.proofs.OwnJournals.{run_journals, runs_fit}
 use Rattle.world.proofs.Merged.{are_a_run}
 use Rattle.threaded.specs.Machines.{StaysApart}
 use Rattle.threaded.specs.OneRun.{DoLinksMatch}
-use Rattle.threaded.specs.Shown.{Shown, mark_after, sent_after, CameAlong, clock_from, clock_after, AreTimed, DoShownMatch, HaveSenders, IsTold}
+use Rattle.actors.specs.Shown.{Shown, mark_after, sent_after, clock_from, clock_after, AreTimed}
+use Rattle.threaded.specs.Shown.{DidCome, DoShownMatch, HaveSenders, IsTold}
 use Rattle.threaded.proofs.Lists.{same_rest, take_one_more}
 use Rattle.threaded.proofs.Machines.{apart_before}
 use Rattle.threaded.proofs.Going.{replay_takes, replay_continues}
@@ -104,7 +105,7 @@ among_receipts e journal m =
 
 -- ## One actor
 
-module _ (top : TopologyValue) (node : ℕ) (s : Shown) (along : CameAlong top node s) where
+module _ (top : TopologyValue) (node : ℕ) (s : Shown) (along : DidCome top node s) where
   -- up to so many events, where stamps stay apart
   pub record IsSoFar (k : ℕ) : Type 0 where
     pub replay : Replayed
@@ -175,7 +176,7 @@ module _ (top : TopologyValue) (node : ℕ) (s : Shown) (along : CameAlong top n
 
 -- ## What a run tells of all actors
 
-module _ (top : TopologyValue) (shown : ℕ → Shown) (some : 0 < top.shards) (along : (node : ℕ) → node < node_count top → CameAlong top node (shown node)) where
+module _ (top : TopologyValue) (shown : ℕ → Shown) (some : 0 < top.shards) (along : (node : ℕ) → node < node_count top → DidCome top node (shown node)) where
   module _ (fit : DoFit top (λ n. (shown n).journal)) where
     all_apart : (node : ℕ) → node < node_count top → StaysApart top node (shown node).journal
     all_apart node lt =
@@ -203,7 +204,7 @@ module _ (top : TopologyValue) (shown : ℕ → Shown) (some : 0 < top.shards) (
 
 -- ## All actors
 
-module _ (top : TopologyValue) (shown : ℕ → Shown) (some : 0 < top.shards) (along : (node : ℕ) → node < node_count top → CameAlong top node (shown node))
+module _ (top : TopologyValue) (shown : ℕ → Shown) (some : 0 < top.shards) (along : (node : ℕ) → node < node_count top → DidCome top node (shown node))
     (senders : HaveSenders top shown) where
   go_on : DoGoOn top (λ n. (shown n).journal) some
   go_on node before x after lt = goes_on top node (shown node) (along node lt) before x after

@@ -21,10 +21,9 @@ use Rattle.world.proofs.Happenings.{Happens, handle_happens, submit_happens, col
 use Rattle.world.proofs.JournalSteps.{AreKnown, apart_too, journal_here, journal_there}
 use Rattle.world.proofs.OwnJournals.{run_journals}
 use Rattle.threaded.specs.Machines.{StaysApart}
-use Rattle.threaded.specs.Shown.{clock_with, clock_from}
+use Rattle.actors.specs.Shown.{clock_with, clock_from}
 use Rattle.threaded.proofs.Going.{replay_takes}
-use Rattle.threaded.proofs.Joined.{apart_more}
-use Rattle.threaded.proofs.Starting.{apart_at_first}
+use Rattle.threaded.proofs.Apart.{apart_more, apart_at_first}
 use Rattle.threaded.proofs.Clocks.{step_clock, clock_told, clock_from_push, IsAbove, starts_above, above_less}
 
 -- ## Stamps stay apart along the journals of a run

@@ -1,6 +1,8 @@
 pub mod Machines
 pub mod OneRun
-pub mod Links
-pub mod Joining
+pub mod Matching
+pub mod Submitted
+pub mod Entries
+pub mod Asking
 pub mod Concluded
 pub mod Shown

@@ -1,77 +1,72 @@
 //! What the journals of seats conclude.
-ghost use Rattle.std.specs.Prelude.{◌≡◌, ◌<◌, ◌++◌, ℕ, List, length, Some, IfOk, IfErr, IfSome, IfNone, None};
-ghost use Rattle.world.specs.declared.run_event.RunEvent.{RunEvent};
+ghost use Rattle.std.specs.Prelude.{◌≡◌, ◌<◌, ℕ, length, Some, IfOk, IfErr, IfSome, IfNone, None};
 ghost use Rattle.world.specs.Causes.{PastsAreDecided};
 ghost use Rattle.world.specs.Collected.{CollectedIsBelowHorizon};
 ghost use Rattle.world.specs.Entries.{TellsDecided, StampsAgree, WritesAreTold};
 ghost use Rattle.world.specs.Fresh.{FirstRoundsAreWhole};
 ghost use Rattle.world.specs.Promises.{EntriesAreOfSubmissions, OutcomesAreListed, ReadsShowOneTable, ReadsShowTheirPast, ReadsAreFresh, StampsFollowCauses, TimesNeverFall, SessionsStayAtHome, OperationsEndOnce};
 ghost use Rattle.world.specs.Histories.{IsHistory};
-ghost use Rattle.world.specs.World.{run_of};
 ghost use Rattle.threaded.specs.OneRun.{seat_of};
-ghost use Rattle.threaded.specs.Concluded.{AreConcluded, by_session};
+ghost use Rattle.threaded.specs.Concluded.{InEachRun, AreConcluded, IsConcluded, by_session};
 
 use crate::actor::Actor;
 use crate::concluding::place_of;
+use crate::history::history;
 use actors::Seat;
 use logical_time::{Fault, Node};
 use messages::Topology;
 use std::alloc::Global;
 use std::marker::Model;
 use table::History;
-use world::{Completed, World};
+use world::Completed;
 
-/// A run, whose journals are those of seats. What the threads answered is what the run has, so all that is promised of runs
-/// is promised of it. It must be closed.
+/// Seats whose journals are a run. There is one, and what the threads answered is what each run with these journals has: so all
+/// that is promised of runs is promised of what they answered. It must be closed.
 pub struct Concluded {
+    topology: Topology,
     seats: Vec<Seat<Actor>>,
-    world: World,
     transcript: Vec<Completed>,
 }
 
 impl Model for Concluded {
-    ghost use Rattle.std.specs.Prelude.{◌≡◌};
-    ghost use Rattle.world.specs.World.{run_of};
-    ghost use Rattle.threaded.specs.Concluded.{ConcludedValue, by_session, IsConcluded};
+    ghost use Rattle.threaded.specs.Concluded.{ConcludedValue, IsConcluded};
 
     ghost Value = { ConcludedValue };
 
-    ghost view = { λ c. record { seats = c.seats.items; world = c.world } };
+    ghost view = { λ c. record { top = c.topology; seats = c.seats.items } };
 
-    ghost invariant = { λ c. IsConcluded c.seats.items c.world c.transcript.items };
+    ghost invariant = { λ c. IsConcluded c.topology c.seats.items c.transcript.items };
 }
 
 impl Concluded {
-    /// These seats, whose journals are those of the run that the world is, and the entries of its transcript by their
-    /// sessions.
+    /// Seats of a topology whose journals are a run, and the transcript of each such run by sessions.
     pub(crate) fn new(
+        topology: Topology,
         seats: Vec<Seat<Actor>>,
-        world: World,
         transcript: Vec<Completed>,
     ) -> Concluded
-        requires run { AreConcluded seats.items world }
-        requires transcript { transcript.items ≡ by_session world.top (run_of world).transcript }
-        ensures { result ≡ record { seats = seats.items; world = world } }
+        requires { IsConcluded topology seats.items transcript.items }
+        ensures { result ≡ record { top = topology; seats = seats.items } }
     {
         Concluded {
+            topology,
             seats,
-            world,
             transcript,
         }
     }
 
     /// Which actors there are.
     pub fn topology(&self) -> &Topology
-        ensures { result.now ≡ self.now.world.top }
+        ensures { result.now ≡ self.now.top }
     {
-        self.world.topology()
+        &self.topology
     }
 
-    /// The seats, as they were given: their journals are those of the run, and the outcomes that they gave are, in order, what
-    /// the run has of their actors.
+    /// The seats, as they were given: their journals are those of a run, and the outcomes that they gave are, in order, what each
+    /// such run has of their actors.
     pub fn seats(&self) -> &[Seat<Actor>]
         ensures value { result.now ≡ self.now.seats }
-        ensures run { AreConcluded self.now.seats self.now.world }
+        ensures run { AreConcluded self.now.top self.now.seats }
     {
         self.seats.as_slice()
     }
@@ -85,61 +80,64 @@ impl Concluded {
         Some(&self.seats[place])
     }
 
-    /// The operations that ended, by the nodes of their sessions, each session's in order.
+    /// The operations that ended, by the nodes of their sessions, each session's in order: as each run with these journals has
+    /// them, of which there is one.
+    #[tactic(auto, using(crate::proofs::Promised::one_table, crate::proofs::Promised::past, crate::proofs::Promised::fresh, crate::proofs::Promised::whole, crate::proofs::Promised::given_up, crate::proofs::Promised::entries, crate::proofs::Promised::outcomes, crate::proofs::Promised::once, crate::proofs::Promised::told, crate::proofs::Promised::times, crate::proofs::Promised::homes))]
     pub fn transcript(&self) -> &[Completed]
-        ensures run { AreConcluded self.now.seats self.now.world }
-        ensures listed { result.now ≡ by_session self.now.world.top (run_of self.now.world).transcript }
+        ensures run { AreConcluded self.now.top self.now.seats }
+        ensures listed { InEachRun self.now.top self.now.seats (λ w. result.now ≡ by_session self.now.top w.transcript) }
         // whatever the threads did, each read is answered with the meaning of its request on one table: its home's history at
         // its effective time
-        ensures one_table { ReadsShowOneTable self.now.world.top (run_of self.now.world) }
+        ensures one_table { InEachRun self.now.top self.now.seats (ReadsShowOneTable self.now.top) }
         // that table holds each write before the read, and nothing older than the asked shards had applied
-        ensures past { ReadsShowTheirPast self.now.world.top (run_of self.now.world) }
-        ensures fresh { ReadsAreFresh self.now.world.top (run_of self.now.world) }
-        ensures whole { FirstRoundsAreWhole self.now.world.top (run_of self.now.world) }
+        ensures past { InEachRun self.now.top self.now.seats (ReadsShowTheirPast self.now.top) }
+        ensures fresh { InEachRun self.now.top self.now.seats (ReadsAreFresh self.now.top) }
+        ensures whole { InEachRun self.now.top self.now.seats (FirstRoundsAreWhole self.now.top) }
         // a read is given up only below the horizon of a shard that it asked
-        ensures given_up { CollectedIsBelowHorizon self.now.world.top (run_of self.now.world) }
+        ensures given_up { InEachRun self.now.top self.now.seats (CollectedIsBelowHorizon self.now.top) }
         // each entry is of a submitted operation, each operation ends once, as its session tells it
-        ensures entries { EntriesAreOfSubmissions (run_of self.now.world) }
-        ensures outcomes { OutcomesAreListed self.now.world.top (run_of self.now.world) }
-        ensures once { OperationsEndOnce (run_of self.now.world) }
+        ensures entries { InEachRun self.now.top self.now.seats EntriesAreOfSubmissions }
+        ensures outcomes { InEachRun self.now.top self.now.seats (OutcomesAreListed self.now.top) }
+        ensures once { InEachRun self.now.top self.now.seats OperationsEndOnce }
         // each completed write stands in the history of its home; the times of a session never fall while it stays in one home,
         // as each does
-        ensures told { WritesAreTold self.now.world.top (run_of self.now.world) }
-        ensures times { TimesNeverFall (run_of self.now.world) }
-        ensures homes { SessionsStayAtHome (run_of self.now.world) }
+        ensures told { InEachRun self.now.top self.now.seats (WritesAreTold self.now.top) }
+        ensures times { InEachRun self.now.top self.now.seats TimesNeverFall }
+        ensures homes { InEachRun self.now.top self.now.seats SessionsStayAtHome }
     {
-        let _promised = self.world.transcript();
         self.transcript.as_slice()
     }
 
-    /// The history of a data centre, as a world tells it. That there is such a data centre is the caller's condition. Refused
-    /// with `Memory` alone.
+    /// The history of a data centre, as each run with these journals has it: by asking, for each submitted batch, the seat of its
+    /// coordinator there. Session by session, in the order of submission. That there is such a data centre is the caller's
+    /// condition. In the order of m log n for m submitted batches and n transactions, beside the copies, which share the bytes of
+    /// keys, names and values. Refused with `Memory` alone.
+    #[tactic(auto, using(crate::proofs::Promised::listed, crate::proofs::Promised::tells, crate::proofs::Promised::stamps, crate::proofs::Promised::causes, crate::proofs::Promised::pasts))]
     pub fn history(&self, alloc: Global, dc: u16) -> Result<History, Fault>
-        requires { dc < self.now.world.top.dcs }
-        ensures run { AreConcluded self.now.seats self.now.world }
-        ensures listed { IfOk result (λ h. IsHistory self.now.world.top (run_of self.now.world) dc h) }
+        requires { dc < self.now.top.dcs }
+        ensures run { AreConcluded self.now.top self.now.seats }
+        ensures listed { IfOk result (λ h. InEachRun self.now.top self.now.seats (λ w. IsHistory self.now.top w dc h)) }
         // an entry for each transaction that is decided there, and no other
-        ensures tells { IfOk result (λ h. TellsDecided self.now.world.top (run_of self.now.world) dc h) }
+        ensures tells { IfOk result (λ h. InEachRun self.now.top self.now.seats (λ w. TellsDecided self.now.top w dc h)) }
         // a transaction has one stamp everywhere, its own; stamps follow causal order, as do commit times within a data centre
-        ensures stamps { StampsAgree self.now.world.top (run_of self.now.world) }
-        ensures causes { StampsFollowCauses self.now.world.top (run_of self.now.world) }
-        ensures pasts { PastsAreDecided self.now.world.top (run_of self.now.world) }
+        ensures stamps { InEachRun self.now.top self.now.seats (StampsAgree self.now.top) }
+        ensures causes { InEachRun self.now.top self.now.seats (StampsFollowCauses self.now.top) }
+        ensures pasts { InEachRun self.now.top self.now.seats (PastsAreDecided self.now.top) }
         ensures memory { IfErr result (λ e. e ≡ Fault.Memory) }
     {
-        self.world.history(alloc, dc)
+        history(alloc, self.seats.as_slice(), &self.topology, dc)
     }
 
-    /// Ends the seats and the world, and gives up what isn't finished.
+    /// Ends the seats, and gives up what isn't finished.
     pub fn close(self) {
         let Concluded {
+            topology: _,
             mut seats,
-            world,
             transcript: _,
         } = self;
         while let Some(seat) = seats.pop() {
             actors::Machine::close(seat.close());
         }
         seats.destroy_empty();
-        world.close();
     }
 }

@@ -1,26 +1,36 @@
-//! Seats whose journals are joined to a run.
-ghost use Rattle.std.specs.Prelude.{◌≡◌, ◌<◌, ◌↔◌, ◌++◌, ◌==◌, ◌∷◌, [], ℕ, true, None, cond, length, filter, IfOk, OnOk, IfErr, IfSome, IfNone};
+//! Seats whose journals are a run.
+ghost use Rattle.std.specs.Prelude.{◌≡◌, ◌<◌, ◌↔◌, ℕ, true, false, None, length, IfOk, IfErr, IfSome, IfNone};
 ghost use Rattle.logical_time.specs.declared.fault.Fault.TheVariants.{Memory};
-ghost use Rattle.world.specs.World.{run_of};
-ghost use Rattle.world.specs.declared.completed.Completed.{Completed as Ended};
-ghost use Rattle.threaded.specs.OneRun.{seat_of, AreOfTopology, AreOfOneRun};
-ghost use Rattle.threaded.specs.Joining.{IsPlace, ArePlaces, AreLengths, Joins, IsUnjoined, IsUnseated, IsUnconcluded};
-ghost use Rattle.threaded.specs.Concluded as conclusion;
-ghost use Rattle.threaded.specs.Concluded.{AreConcluded};
+ghost use Rattle.messages.specs.Topology.{is_topology, node_count};
+ghost use Rattle.threaded.specs.OneRun.{seat_of, journal_of, AreOfTopology, AreSeatsOf, DoLinksMatch};
+ghost use Rattle.threaded.specs.Matching.{IsPlace, ArePlaces, IsUnseated, IsUnconcluded};
+ghost use Rattle.threaded.specs.Concluded.{AreConcluded, IsConcluded};
 
 use crate::actor::Actor;
 use crate::concluded::Concluded;
-use crate::joining::Joining;
-use crate::waiting::Links;
+use crate::entries::entries;
+use crate::matching::{are_timed, do_receive};
 use actors::Seat;
 use equality::same_topology;
 use logical_time::{Fault, Node};
 use messages::Topology;
 use std::alloc::Global;
-use world::{Completed, World};
+use world::Completed;
+
+/// How many actors a topology has, which is within its limits.
+#[tactic(auto, using(crate::proofs::Looked::within_limits))]
+fn count_of(topology: &Topology) -> u16
+    ensures value { result ≡ node_count topology.now }
+    ensures limits { is_topology topology.now.dcs topology.now.shards topology.now.homes ≡ true }
+{
+    let _dcs = topology.dcs();
+    let _shards = topology.shards();
+    let _homes = topology.homes();
+    topology.node_count()
+}
 
 /// Whether all seats are of this topology.
-#[tactic(auto, using(crate::proofs::Starting::one_more_of, crate::proofs::Starting::all_of))]
+#[tactic(auto, using(crate::proofs::Looked::one_more_of, crate::proofs::Looked::all_of))]
 fn are_of(topology: &Topology, seats: &[Seat<Actor>]) -> bool
     ensures { (result ≡ true) ↔ AreOfTopology topology.now seats.now }
 {
@@ -33,7 +43,7 @@ fn are_of(topology: &Topology, seats: &[Seat<Actor>]) -> bool
 }
 
 /// Where the seat of the actor with a node stands, if there is one.
-#[tactic(auto, using(crate::proofs::Starting::place_found, crate::proofs::Starting::one_more_elsewhere, crate::proofs::Starting::nowhere))]
+#[tactic(auto, using(crate::proofs::Looked::place_found, crate::proofs::Looked::one_more_elsewhere, crate::proofs::Looked::nowhere))]
 pub(crate) fn place_of(seats: &[Seat<Actor>], node: Node) -> Option<usize>
     ensures some { IfSome result (IsPlace seats.now node) }
     ensures none { IfNone result (seat_of seats.now node ≡ None) }
@@ -47,7 +57,7 @@ pub(crate) fn place_of(seats: &[Seat<Actor>], node: Node) -> Option<usize>
 }
 
 /// Where the seats of so many nodes stand. Refused with `StrangerEnd` where one has none, and with `Memory`.
-#[tactic(auto, using(crate::proofs::Starting::no_place, crate::proofs::Starting::one_more_place))]
+#[tactic(auto, using(crate::proofs::Looked::no_place, crate::proofs::Looked::one_more_place))]
 fn places_of(alloc: Global, seats: &[Seat<Actor>], count: u16) -> Result<Vec<usize>, Fault>
     ensures ok { IfOk result (λ places. ArePlaces count seats.now places.items) }
     ensures refused { IfErr result (IsUnseated count seats.now) }
@@ -62,153 +72,74 @@ fn places_of(alloc: Global, seats: &[Seat<Actor>], count: u16) -> Result<Vec<usi
     Ok(places)
 }
 
-/// How many events the journals of the seats at these places hold. Refused with `Memory` alone.
-#[tactic(auto, using(crate::proofs::Starting::no_length, crate::proofs::Starting::one_more_length, crate::proofs::Starting::seat_there))]
-fn lengths(alloc: Global, seats: &[Seat<Actor>], places: &[usize]) -> Result<Vec<usize>, Fault>
-    requires { ArePlaces (length places.now) seats.now places.now }
-    ensures ok { IfOk result (λ lengths. AreLengths (length places.now) seats.now lengths.items) }
+/// Whether all that seats sent carries the clocks of their events, and what they received is what was sent to them: exactly then
+/// their journals are a run. Refused with `Memory` alone.
+fn do_fit(
+    alloc: Global,
+    topology: &Topology,
+    seats: &[Seat<Actor>],
+    places: &[usize],
+) -> Result<bool, Fault>
+    requires seats { AreSeatsOf topology.now seats.now }
+    requires places { ArePlaces (node_count topology.now) seats.now places.now }
+    ensures fit { IfOk result (λ fit. fit ≡ true → AreConcluded topology.now seats.now) }
+    ensures apart { IfOk result (λ fit. fit ≡ false → DoLinksMatch topology.now (journal_of seats.now) → ⊥) }
     ensures memory { IfErr result (λ e. e ≡ Memory) }
 {
-    let mut lengths = Vec::new(alloc);
-    for node in 0..places.len() {
-        lengths.push(seats[places[node]].journal().len())?;
+    if !are_timed(seats, places) {
+        return Ok(false);
     }
-    Ok(lengths)
+    let all = do_receive(alloc, topology, seats, places)?;
+    Ok(all)
 }
 
-/// Joins the journals, and gives the world that took them. Refused as `Joining::join` is.
-fn finish(joining: Joining, seats: &[Seat<Actor>]) -> Result<World, Fault>
-    requires { Joins seats.now joining.places.items joining.world joining.left.items joining.links }
-    ensures ok { IfOk result (AreConcluded seats.now) }
-    ensures refused { IfErr result (IsUnjoined joining.world.top seats.now) }
-{
-    let mut joining = joining;
-    let joined = joining.join(seats);
-    let Joining {
-        world,
-        places: _,
-        left: _,
-        links: _,
-    } = joining;
-    match joined {
-        Ok(()) => Ok(world),
-        Err(fault) => {
-            world.close();
-            Err(fault)
-        }
-    }
-}
-
-/// The world that took the journals of seats. Refused with `StrangerEnd` where they aren't of one run, and with `Memory`.
-fn join(alloc: Global, seats: &[Seat<Actor>]) -> Result<World, Fault>
-    ensures ok { IfOk result (AreConcluded seats.now) }
+/// The topology of seats whose journals are a run. Refused with `StrangerEnd` where they aren't of one run, and with `Memory`.
+fn topology_of(alloc: Global, seats: &[Seat<Actor>]) -> Result<Topology, Fault>
+    ensures ok { IfOk result (λ topology. AreConcluded topology seats.now) }
     ensures refused { IfErr result (IsUnconcluded seats.now) }
 {
     if seats.is_empty() {
         return Err(Fault::StrangerEnd);
     }
     let topology = seats[0].topology();
-    let count = topology.node_count();
+    let count = count_of(topology);
     if seats.len() != usize::from(count) || !are_of(topology, seats) {
         return Err(Fault::StrangerEnd);
     }
     let places = places_of(alloc, seats, count)?;
-    let left = lengths(alloc, seats, places.as_slice())?;
-    let links = Links::new(alloc, usize::from(count))?;
-    let world = World::new(alloc, topology)?;
-    // a topology within its limits has a node
-    let _limits = world.topology();
-    let joining = Joining {
-        world,
-        places,
-        left,
-        links,
-    };
-    finish(joining, seats)
-}
-
-/// A copy of an entry, which shares the bytes of keys, names and values. Refused with `Memory` alone.
-fn copied(entry: &Completed) -> Result<Completed, Fault>
-    ensures ok { IfOk result (λ copy. copy ≡ entry.now) }
-    ensures memory { IfErr result (λ e. e ≡ Memory) }
-{
-    let op = entry.op.copied()?;
-    let outcome = entry.outcome.copied()?;
-    Ok(Completed {
-        node: entry.node,
-        number: entry.number,
-        home: entry.home,
-        op,
-        outcome,
-    })
-}
-
-/// Adds an entry at the end, if it is of the session. Refused with `Memory` alone.
-fn add_entry(list: &mut Vec<Completed>, entry: &Completed, session: Node) -> Result<(), Fault>
-    ensures ok { OnOk result (list.new.items ≡ list.old.items ++ cond (entry.now.node == session) (entry.now ∷ []) []) }
-    ensures memory { IfErr result (λ e. e ≡ Memory) }
-{
-    if entry.node == session {
-        list.push(copied(entry)?)?;
+    let fit = do_fit(alloc, topology, seats, places.as_slice())?;
+    if !fit {
+        return Err(Fault::StrangerEnd);
     }
-    Ok(())
+    Ok(topology.copied()?)
 }
 
-/// Adds the entries of a session at the end, in their order. Refused with `Memory` alone.
-#[tactic(auto, using(crate::proofs::Starting::another_entry, crate::proofs::Starting::all_entries))]
-fn add_entries(
-    list: &mut Vec<Completed>,
-    transcript: &[Completed],
-    session: Node,
-) -> Result<(), Fault>
-    ensures ok { OnOk result (list.new.items ≡ list.old.items ++ filter (λ (c : Ended). c.node == session) transcript.now) }
-    ensures memory { IfErr result (λ e. e ≡ Memory) }
+/// The topology of seats whose journals are a run, and the transcript of that by sessions. Refused as `topology_of` is.
+#[tactic(auto, using(crate::proofs::Whole::is_concluded))]
+fn tell(alloc: Global, seats: &[Seat<Actor>]) -> Result<(Topology, Vec<Completed>), Fault>
+    ensures ok { IfOk result (λ told. IsConcluded told.0 seats.now told.1.items) }
+    ensures refused { IfErr result (IsUnconcluded seats.now) }
 {
-    for place in 0..transcript.len() {
-        add_entry(list, &transcript[place], session)?;
-    }
-    Ok(())
-}
-
-/// The entries of a world's transcript, by their sessions. Refused with `Memory` alone.
-#[tactic(auto, using(crate::proofs::Starting::another_session))]
-fn by_session(alloc: Global, world: &World) -> Result<Vec<Completed>, Fault>
-    ensures ok { IfOk result (λ list. list.items ≡ conclusion.by_session world.now.top (run_of world.now).transcript) }
-    ensures memory { IfErr result (λ e. e ≡ Memory) }
-{
-    let mut list = Vec::new(alloc);
-    let topology = world.topology();
-    for session in 0..topology.homes().len() as u16 {
-        add_entries(
-            &mut list,
-            world.transcript(),
-            topology.session_node(session),
-        )?;
-    }
-    Ok(list)
+    let topology = topology_of(alloc, seats)?;
+    let transcript = entries(alloc, seats, &topology)?;
+    Ok((topology, transcript))
 }
 
 /// What the journals of these seats conclude: a run of all actors, whose journals they are. Refused with `StrangerEnd`
 /// exactly where the seats aren't one for each node of one topology, or where on some link the receipts aren't a beginning of
-/// what the sender's journal sent there; and with `Memory`. Then the seats are handed back. Each journal's events are done
-/// once more: linear in them, beside what they cost.
+/// what the sender's journal sent there; and with `Memory`. Then the seats are handed back. Each receipt is compared once with
+/// what its sender's seat shows that it sent, beside copies of the operations and outcomes; no event is done again.
 pub fn conclude(
     alloc: Global,
     seats: Vec<Seat<Actor>>,
 ) -> Result<Concluded, (Fault, Vec<Seat<Actor>>)>
     ensures seats { IfOk result (λ c. c.seats ≡ seats.items) }
-    ensures run { IfOk result (λ c. AreConcluded seats.items c.world) }
+    ensures run { IfOk result (λ c. AreConcluded c.top seats.items) }
     ensures refused { IfErr result (λ e. IsUnconcluded seats.items e.0) }
     ensures back { IfErr result (λ e. e.1.items ≡ seats.items) }
 {
-    match join(alloc, seats.as_slice()) {
-        Ok(world) => match by_session(alloc, &world) {
-            Ok(transcript) => Ok(Concluded::new(seats, world, transcript)),
-            Err(fault) => {
-                world.close();
-                Err((fault, seats))
-            }
-        },
+    match tell(alloc, seats.as_slice()) {
+        Ok((topology, transcript)) => Ok(Concluded::new(topology, seats, transcript)),
         Err(fault) => Err((fault, seats)),
     }
 }

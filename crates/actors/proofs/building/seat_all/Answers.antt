@@ -1,6 +1,6 @@
-use Rattle.std.proofs.Common.{◌≡◌, ◌<◌, get_or, length, rules}
+use Rattle.std.proofs.Common.{◌≡◌, ◌<◌, get_or, length, refl, rules}
 use Rattle.actors.specs.Opening.{new_seat}
-use Rattle.actors.proofs.Built.{first_of, others_of, its_rings, is_new, one_more_seat}
+use Rattle.actors.proofs.Built.{first_of, others_of, its_rings, is_new, none_built, one_more_seat}
 use Rattle.actors.proofs.building.seat_all.Goals as goal
 
 pub new-requires-in-loop-node-clause-rings : goal.new-requires-in-loop-node-clause-rings
@@ -29,3 +29,6 @@ loop-node-preserved g c =
       seats = one_more_seat top c.args.ring c.args.journal node c.loop-node.seats.items _ c.in-Ok.seat inv.seats
           (is_new top c.args.ring c.args.journal node c.args.ends.items own c.in-Ok.seat c.requires (rw (← c.node_count-count.ensures.value) below) at ok) c.push_reserved.ensures.items;
     }
+
+pub loop-node-init : goal.loop-node-init
+loop-node-init g c = record { rest = refl; room = search rules; seats = none_built c.args.topology.now c.args.ring c.args.journal _ (search rules) }

@@ -1,4 +1,4 @@
-use Rattle.threaded.proofs.Starting.{AreFirstOf}
+use Rattle.threaded.proofs.Looked.{AreFirstOf}
 use Rattle.threaded.proofs.concluding.are_of.Given as goal
 
 abbrev pub invariant-loop-place : goal.invariant-loop-place

@@ -1,4 +1,4 @@
-use Rattle.threaded.proofs.Starting.{AreElsewhere}
+use Rattle.threaded.proofs.Looked.{AreElsewhere}
 use Rattle.threaded.proofs.concluding.place_of.Given as goal
 
 abbrev pub invariant-loop-place : goal.invariant-loop-place

@@ -1,4 +1,4 @@
-use Rattle.threaded.specs.Joining.{ArePlaces}
+use Rattle.threaded.specs.Matching.{ArePlaces}
 use Rattle.threaded.proofs.concluding.places_of.Given as goal
 
 abbrev pub invariant-loop-node : goal.invariant-loop-node

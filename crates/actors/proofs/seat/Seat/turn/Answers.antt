@@ -1,8 +1,16 @@
-use Rattle.std.proofs.Common.{◌≡◌, ◌<◌, ◌∙◌, length, None, true, ap, rules}
-use Rattle.std.specs.Prelude.{IsSome}
-use Rattle.actors.specs.Seats.{SeatValue}
+use Rattle.std.specs.Prelude.{◌⊎◌}
+use Rattle.actors.specs.Resting.{unsent, HasNoEnvelope}
+use Rattle.actors.specs.Turns.{IsTurn, IsWork}
+use Rattle.actors.proofs.Turning.{rested, fewer, waits, none_left, worked_on, each_worked}
+use Rattle.std.proofs.Common.{inl, inr, sym, subst, ◌≡◌, ◌<◌, ◌∙◌, [], length, None, true, false, ap, rules}
+use Rattle.std.specs.Prelude.{IsSome, Result, Err, IfErr}
+use Rattle.logical_time.specs.declared.fault.Fault.{Fault}
+use Rattle.actors.specs.Refusals.{CanRefuse}
+use Rattle.actors.specs.declared.turn.Turn.{Turn}
+use Rattle.actors.specs.Seats.{SeatValue, rings}
 use Rattle.actors.proofs.Looking.{next_handled}
-use Rattle.actors.proofs.Refusing.{work_refused}
+use Rattle.actors.proofs.Refusing.{work_refused, handle_refused}
+use Rattle.actors.proofs.seat.Seat.turn.Goals.{else-not-is_empty-via-then-not-is_empty+else-is_free, else-not-is_empty-via-else-not-is_empty}
 use Rattle.actors.proofs.seat.Seat.turn.Goals as goal
 
 pub returns-then-is_some-clause-looked : goal.returns-then-is_some-clause-looked
@@ -21,3 +29,35 @@ returns-then-is_free-clause-refused g c =
     let none : m.held ≡ None = search rules in
     let free : m.free ≡ true = search rules in
     work_refused g.M.Machine.refuses m c.work.new.self c.work.result some none free c.work.ensures.err c.work.ensures.refused
+
+pub returns-then-is_free-clause-ok : goal.returns-then-is_free-clause-ok
+returns-then-is_free-clause-ok g c =
+    each_worked (λ t. IsTurn g.M.Machine.refuses t c.take_in.new.self c.work.new.self) (λ t. IsTurn g.M.Machine.refuses t c.args.self.now c.work.new.self) IsWork c.work.result
+    (worked_on c.args.self.now c.flush.new.self c.take_in.new.self c.flush.ensures.same c.take_in.ensures.same g.M.Machine.refuses c.work.new.self) c.work.ensures.work c.work.ensures.ok
+
+pub returns-then-moved-clause-ok : goal.returns-then-moved-clause-ok
+returns-then-moved-clause-ok g c =
+    let nothing : (c.take_in.new.self.backlog ≡ []) ⊎ (c.take_in.new.self.free ≡ false) = elim c.else-not-is_empty.branch [ else-not-is_empty-via-then-not-is_empty+else-is_free w ↦ inr (search rules) | else-not-is_empty-via-else-not-is_empty w ↦ inl (none_left c.take_in.new.self.backlog (search rules)) ] in
+    let none : HasNoEnvelope c.take_in.new.self = search rules in
+    let moved : unsent c.flush.new.self < unsent c.args.self.now = search rules in (
+      rested c.args.self.now c.flush.new.self c.take_in.new.self c.flush.ensures.same c.take_in.ensures.same c.in_ok-moved.ensures.sorted c.in_ok-moved.ensures.flushed none nothing,
+      fewer c.args.self.now c.flush.new.self c.take_in.new.self c.flush.ensures.same c.take_in.ensures.same moved,
+    )
+
+pub returns-else-moved-clause-ok : goal.returns-else-moved-clause-ok
+returns-else-moved-clause-ok g c =
+    let nothing : (c.take_in.new.self.backlog ≡ []) ⊎ (c.take_in.new.self.free ≡ false) = elim c.else-not-is_empty.branch [ else-not-is_empty-via-then-not-is_empty+else-is_free w ↦ inr (search rules) | else-not-is_empty-via-else-not-is_empty w ↦ inl (none_left c.take_in.new.self.backlog (search rules)) ] in
+    let none : HasNoEnvelope c.take_in.new.self = search rules in
+    let quiet : c.in_ok-moved.moved ≡ false = search rules in
+    let still = c.in_ok-moved.ensures.still quiet in (
+      rested c.args.self.now c.flush.new.self c.take_in.new.self c.flush.ensures.same c.take_in.ensures.same c.in_ok-moved.ensures.sorted c.in_ok-moved.ensures.flushed none nothing,
+      ap (λ (s : SeatValue). rings s.outgoing) c.take_in.ensures.same ∙ still.0,
+      waits c.args.self.now c.flush.new.self c.take_in.new.self c.flush.ensures.same c.take_in.ensures.same ∙ still.1,
+    )
+
+pub returns-in_err-handle-clause-refused : goal.returns-in_err-handle-clause-refused
+returns-in_err-handle-clause-refused g c =
+    let some : IsSome c.take_in.new.self.held = search rules in
+    let is : c.from_residual-in_err-handle.result ≡ Err c.in_err-handle.field-0.0 = search rules in
+    subst (λ (r : Result Turn Fault). IfErr r (λ fault. CanRefuse g.M.Machine.refuses fault c.handle.new.self)) (sym is)
+    (handle_refused g.M.Machine.refuses c.take_in.new.self c.handle.new.self c.in_err-handle.field-0.0 some c.in_err-handle.ensures.err c.in_err-handle.ensures.refused)

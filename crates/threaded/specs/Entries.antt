@@ -1,0 +1,26 @@
+-- What the seats of sessions tell of the operations that ended.
+use Rattle.std.specs.Prelude.{ℕ, List, [], filter_map, flat_map, length, Option, Some, None, option_map}
+use Rattle.std.specs.List.{range_with_len}
+use Rattle.std.specs.Option.{unwrap_or}
+use Rattle.messages.specs.declared.op.Op.{Op}
+use Rattle.messages.specs.declared.outcome.Outcome.{Outcome}
+use Rattle.messages.specs.declared.event.Event.{Event}
+use Rattle.messages.specs.Topology.{TopologyValue, session_node, home_of}
+use Rattle.actors.specs.Seats.{SeatValue}
+use Rattle.world.specs.declared.completed.Completed.{Completed}
+use Rattle.world.specs.Threads.{op_numbered}
+use Rattle.threaded.specs.OneRun.{seat_of}
+
+-- the entry of an outcome, which stands with the number of its operation: that is the one of this number in the session's journal
+abbrev pub entry_by : ℕ → ℕ → List Event → (ℕ × Outcome) → Option Completed
+entry_by node home journal o =
+    option_map (λ (op : Op). record { node = node; number = o.0; home = home; op = op; outcome = o.1 }) (op_numbered journal o.0)
+
+-- the entries of a session's seat, in the order of their outcomes
+abbrev pub entries_at : TopologyValue → ℕ → Option SeatValue → List Completed
+entries_at top node None = []
+entries_at top node (Some s) = filter_map (entry_by node (unwrap_or (home_of top node) 0) s.journal) s.outcomes
+
+-- the entries of all sessions, by their nodes
+abbrev pub entries_of : TopologyValue → List SeatValue → List Completed
+entries_of top seats = flat_map (λ i. entries_at top (session_node top i) (seat_of seats (session_node top i))) (range_with_len 0 (length top.homes))
