@@ -1,5 +1,5 @@
 -- The clock of an actor, by its events alone.
-use Rattle.std.proofs.Common.{◌≡◌, ℕ, ◌+◌, ◌<◌, ◌≤◌, ◌^◌, arith, refl}
+use Rattle.std.proofs.Common.{◌≡◌, ℕ, ◌+◌, ◌<◌, ◌^◌, arith, refl}
 use Rattle.std.specs.Prelude.{max, min, List, [], ◌∷◌, ◌++◌}
 use Rattle.messages.specs.declared.event.Event.{Event}
 use Rattle.actors.specs.Shown.{clock_with, clock_from}

@@ -1,21 +1,20 @@
 -- The rings to an actor, where one of them was looked at.
-use Rattle.std.proofs.Common.{◌≡◌, ℕ, ◌+◌, ◌≤◌, ◌<◌, ◌⊎◌, List, ◌∷◌, [], length, map, set, get_or, ◌++◌, Option, Some, None, refl, ap, sym, subst, ◌∙◌, inl, inr, arith}
+use Rattle.std.proofs.Common.{◌≡◌, ℕ, ◌+◌, ◌≤◌, ◌<◌, ◌⊎◌, List, ◌∷◌, [], length, set, get_or, ◌++◌, Option, Some, None, refl, ap, sym, subst, ◌∙◌, inl, inr, arith}
 use Rattle.std.specs.Prelude.{All, IfSome, IsSome}
 use Rattle.std.specs.List.{slice_get}
-use Rattle.std.proofs.lemmas.List.{length-map}
 use Rattle.std.proofs.lemmas.Bool.{cases_lt}
 use Rattle.std.proofs.lemmas.Bool.Decides.{eqb_tells}
 use Rattle.messages.specs.declared.envelope.Envelope.{Envelope}
 use Rattle.messages.specs.declared.event.Event.{Event}
 use Rattle.messages.specs.declared.event.Event.TheVariants.{Handle}
 use Rattle.links.specs.Links.{InLinkValue}
-use Rattle.actors.specs.Seats.{SeatValue, sources_of}
+use Rattle.actors.specs.Seats.{SeatValue}
 use Rattle.actors.specs.Resting.{WasEmpty}
 use Rattle.actors.specs.Looking.{WereEmpty, IsFound, IsFoundInTurn, IsNext, IsNextOf}
 use Rattle.actors.specs.Turns.{HasLooked}
 use Rattle.actors.specs.declared.turn.Turn.TheVariants.{Handled}
-use Rattle.actors.proofs.Lists.{here, all_of, set_at, set_here, set_away}
-use Rattle.actors.proofs.Receiving.{source_at, same_sources}
+use Rattle.actors.proofs.Lists.{all_of, set_at, set_here, set_away}
+use Rattle.actors.proofs.Receiving.{source_at}
 
 -- one that was looked at before
 pub looked_before : (links : List InLinkValue) (first k : ℕ) (l : InLinkValue) → WereEmpty links first k → WereEmpty (set links k l) first k

@@ -1,5 +1,5 @@
 -- Seats after turns, one by one and round by round.
-use Rattle.std.proofs.Common.{◌≡◌, ℕ, ◌+◌, ◌-◌, ◌≤◌, ◌<◌, ◌⊎◌, List, [], ◌∷◌, ◌++◌, length, set, get_or, Some, refl, ap, sym, subst, ◌∙◌, append_assoc, inl, inr, arith}
+use Rattle.std.proofs.Common.{◌≡◌, ℕ, ◌+◌, ◌≤◌, ◌<◌, List, [], ◌∷◌, ◌++◌, length, set, get_or, Some, refl, ap, sym, subst, ◌∙◌, append_assoc, inl, inr, arith}
 use Rattle.std.specs.Prelude.{All}
 use Rattle.std.specs.List.{slice_get}
 use Rattle.std.proofs.lemmas.List.{append-nil, length-append, length-set}
@@ -14,7 +14,7 @@ use Rattle.actors.specs.Seats.{SeatValue}
 use Rattle.actors.specs.Resting.{unsent, IsResting}
 use Rattle.actors.specs.Turns.{HasSame, HasDone, HasRested, IsIdle, IsTurn, HasLooked}
 use Rattle.actors.specs.Refusals.{CanRefuse}
-use Rattle.actors.specs.Draining.{Taken, AreTaken, HaveTaken, HaveStopped, OneCanRefuse, IsLater, AreLater, IsIdleRound, HasCome, IsRound, events_left, all_left, all_unsent, once_moved, with_turn}
+use Rattle.actors.specs.Draining.{Taken, AreTaken, HaveTaken, HaveStopped, OneCanRefuse, IsLater, AreLater, HasCome, IsRound, events_left, all_left, all_unsent, once_moved, with_turn}
 use Rattle.actors.specs.declared.turn.Turn.{Turn}
 use Rattle.actors.specs.declared.turn.Turn.TheVariants.{Idle, Moved, Handled, Submitted, Collected, Refused}
 use Rattle.actors.specs.declared.draining.Round.{Round}

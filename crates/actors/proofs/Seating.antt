@@ -10,7 +10,7 @@ use Rattle.messages.specs.declared.outcome.Outcome.{Outcome}
 use Rattle.messages.specs.declared.event.Event.{Event}
 use Rattle.messages.specs.declared.event.Event.TheVariants.{Submit, Handle, Collect}
 use Rattle.messages.specs.Actors.{envelope_of}
-use Rattle.messages.specs.Topology.{TopologyValue, node_count}
+use Rattle.messages.specs.Topology.{TopologyValue}
 use Rattle.links.specs.Links.{InLinkValue}
 use Rattle.actors.specs.Journals.{IsOwn, IsBeginning, receipts_from, followed_by}
 use Rattle.actors.specs.Turns.{HasDone}
@@ -18,7 +18,7 @@ use Rattle.actors.specs.CameFrom.{CameFrom}
 use Rattle.actors.specs.Shown.{IsShown}
 use Rattle.actors.specs.Machines.{IsRecorded}
 use Rattle.actors.specs.Seats.{SeatValue, through, sources_of, Received, CameBy, Keeps}
-use Rattle.actors.specs.Looking.{IsFound, IsFoundInTurn}
+use Rattle.actors.specs.Looking.{IsFoundInTurn}
 
 receipts_more : (n : ℕ) (journal : List Event) (event : Event) → receipts_from n (journal ++ event ∷ []) ≡ receipts_from n journal ++ receipts_from n (event ∷ [])
 receipts_more n journal event =

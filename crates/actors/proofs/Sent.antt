@@ -1,7 +1,7 @@
 -- The envelopes to a node, by their numbers.
-use Rattle.std.proofs.Common.{◌≡◌, ℕ, zero, suc, ◌+◌, ◌-◌, ◌<◌, ◌≤◌, ◌==◌, Bool, true, false, cond, List, [], ◌∷◌, ◌++◌, length, get_or, take, None, Some, Option, refl, ap, sym, subst, ◌∙◌, add-one, inl, inr, arith}
+use Rattle.std.proofs.Common.{◌≡◌, ℕ, zero, suc, ◌+◌, ◌-◌, ◌<◌, ◌≤◌, ◌==◌, Bool, true, false, cond, List, [], ◌∷◌, ◌++◌, length, get_or, take, None, Some, Option, refl, ap, sym, subst, ◌∙◌, arith}
 use Rattle.std.specs.Prelude.{◌≢◌}
-use Rattle.std.specs.List.{slice_get, list_any}
+use Rattle.std.specs.List.{slice_get}
 use Rattle.std.proofs.lemmas.List.{take_all}
 use Rattle.std.proofs.lemmas.List.Elements.{filter-append}
 use Rattle.std.proofs.lemmas.Option.{slice_get_past, slice_get-get_or}
@@ -10,7 +10,7 @@ use Rattle.actors.specs.Journals.{sends_to}
 use Rattle.actors.specs.Seats.{LaneValue, through}
 use Rattle.actors.specs.Ways.{has_way, IsFirstWay}
 use Rattle.actors.proofs.Lists.{here, either_false}
-use Rattle.actors.proofs.Sending.{test_true, test_false}
+use Rattle.actors.proofs.Sending.{test_true}
 
 -- ## Lists one after the other
 

@@ -1,13 +1,13 @@
 -- A turn of a seat, once its sends moved on and it looked at its rings.
-use Rattle.std.proofs.Common.{◌≡◌, ◌∙◌, ℕ, ◌+◌, ◌<◌, ◌≤◌, ◌⊎◌, List, [], ◌∷◌, ◌++◌, length, false, refl, sym, ap, subst, arith}
+use Rattle.std.proofs.Common.{◌≡◌, ◌∙◌, ◌+◌, ◌<◌, ◌⊎◌, List, [], ◌∷◌, ◌++◌, length, false, refl, sym, ap, subst, arith}
 use Rattle.std.specs.Prelude.{All, Result, Ok, Err, IfOk}
 use Rattle.logical_time.specs.declared.fault.Fault.{Fault}
 use Rattle.messages.specs.declared.event.Event.{Event}
 use Rattle.actors.specs.Journals.{submissions, IsBeginning}
 use Rattle.actors.specs.Machines.{Refuses}
-use Rattle.actors.specs.Seats.{SeatValue, rings}
-use Rattle.actors.specs.Resting.{unsent, waiting_on, IsFlushed, IsSorted, HasNoEnvelope, IsResting}
-use Rattle.actors.specs.Turns.{HasSame, HasDone, HasRested, HasRefused, HasTakenOff, IsTurn, IsWork}
+use Rattle.actors.specs.Seats.{SeatValue}
+use Rattle.actors.specs.Resting.{unsent, waiting_on, IsFlushed, IsSorted, HasNoEnvelope}
+use Rattle.actors.specs.Turns.{HasSame, HasDone, HasRested, HasTakenOff, IsTurn, IsWork}
 use Rattle.actors.specs.declared.turn.Turn.{Turn}
 use Rattle.actors.specs.declared.turn.Turn.TheVariants.{Idle, Moved, Handled, Submitted, Collected, Refused}
 

@@ -1,5 +1,5 @@
 -- What a turn of a seat does.
-use Rattle.std.specs.Prelude.{◌≡◌, ◌≤◌, ◌<◌, ℕ, List, [], ◌∷◌, ◌++◌, length, Option, Some, None}
+use Rattle.std.specs.Prelude.{◌≡◌, ◌≤◌, ◌<◌, ℕ, [], ◌∷◌, ◌++◌, length, Option, Some, None}
 use Rattle.logical_time.specs.declared.fault.Fault.{Fault}
 use Rattle.logical_time.specs.Fault.{number_of}
 use Rattle.messages.specs.declared.envelope.Envelope.{Envelope}

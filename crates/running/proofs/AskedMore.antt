@@ -1,6 +1,6 @@
 -- What was asked, and how far an actor came with it, one event more at a time.
 use Rattle.std.proofs.Common.{◌≡◌, ◌∙◌, ℕ, zero, suc, ◌+◌, ◌<◌, ◌≤◌, Bool, true, false, cond, List, [], ◌∷◌, ◌++◌, length, take, drop, slice_get, Option, Some, None, inl, inr, refl, sym, ap, subst, arith}
-use Rattle.std.specs.Prelude.{◌==◌, All, filter, filter_map, option_map, option_to_list, get_or, slice_index_or}
+use Rattle.std.specs.Prelude.{◌==◌, All, filter_map, option_map, option_to_list, get_or, slice_index_or}
 use Rattle.std.proofs.lemmas.Option.{slice_get-get_or}
 use Rattle.std.specs.Option.{is_none}
 use Rattle.std.proofs.lemmas.List.{append-nil, append_assoc, length-append}
@@ -21,7 +21,7 @@ use Rattle.threaded.proofs.Lists.{take_one_more}
 use Rattle.running.specs.declared.course.Course.{Course}
 use Rattle.running.proofs.ToldMore.{drop_past}
 use Rattle.running.specs.Asked.{asked_by, asked_in, asked_of, fault_of, accepted_of, refusals_from, own_events, HasTaken}
-use Rattle.running.specs.Course.{IsWithin, HasCome}
+use Rattle.running.specs.Course.{HasCome}
 
 module _ (top : TopologyValue) where
   abbrev not_refused : ActorEvent → Bool

@@ -1,5 +1,5 @@
 -- What is told of sessions is what the run has of them.
-use Rattle.std.proofs.Common.{◌≡◌, ◌∙◌, ℕ, zero, suc, ◌+◌, ◌<◌, ◌≤◌, Bool, true, false, cond, List, [], ◌∷◌, ◌++◌, map, length, take, Option, Some, None, inl, inr, refl, sym, ap, subst, arith}
+use Rattle.std.proofs.Common.{◌≡◌, ◌∙◌, ℕ, zero, suc, ◌+◌, ◌<◌, ◌≤◌, Bool, true, false, cond, List, [], ◌∷◌, ◌++◌, map, length, take, Some, inl, inr, refl, sym, ap, subst, arith}
 use Rattle.std.specs.Prelude.{filter, flat_map, ◌==◌, All, Contains}
 use Rattle.std.specs.List.{range_with_len}
 use Rattle.std.proofs.lemmas.Bool.Decides.{nat_tests}
@@ -14,7 +14,7 @@ use Rattle.actors.specs.Seats.{SeatValue}
 use Rattle.actors.specs.Resting.{IsResting}
 use Rattle.world.specs.declared.completed.Completed.{Completed}
 use Rattle.world.specs.Run.{run}
-use Rattle.world.specs.Journals.{finished_as, ended_at}
+use Rattle.world.specs.Journals.{finished_as}
 use Rattle.world.proofs.Among.{Among, among_append, among_contains, contains_among, filter_among, filter_only, map_among, map_only}
 use Rattle.threaded.specs.Machines.{as_finished}
 use Rattle.threaded.specs.OneRun.{seat_of}

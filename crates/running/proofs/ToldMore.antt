@@ -1,5 +1,5 @@
 -- What is told, one entry more at a time.
-use Rattle.std.proofs.Common.{◌≡◌, ◌∙◌, ℕ, zero, suc, ◌+◌, ◌<◌, ◌≤◌, Bool, true, false, cond, List, [], ◌∷◌, ◌++◌, map, length, take, drop, slice_get, Option, Some, None, refl, sym, ap, subst, arith}
+use Rattle.std.proofs.Common.{◌≡◌, ◌∙◌, ℕ, zero, suc, ◌+◌, ◌<◌, ◌≤◌, Bool, true, false, cond, List, [], ◌∷◌, ◌++◌, map, length, take, drop, slice_get, Some, refl, sym, ap, subst, arith}
 use Rattle.std.specs.Prelude.{flat_map, nat_lt, get_or, Result, Ok, Err, OnOk}
 use Rattle.std.proofs.lemmas.Option.{slice_get-get_or}
 use Rattle.std.specs.List.{range_with_len}
@@ -15,7 +15,7 @@ use Rattle.workload.specs.declared.script.Script.{Script}
 use Rattle.workload.specs.declared.transcript.Entry.{Entry}
 use Rattle.workload.specs.Simulation.{entry_by}
 use Rattle.running.specs.Asked.{asked_of, HasTaken}
-use Rattle.running.specs.Told.{count_before, refusal_by, told_before, left_after, told_by, told_at, told_of}
+use Rattle.running.specs.Told.{count_before, refusal_by, told_before, left_after, told_by, told_at}
 
 -- what stands at a place, and after it
 drop_at : {X : Type 0} (xs : List X) (n : ℕ) (x : X) → slice_get xs n ≡ Some x → drop n xs ≡ x ∷ drop (suc n) xs

@@ -1,5 +1,5 @@
 -- What is told of sessions whose operations ended, and were refused.
-use Rattle.std.specs.Prelude.{◌≡◌, ℕ, zero, suc, nat_lt, if◌then◌else◌, List, [], ◌∷◌, ◌++◌, map, flat_map, take, drop, length, Option, Some, None}
+use Rattle.std.specs.Prelude.{ℕ, zero, suc, nat_lt, if◌then◌else◌, List, [], ◌∷◌, ◌++◌, map, flat_map, take, drop, length, Option, Some, None}
 use Rattle.std.specs.List.{range_with_len}
 use Rattle.logical_time.specs.declared.fault.Fault.{Fault}
 use Rattle.messages.specs.declared.outcome.Outcome.{Outcome}

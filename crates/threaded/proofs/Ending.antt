@@ -1,6 +1,6 @@
 -- A session's event leaves an operation open as it was, or ends it with an outcome; an accepted operation is open. So a machine
 -- waits as its session does.
-use Rattle.std.proofs.Common.{◌≡◌, ◌∙◌, ℕ, Bool, true, false, ◌&&◌, List, [], ◌∷◌, ◌++◌, Option, Some, None, Result, Ok, Err, ◌⊎◌, inl, inr, refl, sym, ap, subst}
+use Rattle.std.proofs.Common.{◌≡◌, ◌∙◌, ℕ, Bool, true, false, ◌&&◌, List, [], ◌∷◌, ◌++◌, Option, Some, None, Ok, ◌⊎◌, inl, inr, refl, sym, ap, subst}
 use Rattle.std.specs.Prelude.{◌==◌, not, IsSome}
 use Rattle.logical_time.specs.declared.fault.Fault.{Fault}
 use Rattle.logical_time.specs.Stamps.{StampValue, TxnValue}
@@ -17,7 +17,7 @@ use Rattle.messages.specs.declared.body.Body.TheVariants.{Begin, Prepare, Yes, C
 use Rattle.messages.specs.Topology.{TopologyValue}
 use Rattle.messages.specs.Words.{is_same_txn}
 use Rattle.messages.specs.Clock.{ticked, on_clock}
-use Rattle.messages.specs.Session.{SessionState, SessionStep, Finished, Open, Idle, Writing, FirstRound, SecondRound, HeardNow, HeardAt, is_idle}
+use Rattle.messages.specs.Session.{SessionState, SessionStep, Open, Idle, Writing, FirstRound, SecondRound, HeardNow, HeardAt, is_idle}
 use Rattle.messages.specs.Submitting.{begun, submit_fault, submit_if, session_submit}
 use Rattle.messages.specs.Rounds.{asked_nodes, is_missing, all_heard, effective_time, late_nodes, is_missing_at, all_heard_at}
 use Rattle.messages.specs.SessionEvents.{done_if, done_in, second_if, heard_if, heard_now, part_now_if, part_now_in, heard_at_if, taken_at, part_at_if, part_at_in, heard, session_handle}

@@ -1,21 +1,17 @@
 -- Seats are looked through.
-use Rattle.std.proofs.Common.{◌≡◌, ◌∙◌, ℕ, zero, suc, ◌+◌, ◌<◌, ◌≤◌, Bool, true, false, ◌&&◌, cond, List, [], ◌∷◌, ◌++◌, length, Some, None, ◌⊎◌, inl, inr, refl, sym, ap, subst, arith, slice_get, eqb-true}
-use Rattle.std.specs.Prelude.{◌==◌, ◌↔◌, find, nat_lt, slice_index_or, Contains}
+use Rattle.std.proofs.Common.{◌≡◌, ◌∙◌, ℕ, zero, suc, ◌+◌, ◌<◌, ◌≤◌, Bool, true, false, ◌&&◌, cond, List, [], ◌∷◌, ◌++◌, length, Some, None, ◌⊎◌, inl, inr, refl, sym, ap, subst, arith, slice_get}
+use Rattle.std.specs.Prelude.{◌==◌, ◌↔◌, find, nat_lt, slice_index_or}
 use Rattle.std.specs.List.{list_all}
 use Rattle.std.proofs.lemmas.Bool.Decides.{nat_tests}
 use Rattle.std.proofs.lemmas.List.{length-append}
 use Rattle.std.proofs.lemmas.Option.{slice_get_within, slice_get-get_or}
 use Rattle.logical_time.specs.declared.fault.Fault.{Fault}
 use Rattle.logical_time.specs.declared.fault.Fault.TheVariants.{StrangerEnd}
-use Rattle.messages.specs.declared.envelope.Envelope.{Envelope}
 use Rattle.messages.specs.declared.event.Event.{Event}
-use Rattle.messages.specs.declared.event.Event.TheVariants.{Handle}
 use Rattle.messages.specs.Topology.{TopologyValue, is_topology, node_count}
-use Rattle.actors.specs.Seats.{SeatValue, Keeps}
+use Rattle.actors.specs.Seats.{SeatValue}
 use Rattle.world.proofs.Beginning.{sound_topology}
 use Rattle.world.proofs.Replacing.{item_at}
-use Rattle.threaded.specs.declared.actor.Actor.{Actor}
-use Rattle.threaded.specs.Machines.{CameFrom, untaken_of}
 use Rattle.threaded.specs.OneRun.{seat_of, journal_at, journal_of, AreOfTopology, AreSeatsOf, DoLinksMatch, AreOfOneRun}
 use Rattle.threaded.specs.Matching.{IsKept, AreKept, AreAllTimed, IsPlace, ArePlaces, DoesReceive, DoReceive, AreFromActors, IsUnseated, IsUnconcluded}
 use Rattle.threaded.proofs.Lists.{last_or_before}

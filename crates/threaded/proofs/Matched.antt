@@ -1,13 +1,10 @@
 -- The receipts of a journal are counted, and compared with what was sent.
 use Rattle.std.proofs.Common.{append-nil, ◌≡◌, ◌∙◌, ℕ, zero, suc, ◌+◌, ◌<◌, ◌≤◌, Bool, true, false, cond, List, [], ◌∷◌, ◌++◌, length, take, drop, slice_get, Option, Some, None, refl, sym, ap, subst, arith, eqb-true, eq-eqb}
-use Rattle.std.specs.Prelude.{◌==◌, ◌^◌, if◌then◌else◌, filter_map, set, slice_index_or}
+use Rattle.std.specs.Prelude.{◌==◌, ◌^◌, if◌then◌else◌, set, slice_index_or}
 use Rattle.std.proofs.lemmas.Bool.Decides.{nat_tests}
 use Rattle.std.proofs.lemmas.Option.{slice_get_within, slice_get-get_or}
-use Rattle.std.proofs.lemmas.List.{append_assoc, length-append, take-append-drop}
-use Rattle.std.proofs.lemmas.List.Elements.{filter-append}
-use Rattle.std.proofs.Math.Seq.{take-length}
+use Rattle.std.proofs.lemmas.List.{length-append, take-append-drop}
 use Rattle.messages.specs.declared.envelope.Envelope.{Envelope}
-use Rattle.messages.specs.declared.op.Op.{Op}
 use Rattle.messages.specs.declared.event.Event.{Event}
 use Rattle.messages.specs.declared.event.Event.TheVariants.{Submit, Handle, Collect}
 use Rattle.messages.specs.Actors.{envelope_of}
@@ -17,7 +14,7 @@ use Rattle.world.proofs.Prefixes.{get_there}
 use Rattle.actors.specs.Journals.{receipts_from, followed_by}
 use Rattle.actors.specs.Seats.{SeatValue, through}
 use Rattle.threaded.specs.OneRun.{seat_of}
-use Rattle.threaded.specs.Matching.{ArePlaces, sent_at, sent_to, DoesReceive, AreFromActors, HaveReceived, IsNextOn}
+use Rattle.threaded.specs.Matching.{ArePlaces, sent_at, sent_to, DoesReceive, HaveReceived, IsNextOn}
 use Rattle.threaded.proofs.Looked.{seat_is}
 use Rattle.threaded.proofs.Lists.{take_one_more}
 

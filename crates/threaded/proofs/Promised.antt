@@ -4,13 +4,12 @@ use Rattle.std.specs.Prelude.{if◌then◌else◌, IfOk}
 use Rattle.std.proofs.lemmas.Bool.Decides.{nat_tests}
 use Rattle.logical_time.specs.declared.fault.Fault.{Fault}
 use Rattle.column_family.specs.History.{History}
-use Rattle.messages.specs.Topology.{TopologyValue, is_topology, is_shard, shard_count, node_count}
-use Rattle.messages.specs.Actors.{ActorState, OfShard, OfSession}
+use Rattle.messages.specs.Topology.{TopologyValue, is_shard, node_count}
+use Rattle.messages.specs.Actors.{OfShard, OfSession}
 use Rattle.messages.specs.Shard.{ShardState}
 use Rattle.actors.specs.Seats.{SeatValue}
 use Rattle.world.specs.declared.run_event.RunEvent.{RunEvent}
 use Rattle.world.specs.Run.{run}
-use Rattle.world.specs.World.{WorldValue}
 use Rattle.world.specs.Causes.{PastsAreDecided}
 use Rattle.world.specs.Collected.{CollectedIsBelowHorizon}
 use Rattle.world.specs.Entries.{TellsDecided, StampsAgree, WritesAreTold}

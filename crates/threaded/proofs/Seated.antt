@@ -1,9 +1,8 @@
 -- What seats show of their actors.
-use Rattle.std.proofs.Common.{◌≡◌, ◌∙◌, ℕ, ◌<◌, ◌≤◌, Bool, true, false, List, [], ◌++◌, slice_get, Some, None, refl, sym, ap, subst, arith, eqb-true}
+use Rattle.std.proofs.Common.{◌≡◌, ◌∙◌, ℕ, ◌<◌, ◌≤◌, Bool, true, false, List, [], ◌++◌, Some, None, refl, sym, ap, subst, arith, eqb-true}
 use Rattle.std.specs.Prelude.{◌==◌, nat_lt, Contains}
 use Rattle.std.proofs.lemmas.Bool.Decides.{nat_tests}
 use Rattle.messages.specs.declared.envelope.Envelope.{Envelope}
-use Rattle.messages.specs.declared.event.Event.{Event}
 use Rattle.messages.specs.declared.event.Event.TheVariants.{Handle}
 use Rattle.messages.specs.Topology.{TopologyValue, node_count}
 use Rattle.actors.specs.Journals.{receipts_from, sends_to, followed_by}
@@ -13,7 +12,7 @@ use Rattle.world.proofs.Among.{find_some}
 use Rattle.world.proofs.Happenings.{among_get}
 use Rattle.threaded.specs.declared.actor.Actor.{Actor}
 use Rattle.threaded.specs.Machines.{CameFrom, untaken_of, is_free}
-use Rattle.threaded.specs.OneRun.{seat_of, journal_at, journal_of, AreSeatsOf, DoLinksMatch}
+use Rattle.threaded.specs.OneRun.{seat_of, journal_at, journal_of, AreSeatsOf}
 use Rattle.threaded.specs.Matching.{AreKept, AreAllTimed, sent_at, sent_to, DoReceive}
 use Rattle.threaded.specs.Shown.{DidCome, DoShownMatch, HaveSenders}
 

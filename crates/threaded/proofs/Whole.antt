@@ -2,9 +2,8 @@
 use Rattle.std.proofs.Common.{append-nil, ◌≡◌, ◌∙◌, ℕ, ◌<◌, Bool, true, false, List, ◌++◌, map, Some, None, sym, ap, subst}
 use Rattle.std.specs.Prelude.{◌↔◌, option_to_list, Contains}
 use Rattle.messages.specs.declared.envelope.Envelope.{Envelope}
-use Rattle.messages.specs.declared.event.Event.{Event}
 use Rattle.messages.specs.declared.event.Event.TheVariants.{Handle}
-use Rattle.messages.specs.Topology.{TopologyValue, is_topology, node_count}
+use Rattle.messages.specs.Topology.{TopologyValue, node_count}
 use Rattle.messages.specs.Actors.{Replayed, replay_of}
 use Rattle.client.specs.State.{finished_of}
 use Rattle.actors.specs.Seats.{SeatValue}
@@ -15,14 +14,14 @@ use Rattle.world.specs.Journals.{actor_in, held_in, ended_at, IsRunOf, DoFit}
 use Rattle.world.proofs.OwnJournals.{run_journals}
 use Rattle.world.proofs.Merged.{are_a_run}
 use Rattle.threaded.specs.Machines.{StaysApart, has_none_open, as_finished}
-use Rattle.threaded.specs.OneRun.{seat_of, journal_of, AreSeatsOf, DoLinksMatch, AreOfOneRun}
+use Rattle.threaded.specs.OneRun.{seat_of, journal_of, AreSeatsOf, DoLinksMatch}
 use Rattle.threaded.specs.Matching.{AreKept, AreAllTimed, DoReceive}
 use Rattle.threaded.specs.Entries.{entries_of}
 use Rattle.threaded.specs.Concluded.{AreAsInRun, AreConcluded, IsConcluded}
 use Rattle.threaded.proofs.Looked.{some_shards}
 use Rattle.threaded.proofs.Told.{entries_are}
 use Rattle.threaded.proofs.Stages.{runs_stay_apart}
-use Rattle.threaded.proofs.ShownRuns.{shown_fit, matching_fit, compared}
+use Rattle.threaded.proofs.ShownRuns.{shown_fit, compared}
 use Rattle.threaded.proofs.Seated.{seated, what_is_shown, same_journals, came_along, have_senders, timed_is_shown, received_is_shown, shown_is_received, shown_is_timed}
 
 -- ## Journals of a run

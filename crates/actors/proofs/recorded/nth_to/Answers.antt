@@ -1,4 +1,4 @@
-use Rattle.std.proofs.Common.{◌≡◌, ◌+◌, sym, subst, ◌∙◌, arith}
+use Rattle.std.proofs.Common.{◌+◌, sym, subst, ◌∙◌, arith}
 use Rattle.actors.proofs.Sent.{IsAbove, found_to, passed_to, skipped_to, ended_to}
 use Rattle.actors.proofs.recorded.nth_to.Goals as goal
 use Rattle.actors.proofs.recorded.nth_to.Goals.{then-eq+else-left-eq0, else-eq}

@@ -3,7 +3,7 @@ use Rattle.std.proofs.lemmas.Bool.Decides.{nat_tests}
 use Rattle.world.proofs.Replacing.{item_at}
 use Rattle.running.specs.Asked.{asked_in}
 use Rattle.running.specs.Course.{HasCome}
-use Rattle.running.proofs.AskedMore.{asked_more, taken_so_far, taken_whole}
+use Rattle.running.proofs.AskedMore.{asked_more, taken_so_far}
 use Rattle.running.proofs.course.has_taken.Goals as goal
 
 pub loop-place-preserved : goal.loop-place-preserved

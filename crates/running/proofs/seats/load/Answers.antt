@@ -1,4 +1,4 @@
-use Rattle.std.proofs.Common.{◌≡◌, sym, subst}
+use Rattle.std.proofs.Common.{sym, subst}
 use Rattle.std.specs.Prelude.{All}
 use Rattle.actors.specs.Journals.{IsOwn}
 use Rattle.running.proofs.AskedMore.{asked_own}

@@ -1,4 +1,4 @@
-use Rattle.std.proofs.Common.{◌≡◌, ◌∙◌, ◌++◌, ap, sym}
+use Rattle.std.proofs.Common.{◌∙◌, ◌++◌, ap, sym}
 use Rattle.std.proofs.lemmas.List.{append-nil}
 use Rattle.running.specs.Told.{told_at}
 use Rattle.running.proofs.ToldMore.{then_ok}

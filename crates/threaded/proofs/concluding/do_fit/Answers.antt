@@ -1,4 +1,4 @@
-use Rattle.std.proofs.Common.{◌≡◌, true, length, subst}
+use Rattle.std.proofs.Common.{◌≡◌, true, subst}
 use Rattle.std.specs.Prelude.{◌↔◌}
 use Rattle.threaded.specs.Matching.{AreKept, AreAllTimed}
 use Rattle.threaded.proofs.Whole.{concluded_if, unmatched_time, unmatched_link}

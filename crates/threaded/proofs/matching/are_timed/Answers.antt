@@ -1,4 +1,4 @@
-use Rattle.std.proofs.Common.{◌≡◌, ◌<◌, ◌&&◌, ap, length, rules}
+use Rattle.std.proofs.Common.{◌<◌, ◌&&◌, ap, length, rules}
 use Rattle.threaded.proofs.Looked.{seat_is, one_more_kept, one_more_timed}
 use Rattle.threaded.proofs.matching.are_timed.Goals as goal
 

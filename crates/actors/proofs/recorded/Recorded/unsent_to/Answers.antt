@@ -1,4 +1,4 @@
-use Rattle.std.proofs.Common.{◌≡◌, ◌+◌, length, ap, ◌∙◌}
+use Rattle.std.proofs.Common.{◌+◌, length, ap, ◌∙◌}
 use Rattle.actors.specs.Journals.{sends_to}
 use Rattle.actors.proofs.Sent.{neither_of_two}
 use Rattle.actors.proofs.recorded.Recorded.unsent_to.Goals as goal

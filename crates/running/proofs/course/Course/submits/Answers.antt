@@ -1,4 +1,4 @@
-use Rattle.std.proofs.Common.{◌≡◌, ◌∙◌, ◌+◌, ◌∷◌, [], Some, take, slice_get, refl, ap, sym, subst, arith}
+use Rattle.std.proofs.Common.{◌≡◌, ◌∙◌, ◌∷◌, [], Some, take, slice_get, refl, ap, subst, arith}
 use Rattle.messages.specs.declared.event.Event.TheVariants as event
 use Rattle.actors.specs.Journals.{submissions}
 use Rattle.world.proofs.Replacing.{item_at}
