@@ -14,9 +14,8 @@ abbrev pub Refuses : Type 1
 Refuses = TopologyValue → ℕ → List Event → Event → Fault → Type 0
 
 -- A machine with its journal: it came from it, where before what waits in the outbox such envelopes went to each node; each
--- outcome was taken; so many operations were accepted; and this is its clock, by its events alone, where it
--- isn't above all times, and whether all that was
--- sent carries the clock of its event.
+-- outcome was taken; so many operations were accepted; and this is its clock, by its events alone (2^48 where it is above all
+-- times), and whether all that was sent carries the clock of its event.
 pub record IsRecorded {M : Type 0} (came_from : CameFrom M) (untaken : M → Option (ℕ × Outcome)) (top : TopologyValue) (node : ℕ)
     (before : ℕ → List Envelope) (machine : M) (journal : List Event) (outcomes : List (ℕ × Outcome)) (outbox : List Envelope)
     (count clock : ℕ) (timed : Bool) : Type 0 where

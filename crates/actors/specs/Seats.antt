@@ -20,10 +20,10 @@ pub record LaneValue : Type 0 where
   pub waiting : List Envelope
 
 -- A seat: which actor it is, and how many events its journal may hold; whether its machine is free for an operation; its
--- events, the outcomes that they gave, and how many operations were accepted; its clock, by its events alone, and whether all that
--- was sent carries the clock of its event; the operations that were refused, each with
--- how many were accepted before; what is still to be done; what was sent and what was received; the place of the ring that is
--- looked at first; and the envelope that is held back after a refusal.
+-- events, the outcomes that they gave, and how many operations were accepted; its clock, by its events alone, and whether all
+-- that was sent carries the clock of its event; the operations that were refused, each with how many were accepted before; what
+-- is still to be done; what was sent and what was received; the place of the ring that is looked at first; and the envelope that
+-- is held back after a refusal.
 pub record SeatValue : Type 0 where
   pub topology : TopologyValue
   pub node : ℕ
