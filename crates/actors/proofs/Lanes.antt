@@ -1,17 +1,17 @@
 -- The ways of a seat, where one changes.
-use Rattle.std.proofs.Common.{◌≡◌, ℕ, zero, suc, ◌+◌, ◌≤◌, ◌<◌, ◌==◌, Bool, true, false, cond, List, [], ◌∷◌, ◌++◌, length, get_or, set, take, drop, Some, refl, ap, sym, subst, ◌∙◌, add-one, append_assoc, inl, inr, arith}
+use Rattle.std.proofs.Common.{◌≡◌, ℕ, zero, suc, ◌+◌, ◌≤◌, ◌<◌, ◌==◌, Bool, true, false, cond, List, [], ◌∷◌, ◌++◌, length, get_or, set, take, drop, All, Some, refl, ap, sym, subst, ◌∙◌, add-one, append_assoc, inl, inr, arith}
 use Rattle.std.specs.Prelude.{◌≢◌}
 use Rattle.std.specs.List.{slice_get, list_any}
-use Rattle.std.proofs.lemmas.List.{append-nil, length-append, length-take-le, length-drop, take_all}
-use Rattle.std.proofs.lemmas.List.Sums.{sum_by-set}
+use Rattle.std.proofs.lemmas.List.{append-nil, length-append, length-take-le, length-drop, take_all, drop_all}
+use Rattle.std.proofs.lemmas.List.Sums.{sum_by-set, sum_by_more, sum_by-cons}
 use Rattle.std.proofs.Math.Seq.{map-set_same}
 use Rattle.std.proofs.lemmas.Bool.Decides.{eqb_tells}
 use Rattle.messages.specs.declared.envelope.Envelope.{Envelope}
 use Rattle.actors.specs.Journals.{sends_to, followed_by}
 use Rattle.actors.specs.Seats.{LaneValue, through, ends_of, rings}
 use Rattle.actors.specs.Ways.{has_way, IsFirstWay}
-use Rattle.actors.specs.Resting.{waiting_on, IsSorted}
-use Rattle.actors.proofs.Lists.{here, either_false, true_or}
+use Rattle.actors.specs.Resting.{waiting_on, IsSorted, IsFlushed}
+use Rattle.actors.proofs.Lists.{here, either_false, true_or, all_of}
 use Rattle.actors.proofs.Sending.{test_true, test_false, taken_out, none_next, none_kept}
 
 pub same_ends : (ls : List LaneValue) (k : ℕ) (d l : LaneValue) → d ≡ get_or ls k d → l.to ≡ d.to → ends_of (set ls k l) ≡ ends_of ls
@@ -130,3 +130,33 @@ passed_one ls start outbox first number e so_far at none = record {
 
 pub sorted_all : (ls start : List LaneValue) (outbox first : List Envelope) (number : ℕ) → Sorted ls start outbox first number → length outbox ≤ number → IsSorted ls outbox
 sorted_all ls start outbox first number so_far past node way = subst (λ (es : List Envelope). sends_to node es ≡ []) (take_all number outbox past) (so_far.passed node way)
+
+-- nothing waits where all went into the ring
+pub none_waits : (es : List Envelope) (gone : ℕ) → length es ≤ gone → drop gone es ≡ []
+none_waits es gone past = drop_all gone es past
+
+-- one more way on which nothing waits
+pub idle_more : (ls : List LaneValue) (place : ℕ) (l : LaneValue) → place < length ls → l ≡ get_or ls place l → waiting_on (take place ls) ≡ 0 → l.waiting ≡ []
+    → waiting_on (take (place + 1) ls) ≡ 0
+idle_more ls place l lt is none empty =
+    let more = sum_by_more (λ (x : LaneValue). length x.waiting) ls place l lt in
+    let zero_here : length (get_or ls place l).waiting ≡ 0 = ap (λ (x : LaneValue). length x.waiting) (sym is) ∙ ap (λ (es : List Envelope). length es) empty in
+    omega (arith, more, none, zero_here)
+
+-- where nothing waits on all ways together, nothing waits on any of them
+pub idle_each : (ls : List LaneValue) → waiting_on ls ≡ 0 → (k : ℕ) (l : LaneValue) → slice_get ls k ≡ Some l → l.waiting ≡ []
+idle_each [] none k l at = absurd cc
+idle_each (x ∷ ls) none zero l at =
+    let is : x ≡ l = cc in
+    let more = sum_by-cons (λ (y : LaneValue). length y.waiting) x ls in
+    ap (λ (y : LaneValue). y.waiting) (sym is) ∙ empty x.waiting (omega (arith, more, none))
+  where
+    empty : (es : List Envelope) → length es ≡ 0 → es ≡ []
+    empty [] h = refl
+    empty (e ∷ es) h = absurd (omega arith)
+idle_each (x ∷ ls) none (suc k) l at =
+    let more = sum_by-cons (λ (y : LaneValue). length y.waiting) x ls in
+    idle_each ls (omega (arith, more, none)) k l at
+
+pub idle_flushed : (ls : List LaneValue) → waiting_on ls ≡ 0 → All IsFlushed ls
+idle_flushed ls none = all_of IsFlushed ls (λ k l lt at. inl (idle_each ls none k l at))

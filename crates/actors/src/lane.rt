@@ -54,6 +54,14 @@ impl Lane {
         self.sent.as_slice()
     }
 
+    /// Whether something waits for the ring.
+    #[tactic(auto, using(crate::proofs::Lanes::none_waits))]
+    pub fn waits(&self) -> bool
+        ensures { result ≡ false → self.now.waiting ≡ [] }
+    {
+        self.gone < self.sent.len()
+    }
+
     /// The actor to which it leads.
     pub fn to(&self) -> Node
         ensures { result ≡ self.now.to }

@@ -16,6 +16,7 @@ mod recorded;
 mod report;
 mod seat;
 mod turn;
+mod ways;
 
 pub use building::Mesh;
 pub use draining::drain;

@@ -13,6 +13,7 @@ use crate::machine::Machine;
 use logical_time::{Fault, Node};
 use messages::{Envelope, Event, Op, Outbox, Outcome, Topology};
 use std::alloc::{AllocError, Global};
+use std::mem;
 
 /// A machine with all that its events made of it.
 pub struct Recorded<M: Machine> {
@@ -47,8 +48,20 @@ fn copied(event: &Event) -> Result<Event, AllocError>
     }
 }
 
+/// Lets an operation go.
+fn let_go_op(_op: Op) {}
+
+/// Lets an envelope go.
+fn let_go_envelope(_envelope: Envelope) {}
+
 /// Lets an event go.
-pub fn let_go(_event: Event) {}
+pub fn let_go(event: Event) {
+    match event {
+        Event::Submit(op) => let_go_op(op),
+        Event::Handle(envelope) => let_go_envelope(envelope),
+        Event::Collect(_) => {}
+    }
+}
 
 /// The operation of an event that submits one.
 pub fn op_of(event: Event) -> Option<Op>
@@ -56,7 +69,11 @@ pub fn op_of(event: Event) -> Option<Op>
 {
     match event {
         Event::Submit(op) => Some(op),
-        _ => None,
+        Event::Handle(envelope) => {
+            let_go_envelope(envelope);
+            None
+        }
+        Event::Collect(_) => None,
     }
 }
 
@@ -66,7 +83,11 @@ pub fn envelope_in(event: Event) -> Option<Envelope>
 {
     match event {
         Event::Handle(envelope) => Some(envelope),
-        _ => None,
+        Event::Submit(op) => {
+            let_go_op(op);
+            None
+        }
+        Event::Collect(_) => None,
     }
 }
 
@@ -256,6 +277,10 @@ impl<M: Machine> Recorded<M> {
         ensures same { self.new ≡ record self.old { outbox = self.new.outbox; fresh = self.new.fresh } }
         ensures memory { IfErr result (λ e. e ≡ Fault.Memory) }
     {
+        if self.outbox.len() == 0 {
+            mem::swap(&mut self.outbox, &mut self.fresh);
+            return Ok(());
+        }
         self.outbox.reserve(self.fresh.len())?;
         while self.fresh.len() > 0 {
             let envelope = self.fresh.remove(0);
@@ -275,10 +300,9 @@ impl<M: Machine> Recorded<M> {
         ensures same { (self.new.machine ≡ self.old.machine) × (self.new.limit ≡ self.old.limit) × (self.new.accepted ≡ self.old.accepted) × (self.new.clock ≡ self.old.clock) × (self.new.timed ≡ self.old.timed) }
         ensures memory { IfErr result (λ e. e ≡ Fault.Memory) }
     {
-        let copy = copied(event)?;
         self.journal.reserve(1)?;
         self.outcomes.reserve(1)?;
         self.absorb()?;
-        Ok(copy)
+        Ok(copied(event)?)
     }
 }

@@ -12,11 +12,11 @@ ghost use Rattle.actors.specs.Turns.{IsTurn, HasHandled, HasLooked, HasSame, Has
 ghost use Rattle.actors.specs.Refusals.{IsRefusal, IsFirst, CanRefuse};
 ghost use Rattle.actors.specs.Opening.{AreItsRings, new_seat};
 
-use crate::lane::Lane;
+use crate::incoming;
 use crate::machine::Machine;
 use crate::recorded::{Recorded, envelope_in, let_go, op_of};
 use crate::turn::Turn;
-use crate::{incoming, lane};
+use crate::ways::Ways;
 use links::{Ends, InLink};
 use logical_time::{Fault, Node, Time};
 use messages::{Envelope, Event, Op, Outbox, Outcome, Topology};
@@ -34,7 +34,7 @@ pub struct Seat<M: Machine> {
     recorded: Recorded<M>,
     refusals: Vec<(u64, Fault)>,
     backlog: VecDeque<Event>,
-    outgoing: Vec<Lane>,
+    outgoing: Ways,
     incoming: Vec<InLink>,
     next: usize,
     held: Option<Envelope>,
@@ -46,9 +46,9 @@ impl<M: Machine> Model for Seat<M> {
 
     ghost Value = { SeatValue };
 
-    ghost view = { λ s. record { topology = s.topology; node = s.node; limit = s.recorded.limit; free = M.is_free s.recorded.machine; journal = s.recorded.journal.items; outcomes = s.recorded.outcomes.items; accepted = s.recorded.accepted; clock = s.recorded.clock; timed = s.recorded.timed; refusals = s.refusals.items; backlog = s.backlog.items; outgoing = s.outgoing.items; outbox = s.recorded.outbox.sent ++ s.recorded.fresh.sent; incoming = s.incoming.items; next = s.next; held = s.held } };
+    ghost view = { λ s. record { topology = s.topology; node = s.node; limit = s.recorded.limit; free = M.is_free s.recorded.machine; journal = s.recorded.journal.items; outcomes = s.recorded.outcomes.items; accepted = s.recorded.accepted; clock = s.recorded.clock; timed = s.recorded.timed; refusals = s.refusals.items; backlog = s.backlog.items; outgoing = s.outgoing; outbox = s.recorded.outbox.sent ++ s.recorded.fresh.sent; incoming = s.incoming.items; next = s.next; held = s.held } };
 
-    ghost invariant = { λ s. Keeps M.came_from M.untaken s.recorded.machine (record { topology = s.topology; node = s.node; limit = s.recorded.limit; free = M.is_free s.recorded.machine; journal = s.recorded.journal.items; outcomes = s.recorded.outcomes.items; accepted = s.recorded.accepted; clock = s.recorded.clock; timed = s.recorded.timed; refusals = s.refusals.items; backlog = s.backlog.items; outgoing = s.outgoing.items; outbox = s.recorded.outbox.sent ++ s.recorded.fresh.sent; incoming = s.incoming.items; next = s.next; held = s.held }) };
+    ghost invariant = { λ s. Keeps M.came_from M.untaken s.recorded.machine (record { topology = s.topology; node = s.node; limit = s.recorded.limit; free = M.is_free s.recorded.machine; journal = s.recorded.journal.items; outcomes = s.recorded.outcomes.items; accepted = s.recorded.accepted; clock = s.recorded.clock; timed = s.recorded.timed; refusals = s.refusals.items; backlog = s.backlog.items; outgoing = s.outgoing; outbox = s.recorded.outbox.sent ++ s.recorded.fresh.sent; incoming = s.incoming.items; next = s.next; held = s.held }) };
 }
 
 /// What a turn answers whose event of the backlog got this number.
@@ -79,7 +79,7 @@ impl<M: Machine> Seat<M> {
     {
         let topology = topology.copied()?;
         let Ends { outgoing, incoming } = ends;
-        let outgoing = lane::lanes_over(alloc, outgoing)?;
+        let outgoing = Ways::over(alloc, outgoing)?;
         let recorded = Recorded::new(alloc, &topology, node, limit)?;
         Ok(Seat {
             topology,
@@ -152,7 +152,7 @@ impl<M: Machine> Seat<M> {
     pub fn sent_to(&self, to: Node, number: usize) -> Option<&Envelope>
         ensures { option_copied result ≡ slice_get (followed_by (through self.now.outgoing) self.now.outbox to) number }
     {
-        let gone = lane::sent_through(self.outgoing.as_slice(), to);
+        let gone = self.outgoing.sent_through(to);
         if number < gone.len() {
             return Some(&gone[number]);
         }
@@ -258,8 +258,8 @@ impl<M: Machine> Seat<M> {
         ensures memory { IfErr result (λ e. e ≡ Fault.Memory) }
     {
         self.recorded.absorb()?;
-        lane::sort(&mut self.recorded.outbox, &mut self.outgoing)?;
-        lane::flush(&mut self.outgoing)
+        self.outgoing.sort(&mut self.recorded.outbox)?;
+        self.outgoing.flush()
     }
 
     /// Takes an envelope from a ring, if none is held back.

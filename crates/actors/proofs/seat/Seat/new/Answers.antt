@@ -9,5 +9,5 @@ invariant_of-result g c =
     opened g.M.Machine.came_from g.M.Machine.untaken c.in_ok-recorded.recorded.machine _ c.args.ends c.in_ok-recorded.ensures.recorded (rw c.in_ok-topology.ensures c.requires.rings)
     empty.0 empty.1 (search rules) empty.3 start.1 start.2 (search rules) c.in_ok-outgoing.ensures.ok refl refl
 
-pub lanes_over-requires : goal.lanes_over-requires
-lanes_over-requires g c = unused c.args.topology.now c.args.node c.args.ends c.requires.rings
+pub over-requires : goal.over-requires
+over-requires g c = unused c.args.topology.now c.args.node c.args.ends c.requires.rings

@@ -9,7 +9,7 @@ invariant_of-self g c =
     let s = c.self.inside in
     let r = c.self.invariant.recorded in
     kept_did g.M.Machine.came_from g.M.Machine.untaken c.happen.result s.recorded.machine c.happen.new.self.machine _ _ c.args.event c.self.invariant c.requires
-    (c.happen.ensures.recorded s.topology s.node (through s.outgoing.items) r) (c.happen.ensures.refused s.topology s.node (through s.outgoing.items) r)
+    (c.happen.ensures.recorded s.topology s.node (through s.outgoing) r) (c.happen.ensures.refused s.topology s.node (through s.outgoing) r)
     c.happen.ensures.journal c.happen.ensures.same refl refl refl c.self.invariant.own refl
 
 pub returns-clause-ok : goal.returns-clause-ok
@@ -20,4 +20,4 @@ pub returns-clause-refused : goal.returns-clause-refused
 returns-clause-refused g c =
     let s = c.self.inside in
     is_refusal g.M.Machine.refuses c.args.self.now c.args.event c.happen.result (rw (← c.self.view_is) c.happen.ensures.full)
-    (rw (← c.self.view_is) (c.happen.ensures.fault s.topology s.node (through s.outgoing.items) c.self.invariant.recorded))
+    (rw (← c.self.view_is) (c.happen.ensures.fault s.topology s.node (through s.outgoing) c.self.invariant.recorded))

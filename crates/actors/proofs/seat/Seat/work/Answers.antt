@@ -17,7 +17,7 @@ invariant_of-self g c =
     let inv = c.self.invariant in
     let is : s.backlog.items ≡ c.in-Some.event ∷ c.pop_front.new.self.items = search rules in
     kept_own g.M.Machine.came_from g.M.Machine.untaken s.recorded.machine c.happen.new.self.machine _ _ c.in-Some.event inv (own_first s.backlog.items _ c.in-Some.event is inv.own)
-    (c.in-Ok.ensures.recorded s.topology s.node (through s.outgoing.items) inv.recorded) c.in-Ok.ensures.journal refl refl refl (own_rest s.backlog.items _ c.in-Some.event is inv.own) refl
+    (c.in-Ok.ensures.recorded s.topology s.node (through s.outgoing) inv.recorded) c.in-Ok.ensures.journal refl refl refl (own_rest s.backlog.items _ c.in-Some.event is inv.own) refl
 
 pub invariant_of-self-in-Ok-reserve : goal.invariant_of-self-in-Ok-reserve
 invariant_of-self-in-Ok-reserve g c =
@@ -25,14 +25,14 @@ invariant_of-self-in-Ok-reserve g c =
     let inv = c.self.invariant in
     let is : s.backlog.items ≡ c.in-Some.event ∷ c.pop_front.new.self.items = search rules in
     kept_same g.M.Machine.came_from g.M.Machine.untaken s.recorded.machine c.happen.new.self.machine _ _ inv
-    (c.in-Err-2.ensures.refused s.topology s.node (through s.outgoing.items) inv.recorded) c.in-Err-2.ensures.same.0 refl refl refl (own_rest s.backlog.items _ c.in-Some.event is inv.own) refl
+    (c.in-Err-2.ensures.refused s.topology s.node (through s.outgoing) inv.recorded) c.in-Err-2.ensures.same.0 refl refl refl (own_rest s.backlog.items _ c.in-Some.event is inv.own) refl
 
 pub returns-in-Ok-clause-ok : goal.returns-in-Ok-clause-ok
 returns-in-Ok-clause-ok g c =
     let s = c.self.inside in
     let inv = c.self.invariant in
     let is : s.backlog.items ≡ c.in-Some.event ∷ c.pop_front.new.self.items = search rules in
-    let number = c.in-Ok.ensures.number s.topology s.node (through s.outgoing.items) inv.recorded in
+    let number = c.in-Ok.ensures.number s.topology s.node (through s.outgoing) inv.recorded in
     rw (← c.self.view_is) (worked g.M.Machine.refuses c.in-Some.event c.in-Ok.number c.done.result _ _ c.done.ensures number (own_first s.backlog.items _ c.in-Some.event is inv.own)
     (record { room = c.in-Ok.ensures.room; journal = c.in-Ok.ensures.journal; outcomes = c.in-Ok.ensures.outcomes; refusals = refl; topology = refl; node = refl; limit = c.happen.ensures.limit }) is)
 
@@ -42,7 +42,7 @@ invariant_of-self-then-number-gt-LAST_OF_REQUEST g c =
     let inv = c.self.invariant in
     let back : s.backlog.items ≡ c.push_front_reserved.new.self.items = search rules in
     kept_same g.M.Machine.came_from g.M.Machine.untaken s.recorded.machine c.happen.new.self.machine _ _ inv
-    (c.in-Err.ensures.refused s.topology s.node (through s.outgoing.items) inv.recorded) c.in-Err.ensures.same.0 refl refl refl
+    (c.in-Err.ensures.refused s.topology s.node (through s.outgoing) inv.recorded) c.in-Err.ensures.same.0 refl refl refl
     (subst (λ (es : List Event). All IsOwn es) back inv.own) refl
 
 pub invariant_of-self-in-Err-reserve : goal.invariant_of-self-in-Err-reserve
@@ -51,7 +51,7 @@ invariant_of-self-in-Err-reserve g c =
     let inv = c.self.invariant in
     let back : s.backlog.items ≡ c.push_front_reserved-in-Err-reserve.new.self.items = search rules in
     kept_same g.M.Machine.came_from g.M.Machine.untaken s.recorded.machine c.happen.new.self.machine _ _ inv
-    (c.in-Err-2.ensures.refused s.topology s.node (through s.outgoing.items) inv.recorded) c.in-Err-2.ensures.same.0 refl refl refl
+    (c.in-Err-2.ensures.refused s.topology s.node (through s.outgoing) inv.recorded) c.in-Err-2.ensures.same.0 refl refl refl
     (subst (λ (es : List Event). All IsOwn es) back inv.own) refl
 
 pub returns-in-Err-clause-refused : goal.returns-in-Err-clause-refused
@@ -61,7 +61,7 @@ returns-in-Err-clause-refused g c =
     let above : 9 < number_of c.in-Err.fault = search rules in
     kept_back g.M.Machine.refuses c.args.self.now c.in-Some.event c.pop_front.new.self.items c.in-Err.fault (rw (← c.self.view_is) is) above
     (refusal_of g.M.Machine.refuses c.args.self.now c.in-Some.event c.in-Err.fault (rw (← c.self.view_is) c.in-Err.ensures.full)
-    (rw (← c.self.view_is) (c.in-Err.ensures.fault s.topology s.node (through s.outgoing.items) c.self.invariant.recorded)))
+    (rw (← c.self.view_is) (c.in-Err.ensures.fault s.topology s.node (through s.outgoing) c.self.invariant.recorded)))
 
 pub returns-in-Ok-reserve-clause-ok : goal.returns-in-Ok-reserve-clause-ok
 returns-in-Ok-reserve-clause-ok g c =
@@ -71,7 +71,7 @@ returns-in-Ok-reserve-clause-ok g c =
     let request : IsOfRequest c.in-Err.fault = search rules in
     let kept : c.reserve.new.self.items ≡ s.refusals.items = search rules in
     let refused = refusal_of g.M.Machine.refuses c.args.self.now c.in-Some.event c.in-Err.fault (rw (← c.self.view_is) c.in-Err.ensures.full)
-    (rw (← c.self.view_is) (c.in-Err.ensures.fault s.topology s.node (through s.outgoing.items) c.self.invariant.recorded)) in
+    (rw (← c.self.view_is) (c.in-Err.ensures.fault s.topology s.node (through s.outgoing) c.self.invariant.recorded)) in
     record {
       journal = rw (← c.self.view_is) c.in-Err.ensures.same.0;
       outcomes = rw (← c.self.view_is) c.in-Err.ensures.same.1;
