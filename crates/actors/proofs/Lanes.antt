@@ -1,11 +1,11 @@
 -- The ways of a seat, where one changes.
-use Rattle.std.proofs.Common.{◌≡◌, ℕ, zero, suc, ◌+◌, ◌≤◌, ◌<◌, ◌==◌, Bool, true, false, cond, List, [], ◌∷◌, ◌++◌, length, get_or, set, take, drop, All, Some, refl, ap, sym, subst, ◌∙◌, add-one, append_assoc, inl, inr, arith}
-use Rattle.std.specs.Prelude.{◌≢◌}
+use Rattle.std.proofs.Common.{◌≡◌, ℕ, zero, suc, ◌+◌, ◌-◌, ◌≤◌, ◌<◌, ◌==◌, Bool, true, false, cond, List, [], ◌∷◌, ◌++◌, length, get_or, set, take, drop, All, Some, refl, ap, sym, subst, ◌∙◌, add-one, append_assoc, inl, inr, arith}
+use Rattle.std.specs.Prelude.{◌≢◌, nat_lt}
 use Rattle.std.specs.List.{slice_get, list_any}
-use Rattle.std.proofs.lemmas.List.{append-nil, length-append, length-take-le, length-drop, take_all, drop_all}
+use Rattle.std.proofs.lemmas.List.{append-nil, length-append, length-take-le, length-drop, take_all}
 use Rattle.std.proofs.lemmas.List.Sums.{sum_by-set, sum_by_more, sum_by-cons}
 use Rattle.std.proofs.Math.Seq.{map-set_same}
-use Rattle.std.proofs.lemmas.Bool.Decides.{eqb_tells}
+use Rattle.std.proofs.lemmas.Bool.Decides.{eqb_tells, nat_tests}
 use Rattle.messages.specs.declared.envelope.Envelope.{Envelope}
 use Rattle.actors.specs.Journals.{sends_to, followed_by}
 use Rattle.actors.specs.Seats.{LaneValue, through, ends_of, rings}
@@ -131,16 +131,27 @@ passed_one ls start outbox first number e so_far at none = record {
 pub sorted_all : (ls start : List LaneValue) (outbox first : List Envelope) (number : ℕ) → Sorted ls start outbox first number → length outbox ≤ number → IsSorted ls outbox
 sorted_all ls start outbox first number so_far past node way = subst (λ (es : List Envelope). sends_to node es ≡ []) (take_all number outbox past) (so_far.passed node way)
 
--- nothing waits where all went into the ring
-pub none_waits : (es : List Envelope) (gone : ℕ) → length es ≤ gone → drop gone es ≡ []
-none_waits es gone past = drop_all gone es past
+-- something waits where not all went into the ring
+pub some_wait : (es : List Envelope) (gone : ℕ) → nat_lt gone (length es) ≡ nat_lt 0 (length (drop gone es))
+some_wait es gone =
+    let left : length (drop gone es) ≡ length es - gone = length-drop gone es in
+    alike _ _ (λ h. grind (arith, nat_tests, left)) (λ h. grind (arith, nat_tests, left))
+  where
+    alike : (a b : Bool) → (a ≡ true → b ≡ true) → (b ≡ true → a ≡ true) → a ≡ b
+    alike true b f g = sym (f refl)
+    alike false true f g = g refl
+    alike false false f g = refl
+
+none_waits : (es : List Envelope) → nat_lt 0 (length es) ≡ false → es ≡ []
+none_waits [] none = refl
+none_waits (e ∷ es) none = absurd (grind (arith, nat_tests))
 
 -- one more way on which nothing waits
-pub idle_more : (ls : List LaneValue) (place : ℕ) (l : LaneValue) → place < length ls → l ≡ get_or ls place l → waiting_on (take place ls) ≡ 0 → l.waiting ≡ []
+pub idle_more : (ls : List LaneValue) (place : ℕ) (l : LaneValue) → place < length ls → l ≡ get_or ls place l → waiting_on (take place ls) ≡ 0 → nat_lt 0 (length l.waiting) ≡ false
     → waiting_on (take (place + 1) ls) ≡ 0
 idle_more ls place l lt is none empty =
     let more = sum_by_more (λ (x : LaneValue). length x.waiting) ls place l lt in
-    let zero_here : length (get_or ls place l).waiting ≡ 0 = ap (λ (x : LaneValue). length x.waiting) (sym is) ∙ ap (λ (es : List Envelope). length es) empty in
+    let zero_here : length (get_or ls place l).waiting ≡ 0 = ap (λ (x : LaneValue). length x.waiting) (sym is) ∙ ap (λ (es : List Envelope). length es) (none_waits l.waiting empty) in
     omega (arith, more, none, zero_here)
 
 -- where nothing waits on all ways together, nothing waits on any of them

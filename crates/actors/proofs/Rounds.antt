@@ -38,6 +38,7 @@ same_later d n same = record {
   outcomes = same_beginning d.outcomes n.outcomes same.outcomes;
   refusals = same_beginning d.refusals n.refusals same.refusals;
   backlog = ([], sym same.backlog);
+  rings = same.rings;
 }
 
 done_later : (event : Event) (d n : SeatValue) → HasDone event d n → (gone : List Event) → d.backlog ≡ gone ++ n.backlog → IsLater d n
@@ -49,6 +50,7 @@ done_later event d n done gone backlog = record {
   outcomes = done.outcomes;
   refusals = same_beginning d.refusals n.refusals done.refusals;
   backlog = (gone, backlog);
+  rings = done.rings;
 }
 
 pub turn_later : (refuses : Refuses) (turn : Turn) (d n : SeatValue) → IsTurn refuses turn d n → IsLater d n
@@ -65,6 +67,7 @@ turn_later refuses (Refused fault) d n is = record {
   outcomes = same_beginning d.outcomes n.outcomes is.outcomes;
   refusals = (_ ∷ [], is.refusals);
   backlog = (is.off.event ∷ [], is.off.first);
+  rings = is.rings;
 }
 
 later_twice : (a b c : SeatValue) → IsLater a b → IsLater b c → IsLater a c
@@ -76,6 +79,7 @@ later_twice a b c first then = record {
   outcomes = further a.outcomes b.outcomes c.outcomes first.outcomes then.outcomes;
   refusals = further a.refusals b.refusals c.refusals first.refusals then.refusals;
   backlog = (first.backlog.0 ++ then.backlog.0, first.backlog.1 ∙ ap (λ l. first.backlog.0 ++ l) then.backlog.1 ∙ sym (append_assoc first.backlog.0 then.backlog.0 c.backlog));
+  rings = (then.rings.0 ∙ first.rings.0, then.rings.1 ∙ first.rings.1);
 }
 
 left_same : (d n : SeatValue) → HasSame d n → events_left n ≡ events_left d
@@ -94,7 +98,7 @@ one_off event old new is = rw is (omega arith)
 pub same_seats : (seats : List SeatValue) → AreLater seats seats
 same_seats seats = record {
   count = refl;
-  each = λ k b a at_b at_a. subst (λ (s : SeatValue). IsLater b s) (let is : b ≡ a = let both = sym at_b ∙ at_a in cc in is) (same_later b b (record { topology = refl; node = refl; limit = refl; journal = refl; outcomes = refl; accepted = refl; refusals = refl; backlog = refl; free = refl }));
+  each = λ k b a at_b at_a. subst (λ (s : SeatValue). IsLater b s) (let is : b ≡ a = let both = sym at_b ∙ at_a in cc in is) (same_later b b (record { topology = refl; node = refl; limit = refl; journal = refl; outcomes = refl; accepted = refl; refusals = refl; backlog = refl; free = refl; rings = (refl, refl) }));
 }
 
 pub seats_twice : (start middle last : List SeatValue) → AreLater start middle → AreLater middle last → AreLater start last

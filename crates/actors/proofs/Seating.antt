@@ -13,7 +13,7 @@ use Rattle.messages.specs.Actors.{envelope_of}
 use Rattle.messages.specs.Topology.{TopologyValue}
 use Rattle.links.specs.Links.{InLinkValue}
 use Rattle.actors.specs.Journals.{IsOwn, IsBeginning, receipts_from, followed_by}
-use Rattle.actors.specs.Turns.{HasDone}
+use Rattle.actors.specs.Turns.{HasDone, HasSameRings}
 use Rattle.actors.specs.CameFrom.{CameFrom}
 use Rattle.actors.specs.Shown.{IsShown}
 use Rattle.actors.specs.Machines.{IsRecorded}
@@ -162,11 +162,11 @@ module _ {M : Type 0} (came_from : CameFrom M) (untaken : M → Option (ℕ × O
   }
 
 pub has_done : {A B : Type 0} (r : Result A B) (d n : SeatValue) (event : Event)
-    → OnOk r (length d.journal < d.limit) → OnOk r (n.journal ≡ d.journal ++ event ∷ []) → OnOk r (IsBeginning d.outcomes n.outcomes) → n.refusals ≡ d.refusals → n.topology ≡ d.topology → n.node ≡ d.node → n.limit ≡ d.limit
+    → OnOk r (length d.journal < d.limit) → OnOk r (n.journal ≡ d.journal ++ event ∷ []) → OnOk r (IsBeginning d.outcomes n.outcomes) → n.refusals ≡ d.refusals → n.topology ≡ d.topology → n.node ≡ d.node → n.limit ≡ d.limit → HasSameRings d n
     → OnOk r (HasDone event d n)
-has_done (Ok a) d n event room journal outcomes refusals topology node limit =
-    record { room = room; journal = journal; outcomes = outcomes; refusals = refusals; topology = topology; node = node; limit = limit }
-has_done (Err b) d n event room journal outcomes refusals topology node limit = tt
+has_done (Ok a) d n event room journal outcomes refusals topology node limit rings =
+    record { room = room; journal = journal; outcomes = outcomes; refusals = refusals; topology = topology; node = node; limit = limit; rings = rings }
+has_done (Err b) d n event room journal outcomes refusals topology node limit rings = tt
 
 pub own_first : (events rest : List Event) (event : Event) → events ≡ event ∷ rest → All IsOwn events → IsOwn event
 own_first events rest event is own = first (subst (λ (es : List Event). All IsOwn es) is own)

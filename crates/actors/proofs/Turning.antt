@@ -5,14 +5,15 @@ use Rattle.logical_time.specs.declared.fault.Fault.{Fault}
 use Rattle.messages.specs.declared.event.Event.{Event}
 use Rattle.actors.specs.Journals.{submissions, IsBeginning}
 use Rattle.actors.specs.Machines.{Refuses}
-use Rattle.actors.specs.Seats.{SeatValue}
+use Rattle.actors.specs.Seats.{SeatValue, ends_of, sources_of}
 use Rattle.actors.specs.Resting.{unsent, waiting_on, IsFlushed, IsSorted, HasNoEnvelope}
 use Rattle.actors.specs.Turns.{HasSame, HasDone, HasRested, HasTakenOff, IsTurn, IsWork}
 use Rattle.actors.specs.declared.turn.Turn.{Turn}
 use Rattle.actors.specs.declared.turn.Turn.TheVariants.{Idle, Moved, Handled, Submitted, Collected, Refused}
 
 module _ (old a b : SeatValue) (flushed : a ≡ record old { outgoing = a.outgoing; outbox = a.outbox })
-    (looked : b ≡ record a { incoming = b.incoming; next = b.next; held = b.held }) where
+    (looked : b ≡ record a { incoming = b.incoming; next = b.next; held = b.held })
+    (ends : ends_of a.outgoing ≡ ends_of old.outgoing) (sources : sources_of b.incoming ≡ sources_of a.incoming) where
   pub same : HasSame old b
   same = record {
     topology = ap (λ (s : SeatValue). s.topology) looked ∙ ap (λ (s : SeatValue). s.topology) flushed;
@@ -24,6 +25,7 @@ module _ (old a b : SeatValue) (flushed : a ≡ record old { outgoing = a.outgoi
     refusals = ap (λ (s : SeatValue). s.refusals) looked ∙ ap (λ (s : SeatValue). s.refusals) flushed;
     backlog = ap (λ (s : SeatValue). s.backlog) looked ∙ ap (λ (s : SeatValue). s.backlog) flushed;
     free = ap (λ (s : SeatValue). s.free) looked ∙ ap (λ (s : SeatValue). s.free) flushed;
+    rings = (ap (λ (s : SeatValue). ends_of s.outgoing) looked ∙ ends, sources ∙ ap (λ (s : SeatValue). sources_of s.incoming) flushed);
   }
 
   pub ways : b.outgoing ≡ a.outgoing
@@ -58,6 +60,7 @@ module _ (old a b : SeatValue) (flushed : a ≡ record old { outgoing = a.outgoi
     topology = d.topology ∙ same.topology;
     node = d.node ∙ same.node;
     limit = d.limit ∙ same.limit;
+    rings = (d.rings.0 ∙ same.rings.0, d.rings.1 ∙ same.rings.1);
   }
 
   off : (refuses : Refuses) (fault : Fault) (n : SeatValue) → HasTakenOff refuses fault b n → HasTakenOff refuses fault old n
@@ -75,8 +78,8 @@ module _ (old a b : SeatValue) (flushed : a ≡ record old { outgoing = a.outgoi
   worked_on refuses n Idle work is = absurd work
   worked_on refuses n Moved work is = absurd work
   worked_on refuses n Handled work is = absurd work
-  worked_on refuses n (Submitted number) work (o, did, first, numbered) = (o, done _ n did, sym same.backlog ∙ first, numbered)
-  worked_on refuses n Collected work (time, did, first) = (time, done _ n did, sym same.backlog ∙ first)
+  worked_on refuses n (Submitted number) work (o, did, first, numbered, free) = (o, done _ n did, sym same.backlog ∙ first, numbered, sym same.free ∙ free)
+  worked_on refuses n Collected work (time, did, first, free) = (time, done _ n did, sym same.backlog ∙ first, sym same.free ∙ free)
   worked_on refuses n (Refused fault) work d = record {
     journal = d.journal ∙ same.journal;
     outcomes = d.outcomes ∙ same.outcomes;
@@ -86,6 +89,7 @@ module _ (old a b : SeatValue) (flushed : a ≡ record old { outgoing = a.outgoi
     topology = d.topology ∙ same.topology;
     node = d.node ∙ same.node;
     limit = d.limit ∙ same.limit;
+    rings = (d.rings.0 ∙ same.rings.0, d.rings.1 ∙ same.rings.1);
   }
 
 pub each_worked : {X : Type 0} (P Q : Turn → Type 0) (W : Turn → Type 0) (r : Result Turn X) → ((t : Turn) → W t → P t → Q t) → IfOk r W → IfOk r P → IfOk r Q

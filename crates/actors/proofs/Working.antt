@@ -1,5 +1,5 @@
 -- What a turn answers, by what it did.
-use Rattle.std.proofs.Common.{◌≡◌, ℕ, ◌+◌, List, [], ◌∷◌, ◌++◌, Option, Some, ap, sym, ◌∙◌}
+use Rattle.std.proofs.Common.{◌≡◌, ℕ, ◌+◌, List, [], ◌∷◌, ◌++◌, Option, Some, ap, sym, ◌∙◌, true}
 use Rattle.std.specs.Option.{unwrap_or}
 use Rattle.messages.specs.declared.event.Event.{Event}
 use Rattle.messages.specs.declared.op.Op.{Op}
@@ -18,11 +18,11 @@ submitted journal next o n is more =
     same ∙ sym (ap (λ j. submissions j) more ∙ counted journal (Submit o))
 
 pub worked : (refuses : Refuses) (event : Event) (number : Option ℕ) (t : Turn) (d n : SeatValue) → t ≡ turn_of number → number ≡ number_after d.journal event → IsOwn event → HasDone event d n
-    → d.backlog ≡ event ∷ n.backlog → IsTurn refuses t d n
-worked refuses (Submit o) number t d n is numbered own done off =
+    → d.backlog ≡ event ∷ n.backlog → d.free ≡ true → IsTurn refuses t d n
+worked refuses (Submit o) number t d n is numbered own done off free =
     let turn : t ≡ Submitted (submissions d.journal + 1) = is ∙ ap turn_of numbered in
-    rw turn (o, done, off, sym (ap (λ j. submissions j) done.journal ∙ counted d.journal (Submit o)))
-worked refuses (Handle e) number t d n is numbered own done off = absurd cc
-worked refuses (Collect time) number t d n is numbered own done off =
+    rw turn (o, done, off, sym (ap (λ j. submissions j) done.journal ∙ counted d.journal (Submit o)), free)
+worked refuses (Handle e) number t d n is numbered own done off free = absurd cc
+worked refuses (Collect time) number t d n is numbered own done off free =
     let turn : t ≡ Collected = is ∙ ap turn_of numbered in
-    rw turn (time, done, off)
+    rw turn (time, done, off, free)

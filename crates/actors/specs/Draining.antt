@@ -7,14 +7,14 @@ use Rattle.actors.specs.Journals.{IsBeginning}
 use Rattle.actors.specs.Machines.{Refuses}
 use Rattle.actors.specs.Seats.{SeatValue}
 use Rattle.actors.specs.Resting.{unsent}
-use Rattle.actors.specs.Turns.{HasSame, IsIdle, IsTurn, HasLooked}
+use Rattle.actors.specs.Turns.{HasSame, HasSameRings, IsIdle, IsTurn, HasLooked}
 use Rattle.actors.specs.Refusals.{CanRefuse}
 use Rattle.actors.specs.declared.turn.Turn.{Turn}
 use Rattle.actors.specs.declared.turn.Turn.TheVariants.{Idle, Moved, Handled, Submitted, Collected, Refused}
 use Rattle.actors.specs.declared.draining.Round.{Round}
 use Rattle.actors.specs.declared.draining.Round.TheVariants.{Quiet, Stirred, Worked}
 
--- The seat after turns: the same actor, whose events, outcomes and refusals begin with those of before, and whose backlog is
+-- The seat after turns: the same actor with the same rings, whose events, outcomes and refusals begin with those of before, and whose backlog is
 -- an end of that of before.
 pub record IsLater (old new : SeatValue) : Type 0 where
   pub topology : new.topology ≡ old.topology
@@ -24,6 +24,7 @@ pub record IsLater (old new : SeatValue) : Type 0 where
   pub outcomes : IsBeginning old.outcomes new.outcomes
   pub refusals : IsBeginning old.refusals new.refusals
   pub backlog : (done : List Event) × (old.backlog ≡ done ++ new.backlog)
+  pub rings : HasSameRings old new
 
 -- seats after turns, each in its place
 pub record AreLater (old new : List SeatValue) : Type 0 where

@@ -55,7 +55,7 @@ pub fn refill(held: &mut Option<Envelope>, incoming: &mut Vec<InLink>, next: &mu
     ensures sources { sources_of incoming.new.items ≡ sources_of incoming.old.items }
     ensures received { (journal : List Event) → IsApart (sources_of incoming.old.items) → Received journal incoming.old.items held.old → Received journal incoming.new.items held.new }
     ensures found { held.old ≡ None → IfSome held.new (λ e. IsFoundInTurn incoming.new.items next.old next.new e) }
-    ensures none { held.new ≡ None → All WasEmpty incoming.new.items }
+    ensures none { held.new ≡ None → All WasEmpty incoming.new.items × (next.new ≡ next.old) }
     ensures held { IsSome held.old → (held.new ≡ held.old) × (next.new ≡ next.old) }
 {
     if held.is_none() {

@@ -1,5 +1,5 @@
 //! The ways from one actor to others.
-ghost use Rattle.std.specs.Prelude.{◌≡◌, ◌<◌, ◌++◌, ◌∷◌, [], ◌+◌, ℕ, true, false, Some, All, length, take, drop, slice_get, map, IfSome, IfNone, IfOk, IfErr, OnOk, OnErr};
+ghost use Rattle.std.specs.Prelude.{◌≡◌, ◌<◌, ◌++◌, ◌∷◌, [], ◌+◌, ℕ, nat_lt, true, false, Some, All, length, take, drop, slice_get, map, IfSome, IfNone, IfOk, IfErr, OnOk, OnErr};
 ghost use Rattle.std.specs.List.{list_any};
 ghost use Rattle.actors.specs.Journals.{followed_by};
 ghost use Rattle.actors.specs.Seats.{LaneValue, through, ends_of, rings};
@@ -55,9 +55,9 @@ impl Lane {
     }
 
     /// Whether something waits for the ring.
-    #[tactic(auto, using(crate::proofs::Lanes::none_waits))]
+    #[tactic(auto, using(crate::proofs::Lanes::some_wait))]
     pub fn waits(&self) -> bool
-        ensures { result ≡ false → self.now.waiting ≡ [] }
+        ensures { result ≡ nat_lt 0 (length self.now.waiting) }
     {
         self.gone < self.sent.len()
     }

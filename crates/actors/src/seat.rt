@@ -5,7 +5,7 @@ ghost use Rattle.messages.specs.declared.event.Event.TheVariants as event;
 ghost use Rattle.messages.specs.Topology.{node_count};
 ghost use Rattle.std.specs.Option.{option_copied};
 ghost use Rattle.actors.specs.Journals.{submissions, number_after, followed_by, IsOwn};
-ghost use Rattle.actors.specs.Seats.{Keeps, rings, through};
+ghost use Rattle.actors.specs.Seats.{Keeps, rings, through, ends_of, sources_of};
 ghost use Rattle.actors.specs.Resting.{unsent, IsFlushed, IsSorted, WasEmpty};
 ghost use Rattle.actors.specs.Looking.{IsNext};
 ghost use Rattle.actors.specs.Turns.{IsTurn, HasHandled, HasLooked, HasSame, HasDone, IsOfRequest, IsWork, turn_of};
@@ -251,6 +251,7 @@ impl<M: Machine> Seat<M> {
     /// went into a ring. Refused with `Memory` alone.
     fn flush(&mut self) -> Result<bool, Fault>
         ensures same { self.new ≡ record self.old { outgoing = self.new.outgoing; outbox = self.new.outbox } }
+        ensures ends { ends_of self.new.outgoing ≡ ends_of self.old.outgoing }
         ensures still { IfOk result (λ moved. moved ≡ false → (rings self.new.outgoing ≡ rings self.old.outgoing) × (unsent self.new ≡ unsent self.old)) }
         ensures fewer { IfOk result (λ moved. moved ≡ true → unsent self.new < unsent self.old) }
         ensures sorted { OnOk result (IsSorted self.new.outgoing self.new.outbox) }
@@ -265,7 +266,8 @@ impl<M: Machine> Seat<M> {
     /// Takes an envelope from a ring, if none is held back.
     fn take_in(&mut self)
         ensures same { self.new ≡ record self.old { incoming = self.new.incoming; next = self.new.next; held = self.new.held } }
-        ensures looked { self.new.held ≡ None → All WasEmpty self.new.incoming }
+        ensures sources { sources_of self.new.incoming ≡ sources_of self.old.incoming }
+        ensures looked { self.new.held ≡ None → All WasEmpty self.new.incoming × (self.new.next ≡ self.old.next) }
         ensures next { IfSome self.new.held (λ e. IsNext self.old self.new e) }
     {
         incoming::refill(&mut self.held, &mut self.incoming, &mut self.next);
@@ -276,7 +278,7 @@ impl<M: Machine> Seat<M> {
         requires { IsSome self.old.held }
         ensures ok { OnOk result (HasHandled self.old self.new) }
         ensures event { IfSome self.old.held (λ e. OnOk result (self.new.journal ≡ self.old.journal ++ event.Handle e ∷ [])) }
-        ensures rings { (self.new.incoming ≡ self.old.incoming) × (self.new.next ≡ self.old.next) }
+        ensures rings { (self.new.incoming ≡ self.old.incoming) × (self.new.next ≡ self.old.next) × (self.new.outgoing ≡ self.old.outgoing) }
         ensures err { OnErr result (self.new ≡ self.old) }
         ensures full { self.old.limit ≤ length self.old.journal → IfErr result (λ e. e ≡ Fault.JournalFull) }
         ensures refused { IfSome self.old.held (λ e. IfErr result (IsRefusal M.refuses self.old (event.Handle e))) }
@@ -295,10 +297,11 @@ impl<M: Machine> Seat<M> {
 
     /// Does the first item of the backlog. Where it is refused for what it asks, it is taken off; else it stays.
     fn work(&mut self) -> Result<Turn, Fault>
-        requires { 0 < length self.old.backlog }
+        requires some { 0 < length self.old.backlog }
+        requires free { self.old.free ≡ true }
         ensures ok { IfOk result (λ turn. IsTurn M.refuses turn self.old self.new) }
         ensures work { IfOk result IsWork }
-        ensures rings { (self.new.incoming ≡ self.old.incoming) × (self.new.held ≡ self.old.held) }
+        ensures rings { (self.new.incoming ≡ self.old.incoming) × (self.new.held ≡ self.old.held) × (self.new.next ≡ self.old.next) × (self.new.outgoing ≡ self.old.outgoing) }
         ensures err { OnErr result (self.new ≡ self.old) }
         ensures full { self.old.limit ≤ length self.old.journal → IfErr result (λ e. e ≡ Fault.JournalFull) }
         ensures refused { (event : ActorEvent) → IsFirst self.old event
@@ -336,6 +339,8 @@ impl<M: Machine> Seat<M> {
     pub fn turn(&mut self) -> Result<Turn, Fault>
         ensures ok { IfOk result (λ turn. IsTurn M.refuses turn self.old self.new) }
         ensures looked { IfOk result (λ turn. HasLooked turn self.old self.new) }
+        // what waited moved before the event
+        ensures flushed { OnOk result (All IsFlushed self.new.outgoing) }
         ensures err { OnErr result (HasSame self.old self.new) }
         ensures full { self.old.limit ≤ length self.old.journal → IfErr result (λ e. (e ≡ Fault.JournalFull) ⊎ (e ≡ Fault.Memory)) }
         ensures refused { IfErr result (λ fault. CanRefuse M.refuses fault self.new) }

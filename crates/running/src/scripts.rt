@@ -52,11 +52,11 @@ fn known(fault: Fault) -> Fault
 
 /// Runs a script by so many workers. Each session's operations, in order, are the backlog of its seat, and each collection
 /// that of its shard's; deliveries and drains are left out, since the threads deliver by themselves. Each worker takes at
-/// most 10,000,000 turns; then turns are taken until a whole round does nothing, and the journals are joined to a run. The
+/// most 10,000,000 turns; then turns are taken until a whole round does nothing, and the journals are compared. The
 /// transcript has the outcomes and refusals of one session after the other, each session's in order. Waits for locks. Refused
 /// with the fault of the lowest-numbered worker who ended with one, else as the drain: with `ClockSpent`, `Memory` or
-/// `JournalFull`; with `StrangerEnd` where the journals aren't those of a run of the script. Costs what the turns cost, the
-/// events once more, and for each actor two walks through the script and one through its journal.
+/// `JournalFull`; with `StrangerEnd` where the journals aren't those of a run of the script. Costs what the turns cost, a
+/// comparison of each envelope, and for each actor two walks through the script and one through its journal.
 pub fn run<R: Threads + Wait + Sync>(
     rt: &R,
     alloc: Global,

@@ -1,5 +1,5 @@
 -- What is promised of every run holds of each run whose journals are those of seats.
-use Rattle.std.proofs.Common.{◌≡◌, ℕ, ◌<◌, true, List, Result, Ok, Err, sym, ap, subst, arith}
+use Rattle.std.proofs.Common.{◌≡◌, ℕ, ◌<◌, ◌++◌, true, List, refl, Result, Ok, Err, sym, ap, subst, arith}
 use Rattle.std.specs.Prelude.{if◌then◌else◌, IfOk}
 use Rattle.std.proofs.lemmas.Bool.Decides.{nat_tests}
 use Rattle.logical_time.specs.declared.fault.Fault.{Fault}
@@ -14,12 +14,12 @@ use Rattle.world.specs.Causes.{PastsAreDecided}
 use Rattle.world.specs.Collected.{CollectedIsBelowHorizon}
 use Rattle.world.specs.Entries.{TellsDecided, StampsAgree, WritesAreTold}
 use Rattle.world.specs.Fresh.{FirstRoundsAreWhole}
-use Rattle.world.specs.Promises.{EntriesAreOfSubmissions, OutcomesAreListed, ReadsShowOneTable, ReadsShowTheirPast, ReadsAreFresh, StampsFollowCauses, TimesNeverFall, SessionsStayAtHome, OperationsEndOnce}
+use Rattle.world.specs.Promises.{EntriesAreOfSubmissions, OutcomesAreListed, ReadsShowOneTable, AnswersStay, LaterCommitsAreAbove, HistoriesGrow, ReadsShowTheirPast, ReadsAreFresh, StampsFollowCauses, TimesNeverFall, SessionsStayAtHome, OperationsEndOnce}
 use Rattle.world.specs.Histories.{IsHistory}
 use Rattle.world.specs.Journals.{held_in, IsRunOf}
 use Rattle.world.proofs.Promised as promised
 use Rattle.threaded.specs.OneRun.{journal_of, AreSeatsOf}
-use Rattle.threaded.specs.Concluded.{InEachRun, AreConcluded}
+use Rattle.threaded.specs.Concluded.{InEachRun, InEachCut, AreConcluded}
 use Rattle.threaded.specs.Asking.{AreReplays, asked_of}
 use Rattle.threaded.proofs.Looked.{some_shards}
 use Rattle.threaded.proofs.Asked.{asked_is_history}
@@ -62,6 +62,15 @@ module _ (top : TopologyValue) (seats : List SeatValue) (c : AreConcluded top se
 
   pub once : InEachRun top seats OperationsEndOnce
   once events is = promised.once (record { top = top; events = events }) (is_of events)
+
+  pub stays : InEachCut top seats (AnswersStay top)
+  stays before after is = promised.stays (record { top = top; events = before ++ after }) (is_of (before ++ after)) before after refl
+
+  pub above : InEachCut top seats (LaterCommitsAreAbove top)
+  above before after is = promised.above (record { top = top; events = before ++ after }) (is_of (before ++ after)) before after refl
+
+  pub grows : InEachCut top seats (HistoriesGrow top)
+  grows before after is = promised.grows (record { top = top; events = before ++ after }) (is_of (before ++ after)) before after refl
 
   pub stamps : InEachRun top seats (StampsAgree top)
   stamps events is = promised.stamps (record { top = top; events = events }) (is_of events)

@@ -1,5 +1,5 @@
 -- What the journals of seats conclude: a run, whose journals they are.
-use Rattle.std.specs.Prelude.{◌≡◌, ℕ, ◌<◌, ◌==◌, List, map, filter, flat_map, length, Some, Contains}
+use Rattle.std.specs.Prelude.{◌≡◌, ℕ, ◌<◌, ◌==◌, ◌++◌, List, map, filter, flat_map, length, Some, Contains}
 use Rattle.std.specs.List.{range_with_len}
 use Rattle.messages.specs.declared.envelope.Envelope.{Envelope}
 use Rattle.messages.specs.declared.event.Event.TheVariants.{Handle}
@@ -15,6 +15,10 @@ use Rattle.threaded.specs.OneRun.{seat_of, journal_of, AreSeatsOf, DoLinksMatch}
 -- so it is in each run whose journals are those of the seats
 abbrev pub InEachRun : TopologyValue → List SeatValue → (Run → Type 0) → Type 0
 InEachRun top seats P = (events : List Event) → IsRunOf top (journal_of seats) events → P (run top events)
+
+-- so it is of each run whose journals are those of the seats, cut in two anywhere
+abbrev pub InEachCut : TopologyValue → List SeatValue → (List Event → List Event → Type 0) → Type 0
+InEachCut top seats P = (before after : List Event) → IsRunOf top (journal_of seats) (before ++ after) → P before after
 
 -- The outcomes that each seat gave are, in order, what the run has of its actor; and a seat is free exactly where that has no
 -- operation open.

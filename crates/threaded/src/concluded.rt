@@ -4,10 +4,10 @@ ghost use Rattle.world.specs.Causes.{PastsAreDecided};
 ghost use Rattle.world.specs.Collected.{CollectedIsBelowHorizon};
 ghost use Rattle.world.specs.Entries.{TellsDecided, StampsAgree, WritesAreTold};
 ghost use Rattle.world.specs.Fresh.{FirstRoundsAreWhole};
-ghost use Rattle.world.specs.Promises.{EntriesAreOfSubmissions, OutcomesAreListed, ReadsShowOneTable, ReadsShowTheirPast, ReadsAreFresh, StampsFollowCauses, TimesNeverFall, SessionsStayAtHome, OperationsEndOnce};
+ghost use Rattle.world.specs.Promises.{EntriesAreOfSubmissions, OutcomesAreListed, ReadsShowOneTable, AnswersStay, LaterCommitsAreAbove, HistoriesGrow, ReadsShowTheirPast, ReadsAreFresh, StampsFollowCauses, TimesNeverFall, SessionsStayAtHome, OperationsEndOnce};
 ghost use Rattle.world.specs.Histories.{IsHistory};
 ghost use Rattle.threaded.specs.OneRun.{seat_of};
-ghost use Rattle.threaded.specs.Concluded.{InEachRun, AreConcluded, IsConcluded, by_session};
+ghost use Rattle.threaded.specs.Concluded.{InEachRun, InEachCut, AreConcluded, IsConcluded, by_session};
 
 use crate::actor::Actor;
 use crate::concluding::place_of;
@@ -89,10 +89,14 @@ impl Concluded {
         // whatever the threads did, each read is answered with the meaning of its request on one table: its home's history at
         // its effective time
         ensures one_table { InEachRun self.now.top self.now.seats (ReadsShowOneTable self.now.top) }
+        // now and at each moment before
+        ensures stays { InEachCut self.now.top self.now.seats (AnswersStay self.now.top) }
         // that table holds each write before the read, and nothing older than the asked shards had applied
         ensures past { InEachRun self.now.top self.now.seats (ReadsShowTheirPast self.now.top) }
         ensures fresh { InEachRun self.now.top self.now.seats (ReadsAreFresh self.now.top) }
         ensures whole { InEachRun self.now.top self.now.seats (FirstRoundsAreWhole self.now.top) }
+        // what was committed there after a moment has a greater commit time
+        ensures above { InEachCut self.now.top self.now.seats (LaterCommitsAreAbove self.now.top) }
         // a read is given up only below the horizon of a shard that it asked
         ensures given_up { InEachRun self.now.top self.now.seats (CollectedIsBelowHorizon self.now.top) }
         // each entry is of a submitted operation, each operation ends once, as its session tells it
@@ -119,6 +123,8 @@ impl Concluded {
         ensures listed { IfOk result (λ h. InEachRun self.now.top self.now.seats (λ w. IsHistory self.now.top w dc h)) }
         // an entry for each transaction that is decided there, and no other
         ensures tells { IfOk result (λ h. InEachRun self.now.top self.now.seats (λ w. TellsDecided self.now.top w dc h)) }
+        // it only grew
+        ensures grows { InEachCut self.now.top self.now.seats (HistoriesGrow self.now.top) }
         // a transaction has one stamp everywhere, its own; stamps follow causal order, as do commit times within a data centre
         ensures stamps { InEachRun self.now.top self.now.seats (StampsAgree self.now.top) }
         ensures causes { InEachRun self.now.top self.now.seats (StampsFollowCauses self.now.top) }

@@ -21,6 +21,17 @@ const SCRIPTS: [&str; 4] = [
     "rows_apart",
 ];
 
+/// The names of scripts in which the schedule decides what is told: how many operations end is all that is printed.
+const RACES: [&str; 7] = [
+    "read_asks_coordinator",
+    "undecided_is_excluded",
+    "concurrent_inserts_meet",
+    "dependency_holds_back",
+    "dependency_through_a_read",
+    "unseen_column_under_mark",
+    "one_row",
+];
+
 /// By how many workers each is run.
 const WORKERS: [usize; 3] = [1, 2, 4];
 
@@ -120,6 +131,27 @@ fn judged<R: Threads + Wait + Sync>(
     judged
 }
 
+/// Tells what ended in a run of the script by so many workers, and how many entries its histories have.
+fn tell_count<R: Threads + Wait + Sync>(
+    rt: &HostRuntime,
+    threads: &R,
+    script: &Script,
+    workers: &Workers,
+) -> Result<(), Fault> {
+    let (count, entries) = judged(threads, rt.alloc(), script, workers)?;
+    let Count {
+        writes,
+        missing,
+        reads,
+        wrong,
+    } = count;
+    let workers = workers.get();
+    let line = format!(in rt.alloc();
+        "workers {workers}: writes {writes}, missing {missing}, reads {reads}, wrong {wrong}, entries{entries}"
+    )?;
+    print(rt, line.as_str())
+}
+
 /// Tells a run by so many workers: what it tells in full, if it isn't what was told before. Gives that.
 fn tell_run<R: Threads + Wait + Sync>(
     rt: &HostRuntime,
@@ -128,25 +160,30 @@ fn tell_run<R: Threads + Wait + Sync>(
     workers: usize,
     before: String,
 ) -> Result<String, Fault> {
-    let number = Workers::new(workers).ok_or(Fault::Script)?;
-    let lines = told(threads, rt.alloc(), script, &number)?;
-    let (count, entries) = judged(threads, rt.alloc(), script, &number)?;
-    let Count {
-        writes,
-        missing,
-        reads,
-        wrong,
-    } = count;
-    let line = format!(in rt.alloc();
-        "workers {workers}: writes {writes}, missing {missing}, reads {reads}, wrong {wrong}, entries{entries}"
-    )?;
-    print(rt, line.as_str())?;
+    let workers = Workers::new(workers).ok_or(Fault::Script)?;
+    let lines = told(threads, rt.alloc(), script, &workers)?;
+    tell_count(rt, threads, script, &workers)?;
     if lines.as_str() == before.as_str() {
         print(rt, "the same is told")?;
     } else {
         print(rt, lines.as_str().trim_end())?;
     }
     Ok(lines)
+}
+
+/// Tells runs of a script in which the schedule decides what is told.
+fn tell_race<R: Threads + Wait + Sync>(
+    rt: &HostRuntime,
+    threads: &R,
+    name: &str,
+) -> Result<(), Fault> {
+    let script = read(rt, name)?;
+    print(rt, name)?;
+    for workers in WORKERS {
+        let workers = Workers::new(workers).ok_or(Fault::Script)?;
+        tell_count(rt, threads, &script, &workers)?;
+    }
+    Ok(())
 }
 
 fn tell_script<R: Threads + Wait + Sync>(
@@ -166,6 +203,9 @@ fn tell_script<R: Threads + Wait + Sync>(
 pub(crate) fn tell<R: Threads + Wait + Sync>(rt: &HostRuntime, threads: &R) -> Result<(), Fault> {
     for name in SCRIPTS {
         tell_script(rt, threads, name)?;
+    }
+    for name in RACES {
+        tell_race(rt, threads, name)?;
     }
     Ok(())
 }

@@ -29,6 +29,7 @@ returns-in-Ok-clause-ok g c =
         topology = refl;
         node = refl;
         limit = c.happen.ensures.limit;
+        rings = (refl, refl);
       },
       refl,
     )

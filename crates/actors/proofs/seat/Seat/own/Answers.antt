@@ -14,7 +14,7 @@ invariant_of-self g c =
 
 pub returns-clause-ok : goal.returns-clause-ok
 returns-clause-ok g c =
-    rw (← c.self.view_is) (has_done c.happen.result _ _ c.args.event c.happen.ensures.room c.happen.ensures.journal c.happen.ensures.outcomes refl refl refl c.happen.ensures.limit)
+    rw (← c.self.view_is) (has_done c.happen.result _ _ c.args.event c.happen.ensures.room c.happen.ensures.journal c.happen.ensures.outcomes refl refl refl c.happen.ensures.limit (refl, refl))
 
 pub returns-clause-refused : goal.returns-clause-refused
 returns-clause-refused g c =

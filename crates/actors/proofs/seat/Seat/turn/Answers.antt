@@ -33,15 +33,15 @@ returns-then-is_free-clause-refused g c =
 pub returns-then-is_free-clause-ok : goal.returns-then-is_free-clause-ok
 returns-then-is_free-clause-ok g c =
     each_worked (λ t. IsTurn g.M.Machine.refuses t c.take_in.new.self c.work.new.self) (λ t. IsTurn g.M.Machine.refuses t c.args.self.now c.work.new.self) IsWork c.work.result
-    (worked_on c.args.self.now c.flush.new.self c.take_in.new.self c.flush.ensures.same c.take_in.ensures.same g.M.Machine.refuses c.work.new.self) c.work.ensures.work c.work.ensures.ok
+    (worked_on c.args.self.now c.flush.new.self c.take_in.new.self c.flush.ensures.same c.take_in.ensures.same c.flush.ensures.ends c.take_in.ensures.sources g.M.Machine.refuses c.work.new.self) c.work.ensures.work c.work.ensures.ok
 
 pub returns-then-moved-clause-ok : goal.returns-then-moved-clause-ok
 returns-then-moved-clause-ok g c =
     let nothing : (c.take_in.new.self.backlog ≡ []) ⊎ (c.take_in.new.self.free ≡ false) = elim c.else-not-is_empty.branch [ else-not-is_empty-via-then-not-is_empty+else-is_free w ↦ inr (search rules) | else-not-is_empty-via-else-not-is_empty w ↦ inl (none_left c.take_in.new.self.backlog (search rules)) ] in
     let none : HasNoEnvelope c.take_in.new.self = search rules in
     let moved : unsent c.flush.new.self < unsent c.args.self.now = search rules in (
-      rested c.args.self.now c.flush.new.self c.take_in.new.self c.flush.ensures.same c.take_in.ensures.same c.in_ok-moved.ensures.sorted c.in_ok-moved.ensures.flushed none nothing,
-      fewer c.args.self.now c.flush.new.self c.take_in.new.self c.flush.ensures.same c.take_in.ensures.same moved,
+      rested c.args.self.now c.flush.new.self c.take_in.new.self c.flush.ensures.same c.take_in.ensures.same c.flush.ensures.ends c.take_in.ensures.sources c.in_ok-moved.ensures.sorted c.in_ok-moved.ensures.flushed none nothing,
+      fewer c.args.self.now c.flush.new.self c.take_in.new.self c.flush.ensures.same c.take_in.ensures.same c.flush.ensures.ends c.take_in.ensures.sources moved,
     )
 
 pub returns-else-moved-clause-ok : goal.returns-else-moved-clause-ok
@@ -50,9 +50,9 @@ returns-else-moved-clause-ok g c =
     let none : HasNoEnvelope c.take_in.new.self = search rules in
     let quiet : c.in_ok-moved.moved ≡ false = search rules in
     let still = c.in_ok-moved.ensures.still quiet in (
-      rested c.args.self.now c.flush.new.self c.take_in.new.self c.flush.ensures.same c.take_in.ensures.same c.in_ok-moved.ensures.sorted c.in_ok-moved.ensures.flushed none nothing,
+      rested c.args.self.now c.flush.new.self c.take_in.new.self c.flush.ensures.same c.take_in.ensures.same c.flush.ensures.ends c.take_in.ensures.sources c.in_ok-moved.ensures.sorted c.in_ok-moved.ensures.flushed none nothing,
       ap (λ (s : SeatValue). rings s.outgoing) c.take_in.ensures.same ∙ still.0,
-      waits c.args.self.now c.flush.new.self c.take_in.new.self c.flush.ensures.same c.take_in.ensures.same ∙ still.1,
+      waits c.args.self.now c.flush.new.self c.take_in.new.self c.flush.ensures.same c.take_in.ensures.same c.flush.ensures.ends c.take_in.ensures.sources ∙ still.1,
     )
 
 pub returns-in_err-handle-clause-refused : goal.returns-in_err-handle-clause-refused

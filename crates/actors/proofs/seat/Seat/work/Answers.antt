@@ -1,4 +1,4 @@
-use Rattle.std.proofs.Common.{◌≡◌, ◌∙◌, ◌<◌, ◌∷◌, ◌++◌, ℕ, List, [], refl, ap, subst, rules}
+use Rattle.std.proofs.Common.{◌≡◌, ◌∙◌, ◌<◌, ◌∷◌, ◌++◌, ℕ, List, [], true, refl, ap, sym, subst, rules}
 use Rattle.logical_time.specs.declared.fault.Fault.{Fault}
 use Rattle.std.specs.Prelude.{All}
 use Rattle.logical_time.specs.Fault.{number_of}
@@ -6,7 +6,7 @@ use Rattle.messages.specs.declared.event.Event.{Event}
 use Rattle.actors.specs.Journals.{IsOwn}
 use Rattle.actors.specs.Turns.{IsOfRequest}
 use Rattle.actors.proofs.Refusing.{refusal_of, kept_back, taken_off}
-use Rattle.actors.specs.Seats.{through}
+use Rattle.actors.specs.Seats.{SeatValue, through}
 use Rattle.actors.proofs.Seating.{kept_own, kept_same, own_first, own_rest}
 use Rattle.actors.proofs.Working.{worked}
 use Rattle.actors.proofs.seat.Seat.work.Goals as goal
@@ -34,7 +34,7 @@ returns-in-Ok-clause-ok g c =
     let is : s.backlog.items ≡ c.in-Some.event ∷ c.pop_front.new.self.items = search rules in
     let number = c.in-Ok.ensures.number s.topology s.node (through s.outgoing) inv.recorded in
     rw (← c.self.view_is) (worked g.M.Machine.refuses c.in-Some.event c.in-Ok.number c.done.result _ _ c.done.ensures number (own_first s.backlog.items _ c.in-Some.event is inv.own)
-    (record { room = c.in-Ok.ensures.room; journal = c.in-Ok.ensures.journal; outcomes = c.in-Ok.ensures.outcomes; refusals = refl; topology = refl; node = refl; limit = c.happen.ensures.limit }) is)
+    (record { room = c.in-Ok.ensures.room; journal = c.in-Ok.ensures.journal; outcomes = c.in-Ok.ensures.outcomes; refusals = refl; topology = refl; node = refl; limit = c.happen.ensures.limit; rings = (refl, refl) }) is (subst (λ (x : SeatValue). x.free ≡ true) (sym c.self.view_is) c.requires.free))
 
 pub invariant_of-self-then-number-gt-LAST_OF_REQUEST : goal.invariant_of-self-then-number-gt-LAST_OF_REQUEST
 invariant_of-self-then-number-gt-LAST_OF_REQUEST g c =
@@ -84,4 +84,5 @@ returns-in-Ok-reserve-clause-ok g c =
       topology = rw (← c.self.view_is) refl;
       node = rw (← c.self.view_is) refl;
       limit = rw (← c.self.view_is) c.happen.ensures.limit;
+      rings = rw (← c.self.view_is) (refl, refl);
     }

@@ -3,11 +3,11 @@ use Rattle.std.specs.Prelude.{IfOk}
 use Rattle.messages.specs.Shard.{ShardState}
 use Rattle.world.specs.Entries.{TellsDecided}
 use Rattle.world.specs.Histories.{IsHistory}
-use Rattle.world.specs.Promises.{StampsFollowCauses}
+use Rattle.world.specs.Promises.{HistoriesGrow, StampsFollowCauses}
 use Rattle.threaded.specs.OneRun.{AreSeatsOf}
 use Rattle.threaded.specs.Asking.{AreReplays, asked_of}
-use Rattle.threaded.specs.Concluded.{InEachRun, ConcludedValue}
-use Rattle.threaded.proofs.Promised.{listed_ok, tells_ok, causes}
+use Rattle.threaded.specs.Concluded.{InEachRun, InEachCut, ConcludedValue}
+use Rattle.threaded.proofs.Promised.{listed_ok, tells_ok, grows, causes}
 use Rattle.threaded.proofs.concluded.Concluded.history.Goals as goal
 
 pub returns-clause-listed : goal.returns-clause-listed
@@ -36,3 +36,8 @@ pub returns-clause-causes : goal.returns-clause-causes
 returns-clause-causes c =
     subst (λ (v : ConcludedValue). InEachRun v.top v.seats (StampsFollowCauses v.top)) c.self.view_is
     (causes c.self.inside.topology c.self.inside.seats.items c.self.invariant.run)
+
+pub returns-clause-grows : goal.returns-clause-grows
+returns-clause-grows c =
+    subst (λ (v : ConcludedValue). InEachCut v.top v.seats (HistoriesGrow v.top)) c.self.view_is
+    (grows c.self.inside.topology c.self.inside.seats.items c.self.invariant.run)

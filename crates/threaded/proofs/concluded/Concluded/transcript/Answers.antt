@@ -1,8 +1,8 @@
 use Rattle.std.proofs.Common.{subst}
 use Rattle.world.specs.Fresh.{FirstRoundsAreWhole}
-use Rattle.world.specs.Promises.{ReadsShowOneTable, ReadsShowTheirPast, TimesNeverFall, SessionsStayAtHome}
-use Rattle.threaded.specs.Concluded.{InEachRun, ConcludedValue}
-use Rattle.threaded.proofs.Promised.{one_table, past, whole, times, homes}
+use Rattle.world.specs.Promises.{AnswersStay, LaterCommitsAreAbove, ReadsShowOneTable, ReadsShowTheirPast, TimesNeverFall, SessionsStayAtHome}
+use Rattle.threaded.specs.Concluded.{InEachRun, InEachCut, ConcludedValue}
+use Rattle.threaded.proofs.Promised.{one_table, stays, past, whole, above, times, homes}
 use Rattle.threaded.proofs.concluded.Concluded.transcript.Goals as goal
 
 pub returns-clause-one_table : goal.returns-clause-one_table
@@ -29,3 +29,13 @@ pub returns-clause-homes : goal.returns-clause-homes
 returns-clause-homes c =
     subst (λ (v : ConcludedValue). InEachRun v.top v.seats SessionsStayAtHome) c.self.view_is
     (homes c.self.inside.topology c.self.inside.seats.items c.self.invariant.run)
+
+pub returns-clause-stays : goal.returns-clause-stays
+returns-clause-stays c =
+    subst (λ (v : ConcludedValue). InEachCut v.top v.seats (AnswersStay v.top)) c.self.view_is
+    (stays c.self.inside.topology c.self.inside.seats.items c.self.invariant.run)
+
+pub returns-clause-above : goal.returns-clause-above
+returns-clause-above c =
+    subst (λ (v : ConcludedValue). InEachCut v.top v.seats (LaterCommitsAreAbove v.top)) c.self.view_is
+    (above c.self.inside.topology c.self.inside.seats.items c.self.invariant.run)
