@@ -5,8 +5,10 @@ ghost use Rattle.actors.specs.Seats.{IsApart, Received, sources_of};
 ghost use Rattle.actors.specs.Resting.{WasEmpty};
 ghost use Rattle.actors.specs.Looking.{WereEmpty, IsFound, IsFoundInTurn};
 
+use crate::recorded::let_go_envelope;
 use links::InLink;
 use messages::Envelope;
+use std::mem;
 
 /// Takes an envelope from the first of these rings that has one, from the place `first` up to the place `end`; `next` is then
 /// the place after that ring.
@@ -47,7 +49,9 @@ fn take_next(incoming: &mut Vec<InLink>, next: &mut usize) -> Option<Envelope>
 pub fn hold(held: &mut Option<Envelope>, envelope: Option<Envelope>)
     ensures { held.new ≡ envelope }
 {
-    *held = envelope;
+    if let Some(before) = mem::replace(held, envelope) {
+        let_go_envelope(before);
+    }
 }
 
 /// Takes the next envelope from the rings, if none is held.

@@ -52,7 +52,7 @@ fn copied(event: &Event) -> Result<Event, AllocError>
 fn let_go_op(_op: Op) {}
 
 /// Lets an envelope go.
-fn let_go_envelope(_envelope: Envelope) {}
+pub fn let_go_envelope(_envelope: Envelope) {}
 
 /// Lets an event go.
 pub fn let_go(event: Event) {

@@ -14,7 +14,7 @@ ghost use Rattle.actors.specs.Opening.{AreItsRings, new_seat};
 
 use crate::incoming;
 use crate::machine::Machine;
-use crate::recorded::{Recorded, envelope_in, let_go, op_of};
+use crate::recorded::{Recorded, envelope_in, let_go, let_go_envelope, op_of};
 use crate::turn::Turn;
 use crate::ways::Ways;
 use links::{Ends, InLink};
@@ -372,8 +372,11 @@ impl<M: Machine> Seat<M> {
             outgoing: _,
             incoming: _,
             next: _,
-            held: _,
+            held,
         } = self;
+        if let Some(envelope) = held {
+            let_go_envelope(envelope);
+        }
         recorded.close()
     }
 }

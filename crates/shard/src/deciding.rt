@@ -83,7 +83,8 @@ pub(crate) fn tell(kept: &Kept, time: Time, deciding: &Deciding) -> Result<Vec<E
 }
 
 /// Settles a transaction that is decided at this clock with this stamp: tells its cohorts, applies its own part, sends these
-/// envelopes, and lets go of what is needed no more. There is room for all of it. Takes no memory.
+/// envelopes, and lets go of what is needed no more. There is room for all of it. Takes memory only as
+/// `Store::apply_in_room` does, and isn't refused for it.
 pub(crate) fn settle(
     kept: &mut Kept,
     clock: Clock,

@@ -82,7 +82,7 @@ fn make_room_if(transactions: &mut Transactions, is_decided: bool, txn: TxnId) -
 }
 
 /// Concludes an event of a ballot: sends these envelopes, and settles the transaction where that decided it. There is room
-/// for all of it. Takes no memory.
+/// for all of it. Takes memory only as `Store::apply_in_room` does, and isn't refused for it.
 pub(crate) fn conclude(
     kept: &mut Kept,
     clock: Clock,

@@ -132,8 +132,9 @@ impl Store {
         Ok(())
     }
 
-    /// Applies a part as `apply` does, where there is room for its batch: so it isn't refused, takes no memory, and looks
-    /// for each place once.
+    /// Applies a part as `apply` does, where there is room for its batch: so it isn't refused, and looks for each place
+    /// once. It takes memory only to list a row that is crowded then; where there is none, the next collection looks at
+    /// all rows.
     #[tactic(auto, using(crate::proofs::KeepsApplied::keeps_applied, crate::proofs::Overtaken::overtaken))]
     pub fn apply_in_room(&mut self, prepared: Prepared, commit: Time, stamp: Stamp)
         requires { HasRoom self.old.rows prepared.part.batch }

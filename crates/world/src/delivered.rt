@@ -57,7 +57,8 @@ impl Delivered {
         }
     }
 
-    /// Makes room for the mark of this number. Refused with `AllocError` alone.
+    /// Makes room for the mark of this number, and of all before it. Costs the marks that weren't there yet. Refused with
+    /// `AllocError` alone.
     pub fn reach(&mut self, number: usize) -> Result<(), AllocError>
         ensures same { (j : ℕ) → is_marked self.new.marks j ≡ is_marked self.old.marks j }
         ensures room { OnOk result (number < length self.new.marks) }
@@ -65,7 +66,7 @@ impl Delivered {
         extend(&mut self.marks, number)
     }
 
-    /// Marks a number.
+    /// Marks a number. Costs how far the first number that isn't marked moves.
     #[tactic(auto, using(crate::proofs::Marking::marked_set, crate::proofs::Marking::still_marked))]
     pub fn mark(&mut self, number: usize)
         requires { number < length self.old.marks }

@@ -79,8 +79,9 @@ impl World {
     }
 
     /// A message is delivered, for the first time or again. That one of this number was sent is the caller's condition.
-    /// Costs what the actor's event does. Refused with `ClockSpent` where the clock of its actor would leave its range, and
-    /// with `Memory`; then nothing changes.
+    /// Costs what the actor's event does, and a mark for each message before it that has none yet: each message gets its
+    /// mark once in a run. Refused with `ClockSpent` where the clock of its actor would leave its range, and with `Memory`;
+    /// then nothing changes.
     #[tactic(auto, using(crate::proofs::Held::delivery_holds, crate::proofs::Held::still_holds, crate::proofs::Held::still_logged, crate::proofs::Held::takes, crate::proofs::Held::addressed, crate::proofs::Held::sent_number))]
     pub fn deliver(&mut self, number: usize) -> Result<(), Fault>
         requires { number < length (run_of self.old).sent }

@@ -224,7 +224,7 @@ impl Transactions {
     }
 
     /// Applies the transaction's part with this commit time and this stamp, if one is prepared, and takes its marks away.
-    /// There is room for it. Takes no memory.
+    /// There is room for it. Takes memory only as `Store::apply_in_room` does, and isn't refused for it.
     pub fn commit(&mut self, txn: TxnId, commit: Time, stamp: Stamp)
         requires { (p : PreparedValue) → part_in (state_of self.old.ledger txn) ≡ Some p → HasRoom self.old.store.rows p.part.batch }
         ensures applied { Becomes txn (state_applied (state_of self.old.ledger txn)) self.old.ledger self.new.ledger }
@@ -243,7 +243,7 @@ impl Transactions {
 
     /// Tells of a ballot that is complete and decided with this commit time and this stamp, on the shard with the node
     /// `me`: posts a `Commit` to each cohort, in order, and applies the coordinator's own part. There is room for both.
-    /// Takes no memory.
+    /// Takes memory only as `Store::apply_in_room` does, and isn't refused for it.
     pub fn decide(
         &mut self,
         complete: Complete,

@@ -1,6 +1,7 @@
-use Rattle.std.proofs.Common.{◌≡◌, false, rules}
+use Rattle.std.proofs.Common.{◌≡◌, false, rules, arith}
 use Rattle.std.proofs.lemmas.Result.{err_from_is_err_and}
 use Rattle.actors.proofs.Rounds.{taken_twice, taken_later, stopped_later, stopped_so, come_after, all_resting}
+use Rattle.std.proofs.lemmas.Grind.{common_steps}
 use Rattle.actors.proofs.draining.drain.Goals as goal
 
 pub returns-in_err-rounds-clause-stopped : goal.returns-in_err-rounds-clause-stopped
@@ -33,3 +34,6 @@ pub returns-clause-resting : goal.returns-clause-resting
 returns-clause-resting g c =
     let worked : c.in_ok-rounds.field-0 ≡ false = search rules in
     all_resting c.loop.seats c.rounds.new.seats (c.in_ok-rounds.ensures.come worked)
+
+pub loop-smaller : goal.loop-smaller
+loop-smaller g c = grind (arith, common_steps)

@@ -1,8 +1,9 @@
-use Rattle.std.proofs.Common.{◌≡◌, ◌∙◌, subst, rules}
+use Rattle.std.proofs.Common.{◌≡◌, ◌∙◌, subst, rules, arith}
 use Rattle.std.proofs.lemmas.Result.{err_from_is_err_and}
 use Rattle.actors.specs.declared.draining.Round.TheVariants.{Quiet, Stirred}
 use Rattle.actors.specs.Draining.{IsRound}
 use Rattle.actors.proofs.Rounds.{taken_twice, taken_later, stopped_later, stopped_so, as_much_left}
+use Rattle.std.proofs.lemmas.Grind.{common_steps}
 use Rattle.actors.proofs.draining.rounds.Goals as goal
 
 pub returns-in_err-one_round-clause-stopped : goal.returns-in_err-one_round-clause-stopped
@@ -46,3 +47,15 @@ pub returns-in-Worked-clause-later : goal.returns-in-Worked-clause-later
 returns-in-Worked-clause-later g c =
     taken_later g.M.Machine.refuses c.args.seats.now c.one_round.new.seats
     (taken_twice g.M.Machine.refuses c.args.seats.now c.loop.seats c.one_round.new.seats c.loop.invariant.0 c.in_ok-one_round.ensures.taken)
+
+pub loop-smaller : goal.loop-smaller
+loop-smaller g c = grind (arith, common_steps)
+
+pub returns-in-Quiet-clause-less : goal.returns-in-Quiet-clause-less
+returns-in-Quiet-clause-less g c = grind (arith, common_steps)
+
+pub returns-in-Worked-clause-less : goal.returns-in-Worked-clause-less
+returns-in-Worked-clause-less g c = grind (arith, common_steps)
+
+pub returns-in_err-one_round-clause-less : goal.returns-in_err-one_round-clause-less
+returns-in_err-one_round-clause-less g c = grind (arith, common_steps)

@@ -1,7 +1,8 @@
-use Rattle.std.proofs.Common.{◌≡◌, Bool, ℕ, true, false, rules}
+use Rattle.std.proofs.Common.{◌≡◌, Bool, ℕ, true, false, rules, arith}
 use Rattle.links.specs.Links as spec
 use Rattle.links.proofs.Rows.{laid_out, passed_out, laid_in, passed_in}
 use Rattle.links.proofs.laying.lay_from.Goals.{then-may_exchange+in_ok-lay, else-may_exchange}
+use Rattle.std.proofs.lemmas.Grind.{common_steps}
 use Rattle.links.proofs.laying.lay_from.Goals as goal
 
 pub loop-to-preserved : goal.loop-to-preserved
@@ -24,3 +25,12 @@ loop-to-preserved c =
             incoming = λ node. passed_in may c.args.from c.loop-to.to node _ _ never (inv.incoming node);
           })
     ]
+
+pub loop-to-smaller : goal.loop-to-smaller
+loop-to-smaller c = grind (arith, common_steps)
+
+pub returns-clause-count : goal.returns-clause-count
+returns-clause-count c = grind (arith, common_steps)
+
+pub returns-clause-incoming : goal.returns-clause-incoming
+returns-clause-incoming c = grind (arith, common_steps)

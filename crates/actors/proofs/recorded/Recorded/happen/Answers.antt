@@ -1,10 +1,11 @@
-use Rattle.std.proofs.Common.{◌≡◌, ◌∙◌, ◌++◌, ◌∷◌, ℕ, ◌<◌, ◌^◌, Some, List, [], ap, sym, subst, rules}
+use Rattle.std.proofs.Common.{◌≡◌, ◌∙◌, ◌++◌, ◌∷◌, ℕ, ◌<◌, ◌^◌, Some, List, [], ap, sym, subst, rules, arith}
 use Rattle.std.specs.Prelude.{min, slice_get, option_to_list}
 use Rattle.messages.specs.declared.envelope.Envelope.{Envelope}
 use Rattle.messages.specs.declared.event.Event.{Event}
 use Rattle.actors.specs.Journals.{followed_by}
 use Rattle.actors.specs.Shown.{clock_with}
 use Rattle.actors.proofs.Recording.{recorded_more, followed_twice, all_in_first}
+use Rattle.std.proofs.lemmas.Grind.{common_steps}
 use Rattle.actors.proofs.recorded.Recorded.happen.Goals as goal
 
 pub returns-clause-recorded : goal.returns-clause-recorded
@@ -28,3 +29,51 @@ returns-clause-recorded g c = λ top node before was.
     c.take_answer-outcome.ensures.taken (search rules) (search rules) (c.in-Ok-step.ensures.number top node _ _ _ start) (search rules) (ap (λ es. es ++ fresh) whole)
     (λ k is. c.clock_with-self.ensures.value k (same.3 ∙ is) ∙ ap (λ (x : Event). min (clock_with k x) (2 ^ 48)) c.in-Ok.ensures.copy)
     (search rules) (subst (λ (es : List Envelope). (e : Envelope) → slice_get es 0 ≡ Some e → e.time < 2 ^ 48) c.as_slice.ensures c.are_at-on_time.ensures.below)
+
+pub returns-clause-fault : goal.returns-clause-fault
+returns-clause-fault g c = grind (arith, common_steps)
+
+pub returns-clause-full : goal.returns-clause-full
+returns-clause-full g c = grind (arith, common_steps)
+
+pub returns-clause-refused : goal.returns-clause-refused
+returns-clause-refused g c = grind (arith, common_steps)
+
+pub returns-clause-room : goal.returns-clause-room
+returns-clause-room g c = grind (arith, common_steps)
+
+pub returns-in-Err-clause-fault : goal.returns-in-Err-clause-fault
+returns-in-Err-clause-fault g c = grind (arith, common_steps)
+
+pub returns-in-Err-clause-full : goal.returns-in-Err-clause-full
+returns-in-Err-clause-full g c = grind (arith, common_steps)
+
+pub returns-in-Err-clause-refused : goal.returns-in-Err-clause-refused
+returns-in-Err-clause-refused g c = grind (arith, common_steps)
+
+pub returns-in-Err-clause-room : goal.returns-in-Err-clause-room
+returns-in-Err-clause-room g c = grind (arith, common_steps)
+
+pub returns-in-Err-step-clause-fault : goal.returns-in-Err-step-clause-fault
+returns-in-Err-step-clause-fault g c = grind (arith, common_steps)
+
+pub returns-in-Err-step-clause-full : goal.returns-in-Err-step-clause-full
+returns-in-Err-step-clause-full g c = grind (arith, common_steps)
+
+pub returns-in-Err-step-clause-refused : goal.returns-in-Err-step-clause-refused
+returns-in-Err-step-clause-refused g c = grind (arith, common_steps)
+
+pub returns-in-Err-step-clause-room : goal.returns-in-Err-step-clause-room
+returns-in-Err-step-clause-room g c = grind (arith, common_steps)
+
+pub returns-then-len-self-clause-fault : goal.returns-then-len-self-clause-fault
+returns-then-len-self-clause-fault g c = grind (arith, common_steps)
+
+pub returns-then-len-self-clause-full : goal.returns-then-len-self-clause-full
+returns-then-len-self-clause-full g c = grind (arith, common_steps)
+
+pub returns-then-len-self-clause-refused : goal.returns-then-len-self-clause-refused
+returns-then-len-self-clause-refused g c = grind (arith, common_steps)
+
+pub returns-then-len-self-clause-room : goal.returns-then-len-self-clause-room
+returns-then-len-self-clause-room g c = grind (arith, common_steps)

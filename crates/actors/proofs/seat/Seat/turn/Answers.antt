@@ -2,7 +2,7 @@ use Rattle.std.specs.Prelude.{◌⊎◌}
 use Rattle.actors.specs.Resting.{unsent, HasNoEnvelope}
 use Rattle.actors.specs.Turns.{IsTurn, IsWork}
 use Rattle.actors.proofs.Turning.{rested, fewer, waits, none_left, worked_on, each_worked}
-use Rattle.std.proofs.Common.{inl, inr, sym, subst, ◌≡◌, ◌<◌, ◌∙◌, [], length, None, true, false, ap, rules}
+use Rattle.std.proofs.Common.{inl, inr, sym, subst, ◌≡◌, ◌<◌, ◌∙◌, [], length, None, true, false, ap, rules, arith}
 use Rattle.std.specs.Prelude.{IsSome, Result, Err, IfErr}
 use Rattle.logical_time.specs.declared.fault.Fault.{Fault}
 use Rattle.actors.specs.Refusals.{CanRefuse}
@@ -11,6 +11,7 @@ use Rattle.actors.specs.Seats.{SeatValue, rings}
 use Rattle.actors.proofs.Looking.{next_handled}
 use Rattle.actors.proofs.Refusing.{work_refused, handle_refused}
 use Rattle.actors.proofs.seat.Seat.turn.Goals.{else-not-is_empty-via-then-not-is_empty+else-is_free, else-not-is_empty-via-else-not-is_empty}
+use Rattle.std.proofs.lemmas.Grind.{common_steps}
 use Rattle.actors.proofs.seat.Seat.turn.Goals as goal
 
 pub returns-then-is_some-clause-looked : goal.returns-then-is_some-clause-looked
@@ -61,3 +62,66 @@ returns-in_err-handle-clause-refused g c =
     let is : c.from_residual-in_err-handle.result ≡ Err c.in_err-handle.field-0.0 = search rules in
     subst (λ (r : Result Turn Fault). IfErr r (λ fault. CanRefuse g.M.Machine.refuses fault c.handle.new.self)) (sym is)
     (handle_refused g.M.Machine.refuses c.take_in.new.self c.handle.new.self c.in_err-handle.field-0.0 some c.in_err-handle.ensures.err c.in_err-handle.ensures.refused)
+
+pub returns-else-moved-clause-err : goal.returns-else-moved-clause-err
+returns-else-moved-clause-err g c = grind (arith, common_steps)
+
+pub returns-else-moved-clause-flushed : goal.returns-else-moved-clause-flushed
+returns-else-moved-clause-flushed g c = grind (arith, common_steps)
+
+pub returns-else-moved-clause-full : goal.returns-else-moved-clause-full
+returns-else-moved-clause-full g c = grind (arith, common_steps)
+
+pub returns-else-moved-clause-refused : goal.returns-else-moved-clause-refused
+returns-else-moved-clause-refused g c = grind (arith, common_steps)
+
+pub returns-in_err-handle-clause-err : goal.returns-in_err-handle-clause-err
+returns-in_err-handle-clause-err g c = grind (arith, common_steps)
+
+pub returns-in_err-handle-clause-flushed : goal.returns-in_err-handle-clause-flushed
+returns-in_err-handle-clause-flushed g c = grind (arith, common_steps)
+
+pub returns-in_err-handle-clause-full : goal.returns-in_err-handle-clause-full
+returns-in_err-handle-clause-full g c = grind (arith, common_steps)
+
+pub returns-in_err-moved-clause-err : goal.returns-in_err-moved-clause-err
+returns-in_err-moved-clause-err g c = grind (arith, common_steps)
+
+pub returns-in_err-moved-clause-flushed : goal.returns-in_err-moved-clause-flushed
+returns-in_err-moved-clause-flushed g c = grind (arith, common_steps)
+
+pub returns-in_err-moved-clause-full : goal.returns-in_err-moved-clause-full
+returns-in_err-moved-clause-full g c = grind (arith, common_steps)
+
+pub returns-in_err-moved-clause-refused : goal.returns-in_err-moved-clause-refused
+returns-in_err-moved-clause-refused g c = grind (arith, common_steps)
+
+pub returns-then-is_free-clause-err : goal.returns-then-is_free-clause-err
+returns-then-is_free-clause-err g c = grind (arith, common_steps)
+
+pub returns-then-is_free-clause-full : goal.returns-then-is_free-clause-full
+returns-then-is_free-clause-full g c = grind (arith, common_steps)
+
+pub returns-then-is_some-clause-err : goal.returns-then-is_some-clause-err
+returns-then-is_some-clause-err g c = grind (arith, common_steps)
+
+pub returns-then-is_some-clause-flushed : goal.returns-then-is_some-clause-flushed
+returns-then-is_some-clause-flushed g c = grind (arith, common_steps)
+
+pub returns-then-is_some-clause-full : goal.returns-then-is_some-clause-full
+returns-then-is_some-clause-full g c = grind (arith, common_steps)
+
+pub returns-then-is_some-clause-refused : goal.returns-then-is_some-clause-refused
+returns-then-is_some-clause-refused g c = grind (arith, common_steps)
+
+pub returns-then-moved-clause-err : goal.returns-then-moved-clause-err
+returns-then-moved-clause-err g c = grind (arith, common_steps)
+
+pub returns-then-moved-clause-flushed : goal.returns-then-moved-clause-flushed
+returns-then-moved-clause-flushed g c = grind (arith, common_steps)
+
+pub returns-then-moved-clause-full : goal.returns-then-moved-clause-full
+returns-then-moved-clause-full g c = grind (arith, common_steps)
+
+pub returns-then-moved-clause-refused : goal.returns-then-moved-clause-refused
+returns-then-moved-clause-refused g c = grind (arith, common_steps)

@@ -1,4 +1,4 @@
-use Rattle.std.proofs.Common.{◌≡◌, ◌∙◌, ◌<◌, ◌∷◌, ◌++◌, ℕ, List, [], true, refl, ap, sym, subst, rules}
+use Rattle.std.proofs.Common.{◌≡◌, ◌∙◌, ◌<◌, ◌∷◌, ◌++◌, ℕ, List, [], true, refl, ap, sym, subst, rules, arith}
 use Rattle.logical_time.specs.declared.fault.Fault.{Fault}
 use Rattle.std.specs.Prelude.{All}
 use Rattle.logical_time.specs.Fault.{number_of}
@@ -9,6 +9,7 @@ use Rattle.actors.proofs.Refusing.{refusal_of, kept_back, taken_off}
 use Rattle.actors.specs.Seats.{SeatValue, through}
 use Rattle.actors.proofs.Seating.{kept_own, kept_same, own_first, own_rest}
 use Rattle.actors.proofs.Working.{worked}
+use Rattle.std.proofs.lemmas.Grind.{common_steps}
 use Rattle.actors.proofs.seat.Seat.work.Goals as goal
 
 pub invariant_of-self : goal.invariant_of-self
@@ -86,3 +87,42 @@ returns-in-Ok-reserve-clause-ok g c =
       limit = rw (← c.self.view_is) c.happen.ensures.limit;
       rings = rw (← c.self.view_is) (refl, refl);
     }
+
+pub returns-in-Err-clause-err : goal.returns-in-Err-clause-err
+returns-in-Err-clause-err g c = grind (arith, common_steps)
+
+pub returns-in-Err-clause-full : goal.returns-in-Err-clause-full
+returns-in-Err-clause-full g c = grind (arith, common_steps)
+
+pub returns-in-Err-clause-ok : goal.returns-in-Err-clause-ok
+returns-in-Err-clause-ok g c = grind (arith, common_steps)
+
+pub returns-in-Err-reserve-clause-err : goal.returns-in-Err-reserve-clause-err
+returns-in-Err-reserve-clause-err g c = grind (arith, common_steps)
+
+pub returns-in-Err-reserve-clause-full : goal.returns-in-Err-reserve-clause-full
+returns-in-Err-reserve-clause-full g c = grind (arith, common_steps)
+
+pub returns-in-Err-reserve-clause-ok : goal.returns-in-Err-reserve-clause-ok
+returns-in-Err-reserve-clause-ok g c = grind (arith, common_steps)
+
+pub returns-in-Err-reserve-clause-refused : goal.returns-in-Err-reserve-clause-refused
+returns-in-Err-reserve-clause-refused g c = grind (arith, common_steps)
+
+pub returns-in-Ok-clause-err : goal.returns-in-Ok-clause-err
+returns-in-Ok-clause-err g c = grind (arith, common_steps)
+
+pub returns-in-Ok-clause-full : goal.returns-in-Ok-clause-full
+returns-in-Ok-clause-full g c = grind (arith, common_steps)
+
+pub returns-in-Ok-clause-refused : goal.returns-in-Ok-clause-refused
+returns-in-Ok-clause-refused g c = grind (arith, common_steps)
+
+pub returns-in-Ok-reserve-clause-err : goal.returns-in-Ok-reserve-clause-err
+returns-in-Ok-reserve-clause-err g c = grind (arith, common_steps)
+
+pub returns-in-Ok-reserve-clause-full : goal.returns-in-Ok-reserve-clause-full
+returns-in-Ok-reserve-clause-full g c = grind (arith, common_steps)
+
+pub returns-in-Ok-reserve-clause-refused : goal.returns-in-Ok-reserve-clause-refused
+returns-in-Ok-reserve-clause-refused g c = grind (arith, common_steps)

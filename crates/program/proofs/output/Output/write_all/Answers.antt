@@ -18,3 +18,15 @@ loop-preserved g c = record {
 
 pub returns-clause-part : goal.returns-clause-part
 returns-clause-part g c = part_written _ _ _ c.args.bytes.now c.loop.written c.loop.invariant.written (nothing_kept _)
+
+pub loop-init : goal.loop-init
+loop-init c = search rules
+
+pub returns-then-written-bytes-clause-spent : goal.returns-then-written-bytes-clause-spent
+returns-then-written-bytes-clause-spent c = search rules
+
+pub returns-in_err-written-clause-spent : goal.returns-in_err-written-clause-spent
+returns-in_err-written-clause-spent c = search rules
+
+pub returns-clause-spent : goal.returns-clause-spent
+returns-clause-spent c = search rules

@@ -1,3 +1,4 @@
+use Rattle.std.proofs.Common.{rules}
 use Rattle.std.proofs.Common.{◌≤◌, sym, subst, arith}
 use Rattle.std.proofs.lemmas.Bool.Decides.{nat_tests}
 use Rattle.store.specs.Kept.{Kept}
@@ -11,3 +12,6 @@ returns-clause-keeps c = λ all keeps.
     let new : Kept = record { rows = c.collect_crowded.new.rows.entries; low = c.max-self-inside.result } in
     let raised : c.self.inside.low ≤ c.max-self-inside.result = grind (arith, nat_tests, c.max-self-inside.ensures) in
     keeps_collected old new all raised (c.collect_crowded.ensures.kept c.self.invariant) (subst (λ (k : Kept). Keeps k all) (sym c.self.view_is) keeps)
+
+pub returns-clause-low : goal.returns-clause-low
+returns-clause-low c = search rules
