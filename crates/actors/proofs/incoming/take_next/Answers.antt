@@ -1,3 +1,5 @@
+use Rattle.std.proofs.lemmas.Grind.{common_steps}
+use Rattle.std.proofs.Common.{arith}
 use Rattle.actors.proofs.incoming.take_next.Goals as goal
 
 pub returns-in-None-clause-received : goal.returns-in-None-clause-received

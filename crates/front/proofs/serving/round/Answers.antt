@@ -15,3 +15,6 @@ pub returns-in-Some : goal.returns-in-Some
 returns-in-Some g c l p going =
     let some : 0 < c.in-Some.n = search rules in
     c.take_piece.ensures l (g.L.Line.seen c.args.line.now) p going (c.in-Some.ensures.line ∙ reads-some c.in-Some.n c.read.new.buffer (g.L.Line.seen c.args.line.now) some)
+
+pub returns-in-None : goal.returns-in-None
+returns-in-None g c = search rules

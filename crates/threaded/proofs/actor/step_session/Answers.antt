@@ -1,3 +1,4 @@
+use Rattle.std.proofs.Common.{rules}
 use Rattle.std.proofs.Common.{◌≡◌, ◌⊎◌, ◌++◌, ◌∷◌, [], sym, subst}
 use Rattle.logical_time.specs.declared.fault.Fault.TheVariants.{Memory, StrangerEnd}
 use Rattle.actors.specs.Journals.{followed_by}
@@ -40,3 +41,6 @@ pub returns-in-Collect-clause-refused : goal.returns-in-Collect-clause-refused
 returns-in-Collect-clause-refused c top node journal sent outcomes came =
     subst (λ x. (StrangerEnd ≡ Memory) ⊎ Refuses top node journal x StrangerEnd) (sym c.in-Collect.is)
     (session_collect_refused c.args.session.now c.args.waits.now c.args.ended.now top node journal sent outcomes came c.in-Collect.time)
+
+pub returns-in-Ok-submit-clause-number : goal.returns-in-Ok-submit-clause-number
+returns-in-Ok-submit-clause-number c = search rules

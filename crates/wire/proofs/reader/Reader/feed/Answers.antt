@@ -1,3 +1,5 @@
+use Rattle.std.proofs.lemmas.Grind.{common_steps}
+use Rattle.std.proofs.Common.{arith}
 use Rattle.std.proofs.Common.{◌≡◌, ◌∙◌, drop}
 use Rattle.wire.proofs.Fed.{fed_ok, fed_fault}
 use Rattle.wire.proofs.reader.Reader.feed.Goals.{in-None, in-Some-fault}
@@ -16,3 +18,9 @@ returns-after-fault-clause-feeds c = λ before.
       | in-None w ↦ fed_ok _ c.args.piece.now h0 h1 r0 r1 bytes c.in-Ok.used c.self.inside.fault c.in-Ok.fault c.match-fault.result _ all rest c.in-Ok.ensures.text c.in-Ok.ensures.front w.in-None.is w.result-is
       | in-Some-fault w ↦ fed_fault _ c.args.piece.now h0 h1 r0 r1 bytes c.in-Ok.used c.self.inside.fault c.in-Ok.fault c.match-fault.result w.in-Some-fault.fault all rest c.in-Ok.ensures.text c.in-Ok.ensures.front w.in-Some-fault.is w.result-is
     ])
+
+pub invariant_of-self-in-Err : goal.invariant_of-self-in-Err
+invariant_of-self-in-Err c = grind (arith, common_steps)
+
+pub returns-in-Err-clause-feeds : goal.returns-in-Err-clause-feeds
+returns-in-Err-clause-feeds c = grind (arith, common_steps)

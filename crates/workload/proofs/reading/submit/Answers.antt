@@ -1,0 +1,6 @@
+use Rattle.std.proofs.lemmas.Grind.{common_steps}
+use Rattle.std.proofs.Common.{arith, rules}
+use Rattle.workload.proofs.reading.submit.Goals as goal
+
+pub session_node-requires : goal.session_node-requires
+session_node-requires c = search rules
