@@ -1,4 +1,4 @@
-use Rattle.std.proofs.Common.{◌≡◌, ◌∙◌, ◌++◌, ap, sym, subst, ℕ, List, map}
+use Rattle.std.proofs.Common.{◌≡◌, ◌∙◌, ◌++◌, ap, sym, subst, ℕ, List, map, arith}
 use Rattle.logical_time.specs.Stamps.{StampValue}
 use Rattle.txn_state.specs.Prepared.{PreparedValue}
 use Rattle.messages.specs.declared.envelope.Envelope.{Envelope}
@@ -7,6 +7,7 @@ use Rattle.messages.specs.Posting.{commit_to}
 use Rattle.shard.specs.declared.kept.Kept.{Kept}
 use Rattle.shard.specs.Deciding.{node_at, IsSettled}
 use Rattle.shard.proofs.Begins.{decides_begun}
+use Rattle.std.proofs.lemmas.Grind.{common_steps}
 use Rattle.shard.proofs.begun.decide_now.Goals as goal
 
 pub returns-clause-step : goal.returns-clause-step
@@ -29,3 +30,18 @@ returns-clause-step c = λ top me a r apart.
     ∙ ap (λ (es : List Envelope). (es ++ map (commit_to me c.args.clock b.txn c.args.clock stamp) c.new-complete.result.cohorts) ++ c.in-Ok.envelopes.items) c.note_decision.ensures.unsent) in
     decides_begun top me c.args.clock k c.note_decision.new.kept c.settle.new.kept a b c.args.votes c.new-complete.result c.args.outbox.now.sent c.in-Ok.envelopes.items c.settle.new.outbox.sent
     r apart c.requires.unknown (c.requires.votes top me r.place) c.requires.none now own_is (λ undecided there. c.in-Ok.ensures.told top me a r undecided there) settled sent
+
+pub returns-clause-same : goal.returns-clause-same
+returns-clause-same c = grind (arith, common_steps)
+
+pub returns-clause-unsent : goal.returns-clause-unsent
+returns-clause-unsent c = grind (arith, common_steps)
+
+pub returns-in-Err-clause-same : goal.returns-in-Err-clause-same
+returns-in-Err-clause-same c = grind (arith, common_steps)
+
+pub returns-in-Err-clause-step : goal.returns-in-Err-clause-step
+returns-in-Err-clause-step c = grind (arith, common_steps)
+
+pub returns-in-Err-clause-unsent : goal.returns-in-Err-clause-unsent
+returns-in-Err-clause-unsent c = grind (arith, common_steps)
