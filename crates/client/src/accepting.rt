@@ -10,12 +10,11 @@ ghost use Rattle.client.specs.State.{dependencies_of, state_of, topology_of};
 ghost use Rattle.client.specs.Represents.{IsRefusalOf, IsSpentOrMemory};
 
 use crate::current::Current;
-use crate::envelopes::{nodes, reads, send, writes};
+use crate::envelopes::{nodes, reads, writes};
 use crate::kept::Kept;
 use column_family::Batch;
-use dependencies::DepSet;
 use logical_time::{Clock, Fault, Node, Shard, TxnId, Writers};
-use messages::{Op, Outbox};
+use messages::{Envelope, Op, Outbox};
 use planner::{BatchPlan, check_batch, check_read, plan_batch, plan_read};
 use read_txn::FirstRound;
 use slice::Read;
@@ -46,42 +45,39 @@ pub(crate) fn would_accept(kept: &Kept, op: &Op) -> Result<(), Fault>
     Ok(())
 }
 
-/// What a submission made ready, so that it can't fail any more.
-#[derive(Drop)]
-struct Ready {
-    clock: Clock,
-    dependencies: DepSet,
-}
-
-/// The clock that a submission moves to, and the dependencies with the writers of the last read.
-fn make_ready(kept: &Kept) -> Result<Ready, Fault>
-    ensures clock { IfOk result (λ r. (r.clock ≡ max kept.now.clock kept.now.clock + 1) × (r.clock < 2 ^ 48)) }
-    ensures dependencies { IfOk result (λ r. r.dependencies ≡ dependencies_of kept.now) }
+/// The clock that a submission moves to.
+fn moved(kept: &Kept) -> Result<Clock, Fault>
+    ensures clock { IfOk result (λ c. (c ≡ max kept.now.clock kept.now.clock + 1) × (c < 2 ^ 48)) }
     ensures refused { IfErr result (λ e. IsSpentOrMemory (ticked kept.now.clock kept.now.clock) e) }
 {
     let mut clock = kept.clock;
     clock.receive(kept.clock.now())?;
-    let mut dependencies = kept.dependencies.copied()?;
-    dependencies.completed_read(kept.added.as_slice())?;
-    Ok(Ready {
-        clock,
-        dependencies,
-    })
+    Ok(clock)
 }
 
-/// Accepts an operation, which can't fail, and gives it the next number.
-fn accept(kept: &mut Kept, ready: Ready, current: Current) -> u64
+/// Sends these envelopes, and puts the writers of the last read among the dependencies. All growths come first.
+fn settle(kept: &mut Kept, envelopes: Vec<Envelope>, outbox: &mut Outbox) -> Result<(), Fault>
+    ensures state { OnOk result (kept.new ≡ record kept.old { dependencies = dependencies_of kept.old }) }
+    ensures sends { OnOk result (outbox.new.sent ≡ outbox.old.sent ++ envelopes.items) }
+    ensures same { OnErr result (kept.new ≡ kept.old) }
+    ensures unsent { OnErr result (outbox.new.sent ≡ outbox.old.sent) }
+    ensures memory { IfErr result (λ e. e ≡ Fault.Memory) }
+{
+    outbox.reserve(envelopes.len())?;
+    kept.dependencies.completed_read(kept.added.as_slice())?;
+    outbox.post_all(envelopes);
+    Ok(())
+}
+
+/// Accepts an operation, which can't fail, and gives it the next number. The writers of the last read are among the
+/// dependencies.
+fn accept(kept: &mut Kept, clock: Clock, current: Current) -> u64
     requires counted { kept.old.count < 2 ^ 48 }
     ensures number { result ≡ kept.old.count + 1 }
-    ensures state { kept.new ≡ record kept.old { clock = ready.clock; count = kept.old.count + 1; dependencies = ready.dependencies; added = []; current = current; untaken = None } }
+    ensures state { kept.new ≡ record kept.old { clock = clock; count = kept.old.count + 1; added = []; current = current; untaken = None } }
 {
-    let Ready {
-        clock,
-        dependencies,
-    } = ready;
     kept.clock = clock;
     kept.count += 1;
-    kept.dependencies = dependencies;
     kept.added = Writers::from_vec(Vec::new(kept.alloc));
     kept.untaken = None;
     // nothing was open
@@ -109,34 +105,34 @@ fn submit_batch(kept: &mut Kept, batch: &Batch, outbox: &mut Outbox) -> Result<u
     ensures same { OnErr result (kept.new ≡ kept.old) }
     ensures unsent { OnErr result (outbox.new.sent ≡ outbox.old.sent) }
 {
-    let ready = make_ready(kept)?;
+    let clock = moved(kept)?;
     let plan = plan_batch(kept.alloc, batch, &kept.schema, kept.home.shards())?;
     let coordinator = coordinator_of(&plan);
     let txn = TxnId {
         session: kept.node,
         number: kept.count + 1,
     };
+    let dependencies = kept.dependencies.to_writers(kept.added.as_slice())?;
     let envelopes = writes(
         kept.alloc,
         kept.home,
         kept.node,
-        ready.clock.now(),
+        clock.now(),
         txn,
-        &ready.dependencies,
+        dependencies,
         plan,
     )?;
-    send(outbox, envelopes)?;
-    Ok(accept(kept, ready, Current::Write(coordinator)))
+    settle(kept, envelopes, outbox)?;
+    Ok(accept(kept, clock, Current::Write(coordinator)))
 }
 
-/// Sends what a read asks, and gives the shards that it asks.
+/// What a read asks: the shards, and the envelopes to them.
 #[tactic(auto, using(crate::proofs::Planned::posted_read, crate::proofs::Planned::asked_read))]
-fn ask(kept: &Kept, clock: Clock, read: &Read, outbox: &mut Outbox) -> Result<Vec<Node>, Fault>
+fn asks(kept: &Kept, clock: Clock, read: &Read) -> Result<(Vec<Node>, Vec<Envelope>), Fault>
     requires counted { kept.now.count < 2 ^ 48 }
     requires allowed { fault_of kept.now (op.Read read.now) ≡ None }
-    ensures asked { IfOk result (λ nodes. nodes.items ≡ asked_nodes (topology_of kept.now) (state_of kept.now) read.now) }
-    ensures sends { OnOk result (outbox.new.sent ≡ outbox.old.sent ++ posted kept.now clock (op.Read read.now)) }
-    ensures unsent { OnErr result (outbox.new.sent ≡ outbox.old.sent) }
+    ensures asked { IfOk result (λ asks. asks.0.items ≡ asked_nodes (topology_of kept.now) (state_of kept.now) read.now) }
+    ensures sends { IfOk result (λ asks. asks.1.items ≡ posted kept.now clock (op.Read read.now)) }
     ensures memory { IfErr result (λ e. e ≡ Fault.Memory) }
 {
     let plan = plan_read(kept.alloc, read, &kept.schema, kept.home.shards())?;
@@ -150,8 +146,25 @@ fn ask(kept: &Kept, clock: Clock, read: &Read, outbox: &mut Outbox) -> Result<Ve
         read,
         plan.asked,
     )?;
-    send(outbox, envelopes)?;
-    Ok(asked)
+    Ok((asked, envelopes))
+}
+
+/// Moves the clock, sends what a read asks, and gives the clock and the shards that it asks.
+fn ask(kept: &mut Kept, read: &Read, outbox: &mut Outbox) -> Result<(Clock, Vec<Node>), Fault>
+    requires counted { kept.old.count ≤ kept.old.clock }
+    requires allowed { fault_of kept.old (op.Read read.now) ≡ None }
+    ensures clock { IfOk result (λ asked. (asked.0 ≡ max kept.old.clock kept.old.clock + 1) × (asked.0 < 2 ^ 48)) }
+    ensures asked { IfOk result (λ asked. asked.1.items ≡ asked_nodes (topology_of kept.old) (state_of kept.old) read.now) }
+    ensures state { OnOk result (kept.new ≡ record kept.old { dependencies = dependencies_of kept.old }) }
+    ensures sends { OnOk result (outbox.new.sent ≡ outbox.old.sent ++ posted kept.old (max kept.old.clock kept.old.clock + 1) (op.Read read.now)) }
+    ensures refused { IfErr result (λ e. IsSpentOrMemory (ticked kept.old.clock kept.old.clock) e) }
+    ensures same { OnErr result (kept.new ≡ kept.old) }
+    ensures unsent { OnErr result (outbox.new.sent ≡ outbox.old.sent) }
+{
+    let clock = moved(kept)?;
+    let (asked, envelopes) = asks(kept, clock, read)?;
+    settle(kept, envelopes, outbox)?;
+    Ok((clock, asked))
 }
 
 /// Submits a read that is allowed.
@@ -167,16 +180,12 @@ fn submit_read(kept: &mut Kept, read: Read, outbox: &mut Outbox) -> Result<u64, 
     ensures unsent { OnErr result (outbox.new.sent ≡ outbox.old.sent) }
     ensures back { IfErr result (λ e. e.1 ≡ read) }
 {
-    let ready = match make_ready(kept) {
-        Ok(ready) => ready,
-        Err(fault) => return Err((fault, read)),
-    };
-    let asked = match ask(kept, ready.clock, &read, outbox) {
+    let (clock, asked) = match ask(kept, &read, outbox) {
         Ok(asked) => asked,
         Err(fault) => return Err((fault, read)),
     };
     let round = FirstRound::new(kept.alloc, read, kept.floor, asked);
-    Ok(accept(kept, ready, Current::First(round)))
+    Ok(accept(kept, clock, Current::First(round)))
 }
 
 /// Submits an operation. What is kept changes as `accepted` says.

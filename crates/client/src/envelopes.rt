@@ -2,8 +2,7 @@
 ghost use Rattle.std.specs.Prelude.{◌≡◌, ◌++◌, map, IfOk, OnOk, OnErr, IfErr};
 ghost use Rattle.client.specs.Envelopes.{node_in, prepare_part, batch_envelopes, read_keys};
 
-use dependencies::DepSet;
-use logical_time::{Fault, Node, Shard, Time, TxnId};
+use logical_time::{Fault, Node, Shard, Time, TxnId, Writers};
 use messages::{Body, Cohorts, Envelope, Home, Outbox};
 use planner::{BatchPlan, ShardKeys, ShardPart};
 use slice::{Keys, Read};
@@ -118,14 +117,13 @@ pub(crate) fn writes(
     node: Node,
     time: Time,
     txn: TxnId,
-    dependencies: &DepSet,
+    dependencies: Writers,
     plan: BatchPlan,
 ) -> Result<Vec<Envelope>, Fault>
-    ensures ok { IfOk result (λ envelopes. envelopes.items ≡ batch_envelopes home node time txn dependencies.now plan.coordinator plan.cohorts.items) }
+    ensures ok { IfOk result (λ envelopes. envelopes.items ≡ batch_envelopes home node time txn dependencies plan.coordinator plan.cohorts.items) }
     ensures memory { IfErr result (λ e. e ≡ Fault.Memory) }
 {
     let others = shards_of(alloc, plan.cohorts.as_slice())?;
-    let dependencies = dependencies.to_writers()?;
     let BatchPlan {
         coordinator: ShardPart { shard, batch },
         cohorts,

@@ -79,7 +79,8 @@ impl Session {
 
     /// Submits an operation: a batch goes, cut by shards, to its coordinator and cohorts, and a read asks each shard that
     /// holds one of its keys. The answer is the operation's number, from 1. It drops an outcome that wasn't taken. In
-    /// the order of m log m for m mutations or keys. Refused with `Busy` while another operation is open, then as
+    /// the order of m log m for m mutations or keys, with the dependencies that a batch takes along, and of the writers
+    /// of the read before it, however many came before. Refused with `Busy` while another operation is open, then as
     /// `plan_batch` and `plan_read` refuse it, then with `ClockSpent`, and with `Memory`; then nothing changes, and the
     /// operation is handed back.
     #[tactic(auto, using(crate::proofs::Submitted::submitted, crate::proofs::Submitted::submit_refused))]

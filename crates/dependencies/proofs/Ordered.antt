@@ -1,5 +1,6 @@
 -- Writers put in order.
-use Rattle.std.proofs.Common.{◌≡◌, List, [], ◌∷◌, ◌++◌, refl, ap, ◌∙◌, sym, append-nil}
+use Rattle.std.proofs.Common.{◌≡◌, List, [], ◌∷◌, ◌++◌, refl, ap, ◌∙◌, inl, inr}
+use Rattle.std.proofs.lemmas.List.Elements.{Contains-append_left, Contains-append_right, Contains-append_cases}
 use Rattle.std.specs.declared.cmp.Ordering.TheVariants.{Less}
 use Rattle.std.specs.List.{AllByRecursion}
 use Rattle.std.specs.Prelude.{◌↔◌, Contains}
@@ -29,10 +30,28 @@ ascending_stay (w ∷ ws) h = ap (with_writer w) (ascending_stay ws h.1) ∙ fir
 pub ordered_stay : (ws : List WriterValue) → in_writer_order (in_writer_order ws) ≡ in_writer_order ws
 ordered_stay ws = ascending_stay (in_writer_order ws) (writers_ascend ws)
 
--- what was put in order stands in order
-pub ordered_so : (all ws : List WriterValue) → all ≡ in_writer_order ws → in_writer_order all ≡ all
-ordered_so all ws e = ap in_writer_order e ∙ (ordered_stay ws ∙ sym e)
+-- the same writers are among these and others, whether these are put in order first or not
+in_either : (xs ws : List WriterValue) (w : WriterValue) → Contains (xs ++ ws) w ↔ Contains (in_writer_order xs ++ ws) w
+in_either xs ws w = (
+  (λ has. elim (Contains-append_cases xs ws w has) [
+    | inl own ↦ Contains-append_left (in_writer_order xs) ws w ((writers_stay xs w).1 own)
+    | inr other ↦ Contains-append_right (in_writer_order xs) ws w other
+  ]),
+  (λ has. elim (Contains-append_cases (in_writer_order xs) ws w has) [
+    | inl own ↦ Contains-append_left xs ws w ((writers_stay xs w).0 own)
+    | inr other ↦ Contains-append_right xs ws w other
+  ]),
+)
 
--- with no others, what stands in order stays
-pub none_added : (ws vs : List WriterValue) → in_writer_order ws ≡ ws → vs ≡ [] → ws ≡ in_writer_order (ws ++ vs)
-none_added ws vs ordered none = sym (ap (λ (xs : List WriterValue). in_writer_order (ws ++ xs)) none ∙ (ap in_writer_order (append-nil ws) ∙ ordered))
+-- what others are added to may be put in order first
+pub added_in_order : (xs ws : List WriterValue) → in_writer_order (xs ++ ws) ≡ in_writer_order (in_writer_order xs ++ ws)
+added_in_order xs ws =
+    sorted_once (in_writer_order xs ++ ws) (in_writer_order (xs ++ ws)) (writers_ascend (xs ++ ws))
+    (λ w. (
+      (λ has. (in_either xs ws w).0 ((writers_stay (xs ++ ws) w).0 has)),
+      (λ has. (writers_stay (xs ++ ws) w).1 ((in_either xs ws w).1 has)),
+    ))
+
+-- others that were added, or put in order with these
+pub added_to_held : (xs ws after : List WriterValue) → after ≡ in_writer_order (xs ++ ws) → in_writer_order after ≡ in_writer_order (in_writer_order xs ++ ws)
+added_to_held xs ws after e = ap in_writer_order e ∙ (ordered_stay (xs ++ ws) ∙ added_in_order xs ws)

@@ -1,6 +1,7 @@
 //! What a session's next write depends on.
-ghost use Rattle.std.specs.Prelude.{◌≡◌, [], ◌∷◌, ◌++◌, IsOk, IfOk, OnOk, OnErr, IfErr};
+ghost use Rattle.std.specs.Prelude.{◌≡◌, [], ◌∷◌, ◌++◌, true, Ok, IsOk, IfOk, OnOk, OnErr, IfErr};
 ghost use Rattle.messages.specs.Words.{in_writer_order};
+ghost use Rattle.dependencies.specs.DepSet.{writers_held, IsAdded};
 
 use crate::ordering::in_order;
 use logical_time::{Fault, Writer, Writers};
@@ -8,13 +9,54 @@ use std::alloc::Global;
 use std::marker::Model;
 use std::slice;
 
-/// Dependencies.
+/// Dependencies, as they are held.
 #[derive(Drop)]
 enum Held {
     /// A completed write alone. It needs no list, and so no memory.
     Write(Writer),
-    /// In the order of the transactions' numbers, each once.
-    Writers(Writers),
+    /// As they came, some perhaps more than once.
+    Writers(Vec<Writer>),
+}
+
+/// The writers, as they are held.
+fn writers_in(held: &Held) -> &[Writer]
+    ensures { result.now ≡ writers_held held.now }
+{
+    match held {
+        Held::Write(writer) => slice::from_ref(writer),
+        Held::Writers(writers) => writers.as_slice(),
+    }
+}
+
+/// Adds writers at the end, where there is room for them: tells whether there was.
+fn add(held: &mut Held, writers: &[Writer]) -> Result<bool, Fault>
+    ensures added { IfOk result (IsAdded held.old held.new writers.now) }
+    ensures none { writers.now ≡ [] → result ≡ Ok true }
+    ensures same { OnErr result (held.new ≡ held.old) }
+    ensures memory { IfErr result (λ e. e ≡ Fault.Memory) }
+{
+    match held {
+        Held::Write(_) => Ok(writers.is_empty()),
+        Held::Writers(all) => {
+            if all.capacity() - all.len() < writers.len() {
+                return Ok(false);
+            }
+            all.extend_from_slice(writers)?;
+            Ok(true)
+        }
+    }
+}
+
+/// These writers and those, put in order, each once, with room for as many again.
+fn grown(alloc: Global, writers: &[Writer], others: &[Writer]) -> Result<Vec<Writer>, Fault>
+    ensures ok { IfOk result (λ all. all.items ≡ in_writer_order (writers.now ++ others.now)) }
+    ensures memory { IfErr result (λ e. e ≡ Fault.Memory) }
+{
+    let ordered = in_order(alloc, writers, others)?;
+    let own = ordered.as_slice();
+    let mut all = Vec::with_capacity(alloc, own.len().saturating_mul(2))?;
+    all.extend_from_slice(own)?;
+    Ok(all)
 }
 
 /// What a session's next write depends on, one hop back (Eiger): its last completed write, which depends on all before
@@ -26,16 +68,14 @@ pub struct DepSet {
 }
 
 impl Model for DepSet {
-    ghost use Rattle.std.specs.Prelude.{◌≡◌, List};
+    ghost use Rattle.std.specs.Prelude.{List};
     ghost use Rattle.logical_time.specs.Stamps.{WriterValue};
     ghost use Rattle.messages.specs.Words.{in_writer_order};
     ghost use Rattle.dependencies.specs.DepSet.{writers_held};
 
     ghost Value = { List WriterValue };
 
-    ghost view = { λ set. writers_held set.held };
-
-    ghost invariant = { λ set. in_writer_order (writers_held set.held) ≡ writers_held set.held };
+    ghost view = { λ set. in_writer_order (writers_held set.held) };
 }
 
 impl DepSet {
@@ -45,45 +85,18 @@ impl DepSet {
     {
         DepSet {
             alloc,
-            held: Held::Writers(Writers::from_vec(Vec::new(alloc))),
+            held: Held::Writers(Vec::new(alloc)),
         }
     }
 
-    /// The dependencies.
-    pub fn as_slice(&self) -> &[Writer]
-        ensures writers { result.now ≡ self.now }
-        ensures ordered { in_writer_order self.now ≡ self.now }
-    {
-        match &self.held {
-            Held::Write(writer) => slice::from_ref(writer),
-            Held::Writers(writers) => writers.as_slice(),
-        }
-    }
-
-    /// The dependencies, as a write takes them along. Refused with `Memory` alone.
-    pub fn to_writers(&self) -> Result<Writers, Fault>
-        ensures ok { IfOk result (λ writers. writers ≡ self.now) }
+    /// The dependencies and the writers of one more read, as a write takes them along. In the order of n log n for n
+    /// writers of both. Refused with `Memory` alone.
+    #[tactic(auto, using(crate::proofs::Ordered::added_in_order))]
+    pub fn to_writers(&self, read: &[Writer]) -> Result<Writers, Fault>
+        ensures ok { IfOk result (λ writers. writers ≡ in_writer_order (self.now ++ read.now)) }
         ensures memory { IfErr result (λ e. e ≡ Fault.Memory) }
     {
-        match &self.held {
-            Held::Write(writer) => Ok(Writers::from_vec(vec![in self.alloc; *writer]?)),
-            Held::Writers(writers) => Ok(writers.clone()?),
-        }
-    }
-
-    /// A copy. After a completed write it takes no memory. Refused with `Memory` alone.
-    pub fn copied(&self) -> Result<DepSet, Fault>
-        ensures ok { IfOk result (λ copy. copy ≡ self.now) }
-        ensures memory { IfErr result (λ e. e ≡ Fault.Memory) }
-    {
-        let held = match &self.held {
-            Held::Write(writer) => Held::Write(*writer),
-            Held::Writers(writers) => Held::Writers(writers.clone()?),
-        };
-        Ok(DepSet {
-            alloc: self.alloc,
-            held,
-        })
+        in_order(self.alloc, writers_in(&self.held), read)
     }
 
     /// A write completes: the next one depends on it alone. Takes no memory.
@@ -93,20 +106,20 @@ impl DepSet {
         self.held = Held::Write(writer);
     }
 
-    /// A read completes: the writers of its rows are added. In the order of n log n for n writers of both. Refused with
-    /// `Memory` alone, and never without a writer.
-    #[tactic(auto, using(crate::proofs::Ordered::none_added, crate::proofs::Ordered::ordered_so))]
+    /// A read completes: the writers of its rows are added. In the order of m log n for m of them, among n, over a
+    /// series of reads: all are put in order, each once, only where the list would have to grow. Refused with `Memory`
+    /// alone, and never without a writer.
+    #[tactic(auto, using(crate::proofs::Ordered::added_in_order, crate::proofs::Ordered::added_to_held))]
     pub fn completed_read(&mut self, writers: &[Writer]) -> Result<(), Fault>
         ensures ok { OnOk result (self.new ≡ in_writer_order (self.old ++ writers.now)) }
         ensures none { writers.now ≡ [] → IsOk result }
         ensures same { OnErr result (self.new ≡ self.old) }
         ensures memory { IfErr result (λ e. e ≡ Fault.Memory) }
     {
-        let own = self.as_slice();
-        if writers.is_empty() {
+        if add(&mut self.held, writers)? {
             return Ok(());
         }
-        let all = in_order(self.alloc, own, writers)?;
+        let all = grown(self.alloc, writers_in(&self.held), writers)?;
         self.held = Held::Writers(all);
         Ok(())
     }

@@ -57,9 +57,9 @@ impl World {
     }
 
     /// A session submits an operation; the answer is its number among the session's operations, from 1. That the node is a
-    /// session's is the caller's condition. In the order of m log m for m mutations or keys. Refused with `Busy` while
-    /// another operation is open, then as `plan_batch` and `plan_read` refuse it, then with `ClockSpent`, and with `Memory`;
-    /// then nothing changes, and the operation is handed back.
+    /// session's is the caller's condition. In the order of m log m for m mutations or keys, with the dependencies that a
+    /// batch takes along. Refused with `Busy` while another operation is open, then as `plan_batch` and `plan_read` refuse
+    /// it, then with `ClockSpent`, and with `Memory`; then nothing changes, and the operation is handed back.
     #[tactic(auto, using(crate::proofs::Held::submission_holds, crate::proofs::Held::still_holds, crate::proofs::Held::still_logged, crate::proofs::Held::takes, crate::proofs::Held::station_from, crate::proofs::Held::station_below))]
     pub fn submit(&mut self, session: Node, op: Op) -> Result<u64, (Fault, Op)>
         requires { is_session self.old.top session ≡ true }

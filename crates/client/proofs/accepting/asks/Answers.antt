@@ -2,7 +2,7 @@ use Rattle.std.proofs.Common.{◌≡◌, ◌∙◌, rules, map}
 use Rattle.planner.specs.declared.reads.ShardKeys.{ShardKeys}
 use Rattle.client.specs.Envelopes.{node_in}
 use Rattle.client.proofs.Planned.{asked_read}
-use Rattle.client.proofs.accepting.ask.Goals as goal
+use Rattle.client.proofs.accepting.asks.Goals as goal
 
 pub returns-clause-asked : goal.returns-clause-asked
 returns-clause-asked c =
