@@ -1,7 +1,5 @@
 //! The meaning of a read, by running it.
 ghost use Rattle.std.specs.Prelude.{◌≡◌, IfOk, IfErr, map};
-ghost use Rattle.std.specs.List.{list_any};
-ghost use Rattle.std.specs.Str.{bytes_eq};
 ghost use Rattle.slice.specs.Slice.{slice_of};
 ghost use Rattle.slice.specs.Live as live;
 ghost use Rattle.table.specs.Meaning as meaning;
@@ -25,44 +23,8 @@ pub fn answer(alloc: Global, history: &History, time: Time, read: &Read) -> Resu
     answer_keys(alloc, &entries, read, &keys)
 }
 
-/// Up to so many keys are compared with each other. Of more, those that were taken stand in a set too.
-const FEW: usize = 16;
-
 /// Each key once, in the order of first asking. In the order of n log n for n keys. Refused with `Memory` alone.
 pub fn each_once(alloc: Global, keys: &[Key]) -> Result<Vec<Key>, Fault>
-    ensures ok { IfOk result (λ once. once.items ≡ meaning.each_once keys.now) }
-    ensures memory { IfErr result (λ e. e ≡ Fault.Memory) }
-{
-    if keys.len() <= FEW {
-        few_once(alloc, keys)
-    } else {
-        many_once(alloc, keys)
-    }
-}
-
-// Whether the key is one of these.
-fn has(keys: &[Key], key: &Key) -> bool
-    ensures { result ≡ list_any (λ k. bytes_eq k key.now) keys.now }
-{
-    keys.iter().any(|one| one == key)
-}
-
-// Each of a few keys once.
-fn few_once(alloc: Global, keys: &[Key]) -> Result<Vec<Key>, Fault>
-    ensures ok { IfOk result (λ once. once.items ≡ meaning.each_once keys.now) }
-    ensures memory { IfErr result (λ e. e ≡ Fault.Memory) }
-{
-    let mut once = Vec::new(alloc);
-    for key in keys {
-        if !has(&once, key) {
-            once.push(key.clone()?)?;
-        }
-    }
-    Ok(once)
-}
-
-// Each of many keys once.
-fn many_once(alloc: Global, keys: &[Key]) -> Result<Vec<Key>, Fault>
     ensures ok { IfOk result (λ once. once.items ≡ meaning.each_once keys.now) }
     ensures memory { IfErr result (λ e. e ≡ Fault.Memory) }
 {

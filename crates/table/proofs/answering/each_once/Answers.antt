@@ -5,8 +5,8 @@ use Rattle.std.specs.Cmp.Lexicographic.{slice_cmp}
 use Rattle.std.specs.BTreeSet.{contains}
 use Rattle.std.specs.Str.{bytes_eq}
 use Rattle.table.proofs.EachOnce.{each_once_old, each_once_new, seen_more, seen_same}
-use Rattle.table.proofs.answering.many_once.Goals as goal
-use Rattle.table.proofs.answering.many_once.Goals.{then-not-contains+in_ok-clone+in_ok-insert+in_ok-clone-2+in_ok-push, else-not-contains}
+use Rattle.table.proofs.answering.each_once.Goals as goal
+use Rattle.table.proofs.answering.each_once.Goals.{then-not-contains+in_ok-clone+in_ok-insert+in_ok-clone-2+in_ok-push, else-not-contains}
 
 pub loop-key-init : goal.loop-key-init
 loop-key-init c = record { taken = c.new-once.ensures.items; seen = λ k. rw (c.new-seen.ensures.empty, c.new-once.ensures.items) refl }
