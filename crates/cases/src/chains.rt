@@ -1,6 +1,6 @@
 //! A chain of versions, put in an order that isn't that of their stamps.
 use crate::building::{number, stamp, time, txn};
-use crate::steps::Subject;
+use crate::steps::{Subject, tell as tell_steps};
 use logical_time::{Fault, Shard, Writer};
 use std::alloc::Global;
 use version_gc::collect;
@@ -67,4 +67,18 @@ impl Subject for Chain {
             _ => Err(Fault::Script),
         }
     }
+}
+
+/// The files of steps, each of a new chain.
+const FILES: [&str; 3] = [
+    "worked_chain.steps",
+    "worked_collection.steps",
+    "collection_keeps_visible.chain",
+];
+
+pub(crate) fn tell(rt: &HostRuntime) -> Result<(), Fault> {
+    for file in FILES {
+        tell_steps(rt, file, &mut Chain::new(rt.alloc()))?;
+    }
+    Ok(())
 }

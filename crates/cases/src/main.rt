@@ -24,15 +24,13 @@ use logical_time::Fault;
 use pending::Marks;
 use std::io;
 use table::History;
-use versions::Chain;
 
 fn tell_steps(rt: &HostRuntime) -> Result<(), Fault> {
     let alloc = rt.alloc();
     steps::tell(rt, "command_lines.steps", &mut command_lines::Line)?;
     steps::tell(rt, "normal_forms.steps", &mut normal_forms::Normal)?;
     steps::tell(rt, "reads_of_a_table.steps", &mut History::new(alloc))?;
-    steps::tell(rt, "worked_chain.steps", &mut Chain::new(alloc))?;
-    steps::tell(rt, "worked_collection.steps", &mut Chain::new(alloc))?;
+    chains::tell(rt)?;
     steps::tell(rt, "worked_marks.steps", &mut Marks::new(alloc))?;
     stores::tell(rt)?;
     sessions::tell(rt)?;

@@ -119,13 +119,16 @@ fn script_of(alloc: Global, lines: &str) -> Result<String, AllocError> {
     Ok(script)
 }
 
-/// Tells what a script at the limits writes.
-fn tell_limits(rt: &HostRuntime) -> io::Result<()> {
-    let lines = fs::read_to_string(rt, "limits.parts")?;
+/// Scripts at the limits, and beyond that of events, in parts.
+const LIMITS: [&str; 3] = ["limits", "events_100000", "events_100001"];
+
+/// Tells what the script of these parts writes, and what is told of it.
+fn tell_limits(rt: &HostRuntime, name: &str) -> io::Result<()> {
+    let lines = fs::read_to_string(rt, format!(in rt.alloc(); "{name}.parts")?)?;
     let script = script_of(rt.alloc(), lines.as_str())?;
-    let (status, out, _) = run(rt.alloc(), Ok(script.as_bytes()))?;
-    let out = text_of(&out);
-    print!(rt; "limits: {status}\n{out}")
+    let (status, out, errors) = run(rt.alloc(), Ok(script.as_bytes()))?;
+    let (out, errors) = (text_of(&out), text_of(&errors));
+    print!(rt; "{name}: {status}\n{out}{errors}")
 }
 
 pub(crate) fn tell(rt: &HostRuntime) -> io::Result<()> {
@@ -135,5 +138,8 @@ pub(crate) fn tell(rt: &HostRuntime) -> io::Result<()> {
     tell_lines(rt, "scripts.txt")?;
     tell_lines(rt, "not_scripts.txt")?;
     tell_lines(rt, "not_sent.txt")?;
-    tell_limits(rt)
+    for name in LIMITS {
+        tell_limits(rt, name)?;
+    }
+    Ok(())
 }

@@ -1,24 +1,33 @@
-//! The bytes that threads make of a script. One session waits for one shard, so not even their times depend on the schedule.
+//! The bytes that threads make of a script, and why there are none. One session waits for one shard, so not even their times
+//! depend on the schedule.
 use crate::showing::{print, text_of};
 use logical_time::Fault;
 use program::{Input, Output};
 use running::{Workers, perform_by_threads};
 use std::alloc::Global;
-use std::fs;
 use std::sync::Wait;
 use std::thread::Threads;
+use std::{fs, io};
 
 /// The script.
 const FILE: &str = "insert_and_read_back.json";
 
-/// What two workers write for the script of these bytes. Refused with `Script` where a fault is told.
-fn written<R: Threads + Wait + Sync>(
+/// Bytes of which nothing is run.
+const FAULTS: [&[u8]; 4] = [
+    b"",
+    b"{\"dcs\":1,\"shards\":1,\"families\":[\"f\"],\"homes\":[0],\"events\":[[\"submit\",2,{\"batch\":[]}]]}",
+    b"{\"dcs\":1,\"shards\":1,\"families\":[\"f\"],\"homes\":[0],\"events\":[[\"drain\"],[\"later\"]]}",
+    b"{\"dcs\":\"\xff\"}",
+];
+
+/// What two workers write and tell of what was opened, after the status.
+fn made<R: Threads + Wait + Sync>(
     threads: &R,
     alloc: Global,
-    script: &[u8],
-) -> Result<Vec<u8>, Fault> {
+    opened: io::Result<&[u8]>,
+) -> Result<(u8, Vec<u8>, Vec<u8>), Fault> {
     let workers = Workers::new(2).ok_or(Fault::Script)?;
-    let mut input = Input::new(String::from_str(alloc, FILE)?, Ok(script));
+    let mut input = Input::new(String::from_str(alloc, FILE)?, opened);
     let mut output = Output::new(Vec::new(alloc));
     let mut errors = Output::new(Vec::new(alloc));
     let status = perform_by_threads(
@@ -29,19 +38,30 @@ fn written<R: Threads + Wait + Sync>(
         &mut output,
         &mut errors,
     );
-    if status == 0 && errors.writer.is_empty() {
-        Ok(output.writer)
-    } else {
-        Err(Fault::Script)
-    }
+    Ok((status, output.writer, errors.writer))
+}
+
+/// Tells what is written and told of what was opened.
+fn tell_made<R: Threads + Wait + Sync>(
+    rt: &HostRuntime,
+    threads: &R,
+    opened: io::Result<&[u8]>,
+) -> Result<(), Fault> {
+    let (status, output, errors) = made(threads, rt.alloc(), opened)?;
+    let (output, errors) = (text_of(&output), text_of(&errors));
+    print!(rt; "status {status}\n{output}{errors}").map_err(|_| Fault::WriteFailed)
 }
 
 pub(crate) fn tell<R: Threads + Wait + Sync>(rt: &HostRuntime, threads: &R) -> Result<(), Fault> {
     let Ok(script) = fs::read(rt, FILE) else {
         return Err(Fault::ReadFailed);
     };
-    let bytes = written(threads, rt.alloc(), &script)?;
     print(rt, "threads_insert_and_read_back")?;
-    let text = text_of(&bytes);
-    print!(rt; "{text}").map_err(|_| Fault::WriteFailed)
+    tell_made(rt, threads, Ok(&script))?;
+    print(rt, "threads_run_nothing")?;
+    for bytes in FAULTS {
+        tell_made(rt, threads, Ok(bytes))?;
+    }
+    let missing = io::Error::from(io::ErrorKind::NotFound);
+    tell_made(rt, threads, Err(missing))
 }
