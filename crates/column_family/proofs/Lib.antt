@@ -7,3 +7,4 @@ pub mod Order
 pub mod UpTo
 pub mod Joins
 pub mod RowOrder
+pub mod Heads

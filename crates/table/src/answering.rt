@@ -29,10 +29,9 @@ pub fn each_once(alloc: Global, keys: &[Key]) -> Result<Vec<Key>, Fault>
     ensures memory { IfErr result (λ e. e ≡ Fault.Memory) }
 {
     let mut seen = BTreeSet::new(alloc);
-    let mut once = Vec::new(alloc);
+    let mut once = Vec::with_capacity(alloc, keys.len())?;
     for key in keys {
-        if !seen.contains(key) {
-            seen.insert(key.clone()?)?;
+        if seen.insert(key.clone()?)? {
             once.push(key.clone()?)?;
         }
     }

@@ -6,37 +6,36 @@ use Rattle.std.specs.BTreeSet.{contains}
 use Rattle.std.specs.Str.{bytes_eq}
 use Rattle.table.proofs.EachOnce.{each_once_old, each_once_new, seen_more, seen_same}
 use Rattle.table.proofs.answering.each_once.Goals as goal
-use Rattle.table.proofs.answering.each_once.Goals.{then-not-contains+in_ok-clone+in_ok-insert+in_ok-clone-2+in_ok-push, else-not-contains}
-
-pub loop-key-init : goal.loop-key-init
-loop-key-init c = record { taken = c.new-once.ensures.items; seen = λ k. rw (c.new-seen.ensures.empty, c.new-once.ensures.items) refl }
+use Rattle.table.proofs.answering.each_once.Goals.{then-branch+in_ok-clone-2+in_ok-push, else-branch}
 
 pub loop-key-preserved : goal.loop-key-preserved
 loop-key-preserved c =
-    let was : list_any (λ y. bytes_eq y c.key-item.result) c.loop-key.once.items ≡ c.contains.result =
-    sym (c.contains.ensures ∙ c.loop-key.invariant.seen c.key-item.result) in
-    elim c.if-not-contains.branch [
-      | then-not-contains+in_ok-clone+in_ok-insert+in_ok-clone-2+in_ok-push w ↦
-          let new : c.contains.result ≡ false = search rules in
-          let seen_copy : w.in_ok-clone.field-0 ≡ c.key-item.result = search rules in
-          let copy : w.in_ok-clone-2.field-0 ≡ c.key-item.result = search rules in
-          let pushed : c.if-not-contains.once.items ≡ c.loop-key.once.items ++ w.in_ok-clone-2.field-0 ∷ [] = ap (λ v. v.items) w.once-is ∙ w.in_ok-push.ensures.items in
+    let key = c.key-item.result in
+    let keys = c.args.keys.now in
+    let index = c.loop-key.key-index in
+    let once = c.loop-key.once.items in
+    let inv = c.loop-key.invariant in
+    let copied : c.in_ok-clone.field-0 ≡ key = search rules in
+    elim c.if-branch.branch [
+      | then-branch+in_ok-clone-2+in_ok-push w ↦
+          let absent : contains (slice_cmp nat_cmp) c.loop-key.seen key ≡ false = search rules in
+          let copied_again : w.in_ok-clone-2.field-0 ≡ key = search rules in
+          let pushed : c.if-branch.once.items ≡ once ++ w.in_ok-clone-2.field-0 ∷ [] = ap (λ v. v.items) w.once-is ∙ w.in_ok-push.ensures.items in
           record {
-            taken = each_once_new c.args.keys.now c.loop-key.once.items c.if-not-contains.once.items c.loop-key.key-index c.key-item.result w.in_ok-clone-2.field-0
-                c.loop-key-test.true c.key-item.is (was ∙ new) c.loop-key.invariant.taken copy pushed;
+            taken = each_once_new keys once c.if-branch.once.items index key w.in_ok-clone-2.field-0 c.loop-key-test.true c.key-item.is (sym (inv.seen key) ∙ absent) inv.taken copied_again pushed;
             seen = λ k.
-                seen_more c.loop-key.once.items c.if-not-contains.once.items w.in_ok-clone.field-0 w.in_ok-clone-2.field-0 k
-                (contains (slice_cmp nat_cmp) c.loop-key.seen k) (contains (slice_cmp nat_cmp) w.insert.new.self k) (contains (slice_cmp nat_cmp) c.if-not-contains.seen k)
-                (ap (λ s. contains (slice_cmp nat_cmp) s k) w.seen-is) (w.in_ok-insert.ensures.updates.0 k) (seen_copy ∙ sym copy) pushed (c.loop-key.invariant.seen k);
+                seen_more once c.if-branch.once.items c.in_ok-clone.field-0 w.in_ok-clone-2.field-0 k
+                (contains (slice_cmp nat_cmp) c.loop-key.seen k) (contains (slice_cmp nat_cmp) c.insert.new.self k) (contains (slice_cmp nat_cmp) c.insert.new.self k)
+                refl (c.in_ok-insert.ensures.updates.0 k) (copied ∙ sym copied_again) pushed (inv.seen k);
           }
-      | else-not-contains w ↦
-          let old : c.contains.result ≡ true = search rules in
-          let kept : c.if-not-contains.once.items ≡ c.loop-key.once.items = ap (λ v. v.items) w.once-is in
+      | else-branch w ↦
+          let present : contains (slice_cmp nat_cmp) c.loop-key.seen key ≡ true = search rules in
+          let kept : c.if-branch.once.items ≡ once = ap (λ v. v.items) w.once-is in
+          let same : c.insert.new.self.keys ≡ c.loop-key.seen.keys = search rules in
           record {
-            taken = each_once_old c.args.keys.now c.loop-key.once.items c.if-not-contains.once.items c.loop-key.key-index c.key-item.result
-                c.loop-key-test.true c.key-item.is (was ∙ old) c.loop-key.invariant.taken kept;
+            taken = each_once_old keys once c.if-branch.once.items index key c.loop-key-test.true c.key-item.is (sym (inv.seen key) ∙ present) inv.taken kept;
             seen = λ k.
-                seen_same c.loop-key.once.items c.if-not-contains.once.items k (contains (slice_cmp nat_cmp) c.loop-key.seen k) (contains (slice_cmp nat_cmp) c.if-not-contains.seen k)
-                (ap (λ s. contains (slice_cmp nat_cmp) s k) w.seen-is) kept (c.loop-key.invariant.seen k);
+                seen_same once c.if-branch.once.items k (contains (slice_cmp nat_cmp) c.loop-key.seen k) (contains (slice_cmp nat_cmp) c.insert.new.self k)
+                (ap (λ ks. contains (slice_cmp nat_cmp) (record { keys = ks }) k) same) kept (inv.seen k);
           }
     ]

@@ -1,0 +1,14 @@
+-- How the first bytes of a text order it.
+use Rattle.std.specs.Prelude.{ℕ, ◌+◌, ◌*◌, ◌^◌, ◌<◌, suc, zero, List, [], ◌∷◌}
+
+-- the first n bytes as one number, of which the first weighs most; one that isn't there counts 0
+unfoldable pub head_of : ℕ → List ℕ → ℕ
+head_of zero bytes = 0
+head_of (suc n) [] = 0
+head_of (suc n) (b ∷ bytes) = b * 256 ^ n + head_of n bytes
+
+-- the first n numbers are bytes
+unfoldable pub StartsWithBytes : ℕ → List ℕ → Type 0
+StartsWithBytes zero bytes = Unit {0}
+StartsWithBytes (suc n) [] = Unit {0}
+StartsWithBytes (suc n) (b ∷ bytes) = (b < 256) × StartsWithBytes n bytes
