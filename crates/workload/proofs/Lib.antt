@@ -1,4 +1,5 @@
 pub mod Lists
+pub mod Wholes
 pub mod Told
 pub mod Refused
 pub mod Shown

@@ -9,9 +9,9 @@ use crate::script::{Event, Script};
 use crate::simulating::{play, simulate};
 use crate::text::transcript_text;
 use crate::transcript::Transcript;
+use json::{Scratch, Value as Json};
 use logical_time::Fault;
 use program::{Input, Line, Output, tell};
-use serde_json::Value as Json;
 use std::alloc::Global;
 use std::fmt::Display;
 use std::io::{Read, Write};
@@ -106,8 +106,9 @@ pub fn explain(alloc: Global, input: &[u8], fault: Fault) -> Option<String> {
             return format!(in alloc; "not UTF-8 at byte {byte}").ok();
         }
     };
-    match Json::from_str(alloc, text) {
-        Err(error) => format!(in alloc; "{error}").ok(),
+    let mut scratch = Scratch::new(alloc);
+    match Json::parse(alloc, text, &mut scratch) {
+        Err(_) => explaining::explain_text(alloc, text),
         Ok(json) => match read_script(alloc, text) {
             Ok(script) => explain_end(alloc, &script),
             Err(_) => explaining::explain(alloc, &json),

@@ -14,8 +14,7 @@ fn add_hex(text: &mut Vec<u8>, bytes: &[u8]) -> Result<(), AllocError>
     ensures { OnOk result (text.new.items ≡ text.old.items ++ encode_lower bytes.now) }
 {
     let start = text.len();
-    text.extend_from_slice(bytes)?;
-    text.extend_from_slice(bytes)?;
+    text.resize(start.saturating_add(2 * bytes.len()), 0)?;
     hex::encode_to_slice(bytes, &mut text.as_mut_slice()[start..]).unwrap();
     Ok(())
 }

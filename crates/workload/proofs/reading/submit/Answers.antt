@@ -1,5 +1,4 @@
-use Rattle.std.proofs.lemmas.Grind.{common_steps}
-use Rattle.std.proofs.Common.{arith, rules}
+use Rattle.std.proofs.Common.{rules}
 use Rattle.workload.proofs.reading.submit.Goals as goal
 
 pub session_node-requires : goal.session_node-requires
