@@ -10,6 +10,7 @@ mod newest;
 mod normalizing;
 mod schema;
 mod shared_bytes;
+mod stored;
 
 pub use batch::{Batch, Change, Committed, Mutation, Row};
 pub use byte_strings::{Family, Key, Name, Value};

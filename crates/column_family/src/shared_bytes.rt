@@ -6,14 +6,11 @@ ghost use Rattle.std.specs.Cmp.{partial_equiv_from_equiv};
 ghost use Rattle.column_family.specs.Heads as heads;
 ghost use Rattle.column_family.specs.Heads.{StartsWithBytes};
 
-use smallvec::SmallVec;
+use crate::stored::Stored;
 use std::alloc::{AllocError, Global};
 use std::cmp::Ordering;
 use std::marker::Model;
 use std::sync::Arc;
-
-/// How many bytes stand beside their count; more have an allocation of their own.
-const BESIDE: usize = 24;
 
 /// How many bytes a head has.
 const HEAD: usize = 8;
@@ -22,7 +19,7 @@ const HEAD: usize = 8;
 #[derive(Drop)]
 struct Headed {
     head: u64,
-    bytes: SmallVec<u8, BESIDE>,
+    bytes: Stored,
 }
 
 // The byte at a place, and 0 where none is there.
@@ -58,12 +55,13 @@ pub(crate) struct SharedBytes(Arc<Headed>);
 impl Model for SharedBytes {
     ghost use Rattle.std.specs.Prelude.{List, ℕ, ◌≡◌};
     ghost use Rattle.column_family.specs.Heads.{head_of, StartsWithBytes};
+    ghost use Rattle.column_family.specs.Stored.{bytes_of};
 
     ghost Value = { List ℕ };
 
-    ghost view = { λ bytes. bytes.0.value.bytes.items };
+    ghost view = { λ bytes. bytes_of bytes.0.value.bytes };
 
-    ghost invariant = { λ bytes. (bytes.0.value.head ≡ head_of 8 bytes.0.value.bytes.items) × StartsWithBytes 8 bytes.0.value.bytes.items };
+    ghost invariant = { λ bytes. (bytes.0.value.head ≡ head_of 8 (bytes_of bytes.0.value.bytes)) × StartsWithBytes 8 (bytes_of bytes.0.value.bytes) };
 }
 
 impl SharedBytes {
@@ -73,7 +71,7 @@ impl SharedBytes {
     {
         let headed = Headed {
             head: head_of(bytes),
-            bytes: SmallVec::from_slice(alloc, bytes)?,
+            bytes: Stored::from_slice(alloc, bytes)?,
         };
         Ok(SharedBytes(Arc::new(alloc, headed)?))
     }

@@ -89,7 +89,7 @@ fn rows_at(
     ensures ok { (a : ShardState) → Keeps store.now a.applied → MayCome (option_copied coming.entry) a.applied → IfOk result (λ rows. rows.items ≡ map (row_at time (after (option_copied coming.entry) a) read.now) read.now.keys) }
     ensures memory { IfErr result (λ e. e ≡ fault.Memory) }
 {
-    let mut rows = Vec::new(alloc);
+    let mut rows = Vec::with_capacity(alloc, read.keys.as_slice().len())?;
     for key in read.keys.as_slice() {
         rows.push(one_at(store, coming, time, read, key)?)?;
     }

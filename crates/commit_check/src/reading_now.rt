@@ -77,7 +77,7 @@ pub fn rows_now(
     ensures ok { (a : ShardState) → Keeps store.now a.applied → AreMarksOf marks.now a → AreOnce (λ p. p.txn) a.prepared → IfOk result (λ rows. rows ≡ map (row_now clock a read.now) read.now.keys) }
     ensures memory { IfErr result (λ e. e ≡ fault.Memory) }
 {
-    let mut rows = Vec::new(alloc);
+    let mut rows = Vec::with_capacity(alloc, read.keys.as_slice().len())?;
     for key in read.keys.as_slice() {
         rows.push(one_now(store, marks, clock, read, key)?)?;
     }

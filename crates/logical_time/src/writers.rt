@@ -38,6 +38,8 @@ impl Writers {
     {
         writers.sort()?;
         writers.dedup();
+        // a list is kept as long as the answer that it came with
+        writers.shrink_to_fit();
         Ok(Writers { writers })
     }
 

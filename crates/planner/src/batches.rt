@@ -35,13 +35,15 @@ fn part_of(alloc: Global, changes: &[Change], shard: Shard, shards: Shards) -> R
     ensures exact { IfOk result (λ part. part ≡ plans.part_for shards changes.now shard) }
     ensures memory { IfErr result (λ e. e ≡ Fault.Memory) }
 {
-    let mut part = Batch::new(alloc);
+    let mut part = Vec::new(alloc);
     for change in changes {
         if shard_of(&change.row.key, shards) == shard {
             part.push(change.copied()?)?;
         }
     }
-    Ok(part)
+    // a part is kept as long as the message that brings it
+    part.shrink_to_fit();
+    Ok(Batch::from_changes(part))
 }
 
 /// Whether the batch touches a row of the shard.
