@@ -17,3 +17,4 @@ pub mod Added
 pub mod Early
 pub mod Listed
 pub mod StepMarks
+pub mod Unready

@@ -36,7 +36,7 @@ impl Model for Ledger {
 impl Ledger {
     ghost use Rattle.write_txn.specs.declared.open.Open.{Open};
     ghost use Rattle.write_txn.specs.Ledger as ledger;
-    ghost use Rattle.write_txn.specs.Ledger.{state_of, txn_of, Holds, IsDecided, Becomes, HaveSameStates, state_prepared, state_applied, part_in, state_voted, completed_by, state_with, state_ready, readied_by};
+    ghost use Rattle.write_txn.specs.Ledger.{state_of, txn_of, Holds, IsDecided, Becomes, HaveSameStates, state_prepared, state_applied, part_in, state_voted, completed_by, state_with, state_ready, readied_by, lacks_nothing};
 
     /// Nothing is known.
     pub fn new(alloc: Global) -> Ledger
@@ -142,13 +142,28 @@ impl Ledger {
         count_in(&self.statuses, &mut self.under_way, txn, missing);
     }
 
+    /// Whether a ballot of the transaction waits of which nothing is missing.
+    fn is_ready(&self, txn: TxnId) -> bool
+        ensures { result ≡ lacks_nothing (state_of self.now txn) }
+    {
+        match self.open(txn) {
+            Some(Open::Remote(remote)) => remote.ballot.missing() == 0,
+            _ => false,
+        }
+    }
+
     /// Prepares the shard's own part at this time, if a ballot of the transaction waits of which nothing is missing: its
-    /// cohorts are to vote, or it is decided at this time if it has none. Takes no memory.
+    /// cohorts are to vote, or it is decided at this time if it has none. Takes no memory. Nothing moves while something
+    /// is missing.
+    #[tactic(auto, using(crate::proofs::Unready::unready_stays, crate::proofs::Unready::none_complete))]
     pub fn ready(&mut self, txn: TxnId, time: Time) -> Option<Complete>
         ensures complete { result ≡ readied_by time (state_of self.old txn) }
         ensures own { IfSome result (λ complete. complete.own.part.writer.txn ≡ txn) }
         ensures ready { Becomes txn (state_ready time (state_of self.old txn)) self.old self.new }
     {
+        if !self.is_ready(txn) {
+            return None;
+        }
         ready_in(&mut self.statuses, &mut self.under_way, txn, time)
     }
 

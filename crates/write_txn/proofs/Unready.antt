@@ -1,0 +1,41 @@
+-- A ballot of which something is missing isn't made ready: what is known of its transaction stays.
+use Rattle.std.proofs.Common.{◌≡◌, refl, ap, sym, subst, ◌∙◌, ℕ, Bool, true, false, ◌==◌, Option, Some, None}
+use Rattle.std.specs.Prelude.{if◌then◌else◌}
+use Rattle.std.specs.Ordering.{is_eq}
+use Rattle.logical_time.specs.Stamps.{TxnValue, txn_cmp}
+use Rattle.txn_state.specs.Ready.{ready_at}
+use Rattle.txn_state.specs.RemoteBallot.{missing_in}
+use Rattle.write_txn.specs.declared.open.Open.TheVariants as in_open
+use Rattle.write_txn.specs.Ledger.{LedgerValue, State, Holds, IsApplied, IsDecided, state_of, state_ready, readied_by, remote_after, ready_complete, lacks_nothing, Becomes}
+use Rattle.write_txn.proofs.Txns.{by_txn}
+
+unready_state : (time : ℕ) (s : Option State) → lacks_nothing s ≡ false → state_ready time s ≡ s
+unready_state time None waits = refl
+unready_state time (Some IsApplied) waits = refl
+unready_state time (Some (IsDecided commit stamp)) waits = refl
+unready_state time (Some (Holds (in_open.Kept k))) waits = refl
+unready_state time (Some (Holds (in_open.Part p))) waits = refl
+unready_state time (Some (Holds (in_open.Led l))) waits = refl
+unready_state time (Some (Holds (in_open.Remote r))) waits =
+    ap (λ (b : Bool). Some (if b then remote_after r time (ready_at r.ballot time) else Holds (in_open.Remote r))) waits
+
+-- nothing is complete
+pub none_complete : (time : ℕ) (s : Option State) → lacks_nothing s ≡ false → readied_by time s ≡ None
+none_complete time None waits = refl
+none_complete time (Some IsApplied) waits = refl
+none_complete time (Some (IsDecided commit stamp)) waits = refl
+none_complete time (Some (Holds (in_open.Kept k))) waits = refl
+none_complete time (Some (Holds (in_open.Part p))) waits = refl
+none_complete time (Some (Holds (in_open.Led l))) waits = refl
+none_complete time (Some (Holds (in_open.Remote r))) waits =
+    ap (λ (b : Bool). if b then ready_complete (ready_at r.ballot time) else None) waits
+
+stays : (s : Option State) (t : TxnValue) (l : LedgerValue) → s ≡ state_of l t → Becomes t s l l
+stays s t l same u =
+    by_txn t u
+    (λ is e. sym (ap (λ (b : Bool). if b then s else state_of l u) e ∙ same ∙ ap (λ (v : TxnValue). state_of l v) is))
+    (λ e. sym (ap (λ (b : Bool). if b then s else state_of l u) e))
+
+-- and the ledger stays as it is
+pub unready_stays : (time : ℕ) (t : TxnValue) (l : LedgerValue) → lacks_nothing (state_of l t) ≡ false → Becomes t (state_ready time (state_of l t)) l l
+unready_stays time t l waits = stays (state_ready time (state_of l t)) t l (unready_state time (state_of l t) waits)
