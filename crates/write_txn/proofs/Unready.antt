@@ -1,10 +1,8 @@
 -- A ballot of which something is missing isn't made ready: what is known of its transaction stays.
-use Rattle.std.proofs.Common.{◌≡◌, refl, ap, sym, subst, ◌∙◌, ℕ, Bool, true, false, ◌==◌, Option, Some, None}
+use Rattle.std.proofs.Common.{◌≡◌, refl, ap, sym, ◌∙◌, ℕ, Bool, false, Option, Some, None}
 use Rattle.std.specs.Prelude.{if◌then◌else◌}
-use Rattle.std.specs.Ordering.{is_eq}
-use Rattle.logical_time.specs.Stamps.{TxnValue, txn_cmp}
+use Rattle.logical_time.specs.Stamps.{TxnValue}
 use Rattle.txn_state.specs.Ready.{ready_at}
-use Rattle.txn_state.specs.RemoteBallot.{missing_in}
 use Rattle.write_txn.specs.declared.open.Open.TheVariants as in_open
 use Rattle.write_txn.specs.Ledger.{LedgerValue, State, Holds, IsApplied, IsDecided, state_of, state_ready, readied_by, remote_after, ready_complete, lacks_nothing, Becomes}
 use Rattle.write_txn.proofs.Txns.{by_txn}
