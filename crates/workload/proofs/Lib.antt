@@ -1,5 +1,6 @@
 pub mod Lists
 pub mod Wholes
+pub mod Streams
 pub mod Told
 pub mod Refused
 pub mod Shown

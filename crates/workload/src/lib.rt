@@ -10,6 +10,7 @@ mod reading;
 mod script;
 mod shape;
 mod simulating;
+mod streaming;
 mod text;
 mod transcript;
 mod wrong;

@@ -59,7 +59,7 @@ pub fn sim(alloc: Global, input: &[u8]) -> Result<Vec<u8>, Fault>
     ensures text { IfOk result (λ text. IsTextFor input.now text.items) }
     ensures refused { IfErr result (IsRefused input.now) }
 {
-    let Ok(text) = str::from_utf8(input) else {
+    let Ok(text) = simdutf8::compat::from_utf8(input) else {
         return Err(Fault::Script);
     };
     let script = read_script(alloc, text)?;

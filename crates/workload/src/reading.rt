@@ -12,15 +12,16 @@ use crate::shape::{
     Shaped, has_items, has_members, list, list_of, member, member_as, members_named, number_at,
     part_at, text_at, whole, whole_below,
 };
+use crate::streaming::{self, streamed};
 use column_family::{Batch, Change, Family, Key, Mutation, Name, Row, Schema, Value};
-use json::{Error, Scratch, Value as Json};
+use json::{Error, Reader, Scratch, Value as Json};
 use logical_time::{Fault, Node, Time};
 use messages::{Op, Topology};
 use slice::{Keys, Names, Predicate, Read};
 use std::alloc::Global;
 
 /// How many events a script may have.
-const MOST_EVENTS: usize = 100_000;
+pub(crate) const MOST_EVENTS: usize = 100_000;
 /// How many columns a range asks for where it doesn't say it.
 const USUAL_COUNT: u32 = 100;
 /// The first number that is no count of a range: 2^32.
@@ -35,6 +36,15 @@ impl Shaped for Family {
         let text = json.as_str().ok_or(Fault::Script)?;
         Ok(Family::from_slice(alloc, text.as_bytes())?)
     }
+
+    #[tactic(auto, using(crate::proofs::Streams::text_reads))]
+    fn of_reader(alloc: Global, reader: &mut Reader<'_>, depth: usize) -> Option<Family> {
+        let text = streaming::text(reader)?;
+        match Family::from_slice(alloc, text.as_bytes()) {
+            Ok(made) => Some(made),
+            Err(_) => None,
+        }
+    }
 }
 
 impl Shaped for Key {
@@ -43,6 +53,15 @@ impl Shaped for Key {
     fn of_json(alloc: Global, json: &Json<'_>) -> Result<Key, Fault> {
         let text = json.as_str().ok_or(Fault::Script)?;
         Ok(Key::from_slice(alloc, text.as_bytes())?)
+    }
+
+    #[tactic(auto, using(crate::proofs::Streams::text_reads))]
+    fn of_reader(alloc: Global, reader: &mut Reader<'_>, depth: usize) -> Option<Key> {
+        let text = streaming::text(reader)?;
+        match Key::from_slice(alloc, text.as_bytes()) {
+            Ok(made) => Some(made),
+            Err(_) => None,
+        }
     }
 }
 
@@ -53,6 +72,15 @@ impl Shaped for Name {
         let text = json.as_str().ok_or(Fault::Script)?;
         Ok(Name::from_slice(alloc, text.as_bytes())?)
     }
+
+    #[tactic(auto, using(crate::proofs::Streams::text_reads))]
+    fn of_reader(alloc: Global, reader: &mut Reader<'_>, depth: usize) -> Option<Name> {
+        let text = streaming::text(reader)?;
+        match Name::from_slice(alloc, text.as_bytes()) {
+            Ok(made) => Some(made),
+            Err(_) => None,
+        }
+    }
 }
 
 impl Shaped for Value {
@@ -62,6 +90,15 @@ impl Shaped for Value {
         let text = json.as_str().ok_or(Fault::Script)?;
         Ok(Value::from_slice(alloc, text.as_bytes())?)
     }
+
+    #[tactic(auto, using(crate::proofs::Streams::text_reads))]
+    fn of_reader(alloc: Global, reader: &mut Reader<'_>, depth: usize) -> Option<Value> {
+        let text = streaming::text(reader)?;
+        match Value::from_slice(alloc, text.as_bytes()) {
+            Ok(made) => Some(made),
+            Err(_) => None,
+        }
+    }
 }
 
 impl Shaped for Keys {
@@ -70,6 +107,10 @@ impl Shaped for Keys {
     fn of_json(alloc: Global, json: &Json<'_>) -> Result<Keys, Fault> {
         Ok(Keys::from_vec(list_of(alloc, json)?))
     }
+
+    fn of_reader(alloc: Global, reader: &mut Reader<'_>, depth: usize) -> Option<Keys> {
+        Some(Keys::from_vec(streaming::list_in(alloc, reader, depth)?))
+    }
 }
 
 impl Shaped for Mutation {
@@ -77,6 +118,10 @@ impl Shaped for Mutation {
 
     fn of_json(alloc: Global, json: &Json<'_>) -> Result<Mutation, Fault> {
         mutation(alloc, json)
+    }
+
+    fn of_reader(alloc: Global, reader: &mut Reader<'_>, depth: usize) -> Option<Mutation> {
+        streaming::mutation(alloc, reader, depth)
     }
 }
 
@@ -94,6 +139,10 @@ impl Shaped for Op {
     fn of_json(alloc: Global, json: &Json<'_>) -> Result<Op, Fault> {
         op(alloc, json)
     }
+
+    fn of_reader(alloc: Global, reader: &mut Reader<'_>, depth: usize) -> Option<Op> {
+        streaming::op(alloc, reader, depth)
+    }
 }
 
 impl Shaped for Change {
@@ -101,6 +150,10 @@ impl Shaped for Change {
 
     fn of_json(alloc: Global, json: &Json<'_>) -> Result<Change, Fault> {
         change(alloc, json)
+    }
+
+    fn of_reader(alloc: Global, reader: &mut Reader<'_>, depth: usize) -> Option<Change> {
+        streaming::change(alloc, reader, depth)
     }
 }
 
@@ -443,7 +496,7 @@ fn homes(alloc: Global, json: &Json<'_>) -> Result<Vec<u16>, Fault>
 }
 
 #[tactic(auto, unfolding(crate::specs::Script::topology_of))]
-fn topology(alloc: Global, json: &Json<'_>) -> Result<Topology, Fault>
+pub(crate) fn topology(alloc: Global, json: &Json<'_>) -> Result<Topology, Fault>
     ensures { Gives result (form.topology_of (value_view json.now)) }
 {
     let dcs = member_as(alloc, json, "dcs")?;
@@ -481,6 +534,9 @@ fn parsed<'a>(alloc: Global, text: &'a str, scratch: &'a mut Scratch) -> Result<
 pub fn read_script(alloc: Global, text: &str) -> Result<Script, Fault>
     ensures { Gives result (option_and_then form.script_of (document text.now)) }
 {
+    if let Some(script) = streamed(alloc, text) {
+        return Ok(script);
+    }
     let mut scratch = Scratch::new(alloc);
     let json = parsed(alloc, text, &mut scratch)?;
     script(alloc, &json)

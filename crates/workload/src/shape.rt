@@ -1,12 +1,13 @@
 //! Shapes of JSON values, and lists of them item by item.
-ghost use Rattle.std.specs.Prelude.{◌≡◌, ◌≤◌, Option, option_map, map};
+ghost use Rattle.std.specs.Prelude.{◌≡◌, ◌≤◌, Option, option_map, map, IfSome};
 ghost use Rattle.json.specs.Json as spec;
 ghost use Rattle.json.specs.Find.{get, at, as_object, as_array};
 ghost use Rattle.json.specs.Value.{value_view, items_view};
 ghost use Rattle.workload.specs.Gives.{Gives, GivesSeen};
 ghost use Rattle.workload.specs.Shape as shape;
+ghost use Rattle.workload.specs.Streams.{Reads};
 
-use json::Value;
+use json::{Reader, Value};
 use logical_time::Fault;
 use std::alloc::Global;
 
@@ -17,6 +18,15 @@ pub trait Shaped: Drop + Sized {
     /// The value that the JSON value stands for; `Script` where there is none.
     fn of_json(alloc: Global, json: &Value<'_>) -> Result<Self, Fault>
         ensures { Gives result (stands_for (value_view json.now)) };
+
+    /// What the next value of the reader stands for, if it stands for something and memory is there. Lists and objects may
+    /// nest `depth` deep.
+    fn of_reader(alloc: Global, reader: &mut Reader<'_>, depth: usize) -> Option<Self>
+        ensures { IfSome result (Reads stands_for depth reader.old reader.new) }
+    {
+        let json = Value::read(alloc, reader, depth).ok()?;
+        Self::of_json(alloc, &json).ok()
+    }
 }
 
 /// What each item stands for, in order; `Script` where one stands for nothing.

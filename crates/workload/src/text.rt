@@ -9,14 +9,30 @@ use logical_time::{Fault, Node, Stamp, Time};
 use slice::{Answer, AnsweredRow, Column};
 use std::alloc::{AllocError, Global};
 
-// Bytes in hexadecimal: two digits for each, which take the place of as many bytes.
-fn add_hex(text: &mut Vec<u8>, bytes: &[u8]) -> Result<(), AllocError>
+/// How many bytes are few: their digits are put together before they go into the text.
+const FEW: usize = 32;
+
+// Many bytes in hexadecimal: two digits for each, which take the place of as many bytes.
+fn add_long_hex(text: &mut Vec<u8>, bytes: &[u8]) -> Result<(), AllocError>
     ensures { OnOk result (text.new.items ≡ text.old.items ++ encode_lower bytes.now) }
 {
     let start = text.len();
     text.resize(start.saturating_add(2 * bytes.len()), 0)?;
     hex::encode_to_slice(bytes, &mut text.as_mut_slice()[start..]).unwrap();
     Ok(())
+}
+
+// Bytes in hexadecimal.
+fn add_hex(text: &mut Vec<u8>, bytes: &[u8]) -> Result<(), AllocError>
+    ensures { OnOk result (text.new.items ≡ text.old.items ++ encode_lower bytes.now) }
+{
+    if bytes.len() > FEW {
+        return add_long_hex(text, bytes);
+    }
+    let mut digits = [0; 2 * FEW];
+    let shown = &mut digits[..2 * bytes.len()];
+    hex::encode_to_slice(bytes, shown).unwrap();
+    text.extend_from_slice(shown)
 }
 
 // ` NAME=VALUE`.

@@ -1,0 +1,382 @@
+//! Scripts read token by token, so that no value of JSON is made of what is long.
+//!
+//! Here only what stands for a script is told: `reading` tells which texts stand for none.
+ghost use Rattle.std.specs.Prelude.{◌≡◌, ◌∷◌, [], Some, true, IfSome, codes, option_and_then};
+ghost use Rattle.json.specs.Token as spec;
+ghost use Rattle.json.specs.Json.{Json as SpecJson, document, object, member, no_members};
+ghost use Rattle.json.specs.Value.{value_view};
+ghost use Rattle.workload.specs.Shape.{list_by, has_members as form_members, whole_below as below};
+ghost use Rattle.workload.specs.Script as form;
+ghost use Rattle.workload.specs.Streams.{Reads, ReadsRest, BeginWith, IsHeader};
+
+use crate::reading::{MOST_EVENTS, topology};
+use crate::script::{Event, Events, Script};
+use crate::shape::{Shaped, has_members, whole_below};
+use column_family::{Batch, Change, Family, Key, Mutation, Name, Row, Value};
+use json::{MAX_DEPTH, Reader, Scratch, Token, Value as Json};
+use logical_time::{Node, Time};
+use messages::{Op, Topology};
+use slice::{Keys, Predicate, Read};
+use std::alloc::Global;
+
+/// Whether a list begins.
+fn opens(reader: &mut Reader<'_>) -> bool
+    ensures { result ≡ true → reader.old ≡ spec.begin_array ∷ reader.new }
+{
+    matches!(reader.next(), Some(Token::BeginArray))
+}
+
+/// Whether an object begins.
+fn opens_object(reader: &mut Reader<'_>) -> bool
+    ensures { result ≡ true → reader.old ≡ spec.begin_object ∷ reader.new }
+{
+    matches!(reader.next(), Some(Token::BeginObject))
+}
+
+/// The text that comes next.
+pub(crate) fn text<'a>(reader: &mut Reader<'a>) -> Option<&'a str>
+    ensures { IfSome result (λ text. reader.old ≡ spec.string text.now ∷ reader.new) }
+{
+    match reader.next() {
+        Some(Token::String(text)) => Some(text),
+        _ => None,
+    }
+}
+
+/// What the items of the list that comes next stand for.
+pub(crate) fn list_in<T: Shaped>(
+    alloc: Global,
+    reader: &mut Reader<'_>,
+    depth: usize,
+) -> Option<Vec<T>>
+    ensures { IfSome result (λ v. Reads (list_by T.stands_for) depth reader.old reader.new v.items) }
+{
+    if depth == 0 || !opens(reader) {
+        return None;
+    }
+    let mut all = Vec::new(alloc);
+    while !reader.take_end_array() {
+        let item = T::of_reader(alloc, reader, depth - 1)?;
+        all.push(item).ok()?;
+    }
+    Some(all)
+}
+
+/// A name and a value, and the end of the list.
+fn insert(alloc: Global, reader: &mut Reader<'_>, depth: usize) -> Option<Mutation>
+    ensures { IfSome result (ReadsRest form.insert_of depth reader.old reader.new) }
+{
+    let name = Name::of_reader(alloc, reader, depth)?;
+    let value = Value::of_reader(alloc, reader, depth)?;
+    if !reader.take_end_array() {
+        return None;
+    }
+    Some(Mutation::Insert { name, value })
+}
+
+/// A name, and the end of the list.
+fn delete(alloc: Global, reader: &mut Reader<'_>, depth: usize) -> Option<Mutation>
+    ensures { IfSome result (ReadsRest form.delete_of depth reader.old reader.new) }
+{
+    let name = Name::of_reader(alloc, reader, depth)?;
+    if !reader.take_end_array() {
+        return None;
+    }
+    Some(Mutation::DeleteColumn { name })
+}
+
+/// The end of the list.
+fn delete_row(reader: &mut Reader<'_>, depth: usize) -> Option<Mutation>
+    ensures { IfSome result (ReadsRest form.delete_row_of depth reader.old reader.new) }
+{
+    if !reader.take_end_array() {
+        return None;
+    }
+    Some(Mutation::DeleteRow)
+}
+
+/// Two ends, and the end of the list.
+fn delete_range(alloc: Global, reader: &mut Reader<'_>, depth: usize) -> Option<Mutation>
+    ensures { IfSome result (ReadsRest form.delete_range_of depth reader.old reader.new) }
+{
+    let start = Name::of_reader(alloc, reader, depth)?;
+    let finish = Name::of_reader(alloc, reader, depth)?;
+    if !reader.take_end_array() {
+        return None;
+    }
+    Some(Mutation::DeleteRange { start, finish })
+}
+
+/// The mutation that comes next.
+pub(crate) fn mutation(alloc: Global, reader: &mut Reader<'_>, depth: usize) -> Option<Mutation>
+    ensures { IfSome result (Reads form.mutation_of depth reader.old reader.new) }
+{
+    if depth == 0 || !opens(reader) {
+        return None;
+    }
+    let tag = text(reader)?;
+    if tag == "insert" {
+        insert(alloc, reader, depth - 1)
+    } else if tag == "delete" {
+        delete(alloc, reader, depth - 1)
+    } else if tag == "delete_row" {
+        delete_row(reader, depth - 1)
+    } else if tag == "delete_range" {
+        delete_range(alloc, reader, depth - 1)
+    } else {
+        None
+    }
+}
+
+/// The change that comes next.
+pub(crate) fn change(alloc: Global, reader: &mut Reader<'_>, depth: usize) -> Option<Change>
+    ensures { IfSome result (Reads form.change_of depth reader.old reader.new) }
+{
+    if depth == 0 || !opens(reader) {
+        return None;
+    }
+    let family = Family::of_reader(alloc, reader, depth - 1)?;
+    let key = Key::of_reader(alloc, reader, depth - 1)?;
+    let mutation = Mutation::of_reader(alloc, reader, depth - 1)?;
+    if !reader.take_end_array() {
+        return None;
+    }
+    Some(Change {
+        row: Row { family, key },
+        mutation,
+    })
+}
+
+/// The read that comes next.
+fn read(alloc: Global, reader: &mut Reader<'_>, depth: usize) -> Option<Op>
+    ensures { IfSome result (Reads form.read_of depth reader.old reader.new) }
+{
+    if depth == 0 || !opens(reader) {
+        return None;
+    }
+    let family = Family::of_reader(alloc, reader, depth - 1)?;
+    let keys = Keys::of_reader(alloc, reader, depth - 1)?;
+    let predicate = Predicate::of_reader(alloc, reader, depth - 1)?;
+    if !reader.take_end_array() {
+        return None;
+    }
+    Some(Op::Read(Read {
+        family,
+        keys,
+        predicate,
+    }))
+}
+
+/// The operation that stands under this name and comes next.
+fn op_under(alloc: Global, name: &str, reader: &mut Reader<'_>, depth: usize) -> Option<Op>
+    ensures { IfSome result (Reads (λ j. form.op_of (object (member name.now j no_members))) depth reader.old reader.new) }
+{
+    if name == "batch" {
+        let changes = list_in(alloc, reader, depth)?;
+        Some(Op::Batch(Batch::from_changes(changes)))
+    } else if name == "read" {
+        read(alloc, reader, depth)
+    } else {
+        None
+    }
+}
+
+/// The operation that comes next.
+pub(crate) fn op(alloc: Global, reader: &mut Reader<'_>, depth: usize) -> Option<Op>
+    ensures { IfSome result (Reads form.op_of depth reader.old reader.new) }
+{
+    if depth == 0 || !opens_object(reader) {
+        return None;
+    }
+    let Ok(Some(name)) = reader.next_key() else {
+        return None;
+    };
+    let op = op_under(alloc, name, reader, depth - 1)?;
+    match reader.next_key() {
+        Ok(None) => Some(op),
+        _ => None,
+    }
+}
+
+/// The whole number below an end that comes next.
+fn number_below(alloc: Global, reader: &mut Reader<'_>, depth: usize, end: u64) -> Option<u64>
+    ensures { IfSome result (Reads (below end) depth reader.old reader.new) }
+{
+    let json = Json::read(alloc, reader, depth).ok()?;
+    whole_below(&json, end).ok()
+}
+
+/// A session and an operation, and the end of the list.
+fn submit(
+    alloc: Global,
+    topology: &Topology,
+    reader: &mut Reader<'_>,
+    depth: usize,
+) -> Option<Event>
+    ensures { IfSome result (ReadsRest (form.submit_of topology.now) depth reader.old reader.new) }
+{
+    let end = topology.homes().len() as u64;
+    let session = number_below(alloc, reader, depth, end)? as u16;
+    let op = op(alloc, reader, depth)?;
+    if !reader.take_end_array() {
+        return None;
+    }
+    Some(Event::Submit {
+        session: topology.session_node(session),
+        op,
+    })
+}
+
+/// The number of a message, and the end of the list.
+fn deliver(alloc: Global, reader: &mut Reader<'_>, depth: usize) -> Option<Event>
+    ensures { IfSome result (ReadsRest form.deliver_of depth reader.old reader.new) }
+{
+    let number = usize::of_reader(alloc, reader, depth)?;
+    if !reader.take_end_array() {
+        return None;
+    }
+    Some(Event::Deliver { number })
+}
+
+/// A shard and a time, and the end of the list.
+fn collect(
+    alloc: Global,
+    topology: &Topology,
+    reader: &mut Reader<'_>,
+    depth: usize,
+) -> Option<Event>
+    ensures { IfSome result (ReadsRest (form.collect_of topology.now) depth reader.old reader.new) }
+{
+    let end = u64::from(topology.shard_count());
+    let shard = number_below(alloc, reader, depth, end)? as u16;
+    let time = Time::of_reader(alloc, reader, depth)?;
+    if !reader.take_end_array() {
+        return None;
+    }
+    Some(Event::Collect {
+        shard: Node::new(shard),
+        time,
+    })
+}
+
+/// The end of the list.
+fn drain(reader: &mut Reader<'_>, depth: usize) -> Option<Event>
+    ensures { IfSome result (ReadsRest form.drain_of depth reader.old reader.new) }
+{
+    if !reader.take_end_array() {
+        return None;
+    }
+    Some(Event::Drain)
+}
+
+/// The event that comes next.
+fn event(alloc: Global, topology: &Topology, reader: &mut Reader<'_>, depth: usize) -> Option<Event>
+    ensures { IfSome result (Reads (form.event_of topology.now) depth reader.old reader.new) }
+{
+    if depth == 0 || !opens(reader) {
+        return None;
+    }
+    let tag = text(reader)?;
+    if tag == "submit" {
+        submit(alloc, topology, reader, depth - 1)
+    } else if tag == "deliver" {
+        deliver(alloc, reader, depth - 1)
+    } else if tag == "collect" {
+        collect(alloc, topology, reader, depth - 1)
+    } else if tag == "drain" {
+        drain(reader, depth - 1)
+    } else {
+        None
+    }
+}
+
+/// The events of the list that comes next.
+fn events(
+    alloc: Global,
+    topology: &Topology,
+    reader: &mut Reader<'_>,
+    depth: usize,
+) -> Option<Vec<Event>>
+    ensures { IfSome result (λ v. Reads (list_by (form.event_of topology.now)) depth reader.old reader.new v.items) }
+{
+    if depth == 0 || !opens(reader) {
+        return None;
+    }
+    let mut all = Vec::new(alloc);
+    while !reader.take_end_array() {
+        let event = event(alloc, topology, reader, depth - 1)?;
+        all.push(event).ok()?;
+    }
+    Some(all)
+}
+
+/// The members before the events; then these come.
+fn header<'a>(
+    alloc: Global,
+    reader: &mut Reader<'a>,
+    depth: usize,
+) -> Option<Vec<(&'a str, Json<'a>)>>
+    ensures { IfSome result (λ v. BeginWith depth (codes "events") reader.old reader.new v.items) }
+{
+    let mut members = Vec::new(alloc);
+    while let Ok(Some(name)) = reader.next_key() {
+        if name == "events" {
+            return Some(members);
+        }
+        let json = Json::read(alloc, reader, depth).ok()?;
+        members.push((name, json)).ok()?;
+    }
+    None
+}
+
+/// The topology of a script that has no other members than those of scripts.
+fn topology_of(alloc: Global, json: &Json<'_>) -> Option<Topology>
+    ensures members { IfSome result (λ top. form_members 5 (value_view json.now) ≡ true) }
+    ensures value { IfSome result (λ top. form.topology_of (value_view json.now) ≡ Some top) }
+{
+    if !has_members(json, 5) {
+        return None;
+    }
+    match topology(alloc, json) {
+        Ok(topology) => Some(topology),
+        Err(_) => None,
+    }
+}
+
+/// The topology that the members of a script tell, whatever its events are.
+fn topology_in<'a>(alloc: Global, mut members: Vec<(&'a str, Json<'a>)>) -> Option<Topology>
+    ensures { IfSome result (λ top. (events : SpecJson) → IsHeader members.entry.items events top) }
+{
+    members.push(("events", Json::Null)).ok()?;
+    let json = Json::Object(members);
+    let topology = topology_of(alloc, &json)?;
+    Some(topology)
+}
+
+/// Whether an object ends, and the text with it.
+fn is_end(reader: &mut Reader<'_>) -> bool
+    ensures { result ≡ true → reader.old ≡ spec.end_object ∷ [] }
+{
+    matches!(reader.next_key(), Ok(None)) && reader.next().is_none()
+}
+
+/// The script that a text stands for, where its events are the last member, and memory is there.
+pub(crate) fn streamed(alloc: Global, text: &str) -> Option<Script>
+    ensures { IfSome result (λ script. option_and_then form.script_of (document text.now) ≡ Some script) }
+{
+    let mut scratch = Scratch::new(alloc);
+    let mut reader = Reader::new(text, &mut scratch).ok()?;
+    if !opens_object(&mut reader) {
+        return None;
+    }
+    let members = header(alloc, &mut reader, MAX_DEPTH - 1)?;
+    let topology = topology_in(alloc, members)?;
+    let events = events(alloc, &topology, &mut reader, MAX_DEPTH - 1)?;
+    if events.len() > MOST_EVENTS || !is_end(&mut reader) {
+        return None;
+    }
+    Some(Script {
+        topology,
+        events: Events::from_vec(events),
+    })
+}
