@@ -49,6 +49,12 @@ found_at links first end k next d l e above below lt is from of next_is before =
   next = next_is;
 }
 
+-- the same, of what was taken there
+pub popped_at : (links : List InLinkValue) (first end k next : ℕ) (d l : InLinkValue) (o : Option Envelope) → first ≤ k → k < end → k < length links → d ≡ get_or links k d → l.from ≡ d.from
+    → IfSome o (λ e. e.from ≡ d.from) → next ≡ k + 1 → WereEmpty links first k → IfSome o (λ e. IsFound (set links k l) first end next e)
+popped_at links first end k next d l None above below lt is from of next_is before = tt
+popped_at links first end k next d l (Some e) above below lt is from of next_is before = found_at links first end k next d l e above below lt is from of next_is before
+
 -- all of them were looked at, those before a place after the others
 pub looked_at_all : (old new : List InLinkValue) (first count : ℕ) → length new ≡ count → WereEmpty old first count
     → ((j : ℕ) → (j < 0) ⊎ (first ≤ j) → slice_get new j ≡ slice_get old j) → WereEmpty new 0 first → All WasEmpty new

@@ -1,6 +1,6 @@
 -- The links to an actor, where an envelope is taken from one.
 use Rattle.std.proofs.Common.{◌≡◌, ℕ, zero, suc, ◌<◌, List, [], ◌∷◌, ◌++◌, length, get_or, set, Option, Some, None, refl, ap, sym, subst, ◌∙◌, inl, inr}
-use Rattle.std.specs.Prelude.{◌≢◌}
+use Rattle.std.specs.Prelude.{◌≢◌, IfSome, IfNone}
 use Rattle.std.specs.List.{slice_get}
 use Rattle.std.proofs.lemmas.List.{append-nil}
 use Rattle.std.proofs.Math.Seq.{map-set_same}
@@ -62,3 +62,10 @@ unpolled links k d l lt is from received journal held kept j m at =
           rw m_is new
       | inr away ↦ kept j m (sym (set_away links k j l away.1) ∙ at)
     ]
+
+-- where one envelope was taken from a link, or none
+pub popped : (links : List InLinkValue) (k : ℕ) (d l : InLinkValue) (o : Option Envelope) → k < length links → d ≡ get_or links k d → l.from ≡ d.from
+    → IfSome o (λ e. l.received ≡ d.received ++ e ∷ []) → IfSome o (λ e. e.from ≡ d.from) → IfNone o (l.received ≡ d.received)
+    → (journal : List Event) → IsApart (sources_of links) → Received journal links None → Received journal (set links k l) o
+popped links k d l None lt is from taken of none journal apart kept = unpolled links k d l lt is from none journal None kept
+popped links k d l (Some e) lt is from taken of none journal apart kept = polled links k d l e lt is from taken of journal apart kept

@@ -21,9 +21,10 @@ fn poll(incoming: &mut Vec<InLink>, first: usize, end: usize, next: &mut usize) 
     ensures others { (k : ℕ) → (k < first) ⊎ (end ≤ k) → slice_get incoming.new.items k ≡ slice_get incoming.old.items k }
 {
     for place in first..end {
-        if let Some(envelope) = incoming[place].pop() {
+        let link = &mut incoming[place];
+        if !link.is_empty() {
             *next = place + 1;
-            return Some(envelope);
+            return link.pop();
         }
     }
     None

@@ -89,7 +89,7 @@ pub(crate) fn columns_named(alloc: Global, word: &str) -> Result<Predicate, Faul
     for byte in word.as_bytes() {
         names.push(Name::from_slice(alloc, &[*byte])?)?;
     }
-    Ok(Predicate::Names(Names::from_vec(names)))
+    Ok(Predicate::Names(Names::from_vec(alloc, names)?))
 }
 
 /// An end of a range; `-` is open.
@@ -121,7 +121,7 @@ fn keys(alloc: Global, word: &str) -> Result<Keys, Fault> {
     for byte in word.as_bytes() {
         keys.push(Key::from_slice(alloc, &[*byte])?)?;
     }
-    Ok(Keys::from_vec(keys))
+    Ok(Keys::from_vec(alloc, keys)?)
 }
 
 pub(crate) fn read(alloc: Global, rows: &str, predicate: Predicate) -> Result<Read, Fault> {

@@ -29,7 +29,7 @@ fn following(number: u64) -> u64 {
 fn insertions(alloc: Global, number: u64) -> Result<Op, Fault> {
     let first = format!(in alloc; "b:x{number}")?;
     let second = format!(in alloc; "a:x{number}")?;
-    Ok(Op::Batch(batch(alloc, &[first.as_str(), second.as_str()])?))
+    Ok(Op::write(alloc, batch(alloc, &[first.as_str(), second.as_str()])?)?)
 }
 
 /// The operation of this number of a session: insertions, if it is odd, and else a read of what they write.
@@ -38,7 +38,7 @@ fn operation(alloc: Global, number: u64) -> Result<Op, Fault> {
         return insertions(alloc, number);
     }
     let all = range(alloc, "-", "-", "100", false)?;
-    Ok(Op::Read(read(alloc, "ab", all)?))
+    Ok(Op::read(alloc, read(alloc, "ab", all)?)?)
 }
 
 /// The session whose turn it is submits its next operation. While it is busy, it keeps that for its next turn.
@@ -106,7 +106,7 @@ fn judged(alloc: Global, world: &World, ended: &Completed) -> Result<Option<bool
     match (&ended.op, &ended.outcome) {
         (Op::Read(read), Outcome::Read { effective, answer }) => {
             let at = (ended.home, *effective);
-            Ok(Some(is_meant(alloc, world, at, (read, answer))?))
+            Ok(Some(is_meant(alloc, world, at, (read.get(), answer))?))
         }
         _ => Ok(None),
     }

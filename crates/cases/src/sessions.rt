@@ -100,12 +100,12 @@ impl Sending {
     }
 
     fn write(&mut self, alloc: Global, changes: &[&str]) -> Result<u64, Fault> {
-        self.submit(Op::Batch(batch(alloc, changes)?))
+        self.submit(Op::write(alloc, batch(alloc, changes)?)?)
     }
 
     fn read(&mut self, alloc: Global) -> Result<u64, Fault> {
         let predicate = columns_named(alloc, "x")?;
-        self.submit(Op::Read(read(alloc, "bab", predicate)?))
+        self.submit(Op::read(alloc, read(alloc, "bab", predicate)?)?)
     }
 
     fn hear(&mut self, shard: &str, body: Body) -> Result<(), Fault> {

@@ -60,7 +60,7 @@ fn submit_read(
     predicate: Predicate,
 ) -> Result<(), Fault> {
     let read = read(alloc, rows, predicate)?;
-    submit(world, node(session), Op::Read(read))
+    submit(world, node(session), Op::read(alloc, read)?)
 }
 
 /// Does a step that is an event, or several deliveries.
@@ -68,7 +68,7 @@ fn happen(alloc: Global, world: &mut World, words: &[&str]) -> Result<(), Fault>
     match words {
         ["write", session, changes @ ..] => {
             let batch = batch(alloc, changes)?;
-            submit(world, node(session), Op::Batch(batch))
+            submit(world, node(session), Op::write(alloc, batch)?)
         }
         ["read", session, rows, names] => {
             let predicate = columns_named(alloc, names)?;

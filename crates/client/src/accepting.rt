@@ -14,7 +14,7 @@ use crate::envelopes::{nodes, reads, writes};
 use crate::kept::Kept;
 use column_family::Batch;
 use logical_time::{Clock, Fault, Node, Shard, TxnId, Writers};
-use messages::{Envelope, Op, Outbox};
+use messages::{Dependencies, Envelope, Op, Outbox};
 use planner::{BatchPlan, check_batch, check_read, plan_batch, plan_read};
 use read_txn::FirstRound;
 use slice::Read;
@@ -28,8 +28,8 @@ fn check(kept: &Kept, op: &Op) -> Result<(), Fault>
         return Err(Fault::Busy);
     }
     match op {
-        Op::Batch(batch) => check_batch(&kept.schema, batch),
-        Op::Read(read) => check_read(&kept.schema, read),
+        Op::Batch(batch) => check_batch(&kept.schema, batch.get()),
+        Op::Read(read) => check_read(&kept.schema, read.get()),
     }
 }
 
@@ -112,7 +112,8 @@ fn submit_batch(kept: &mut Kept, batch: &Batch, outbox: &mut Outbox) -> Result<u
         session: kept.node,
         number: kept.count + 1,
     };
-    let dependencies = kept.dependencies.to_writers(kept.added.as_slice())?;
+    let writers = kept.dependencies.to_writers(kept.added.as_slice())?;
+    let dependencies = Dependencies::from_writers(kept.alloc, writers)?;
     let envelopes = writes(
         kept.alloc,
         kept.home,
@@ -149,12 +150,13 @@ fn asks(kept: &Kept, clock: Clock, read: &Read) -> Result<(Vec<Node>, Vec<Envelo
     Ok((asked, envelopes))
 }
 
-/// Moves the clock, sends what a read asks, and gives the clock and the shards that it asks.
-fn ask(kept: &mut Kept, read: &Read, outbox: &mut Outbox) -> Result<(Clock, Vec<Node>), Fault>
+/// Moves the clock, sends what a read asks, and gives the clock, a copy of the read, and the shards that it asks.
+fn ask(kept: &mut Kept, read: &Read, outbox: &mut Outbox) -> Result<(Clock, Read, Vec<Node>), Fault>
     requires counted { kept.old.count ≤ kept.old.clock }
     requires allowed { fault_of kept.old (op.Read read.now) ≡ None }
     ensures clock { IfOk result (λ asked. (asked.0 ≡ max kept.old.clock kept.old.clock + 1) × (asked.0 < 2 ^ 48)) }
-    ensures asked { IfOk result (λ asked. asked.1.items ≡ asked_nodes (topology_of kept.old) (state_of kept.old) read.now) }
+    ensures read { IfOk result (λ asked. asked.1 ≡ read.now) }
+    ensures asked { IfOk result (λ asked. asked.2.items ≡ asked_nodes (topology_of kept.old) (state_of kept.old) read.now) }
     ensures state { OnOk result (kept.new ≡ record kept.old { dependencies = dependencies_of kept.old }) }
     ensures sends { OnOk result (outbox.new.sent ≡ outbox.old.sent ++ posted kept.old (max kept.old.clock kept.old.clock + 1) (op.Read read.now)) }
     ensures refused { IfErr result (λ e. IsSpentOrMemory (ticked kept.old.clock kept.old.clock) e) }
@@ -162,29 +164,26 @@ fn ask(kept: &mut Kept, read: &Read, outbox: &mut Outbox) -> Result<(Clock, Vec<
     ensures unsent { OnErr result (outbox.new.sent ≡ outbox.old.sent) }
 {
     let clock = moved(kept)?;
+    let own = read.clone()?;
     let (asked, envelopes) = asks(kept, clock, read)?;
     settle(kept, envelopes, outbox)?;
-    Ok((clock, asked))
+    Ok((clock, own, asked))
 }
 
 /// Submits a read that is allowed.
-fn submit_read(kept: &mut Kept, read: Read, outbox: &mut Outbox) -> Result<u64, (Fault, Read)>
+fn submit_read(kept: &mut Kept, read: &Read, outbox: &mut Outbox) -> Result<u64, Fault>
     requires counted { kept.old.count ≤ kept.old.clock }
-    requires allowed { fault_of kept.old (op.Read read) ≡ None }
+    requires allowed { fault_of kept.old (op.Read read.now) ≡ None }
     ensures number { IfOk result (λ n. n ≡ kept.old.count + 1) }
     ensures time { OnOk result (max kept.old.clock kept.old.clock + 1 < 2 ^ 48) }
-    ensures state { OnOk result (kept.new ≡ accepted kept.old (max kept.old.clock kept.old.clock + 1) (op.Read read)) }
-    ensures sends { OnOk result (outbox.new.sent ≡ outbox.old.sent ++ posted kept.old (max kept.old.clock kept.old.clock + 1) (op.Read read)) }
-    ensures refused { IfErr result (λ e. IsSpentOrMemory (ticked kept.old.clock kept.old.clock) e.0) }
+    ensures state { OnOk result (kept.new ≡ accepted kept.old (max kept.old.clock kept.old.clock + 1) (op.Read read.now)) }
+    ensures sends { OnOk result (outbox.new.sent ≡ outbox.old.sent ++ posted kept.old (max kept.old.clock kept.old.clock + 1) (op.Read read.now)) }
+    ensures refused { IfErr result (λ e. IsSpentOrMemory (ticked kept.old.clock kept.old.clock) e) }
     ensures same { OnErr result (kept.new ≡ kept.old) }
     ensures unsent { OnErr result (outbox.new.sent ≡ outbox.old.sent) }
-    ensures back { IfErr result (λ e. e.1 ≡ read) }
 {
-    let (clock, asked) = match ask(kept, &read, outbox) {
-        Ok(asked) => asked,
-        Err(fault) => return Err((fault, read)),
-    };
-    let round = FirstRound::new(kept.alloc, read, kept.floor, asked);
+    let (clock, own, asked) = ask(kept, read, outbox)?;
+    let round = FirstRound::new(kept.alloc, own, kept.floor, asked);
     Ok(accept(kept, clock, Current::First(round)))
 }
 
@@ -205,14 +204,12 @@ pub(crate) fn submit(kept: &mut Kept, op: Op, outbox: &mut Outbox) -> Result<u64
         Ok(()) => {}
         Err(fault) => return Err((fault, op)),
     }
-    match op {
-        Op::Batch(batch) => match submit_batch(kept, &batch, outbox) {
-            Ok(number) => Ok(number),
-            Err(fault) => Err((fault, Op::Batch(batch))),
-        },
-        Op::Read(read) => match submit_read(kept, read, outbox) {
-            Ok(number) => Ok(number),
-            Err((fault, read)) => Err((fault, Op::Read(read))),
-        },
+    let submitted = match &op {
+        Op::Batch(batch) => submit_batch(kept, batch.get(), outbox),
+        Op::Read(read) => submit_read(kept, read.get(), outbox),
+    };
+    match submitted {
+        Ok(number) => Ok(number),
+        Err(fault) => Err((fault, op)),
     }
 }

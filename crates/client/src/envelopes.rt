@@ -2,8 +2,8 @@
 ghost use Rattle.std.specs.Prelude.{◌≡◌, ◌++◌, map, IfOk, OnOk, OnErr, IfErr};
 ghost use Rattle.client.specs.Envelopes.{node_in, prepare_part, batch_envelopes, read_keys};
 
-use logical_time::{Fault, Node, Shard, Time, TxnId, Writers};
-use messages::{Body, Cohorts, Envelope, Home, Outbox};
+use logical_time::{Fault, Node, Shard, Time, TxnId};
+use messages::{Body, Cohorts, Dependencies, Envelope, Home, Outbox};
 use planner::{BatchPlan, ShardKeys, ShardPart};
 use slice::{Keys, Read};
 use std::alloc::Global;
@@ -107,7 +107,7 @@ fn shards_of(alloc: Global, parts: &[ShardPart]) -> Result<Cohorts, Fault>
     ensures memory { IfErr result (λ e. e ≡ Fault.Memory) }
 {
     let shards: Vec<Shard> = parts.iter().map(|part| part.shard).collect(alloc)?;
-    Ok(Cohorts::from_vec(shards))
+    Ok(Cohorts::from_vec(alloc, shards)?)
 }
 
 /// A Begin for the coordinator and a Prepare for each cohort.
@@ -117,7 +117,7 @@ pub(crate) fn writes(
     node: Node,
     time: Time,
     txn: TxnId,
-    dependencies: Writers,
+    dependencies: Dependencies,
     plan: BatchPlan,
 ) -> Result<Vec<Envelope>, Fault>
     ensures ok { IfOk result (λ envelopes. envelopes.items ≡ batch_envelopes home node time txn dependencies plan.coordinator plan.cohorts.items) }

@@ -2,11 +2,11 @@
 ghost use Rattle.std.specs.Prelude.{◌≡◌, ◌↔◌, true};
 ghost use Rattle.messages.specs.declared.body.Body.TheVariants as body;
 
-use crate::lists::{same_batch, same_cohorts, same_writers};
+use crate::lists::{same_batch, same_cohorts, same_dependencies};
 use crate::rows::{same_at_time, same_read, same_rows_now};
 use column_family::Batch;
-use logical_time::{Shard, Stamp, Time, TxnId, Writers};
-use messages::{AtTime, Body, Cohorts, RowsNow};
+use logical_time::{Shard, Stamp, Time, TxnId};
+use messages::{AtTime, Body, Cohorts, Dependencies, RowsNow};
 use slice::Read;
 
 pub(crate) fn is_begin(
@@ -14,7 +14,7 @@ pub(crate) fn is_begin(
     txn: TxnId,
     rows: &Batch,
     cohorts: &Cohorts,
-    dependencies: &Writers,
+    dependencies: &Dependencies,
 ) -> bool
     ensures { (result ≡ true) ↔ (b.now ≡ body.Begin txn rows.now cohorts.now dependencies.now) }
 {
@@ -27,7 +27,7 @@ pub(crate) fn is_begin(
         } => *its_txn == txn
             && same_batch(its_rows, rows)
             && same_cohorts(its_cohorts, cohorts)
-            && same_writers(its_dependencies, dependencies),
+            && same_dependencies(its_dependencies, dependencies),
         _ => false,
     }
 }
@@ -135,7 +135,7 @@ pub(crate) fn is_repl_begin(
     rows: &Batch,
     stamp: Stamp,
     cohorts: &Cohorts,
-    dependencies: &Writers,
+    dependencies: &Dependencies,
 ) -> bool
     ensures { (result ≡ true) ↔ (b.now ≡ body.ReplBegin txn rows.now stamp cohorts.now dependencies.now) }
 {
@@ -150,7 +150,7 @@ pub(crate) fn is_repl_begin(
             && same_batch(its_rows, rows)
             && *its_stamp == stamp
             && same_cohorts(its_cohorts, cohorts)
-            && same_writers(its_dependencies, dependencies),
+            && same_dependencies(its_dependencies, dependencies),
         _ => false,
     }
 }

@@ -3,7 +3,7 @@ ghost use Rattle.std.specs.Prelude.{◌≡◌, ◌↔◌, true};
 
 use column_family::{Batch, Change, Key, Name};
 use logical_time::{Shard, Writer, Writers};
-use messages::Cohorts;
+use messages::{Cohorts, Dependencies};
 use slice::{Column, Columns, Keys, Names};
 
 fn same_change(a: &Change, b: &Change) -> bool
@@ -109,6 +109,12 @@ pub(crate) fn same_cohorts(a: &Cohorts, b: &Cohorts) -> bool
 }
 
 pub(crate) fn same_writers(a: &Writers, b: &Writers) -> bool
+    ensures { (result ≡ true) ↔ (a.now ≡ b.now) }
+{
+    same_writer_list(a.as_slice(), b.as_slice())
+}
+
+pub(crate) fn same_dependencies(a: &Dependencies, b: &Dependencies) -> bool
     ensures { (result ≡ true) ↔ (a.now ≡ b.now) }
 {
     same_writer_list(a.as_slice(), b.as_slice())

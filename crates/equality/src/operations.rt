@@ -12,7 +12,7 @@ fn is_batch(b: &Op, batch: &Batch) -> bool
     ensures { (result ≡ true) ↔ (b.now ≡ op.Batch batch.now) }
 {
     match b {
-        Op::Batch(its_batch) => same_batch(its_batch, batch),
+        Op::Batch(its_batch) => same_batch(its_batch.get(), batch),
         Op::Read(_) => false,
     }
 }
@@ -22,7 +22,7 @@ fn is_read(b: &Op, read: &Read) -> bool
 {
     match b {
         Op::Batch(_) => false,
-        Op::Read(its_read) => same_read(its_read, read),
+        Op::Read(its_read) => same_read(its_read.get(), read),
     }
 }
 
@@ -31,7 +31,7 @@ pub fn same_op(a: &Op, b: &Op) -> bool
     ensures { (result ≡ true) ↔ (a.now ≡ b.now) }
 {
     match a {
-        Op::Batch(batch) => is_batch(b, batch),
-        Op::Read(read) => is_read(b, read),
+        Op::Batch(batch) => is_batch(b, batch.get()),
+        Op::Read(read) => is_read(b, read.get()),
     }
 }

@@ -1,5 +1,5 @@
 //! The end of a ring where a receiver takes envelopes.
-ghost use Rattle.std.specs.Prelude.{◌≡◌, ◌<◌, ◌++◌, ◌∷◌, [], IsSome, IfSome, IfNone};
+ghost use Rattle.std.specs.Prelude.{◌≡◌, ◌<◌, ◌++◌, ◌∷◌, [], ◌↔◌, IsTrue, IsSome, IfSome, IfNone};
 
 use logical_time::Node;
 use messages::Envelope;
@@ -38,6 +38,16 @@ impl InLink {
         ensures { result ≡ self.now.to }
     {
         self.to
+    }
+
+    /// Whether no envelope is found in the ring. It looks at what the other end put there, which may put more at any time.
+    /// Costs less than `pop` where it finds none.
+    pub fn is_empty(&mut self) -> bool
+        ensures addresses { (self.new.from ≡ self.old.from) × (self.new.to ≡ self.old.to) }
+        ensures same { self.new.received ≡ self.old.received }
+        ensures empty { IsTrue result ↔ (self.new.known ≡ 0) }
+    {
+        self.consumer.is_empty()
     }
 
     /// Takes the oldest envelope from the ring, if one is found there. The sender may put one at any time. An actor puts

@@ -6,17 +6,18 @@ use crate::copies::{
 };
 use crate::rows_at::AtTime;
 use crate::rows_now::RowsNow;
+use crate::shared::Shared;
 use column_family::Batch;
-use logical_time::{Shard, Stamp, Time, TxnId, Writers};
+use logical_time::{Shard, Stamp, Time, TxnId, Writer, Writers};
 use slice::Read;
-use std::alloc::AllocError;
+use std::alloc::{AllocError, Global};
 use std::marker::Model;
 
 /// The cohorts of a transaction: the shards, beside its coordinator, of which it writes rows. The same in all data
-/// centres.
+/// centres. Copies share them.
 #[derive(Drop, Clone)]
 pub struct Cohorts {
-    shards: Vec<Shard>,
+    shards: Shared<Vec<Shard>>,
 }
 
 impl Model for Cohorts {
@@ -28,18 +29,57 @@ impl Model for Cohorts {
 }
 
 impl Cohorts {
-    /// These shards.
-    pub fn from_vec(shards: Vec<Shard>) -> Cohorts
-        ensures { result ≡ shards.items }
+    ghost use Rattle.std.specs.Prelude.{IfOk};
+
+    /// These shards. Fails by memory alone.
+    pub fn from_vec(alloc: Global, shards: Vec<Shard>) -> Result<Cohorts, AllocError>
+        ensures { IfOk result (λ list. list ≡ shards.items) }
     {
-        Cohorts { shards }
+        Ok(Cohorts {
+            shards: Shared::new(alloc, shards)?,
+        })
     }
 
     /// The shards.
     pub fn as_slice(&self) -> &[Shard]
         ensures { result.now ≡ self.now }
     {
-        self.shards.as_slice()
+        self.shards.get().as_slice()
+    }
+}
+
+/// What a write depends on: transactions with their coordinators, in order and each once. Copies share them.
+#[derive(Drop, Clone)]
+pub struct Dependencies {
+    writers: Shared<Writers>,
+}
+
+impl Model for Dependencies {
+    ghost use Rattle.std.specs.Prelude.{List};
+    ghost use Rattle.logical_time.specs.Stamps.{WriterValue};
+
+    ghost Value = { List WriterValue };
+
+    ghost view = { λ list. list.writers };
+}
+
+impl Dependencies {
+    ghost use Rattle.std.specs.Prelude.{IfOk};
+
+    /// These writers. Fails by memory alone.
+    pub fn from_writers(alloc: Global, writers: Writers) -> Result<Dependencies, AllocError>
+        ensures { IfOk result (λ list. list ≡ writers) }
+    {
+        Ok(Dependencies {
+            writers: Shared::new(alloc, writers)?,
+        })
+    }
+
+    /// The writers.
+    pub fn as_slice(&self) -> &[Writer]
+        ensures { result.now ≡ self.now }
+    {
+        self.writers.get().as_slice()
     }
 }
 
@@ -55,7 +95,7 @@ pub enum Body {
         /// The other shards of the transaction.
         cohorts: Cohorts,
         /// What the session's writes depend on.
-        dependencies: Writers,
+        dependencies: Dependencies,
     },
     /// A session submits a write: to a cohort.
     Prepare {
@@ -130,7 +170,7 @@ pub enum Body {
         /// The other shards of the transaction.
         cohorts: Cohorts,
         /// What the write depends on.
-        dependencies: Writers,
+        dependencies: Dependencies,
     },
     /// Replicates a write: to a cohort in another data centre.
     ReplPart {

@@ -2,11 +2,11 @@
 ghost use Rattle.std.specs.Prelude.{◌≡◌, IfOk};
 ghost use Rattle.messages.specs.declared.body.Body.TheVariants as body;
 
-use crate::body::{Body, Cohorts};
+use crate::body::{Body, Cohorts, Dependencies};
 use crate::rows_at::AtTime;
 use crate::rows_now::RowsNow;
 use column_family::Batch;
-use logical_time::{Shard, Stamp, Time, TxnId, Writers};
+use logical_time::{Shard, Stamp, Time, TxnId};
 use slice::Read;
 use std::alloc::AllocError;
 
@@ -14,7 +14,7 @@ pub(crate) fn begin(
     txn: TxnId,
     rows: &Batch,
     cohorts: &Cohorts,
-    dependencies: &Writers,
+    dependencies: &Dependencies,
 ) -> Result<Body, AllocError>
     ensures { IfOk result (λ copy. copy ≡ body.Begin txn rows.now cohorts.now dependencies.now) }
 {
@@ -61,7 +61,7 @@ pub fn repl_begin(
     rows: &Batch,
     stamp: Stamp,
     cohorts: &Cohorts,
-    dependencies: &Writers,
+    dependencies: &Dependencies,
 ) -> Result<Body, AllocError>
     ensures { IfOk result (λ copy. copy ≡ body.ReplBegin txn rows.now stamp cohorts.now dependencies.now) }
 {

@@ -17,9 +17,10 @@ mod place;
 mod posting;
 mod rows_at;
 mod rows_now;
+mod shared;
 mod topology;
 
-pub use body::{Body, Cohorts};
+pub use body::{Body, Cohorts, Dependencies};
 pub use copies::{repl_begin, repl_part};
 pub use envelope::{Envelope, Refused};
 pub use event::Event;
@@ -35,4 +36,5 @@ pub use place::Place;
 pub use posting::announce;
 pub use rows_at::{AtTime, RowAt, RowsAt};
 pub use rows_now::{RowNow, RowsNow};
+pub use shared::Shared;
 pub use topology::Topology;

@@ -1,23 +1,39 @@
 //! What sessions submit.
 ghost use Rattle.std.specs.Prelude.{◌≡◌};
 
+use crate::shared::Shared;
 use column_family::Batch;
 use slice::Read;
-use std::alloc::AllocError;
+use std::alloc::{AllocError, Global};
 
-/// What a session submits.
+/// What a session submits. Copies share what it asks.
 #[derive(Drop, Clone)]
 pub enum Op {
     /// A write transaction.
-    Batch(Batch),
+    Batch(Shared<Batch>),
     /// A read transaction.
-    Read(Read),
+    Read(Shared<Read>),
 }
 
 impl Op {
     ghost use Rattle.std.specs.Prelude.{◌≡◌, IfOk};
+    ghost use Rattle.messages.specs.declared.op.Op.TheVariants as op;
 
-    /// A copy, which shares the bytes of keys, names and values. Fails by memory alone.
+    /// The write transaction of a batch. Fails by memory alone.
+    pub fn write(alloc: Global, batch: Batch) -> Result<Op, AllocError>
+        ensures { IfOk result (λ made. made ≡ op.Batch batch) }
+    {
+        Ok(Op::Batch(Shared::new(alloc, batch)?))
+    }
+
+    /// A read transaction. Fails by memory alone.
+    pub fn read(alloc: Global, read: Read) -> Result<Op, AllocError>
+        ensures { IfOk result (λ made. made ≡ op.Read read) }
+    {
+        Ok(Op::Read(Shared::new(alloc, read)?))
+    }
+
+    /// A copy, which shares what it asks. Fails by memory alone.
     pub fn copied(&self) -> Result<Op, AllocError>
         ensures { IfOk result (λ copy. copy ≡ self.now) }
     {

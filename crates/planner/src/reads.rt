@@ -62,7 +62,7 @@ fn cut(alloc: Global, keys: &[Key], shards: Shards) -> Result<ReadPlan, Fault>
             let own = keys_of(alloc, &once, shard, shards)?;
             asked.push(ShardKeys {
                 shard,
-                keys: Keys::from_vec(own),
+                keys: Keys::from_vec(alloc, own)?,
             })?;
         }
     }

@@ -37,7 +37,7 @@ fn late_keys(alloc: Global, time: Time, heard: &[ShardNow], node: Node) -> Resul
             add_late_keys(&mut keys, time, answer.rows())?;
         }
     }
-    Ok(Keys::from_vec(keys))
+    Ok(Keys::from_vec(alloc, keys)?)
 }
 
 /// What the second round asks, in the order of the first round's shards.

@@ -7,8 +7,8 @@ ghost use Rattle.messages.specs.Place.{IsPlace};
 ghost use Rattle.messages.specs.Shard.{KeptBallot};
 ghost use Rattle.messages.specs.Replication as machine;
 
-use logical_time::{Fault, Node, Shard, Time, TxnId, Writers};
-use messages::{Body, Cohorts, Envelope, Place};
+use logical_time::{Fault, Node, Shard, Time, TxnId};
+use messages::{Body, Cohorts, Dependencies, Envelope, Place};
 use std::alloc::Global;
 
 /// A cohort's vote for a transaction whose part it has prepared: to the coordinator.
@@ -64,7 +64,7 @@ pub fn dep_checks(
     place: Place,
     time: Time,
     txn: TxnId,
-    dependencies: &Writers,
+    dependencies: &Dependencies,
 ) -> Result<Vec<Envelope>, Fault>
     ensures envelopes { (top : TopologyValue) (me : ℕ) (r : KeptBallot) → IsPlace top me place → r.txn ≡ txn → r.dependencies ≡ dependencies.now → IfOk result (λ envelopes. envelopes.items ≡ machine.dep_checks top me time r) }
     ensures memory { IfErr result (λ e. e ≡ Fault.Memory) }

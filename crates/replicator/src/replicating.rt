@@ -9,8 +9,8 @@ ghost use Rattle.messages.specs.Commits as machine;
 ghost use Rattle.write_txn.specs.Roles.{role_of};
 
 use column_family::Batch;
-use logical_time::{Fault, Node, Stamp, Time, TxnId, Writer, Writers};
-use messages::{Body, Cohorts, Envelope, Place, repl_begin, repl_part};
+use logical_time::{Fault, Node, Stamp, Time, TxnId, Writer};
+use messages::{Body, Cohorts, Dependencies, Envelope, Place, repl_begin, repl_part};
 use std::alloc::Global;
 use write_txn::Origin;
 
@@ -71,7 +71,7 @@ fn add_begins(
     rows: &Batch,
     stamp: Stamp,
     cohorts: &Cohorts,
-    dependencies: &Writers,
+    dependencies: &Dependencies,
 ) -> Result<(), Fault>
     ensures ok { OnOk result (envelopes.new.items ≡ envelopes.old.items ++ map (λ n. envelope stamp.node n stamp.time (body.ReplBegin txn rows.now stamp cohorts.now dependencies.now)) nodes.items) }
     ensures memory { IfErr result (λ e. e ≡ Fault.Memory) }
@@ -98,7 +98,7 @@ pub fn announcements(
     txn: TxnId,
     rows: &Batch,
     cohorts: &Cohorts,
-    dependencies: &Writers,
+    dependencies: &Dependencies,
     stamp: &Option<Stamp>,
 ) -> Result<Vec<Envelope>, Fault>
     ensures envelopes { (top : TopologyValue) (me : ℕ) → IsPlace top me place → IfOk result (λ envelopes. envelopes.items ≡ machine.announcements top me time (record { txn = txn; rows = rows.now; cohorts = cohorts.now; dependencies = dependencies.now; stamp = stamp.now }) stamp.now) }

@@ -36,8 +36,8 @@ fn check(schema: &Schema, op: &Op) -> Result<(), Fault>
     ensures { (top : TopologyValue) → top.schema ≡ schema.now → IsRefusedFor (plan_fault top op.now) result }
 {
     match op {
-        Op::Batch(batch) => check_batch(schema, batch),
-        Op::Read(read) => check_read(schema, read),
+        Op::Batch(batch) => check_batch(schema, batch.get()),
+        Op::Read(read) => check_read(schema, read.get()),
     }
 }
 

@@ -17,8 +17,8 @@ ghost use Rattle.shard.specs.Begun.{ballot_of, IsDecidedNow, AreVotes};
 use crate::deciding::{Deciding, settle, tell};
 use crate::kept::Kept;
 use column_family::Batch;
-use logical_time::{Clock, Fault, Stamp, TxnId, Writer, Writers};
-use messages::{Cohorts, Envelope, Outbox};
+use logical_time::{Clock, Fault, Stamp, TxnId, Writer};
+use messages::{Cohorts, Dependencies, Envelope, Outbox};
 use replicator::near_nodes;
 use txn_state::{Ballot, Complete, Prepared, Votes, WritePart};
 use write_txn::Led;
@@ -33,7 +33,7 @@ pub(crate) struct Begun {
     /// The other shards.
     pub(crate) cohorts: Cohorts,
     /// What the write depends on.
-    pub(crate) dependencies: Writers,
+    pub(crate) dependencies: Dependencies,
 }
 
 /// The votes of a transaction's cohorts, those that came early counted.

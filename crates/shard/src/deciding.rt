@@ -18,8 +18,8 @@ use crate::coming::{Coming, answers_with};
 use crate::kept::Kept;
 use column_family::Batch;
 use commit_check::Cause;
-use logical_time::{Clock, Fault, Stamp, Time, TxnId, Writer, Writers};
-use messages::{Cohorts, Envelope, Outbox};
+use logical_time::{Clock, Fault, Stamp, Time, TxnId, Writer};
+use messages::{Cohorts, Dependencies, Envelope, Outbox};
 use replicator::announcements;
 use txn_state::Complete;
 use write_txn::stamp_of;
@@ -34,7 +34,7 @@ pub(crate) struct Deciding<'b> {
     /// The other shards.
     pub(crate) cohorts: &'b Cohorts,
     /// What the write depends on.
-    pub(crate) dependencies: &'b Writers,
+    pub(crate) dependencies: &'b Dependencies,
     /// The stamp of a write of another data centre.
     pub(crate) stamp: Option<Stamp>,
 }

@@ -23,8 +23,8 @@ ghost use Rattle.shard.specs.ReplBegun.{ballot_begun, IsBegun};
 use crate::kept::Kept;
 use crate::replicas::{conclude, is_decided, told_by};
 use column_family::Batch;
-use logical_time::{Clock, Fault, Stamp, Time, TxnId, Writer, Writers};
-use messages::{Cohorts, Envelope, Outbox};
+use logical_time::{Clock, Fault, Stamp, Time, TxnId, Writer};
+use messages::{Cohorts, Dependencies, Envelope, Outbox};
 use replicator::{dep_checks, near_nodes};
 use txn_state::{Answers, RemoteBallot, Votes, WritePart};
 use write_txn::{Remote, Transactions};
@@ -41,7 +41,7 @@ pub(crate) struct ReplBegun {
     /// The other shards.
     pub(crate) cohorts: Cohorts,
     /// What the write depends on.
-    pub(crate) dependencies: Writers,
+    pub(crate) dependencies: Dependencies,
 }
 
 /// What is missing of a ballot that has just come: notices, of which some may have come early, and all answers.

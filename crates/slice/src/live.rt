@@ -28,7 +28,7 @@ pub fn columns_changed(alloc: Global, history: &[Committed], row: &Row) -> Resul
     ensures memory { IfErr result (λ e. e ≡ Fault.Memory) }
 {
     let set = set_of(alloc, &names_changed(alloc, history, row)?)?;
-    Ok(Names::from_vec(set.into_iter().collect(alloc)?))
+    Ok(Names::from_vec(alloc, set.into_iter().collect(alloc)?)?)
 }
 
 // Those of these columns that are live, in the order of the names.

@@ -1,5 +1,5 @@
 //! Which columns of a row are asked for.
-ghost use Rattle.std.specs.Prelude.{◌≡◌};
+ghost use Rattle.std.specs.Prelude.{◌≡◌, IfOk};
 ghost use Rattle.std.specs.List.{list_all};
 ghost use Rattle.column_family.specs.Limits.{is_name};
 ghost use Rattle.logical_time.specs.Fault.{IsRefusedFor};
@@ -10,12 +10,15 @@ use crate::column::Column;
 use crate::selecting::is_between;
 use column_family::Name;
 use logical_time::Fault;
+use std::alloc::{AllocError, Global};
 use std::marker::Model;
+use std::sync::Arc;
 
 /// Names in the order in which they are listed, repeats included.
+/// Copies share them.
 #[derive(Drop, Clone)]
 pub struct Names {
-    names: Vec<Name>,
+    names: Arc<Vec<Name>>,
 }
 
 impl Model for Names {
@@ -23,15 +26,18 @@ impl Model for Names {
 
     ghost Value = { List (List ℕ) };
 
-    ghost view = { λ list. list.names.items };
+    ghost view = { λ list. list.names.value.items };
 }
 
 impl Names {
-    /// These names.
-    pub fn from_vec(names: Vec<Name>) -> Names
-        ensures { result ≡ names.items }
+    /// These names. Fails by memory alone.
+    pub fn from_vec(alloc: Global, names: Vec<Name>) -> Result<Names, AllocError>
+        ensures { IfOk result (λ list. list ≡ names.items) }
     {
-        Names { names }
+        match Arc::new(alloc, names) {
+            Ok(names) => Ok(Names { names }),
+            Err(_) => Err(AllocError),
+        }
     }
 
     /// The names, as they were listed.

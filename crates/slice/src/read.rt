@@ -1,16 +1,17 @@
 //! Reads and their answers.
-ghost use Rattle.std.specs.Prelude.{◌≡◌, ◌++◌, [], ◌∷◌, OnOk, OnErr, IfErr};
+ghost use Rattle.std.specs.Prelude.{◌≡◌, ◌++◌, [], ◌∷◌, OnOk, OnErr, IfErr, IfOk};
 
 use crate::column::Columns;
 use crate::predicate::Predicate;
 use column_family::{Family, Key, Row};
 use std::alloc::{AllocError, AllocFailed, Global};
 use std::marker::Model;
+use std::sync::Arc;
 
-/// Keys as a request lists them, repeats included.
+/// Keys as a request lists them, repeats included. Copies share them.
 #[derive(Drop, Clone)]
 pub struct Keys {
-    keys: Vec<Key>,
+    keys: Arc<Vec<Key>>,
 }
 
 impl Model for Keys {
@@ -18,15 +19,18 @@ impl Model for Keys {
 
     ghost Value = { List (List ℕ) };
 
-    ghost view = { λ list. list.keys.items };
+    ghost view = { λ list. list.keys.value.items };
 }
 
 impl Keys {
-    /// These keys.
-    pub fn from_vec(keys: Vec<Key>) -> Keys
-        ensures { result ≡ keys.items }
+    /// These keys. Fails by memory alone.
+    pub fn from_vec(alloc: Global, keys: Vec<Key>) -> Result<Keys, AllocError>
+        ensures { IfOk result (λ list. list ≡ keys.items) }
     {
-        Keys { keys }
+        match Arc::new(alloc, keys) {
+            Ok(keys) => Ok(Keys { keys }),
+            Err(_) => Err(AllocError),
+        }
     }
 
     /// The keys, as they were listed.

@@ -104,6 +104,7 @@ fn add_of(
     ensures memory { IfErr result (λ e. e ≡ Fault.Memory) }
 {
     if let Op::Batch(batch) = op {
+        let batch = batch.get();
         let told = decided(home, seats, batch, txn);
         add(history, entry_with(batch, told)?)?;
     }

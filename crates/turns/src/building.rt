@@ -66,5 +66,5 @@ pub(crate) fn batch(alloc: Global, words: &[&str]) -> Result<Op, Fault> {
     for word in words {
         batch.push(insertion(alloc, word)?)?;
     }
-    Ok(Op::Batch(batch))
+    Ok(Op::write(alloc, batch)?)
 }

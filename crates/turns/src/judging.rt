@@ -76,7 +76,7 @@ impl Count {
     ) -> Result<(), Fault> {
         match (&ended.op, &ended.outcome) {
             (Op::Read(read), Outcome::Read { effective, answer }) => {
-                let is_right = is_meant(alloc, history, *effective, (read, answer))?;
+                let is_right = is_meant(alloc, history, *effective, (read.get(), answer))?;
                 add(&mut self.reads, true);
                 add(&mut self.wrong, !is_right);
             }

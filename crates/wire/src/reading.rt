@@ -81,7 +81,7 @@ fn names(alloc: Global, bytes: &[u8]) -> Result<(Predicate, &[u8]), FrameError>
     ensures { Gives (λ x. (x.0, x.1.now)) result (names_at bytes.now) }
 {
     let (names, rest) = counted(alloc, bytes)?;
-    Ok((Predicate::Names(Names::from_vec(names)), rest))
+    Ok((Predicate::Names(Names::from_vec(alloc, names)?), rest))
 }
 
 #[tactic(auto, unfolding(crate::specs::Reading::range_at))]
@@ -120,7 +120,7 @@ fn batch(alloc: Global, bytes: &[u8]) -> Result<(Op, &[u8]), FrameError>
     ensures { Gives (λ x. (x.0, x.1.now)) result (batch_at bytes.now) }
 {
     let (changes, rest) = counted(alloc, bytes)?;
-    Ok((Op::Batch(Batch::from_changes(changes)), rest))
+    Ok((Op::write(alloc, Batch::from_changes(changes))?, rest))
 }
 
 #[tactic(auto, unfolding(crate::specs::Reading::read_at))]
@@ -130,15 +130,13 @@ fn read(alloc: Global, bytes: &[u8]) -> Result<(Op, &[u8]), FrameError>
     let (family, rest) = Family::read(alloc, bytes)?;
     let (keys, rest) = counted(alloc, rest)?;
     let (predicate, rest) = predicate(alloc, rest)?;
-    let keys = Keys::from_vec(keys);
-    Ok((
-        Op::Read(Read {
-            family,
-            keys,
-            predicate,
-        }),
-        rest,
-    ))
+    let keys = Keys::from_vec(alloc, keys)?;
+    let read = Read {
+        family,
+        keys,
+        predicate,
+    };
+    Ok((Op::read(alloc, read)?, rest))
 }
 
 #[tactic(auto, unfolding(crate::specs::Reading::request_at))]

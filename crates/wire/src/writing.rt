@@ -191,9 +191,9 @@ fn put_request(out: &mut Vec<u8>, op: &Op) -> Result<(), FrameError>
     match op {
         Op::Batch(batch) => {
             out.put_u8(1)?;
-            put_counted(out, batch.as_slice())
+            put_counted(out, batch.get().as_slice())
         }
-        Op::Read(read) => put_read(out, read),
+        Op::Read(read) => put_read(out, read.get()),
     }
 }
 

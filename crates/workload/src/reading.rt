@@ -105,11 +105,11 @@ impl Shaped for Keys {
     ghost stands_for = { list_by as_str };
 
     fn of_json(alloc: Global, json: &Json<'_>) -> Result<Keys, Fault> {
-        Ok(Keys::from_vec(list_of(alloc, json)?))
+        Ok(Keys::from_vec(alloc, list_of(alloc, json)?)?)
     }
 
     fn of_reader(alloc: Global, reader: &mut Reader<'_>, depth: usize) -> Option<Keys> {
-        Some(Keys::from_vec(streaming::list_in(alloc, reader, depth)?))
+        Keys::from_vec(alloc, streaming::list_in(alloc, reader, depth)?).ok()
     }
 }
 
@@ -327,7 +327,7 @@ fn range(alloc: Global, json: &Json<'_>) -> Result<Predicate, Fault>
 fn names(alloc: Global, json: &Json<'_>) -> Result<Predicate, Fault>
     ensures { Gives result (form.names_of (value_view json.now)) }
 {
-    Ok(Predicate::Names(Names::from_vec(list_of(alloc, json)?)))
+    Ok(Predicate::Names(Names::from_vec(alloc, list_of(alloc, json)?)?))
 }
 
 #[tactic(auto, unfolding(crate::specs::Script::predicate_of))]
@@ -353,18 +353,20 @@ fn read_op(alloc: Global, json: &Json<'_>) -> Result<Op, Fault>
     let family = part_at(alloc, json, 0)?;
     let keys = part_at(alloc, json, 1)?;
     let predicate = part_at(alloc, json, 2)?;
-    Ok(Op::Read(Read {
+    let read = Read {
         family,
         keys,
         predicate,
-    }))
+    };
+    Ok(Op::read(alloc, read)?)
 }
 
 #[tactic(auto, unfolding(crate::specs::Script::batch_of))]
 fn batch(alloc: Global, json: &Json<'_>) -> Result<Op, Fault>
     ensures { Gives result (form.batch_of (value_view json.now)) }
 {
-    Ok(Op::Batch(Batch::from_changes(list_of(alloc, json)?)))
+    let changes = list_of(alloc, json)?;
+    Ok(Op::write(alloc, Batch::from_changes(changes))?)
 }
 
 #[tactic(auto, unfolding(crate::specs::Script::op_of))]

@@ -160,11 +160,15 @@ fn read(alloc: Global, reader: &mut Reader<'_>, depth: usize) -> Option<Op>
     if !reader.take_end_array() {
         return None;
     }
-    Some(Op::Read(Read {
+    let read = Read {
         family,
         keys,
         predicate,
-    }))
+    };
+    match Op::read(alloc, read) {
+        Ok(op) => Some(op),
+        Err(_) => None,
+    }
 }
 
 /// The operation that stands under this name and comes next.
@@ -173,7 +177,10 @@ fn op_under(alloc: Global, name: &str, reader: &mut Reader<'_>, depth: usize) ->
 {
     if name == "batch" {
         let changes = list_in(alloc, reader, depth)?;
-        Some(Op::Batch(Batch::from_changes(changes)))
+        match Op::write(alloc, Batch::from_changes(changes)) {
+            Ok(op) => Some(op),
+            Err(_) => None,
+        }
     } else if name == "read" {
         read(alloc, reader, depth)
     } else {

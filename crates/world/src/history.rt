@@ -49,7 +49,7 @@ fn batch_at(events: &[RunEvent], place: usize) -> Option<&Batch>
                 op: Op::Batch(batch),
                 session: _,
             },
-        ) => Some(batch),
+        ) => Some(batch.get()),
         _ => None,
     }
 }

@@ -4,10 +4,15 @@ use Rattle.std.specs.Prelude.{if◌then◌else◌}
 use Rattle.logical_time.specs.Stamps.{TxnValue}
 use Rattle.txn_state.specs.Ready.{ready_at}
 use Rattle.write_txn.specs.declared.open.Open.TheVariants as in_open
-use Rattle.write_txn.specs.Ledger.{LedgerValue, State, Holds, IsApplied, IsDecided, state_of, state_ready, readied_by, remote_after, ready_complete, lacks_nothing, Becomes}
+use Rattle.column_family.specs.declared.batch.Row.{Row}
+use Rattle.pending.specs.Marks.{MarkList}
+use Rattle.write_txn.specs.declared.open.Missing.{Missing}
+use Rattle.write_txn.specs.Ledger.{LedgerValue, State, Holds, IsApplied, IsDecided, state_of, state_with, state_ready, readied_by, remote_after, ready_complete, lacks_nothing, Becomes}
+use Rattle.write_txn.specs.Stands.{mark_of}
+use Rattle.write_txn.specs.Transactions.{AreMarksOf}
 use Rattle.write_txn.proofs.Txns.{by_txn}
 
-unready_state : (time : ℕ) (s : Option State) → lacks_nothing s ≡ false → state_ready time s ≡ s
+pub unready_state : (time : ℕ) (s : Option State) → lacks_nothing s ≡ false → state_ready time s ≡ s
 unready_state time None waits = refl
 unready_state time (Some IsApplied) waits = refl
 unready_state time (Some (IsDecided commit stamp)) waits = refl
@@ -27,6 +32,28 @@ none_complete time (Some (Holds (in_open.Part p))) waits = refl
 none_complete time (Some (Holds (in_open.Led l))) waits = refl
 none_complete time (Some (Holds (in_open.Remote r))) waits =
     ap (λ (b : Bool). if b then ready_complete (ready_at r.ballot time) else None) waits
+
+-- what is counted marks no row
+unmarked : (m : Missing) (s : Option State) (r : Row) → mark_of (state_with m s) r ≡ mark_of s r
+unmarked m None r = refl
+unmarked m (Some IsApplied) r = refl
+unmarked m (Some (IsDecided commit stamp)) r = refl
+unmarked m (Some (Holds (in_open.Kept k))) r = refl
+unmarked m (Some (Holds (in_open.Part p))) r = refl
+unmarked m (Some (Holds (in_open.Led l))) r = refl
+unmarked m (Some (Holds (in_open.Remote b))) r = refl
+
+pub still_marked : (m : Missing) (t : TxnValue) (marks : MarkList) (l k : LedgerValue) → AreMarksOf marks l → Becomes t (state_with m (state_of l t)) l k → AreMarksOf marks k
+still_marked m t marks l k are becomes r u =
+    are r u ∙ by_txn t u
+    (λ is e.
+    sym (ap (λ (v : Option State). mark_of v r) (becomes u)
+    ∙ ap (λ (b : Bool). mark_of (if b then state_with m (state_of l t) else state_of l u) r) e
+    ∙ unmarked m (state_of l t) r
+    ∙ ap (λ (v : TxnValue). mark_of (state_of l v) r) is))
+    (λ e.
+    sym (ap (λ (v : Option State). mark_of v r) (becomes u)
+    ∙ ap (λ (b : Bool). mark_of (if b then state_with m (state_of l t) else state_of l u) r) e))
 
 stays : (s : Option State) (t : TxnValue) (l : LedgerValue) → s ≡ state_of l t → Becomes t s l l
 stays s t l same u =

@@ -1,5 +1,5 @@
 //! What a shard knows of each transaction.
-ghost use Rattle.std.specs.Prelude.{◌≡◌, ℕ, slice_get, OnOk, OnErr, IfErr, IfSome, None, Some, is_some};
+ghost use Rattle.std.specs.Prelude.{◌≡◌, ℕ, true, false, slice_get, OnOk, OnErr, IfErr, IfSome, None, Some, is_some};
 ghost use Rattle.std.specs.Option.{option_copied};
 ghost use Rattle.logical_time.specs.declared.fault.Fault.TheVariants as fault;
 ghost use Rattle.logical_time.specs.Stamps.{TxnValue};
@@ -8,7 +8,8 @@ use crate::open::{Missing, Open};
 use crate::places::add_status;
 use crate::status::Status;
 use crate::steps::{
-    add_open, count_in, decided_in, finish_in, open_in, prepare_in, ready_in, vote_in,
+    add_open, count_early_in, count_in, decided_in, finish_in, open_in, prepare_in, ready_in,
+    vote_in,
 };
 use logical_time::{Fault, Node, Stamp, Time, TxnId};
 use std::alloc::Global;
@@ -140,6 +141,16 @@ impl Ledger {
         ensures { Becomes txn (state_with missing (state_of self.old txn)) self.old self.new }
     {
         count_in(&self.statuses, &mut self.under_way, txn, missing);
+    }
+
+    /// Counts what was missing of the transaction's ballot, if one waits that misses more. Whether one waits that misses
+    /// nothing else; then nothing is counted. Takes no memory.
+    pub(crate) fn count_early(&mut self, txn: TxnId, missing: Missing) -> bool
+        ensures last { result ≡ lacks_nothing (state_with missing (state_of self.old txn)) }
+        ensures counted { result ≡ false → Becomes txn (state_with missing (state_of self.old txn)) self.old self.new }
+        ensures same { result ≡ true → self.new ≡ self.old }
+    {
+        count_early_in(&self.statuses, &mut self.under_way, txn, missing)
     }
 
     /// Whether a ballot of the transaction waits of which nothing is missing.

@@ -92,6 +92,9 @@ pub(crate) fn count(
     ensures err { OnErr result (HaveSameStates ledger.old ledger.new) }
     ensures memory { IfErr result (λ e. e ≡ fault.Memory) }
 {
+    if !ledger.count_early(txn, missing) {
+        return Ok(None);
+    }
     mark_counted(ledger, marks, txn, &missing, time)?;
     ledger.count(txn, missing);
     Ok(ledger.ready(txn, time))

@@ -4,7 +4,7 @@ ghost use Rattle.messages.specs.Commits.{stamp_for};
 ghost use Rattle.txn_state.specs.RemoteBallot.{missing_in};
 ghost use Rattle.txn_state.specs.Ready.{ready_at};
 ghost use Rattle.txn_state.specs.Voted.{voted};
-ghost use Rattle.write_txn.specs.Ledger.{Holds, state_prepared, state_with, state_applied, part_in, state_voted, completed_by, led_after, complete_in, state_ready, readied_by, remote_after, ready_complete};
+ghost use Rattle.write_txn.specs.Ledger.{Holds, state_prepared, state_with, state_applied, part_in, state_voted, completed_by, led_after, complete_in, state_ready, readied_by, remote_after, ready_complete, lacks_nothing};
 ghost use Rattle.write_txn.specs.Next.{state_next};
 
 use crate::open::{Kept, Led, Missing, Open, Origin, Part, Remote};
@@ -51,6 +51,16 @@ pub(crate) fn prepared(held: Open, time: Time) -> Open
             Origin::Replicated,
         )),
         other => other,
+    }
+}
+
+/// Whether what is under way is a ballot that waits, and this is the last thing that it misses.
+pub(crate) fn is_last(held: &Open, missing: &Missing) -> bool
+    ensures { result ≡ lacks_nothing (state_with missing.now (Some (Holds held.now))) }
+{
+    match held {
+        Open::Remote(remote) => remote.is_last(missing),
+        _ => false,
     }
 }
 

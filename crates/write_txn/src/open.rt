@@ -2,8 +2,8 @@
 ghost use Rattle.std.specs.Prelude.{◌≡◌};
 
 use column_family::Batch;
-use logical_time::{Node, Shard, Stamp, Time, TxnId, Writer, Writers};
-use messages::Cohorts;
+use logical_time::{Node, Shard, Stamp, Time, TxnId, Writer};
+use messages::{Cohorts, Dependencies};
 use std::marker::Model;
 use txn_state::{Ballot, Prepared, RemoteBallot, WritePart};
 
@@ -108,7 +108,7 @@ pub struct Led {
     /// The other shards of the transaction.
     pub cohorts: Cohorts,
     /// What the write depends on.
-    pub dependencies: Writers,
+    pub dependencies: Dependencies,
     /// The stamp of a write of another data centre.
     pub stamp: Option<Stamp>,
 }
@@ -120,7 +120,7 @@ pub struct Remote {
     /// The other shards of the transaction.
     pub cohorts: Cohorts,
     /// What the write depends on.
-    pub dependencies: Writers,
+    pub dependencies: Dependencies,
 }
 
 /// What such a ballot may miss.

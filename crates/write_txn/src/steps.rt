@@ -1,12 +1,12 @@
 //! The steps of what is under way, each over the statuses and the list of what is under way.
-ghost use Rattle.std.specs.Prelude.{◌≡◌, [], OnOk, OnErr, IfErr, IfSome, None, Some};
+ghost use Rattle.std.specs.Prelude.{◌≡◌, [], true, false, OnOk, OnErr, IfErr, IfSome, None, Some};
 ghost use Rattle.std.specs.Option.{option_copied};
 ghost use Rattle.logical_time.specs.declared.fault.Fault.TheVariants as fault;
 ghost use Rattle.write_txn.specs.Ledger as ledger;
 ghost use Rattle.write_txn.specs.Places.{ledger_of};
-ghost use Rattle.write_txn.specs.Ledger.{IsPlaced, state_of, status_in, state_at, txn_of, Holds, IsDecided, Becomes, HaveSameStates, state_prepared, state_applied, part_in, state_voted, completed_by, state_with, state_ready, readied_by};
+ghost use Rattle.write_txn.specs.Ledger.{IsPlaced, state_of, status_in, state_at, txn_of, Holds, IsDecided, Becomes, HaveSameStates, state_prepared, state_applied, part_in, state_voted, completed_by, state_with, state_ready, readied_by, lacks_nothing};
 
-use crate::next::{count, finished, prepared, readied, voted};
+use crate::next::{count, finished, is_last, prepared, readied, voted};
 use crate::open::{Missing, Open};
 use crate::places::{add_status, place_in, put, put_back};
 use crate::status::Status;
@@ -146,6 +146,30 @@ pub(crate) fn count_in(
     if let Some(place) = place_in(statuses, txn) {
         count(&mut under_way[place], missing);
     }
+}
+
+/// Counts what was missing of a transaction's ballot, if one waits that misses more. Whether one waits that misses nothing
+/// else; then nothing is counted.
+pub(crate) fn count_early_in(
+    statuses: &BTreeMap<TxnId, Status>,
+    under_way: &mut Vec<Open>,
+    txn: TxnId,
+    missing: Missing,
+) -> bool
+    requires { IsPlaced (ledger_of statuses.now.entries under_way.old.items) }
+    ensures placed { IsPlaced (ledger_of statuses.now.entries under_way.new.items) }
+    ensures last { result ≡ lacks_nothing (state_with missing (state_of (ledger_of statuses.now.entries under_way.old.items) txn)) }
+    ensures counted { result ≡ false → Becomes txn (state_with missing (state_of (ledger_of statuses.now.entries under_way.old.items) txn)) (ledger_of statuses.now.entries under_way.old.items) (ledger_of statuses.now.entries under_way.new.items) }
+    ensures same { result ≡ true → under_way.new.items ≡ under_way.old.items }
+{
+    let Some(place) = place_in(statuses, txn) else {
+        return false;
+    };
+    if is_last(&under_way[place], &missing) {
+        return true;
+    }
+    count(&mut under_way[place], missing);
+    false
 }
 
 /// Makes the ballot of a transaction ready, if one waits of which nothing is missing.

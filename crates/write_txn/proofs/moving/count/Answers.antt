@@ -1,5 +1,6 @@
-use Rattle.std.proofs.Common.{arith}
+use Rattle.std.proofs.Common.{arith, rules}
 use Rattle.std.proofs.lemmas.Grind.{common_steps}
+use Rattle.write_txn.proofs.Unready.{still_marked}
 use Rattle.write_txn.proofs.moving.count.Goals as goal
 
 pub returns-clause-complete : goal.returns-clause-complete
@@ -16,3 +17,7 @@ returns-clause-own c = grind (arith, common_steps)
 
 pub returns-clause-waits : goal.returns-clause-waits
 returns-clause-waits c = grind (arith, common_steps)
+
+pub returns-then-not-count_early-clause-marks : goal.returns-then-not-count_early-clause-marks
+returns-then-not-count_early-clause-marks c =
+    still_marked c.args.missing c.args.txn c.args.marks.now c.args.ledger.now c.count_early.new.self c.requires (c.count_early.ensures.counted (search rules))
