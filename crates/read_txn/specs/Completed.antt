@@ -5,6 +5,11 @@ use Rattle.slice.specs.declared.read.AnsweredRow.{AnsweredRow}
 use Rattle.messages.specs.declared.rows_at.RowAt.{RowAt}
 use Rattle.messages.specs.Rounds.{answer_of}
 use Rattle.read_txn.specs.States.{Completed}
+use Rattle.read_txn.specs.declared.completing.Taken.{Taken}
+
+-- a row that was taken
+abbrev pub row_of : Taken → RowAt
+row_of t = record { key = t.key.now; columns = t.columns.now; writers = t.writers.now }
 
 -- a row that was taken, as an answer shows it
 abbrev pub shown : RowAt → AnsweredRow

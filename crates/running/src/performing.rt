@@ -10,13 +10,14 @@ use program::{Input, Line, Output, tell};
 use std::alloc::Global;
 use std::fmt::Display;
 use std::io::{Read, Write};
-use std::str;
 use std::sync::Wait;
 use std::thread::Threads;
+use std::{mem, str};
 use workload::{explain, read_script, transcript_text};
 
-/// The text of what threads make of the script that the bytes spell. Waits for locks. Refused with `Script` where they spell
-/// none, and as `run` is.
+/// The text of what threads make of the script that the bytes spell, for a program that ends with it: the memory of the script
+/// and of the transcript is given back with that of the process. Waits for locks. Refused with `Script` where they spell none,
+/// and as `run` is.
 pub fn text_by_threads<T: Threads + Wait + Sync>(
     rt: &T,
     alloc: Global,
@@ -31,7 +32,10 @@ pub fn text_by_threads<T: Threads + Wait + Sync>(
     };
     let script = read_script(alloc, text)?;
     let transcript = run(rt, alloc, &script, workers)?;
-    transcript_text(alloc, &transcript)
+    let text = transcript_text(alloc, &transcript)?;
+    mem::forget(script);
+    mem::forget(transcript);
+    Ok(text)
 }
 
 // What people need to know of a fault of such a run.

@@ -29,8 +29,7 @@ fn writers_of(alloc: Global, ledger: &Ledger, txns: &[TxnId]) -> Result<Vec<Writ
 }
 
 /// The transactions with a mark below the time in an asked row, with their coordinators, in the order of their numbers.
-/// In the order of (k + m) log n for k rows with m marks, where there are n marks or known transactions, whichever are more.
-/// Refused with `Memory` alone.
+/// In the order of (k + m) log n for k rows with m marks among n. Refused with `Memory` alone.
 pub(crate) fn writers_below(kept: &Kept, time: Time, read: &Read) -> Result<Vec<Writer>, Fault>
     ensures ok { (top : TopologyValue) (me : ℕ) (a : ShardState) → Represents top me kept.now a → IfOk result (λ writers. writers.items ≡ asked_below a time read.now) }
     ensures memory { IfErr result (λ e. e ≡ fault.Memory) }

@@ -113,8 +113,8 @@ impl Shard {
         self.kept.clock
     }
 
-    /// The commit time and the stamp with which the shard decided the transaction as its coordinator, if it did. In the
-    /// order of log n for n known transactions.
+    /// The commit time and the stamp with which the shard decided the transaction as its coordinator, if it did. Constant
+    /// on average, however many transactions are known.
     pub fn decided(&self, txn: TxnId) -> Option<(Time, Stamp)>
         ensures { (top : TopologyValue) (me : ℕ) (a : ShardState) → Represents top me self.now a → option_map (λ (d : Decision). (d.commit, d.stamp)) (decision_of txn a) ≡ result }
     {
@@ -122,8 +122,8 @@ impl Shard {
     }
 
     /// The parts that the shard holds, kept or prepared, and hasn't applied, in the order of their transactions' numbers.
-    /// They share the bytes of keys, names and values. In the order of m log n for m of them among n known transactions,
-    /// beside their copies. Refused with `Memory` alone.
+    /// They share the bytes of keys, names and values. In the order of m log m for m of them, beside their copies. Refused
+    /// with `Memory` alone.
     pub fn unfinished(&self) -> Result<Vec<WritePart>, Fault>
         ensures ok { (top : TopologyValue) (me : ℕ) (a : ShardState) → Represents top me self.now a → IfOk result (λ parts. parts.items ≡ unfinished_of top me a) }
         ensures memory { IfErr result (λ e. e ≡ fault.Memory) }

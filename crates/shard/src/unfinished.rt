@@ -58,8 +58,8 @@ fn parts_of(alloc: Global, ledger: &Ledger, txns: &BTreeSet<TxnId>) -> Result<Ve
 }
 
 /// The parts that are kept or prepared and not applied, in the order of their transactions' numbers. They share the
-/// bytes of keys, names and values. In the order of m log n for m of them among n known transactions, beside their copies.
-/// Refused with `Memory` alone.
+/// bytes of keys, names and values. In the order of m log m for m of them, beside their copies. Refused with `Memory`
+/// alone.
 pub(crate) fn unfinished(kept: &Kept) -> Result<Vec<WritePart>, Fault>
     ensures ok { (top : TopologyValue) (me : ℕ) (a : ShardState) → Represents top me kept.now a → IfOk result (λ parts. parts.items ≡ unfinished_of top me a) }
     ensures memory { IfErr result (λ e. e ≡ fault.Memory) }
@@ -69,8 +69,8 @@ pub(crate) fn unfinished(kept: &Kept) -> Result<Vec<WritePart>, Fault>
     parts_of(kept.alloc, ledger, &txns)
 }
 
-/// The commit time and the stamp with which the shard decided the transaction, if it did. In the order of log n for n
-/// known transactions.
+/// The commit time and the stamp with which the shard decided the transaction, if it did. Constant on average, however
+/// many transactions are known.
 pub(crate) fn decided(kept: &Kept, txn: TxnId) -> Option<(Time, Stamp)>
     ensures { (top : TopologyValue) (me : ℕ) (a : ShardState) → Represents top me kept.now a → option_map (λ (d : Decision). (d.commit, d.stamp)) (decision_of txn a) ≡ result }
 {

@@ -15,7 +15,7 @@ use program::{Input, Line, Output, tell};
 use std::alloc::Global;
 use std::fmt::Display;
 use std::io::{Read, Write};
-use std::str;
+use std::{mem, str};
 use world::World;
 
 /// What the program is asked to make of its input.
@@ -53,7 +53,8 @@ impl Task for InWorld {
     }
 }
 
-/// The text of the transcript of the script that the bytes spell. Refused with `Script` where they spell none, or where a
+/// The text of the transcript of the script that the bytes spell, for a program that ends with it: the memory of the script
+/// and of the transcript is given back with that of the process. Refused with `Script` where they spell none, or where a
 /// message that was not sent is to be delivered, with `ClockSpent`, and with `Memory`.
 pub fn sim(alloc: Global, input: &[u8]) -> Result<Vec<u8>, Fault>
     ensures text { IfOk result (λ text. IsTextFor input.now text.items) }
@@ -64,7 +65,10 @@ pub fn sim(alloc: Global, input: &[u8]) -> Result<Vec<u8>, Fault>
     };
     let script = read_script(alloc, text)?;
     let transcript = simulate(alloc, &script)?;
-    transcript_text(alloc, &transcript)
+    let text = transcript_text(alloc, &transcript)?;
+    mem::forget(script);
+    mem::forget(transcript);
+    Ok(text)
 }
 
 // Why an event ends the script.

@@ -9,6 +9,7 @@ pub mod Readying
 pub mod Answering
 pub mod Lists
 pub mod Txns
+pub mod Numbers
 pub mod Replaced
 pub mod Settled
 pub mod Taken

@@ -5,22 +5,21 @@ ghost use Rattle.logical_time.specs.declared.fault.Fault.TheVariants as fault;
 ghost use Rattle.logical_time.specs.Stamps.{TxnValue};
 
 use crate::open::{Missing, Open};
-use crate::places::add_status;
 use crate::status::Status;
+use crate::statuses::Statuses;
 use crate::steps::{
     add_open, count_early_in, count_in, decided_in, finish_in, open_in, prepare_in, ready_in,
     vote_in,
 };
 use logical_time::{Fault, Node, Stamp, Time, TxnId};
 use std::alloc::Global;
-use std::collections::BTreeMap;
 use std::marker::Model;
 use txn_state::{Complete, Prepared};
 
 /// What a shard knows of each transaction: what is under way of it, or, once that is over, that its part is applied or
 /// how it was decided. What is under way must be spent.
 pub struct Ledger {
-    statuses: BTreeMap<TxnId, Status>,
+    statuses: Statuses,
     under_way: Vec<Open>,
 }
 
@@ -29,9 +28,9 @@ impl Model for Ledger {
 
     ghost Value = { LedgerValue };
 
-    ghost view = { λ l. record { statuses = l.statuses.entries; under_way = l.under_way.items } };
+    ghost view = { λ l. record { statuses = l.statuses; under_way = l.under_way.items } };
 
-    ghost invariant = { λ l. IsPlaced (record { statuses = l.statuses.entries; under_way = l.under_way.items }) };
+    ghost invariant = { λ l. IsPlaced (record { statuses = l.statuses; under_way = l.under_way.items }) };
 }
 
 impl Ledger {
@@ -44,17 +43,17 @@ impl Ledger {
         ensures { (t : TxnValue) → state_of result t ≡ None }
     {
         Ledger {
-            statuses: BTreeMap::new(alloc),
+            statuses: Statuses::new(alloc),
             under_way: Vec::new(alloc),
         }
     }
 
-    /// Whether anything is known of the transaction. In the order of log n for n known transactions, as is all that names
-    /// one, beside what counting a vote, a notice or an answer takes.
+    /// Whether anything is known of the transaction. Constant on average, however many transactions are known, as is all
+    /// that names one, beside what counting a vote, a notice or an answer takes.
     pub fn knows(&self, txn: TxnId) -> bool
         ensures { result ≡ is_some (state_of self.now txn) }
     {
-        self.statuses.contains_key(&txn)
+        self.statuses.get(txn).is_some()
     }
 
     /// What is under way of the transaction.
@@ -100,7 +99,7 @@ impl Ledger {
         ensures err { OnErr result (HaveSameStates self.old self.new) }
         ensures memory { IfErr result (λ e. e ≡ fault.Memory) }
     {
-        add_status(&mut self.statuses, txn, Status::Decided { commit, stamp })
+        self.statuses.add(txn, Status::Decided { commit, stamp })
     }
 
     /// Prepares the transaction's part at this time, if one is kept. Takes no memory.

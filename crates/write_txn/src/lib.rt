@@ -10,6 +10,7 @@ mod next;
 mod open;
 mod places;
 mod status;
+mod statuses;
 mod steps;
 mod transactions;
 mod voters;

@@ -13,63 +13,34 @@ ghost use Rattle.write_txn.specs.Places.{place_of, status_set, status_moved, IsP
 use crate::next::Next;
 use crate::open::Open;
 use crate::status::Status;
+use crate::statuses::Statuses;
 use logical_time::{Fault, TxnId};
-use std::collections::BTreeMap;
 
 /// The place of what is under way of a transaction.
-pub(crate) fn place_in(statuses: &BTreeMap<TxnId, Status>, txn: TxnId) -> Option<usize>
-    ensures { result ≡ place_of (status_in statuses.now.entries txn) }
+pub(crate) fn place_in(statuses: &Statuses, txn: TxnId) -> Option<usize>
+    ensures { result ≡ place_of (status_in statuses.now txn) }
 {
-    match statuses.get(&txn) {
+    match statuses.get(txn) {
         Some(Status::Open(place)) => Some(*place),
         _ => None,
     }
 }
 
-/// Gives a transaction this status. Refused with `Memory` alone, and then nothing has changed.
-pub(crate) fn add_status(
-    statuses: &mut BTreeMap<TxnId, Status>,
-    txn: TxnId,
-    status: Status,
-) -> Result<(), Fault>
-    ensures ok { OnOk result ((u : TxnValue) → status_in statuses.new.entries u ≡ (if is_eq (txn_cmp txn u) then Some status else status_in statuses.old.entries u)) }
-    ensures err { OnErr result (statuses.new.entries ≡ statuses.old.entries) }
-    ensures memory { IfErr result (λ e. e ≡ fault.Memory) }
-{
-    statuses.insert(txn, status)?;
-    Ok(())
-}
-
-/// Changes the status of a transaction that has one.
-fn set_status(statuses: &mut BTreeMap<TxnId, Status>, txn: TxnId, status: Status)
-    ensures { (u : TxnValue) → status_in statuses.new.entries u ≡ status_set txn status u (status_in statuses.old.entries u) }
-{
-    if let Some(held) = statuses.get_mut(&txn) {
-        *held = status;
-    }
-}
-
 /// Gives what stands at this place, if something does, the place as its status.
-fn close_gap(statuses: &mut BTreeMap<TxnId, Status>, under_way: &[Open], place: usize)
-    ensures { (u : TxnValue) → status_in statuses.new.entries u ≡ status_moved (slice_get under_way.now place) place u (status_in statuses.old.entries u) }
+fn close_gap(statuses: &mut Statuses, under_way: &[Open], place: usize)
+    ensures { (u : TxnValue) → status_in statuses.new u ≡ status_moved (slice_get under_way.now place) place u (status_in statuses.old u) }
 {
     if let Some(moved) = under_way.get(place) {
-        set_status(statuses, moved.txn(), Status::Open(place));
+        statuses.set(moved.txn(), Status::Open(place));
     }
 }
 
 /// Closes the gap at a place, and changes the status of the transaction that left it.
-fn settle(
-    statuses: &mut BTreeMap<TxnId, Status>,
-    under_way: &[Open],
-    place: usize,
-    txn: TxnId,
-    status: Status,
-)
-    ensures { (u : TxnValue) → status_in statuses.new.entries u ≡ status_set txn status u (status_moved (slice_get under_way.now place) place u (status_in statuses.old.entries u)) }
+fn settle(statuses: &mut Statuses, under_way: &[Open], place: usize, txn: TxnId, status: Status)
+    ensures { (u : TxnValue) → status_in statuses.new u ≡ status_set txn status u (status_moved (slice_get under_way.now place) place u (status_in statuses.old u)) }
 {
     close_gap(statuses, under_way, place);
-    set_status(statuses, txn, status);
+    statuses.set(txn, status);
 }
 
 /// Puts what was taken out at a place back.
@@ -85,7 +56,7 @@ pub(crate) fn put_back(under_way: &mut Vec<Open>, place: usize, held: Open)
 
 /// Puts what became of a transaction in the place of what was taken out there.
 pub(crate) fn put(
-    statuses: &mut BTreeMap<TxnId, Status>,
+    statuses: &mut Statuses,
     under_way: &mut Vec<Open>,
     place: usize,
     txn: TxnId,
@@ -93,7 +64,7 @@ pub(crate) fn put(
 )
     requires place { place ≤ vec_len under_way.old }
     requires room { vec_len under_way.old < vec_capacity under_way.old }
-    ensures { IsPut place txn next statuses.old.entries under_way.old.items statuses.new.entries under_way.new.items }
+    ensures { IsPut place txn next statuses.old under_way.old.items statuses.new under_way.new.items }
 {
     match next {
         Next::Holds(held) => put_back(under_way, place, held),
