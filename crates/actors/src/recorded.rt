@@ -252,13 +252,13 @@ impl<M: Machine> Recorded<M> {
         }
     }
 
-    /// Its machine.
-    pub fn close(self) -> M
-        ensures { result ≡ self.machine }
+    /// Its machine and its journal.
+    pub fn close(self) -> (M, Vec<Event>)
+        ensures { result.0 ≡ self.machine }
     {
         let Recorded {
             machine,
-            journal: _,
+            journal,
             limit: _,
             accepted: _,
             outcomes: _,
@@ -267,7 +267,7 @@ impl<M: Machine> Recorded<M> {
             clock: _,
             timed: _,
         } = self;
-        machine
+        (machine, journal)
     }
 
     /// Puts what the last event sent into the outbox. Refused with `Memory` alone, and then nothing changes.

@@ -23,6 +23,7 @@ use messages::{Envelope, Event, Op, Outbox, Outcome, Topology};
 use std::alloc::Global;
 use std::collections::VecDeque;
 use std::marker::Model;
+use std::mem;
 
 /// The greatest number of a refusal of an operation for what it asks.
 const LAST_OF_REQUEST: u16 = 9;
@@ -357,11 +358,11 @@ impl<M: Machine> Seat<M> {
         Ok(if moved { Turn::Moved } else { Turn::Idle })
     }
 
-    /// Ends the seat, and hands back its machine.
-    pub fn close(self) -> M
-        ensures came { M.came_from self.topology self.node self.journal (followed_by (through self.outgoing) self.outbox) self.outcomes result }
-        ensures taken { M.untaken result ≡ None }
-        ensures free { M.is_free result ≡ self.free }
+    /// Its machine, the ways of what it sent, and its journal.
+    fn ended(self) -> (M, Ways, Vec<Event>)
+        ensures came { M.came_from self.topology self.node self.journal (followed_by (through self.outgoing) self.outbox) self.outcomes result.0 }
+        ensures taken { M.untaken result.0 ≡ None }
+        ensures free { M.is_free result.0 ≡ self.free }
     {
         let Seat {
             topology: _,
@@ -369,7 +370,7 @@ impl<M: Machine> Seat<M> {
             recorded,
             refusals: _,
             backlog: _,
-            outgoing: _,
+            outgoing,
             incoming: _,
             next: _,
             held,
@@ -377,6 +378,30 @@ impl<M: Machine> Seat<M> {
         if let Some(envelope) = held {
             let_go_envelope(envelope);
         }
-        recorded.close()
+        let (machine, journal) = recorded.close();
+        (machine, outgoing, journal)
+    }
+
+    /// Ends the seat, and hands back its machine.
+    pub fn close(self) -> M
+        ensures came { M.came_from self.topology self.node self.journal (followed_by (through self.outgoing) self.outbox) self.outcomes result }
+        ensures taken { M.untaken result ≡ None }
+        ensures free { M.is_free result ≡ self.free }
+    {
+        let (machine, _sent, _journal) = self.ended();
+        machine
+    }
+
+    /// The same for a program that ends with it: the memory of its journal and of what it sent is given back with that of the
+    /// process, which spares a walk through all of it.
+    pub fn leave(self) -> M
+        ensures came { M.came_from self.topology self.node self.journal (followed_by (through self.outgoing) self.outbox) self.outcomes result }
+        ensures taken { M.untaken result ≡ None }
+        ensures free { M.is_free result ≡ self.free }
+    {
+        let (machine, sent, journal) = self.ended();
+        mem::forget(sent);
+        mem::forget(journal);
+        machine
     }
 }

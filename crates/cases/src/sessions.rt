@@ -140,7 +140,7 @@ impl Sending {
         rows.push(row?)?;
         let body = Body::PartNow {
             number: number(from.1),
-            rows: RowsNow::from_vec(rows),
+            rows: RowsNow::from_vec(alloc, rows)?,
         };
         self.hear(from.0, body)
     }
@@ -162,7 +162,7 @@ impl Sending {
     ) -> Result<(), Fault> {
         let mut rows = Vec::new(alloc);
         rows.push(row?)?;
-        self.hear_at(from, AtTime::Rows(RowsAt::from_vec(rows)))
+        self.hear_at(from, AtTime::Rows(RowsAt::from_vec(alloc, rows)?))
     }
 
     /// Adds what was sent and not seen.

@@ -1,6 +1,6 @@
 -- Of two texts the one with the smaller head comes first.
-use Rattle.std.proofs.Common.{◌≡◌, ◌∙◌, ℕ, zero, suc, ◌+◌, ◌*◌, ◌^◌, ◌<◌, ◌≤◌, ap, sym, refl, List, [], ◌∷◌, get_or, length, drop, arith, inl, inr}
-use Rattle.std.specs.Prelude.{◌⊎◌}
+use Rattle.std.proofs.Common.{◌≡◌, ◌∙◌, ℕ, zero, suc, ◌+◌, ◌*◌, ◌^◌, ◌<◌, ◌≤◌, ap, sym, refl, List, [], ◌∷◌, get_or, length, drop, min, arith, inl, inr}
+use Rattle.std.specs.Prelude.{◌⊎◌, ◌%◌}
 use Rattle.std.specs.declared.cmp.Ordering.{Ordering}
 use Rattle.std.specs.declared.cmp.Ordering.TheVariants.{Less, Equal, Greater}
 use Rattle.std.specs.Ordering.{MatchOrdering, nat_cmp, ordering_then, ordering_reverse}
@@ -9,7 +9,7 @@ use Rattle.std.proofs.lemmas.Cmp.{nat_list_cmp_total, nat_cmp_total, tied_itself
 use Rattle.std.proofs.lemmas.Nat.{mul-add-lt, mul-le}
 use Rattle.std.proofs.lemmas.Bool.Decides.{nat_tests}
 use Rattle.std.proofs.Math.Nat.{pow-suc, mul_assoc}
-use Rattle.column_family.specs.Heads.{head_of, StartsWithBytes}
+use Rattle.column_family.specs.Heads.{head_of, rank_of, StartsWithBytes}
 
 wider : (n : ℕ) → 256 ^ suc n ≡ 256 ^ n * 256
 wider n = omega (arith, pow-suc 256 n)
@@ -61,7 +61,7 @@ room (suc (suc (suc (suc (suc (suc (suc zero))))))) head b le h lt = omega (arit
 room (suc (suc (suc (suc (suc (suc (suc (suc n)))))))) head b le h lt = absurd (omega (arith, le))
 
 -- the text with the smaller head comes first
-pub smaller : (n : ℕ) (x y : List ℕ) → StartsWithBytes n x → StartsWithBytes n y → head_of n x < head_of n y → slice_cmp nat_cmp x y ≡ Less
+smaller : (n : ℕ) (x y : List ℕ) → StartsWithBytes n x → StartsWithBytes n y → head_of n x < head_of n y → slice_cmp nat_cmp x y ≡ Less
 unfolding head_of StartsWithBytes
 smaller zero x y hx hy lt = absurd (omega (arith, lt))
 smaller (suc n) [] [] hx hy lt = absurd (omega (arith, lt))
@@ -79,15 +79,6 @@ smaller (suc n) (a ∷ x) (b ∷ y) hx hy lt =
     go Greater e m next =
         let most : (b + 1) * 256 ^ n ≤ a * 256 ^ n = mul-le (b + 1) (256 ^ n) a (256 ^ n) (omega (arith, m)) (omega arith) in
         absurd (omega (arith, most, below n y hy.1, lt))
-
-pub greater : (n : ℕ) (x y : List ℕ) → StartsWithBytes n x → StartsWithBytes n y → head_of n y < head_of n x → slice_cmp nat_cmp x y ≡ Greater
-greater n x y hx hy lt = nat_list_cmp_total.antisymm x y ∙ ap ordering_reverse (smaller n y x hy hx lt)
-
--- where the heads differ, they decide
-pub decided : (n : ℕ) (x y : List ℕ) (o : Ordering) → StartsWithBytes n x → StartsWithBytes n y → o ≡ nat_cmp (head_of n x) (head_of n y) → (o ≡ Equal → ⊥) → o ≡ slice_cmp nat_cmp x y
-decided n x y Less hx hy e differ = sym (smaller n x y hx hy (ranked (head_of n x) (head_of n y) Less e))
-decided n x y Equal hx hy e differ = absurd (differ refl)
-decided n x y Greater hx hy e differ = sym (greater n x y hx hy (ranked (head_of n x) (head_of n y) Greater e))
 
 -- two heads are the same where the first bytes are and what follows them
 apart : (n s t h k : ℕ) → s < t → h < 256 ^ n → s * 256 ^ n + h ≡ t * 256 ^ n + k → ⊥
@@ -116,7 +107,7 @@ lengths_last m = grind (arith, nat_tests)
 lengths_next : (m n : ℕ) → nat_cmp (suc m) (suc n) ≡ nat_cmp m n
 lengths_next m n = grind (arith, nat_tests)
 
-pub alike : (n : ℕ) (x y : List ℕ) → StartsWithBytes n x → StartsWithBytes n y → head_of n x ≡ head_of n y → (length x ≤ n) ⊎ (length y ≤ n) → nat_cmp (length x) (length y) ≡ slice_cmp nat_cmp x y
+alike : (n : ℕ) (x y : List ℕ) → StartsWithBytes n x → StartsWithBytes n y → head_of n x ≡ head_of n y → (length x ≤ n) ⊎ (length y ≤ n) → nat_cmp (length x) (length y) ≡ slice_cmp nat_cmp x y
 unfolding head_of StartsWithBytes
 alike n [] [] hx hy e l = refl
 alike n [] (b ∷ y) hx hy e l = lengths_first (length y)
@@ -143,3 +134,66 @@ behind (suc n) (a ∷ x) (b ∷ y) hx hy e lx ly =
     let w = same_first n a b (head_of n x) (head_of n y) (below n x hx.1) (below n y hy.1) e in
     behind n x y hx.1 hy.1 w.1 (omega (arith, lx)) (omega (arith, ly))
     ∙ sym (ap (λ (t : Ordering). ordering_then t (slice_cmp nat_cmp x y)) (ap (nat_cmp a) (sym w.0) ∙ tied_itself nat_cmp_total a))
+
+-- the count in a rank
+count_most : (x : List ℕ) → min (length x) 8 ≤ 8
+count_most x = grind (arith, nat_tests)
+
+count_few : (x : List ℕ) → min (length x) 8 < 8 → length x ≡ min (length x) 8
+count_few x lt = grind (arith, nat_tests)
+
+count_least : (x : List ℕ) → min (length x) 8 ≤ length x
+count_least x = grind (arith, nat_tests)
+
+counted : (x : List ℕ) → rank_of x % 256 ≡ min (length x) 8
+counted x = let whole : rank_of x ≡ head_of 7 x * 256 + min (length x) 8 = refl in omega (arith, whole, count_most x)
+
+-- where the count is the greatest, there are more bytes than the rank has
+pub at_least : (x : List ℕ) → 8 ≤ rank_of x % 256 → 7 ≤ length x
+at_least x many = omega (arith, many, counted x, count_least x)
+
+-- texts of one rank have the same head and the same count
+pub one_rank : (x y : List ℕ) → rank_of x ≡ rank_of y → (head_of 7 x ≡ head_of 7 y) × (min (length x) 8 ≡ min (length y) 8)
+one_rank x y e =
+    let same : head_of 7 x * 256 + min (length x) 8 ≡ head_of 7 y * 256 + min (length y) 8 = e in
+    (omega (arith, same, count_most x, count_most y), omega (arith, same, count_most x, count_most y))
+
+fewer : (m n : ℕ) → m < n → nat_cmp m n ≡ Less
+fewer m n lt = grind (arith, nat_tests)
+
+-- the text of the smaller rank comes first
+ranked_first : (x y : List ℕ) → StartsWithBytes 7 x → StartsWithBytes 7 y → rank_of x < rank_of y → slice_cmp nat_cmp x y ≡ Less
+ranked_first x y hx hy less = go (nat_cmp (head_of 7 x) (head_of 7 y)) (ranked (head_of 7 x) (head_of 7 y) (nat_cmp (head_of 7 x) (head_of 7 y)) refl)
+  where
+    lt : head_of 7 x * 256 + min (length x) 8 < head_of 7 y * 256 + min (length y) 8
+    lt = less
+
+    by_count : head_of 7 x ≡ head_of 7 y → slice_cmp nat_cmp x y ≡ Less
+    by_count e =
+        let few : min (length x) 8 < min (length y) 8 = omega (arith, e, lt) in
+        let own : length x ≡ min (length x) 8 = count_few x (omega (arith, few, count_most y)) in
+        let short : length x ≤ 7 = omega (arith, own, few, count_most y) in
+        sym (alike 7 x y hx hy e (inl short)) ∙ fewer (length x) (length y) (omega (arith, own, few, count_least y))
+
+    go : (o : Ordering) → MatchOrdering o (head_of 7 x < head_of 7 y) (head_of 7 x ≡ head_of 7 y) (head_of 7 y < head_of 7 x) → slice_cmp nat_cmp x y ≡ Less
+    go Less m = smaller 7 x y hx hy m
+    go Equal m = by_count m
+    go Greater m = absurd (omega (arith, m, lt, count_most x, count_most y))
+
+-- where the ranks differ, they decide
+pub decided : (x y : List ℕ) (o : Ordering) → StartsWithBytes 7 x → StartsWithBytes 7 y → o ≡ nat_cmp (rank_of x) (rank_of y) → (o ≡ Equal → ⊥) → o ≡ slice_cmp nat_cmp x y
+decided x y Less hx hy e differ = sym (ranked_first x y hx hy (ranked (rank_of x) (rank_of y) Less e))
+decided x y Equal hx hy e differ = absurd (differ refl)
+decided x y Greater hx hy e differ =
+    sym (nat_list_cmp_total.antisymm x y ∙ ap ordering_reverse (ranked_first y x hy hx (ranked (rank_of x) (rank_of y) Greater e)))
+
+-- texts of one rank with few bytes are the same
+pub few_alike : (x y : List ℕ) → StartsWithBytes 7 x → StartsWithBytes 7 y → rank_of x ≡ rank_of y → rank_of x % 256 < 8 → Equal ≡ slice_cmp nat_cmp x y
+few_alike x y hx hy e lt =
+    let w = one_rank x y e in
+    let few : min (length x) 8 < 8 = omega (arith, lt, counted x) in
+    let own : length x ≡ min (length x) 8 = count_few x few in
+    let other : length y ≡ min (length y) 8 = count_few y (omega (arith, few, w.1)) in
+    let same : length x ≡ length y = omega (arith, own, other, w.1) in
+    sym (tied_itself nat_cmp_total (length y)) ∙ ap (λ n. nat_cmp n (length y)) (sym same)
+    ∙ alike 7 x y hx hy w.0 (inl (omega (arith, own, few)))

@@ -1,5 +1,5 @@
 -- How the first bytes of a text order it.
-use Rattle.std.specs.Prelude.{ℕ, ◌+◌, ◌*◌, ◌^◌, ◌<◌, suc, zero, List, [], ◌∷◌}
+use Rattle.std.specs.Prelude.{ℕ, ◌+◌, ◌*◌, ◌^◌, ◌<◌, suc, zero, List, [], ◌∷◌, length, min}
 
 -- the first n bytes as one number, of which the first weighs most; one that isn't there counts 0
 unfoldable pub head_of : ℕ → List ℕ → ℕ
@@ -12,3 +12,7 @@ unfoldable pub StartsWithBytes : ℕ → List ℕ → Type 0
 StartsWithBytes zero bytes = Unit {0}
 StartsWithBytes (suc n) [] = Unit {0}
 StartsWithBytes (suc n) (b ∷ bytes) = (b < 256) × StartsWithBytes n bytes
+
+-- a text's rank: its first seven bytes as one number, and then how many it has, where 8 stands for all counts from there on
+abbrev pub rank_of : List ℕ → ℕ
+rank_of bytes = head_of 7 bytes * 256 + min (length bytes) 8

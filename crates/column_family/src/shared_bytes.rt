@@ -12,15 +12,11 @@ use std::cmp::Ordering;
 use std::marker::Model;
 use std::sync::Arc;
 
-/// How many bytes a head has.
-const HEAD: usize = 8;
+/// How many bytes stand in a rank.
+const HEAD: usize = 7;
 
-/// Bytes with their head, the first of them as one number, by which most are put in order at once.
-#[derive(Drop)]
-struct Headed {
-    head: u64,
-    bytes: Stored,
-}
+/// The count in a rank that stands for itself and all above it.
+const MANY: u64 = 8;
 
 // The byte at a place, and 0 where none is there.
 fn byte_at(bytes: &[u8], place: usize) -> u8
@@ -29,16 +25,16 @@ fn byte_at(bytes: &[u8], place: usize) -> u8
     bytes.get(place).copied().unwrap_or(0)
 }
 
-// The first bytes as one number, of which the first weighs most.
-fn head_of(bytes: &[u8]) -> u64
-    ensures head { result ≡ heads.head_of 8 bytes.now }
-    ensures bytes { StartsWithBytes 8 bytes.now }
+// The rank of a text: its first bytes as one number, of which the first weighs most, and then how many it has.
+fn rank_of(bytes: &[u8]) -> u64
+    ensures rank { result ≡ heads.rank_of bytes.now }
+    ensures bytes { StartsWithBytes 7 bytes.now }
 {
     let mut head: u64 = 0;
     for place in 0..HEAD {
         head = head * 256 + u64::from(byte_at(bytes, place));
     }
-    head
+    head * 256 + (bytes.len() as u64).min(MANY)
 }
 
 // Compares byte by byte, since most differ soon: slices are compared by groups of bytes, which costs more.
@@ -48,20 +44,24 @@ fn cmp_bytes(bytes: &[u8], others: &[u8]) -> Ordering
     bytes.iter().cmp(others.iter())
 }
 
-/// Bytes that copies share, compared as bytes. A copy copies no byte and takes no memory.
+/// Bytes that copies share, compared as bytes, with their rank, by which most are put in order, and few are the same, with no
+/// look at the bytes. A copy copies no byte and takes no memory.
 #[derive(Drop, Clone)]
-pub(crate) struct SharedBytes(Arc<Headed>);
+pub(crate) struct SharedBytes {
+    rank: u64,
+    bytes: Arc<Stored>,
+}
 
 impl Model for SharedBytes {
     ghost use Rattle.std.specs.Prelude.{List, ℕ, ◌≡◌};
-    ghost use Rattle.column_family.specs.Heads.{head_of, StartsWithBytes};
+    ghost use Rattle.column_family.specs.Heads.{rank_of, StartsWithBytes};
     ghost use Rattle.column_family.specs.Stored.{bytes_of};
 
     ghost Value = { List ℕ };
 
-    ghost view = { λ bytes. bytes_of bytes.0.value.bytes };
+    ghost view = { λ bytes. bytes_of bytes.bytes.value };
 
-    ghost invariant = { λ bytes. (bytes.0.value.head ≡ head_of 8 (bytes_of bytes.0.value.bytes)) × StartsWithBytes 8 (bytes_of bytes.0.value.bytes) };
+    ghost invariant = { λ bytes. (bytes.rank ≡ rank_of (bytes_of bytes.bytes.value)) × StartsWithBytes 7 (bytes_of bytes.bytes.value) };
 }
 
 impl SharedBytes {
@@ -69,33 +69,31 @@ impl SharedBytes {
     pub(crate) fn from_slice(alloc: Global, bytes: &[u8]) -> Result<SharedBytes, AllocError>
         ensures { IfOk result (λ copy. copy ≡ bytes.now) }
     {
-        let headed = Headed {
-            head: head_of(bytes),
-            bytes: Stored::from_slice(alloc, bytes)?,
-        };
-        Ok(SharedBytes(Arc::new(alloc, headed)?))
+        let stored = Stored::from_slice(alloc, bytes)?;
+        Ok(SharedBytes {
+            rank: rank_of(bytes),
+            bytes: Arc::new(alloc, stored)?,
+        })
     }
 
     /// The bytes.
     pub(crate) fn as_slice(&self) -> &[u8]
         ensures { result.now ≡ self.now }
     {
-        self.0.bytes.as_slice()
+        self.bytes.as_slice()
     }
 
-    // Compares with bytes whose head is the same. Where both go on behind it, what is there decides; else the shorter are
-    // a beginning of the others.
+    // Compares with bytes of the same rank: few are the same then, and of many what follows the rank decides.
     fn cmp_alike(&self, other: &SharedBytes) -> Ordering
-        requires head { heads.head_of 8 self.now ≡ heads.head_of 8 other.now }
-        requires own { StartsWithBytes 8 self.now }
-        requires others { StartsWithBytes 8 other.now }
+        requires rank { heads.rank_of self.now ≡ heads.rank_of other.now }
+        requires own { StartsWithBytes 7 self.now }
+        requires others { StartsWithBytes 7 other.now }
         ensures { result ≡ slice_cmp nat_cmp self.now other.now }
     {
-        let (own, others) = (self.as_slice(), other.as_slice());
-        if own.len() <= HEAD || others.len() <= HEAD {
-            return own.len().cmp(&others.len());
+        if self.rank % 256 < MANY {
+            return Ordering::Equal;
         }
-        cmp_bytes(&own[HEAD..], &others[HEAD..])
+        cmp_bytes(&self.as_slice()[HEAD..], &other.as_slice()[HEAD..])
     }
 }
 
@@ -105,7 +103,7 @@ impl PartialEq for SharedBytes {
     ghost laws = { partial_equiv_from_equiv nat_list_eq_equiv };
 
     fn eq(&self, other: &SharedBytes) -> bool {
-        self.as_slice() == other.as_slice()
+        self.cmp(other).is_eq()
     }
 }
 
@@ -133,7 +131,7 @@ impl Ord for SharedBytes {
     ghost matches_eq = { texts_ties };
 
     fn cmp(&self, other: &SharedBytes) -> Ordering {
-        match self.0.head.cmp(&other.0.head) {
+        match self.rank.cmp(&other.rank) {
             Ordering::Equal => self.cmp_alike(other),
             order => order,
         }

@@ -111,7 +111,7 @@ fn answer(
         return Ok(AtTime::Collected);
     }
     let rows = rows_at(alloc, store, coming, time, read)?;
-    Ok(AtTime::Rows(RowsAt::from_vec(rows)))
+    Ok(AtTime::Rows(RowsAt::from_vec(alloc, rows)?))
 }
 
 /// What a shard with this store answers to a read at a time: the asked rows as they are then, in the order in which

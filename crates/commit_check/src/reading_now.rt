@@ -81,5 +81,5 @@ pub fn rows_now(
     for key in read.keys.as_slice() {
         rows.push(one_now(store, marks, clock, read, key)?)?;
     }
-    Ok(RowsNow::from_vec(rows))
+    Ok(RowsNow::from_vec(alloc, rows)?)
 }

@@ -1,10 +1,12 @@
 //! What shards answer in the second round of a read.
-ghost use Rattle.std.specs.Prelude.{◌≡◌};
+ghost use Rattle.std.specs.Prelude.{◌≡◌, IfOk};
 
 use column_family::Key;
 use logical_time::Writers;
 use slice::Columns;
+use std::alloc::{AllocError, Global};
 use std::marker::Model;
+use std::sync::Arc;
 
 /// An asked row at a time.
 #[derive(Drop, Clone)]
@@ -17,10 +19,10 @@ pub struct RowAt {
     pub writers: Writers,
 }
 
-/// Asked rows of one shard at a time.
+/// Asked rows of one shard at a time. Copies share them.
 #[derive(Drop, Clone)]
 pub struct RowsAt {
-    rows: Vec<RowAt>,
+    rows: Arc<Vec<RowAt>>,
 }
 
 impl Model for RowsAt {
@@ -29,15 +31,18 @@ impl Model for RowsAt {
 
     ghost Value = { List RowAt };
 
-    ghost view = { λ list. list.rows.items };
+    ghost view = { λ list. list.rows.value.items };
 }
 
 impl RowsAt {
-    /// These rows.
-    pub fn from_vec(rows: Vec<RowAt>) -> RowsAt
-        ensures { result ≡ rows.items }
+    /// These rows. Fails by memory alone.
+    pub fn from_vec(alloc: Global, rows: Vec<RowAt>) -> Result<RowsAt, AllocError>
+        ensures { IfOk result (λ list. list ≡ rows.items) }
     {
-        RowsAt { rows }
+        match Arc::new(alloc, rows) {
+            Ok(rows) => Ok(RowsAt { rows }),
+            Err(_) => Err(AllocError),
+        }
     }
 
     /// The rows, in the order in which they were asked.
@@ -45,14 +50,6 @@ impl RowsAt {
         ensures { result.now ≡ self.now }
     {
         self.rows.as_slice()
-    }
-
-    /// The rows, handed out.
-    pub fn into_vec(self) -> Vec<RowAt>
-        ensures { result.items ≡ self }
-    {
-        let RowsAt { rows } = self;
-        rows
     }
 }
 

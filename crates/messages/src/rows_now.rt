@@ -1,10 +1,12 @@
 //! What shards answer in the first round of a read.
-ghost use Rattle.std.specs.Prelude.{◌≡◌};
+ghost use Rattle.std.specs.Prelude.{◌≡◌, IfOk};
 
 use column_family::Key;
 use logical_time::{Time, Writers};
 use slice::Columns;
+use std::alloc::{AllocError, Global};
 use std::marker::Model;
+use std::sync::Arc;
 
 /// An asked row by its newest versions.
 #[derive(Drop, Clone)]
@@ -21,10 +23,10 @@ pub struct RowNow {
     pub lvt: Time,
 }
 
-/// The asked rows of one shard by their newest versions.
+/// The asked rows of one shard by their newest versions. Copies share them.
 #[derive(Drop, Clone)]
 pub struct RowsNow {
-    rows: Vec<RowNow>,
+    rows: Arc<Vec<RowNow>>,
 }
 
 impl Model for RowsNow {
@@ -33,15 +35,18 @@ impl Model for RowsNow {
 
     ghost Value = { List RowNow };
 
-    ghost view = { λ list. list.rows.items };
+    ghost view = { λ list. list.rows.value.items };
 }
 
 impl RowsNow {
-    /// These rows.
-    pub fn from_vec(rows: Vec<RowNow>) -> RowsNow
-        ensures { result ≡ rows.items }
+    /// These rows. Fails by memory alone.
+    pub fn from_vec(alloc: Global, rows: Vec<RowNow>) -> Result<RowsNow, AllocError>
+        ensures { IfOk result (λ list. list ≡ rows.items) }
     {
-        RowsNow { rows }
+        match Arc::new(alloc, rows) {
+            Ok(rows) => Ok(RowsNow { rows }),
+            Err(_) => Err(AllocError),
+        }
     }
 
     /// The rows, in the order in which they were asked.
@@ -49,13 +54,5 @@ impl RowsNow {
         ensures { result.now ≡ self.now }
     {
         self.rows.as_slice()
-    }
-
-    /// The rows, handed out.
-    pub fn into_vec(self) -> Vec<RowNow>
-        ensures { result.items ≡ self }
-    {
-        let RowsNow { rows } = self;
-        rows
     }
 }

@@ -1,8 +1,8 @@
 //! The cut of a read by shards.
-ghost use Rattle.std.specs.Prelude.{◌≡◌, List, ℕ, map, filter, IfOk, IfErr};
-ghost use Rattle.std.specs.List.{list_any};
+ghost use Rattle.std.specs.Prelude.{◌≡◌, map, IfOk, IfErr};
 ghost use Rattle.planner.specs.Checks.{read_fault, IsRefusedForOrMemory};
 ghost use Rattle.planner.specs.Plan as plans;
+ghost use Rattle.planner.specs.Placed.{keys_in, place_of, placed_in};
 ghost use Rattle.planner.specs.Planned.{keys_on, IsKeyCut};
 
 use crate::checks::check_read;
@@ -29,25 +29,38 @@ pub struct ReadPlan {
     pub asked: Vec<ShardKeys>,
 }
 
+/// A key that is asked, and its shard.
+#[derive(Drop)]
+struct Placed {
+    key: Key,
+    shard: Shard,
+}
+
+/// Each of the keys with its shard.
+fn with_shards(alloc: Global, keys: Vec<Key>, shards: Shards) -> Result<Vec<Placed>, Fault>
+    ensures exact { IfOk result (λ all. map place_of all.items ≡ map (placed_in shards) keys.items) }
+    ensures memory { IfErr result (λ e. e ≡ Fault.Memory) }
+{
+    let mut all = Vec::with_capacity(alloc, keys.len())?;
+    for key in keys {
+        let shard = shard_of(&key, shards);
+        all.push(Placed { key, shard })?;
+    }
+    Ok(all)
+}
+
 /// The keys of a shard among these.
-fn keys_of(alloc: Global, keys: &[Key], shard: Shard, shards: Shards) -> Result<Vec<Key>, Fault>
-    ensures exact { IfOk result (λ own. own.items ≡ filter (plans.is_on shards shard) keys.now) }
+fn keys_of(alloc: Global, keys: &[Placed], shard: Shard) -> Result<Vec<Key>, Fault>
+    ensures exact { IfOk result (λ own. own.items ≡ keys_in shard (map place_of keys.now)) }
     ensures memory { IfErr result (λ e. e ≡ Fault.Memory) }
 {
     let mut own = Vec::new(alloc);
-    for key in keys {
-        if shard_of(key, shards) == shard {
-            own.push(key.clone()?)?;
+    for one in keys {
+        if one.shard == shard {
+            own.push(one.key.clone()?)?;
         }
     }
     Ok(own)
-}
-
-/// Whether one of the keys is on the shard.
-fn is_asked(keys: &[Key], shard: Shard, shards: Shards) -> bool
-    ensures { result ≡ list_any (plans.is_on shards shard) keys.now }
-{
-    keys.iter().any(|key| shard_of(key, shards) == shard)
 }
 
 /// The keys of each shard that has some of those that a read lists, ascending by shard.
@@ -56,10 +69,11 @@ fn cut(alloc: Global, keys: &[Key], shards: Shards) -> Result<ReadPlan, Fault>
     ensures memory { IfErr result (λ e. e ≡ Fault.Memory) }
 {
     let once = each_once(alloc, keys)?;
+    let placed = with_shards(alloc, once, shards)?;
     let mut asked = Vec::new(alloc);
     for shard in shards.all() {
-        if is_asked(keys, shard, shards) {
-            let own = keys_of(alloc, &once, shard, shards)?;
+        let own = keys_of(alloc, &placed, shard)?;
+        if !own.is_empty() {
             asked.push(ShardKeys {
                 shard,
                 keys: Keys::from_vec(alloc, own)?,
@@ -70,7 +84,7 @@ fn cut(alloc: Global, keys: &[Key], shards: Shards) -> Result<ReadPlan, Fault>
 }
 
 /// The plan of a read for so many shards: its keys, each once, cut by shards. In the order of n log n for n keys as
-/// listed, and twice through them for each shard. Refused as `check_read` refuses it, and else with `Memory` alone.
+/// listed, and once through them for each shard. Refused as `check_read` refuses it, and else with `Memory` alone.
 pub fn plan_read(
     alloc: Global,
     read: &Read,

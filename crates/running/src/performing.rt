@@ -3,7 +3,7 @@ ghost use Rattle.std.specs.Prelude.{◌≡◌, ◌⊎◌, IsSome, IfOk, IfErr};
 ghost use Rattle.workload.specs.Performing.{Prints, Ends, TellsUnread};
 ghost use Rattle.running.specs.Performing.{IsThreadTextFor, IsThreadRefused};
 
-use crate::scripts::run;
+use crate::scripts::run_to_the_end;
 use crate::workers::Workers;
 use logical_time::Fault;
 use program::{Input, Line, Output, tell};
@@ -15,9 +15,9 @@ use std::thread::Threads;
 use std::{mem, str};
 use workload::{explain, read_script, transcript_text};
 
-/// The text of what threads make of the script that the bytes spell, for a program that ends with it: the memory of the script
-/// and of the transcript is given back with that of the process. Waits for locks. Refused with `Script` where they spell none,
-/// and as `run` is.
+/// The text of what threads make of the script that the bytes spell, for a program that ends with it: the memory of the script,
+/// of what the seats recorded and of the transcript is given back with that of the process. Waits for locks. Refused with
+/// `Script` where they spell none, and as `run` is.
 pub fn text_by_threads<T: Threads + Wait + Sync>(
     rt: &T,
     alloc: Global,
@@ -31,7 +31,7 @@ pub fn text_by_threads<T: Threads + Wait + Sync>(
         return Err(Fault::Script);
     };
     let script = read_script(alloc, text)?;
-    let transcript = run(rt, alloc, &script, workers)?;
+    let transcript = run_to_the_end(rt, alloc, &script, workers)?;
     let text = transcript_text(alloc, &transcript)?;
     mem::forget(script);
     mem::forget(transcript);

@@ -11,28 +11,31 @@ use logical_time::Fault;
 use std::alloc::Global;
 use std::sync::Wait;
 use std::thread::Threads;
-use threaded::conclude;
+use threaded::{Concluded, conclude};
 use workload::{Script, Transcript};
 
-/// Runs a script by so many workers, and concludes what they did. Refused as a seat, as the seats are concluded, and as `tell`.
+/// Runs a script by so many workers, concludes what they did, and tells it. Refused as a seat, as the seats are concluded, and
+/// as `tell`.
 fn run_by<R: Threads + Wait + Sync>(
     rt: &R,
     alloc: Global,
     script: &Script,
     workers: &Workers,
-) -> Result<Transcript, Fault>
-    ensures told { IfOk result (IsThreadTranscriptOf script.now) }
+) -> Result<(Transcript, Concluded), Fault>
+    ensures told { IfOk result (λ told. IsThreadTranscriptOf script.now told.0) }
 {
     // there is a session
     let _limits = script.topology.homes();
     let seats = seats_of(alloc, script)?;
     let seats = run_seats(rt, alloc, seats, workers.get())?;
     match conclude(alloc, seats) {
-        Ok(concluded) => {
-            let told = tell(alloc, script, &concluded);
-            concluded.close();
-            told
-        }
+        Ok(concluded) => match tell(alloc, script, &concluded) {
+            Ok(transcript) => Ok((transcript, concluded)),
+            Err(fault) => {
+                concluded.close();
+                Err(fault)
+            }
+        },
         Err((fault, seats)) => {
             close_all(seats);
             Err(fault)
@@ -47,6 +50,22 @@ fn known(fault: Fault) -> Fault
     match fault {
         Fault::ClockSpent | Fault::Memory | Fault::JournalFull => fault,
         _ => Fault::StrangerEnd,
+    }
+}
+
+/// The same, and `known` of the fault.
+fn told_by<R: Threads + Wait + Sync>(
+    rt: &R,
+    alloc: Global,
+    script: &Script,
+    workers: &Workers,
+) -> Result<(Transcript, Concluded), Fault>
+    ensures told { IfOk result (λ told. IsThreadTranscriptOf script.now told.0) }
+    ensures refused { IfErr result IsOfRun }
+{
+    match run_by(rt, alloc, script, workers) {
+        Ok(told) => Ok(told),
+        Err(fault) => Err(known(fault)),
     }
 }
 
@@ -66,8 +85,22 @@ pub fn run<R: Threads + Wait + Sync>(
     ensures told { IfOk result (IsThreadTranscriptOf script.now) }
     ensures refused { IfErr result IsOfRun }
 {
-    match run_by(rt, alloc, script, workers) {
-        Ok(transcript) => Ok(transcript),
-        Err(fault) => Err(known(fault)),
-    }
+    let (transcript, concluded) = told_by(rt, alloc, script, workers)?;
+    concluded.close();
+    Ok(transcript)
+}
+
+/// The same for a program that ends with it: the memory of what the seats recorded is given back with that of the process.
+pub(crate) fn run_to_the_end<R: Threads + Wait + Sync>(
+    rt: &R,
+    alloc: Global,
+    script: &Script,
+    workers: &Workers,
+) -> Result<Transcript, Fault>
+    ensures told { IfOk result (IsThreadTranscriptOf script.now) }
+    ensures refused { IfErr result IsOfRun }
+{
+    let (transcript, concluded) = told_by(rt, alloc, script, workers)?;
+    concluded.leave();
+    Ok(transcript)
 }

@@ -10,6 +10,13 @@ use std::sync::Mutex;
 use threaded::Actor;
 use workload::{Event, Script};
 
+/// How many envelopes a ring of such a run holds: so few that the rings stay in the cache of a processor. What finds no place
+/// waits at its seat.
+const RING: usize = 32;
+
+/// How many events the journal of a seat may hold.
+const JOURNAL: usize = 1_000_000;
+
 /// Ends seats and their machines.
 pub(crate) fn close_all(mut seats: Vec<Seat<Actor>>) {
     while let Some(seat) = seats.pop() {
@@ -39,7 +46,7 @@ fn load_all(alloc: Global, seats: &mut [Seat<Actor>], events: &[Event]) -> Resul
 pub(crate) fn seats_of(alloc: Global, script: &Script) -> Result<Vec<Seat<Actor>>, Fault>
     ensures count { IfOk result (λ seats. length seats.items ≡ node_count script.now.topology) }
 {
-    let mut seats = Mesh::build(alloc, &script.topology)?;
+    let mut seats = Mesh::build_sized(alloc, &script.topology, RING, JOURNAL)?;
     match load_all(alloc, seats.as_mut_slice(), script.events.as_slice()) {
         Ok(()) => Ok(seats),
         Err(fault) => {

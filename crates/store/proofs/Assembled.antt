@@ -1,9 +1,10 @@
 -- A part put together from the columns that are seen.
 use Rattle.std.proofs.Common.{◌≡◌, ◌∙◌, ap, sym, subst, ℕ, max, Bool, true, false, List, [], ◌∷◌, ◌++◌, map, filter_map, Option, Some, None, option_map, Contains, Result, Ok, Err, IfOk}
 use Rattle.std.specs.Prelude.{if◌then◌else◌, option_to_list, ◌↔◌}
-use Rattle.std.specs.List.{cons_option}
+use Rattle.std.specs.List.{cons_option, dedup}
 use Rattle.std.specs.List.Sorted.{IsStrictlySortedBy}
 use Rattle.logical_time.specs.Stamps.{WriterValue, writer_cmp}
+use Rattle.logical_time.proofs.WriterOrder.{same_writer, kept_once, only_kept}
 use Rattle.slice.specs.declared.column.Column.{Column}
 use Rattle.slice.specs.declared.predicate.Predicate.{Predicate}
 use Rattle.slice.specs.Slice.{is_asked, AreAsked, slice_of}
@@ -50,6 +51,14 @@ part_made p part items d live found asks lives cut writes same in_order evt =
       in_order = in_order;
       evt = evt ∙ ap (λ ts. max (evt_or_0 d) (greatest_of ts)) (sym (map_of_map (λ (s : NamedVersion). s.1.evt) named items));
     }
+
+-- writers that lose neighbours that are the same are those writers
+pub deduped_first : (found once writers : List WriterValue) → once ≡ dedup same_writer found
+    → ((w : WriterValue) → Contains writers w ↔ Contains once w) → (w : WriterValue) → Contains writers w ↔ Contains found w
+deduped_first found once writers e same w = (
+  λ has. only_kept found w (subst (λ ws. Contains ws w) e ((same w).0 has)),
+  λ has. (same w).1 (subst (λ ws. Contains ws w) (sym e) (kept_once found w has)),
+)
 
 -- a part that is made of what is seen is what is seen
 pub made_seen : (f : Sight) (p : Predicate) (part : Part) (seen : List NamedVersion) (d : Option Version) → AreSeen f p seen → d ≡ f None

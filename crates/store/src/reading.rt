@@ -164,7 +164,9 @@ fn made_of(
     let live = live_ones(alloc, deletion, seen)?;
     let shown = first_of_walk(live, predicate);
     let found = live_columns(alloc, deletion, shown.as_slice())?;
-    let rested = writers_of(alloc, predicate, found.as_slice(), deletion, seen)?;
+    let mut rested = writers_of(alloc, predicate, found.as_slice(), deletion, seen)?;
+    // mostly one transaction wrote all columns of a row
+    rested.dedup();
     let writers = Writers::sorted(rested)?;
     let columns = Columns::from_vec(alloc, found)?;
     Ok(Part {

@@ -17,6 +17,7 @@ use logical_time::{Fault, Node};
 use messages::Topology;
 use std::alloc::Global;
 use std::marker::Model;
+use std::mem;
 use table::History;
 use world::Completed;
 
@@ -143,6 +144,21 @@ impl Concluded {
         } = self;
         while let Some(seat) = seats.pop() {
             actors::Machine::close(seat.close());
+        }
+        seats.destroy_empty();
+    }
+
+    /// The same for a program that ends with them: the memory of what they recorded and of the transcript is given back with
+    /// that of the process.
+    pub fn leave(self) {
+        let Concluded {
+            topology: _,
+            mut seats,
+            transcript,
+        } = self;
+        mem::forget(transcript);
+        while let Some(seat) = seats.pop() {
+            actors::Machine::close(seat.leave());
         }
         seats.destroy_empty();
     }

@@ -6,7 +6,7 @@ ghost use Rattle.workload.specs.Performing.{IsTextFor, IsRefused, Prints, Ends, 
 use crate::explaining;
 use crate::reading::read_script;
 use crate::script::{Event, Script};
-use crate::simulating::{play, simulate};
+use crate::simulating::{play, simulate_to_the_end};
 use crate::text::transcript_text;
 use crate::transcript::Transcript;
 use json::{Scratch, Value as Json};
@@ -53,9 +53,9 @@ impl Task for InWorld {
     }
 }
 
-/// The text of the transcript of the script that the bytes spell, for a program that ends with it: the memory of the script
-/// and of the transcript is given back with that of the process. Refused with `Script` where they spell none, or where a
-/// message that was not sent is to be delivered, with `ClockSpent`, and with `Memory`.
+/// The text of the transcript of the script that the bytes spell, for a program that ends with it: the memory of the script,
+/// of what its world recorded and of the transcript is given back with that of the process. Refused with `Script` where they
+/// spell none, or where a message that was not sent is to be delivered, with `ClockSpent`, and with `Memory`.
 pub fn sim(alloc: Global, input: &[u8]) -> Result<Vec<u8>, Fault>
     ensures text { IfOk result (λ text. IsTextFor input.now text.items) }
     ensures refused { IfErr result (IsRefused input.now) }
@@ -64,7 +64,7 @@ pub fn sim(alloc: Global, input: &[u8]) -> Result<Vec<u8>, Fault>
         return Err(Fault::Script);
     };
     let script = read_script(alloc, text)?;
-    let transcript = simulate(alloc, &script)?;
+    let transcript = simulate_to_the_end(alloc, &script)?;
     let text = transcript_text(alloc, &transcript)?;
     mem::forget(script);
     mem::forget(transcript);

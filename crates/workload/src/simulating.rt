@@ -140,11 +140,25 @@ fn play_all(world: &mut World, events: &[Event], transcript: &mut Transcript) ->
     Ok(())
 }
 
-/// The transcript of a script, whose events happen in a world of its topology, in order: the outcome of each operation,
-/// where it ended, and the refusal of each submission that was refused. Refused with `Script` at an event that names a
-/// message that was not sent, or an actor that isn't there, with `ClockSpent` where a clock would leave its range, and with
-/// `Memory`. Linear in the script and in what is delivered, each at the cost of its delivery.
-pub fn simulate(alloc: Global, script: &Script) -> Result<Transcript, Fault>
+/// What becomes of a world at the end of its run.
+#[derive(Drop)]
+enum End {
+    /// It is closed.
+    Close,
+    /// It is left to the end of the process.
+    Leave,
+}
+
+/// Ends a world.
+fn end(world: World, how: End) {
+    match how {
+        End::Close => world.close(),
+        End::Leave => world.leave(),
+    }
+}
+
+/// The transcript of a script, and the end of its world.
+fn simulate_and(alloc: Global, script: &Script, how: End) -> Result<Transcript, Fault>
     ensures ok { IfOk result (IsTranscriptOf script.now) }
     ensures faults { IfErr result (λ e. (e ≡ Fault.Memory) ⊎ (simulated script.now ≡ Err e)) }
 {
@@ -153,7 +167,26 @@ pub fn simulate(alloc: Global, script: &Script) -> Result<Transcript, Fault>
     let mut world = World::new(alloc, &script.topology)?;
     let mut transcript = Transcript::new(alloc);
     let played = play_all(&mut world, script.events.as_slice(), &mut transcript);
-    world.close();
+    end(world, how);
     played?;
     Ok(transcript)
+}
+
+/// The transcript of a script, whose events happen in a world of its topology, in order: the outcome of each operation,
+/// where it ended, and the refusal of each submission that was refused. Refused with `Script` at an event that names a
+/// message that was not sent, or an actor that isn't there, with `ClockSpent` where a clock would leave its range, and with
+/// `Memory`. Linear in the script and in what is delivered, each at the cost of its delivery.
+pub fn simulate(alloc: Global, script: &Script) -> Result<Transcript, Fault>
+    ensures ok { IfOk result (IsTranscriptOf script.now) }
+    ensures faults { IfErr result (λ e. (e ≡ Fault.Memory) ⊎ (simulated script.now ≡ Err e)) }
+{
+    simulate_and(alloc, script, End::Close)
+}
+
+/// The same for a program that ends with it: the memory of what the world recorded is given back with that of the process.
+pub(crate) fn simulate_to_the_end(alloc: Global, script: &Script) -> Result<Transcript, Fault>
+    ensures ok { IfOk result (IsTranscriptOf script.now) }
+    ensures faults { IfErr result (λ e. (e ≡ Fault.Memory) ⊎ (simulated script.now ≡ Err e)) }
+{
+    simulate_and(alloc, script, End::Leave)
 }

@@ -23,6 +23,7 @@ use logical_time::{Fault, Node, Time};
 use messages::{Envelope, Op, Topology};
 use std::alloc::Global;
 use std::marker::Model;
+use std::mem;
 use table::History;
 
 /// The actors of a topology and the network between them, moved by hand: each call is one event of one actor. It is the
@@ -232,6 +233,24 @@ impl World {
             network: _,
             transcript: _,
         } = actors;
+        close_shards(shards);
+        close_stations(stations);
+    }
+
+    /// The same for a program that ends with it: the memory of its events, its messages and its transcript is given back with
+    /// that of the process.
+    pub fn leave(self) {
+        let World { actors, log } = self;
+        let Actors {
+            topology: _,
+            shards,
+            stations,
+            network,
+            transcript,
+        } = actors;
+        mem::forget(log);
+        mem::forget(network);
+        mem::forget(transcript);
         close_shards(shards);
         close_stations(stations);
     }

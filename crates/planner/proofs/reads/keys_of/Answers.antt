@@ -2,5 +2,5 @@ use Rattle.std.proofs.lemmas.Grind.{common_steps}
 use Rattle.std.proofs.Common.{arith}
 use Rattle.planner.proofs.reads.keys_of.Goals as goal
 
-pub loop-key-preserved : goal.loop-key-preserved
-loop-key-preserved c = grind (arith, common_steps)
+pub loop-one-preserved : goal.loop-one-preserved
+loop-one-preserved c = grind (arith, common_steps)

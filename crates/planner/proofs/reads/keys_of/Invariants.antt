@@ -1,7 +1,6 @@
-use Rattle.std.proofs.Common.{◌≡◌, take}
-use Rattle.std.specs.List.{filter}
-use Rattle.planner.specs.Plan.{is_on}
+use Rattle.std.proofs.Common.{◌≡◌, take, map}
+use Rattle.planner.specs.Placed.{keys_in, place_of}
 use Rattle.planner.proofs.reads.keys_of.Given as goal
 
-abbrev pub invariant-loop-key : goal.invariant-loop-key
-invariant-loop-key l = l.own.items ≡ filter (is_on l.shards l.shard) (take l.key-index l.keys)
+abbrev pub invariant-loop-one : goal.invariant-loop-one
+invariant-loop-one l = l.own.items ≡ keys_in l.shard (map place_of (take l.one-index l.keys))

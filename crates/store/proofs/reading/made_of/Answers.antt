@@ -1,5 +1,7 @@
 use Rattle.std.proofs.Common.{rules, ◌≡◌, ◌∙◌, ap, sym, refl, List, ◌++◌, max, map, filter_map, option_map}
 use Rattle.std.specs.Prelude.{option_to_list}
+use Rattle.std.proofs.lemmas.List.Filters.{dedup_is}
+use Rattle.logical_time.proofs.WriterOrder.{same_writer}
 use Rattle.std.specs.Option.{option_copied}
 use Rattle.slice.specs.Slice.{AreAsked, first_of_walk, slice_of}
 use Rattle.slice.specs.declared.column.Column.{Column}
@@ -10,7 +12,7 @@ use Rattle.store.specs.declared.part.Part.{Part}
 use Rattle.store.specs.declared.sight.Seen.{Seen}
 use Rattle.store.specs.Part.{greatest_of}
 use Rattle.store.specs.Sight.{named, live_of, evt_or_0, writer_of}
-use Rattle.store.proofs.Assembled.{part_made}
+use Rattle.store.proofs.Assembled.{part_made, deduped_first}
 use Rattle.store.proofs.reading.made_of.Goals as goal
 
 pub returns-clause-ok : goal.returns-clause-ok
@@ -30,4 +32,5 @@ returns-clause-ok c = λ asks.
     let writes : c.in_ok-rested.rested.items ≡ filter_map (λ s. writer_of p c.in_ok-columns.columns d (named s)) items ++ rest =
     c.in_ok-rested.ensures ∙ ap (λ (cs : List Column). filter_map (λ s. writer_of p cs d (named s)) items ++ rest) (c.as_slice-2.ensures.value ∙ sym c.in_ok-columns.ensures) in
     let evt : c.evt_of.result ≡ max (evt_or_0 d) (greatest_of (map (λ s. s.version.now.evt) items)) = search rules in
-    part_made p part items d live c.in_ok-rested.rested.items asks refl cut writes c.in_ok-writers.ensures.same c.in_ok-writers.ensures.sorted evt
+    let same = deduped_first _ _ _ (dedup_is same_writer _ _ c.dedup.ensures.filtered) c.in_ok-writers.ensures.same in
+    part_made p part items d live c.in_ok-rested.rested.items asks refl cut writes same c.in_ok-writers.ensures.sorted evt

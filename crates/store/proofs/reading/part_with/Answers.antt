@@ -16,3 +16,6 @@ returns-in-None-clause-ok c =
     if_ok c.part_of.result
     (λ part is. subst (λ (row : Chains). IsPartSeen (laid_over (sight_of m row) g) p part) (sym none) (seen_over_nothing m g p part is))
     c.part_of.ensures.ok
+
+pub returns-in-Some-clause-ok : goal.returns-in-Some-clause-ok
+returns-in-Some-clause-ok c = search rules

@@ -1,7 +1,7 @@
 use Rattle.std.proofs.Common.{◌≡◌, ◌<◌, ◌^◌}
 use Rattle.column_family.specs.Heads as heads
 use Rattle.column_family.specs.Heads.{StartsWithBytes}
-use Rattle.column_family.proofs.shared_bytes.head_of.Given as goal
+use Rattle.column_family.proofs.shared_bytes.rank_of.Given as goal
 
 -- the head of the bytes before the place
 abbrev pub invariant-loop-place : goal.invariant-loop-place

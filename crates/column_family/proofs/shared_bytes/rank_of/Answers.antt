@@ -1,7 +1,7 @@
 use Rattle.std.proofs.Common.{rules, ◌≡◌, ◌∙◌, ap, sym, refl, ◌+◌, ◌*◌, ◌<◌, get_or, arith}
 use Rattle.column_family.specs.Heads as heads
 use Rattle.column_family.proofs.Heads.{next, head_more, bytes_more, grown, room}
-use Rattle.column_family.proofs.shared_bytes.head_of.Goals as goal
+use Rattle.column_family.proofs.shared_bytes.rank_of.Goals as goal
 
 pub loop-place-init : goal.loop-place-init
 unfolding heads.head_of heads.StartsWithBytes

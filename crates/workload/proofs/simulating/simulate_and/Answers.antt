@@ -2,7 +2,7 @@ use Rattle.std.proofs.Common.{◌≡◌, ◌∙◌, ◌≤◌, ap, sym, arith}
 use Rattle.world.specs.World.{WorldValue}
 use Rattle.workload.specs.Simulation.{simulated_in}
 use Rattle.workload.proofs.Shown.{is_transcript}
-use Rattle.workload.proofs.simulating.simulate.Goals as goal
+use Rattle.workload.proofs.simulating.simulate_and.Goals as goal
 
 pub returns-clause-ok : goal.returns-clause-ok
 returns-clause-ok c =

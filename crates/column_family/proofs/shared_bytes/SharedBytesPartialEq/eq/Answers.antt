@@ -1,0 +1,11 @@
+use Rattle.std.proofs.Common.{rules, ◌≡◌, ◌∙◌, ap, sym}
+use Rattle.std.specs.Ordering.{nat_cmp, is_eq}
+use Rattle.std.specs.Cmp.Lexicographic.{slice_cmp, texts_ties}
+use Rattle.column_family.proofs.shared_bytes.SharedBytesPartialEq.eq.Goals as goal
+
+pub returns : goal.returns
+returns c =
+    let x = c.args.self.now in
+    let y = c.args.other.now in
+    let by_order : c.cmp.result ≡ slice_cmp nat_cmp x y = search rules in
+    c.is_eq.ensures ∙ ap is_eq by_order ∙ sym (texts_ties x y)
