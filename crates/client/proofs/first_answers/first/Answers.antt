@@ -1,5 +1,11 @@
-use Rattle.std.proofs.Common.{arith}
+use Rattle.std.proofs.Common.{rules, ◌≡◌, ◌∙◌, ℕ, ap, subst, arith}
+use Rattle.std.specs.Prelude.{OnErr}
 use Rattle.std.proofs.lemmas.Grind.{common_steps}
+use Rattle.read_txn.specs.declared.first_round.FirstTaken.TheVariants as in_first
+use Rattle.read_txn.specs.States.{First as FirstState}
+use Rattle.read_txn.specs.Taken.{first_taken}
+use Rattle.client.specs.declared.current.Current.TheVariants as current
+use Rattle.client.proofs.Ended.{back_at, ended_back, ended_heard}
 use Rattle.client.proofs.first_answers.first.Goals as goal
 
 pub returns-in-Err-clause-same : goal.returns-in-Err-clause-same
@@ -46,6 +52,16 @@ returns-in-Ok-More-clause-unasked c = grind (arith, common_steps)
 
 pub returns-in-Ok-More-clause-unsent : goal.returns-in-Ok-More-clause-unsent
 returns-in-Ok-More-clause-unsent c = grind (arith, common_steps)
+
+pub returns-in-Ok-Second-clause-same : goal.returns-in-Ok-Second-clause-same
+returns-in-Ok-Second-clause-same c =
+    let f = c.args.round in
+    let s = c.in-Ok-Second.round in
+    let taken : in_first.Second s ≡ first_taken f c.args.from c.args.rows = search rules in
+    let floor : c.floor-floor.result ≡ f.floor = search rules in
+    let back = ap (λ (n : ℕ). back_at s n f.heard) floor ∙ ended_back f c.args.from c.args.rows s taken in
+    subst (λ (g : FirstState). OnErr c.open_second.result (c.open_second.new.kept ≡ record c.args.kept.now { current = current.First g })) back
+    (c.open_second.ensures.same f.heard (record { from = c.args.from; rows = c.args.rows }) (ended_heard f c.args.from c.args.rows s taken))
 
 pub returns-in-Ok-Second-clause-sends : goal.returns-in-Ok-Second-clause-sends
 returns-in-Ok-Second-clause-sends c = grind (arith, common_steps)
