@@ -150,7 +150,7 @@ enum End {
 }
 
 /// Ends a world.
-fn end(world: World, how: End) {
+fn end_world(world: World, how: End) {
     match how {
         End::Close => world.close(),
         End::Leave => world.leave(),
@@ -167,7 +167,7 @@ fn simulate_and(alloc: Global, script: &Script, how: End) -> Result<Transcript, 
     let mut world = World::new(alloc, &script.topology)?;
     let mut transcript = Transcript::new(alloc);
     let played = play_all(&mut world, script.events.as_slice(), &mut transcript);
-    end(world, how);
+    end_world(world, how);
     played?;
     Ok(transcript)
 }
