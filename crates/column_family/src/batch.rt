@@ -7,7 +7,7 @@ use std::alloc::{AllocError, AllocFailed, Global};
 use std::marker::Model;
 
 /// A row: a key in a column family. Two rows are compared by their keys first, in which most differ.
-#[derive(Drop, Clone, PartialEq, Eq, PartialOrd, Ord)]
+#[derive(Drop, Clone, PartialEq, Eq, PartialOrd, Ord, Hash)]
 pub struct Row {
     /// The key.
     pub key: Key,

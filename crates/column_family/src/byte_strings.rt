@@ -5,6 +5,7 @@
 ghost use Rattle.std.specs.Prelude.{◌≡◌, ◌&&◌, nat_le, length, IfOk};
 ghost use Rattle.column_family.specs.Limits.{is_key, is_name, is_end, is_value};
 
+use crate::plain_bytes::PlainBytes;
 use crate::shared_bytes::SharedBytes;
 use std::alloc::{AllocError, Global};
 use std::marker::Model;
@@ -24,7 +25,7 @@ fn has_length(bytes: &[u8], longest: usize) -> bool
 }
 
 /// The name of a column family.
-#[derive(Drop, Clone, PartialEq, Eq, PartialOrd, Ord)]
+#[derive(Drop, Clone, PartialEq, Eq, PartialOrd, Ord, Hash)]
 pub struct Family(SharedBytes);
 
 impl Model for Family {
@@ -54,7 +55,7 @@ impl Family {
 }
 
 /// The key of a row.
-#[derive(Drop, Clone, PartialEq, Eq, PartialOrd, Ord)]
+#[derive(Drop, Clone, PartialEq, Eq, PartialOrd, Ord, Hash)]
 pub struct Key(SharedBytes);
 
 impl Model for Key {
@@ -136,7 +137,7 @@ impl Name {
 
 /// The value of a column.
 #[derive(Drop, Clone, PartialEq, Eq)]
-pub struct Value(SharedBytes);
+pub struct Value(PlainBytes);
 
 impl Model for Value {
     ghost use Rattle.std.specs.Prelude.{List, ℕ};
@@ -153,7 +154,7 @@ impl Value {
     pub fn from_slice(alloc: Global, bytes: &[u8]) -> Result<Value, AllocError>
         ensures { IfOk result (λ copy. copy ≡ bytes.now) }
     {
-        Ok(Value(SharedBytes::from_slice(alloc, bytes)?))
+        Ok(Value(PlainBytes::from_slice(alloc, bytes)?))
     }
 
     /// The bytes.

@@ -8,6 +8,7 @@ mod batch;
 mod byte_strings;
 mod newest;
 mod normalizing;
+mod plain_bytes;
 mod schema;
 mod shared_bytes;
 mod stored;

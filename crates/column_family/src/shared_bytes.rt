@@ -3,12 +3,15 @@ ghost use Rattle.std.specs.Prelude.{◌≡◌, nat_eq, refl, get_or, Some, IfOk}
 ghost use Rattle.std.specs.Ordering.{nat_cmp};
 ghost use Rattle.std.specs.Cmp.Lexicographic.{pointwise, slice_cmp, nat_list_eq_equiv, nat_list_cmp_total, texts_ties, texts_po};
 ghost use Rattle.std.specs.Cmp.{partial_equiv_from_equiv};
+ghost use Rattle.std.specs.Cmp.Rules.{hashing};
+ghost use Rattle.std.proofs.Common.{rules};
 ghost use Rattle.column_family.specs.Heads as heads;
 ghost use Rattle.column_family.specs.Heads.{StartsWithBytes};
 
 use crate::stored::Stored;
 use std::alloc::{AllocError, Global};
 use std::cmp::Ordering;
+use std::hash::{Hash, Hasher};
 use std::marker::Model;
 use std::sync::Arc;
 
@@ -134,6 +137,19 @@ impl Ord for SharedBytes {
         match self.rank.cmp(&other.rank) {
             Ordering::Equal => self.cmp_alike(other),
             order => order,
+        }
+    }
+}
+
+impl Hash for SharedBytes {
+    ghost hash_input = { heads.fed_of };
+
+    ghost respects_eq = { Prim.search (hashing, rules) };
+
+    fn hash<H: Hasher>(&self, state: &mut H) {
+        state.write_u64(self.rank);
+        if self.rank % 256 >= MANY {
+            state.write(&self.as_slice()[HEAD..]);
         }
     }
 }

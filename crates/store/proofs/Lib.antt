@@ -14,6 +14,7 @@ pub mod Untouched
 pub mod EvtBelow
 pub mod Overtaken
 pub mod KeepsApplied
+pub mod HashedRows
 pub mod Lasting
 pub mod Collected
 pub mod Listed

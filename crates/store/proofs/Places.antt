@@ -1,5 +1,5 @@
 -- The places that a mutation is of.
-use Rattle.std.proofs.Common.{◌≡◌, ℕ, ◌∙◌, ap, refl, subst, Bool, true, false, ◌&&◌, ◌⊎◌, ◌<◌, List, Some, None, Result, Ok, Err, OnOk, arith}
+use Rattle.std.proofs.Common.{◌≡◌, ℕ, ◌∙◌, ap, refl, subst, Bool, true, false, ◌&&◌, ◌⊎◌, ◌<◌, ◌≤◌, length, inl, inr, List, Some, None, Result, Ok, Err, OnOk, arith}
 use Rattle.std.specs.Str.{bytes_eq}
 use Rattle.std.proofs.lemmas.Slice.Eq.{bytes_eq-Decides}
 use Rattle.logical_time.specs.Stamps.{StampValue}
@@ -64,3 +64,29 @@ no_room_missing rows c leaves missing room =
 pub on_ok : {T E P Q : Type 0} (result : Result T E) → (P → Q) → OnOk result P → OnOk result Q
 on_ok (Ok x) f h = f h
 on_ok (Err e) f h = tt
+
+unready : (s : StampValue) (p : Place) → IsReady s (chain_of no_row p) → ⊥
+unready s None (inl lt) = absurd (omega (arith, lt))
+unready s None (inr e) = absurd (cc)
+unready s (Some n) (inl lt) = absurd (omega (arith, lt))
+unready s (Some n) (inr e) = absurd (cc)
+
+place_if : (b : Bool) → (b ≡ true → ⊥) → b ≡ false
+place_if true never = absurd (never refl)
+place_if false never = refl
+
+not_both : (a b : Bool) → b ≡ false → (a && b) ≡ false
+not_both true b e = e
+not_both false b e = refl
+
+-- a mutation for which all is ready at a row that isn't there is of no place
+pub nowhere : (rows : List (Row × Chains)) (row : Row) (m : Mutation) (s : StampValue) → held_by row_cmp no_row rows row ≡ no_row
+    → ((p : Place) → is_of_place p m ≡ true → IsReady s (chain_at rows row p)) → (r : Row) (p : Place) → (is_same_row r row && is_of_place p m) ≡ false
+nowhere rows row m s missing ready r p =
+    not_both (is_same_row r row) (is_of_place p m)
+    (place_if (is_of_place p m) (λ at. unready s p (subst (λ (here : Chains). IsReady s (chain_of here p)) missing (ready p at))))
+
+-- nothing is held at a row that isn't there
+pub nothing_there : (rows : List (Row × Chains)) (row : Row) → held_by row_cmp no_row rows row ≡ no_row → (p : Place) → length (chain_at rows row p).versions ≤ 1
+nothing_there rows row missing None = rw missing (omega arith)
+nothing_there rows row missing (Some n) = rw missing (omega arith)

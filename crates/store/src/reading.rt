@@ -16,7 +16,7 @@ use column_family::Row;
 use logical_time::{Fault, Time, Writer, Writers};
 use slice::{Column, Columns, Predicate, first_of_walk};
 use std::alloc::{AllocError, Global};
-use std::collections::BTreeMap;
+use std::collections::HashMap;
 use versions::Version;
 
 // Whether the row's deletion is newer than a version of a column.
@@ -225,7 +225,7 @@ fn empty_part(alloc: Global, predicate: &Predicate, moment: &Moment) -> Part
 /// What is seen of one of the rows.
 pub(crate) fn part_in(
     alloc: Global,
-    rows: &BTreeMap<Row, RowChains>,
+    rows: &HashMap<Row, RowChains>,
     row: &Row,
     predicate: &Predicate,
     moment: &Moment,
@@ -242,7 +242,7 @@ pub(crate) fn part_in(
 /// What is seen of one of the rows where these chains are laid over it.
 pub(crate) fn part_with<'s>(
     alloc: Global,
-    rows: &'s BTreeMap<Row, RowChains>,
+    rows: &'s HashMap<Row, RowChains>,
     over: &'s RowChains,
     row: &Row,
     predicate: &Predicate,

@@ -22,13 +22,13 @@ use column_family::{Batch, Row};
 use logical_time::{Fault, Stamp, Time, Writer};
 use slice::Predicate;
 use std::alloc::Global;
-use std::collections::BTreeMap;
+use std::collections::HashMap;
 use std::marker::Model;
 use txn_state::Prepared;
 
 // Puts what a part leaves, for which there is room, and lists the rows that are crowded then.
 fn put_part(
-    rows: &mut BTreeMap<Row, RowChains>,
+    rows: &mut HashMap<Row, RowChains>,
     crowded: &mut Crowded,
     prepared: Prepared,
     commit: Time,
@@ -48,7 +48,7 @@ fn put_part(
 #[derive(Drop)]
 pub struct Store {
     alloc: Global,
-    rows: BTreeMap<Row, RowChains>,
+    rows: HashMap<Row, RowChains>,
     // those of which a chain may hold more than one version
     crowded: Crowded,
     low: Time,
@@ -76,7 +76,7 @@ impl Store {
     {
         Store {
             alloc,
-            rows: BTreeMap::new(alloc),
+            rows: HashMap::new(alloc),
             crowded: Crowded::new(alloc),
             low: Time::zero(),
         }
