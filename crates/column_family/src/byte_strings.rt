@@ -26,7 +26,7 @@ fn has_length(bytes: &[u8], longest: usize) -> bool
 
 /// The name of a column family.
 #[derive(Drop, Clone, PartialEq, Eq, PartialOrd, Ord, Hash)]
-pub struct Family(SharedBytes);
+pub struct Family(PlainBytes);
 
 impl Model for Family {
     ghost use Rattle.std.specs.Prelude.{List, ℕ};
@@ -43,7 +43,7 @@ impl Family {
     pub fn from_slice(alloc: Global, bytes: &[u8]) -> Result<Family, AllocError>
         ensures { IfOk result (λ copy. copy ≡ bytes.now) }
     {
-        Ok(Family(SharedBytes::from_slice(alloc, bytes)?))
+        Ok(Family(PlainBytes::from_slice(alloc, bytes)?))
     }
 
     /// The bytes.

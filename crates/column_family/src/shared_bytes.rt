@@ -40,8 +40,8 @@ fn rank_of(bytes: &[u8]) -> u64
     head * 256 + (bytes.len() as u64).min(MANY)
 }
 
-// Compares byte by byte, since most differ soon: slices are compared by groups of bytes, which costs more.
-fn cmp_bytes(bytes: &[u8], others: &[u8]) -> Ordering
+/// Compares byte by byte, since most differ soon: slices are compared by groups of bytes, which costs more.
+pub(crate) fn cmp_bytes(bytes: &[u8], others: &[u8]) -> Ordering
     ensures { result ≡ slice_cmp nat_cmp bytes.now others.now }
 {
     bytes.iter().cmp(others.iter())

@@ -16,7 +16,7 @@ use std::marker::Model;
 #[derive(Drop)]
 pub struct Chain {
     // by rising stamp, so that the newest comes and goes at the end
-    entries: SmallVec<Entry, 4>,
+    entries: SmallVec<Entry, 1>,
 }
 
 impl Model for Chain {

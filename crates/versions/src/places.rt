@@ -60,7 +60,7 @@ fn mend(entries: &mut [Entry], index: usize, bound: u64)
 
 // Puts a version at this index.
 fn insert_at(
-    entries: &mut SmallVec<Entry, 4>,
+    entries: &mut SmallVec<Entry, 1>,
     i: usize,
     version: Version,
 ) -> Result<(), (Fault, Version)>
@@ -87,7 +87,7 @@ fn insert_at(
 
 /// Puts a version in its place, unless its stamp is held.
 pub(crate) fn put_in(
-    entries: &mut SmallVec<Entry, 4>,
+    entries: &mut SmallVec<Entry, 1>,
     version: Version,
 ) -> Result<(), (Fault, Version)>
     requires { AreEnded (2 ^ 48) (reverse entries.old.items) }
@@ -107,7 +107,7 @@ pub(crate) fn put_in(
 }
 
 /// Takes out the version at this place, if there is one.
-pub(crate) fn take_out(entries: &mut SmallVec<Entry, 4>, place: usize) -> Option<Version>
+pub(crate) fn take_out(entries: &mut SmallVec<Entry, 1>, place: usize) -> Option<Version>
     requires { AreEnded (2 ^ 48) (reverse entries.old.items) }
     ensures ended { AreEnded (2 ^ 48) (reverse entries.new.items) }
     ensures removed { result ≡ slice_get (versions_of entries.old.items) place }
@@ -127,7 +127,7 @@ pub(crate) fn take_out(entries: &mut SmallVec<Entry, 4>, place: usize) -> Option
 }
 
 /// Keeps the versions that are the newest at some time from this one on.
-pub(crate) fn keep_from(entries: &mut SmallVec<Entry, 4>, time: Time)
+pub(crate) fn keep_from(entries: &mut SmallVec<Entry, 1>, time: Time)
     requires { AreEnded (2 ^ 48) (reverse entries.old.items) }
     ensures ended { AreEnded (2 ^ 48) (reverse entries.new.items) }
     ensures kept { versions_of entries.new.items ≡ kept_from time (versions_of entries.old.items) }
