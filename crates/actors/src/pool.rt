@@ -33,6 +33,55 @@ impl Gate for Open {
 /// Workers that go round the seats.
 pub struct Pool;
 
+/// How often a worker stays at a seat whose turn handled an envelope, before it goes on: what a seat looks at stays near then.
+const STAYS: usize = 16;
+
+/// Where a worker is on its way round the seats.
+#[derive(Drop)]
+struct Stand {
+    place: usize,
+    // How often it stayed there.
+    stayed: usize,
+    // How many idle turns it took one after the other, of seats that had nothing of their own left to do.
+    resting: usize,
+}
+
+impl Stand {
+    /// At the seat of this place, before its first turn.
+    fn at(place: usize) -> Stand
+        ensures { (result.place ≡ place) × (result.resting ≡ 0) }
+    {
+        Stand {
+            place,
+            stayed: 0,
+            resting: 0,
+        }
+    }
+
+    /// After a turn of its seat, of which it is told whether nothing of its own was left to do: it stays where an envelope was
+    /// handled, some times, and else goes on to the next seat.
+    fn go_on(&mut self, turn: Turn, done: bool, seats: usize)
+        requires { (self.old.place < seats) × (self.old.resting < seats) }
+        ensures { (self.new.place < seats) × (self.new.resting ≤ seats) }
+    {
+        self.resting = if turn == Turn::Idle && done {
+            self.resting + 1
+        } else {
+            0
+        };
+        if turn == Turn::Handled && self.stayed < STAYS {
+            self.stayed += 1;
+        } else {
+            self.stayed = 0;
+            self.place = if self.place + 1 < seats {
+                self.place + 1
+            } else {
+                0
+            };
+        }
+    }
+}
+
 /// Takes a turn of a seat, under its lock. The answer is the turn's, and whether nothing of its own was left to do.
 fn one_turn<M: Machine, G: Gate, R: Wait>(
     rt: &R,
@@ -64,11 +113,10 @@ fn go_round<M: Machine, G: Gate, R: Wait>(
             end: End::Rest,
         };
     }
-    let mut place = worker % seats.len();
+    let mut stand = Stand::at(worker % seats.len());
     let mut taken = 0;
-    let mut resting = 0;
     while taken < turns {
-        let (turn, done) = one_turn(rt, &seats[place], gate);
+        let (turn, done) = one_turn(rt, &seats[stand.place], gate);
         taken += 1;
         match turn {
             Err(fault) => {
@@ -77,20 +125,14 @@ fn go_round<M: Machine, G: Gate, R: Wait>(
                     end: End::Fault(fault),
                 };
             }
-            Ok(Turn::Idle) if done => resting += 1,
-            Ok(_) => resting = 0,
+            Ok(turn) => stand.go_on(turn, done, seats.len()),
         }
-        if resting >= seats.len() {
+        if stand.resting >= seats.len() {
             return Shift {
                 turns: taken,
                 end: End::Rest,
             };
         }
-        place = if place + 1 < seats.len() {
-            place + 1
-        } else {
-            0
-        };
     }
     Shift {
         turns: taken,
@@ -100,9 +142,10 @@ fn go_round<M: Machine, G: Gate, R: Wait>(
 
 impl Pool {
     /// Runs the seats by so many workers, each for at most so many turns. A worker goes round the seats, worker w from the
-    /// seat `w mod seats` on: it locks one and takes a turn of it. It stops after its turns, after a turn that was refused,
-    /// or after a round in which all seats were idle, all machines free and all backlogs empty. It waits for locks. 1 to 16
-    /// workers and at least one seat are the caller's condition. Refused with `Memory` alone.
+    /// seat `w mod seats` on: it locks one and takes a turn of it, and the same again, at most 16 times, after each turn that
+    /// handled an envelope. It stops after its turns, after a turn that was refused, or after a round in which all seats were
+    /// idle, all machines free and all backlogs empty. It waits for locks. 1 to 16 workers and at least one seat are the
+    /// caller's condition. Refused with `Memory` alone.
     pub fn run<M: Machine + Send, G: Gate, R: Threads + Wait + Sync>(
         rt: &R,
         alloc: Global,

@@ -3,9 +3,9 @@ use Rattle.actors.proofs.pool.go_round.Given as goal
 
 abbrev pub invariant-loop-taken : goal.invariant-loop-taken
 invariant-loop-taken g l = record {
-  place : l.place < length l.seats;
+  place : l.stand.place < length l.seats;
   count : l.taken ≤ l.turns;
-  resting : l.resting < length l.seats;
+  resting : l.stand.resting < length l.seats;
 }
 
 abbrev pub decreases-loop-taken : goal.decreases-loop-taken
