@@ -33,14 +33,16 @@ impl Gate for Open {
 /// Workers that go round the seats.
 pub struct Pool;
 
-/// How often a worker stays at a seat whose turn handled an envelope, before it goes on: what a seat looks at stays near then.
+/// How often a worker that is alone stays at a seat whose turn handled an envelope, before it goes on: what a seat looks at stays
+/// near then. Of several, one would wait for the lock of the other.
 const STAYS: usize = 16;
 
 /// Where a worker is on its way round the seats.
 #[derive(Drop)]
 struct Stand {
     place: usize,
-    // How often it stayed there.
+    // How often it may stay at a seat, and did at this one.
+    stays: usize,
     stayed: usize,
     // How many idle turns it took one after the other, of seats that had nothing of their own left to do.
     resting: usize,
@@ -48,11 +50,12 @@ struct Stand {
 
 impl Stand {
     /// At the seat of this place, before its first turn.
-    fn at(place: usize) -> Stand
+    fn at(place: usize, stays: usize) -> Stand
         ensures { (result.place ≡ place) × (result.resting ≡ 0) }
     {
         Stand {
             place,
+            stays,
             stayed: 0,
             resting: 0,
         }
@@ -69,7 +72,7 @@ impl Stand {
         } else {
             0
         };
-        if turn == Turn::Handled && self.stayed < STAYS {
+        if turn == Turn::Handled && self.stayed < self.stays {
             self.stayed += 1;
         } else {
             self.stayed = 0;
@@ -102,6 +105,7 @@ fn go_round<M: Machine, G: Gate, R: Wait>(
     rt: &R,
     seats: &[Mutex<Seat<M>>],
     worker: usize,
+    stays: usize,
     turns: u64,
     gate: &G,
 ) -> Shift
@@ -113,7 +117,7 @@ fn go_round<M: Machine, G: Gate, R: Wait>(
             end: End::Rest,
         };
     }
-    let mut stand = Stand::at(worker % seats.len());
+    let mut stand = Stand::at(worker % seats.len(), stays);
     let mut taken = 0;
     while taken < turns {
         let (turn, done) = one_turn(rt, &seats[stand.place], gate);
@@ -142,8 +146,8 @@ fn go_round<M: Machine, G: Gate, R: Wait>(
 
 impl Pool {
     /// Runs the seats by so many workers, each for at most so many turns. A worker goes round the seats, worker w from the
-    /// seat `w mod seats` on: it locks one and takes a turn of it, and the same again, at most 16 times, after each turn that
-    /// handled an envelope. It stops after its turns, after a turn that was refused, or after a round in which all seats were
+    /// seat `w mod seats` on: it locks one and takes a turn of it; a worker that is alone takes the same again, at most 16 times,
+    /// after each turn that handled an envelope. It stops after its turns, after a turn that was refused, or after a round in which all seats were
     /// idle, all machines free and all backlogs empty. It waits for locks. 1 to 16 workers and at least one seat are the
     /// caller's condition. Refused with `Memory` alone.
     pub fn run<M: Machine + Send, G: Gate, R: Threads + Wait + Sync>(
@@ -160,13 +164,14 @@ impl Pool {
         ensures each { IfOk result (λ report. All (IsWithin turns) report.shifts.items) }
         ensures memory { IfErr result (λ e. e ≡ Fault.Memory) }
     {
+        let stays = if workers == 1 { STAYS } else { 0 };
         let shifts = thread::map_indices(
             rt,
             alloc,
             workers,
             &|worker: usize| -> Shift
                 ensures { IsWithin turns result }
-            { go_round(rt, seats, worker, turns, gate) },
+            { go_round(rt, seats, worker, stays, turns, gate) },
         )?;
         Ok(Report { shifts })
     }
