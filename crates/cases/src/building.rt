@@ -20,10 +20,7 @@ pub(crate) fn time(word: &str) -> Time {
 /// `TIME.NODE`.
 pub(crate) fn stamp(word: &str) -> Stamp {
     let (first, second) = word.split_once('.').unwrap_or((word, ""));
-    Stamp {
-        time: time(first),
-        node: node(second),
-    }
+    Stamp::new(time(first), node(second))
 }
 
 /// `SESSION.NUMBER`.

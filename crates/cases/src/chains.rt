@@ -7,10 +7,7 @@ use version_gc::collect;
 use versions::{Chain, Version, What};
 
 fn version(first: &str, evt: &str) -> Version {
-    let writer = Writer {
-        txn: txn(first),
-        shard: Shard::first(),
-    };
+    let writer = Writer::new(txn(first), Shard::first());
     Version {
         stamp: stamp(first),
         evt: time(evt),
@@ -31,7 +28,7 @@ fn put(chain: &mut Chain, version: Version) -> Result<(), Fault> {
 
 fn add_stamp(seen: &mut String, version: Option<&Version>) -> Result<(), Fault> {
     if let Some(version) = version {
-        let (time, node) = (version.stamp.time.get(), version.stamp.node.get());
+        let (time, node) = (version.stamp.time().get(), version.stamp.node().get());
         write!(seen, "{time}.{node}")?;
     }
     Ok(())

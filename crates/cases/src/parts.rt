@@ -31,7 +31,7 @@ fn hear(alloc: Global, beside: &mut Beside, number: usize) -> Result<(), Fault> 
 /// Adds each transaction with the changes of its part.
 fn add_parts(seen: &mut String, parts: &[WritePart]) -> Result<(), Fault> {
     for part in parts {
-        add_txn(seen, part.writer.txn)?;
+        add_txn(seen, part.writer.txn())?;
         for change in part.batch.as_slice() {
             seen.push_str(" ")?;
             add_change(seen, change)?;

@@ -124,7 +124,7 @@ impl Sending {
     fn hear_done(&mut self, written: &str, commit: &str) -> Result<(), Fault> {
         let body = Body::Done {
             txn: txn(written),
-            commit: stamp(commit).time,
+            commit: stamp(commit).time(),
             stamp: stamp(commit),
         };
         self.hear("0", body)

@@ -89,7 +89,7 @@ pub(crate) fn add_space(seen: &mut String) -> Result<(), Fault> {
 
 /// Adds a commit time and a stamp.
 pub(crate) fn add_commit(seen: &mut String, commit: Time, stamp: Stamp) -> Result<(), Fault> {
-    let (commit, at, node) = (commit.get(), stamp.time.get(), stamp.node.get());
+    let (commit, at, node) = (commit.get(), stamp.time().get(), stamp.node().get());
     add_space(seen)?;
     Ok(write!(seen, "{commit} {at}.{node}")?)
 }

@@ -13,10 +13,7 @@ fn apply(
     (first, commit): (&str, &str),
     change: &str,
 ) -> Result<(), Fault> {
-    let writer = Writer {
-        txn: txn(first),
-        shard: Shard::first(),
-    };
+    let writer = Writer::new(txn(first), Shard::first());
     let batch = batch(alloc, &[change])?;
     store.make_room(&batch)?;
     let prepared = Prepared::new(WritePart { writer, batch }, Time::zero());

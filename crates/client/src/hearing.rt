@@ -48,10 +48,8 @@ fn written(
     } else {
         kept.floor
     };
-    kept.dependencies.completed_write(Writer {
-        txn,
-        shard: coordinator,
-    });
+    kept.dependencies
+        .completed_write(Writer::new(txn, coordinator));
     let added = Writers::from_vec(Vec::new(kept.alloc));
     finish(kept, clock, floor, added, Outcome::Wrote { commit, stamp });
 }

@@ -1,6 +1,6 @@
 -- Of two texts the one with the smaller head comes first.
-use Rattle.std.proofs.Common.{◌≡◌, ◌∙◌, ℕ, zero, suc, ◌+◌, ◌*◌, ◌^◌, ◌<◌, ◌≤◌, ap, sym, refl, List, [], ◌∷◌, get_or, length, drop, min, arith, inl, inr}
-use Rattle.std.specs.Prelude.{◌⊎◌, ◌%◌}
+use Rattle.std.proofs.Common.{◌≡◌, ◌∙◌, ℕ, zero, suc, ◌+◌, ◌*◌, ◌^◌, ◌<◌, ◌≤◌, ap, sym, refl, List, [], ◌∷◌, ◌++◌, get_or, length, take, drop, subst, arith, inl, inr}
+use Rattle.std.specs.Prelude.{◌⊎◌, ◌%◌, slice_index_or}
 use Rattle.std.specs.declared.cmp.Ordering.{Ordering}
 use Rattle.std.specs.declared.cmp.Ordering.TheVariants.{Less, Equal, Greater}
 use Rattle.std.specs.Ordering.{MatchOrdering, nat_cmp, ordering_then, ordering_reverse}
@@ -9,7 +9,10 @@ use Rattle.std.proofs.lemmas.Cmp.{nat_list_cmp_total, nat_cmp_total, tied_itself
 use Rattle.std.proofs.lemmas.Nat.{mul-add-lt, mul-le}
 use Rattle.std.proofs.lemmas.Bool.Decides.{nat_tests}
 use Rattle.std.proofs.Math.Nat.{pow-suc, mul_assoc}
-use Rattle.column_family.specs.Heads.{head_of, rank_of, StartsWithBytes}
+use Rattle.column_family.specs.declared.shared_bytes.Text.{Text}
+use Rattle.column_family.specs.declared.shared_bytes.Text.TheVariants.{Few, Many}
+use Rattle.column_family.specs.Texts.{bytes_of, IsText}
+use Rattle.column_family.specs.Heads.{head_of, first_of, second_of, IsPadded, StartsWithBytes}
 
 wider : (n : ℕ) → 256 ^ suc n ≡ 256 ^ n * 256
 wider n = omega (arith, pow-suc 256 n)
@@ -44,21 +47,6 @@ bytes_more zero [] h lt = tt
 bytes_more zero (b ∷ bytes) h lt = (lt, tt)
 bytes_more (suc n) [] h lt = tt
 bytes_more (suc n) (b ∷ bytes) h lt = (h.0, bytes_more n bytes h.1 lt)
-
--- a byte more fits behind a head that isn't yet whole
-pub grown : (n head b : ℕ) → head < 256 ^ n → b < 256 → head * 256 + b < 256 ^ suc n
-grown n head b h lt = omega (arith, wider n, mul-add-lt head 256 b (256 ^ n) h lt)
-
-pub room : (n head b : ℕ) → n < 8 → head < 256 ^ n → b < 256 → head * 256 + b < 2 ^ 64
-room zero head b le h lt = omega (arith, h, lt)
-room (suc zero) head b le h lt = omega (arith, h, lt)
-room (suc (suc zero)) head b le h lt = omega (arith, h, lt)
-room (suc (suc (suc zero))) head b le h lt = omega (arith, h, lt)
-room (suc (suc (suc (suc zero)))) head b le h lt = omega (arith, h, lt)
-room (suc (suc (suc (suc (suc zero))))) head b le h lt = omega (arith, h, lt)
-room (suc (suc (suc (suc (suc (suc zero)))))) head b le h lt = omega (arith, h, lt)
-room (suc (suc (suc (suc (suc (suc (suc zero))))))) head b le h lt = omega (arith, h, lt)
-room (suc (suc (suc (suc (suc (suc (suc (suc n)))))))) head b le h lt = absurd (omega (arith, le))
 
 -- the text with the smaller head comes first
 smaller : (n : ℕ) (x y : List ℕ) → StartsWithBytes n x → StartsWithBytes n y → head_of n x < head_of n y → slice_cmp nat_cmp x y ≡ Less
@@ -124,76 +112,161 @@ alike (suc n) (a ∷ x) (b ∷ y) hx hy e l =
     shorter (inl h) = inl (omega (arith, h))
     shorter (inr h) = inr (omega (arith, h))
 
--- behind a head that is the same, what is there decides
-pub behind : (n : ℕ) (x y : List ℕ) → StartsWithBytes n x → StartsWithBytes n y → head_of n x ≡ head_of n y → n ≤ length x → n ≤ length y → slice_cmp nat_cmp (drop n x) (drop n y) ≡ slice_cmp nat_cmp x y
-unfolding head_of StartsWithBytes
-behind zero x y hx hy e lx ly = refl
-behind (suc n) [] y hx hy e lx ly = absurd (omega (arith, lx))
-behind (suc n) (a ∷ x) [] hx hy e lx ly = absurd (omega (arith, ly))
-behind (suc n) (a ∷ x) (b ∷ y) hx hy e lx ly =
-    let w = same_first n a b (head_of n x) (head_of n y) (below n x hx.1) (below n y hy.1) e in
-    behind n x y hx.1 hy.1 w.1 (omega (arith, lx)) (omega (arith, ly))
-    ∙ sym (ap (λ (t : Ordering). ordering_then t (slice_cmp nat_cmp x y)) (ap (nat_cmp a) (sym w.0) ∙ tied_itself nat_cmp_total a))
+-- where heads differ, they decide
+pub by_heads : (n : ℕ) (x y : List ℕ) (o : Ordering) → StartsWithBytes n x → StartsWithBytes n y → o ≡ nat_cmp (head_of n x) (head_of n y) → (o ≡ Equal → ⊥) → o ≡ slice_cmp nat_cmp x y
+by_heads n x y Less hx hy e differ = sym (smaller n x y hx hy (ranked (head_of n x) (head_of n y) Less e))
+by_heads n x y Equal hx hy e differ = absurd (differ refl)
+by_heads n x y Greater hx hy e differ =
+    sym (nat_list_cmp_total.antisymm x y ∙ ap ordering_reverse (smaller n y x hy hx (ranked (head_of n x) (head_of n y) Greater e)))
 
--- the count in a rank
-count_most : (x : List ℕ) → min (length x) 8 ≤ 8
-count_most x = grind (arith, nat_tests)
+-- bytes that are all there
+pub byte_of : (n i : ℕ) (bytes : List ℕ) → StartsWithBytes n bytes → i < n → get_or bytes i 0 < 256
+unfolding StartsWithBytes
+byte_of zero i bytes h lt = absurd (omega (arith, lt))
+byte_of (suc n) zero [] h lt = omega arith
+byte_of (suc n) zero (b ∷ bytes) h lt = h.0
+byte_of (suc n) (suc i) [] h lt = omega arith
+byte_of (suc n) (suc i) (b ∷ bytes) h lt = byte_of n i bytes h.1 (omega (arith, lt))
 
-count_few : (x : List ℕ) → min (length x) 8 < 8 → length x ≡ min (length x) 8
-count_few x lt = grind (arith, nat_tests)
+pub all_bytes : (n : ℕ) (bytes : List ℕ) → ((i : ℕ) → get_or bytes i 0 < 256) → StartsWithBytes n bytes
+unfolding StartsWithBytes
+all_bytes zero bytes each = tt
+all_bytes (suc n) [] each = tt
+all_bytes (suc n) (b ∷ bytes) each = (each 0, all_bytes n bytes (λ i. each (suc i)))
 
-count_least : (x : List ℕ) → min (length x) 8 ≤ length x
-count_least x = grind (arith, nat_tests)
+begun : (m n : ℕ) (l : List ℕ) → StartsWithBytes n l → m ≤ n → StartsWithBytes m l
+unfolding StartsWithBytes
+begun zero n l h le = tt
+begun (suc m) zero l h le = absurd (omega (arith, le))
+begun (suc m) (suc n) [] h le = tt
+begun (suc m) (suc n) (b ∷ l) h le = (h.0, begun m n l h.1 (omega (arith, le)))
 
-counted : (x : List ℕ) → rank_of x % 256 ≡ min (length x) 8
-counted x = let whole : rank_of x ≡ head_of 7 x * 256 + min (length x) 8 = refl in omega (arith, whole, count_most x)
+pub first_eight : (bytes : List ℕ) → StartsWithBytes 14 bytes → StartsWithBytes 8 bytes
+first_eight bytes h = begun 8 14 bytes h (omega arith)
 
--- where the count is the greatest, there are more bytes than the rank has
-pub at_least : (x : List ℕ) → 8 ≤ rank_of x % 256 → 7 ≤ length x
-at_least x many = omega (arith, many, counted x, count_least x)
+-- so many places that hold 0
+abbrev pub none_of : ℕ → List ℕ
+none_of zero = []
+none_of (suc n) = 0 ∷ none_of n
 
--- texts of one rank have the same head and the same count
-pub one_rank : (x y : List ℕ) → rank_of x ≡ rank_of y → (head_of 7 x ≡ head_of 7 y) × (min (length x) 8 ≡ min (length y) 8)
-one_rank x y e =
-    let same : head_of 7 x * 256 + min (length x) 8 ≡ head_of 7 y * 256 + min (length y) 8 = e in
-    (omega (arith, same, count_most x, count_most y), omega (arith, same, count_most x, count_most y))
+holds_none : (n i : ℕ) → get_or (none_of n) i 0 ≡ 0
+holds_none zero i = refl
+holds_none (suc n) zero = refl
+holds_none (suc n) (suc i) = holds_none n i
+
+drop_nothing : (n : ℕ) → drop {A = ℕ} n [] ≡ []
+drop_nothing zero = refl
+drop_nothing (suc n) = refl
+
+-- bytes that are put over the first of these places
+over_none : (n : ℕ) (bytes : List ℕ) (i : ℕ) → get_or (bytes ++ drop (length bytes) (none_of n)) i 0 ≡ get_or bytes i 0
+over_none n [] i = holds_none n i
+over_none zero (b ∷ bytes) zero = refl
+over_none zero (b ∷ bytes) (suc i) = ap (λ l. get_or (bytes ++ l) i 0) (sym (drop_nothing (length bytes))) ∙ over_none zero bytes i
+over_none (suc n) (b ∷ bytes) zero = refl
+over_none (suc n) (b ∷ bytes) (suc i) = over_none n bytes i
+
+front : (bytes rest : List ℕ) → take (length bytes) (bytes ++ rest) ≡ bytes
+front [] rest = refl
+front (b ∷ bytes) rest = ap (λ l. b ∷ l) (front bytes rest)
+
+pub padded_few : (bytes : List ℕ) → IsPadded (bytes ++ drop (length bytes) (none_of 14)) (take (length bytes) (bytes ++ drop (length bytes) (none_of 14)))
+padded_few bytes i lt = over_none 14 bytes i ∙ ap (λ l. get_or l i 0) (sym (front bytes (drop (length bytes) (none_of 14))))
+
+pub bytes_few : (bytes : List ℕ) → ((i : ℕ) → get_or bytes i 0 < 256) → StartsWithBytes 14 (take (length bytes) (bytes ++ drop (length bytes) (none_of 14)))
+bytes_few bytes each = subst (λ l. StartsWithBytes 14 l) (sym (front bytes (drop (length bytes) (none_of 14)))) (all_bytes 14 bytes each)
+
+pub text_bytes : (text : Text) → IsText text → StartsWithBytes 7 (bytes_of text)
+text_bytes (Few few) is = begun 7 14 few is.1 (omega arith)
+text_bytes (Many head bytes) is = is.2
+
+head_none : (bytes : List ℕ) → head_of 0 bytes ≡ 0
+unfolding head_of
+head_none bytes = refl
+
+-- eight places as one number
+pub head_eight : (places bytes : List ℕ) → IsPadded places bytes
+    → slice_index_or places 0 0 * 256 ^ 7 + slice_index_or places 1 0 * 256 ^ 6 + slice_index_or places 2 0 * 256 ^ 5 + slice_index_or places 3 0 * 256 ^ 4 + slice_index_or places 4 0 * 256 ^ 3 + slice_index_or places 5 0 * 256 ^ 2 + slice_index_or places 6 0 * 256 + slice_index_or places 7 0 ≡ head_of 8 bytes
+head_eight places bytes padded =
+    let none = head_none bytes in
+    let one : head_of 1 bytes ≡ head_of 0 bytes * 256 + get_or bytes 0 0 = head_more 0 bytes in
+    let two : head_of 2 bytes ≡ head_of 1 bytes * 256 + get_or bytes 1 0 = head_more 1 bytes in
+    let three : head_of 3 bytes ≡ head_of 2 bytes * 256 + get_or bytes 2 0 = head_more 2 bytes in
+    let four : head_of 4 bytes ≡ head_of 3 bytes * 256 + get_or bytes 3 0 = head_more 3 bytes in
+    let five : head_of 5 bytes ≡ head_of 4 bytes * 256 + get_or bytes 4 0 = head_more 4 bytes in
+    let six : head_of 6 bytes ≡ head_of 5 bytes * 256 + get_or bytes 5 0 = head_more 5 bytes in
+    let seven : head_of 7 bytes ≡ head_of 6 bytes * 256 + get_or bytes 6 0 = head_more 6 bytes in
+    let eight : head_of 8 bytes ≡ head_of 7 bytes * 256 + get_or bytes 7 0 = head_more 7 bytes in
+    omega (arith, none, one, two, three, four, five, six, seven, eight, padded 0 (omega arith), padded 1 (omega arith), padded 2 (omega arith), padded 3 (omega arith), padded 4 (omega arith), padded 5 (omega arith), padded 6 (omega arith), padded 7 (omega arith))
+
+taken : (n i : ℕ) (bytes : List ℕ) → i < n → get_or (take n bytes) i 0 ≡ get_or bytes i 0
+taken zero i bytes lt = absurd (omega (arith, lt))
+taken (suc n) i [] lt = refl
+taken (suc n) zero (b ∷ bytes) lt = refl
+taken (suc n) (suc i) (b ∷ bytes) lt = taken n i bytes (omega (arith, lt))
+
+-- the first seven bytes as one number
+pub head_seven : (places bytes : List ℕ) → places ≡ take 7 bytes
+    → slice_index_or places 0 0 * 256 ^ 6 + slice_index_or places 1 0 * 256 ^ 5 + slice_index_or places 2 0 * 256 ^ 4 + slice_index_or places 3 0 * 256 ^ 3 + slice_index_or places 4 0 * 256 ^ 2 + slice_index_or places 5 0 * 256 + slice_index_or places 6 0 ≡ head_of 7 bytes
+head_seven places bytes is =
+    let none = head_none bytes in
+    let one : head_of 1 bytes ≡ head_of 0 bytes * 256 + get_or bytes 0 0 = head_more 0 bytes in
+    let two : head_of 2 bytes ≡ head_of 1 bytes * 256 + get_or bytes 1 0 = head_more 1 bytes in
+    let three : head_of 3 bytes ≡ head_of 2 bytes * 256 + get_or bytes 2 0 = head_more 2 bytes in
+    let four : head_of 4 bytes ≡ head_of 3 bytes * 256 + get_or bytes 3 0 = head_more 3 bytes in
+    let five : head_of 5 bytes ≡ head_of 4 bytes * 256 + get_or bytes 4 0 = head_more 4 bytes in
+    let six : head_of 6 bytes ≡ head_of 5 bytes * 256 + get_or bytes 5 0 = head_more 5 bytes in
+    let seven : head_of 7 bytes ≡ head_of 6 bytes * 256 + get_or bytes 6 0 = head_more 6 bytes in
+    let place : (i : ℕ) → i < 7 → get_or places i 0 ≡ get_or bytes i 0 = λ i lt. ap (λ l. get_or l i 0) is ∙ taken 7 i bytes lt in
+    omega (arith, none, one, two, three, four, five, six, seven, place 0 (omega arith), place 1 (omega arith), place 2 (omega arith), place 3 (omega arith), place 4 (omega arith), place 5 (omega arith), place 6 (omega arith))
+
+-- the six places behind them
+behind_eight : (bytes : List ℕ) → StartsWithBytes 14 bytes → (q : ℕ) × (head_of 14 bytes ≡ head_of 8 bytes * 256 ^ 6 + q) × (q < 256 ^ 6)
+    × (q ≡ get_or bytes 8 0 * 256 ^ 5 + get_or bytes 9 0 * 256 ^ 4 + get_or bytes 10 0 * 256 ^ 3 + get_or bytes 11 0 * 256 ^ 2 + get_or bytes 12 0 * 256 + get_or bytes 13 0)
+behind_eight bytes h =
+    let nine : head_of 9 bytes ≡ head_of 8 bytes * 256 + get_or bytes 8 0 = head_more 8 bytes in
+    let ten : head_of 10 bytes ≡ head_of 9 bytes * 256 + get_or bytes 9 0 = head_more 9 bytes in
+    let eleven : head_of 11 bytes ≡ head_of 10 bytes * 256 + get_or bytes 10 0 = head_more 10 bytes in
+    let twelve : head_of 12 bytes ≡ head_of 11 bytes * 256 + get_or bytes 11 0 = head_more 11 bytes in
+    let thirteen : head_of 13 bytes ≡ head_of 12 bytes * 256 + get_or bytes 12 0 = head_more 12 bytes in
+    let fourteen : head_of 14 bytes ≡ head_of 13 bytes * 256 + get_or bytes 13 0 = head_more 13 bytes in
+    (get_or bytes 8 0 * 256 ^ 5 + get_or bytes 9 0 * 256 ^ 4 + get_or bytes 10 0 * 256 ^ 3 + get_or bytes 11 0 * 256 ^ 2 + get_or bytes 12 0 * 256 + get_or bytes 13 0, omega (arith, nine, ten, eleven, twelve, thirteen, fourteen), omega (arith, byte_of 14 8 bytes h (omega arith), byte_of 14 9 bytes h (omega arith), byte_of 14 10 bytes h (omega arith), byte_of 14 11 bytes h (omega arith), byte_of 14 12 bytes h (omega arith), byte_of 14 13 bytes h (omega arith)), refl)
+
+-- what follows the first eight places, with the eighth and the count
+pub rest_seven : (bytes : List ℕ) → StartsWithBytes 14 bytes
+    → get_or bytes 7 0 * 256 ^ 7 + get_or bytes 8 0 * 256 ^ 6 + get_or bytes 9 0 * 256 ^ 5 + get_or bytes 10 0 * 256 ^ 4 + get_or bytes 11 0 * 256 ^ 3 + get_or bytes 12 0 * 256 ^ 2 + get_or bytes 13 0 * 256 + length bytes ≡ second_of bytes
+rest_seven bytes h =
+    let more = behind_eight bytes h in
+    let eight : head_of 8 bytes ≡ head_of 7 bytes * 256 + get_or bytes 7 0 = head_more 7 bytes in
+    omega (arith, more.1, more.2, more.3, eight, byte_of 14 7 bytes h (omega arith))
 
 fewer : (m n : ℕ) → m < n → nat_cmp m n ≡ Less
 fewer m n lt = grind (arith, nat_tests)
 
--- the text of the smaller rank comes first
-ranked_first : (x y : List ℕ) → StartsWithBytes 7 x → StartsWithBytes 7 y → rank_of x < rank_of y → slice_cmp nat_cmp x y ≡ Less
-ranked_first x y hx hy less = go (nat_cmp (head_of 7 x) (head_of 7 y)) (ranked (head_of 7 x) (head_of 7 y) (nat_cmp (head_of 7 x) (head_of 7 y)) refl)
+-- of short texts the one of the smaller first number comes first
+pub by_first : (x y : List ℕ) (o : Ordering) → StartsWithBytes 14 x → StartsWithBytes 14 y → o ≡ nat_cmp (first_of x) (first_of y) → (o ≡ Equal → ⊥) → o ≡ slice_cmp nat_cmp x y
+by_first x y o hx hy e differ = by_heads 8 x y o (first_eight x hx) (first_eight y hy) e differ
+
+-- where the first numbers are the same, the second ones decide
+pub by_second : (x y : List ℕ) → StartsWithBytes 14 x → StartsWithBytes 14 y → length x ≤ 14 → length y ≤ 14 → first_of x ≡ first_of y → nat_cmp (second_of x) (second_of y) ≡ slice_cmp nat_cmp x y
+by_second x y hx hy lx ly e = go (nat_cmp (head_of 14 x) (head_of 14 y)) refl (ranked (head_of 14 x) (head_of 14 y) (nat_cmp (head_of 14 x) (head_of 14 y)) refl)
   where
-    lt : head_of 7 x * 256 + min (length x) 8 < head_of 7 y * 256 + min (length y) 8
-    lt = less
+    first : head_of 8 x ≡ head_of 8 y
+    first = e
 
-    by_count : head_of 7 x ≡ head_of 7 y → slice_cmp nat_cmp x y ≡ Less
-    by_count e =
-        let few : min (length x) 8 < min (length y) 8 = omega (arith, e, lt) in
-        let own : length x ≡ min (length x) 8 = count_few x (omega (arith, few, count_most y)) in
-        let short : length x ≤ 7 = omega (arith, own, few, count_most y) in
-        sym (alike 7 x y hx hy e (inl short)) ∙ fewer (length x) (length y) (omega (arith, own, few, count_least y))
+    smaller_second : (a b : List ℕ) → StartsWithBytes 14 a → StartsWithBytes 14 b → length a ≤ 14 → head_of 8 a ≡ head_of 8 b → head_of 14 a < head_of 14 b → second_of a < second_of b
+    smaller_second a b ha hb la same lt =
+        let own = behind_eight a ha in
+        let others = behind_eight b hb in
+        omega (arith, own.1, own.2, others.1, others.2, same, lt, la)
 
-    go : (o : Ordering) → MatchOrdering o (head_of 7 x < head_of 7 y) (head_of 7 x ≡ head_of 7 y) (head_of 7 y < head_of 7 x) → slice_cmp nat_cmp x y ≡ Less
-    go Less m = smaller 7 x y hx hy m
-    go Equal m = by_count m
-    go Greater m = absurd (omega (arith, m, lt, count_most x, count_most y))
+    same_front : (a b m n : ℕ) → a ≡ b → nat_cmp (a + m) (b + n) ≡ nat_cmp m n
+    same_front a b m n e = grind (arith, nat_tests)
 
--- where the ranks differ, they decide
-pub decided : (x y : List ℕ) (o : Ordering) → StartsWithBytes 7 x → StartsWithBytes 7 y → o ≡ nat_cmp (rank_of x) (rank_of y) → (o ≡ Equal → ⊥) → o ≡ slice_cmp nat_cmp x y
-decided x y Less hx hy e differ = sym (ranked_first x y hx hy (ranked (rank_of x) (rank_of y) Less e))
-decided x y Equal hx hy e differ = absurd (differ refl)
-decided x y Greater hx hy e differ =
-    sym (nat_list_cmp_total.antisymm x y ∙ ap ordering_reverse (ranked_first y x hy hx (ranked (rank_of x) (rank_of y) Greater e)))
+    counts : head_of 14 x ≡ head_of 14 y → nat_cmp (second_of x) (second_of y) ≡ nat_cmp (length x) (length y)
+    counts m = same_front (head_of 14 x % 256 ^ 7 * 256) (head_of 14 y % 256 ^ 7 * 256) (length x) (length y) (omega (arith, m))
 
--- texts of one rank with few bytes are the same
-pub few_alike : (x y : List ℕ) → StartsWithBytes 7 x → StartsWithBytes 7 y → rank_of x ≡ rank_of y → rank_of x % 256 < 8 → Equal ≡ slice_cmp nat_cmp x y
-few_alike x y hx hy e lt =
-    let w = one_rank x y e in
-    let few : min (length x) 8 < 8 = omega (arith, lt, counted x) in
-    let own : length x ≡ min (length x) 8 = count_few x few in
-    let other : length y ≡ min (length y) 8 = count_few y (omega (arith, few, w.1)) in
-    let same : length x ≡ length y = omega (arith, own, other, w.1) in
-    sym (tied_itself nat_cmp_total (length y)) ∙ ap (λ n. nat_cmp n (length y)) (sym same)
-    ∙ alike 7 x y hx hy w.0 (inl (omega (arith, own, few)))
+    go : (o : Ordering) → nat_cmp (head_of 14 x) (head_of 14 y) ≡ o → MatchOrdering o (head_of 14 x < head_of 14 y) (head_of 14 x ≡ head_of 14 y) (head_of 14 y < head_of 14 x) → nat_cmp (second_of x) (second_of y) ≡ slice_cmp nat_cmp x y
+    go Less w m = fewer (second_of x) (second_of y) (smaller_second x y hx hy lx first m) ∙ sym (smaller 14 x y hx hy m)
+    go Equal w m = counts m ∙ alike 14 x y hx hy m (inl lx)
+    go Greater w m = nat_cmp_total.antisymm (second_of x) (second_of y) ∙ ap ordering_reverse (fewer (second_of y) (second_of x) (smaller_second y x hy hx ly (sym first) m) ∙ sym (smaller 14 y x hy hx m)) ∙ sym (nat_list_cmp_total.antisymm x y)

@@ -1,5 +1,5 @@
 -- How the first bytes of a text order it.
-use Rattle.std.specs.Prelude.{ℕ, ◌+◌, ◌*◌, ◌^◌, ◌%◌, ◌<◌, suc, zero, nat_lt, if◌then◌else◌, List, [], ◌∷◌, ◌++◌, length, drop, min}
+use Rattle.std.specs.Prelude.{◌≡◌, ℕ, ◌+◌, ◌*◌, ◌^◌, ◌%◌, ◌<◌, suc, zero, nat_le, if◌then◌else◌, List, [], ◌∷◌, ◌++◌, length, get_or, slice_index_or}
 use Rattle.std.specs.Hash.{HashWrites, u64}
 
 -- the first n bytes as one number, of which the first weighs most; one that isn't there counts 0
@@ -14,10 +14,18 @@ StartsWithBytes zero bytes = Unit {0}
 StartsWithBytes (suc n) [] = Unit {0}
 StartsWithBytes (suc n) (b ∷ bytes) = (b < 256) × StartsWithBytes n bytes
 
--- a text's rank: its first seven bytes as one number, and then how many it has, where 8 stands for all counts from there on
-abbrev pub rank_of : List ℕ → ℕ
-rank_of bytes = head_of 7 bytes * 256 + min (length bytes) 8
+-- the first eight bytes as one number
+abbrev pub first_of : List ℕ → ℕ
+first_of bytes = head_of 8 bytes
 
--- what a hasher is fed of a text: its rank and, where that doesn't tell all of it, what stands behind the first seven bytes
+-- the bytes from the eighth to the fourteenth as one number, and then how many bytes there are
+abbrev pub second_of : List ℕ → ℕ
+second_of bytes = head_of 14 bytes % 256 ^ 7 * 256 + length bytes
+
+-- fourteen places hold these bytes, and 0 behind them
+abbrev pub IsPadded : List ℕ → List ℕ → Type 0
+IsPadded places bytes = (i : ℕ) → i < 14 → slice_index_or places i 0 ≡ get_or bytes i 0
+
+-- what a hasher is fed of a text: of a short one two numbers that tell it, of a long one its bytes
 abbrev pub fed_of : List ℕ → HashWrites
-fed_of bytes = u64 (rank_of bytes) ++ (if nat_lt (rank_of bytes % 256) 8 then [] else drop 7 bytes ∷ [])
+fed_of bytes = if nat_le (length bytes) 14 then u64 (first_of bytes) ++ u64 (second_of bytes) else bytes ∷ []

@@ -5,7 +5,6 @@
 ghost use Rattle.std.specs.Prelude.{◌≡◌, ◌&&◌, nat_le, length, IfOk};
 ghost use Rattle.column_family.specs.Limits.{is_key, is_name, is_end, is_value};
 
-use crate::plain_bytes::PlainBytes;
 use crate::shared_bytes::SharedBytes;
 use std::alloc::{AllocError, Global};
 use std::marker::Model;
@@ -26,7 +25,7 @@ fn has_length(bytes: &[u8], longest: usize) -> bool
 
 /// The name of a column family.
 #[derive(Drop, Clone, PartialEq, Eq, PartialOrd, Ord, Hash)]
-pub struct Family(PlainBytes);
+pub struct Family(SharedBytes);
 
 impl Model for Family {
     ghost use Rattle.std.specs.Prelude.{List, ℕ};
@@ -43,7 +42,7 @@ impl Family {
     pub fn from_slice(alloc: Global, bytes: &[u8]) -> Result<Family, AllocError>
         ensures { IfOk result (λ copy. copy ≡ bytes.now) }
     {
-        Ok(Family(PlainBytes::from_slice(alloc, bytes)?))
+        Ok(Family(SharedBytes::from_slice(alloc, bytes)?))
     }
 
     /// The bytes.
@@ -137,7 +136,7 @@ impl Name {
 
 /// The value of a column.
 #[derive(Drop, Clone, PartialEq, Eq)]
-pub struct Value(PlainBytes);
+pub struct Value(SharedBytes);
 
 impl Model for Value {
     ghost use Rattle.std.specs.Prelude.{List, ℕ};
@@ -154,7 +153,7 @@ impl Value {
     pub fn from_slice(alloc: Global, bytes: &[u8]) -> Result<Value, AllocError>
         ensures { IfOk result (λ copy. copy ≡ bytes.now) }
     {
-        Ok(Value(PlainBytes::from_slice(alloc, bytes)?))
+        Ok(Value(SharedBytes::from_slice(alloc, bytes)?))
     }
 
     /// The bytes.

@@ -6,12 +6,11 @@
 
 mod batch;
 mod byte_strings;
+mod few;
 mod newest;
 mod normalizing;
-mod plain_bytes;
 mod schema;
 mod shared_bytes;
-mod stored;
 
 pub use batch::{Batch, Change, Committed, Mutation, Row};
 pub use byte_strings::{Family, Key, Name, Value};

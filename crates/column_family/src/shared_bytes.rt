@@ -1,70 +1,69 @@
-//! Bytes that copies share.
-ghost use Rattle.std.specs.Prelude.{◌≡◌, nat_eq, refl, get_or, Some, IfOk};
+//! Bytes of which few stand in the handle, and more are shared.
+ghost use Rattle.std.specs.Prelude.{◌≡◌, ◌≤◌, nat_eq, refl, Some, IfOk, length, take};
 ghost use Rattle.std.specs.Ordering.{nat_cmp};
 ghost use Rattle.std.specs.Cmp.Lexicographic.{pointwise, slice_cmp, nat_list_eq_equiv, nat_list_cmp_total, texts_ties, texts_po};
 ghost use Rattle.std.specs.Cmp.{partial_equiv_from_equiv};
 ghost use Rattle.std.specs.Cmp.Rules.{hashing};
 ghost use Rattle.std.proofs.Common.{rules};
-ghost use Rattle.column_family.specs.Heads as heads;
-ghost use Rattle.column_family.specs.Heads.{StartsWithBytes};
+ghost use Rattle.column_family.specs.Heads.{fed_of, head_of};
 
-use crate::stored::Stored;
+use crate::few::{FEW, Few};
 use std::alloc::{AllocError, Global};
 use std::cmp::Ordering;
 use std::hash::{Hash, Hasher};
 use std::marker::Model;
 use std::sync::Arc;
 
-/// How many bytes stand in a rank.
+/// How many bytes of a long text stand in its handle.
 const HEAD: usize = 7;
 
-/// The count in a rank that stands for itself and all above it.
-const MANY: u64 = 8;
-
-// The byte at a place, and 0 where none is there.
-fn byte_at(bytes: &[u8], place: usize) -> u8
-    ensures { result ≡ get_or bytes.now place 0 }
-{
-    bytes.get(place).copied().unwrap_or(0)
+/// Bytes in one of two places.
+#[derive(Drop)]
+pub(crate) enum Text {
+    /// Few stand in the handle.
+    Few(Few),
+    /// Of more the first stand there, and all are shared.
+    Many {
+        /// The first bytes.
+        head: [u8; HEAD],
+        /// All bytes.
+        bytes: Arc<Vec<u8>>,
+    },
 }
 
-// The rank of a text: its first bytes as one number, of which the first weighs most, and then how many it has.
-fn rank_of(bytes: &[u8]) -> u64
-    ensures rank { result ≡ heads.rank_of bytes.now }
-    ensures bytes { StartsWithBytes 7 bytes.now }
-{
-    let mut head: u64 = 0;
-    for place in 0..HEAD {
-        head = head * 256 + u64::from(byte_at(bytes, place));
-    }
-    head * 256 + (bytes.len() as u64).min(MANY)
-}
-
-/// Compares byte by byte, since most differ soon: slices are compared by groups of bytes, which costs more.
-pub(crate) fn cmp_bytes(bytes: &[u8], others: &[u8]) -> Ordering
+// Compares byte by byte, since most differ soon: slices are compared by groups of bytes, which costs more.
+fn cmp_bytes(bytes: &[u8], others: &[u8]) -> Ordering
     ensures { result ≡ slice_cmp nat_cmp bytes.now others.now }
 {
     bytes.iter().cmp(others.iter())
 }
 
-/// Bytes that copies share, compared as bytes, with their rank, by which most are put in order, and few are the same, with no
-/// look at the bytes. A copy copies no byte and takes no memory.
-#[derive(Drop, Clone)]
+/// Bytes, compared as bytes: few with no look elsewhere in memory, and of more those of which the first differ. A copy takes no
+/// memory.
+#[derive(Drop)]
 pub(crate) struct SharedBytes {
-    rank: u64,
-    bytes: Arc<Stored>,
+    text: Text,
 }
 
 impl Model for SharedBytes {
-    ghost use Rattle.std.specs.Prelude.{List, ℕ, ◌≡◌};
-    ghost use Rattle.column_family.specs.Heads.{rank_of, StartsWithBytes};
-    ghost use Rattle.column_family.specs.Stored.{bytes_of};
+    ghost use Rattle.std.specs.Prelude.{List, ℕ};
+    ghost use Rattle.column_family.specs.Texts.{bytes_of, IsText};
 
     ghost Value = { List ℕ };
 
-    ghost view = { λ bytes. bytes_of bytes.bytes.value };
+    ghost view = { λ bytes. bytes_of bytes.text };
 
-    ghost invariant = { λ bytes. (bytes.rank ≡ rank_of (bytes_of bytes.bytes.value)) × StartsWithBytes 7 (bytes_of bytes.bytes.value) };
+    ghost invariant = { λ bytes. IsText bytes.text };
+}
+
+// The first bytes of a long text.
+fn head_in(bytes: &[u8]) -> [u8; HEAD]
+    requires { 7 ≤ length bytes.now }
+    ensures { result ≡ take 7 bytes.now }
+{
+    let mut head = [0; HEAD];
+    head.copy_from_slice(&bytes[..HEAD]);
+    head
 }
 
 impl SharedBytes {
@@ -72,31 +71,66 @@ impl SharedBytes {
     pub(crate) fn from_slice(alloc: Global, bytes: &[u8]) -> Result<SharedBytes, AllocError>
         ensures { IfOk result (λ copy. copy ≡ bytes.now) }
     {
-        let stored = Stored::from_slice(alloc, bytes)?;
-        Ok(SharedBytes {
-            rank: rank_of(bytes),
-            bytes: Arc::new(alloc, stored)?,
-        })
+        let text = if bytes.len() <= FEW {
+            Text::Few(Few::of(bytes))
+        } else {
+            let mut all = Vec::with_capacity(alloc, bytes.len())?;
+            all.extend_from_slice(bytes)?;
+            Text::Many {
+                head: head_in(bytes),
+                bytes: Arc::new(alloc, all)?,
+            }
+        };
+        Ok(SharedBytes { text })
     }
 
     /// The bytes.
     pub(crate) fn as_slice(&self) -> &[u8]
         ensures { result.now ≡ self.now }
     {
-        self.bytes.as_slice()
+        match &self.text {
+            Text::Few(few) => few.as_slice(),
+            Text::Many { bytes, .. } => bytes.as_slice(),
+        }
     }
 
-    // Compares with bytes of the same rank: few are the same then, and of many what follows the rank decides.
-    fn cmp_alike(&self, other: &SharedBytes) -> Ordering
-        requires rank { heads.rank_of self.now ≡ heads.rank_of other.now }
-        requires own { StartsWithBytes 7 self.now }
-        requires others { StartsWithBytes 7 other.now }
+    // The first seven bytes as one number.
+    fn head(&self) -> u64
+        ensures { result ≡ head_of 7 self.now }
+    {
+        match &self.text {
+            Text::Few(few) => few.head(),
+            Text::Many { head: b, .. } => {
+                u64::from_be_bytes([0, b[0], b[1], b[2], b[3], b[4], b[5], b[6]])
+            }
+        }
+    }
+
+    // Compares as bytes, of which the first decide mostly.
+    fn cmp_many(&self, other: &SharedBytes) -> Ordering
         ensures { result ≡ slice_cmp nat_cmp self.now other.now }
     {
-        if self.rank % 256 < MANY {
-            return Ordering::Equal;
+        let _ = &self.text;
+        let _ = &other.text;
+        match self.head().cmp(&other.head()) {
+            Ordering::Equal => cmp_bytes(self.as_slice(), other.as_slice()),
+            order => order,
         }
-        cmp_bytes(&self.as_slice()[HEAD..], &other.as_slice()[HEAD..])
+    }
+}
+
+impl Clone for SharedBytes {
+    ghost is_clone = { λ bytes copy. copy ≡ bytes };
+
+    fn clone(&self) -> Result<SharedBytes, AllocError> {
+        let text = match &self.text {
+            Text::Few(few) => Text::Few(few.clone()?),
+            Text::Many { head, bytes } => Text::Many {
+                head: *head,
+                bytes: bytes.clone()?,
+            },
+        };
+        Ok(SharedBytes { text })
     }
 }
 
@@ -134,22 +168,25 @@ impl Ord for SharedBytes {
     ghost matches_eq = { texts_ties };
 
     fn cmp(&self, other: &SharedBytes) -> Ordering {
-        match self.rank.cmp(&other.rank) {
-            Ordering::Equal => self.cmp_alike(other),
-            order => order,
+        match (&self.text, &other.text) {
+            (Text::Few(few), Text::Few(others)) => few.cmp_few(others),
+            _ => self.cmp_many(other),
         }
     }
 }
 
 impl Hash for SharedBytes {
-    ghost hash_input = { heads.fed_of };
+    ghost hash_input = { fed_of };
 
     ghost respects_eq = { Prim.search (hashing, rules) };
 
     fn hash<H: Hasher>(&self, state: &mut H) {
-        state.write_u64(self.rank);
-        if self.rank % 256 >= MANY {
-            state.write(&self.as_slice()[HEAD..]);
+        match &self.text {
+            Text::Few(few) => {
+                state.write_u64(few.first());
+                state.write_u64(few.second());
+            }
+            Text::Many { bytes, .. } => state.write(bytes.as_slice()),
         }
     }
 }

@@ -1,25 +1,20 @@
 -- Writers are ordered, and stand once after equal ones are left out of a list in order.
 use Rattle.std.proofs.Common.{◌≡◌, ◌∙◌, sym, ap, Bool, true, ◌&&◌, List, arith}
 use Rattle.std.specs.Prelude.{◌==◌, Contains, IsSorted}
-use Rattle.std.specs.Cmp.{IsTotalOrder, IsEquivalence}
+use Rattle.std.specs.Cmp.{IsEquivalence}
 use Rattle.std.specs.Ordering.{eq_by_cmp, is_eq}
 use Rattle.std.specs.declared.cmp.Ordering.TheVariants.{Equal}
 use Rattle.std.specs.List.{dedup}
 use Rattle.std.specs.List.Sorted.{IsStrictlySortedBy}
 use Rattle.std.proofs.lemmas.Bool.Decides.{nat_tests}
-use Rattle.std.proofs.lemmas.Cmp.{on_total, then_total, nat_cmp_total, eq_by_cmp_equiv}
+use Rattle.std.proofs.lemmas.Cmp.{eq_by_cmp_equiv}
 use Rattle.std.proofs.lemmas.List.Kept.{Contains-dedup, Contains-from_dedup, IsStrictlySortedBy-dedup}
-use Rattle.logical_time.specs.Stamps.{TxnValue, WriterValue, txn_cmp, writer_cmp}
+use Rattle.logical_time.specs.Stamps.{WriterValue, writer_cmp}
+pub use Rattle.logical_time.specs.WriterLaws.{writer_total}
 
 -- whether both are the same writer
 abbrev pub same_writer : WriterValue → WriterValue → Bool
 same_writer v w = ((v.txn.session == w.txn.session) && (v.txn.number == w.txn.number)) && (v.shard == w.shard)
-
-txn_total : IsTotalOrder txn_cmp
-txn_total = then_total (on_total (λ (t : TxnValue). t.session) nat_cmp_total) (on_total (λ (t : TxnValue). t.number) nat_cmp_total)
-
-pub writer_total : IsTotalOrder writer_cmp
-writer_total = then_total (on_total (λ (w : WriterValue). w.txn) txn_total) (on_total (λ (w : WriterValue). w.shard) nat_cmp_total)
 
 ties : (v w : WriterValue) → same_writer v w ≡ eq_by_cmp writer_cmp v w
 ties v w = grind (arith, nat_tests)

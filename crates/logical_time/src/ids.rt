@@ -1,8 +1,15 @@
 //! The numbers of actors and transactions, and the stamps that order transactions.
-ghost use Rattle.std.specs.Prelude.{◌≡◌};
+ghost use Rattle.std.specs.Prelude.{◌≡◌, ◌&&◌, ◌==◌};
+ghost use Rattle.std.specs.Ordering.{as_partial_cmp};
+ghost use Rattle.std.specs.Cmp.{partial_order_from_own_ties, partial_order_from_total};
+ghost use Rattle.std.specs.Cmp.Rules.{comparing};
+ghost use Rattle.std.proofs.Common.{rules};
+ghost use Rattle.logical_time.specs.Stamps.{stamp_cmp, writer_cmp};
+ghost use Rattle.logical_time.specs.WriterLaws.{writer_total};
 
 use crate::shards::Shard;
 use crate::time::Time;
+use std::cmp::Ordering;
 use std::marker::Model;
 
 /// The number of an actor, a shard or a session.
@@ -37,22 +44,82 @@ impl Node {
 
 /// When a transaction was decided first, and by which coordinator. Of two mutations of a location the
 /// one with the greater stamp is newer: by time, then by node.
-#[derive(Clone, Copy, PartialEq, Eq, PartialOrd, Ord)]
-pub struct Stamp {
-    /// The commit time in the data centre where the transaction was submitted.
-    pub time: Time,
-    /// The coordinator there.
-    pub node: Node,
-}
+///
+/// It is one number: the time stands above the 16 bits of the node, so the number orders stamps.
+#[derive(Clone, Copy)]
+pub struct Stamp(u64);
 
 impl Model for Stamp {
+    ghost use Rattle.std.specs.Prelude.{◌*◌, ◌+◌, ◌/◌, ◌%◌};
     ghost use Rattle.logical_time.specs.Stamps.{StampValue};
 
     ghost Value = { StampValue };
 
-    ghost view = { λ s. record { time = s.time; node = s.node } };
+    ghost view = { λ s. record { time = s.0 / 65536; node = s.0 % 65536 } };
 
-    ghost inverse = { λ s. record { time = s.time; node = s.node } };
+    ghost inverse = { λ s. record { 0 = s.time * 65536 + s.node } };
+}
+
+impl Stamp {
+    /// The stamp of what this coordinator decided at this time.
+    pub fn new(time: Time, node: Node) -> Stamp
+        ensures { result ≡ record { time = time; node = node } }
+    {
+        Stamp(time.get() * 65536 + u64::from(node.get()))
+    }
+
+    /// The commit time in the data centre where the transaction was submitted.
+    pub fn time(self) -> Time
+        ensures { result ≡ self.time }
+    {
+        Time::in_stamp(self.0)
+    }
+
+    /// The coordinator there.
+    pub fn node(self) -> Node
+        ensures { result ≡ self.node }
+    {
+        Node((self.0 % 65536) as u16)
+    }
+}
+
+impl PartialEq for Stamp {
+    ghost eq = { λ s t. (s.time == t.time) && (s.node == t.node) };
+
+    ghost laws = { Prim.search (comparing, rules) };
+
+    fn eq(&self, other: &Stamp) -> bool {
+        self.0 == other.0
+    }
+}
+
+impl Eq for Stamp {
+    ghost laws = { Prim.search (comparing, rules) };
+}
+
+impl PartialOrd for Stamp {
+    ghost partial_cmp = { as_partial_cmp stamp_cmp };
+
+    ghost laws = { partial_order_from_own_ties (Prim.search (comparing, rules))
+        (Prim.search (comparing, rules)) };
+
+    fn partial_cmp(&self, other: &Stamp) -> Option<Ordering> {
+        Some(self.cmp(other))
+    }
+}
+
+impl Ord for Stamp {
+    ghost cmp = { stamp_cmp };
+
+    ghost total = { Prim.search (comparing, rules) };
+
+    ghost matches_partial_cmp = { Prim.search (comparing, rules) };
+
+    ghost matches_eq = { Prim.search (comparing, rules) };
+
+    fn cmp(&self, other: &Stamp) -> Ordering {
+        self.0.cmp(&other.0)
+    }
 }
 
 /// The number of a transaction: its session and the number of the operation there, from 1.
@@ -75,12 +142,12 @@ impl Model for TxnId {
 }
 
 /// A transaction that something rests on, and the shard that coordinates it.
-#[derive(Clone, Copy, PartialEq, Eq, PartialOrd, Ord)]
+#[derive(Clone, Copy)]
 pub struct Writer {
-    /// The transaction.
-    pub txn: TxnId,
-    /// Its coordinator.
-    pub shard: Shard,
+    // the shard beside the session, where it takes no room
+    session: Node,
+    shard: Shard,
+    number: u64,
 }
 
 impl Model for Writer {
@@ -88,7 +155,79 @@ impl Model for Writer {
 
     ghost Value = { WriterValue };
 
-    ghost view = { λ w. record { txn = w.txn; shard = w.shard } };
+    ghost view = { λ w. record { txn = record { session = w.session; number = w.number }; shard = w.shard } };
 
-    ghost inverse = { λ w. record { txn = w.txn; shard = w.shard } };
+    ghost inverse = { λ w. record { session = w.txn.session; shard = w.shard; number = w.txn.number } };
+}
+
+impl Writer {
+    /// The writer of this transaction, which this shard coordinates.
+    pub fn new(txn: TxnId, shard: Shard) -> Writer
+        ensures { result ≡ record { txn = txn; shard = shard } }
+    {
+        Writer {
+            session: txn.session,
+            shard,
+            number: txn.number,
+        }
+    }
+
+    /// The transaction.
+    pub fn txn(self) -> TxnId
+        ensures { result ≡ self.txn }
+    {
+        TxnId {
+            session: self.session,
+            number: self.number,
+        }
+    }
+
+    /// Its coordinator.
+    pub fn shard(self) -> Shard
+        ensures { result ≡ self.shard }
+    {
+        self.shard
+    }
+}
+
+impl PartialEq for Writer {
+    ghost eq = { λ v w. ((v.txn.session == w.txn.session) && (v.txn.number == w.txn.number)) && (v.shard == w.shard) };
+
+    ghost laws = { Prim.search (comparing, rules) };
+
+    fn eq(&self, other: &Writer) -> bool {
+        self.session == other.session && self.number == other.number && self.shard == other.shard
+    }
+}
+
+impl Eq for Writer {
+    ghost laws = { Prim.search (comparing, rules) };
+}
+
+impl PartialOrd for Writer {
+    ghost partial_cmp = { as_partial_cmp writer_cmp };
+
+    ghost laws = { partial_order_from_own_ties (partial_order_from_total writer_total)
+        (Prim.search (comparing, rules)) };
+
+    fn partial_cmp(&self, other: &Writer) -> Option<Ordering> {
+        Some(self.cmp(other))
+    }
+}
+
+impl Ord for Writer {
+    ghost cmp = { writer_cmp };
+
+    ghost total = { writer_total };
+
+    ghost matches_partial_cmp = { Prim.search (comparing, rules) };
+
+    ghost matches_eq = { Prim.search (comparing, rules) };
+
+    fn cmp(&self, other: &Writer) -> Ordering {
+        self.session
+            .cmp(&other.session)
+            .then(self.number.cmp(&other.number))
+            .then(self.shard.cmp(&other.shard))
+    }
 }

@@ -1,5 +1,5 @@
 //! Logical times.
-ghost use Rattle.std.specs.Prelude.{◌≡◌, ◌+◌, ◌^◌, ◌<◌, ◌≤◌, ◌↔◌, max, IfOk, IsErrOf, IfErr, SomeIff};
+ghost use Rattle.std.specs.Prelude.{◌≡◌, ◌+◌, ◌/◌, ◌^◌, ◌<◌, ◌≤◌, ◌↔◌, max, IfOk, IsErrOf, IfErr, SomeIff};
 
 use crate::fault::Fault;
 use std::marker::Model;
@@ -40,6 +40,13 @@ impl Time {
         } else {
             None
         }
+    }
+
+    /// The time above the lowest 16 bits of a number.
+    pub(crate) fn in_stamp(number: u64) -> Time
+        ensures { result ≡ number / 65536 }
+    {
+        Time(number / 65536)
     }
 
     /// The number of the time.

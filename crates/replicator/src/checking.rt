@@ -24,10 +24,10 @@ pub fn checks(
         .iter()
         .map(|writer| {
             let body = Body::Check {
-                txn: writer.txn,
+                txn: writer.txn(),
                 time: read_time,
             };
-            place.envelope_near(time, writer.shard, body)
+            place.envelope_near(time, writer.shard(), body)
         })
         .collect(alloc)?;
     Ok(envelopes)

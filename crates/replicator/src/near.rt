@@ -74,10 +74,10 @@ pub fn dep_checks(
         .iter()
         .map(|writer| {
             let body = Body::DepCheck {
-                dependency: writer.txn,
+                dependency: writer.txn(),
                 waiter: txn,
             };
-            place.envelope_near(time, writer.shard, body)
+            place.envelope_near(time, writer.shard(), body)
         })
         .collect(alloc)?;
     Ok(envelopes)

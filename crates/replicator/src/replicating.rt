@@ -29,7 +29,7 @@ fn parts_to(
 {
     let mut envelopes = Vec::new(alloc);
     for to in nodes {
-        let body = repl_part(writer.txn, rows, stamp, writer.shard)?;
+        let body = repl_part(writer.txn(), rows, stamp, writer.shard())?;
         envelopes.push(Envelope {
             from,
             to,
@@ -79,9 +79,9 @@ fn add_begins(
     for to in nodes {
         let body = repl_begin(txn, rows, stamp, cohorts, dependencies)?;
         envelopes.push(Envelope {
-            from: stamp.node,
+            from: stamp.node(),
             to,
-            time: stamp.time,
+            time: stamp.time(),
             body,
         })?;
     }
@@ -109,7 +109,7 @@ pub fn announcements(
         return Ok(envelopes);
     }
     let node = place.node();
-    let stamp = Stamp { time, node };
+    let stamp = Stamp::new(time, node);
     envelopes.push(Envelope {
         from: node,
         to: txn.session,

@@ -57,7 +57,7 @@ fn begun_again(led: Led) -> Begun
     } = led;
     let part = ballot.surrender();
     Begun {
-        txn: part.writer.txn,
+        txn: part.writer.txn(),
         rows: part.batch,
         cohorts,
         dependencies,
@@ -68,10 +68,7 @@ fn begun_again(led: Led) -> Begun
 fn own_part(kept: &Kept, clock: Clock, txn: TxnId, rows: Batch) -> Prepared
     ensures { result ≡ record { part = record { writer = record { txn = txn; shard = kept.now.place.shard }; batch = rows }; time = clock } }
 {
-    let writer = Writer {
-        txn,
-        shard: kept.place.shard(),
-    };
+    let writer = Writer::new(txn, kept.place.shard());
     let part = WritePart {
         writer,
         batch: rows,
@@ -140,10 +137,7 @@ fn note_decision(
     let envelopes = tell(kept, clock.now(), &deciding)?;
     outbox.reserve(commits + envelopes.len())?;
     kept.transactions.make_room(&begun.rows)?;
-    let stamp = Stamp {
-        time: clock.now(),
-        node: kept.place.node(),
-    };
+    let stamp = Stamp::new(clock.now(), kept.place.node());
     kept.transactions
         .note_decided(begun.txn, clock.now(), stamp)?;
     Ok(envelopes)
@@ -176,10 +170,7 @@ fn decide_now(
         cohorts: _,
         dependencies: _,
     } = begun;
-    let stamp = Stamp {
-        time: clock.now(),
-        node: kept.place.node(),
-    };
+    let stamp = Stamp::new(clock.now(), kept.place.node());
     let complete = Complete::new(own_part(kept, clock, txn, rows), votes);
     settle(kept, clock, txn, complete, stamp, envelopes, outbox);
     Ok(())

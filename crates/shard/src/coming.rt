@@ -81,7 +81,7 @@ pub(crate) fn answers_with(kept: &Kept, time: Time, coming: &Coming) -> Result<V
         &kept.waiting,
         kept.place.node(),
         time,
-        coming.writer.txn,
+        coming.writer.txn(),
         &Cause::Applied,
         &store,
     )

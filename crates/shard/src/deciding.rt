@@ -44,10 +44,7 @@ fn own_part<'b>(kept: &Kept, time: Time, deciding: &Deciding<'b>) -> Coming<'b>
     ensures { (top : TopologyValue) (me : ℕ) → IsPlace top me kept.now.place → applied_of result ≡ own_applied top me time (ballot_in deciding.now) }
 {
     let stamp = stamp_of(kept.place.node(), time, &deciding.stamp);
-    let writer = Writer {
-        txn: deciding.txn,
-        shard: kept.place.shard(),
-    };
+    let writer = Writer::new(deciding.txn, kept.place.shard());
     Coming {
         writer,
         batch: deciding.rows,

@@ -70,7 +70,7 @@ fn act(kept: &mut Kept, clock: Clock, from: Node, body: Body, outbox: &mut Outbo
             Err((fault, Begun { txn, rows, cohorts, dependencies })) => Err((fault, Body::Begin { txn, rows, cohorts, dependencies })),
         },
         Body::Prepare { txn, rows, coordinator } => {
-            let writer = Writer { txn, shard: coordinator };
+            let writer = Writer::new(txn, coordinator);
             match prepare(kept, clock, WritePart { writer, batch: rows }, outbox) {
                 Ok(()) => Ok(()),
                 Err((fault, WritePart { writer: _, batch })) => Err((fault, Body::Prepare { txn, rows: batch, coordinator })),
@@ -85,7 +85,7 @@ fn act(kept: &mut Kept, clock: Clock, from: Node, body: Body, outbox: &mut Outbo
             Err((fault, ReplBegun { txn, rows, stamp, cohorts, dependencies })) => Err((fault, Body::ReplBegin { txn, rows, stamp, cohorts, dependencies })),
         },
         Body::ReplPart { txn, rows, stamp, coordinator } => {
-            let part = WritePart { writer: Writer { txn, shard: coordinator }, batch: rows };
+            let part = WritePart { writer: Writer::new(txn, coordinator), batch: rows };
             match repl_part(kept, clock, KeptPart { part, stamp }, outbox) {
                 Ok(()) => Ok(()),
                 Err((fault, KeptPart { part, stamp })) => Err((fault, Body::ReplPart { txn, rows: part.batch, stamp, coordinator })),

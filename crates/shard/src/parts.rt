@@ -30,7 +30,7 @@ pub(crate) fn prepare(
     ensures memory { IfErr result (λ e. (e.0 ≡ fault.Memory) × (e.1 ≡ part)) }
 {
     let writer = part.writer;
-    let txn = writer.txn;
+    let txn = writer.txn();
     if kept.knows(txn) {
         drop(part);
         kept.clock = clock;
@@ -43,7 +43,7 @@ pub(crate) fn prepare(
     }
     kept.transactions.prepare(part, time)?;
     outbox
-        .post(yes(kept.place, time, txn, writer.shard))
+        .post(yes(kept.place, time, txn, writer.shard()))
         .unwrap();
     kept.clock = clock;
     Ok(())
@@ -66,7 +66,7 @@ pub(crate) fn repl_part(
 {
     let KeptPart { part, stamp } = held;
     let writer = part.writer;
-    if kept.knows(writer.txn) {
+    if kept.knows(writer.txn()) {
         drop(part);
         kept.clock = clock;
         return Ok(());
@@ -77,7 +77,7 @@ pub(crate) fn repl_part(
     }
     kept.transactions.keep(KeptPart { part, stamp })?;
     outbox
-        .post(notify(kept.place, clock.now(), writer.txn, writer.shard))
+        .post(notify(kept.place, clock.now(), writer.txn(), writer.shard()))
         .unwrap();
     kept.clock = clock;
     Ok(())
@@ -100,7 +100,7 @@ pub(crate) fn prepare_remote(
 {
     let time = clock.now();
     let coordinator = match kept.transactions.ledger().open(txn) {
-        Some(Open::Kept(held)) => held.part.writer.shard,
+        Some(Open::Kept(held)) => held.part.writer.shard(),
         _ => {
             kept.clock = clock;
             return Ok(());

@@ -98,7 +98,10 @@ fn asking(
     ensures checks { (top : TopologyValue) (me : ℕ) → IsPlace top me kept.now.place → IfOk result (λ r. r.1.items ≡ map (check_of top me now time) writers.now) }
     ensures memory { IfErr result (λ e. e ≡ fault.Memory) }
 {
-    let txns: Vec<TxnId> = writers.iter().map(|writer| writer.txn).collect(kept.alloc)?;
+    let txns: Vec<TxnId> = writers
+        .iter()
+        .map(|writer| writer.txn())
+        .collect(kept.alloc)?;
     let checks = checks(kept.alloc, kept.place, now, time, writers)?;
     Ok((txns, checks))
 }

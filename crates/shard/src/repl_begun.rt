@@ -76,7 +76,7 @@ fn remote_of(kept: &Kept, begun: ReplBegun) -> Result<Remote, (Fault, ReplBegun)
     } = begun;
     let shard = kept.place.shard();
     let part = WritePart {
-        writer: Writer { txn, shard },
+        writer: Writer::new(txn, shard),
         batch: rows,
     };
     Ok(Remote {
@@ -98,7 +98,7 @@ fn taken_apart(remote: Remote) -> ReplBegun
     let stamp = ballot.stamp();
     let WritePart { writer, batch } = ballot.surrender();
     ReplBegun {
-        txn: writer.txn,
+        txn: writer.txn(),
         rows: batch,
         stamp,
         cohorts,
@@ -119,7 +119,7 @@ fn told_at_once(
         → IfOk result (λ envelopes. envelopes.items ≡ machine.dep_checks top me time (kept_ballot_of remote.now) ++ (machine.ready_if is_ready top me time a (kept_ballot_of remote.now)).sends) }
     ensures memory { IfErr result (λ e. e ≡ fault.Memory) }
 {
-    let txn = remote.ballot.writer().txn;
+    let txn = remote.ballot.writer().txn();
     let mut envelopes = dep_checks(kept.alloc, kept.place, time, txn, &remote.dependencies)?;
     let mut told = told_by(kept, time, remote, is_ready)?;
     envelopes.append(&mut told)?;
@@ -161,7 +161,7 @@ fn begin(
     ensures memory { IfErr result (λ e. (e.0 ≡ fault.Memory) × (e.1 ≡ remote)) }
 {
     let time = clock.now();
-    let txn = remote.ballot.writer().txn;
+    let txn = remote.ballot.writer().txn();
     let stamp = remote.ballot.stamp();
     let is_ready = remote.ballot.missing() == 0;
     let envelopes = match told_at_once(kept, time, &remote, is_ready) {

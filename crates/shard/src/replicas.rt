@@ -45,7 +45,7 @@ pub(crate) fn told_by(
     if !is_ready {
         return Ok(Vec::new(kept.alloc));
     }
-    let txn = remote.ballot.writer().txn;
+    let txn = remote.ballot.writer().txn();
     if !remote.cohorts.as_slice().is_empty() {
         return prepare_remotes(kept.alloc, kept.place, time, txn, &remote.cohorts);
     }

@@ -85,7 +85,7 @@ pub(crate) fn add_outcomes(seen: &mut String, outcomes: &[(u64, Outcome)]) -> Re
 fn add_outcome(seen: &mut String, outcome: &Outcome) -> Result<(), Fault> {
     match outcome {
         Outcome::Wrote { commit, stamp } => {
-            let (commit, at, node) = (commit.get(), stamp.time.get(), stamp.node.get());
+            let (commit, at, node) = (commit.get(), stamp.time().get(), stamp.node().get());
             Ok(write!(seen, "wrote {commit} {at}.{node}; ")?)
         }
         Outcome::Read { effective, answer } => {

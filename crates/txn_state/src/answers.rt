@@ -38,7 +38,7 @@ fn txns_of(alloc: Global, dependencies: &[Writer]) -> Result<BTreeSet<TxnId>, Fa
 {
     let mut txns = BTreeSet::new(alloc);
     for writer in dependencies {
-        txns.insert(writer.txn)?;
+        txns.insert(writer.txn())?;
     }
     Ok(txns)
 }

@@ -89,7 +89,7 @@ impl Verdict {
         ensures own { result ≡ self.own }
     {
         let writer = self.own.writer();
-        post_all(post, &self.cohorts, writer.txn, self.commit, &self.stamp);
+        post_all(post, &self.cohorts, writer.txn(), self.commit, &self.stamp);
         self.into_own()
     }
 

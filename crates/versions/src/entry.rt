@@ -23,16 +23,10 @@ impl Default for Entry {
         };
         Entry {
             version: Version {
-                stamp: Stamp {
-                    time: Time::zero(),
-                    node: Node::new(0),
-                },
+                stamp: Stamp::new(Time::zero(), Node::new(0)),
                 evt: Time::zero(),
                 what: What {
-                    writer: Writer {
-                        txn,
-                        shard: Shard::first(),
-                    },
+                    writer: Writer::new(txn, Shard::first()),
                     value: None,
                 },
             },

@@ -223,7 +223,7 @@ impl Item for AnsweredRow {
 fn put_commit(out: &mut Vec<u8>, commit: Time, stamp: Stamp) -> Result<(), FrameError>
     ensures { Puts (replies.fits_commit_and_stamp commit stamp) (replies.commit_and_stamp commit stamp) result out.old.items out.new.items }
 {
-    let (time, node) = (stamp.time.get(), stamp.node.get());
+    let (time, node) = (stamp.time().get(), stamp.node().get());
     out.put_u64(commit.get())?;
     out.put_u64(time)?;
     Ok(out.put_u16(node)?)

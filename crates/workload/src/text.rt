@@ -88,7 +88,7 @@ fn add_op(text: &mut String, node: Node, number: u64) -> Result<(), AllocError>
 fn add_commit(text: &mut String, commit: Time, stamp: Stamp) -> Result<(), AllocError>
     ensures { OnOk result (string_bytes text.new ≡ string_bytes text.old ++ commit_text commit stamp) }
 {
-    let (commit, time, coordinator) = (commit.get(), stamp.time.get(), stamp.node.get());
+    let (commit, time, coordinator) = (commit.get(), stamp.time().get(), stamp.node().get());
     write!(text, " wrote commit {commit} stamp {time}.{coordinator}\n")
 }
 

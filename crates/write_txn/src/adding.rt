@@ -93,7 +93,7 @@ pub(crate) fn add_part(
     ensures err { OnErr result (HaveSameStates ledger.old ledger.new) }
     ensures memory { IfErr result (λ e. (e.0 ≡ fault.Memory) × (e.1 ≡ part)) }
 {
-    match marks.mark_all(part.batch.as_slice(), part.writer.txn, time) {
+    match marks.mark_all(part.batch.as_slice(), part.writer.txn(), time) {
         Ok(()) => {}
         Err(fault) => return Err((fault, part)),
     }
@@ -113,7 +113,7 @@ pub(crate) fn add_led(ledger: &mut Ledger, marks: &mut Marks, led: Led) -> Resul
     ensures err { OnErr result (HaveSameStates ledger.old ledger.new) }
     ensures memory { IfErr result (λ e. (e.0 ≡ fault.Memory) × (e.1 ≡ led)) }
 {
-    let txn = led.ballot.writer().txn;
+    let txn = led.ballot.writer().txn();
     match marks.mark_all(led.ballot.part().as_slice(), txn, led.ballot.time()) {
         Ok(()) => {}
         Err(fault) => return Err((fault, led)),
@@ -164,7 +164,7 @@ fn mark_remote(
     ensures memory { IfErr result (λ e. e ≡ fault.Memory) }
 {
     if is_voted_on(ballot) {
-        return marks.mark_all(ballot.part().as_slice(), ballot.writer().txn, time);
+        return marks.mark_all(ballot.part().as_slice(), ballot.writer().txn(), time);
     }
     Ok(())
 }
@@ -185,7 +185,7 @@ pub(crate) fn add_remote(
     ensures err { OnErr result (HaveSameStates ledger.old ledger.new) }
     ensures memory { IfErr result (λ e. (e.0 ≡ fault.Memory) × (e.1 ≡ remote)) }
 {
-    let txn = remote.ballot.writer().txn;
+    let txn = remote.ballot.writer().txn();
     match mark_remote(ledger, marks, &remote.ballot, time) {
         Ok(()) => {}
         Err(fault) => return Err((fault, remote)),

@@ -32,10 +32,7 @@ pub fn stamp_of(me: Node, commit: Time, stamp: &Option<Stamp>) -> Stamp
     ensures { result ≡ stamp_for me commit stamp.now }
 {
     match stamp {
-        None => Stamp {
-            time: commit,
-            node: me,
-        },
+        None => Stamp::new(commit, me),
         Some(stamp) => *stamp,
     }
 }

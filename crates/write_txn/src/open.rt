@@ -58,7 +58,7 @@ impl Part {
     pub fn txn(&self) -> TxnId
         ensures { result ≡ self.now.txn }
     {
-        self.prepared.writer().txn
+        self.prepared.writer().txn()
     }
 
     /// The transaction, with its coordinator.
@@ -72,7 +72,7 @@ impl Part {
     pub fn coordinator(&self) -> Shard
         ensures { result ≡ self.now.coordinator }
     {
-        self.prepared.writer().shard
+        self.prepared.writer().shard()
     }
 
     /// The changes.
@@ -174,10 +174,10 @@ impl Open {
         ensures { result ≡ txn_of self.now }
     {
         match self {
-            Open::Kept(kept) => kept.part.writer.txn,
+            Open::Kept(kept) => kept.part.writer.txn(),
             Open::Part(part) => part.txn(),
-            Open::Led(led) => led.ballot.writer().txn,
-            Open::Remote(remote) => remote.ballot.writer().txn,
+            Open::Led(led) => led.ballot.writer().txn(),
+            Open::Remote(remote) => remote.ballot.writer().txn(),
         }
     }
 

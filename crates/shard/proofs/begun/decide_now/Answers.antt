@@ -15,10 +15,11 @@ returns-clause-step c = λ top me a r apart.
     let k = c.args.kept.now in
     let b = c.args.begun in
     let now = c.in-Ok.ensures.noted in
-    let told_stamp : StampValue = record { time = c.now.result; node = c.node.result } in
+    let told_stamp = c.new-stamp.result in
     let stamp : StampValue = record { time = c.args.clock; node = node_at k.place } in
     let stamped : told_stamp ≡ stamp =
-    ap (λ (m : ℕ). record { time = m; node = c.node.result }) c.now.ensures
+    c.new-stamp.ensures
+    ∙ ap (λ (m : ℕ). record { time = m; node = c.node.result }) c.now.ensures
     ∙ ap (λ (m : ℕ). record { time = c.args.clock; node = m }) (c.node.ensures.value ∙ ap (λ (x : Kept). node_at x.place) now.rest) in
     let own_is : c.new-complete.result ≡ record { own = record { part = record { writer = record { txn = b.txn; shard = k.place.shard }; batch = b.rows }; time = c.args.clock }; cohorts = c.args.votes.cohorts } =
     c.new-complete.ensures ∙ (ap (λ (o : PreparedValue). record { own = o; cohorts = c.args.votes.cohorts }) c.own_part.ensures

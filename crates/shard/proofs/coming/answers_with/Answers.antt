@@ -13,5 +13,5 @@ returns-clause-ok c = λ top me a r apart.
     let next = with_applied a (applied_of c.args.coming.now) in
     let keeps = subst (λ (s : in_store.Kept). Keeps s a.applied) (sym c.store.ensures) r.store in
     let low = subst (λ (s : in_store.Kept). a.low ≡ s.low) (sym c.store.ensures) r.low in
-    if_ok c.freed_answers.result (λ x e. e ∙ freed_are me c.node.result c.args.time next c.args.coming.now.writer.txn c.coming.inside.0.0.txn cause.Applied c.args.kept.now.waiting a.waiting (c.node.ensures.place top me r.place) (search rules) r.waiting)
+    if_ok c.freed_answers.result (λ x e. e ∙ freed_are me c.node.result c.args.time next c.args.coming.now.writer.txn c.txn.result cause.Applied c.args.kept.now.waiting a.waiting (c.node.ensures.place top me r.place) (search rules) r.waiting)
     (c.freed_answers.ensures.ok (at_time next) (λ time read x answered. answered a keeps low apart))

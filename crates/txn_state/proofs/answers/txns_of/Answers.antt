@@ -2,7 +2,7 @@ use Rattle.std.proofs.Common.{◌≡◌, ◌∙◌, sym, ap, subst, true, cond, 
 use Rattle.std.specs.Ordering.{is_eq}
 use Rattle.std.specs.List.{list_any}
 use Rattle.std.proofs.lemmas.List.{take_more}
-use Rattle.logical_time.specs.Stamps.{txn_cmp, WriterValue}
+use Rattle.logical_time.specs.Stamps.{TxnValue, txn_cmp}
 use Rattle.txn_state.proofs.Txns.{one_more}
 use Rattle.txn_state.proofs.answers.txns_of.Goals as goal
 
@@ -18,7 +18,7 @@ loop-writer-preserved c =
       known = λ t.
           rw e
           (one_more t before after (take i ws) w
-          (subst (λ (v : WriterValue). list_any (λ u. is_eq (txn_cmp t u)) after ≡ cond (is_eq (txn_cmp v.txn t)) true (list_any (λ u. is_eq (txn_cmp t u)) before)) c.writer.view_is (c.in_ok-insert.ensures.updates.0 t))
+          (subst (λ (v : TxnValue). list_any (λ u. is_eq (txn_cmp t u)) after ≡ cond (is_eq (txn_cmp v t)) true (list_any (λ u. is_eq (txn_cmp t u)) before)) c.txn.ensures (c.in_ok-insert.ensures.updates.0 t))
           (c.loop-writer.invariant.known t));
       ordered = c.in_ok-insert.ensures.ordered;
     }

@@ -1,12 +1,11 @@
-use Rattle.std.proofs.Common.{◌≡◌, ◌∙◌, ◌^◌, ◌<◌, ap, arith}
-use Rattle.logical_time.specs.Stamps.{StampValue}
+use Rattle.std.proofs.Common.{◌≡◌, ◌∙◌, ◌^◌, ◌<◌, arith}
 use Rattle.wire.proofs.Written.{commit_fits, commit_text}
 use Rattle.wire.proofs.writing.put_commit.Goals as goal
 
 pub returns : goal.returns
 returns c =
-    let time : c.get-time.result ≡ c.args.stamp.time = c.get-time.ensures.value ∙ ap (λ (s : StampValue). s.time) c.stamp.view_is in
-    let node : c.get-node.result ≡ c.args.stamp.node = c.get-node.ensures ∙ ap (λ (s : StampValue). s.node) c.stamp.view_is in
+    let time : c.get-time.result ≡ c.args.stamp.time = c.get-time.ensures.value ∙ c.time.ensures in
+    let node : c.get-node.result ≡ c.args.stamp.node = c.get-node.ensures ∙ c.node.ensures in
     let a : c.args.commit < 2 ^ 48 = omega (arith, c.get.ensures.value, c.get.ensures.below) in
     let b : c.args.stamp.time < 2 ^ 48 = omega (arith, time, c.get-time.ensures.below) in
     let d : c.args.stamp.node < 2 ^ 16 = omega (arith, node, c.get-node.type_inv) in (

@@ -8,7 +8,7 @@ use Rattle.write_txn.proofs.adding.add_remote.Goals as goal
 
 held : (c : goal.After-ready) → Becomes c.args.remote.ballot.part.writer.txn (state_ready c.args.time (Some (Holds (in_open.Remote c.args.remote)))) c.args.ledger.now c.ready.new.self
 held c =
-    let named : c.txn.inside.txn ≡ c.args.remote.ballot.part.writer.txn = ap (λ (w : WriterValue). w.txn) (c.txn.view_is ∙ c.writer.ensures) in
+    let named : c.txn-txn.result ≡ c.args.remote.ballot.part.writer.txn = c.txn-txn.ensures ∙ ap (λ (w : WriterValue). w.txn) c.writer.ensures in
     let ready = subst (λ (t : TxnValue). Becomes t (state_ready c.args.time (state_of c.add_marked.new.ledger t)) c.add_marked.new.ledger c.ready.new.self) named c.ready.ensures.ready in
     becomes_twice c.args.ledger.now c.add_marked.new.ledger c.ready.new.self c.args.remote.ballot.part.writer.txn (Some (Holds (in_open.Remote c.args.remote))) (state_ready c.args.time) c.in-Ok-add_marked.ensures.ok ready
 
