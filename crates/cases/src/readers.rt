@@ -11,12 +11,13 @@ const SCRIPT: &[u8] =
     br#"{"dcs":1,"shards":1,"families":["f"],"homes":[0],"events":[["submit",0,{"batch":[]}]]}"#;
 
 /// At which of their calls a writer and one for errors fail; 0 is never.
-const FAILURES: [(usize, usize); 8] = [
+const FAILURES: [(usize, usize); 9] = [
     (0, 1),
     (1, 0),
     (2, 0),
     (3, 0),
     (4, 0),
+    (7, 0),
     (1, 1),
     (1, 3),
     (1, 8),

@@ -1,10 +1,12 @@
 -- What is written in several steps.
-use Rattle.std.proofs.Common.{◌≡◌, ◌∙◌, ℕ, ◌+◌, List, [], ◌∷◌, ◌++◌, take, drop, Option, Some, None, Result, Ok, Err, OnOk, OnErr, IfErr, refl, ap, sym, subst, append_assoc, append-nil, ◌⊎◌, inl, inr}
+use Rattle.std.proofs.Common.{◌≡◌, ◌∙◌, ℕ, ◌+◌, List, [], ◌∷◌, ◌++◌, take, drop, Option, Some, None, Result, Ok, Err, IsSome, IsNone, OnOk, OnErr, IfErr, refl, ap, sym, subst, append_assoc, append-nil, ◌⊎◌, inl, inr}
 use Rattle.std.proofs.Math.Seq.{take-add}
 use Rattle.std.proofs.lemmas.List.{take-append-drop}
 use Rattle.std.specs.Io.KnownBytes.{Appends, Keeps}
 use Rattle.logical_time.specs.declared.fault.Fault.{Fault}
-use Rattle.program.specs.Outputs.{AppendsPart}
+use Rattle.logical_time.specs.declared.fault.Fault.TheVariants.{WriteFailed}
+use Rattle.program.specs.declared.output.Output.{Output}
+use Rattle.program.specs.Outputs.{AppendsPart, Adds}
 use Rattle.program.specs.Telling.{fault_line, told_text}
 
 pub nothing_appended : (old : Option (List ℕ)) → Appends old old []
@@ -60,3 +62,50 @@ nothing_kept (Some xs) = refl
 pub told_part : (e : Fault) (more : Option (List ℕ)) (old new : Option (List ℕ)) → AppendsPart old new (fault_line e) → AppendsPart old new (told_text e more)
 told_part e None old new p = p
 told_part e (Some line) old new p = part_before old new (fault_line e) (line ++ 10 ∷ []) p
+
+-- ## Steps
+
+-- the writer has failed after so many bytes
+pub fails_after : {W T : Type 0} (contents : W → Option (List ℕ)) (old new : Output W) (mid : W) (e : Fault) (bytes : List ℕ) (n : ℕ) → (e ≡ WriteFailed) × IsSome new.failure
+    → Appends (contents old.writer) (contents mid) (take n bytes) → Keeps (contents mid) (contents new.writer) → Adds {T = T} contents old new (Err e) bytes
+fails_after contents old new mid e bytes n failed p k = record {
+  whole = tt;
+  sound = tt;
+  refused = failed.0;
+  cut = (failed.1, part_written (contents old.writer) (contents mid) (contents new.writer) bytes n p k);
+}
+
+module _ {W : Type 0} (contents : W → Option (List ℕ)) where
+  pub adds_nothing : {T : Type 0} (old : Output W) (done : T) → IsNone old.failure → Adds {T = T} contents old old (Ok done) []
+  adds_nothing old done sound = record {
+    whole = nothing_appended (contents old.writer);
+    sound = sound;
+    refused = tt;
+    cut = tt;
+  }
+
+  -- a step that failed is a whole that failed
+  pub fails_first : {T U : Type 0} (old new : Output W) (e : Fault) (a b : List ℕ) → Adds {T = T} contents old new (Err e) a
+      → Adds {T = U} contents old new (Err e) (a ++ b)
+  fails_first old new e a b step = record {
+    whole = tt;
+    sound = tt;
+    refused = step.refused;
+    cut = (step.cut.0, part_before (contents old.writer) (contents new.writer) a b step.cut.1);
+  }
+
+  -- a step and then a step
+  pub then_adds : {T U : Type 0} (old mid new : Output W) (done : T) (result : Result U Fault) (a b : List ℕ)
+      → Adds contents old mid (Ok done) a → Adds contents mid new result b → Adds contents old new result (a ++ b)
+  then_adds old mid new done (Ok x) a b first step = record {
+    whole = then_appended (contents old.writer) (contents mid.writer) (contents new.writer) a b first.whole step.whole;
+    sound = step.sound;
+    refused = tt;
+    cut = tt;
+  }
+  then_adds old mid new done (Err e) a b first step = record {
+    whole = tt;
+    sound = tt;
+    refused = step.refused;
+    cut = (step.cut.0, then_part (contents old.writer) (contents mid.writer) (contents new.writer) a b first.whole step.cut.1);
+  }

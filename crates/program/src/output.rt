@@ -2,7 +2,7 @@
 ghost use Rattle.std.specs.Prelude.{◌≡◌, ◌≤◌, length, take, Err, IsSome, IsNone, IfOk, OnOk, OnErr, IfErr};
 ghost use Rattle.std.specs.Io.KnownBytes.{Appends, Keeps};
 ghost use Rattle.logical_time.specs.declared.fault.Fault.TheVariants as fault;
-ghost use Rattle.program.specs.Outputs.{AppendsPart};
+ghost use Rattle.program.specs.Outputs.{Adds, AppendsPart};
 
 use logical_time::Fault;
 use std::io;
@@ -48,17 +48,41 @@ impl<W: Write> Output<W> {
         Err(Fault::WriteFailed)
     }
 
-    // What was written is passed on.
-    fn flush(&mut self) -> Result<(), Fault>
-        ensures same { Keeps (W.contents self.old.writer) (W.contents self.new.writer) }
-        ensures sound { IsNone self.old.failure → OnOk result (IsNone self.new.failure) }
-        ensures failed { IfErr result (λ e. (e ≡ fault.WriteFailed) × IsSome self.new.failure) }
+    /// Writes the bytes, without a `flush`. Refused with `WriteFailed` exactly where it has failed; then a beginning of them is
+    /// written, and nothing where it had failed before. Takes no memory.
+    pub fn put(&mut self, bytes: &[u8]) -> Result<(), Fault>
+        ensures adds { Adds W.contents self.old self.new result bytes.now }
+        ensures spent { IsSome self.old.failure → (self.new ≡ self.old) × (result ≡ Err fault.WriteFailed) }
     {
-        if let Err(error) = self.writer.flush() {
-            self.failure = Some(error);
+        if self.failure.is_some() {
             return Err(Fault::WriteFailed);
         }
-        Ok(())
+        let mut written = 0;
+        for _ in 0..u64::MAX {
+            if written == bytes.len() {
+                return Ok(());
+            }
+            written += self.write_some(&bytes[written..])?;
+        }
+        self.failure = Some(io::Error::from(ErrorKind::Interrupted));
+        Err(Fault::WriteFailed)
+    }
+
+    /// Passes on what was written. Refused with `WriteFailed` exactly where it has failed, and nothing changes where it had
+    /// failed before. Takes no memory.
+    pub fn flush(&mut self) -> Result<(), Fault>
+        ensures same { Keeps (W.contents self.old.writer) (W.contents self.new.writer) }
+        ensures sound { OnOk result (IsNone self.new.failure) }
+        ensures failed { IfErr result (λ e. (e ≡ fault.WriteFailed) × IsSome self.new.failure) }
+        ensures spent { IsSome self.old.failure → (self.new ≡ self.old) × (result ≡ Err fault.WriteFailed) }
+    {
+        if self.failure.is_none() {
+            match self.writer.flush() {
+                Ok(()) => return Ok(()),
+                Err(error) => self.failure = Some(error),
+            }
+        }
+        Err(Fault::WriteFailed)
     }
 
     /// Writes the bytes and passes them on. Refused with `WriteFailed` exactly where it has failed; then a beginning of them
@@ -70,17 +94,7 @@ impl<W: Write> Output<W> {
         ensures failed { IfErr result (λ e. (e ≡ fault.WriteFailed) × IsSome self.new.failure) }
         ensures spent { IsSome self.old.failure → (self.new ≡ self.old) × (result ≡ Err fault.WriteFailed) }
     {
-        if self.failure.is_some() {
-            return Err(Fault::WriteFailed);
-        }
-        let mut written = 0;
-        for _ in 0..u64::MAX {
-            if written == bytes.len() {
-                return self.flush();
-            }
-            written += self.write_some(&bytes[written..])?;
-        }
-        self.failure = Some(io::Error::from(ErrorKind::Interrupted));
-        Err(Fault::WriteFailed)
+        self.put(bytes)?;
+        self.flush()
     }
 }

@@ -14,6 +14,6 @@ mod seats;
 mod telling;
 mod workers;
 
-pub use performing::{perform_by_threads, text_by_threads};
+pub use performing::{perform_by_threads, transcript_by_threads};
 pub use scripts::run;
 pub use workers::Workers;

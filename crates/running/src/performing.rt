@@ -1,6 +1,7 @@
 //! The program, where threads run the script.
 ghost use Rattle.std.specs.Prelude.{◌≡◌, ◌⊎◌, IsSome, IfOk, IfErr};
 ghost use Rattle.workload.specs.Performing.{Prints, Ends, TellsUnread};
+ghost use Rattle.workload.specs.Text.{text_of};
 ghost use Rattle.running.specs.Performing.{IsThreadTextFor, IsThreadRefused};
 
 use crate::scripts::run_to_the_end;
@@ -13,18 +14,18 @@ use std::io::{Read, Write};
 use std::sync::Wait;
 use std::thread::Threads;
 use std::{mem, str};
-use workload::{explain, read_script, transcript_text};
+use workload::{Transcript, explain, read_script, write_transcript};
 
-/// The text of what threads make of the script that the bytes spell, for a program that ends with it: the memory of the script,
-/// of what the seats recorded and of the transcript is given back with that of the process. Waits for locks. Refused with
-/// `Script` where they spell none, and as `run` is.
-pub fn text_by_threads<T: Threads + Wait + Sync>(
+/// The transcript of what threads make of the script that the bytes spell, for a program that ends with it: the memory of the
+/// script and of what the seats recorded is given back with that of the process. Waits for locks. Refused with `Script` where
+/// they spell none, and as `run` is.
+pub fn transcript_by_threads<T: Threads + Wait + Sync>(
     rt: &T,
     alloc: Global,
     workers: &Workers,
     input: &[u8],
-) -> Result<Vec<u8>, Fault>
-    ensures text { IfOk result (λ text. IsThreadTextFor input.now text.items) }
+) -> Result<Transcript, Fault>
+    ensures text { IfOk result (λ transcript. IsThreadTextFor input.now (text_of transcript)) }
     ensures refused { IfErr result (IsThreadRefused input.now) }
 {
     let Ok(text) = str::from_utf8(input) else {
@@ -32,10 +33,8 @@ pub fn text_by_threads<T: Threads + Wait + Sync>(
     };
     let script = read_script(alloc, text)?;
     let transcript = run_to_the_end(rt, alloc, &script, workers)?;
-    let text = transcript_text(alloc, &transcript)?;
     mem::forget(script);
-    mem::forget(transcript);
-    Ok(text)
+    Ok(transcript)
 }
 
 // What people need to know of a fault of such a run.
@@ -58,8 +57,8 @@ fn line<D: Display + Drop>(alloc: Global, name: &str, said: Option<D>) -> Option
 
 /// Reads a script, has so many workers run it, and writes what came of it, as `perform` of `workload` does for a run in a world;
 /// waits for locks. Gives the status of the program: 0, or 1 after a fault was told: `ReadFailed` where the input failed, as
-/// `text_by_threads` is refused, `Memory`, or `WriteFailed` where the output failed. Only after the last may something be
-/// written, a beginning of the transcript.
+/// `transcript_by_threads` is refused, `Memory`, or `WriteFailed` where the output failed. Only after the last may something be
+/// written, a beginning of the transcript's text.
 pub fn perform_by_threads<T: Threads + Wait + Sync, R: Read, W: Write, E: Write>(
     rt: &T,
     alloc: Global,
@@ -80,14 +79,16 @@ pub fn perform_by_threads<T: Threads + Wait + Sync, R: Read, W: Write, E: Write>
             return tell(errors, fault, more);
         }
     };
-    let text = match text_by_threads(rt, alloc, workers, &bytes) {
-        Ok(text) => text,
+    let transcript = match transcript_by_threads(rt, alloc, workers, &bytes) {
+        Ok(transcript) => transcript,
         Err(fault) => {
             let more = line(alloc, input.name.as_str(), why(alloc, &bytes, fault));
             return tell(errors, fault, more);
         }
     };
-    match output.write_all(&text) {
+    let written = write_transcript(output, &transcript);
+    mem::forget(transcript);
+    match written {
         Ok(()) => 0,
         Err(fault) => tell(errors, fault, line(alloc, "the output", output.failure)),
     }

@@ -9,3 +9,4 @@ pub mod Drains
 pub mod DrainsInTime
 pub mod Plays
 pub mod Ends
+pub mod Pieces

@@ -2,12 +2,13 @@
 ghost use Rattle.std.specs.Prelude.{◌≡◌, ◌⊎◌, ℕ, List, IsSome, IfOk, IfErr};
 ghost use Rattle.logical_time.specs.declared.fault.Fault.{Fault as Refusal};
 ghost use Rattle.workload.specs.Performing.{IsTextFor, IsRefused, Prints, Ends, TellsUnread};
+ghost use Rattle.workload.specs.Text.{text_of};
 
 use crate::explaining;
 use crate::reading::read_script;
 use crate::script::{Event, Script};
 use crate::simulating::{play, simulate_to_the_end};
-use crate::text::transcript_text;
+use crate::text::write_transcript;
 use crate::transcript::Transcript;
 use json::{Scratch, Value as Json};
 use logical_time::Fault;
@@ -26,9 +27,9 @@ pub trait Task {
     /// When bytes may be refused with a fault.
     ghost is_refused: { List ℕ → Refusal → Type 0 };
 
-    /// A text for the bytes. May wait, where the task holds a handle for that.
-    fn text(&self, alloc: Global, input: &[u8]) -> Result<Vec<u8>, Fault>
-        ensures text { IfOk result (λ text. is_text input.now text.items) }
+    /// A transcript whose text is one for the bytes. May wait, where the task holds a handle for that.
+    fn transcript(&self, alloc: Global, input: &[u8]) -> Result<Transcript, Fault>
+        ensures text { IfOk result (λ transcript. is_text input.now (text_of transcript)) }
         ensures refused { IfErr result (is_refused input.now) };
 
     /// What people need to know of such a refusal, if more can be said.
@@ -44,7 +45,7 @@ impl Task for InWorld {
 
     ghost is_refused = { IsRefused };
 
-    fn text(&self, alloc: Global, input: &[u8]) -> Result<Vec<u8>, Fault> {
+    fn transcript(&self, alloc: Global, input: &[u8]) -> Result<Transcript, Fault> {
         sim(alloc, input)
     }
 
@@ -53,11 +54,11 @@ impl Task for InWorld {
     }
 }
 
-/// The text of the transcript of the script that the bytes spell, for a program that ends with it: the memory of the script,
-/// of what its world recorded and of the transcript is given back with that of the process. Refused with `Script` where they
-/// spell none, or where a message that was not sent is to be delivered, with `ClockSpent`, and with `Memory`.
-pub fn sim(alloc: Global, input: &[u8]) -> Result<Vec<u8>, Fault>
-    ensures text { IfOk result (λ text. IsTextFor input.now text.items) }
+/// The transcript of the script that the bytes spell, for a program that ends with it: the memory of the script and of what
+/// its world recorded is given back with that of the process. Refused with `Script` where they spell none, or where a message
+/// that was not sent is to be delivered, with `ClockSpent`, and with `Memory`.
+pub fn sim(alloc: Global, input: &[u8]) -> Result<Transcript, Fault>
+    ensures text { IfOk result (λ transcript. IsTextFor input.now (text_of transcript)) }
     ensures refused { IfErr result (IsRefused input.now) }
 {
     let Ok(text) = simdutf8::compat::from_utf8(input) else {
@@ -65,10 +66,8 @@ pub fn sim(alloc: Global, input: &[u8]) -> Result<Vec<u8>, Fault>
     };
     let script = read_script(alloc, text)?;
     let transcript = simulate_to_the_end(alloc, &script)?;
-    let text = transcript_text(alloc, &transcript)?;
     mem::forget(script);
-    mem::forget(transcript);
-    Ok(text)
+    Ok(transcript)
 }
 
 // Why an event ends the script.
@@ -126,9 +125,10 @@ fn line<D: Display + Drop>(alloc: Global, name: &str, said: Option<D>) -> Option
     Line::new(format!(in alloc; "{name}: {said}").ok()?)
 }
 
-/// Does a task, and may wait as that does: reads all that the input has left, and writes the answer. Gives the status of the program: 0, or 1 after a
-/// fault was told: `ReadFailed` where the input failed, what the task refuses, `Memory`, or `WriteFailed` where the output
-/// failed. Only after the last may something be written, a beginning of the answer.
+/// Does a task for a program that ends with it, and may wait as that does: reads all that the input has left, and writes the
+/// text of the transcript, piece by piece and without memory; the transcript's own is given back with that of the process.
+/// Gives the status of the program: 0, or 1 after a fault was told: `ReadFailed` where the input failed, what the task refuses,
+/// `Memory`, or `WriteFailed` where the output failed. Only after the last may something be written, a beginning of the text.
 pub fn perform<T: Task, R: Read, W: Write, E: Write>(
     alloc: Global,
     task: &T,
@@ -148,8 +148,8 @@ pub fn perform<T: Task, R: Read, W: Write, E: Write>(
             return tell(errors, fault, more);
         }
     };
-    let text = match task.text(alloc, &bytes) {
-        Ok(text) => text,
+    let transcript = match task.transcript(alloc, &bytes) {
+        Ok(transcript) => transcript,
         Err(fault) => {
             let more = line(
                 alloc,
@@ -159,7 +159,9 @@ pub fn perform<T: Task, R: Read, W: Write, E: Write>(
             return tell(errors, fault, more);
         }
     };
-    match output.write_all(&text) {
+    let written = write_transcript(output, &transcript);
+    mem::forget(transcript);
+    match written {
         Ok(()) => 0,
         Err(fault) => tell(errors, fault, line(alloc, "the output", output.failure)),
     }

@@ -1,180 +1,233 @@
-//! The texts of transcripts.
-ghost use Rattle.std.specs.Prelude.{◌≡◌, ◌++◌, OnOk, IfOk, IfErr, string_bytes, codes, decimal};
+//! The texts of transcripts, written piece by piece: no piece takes memory.
+ghost use Rattle.std.specs.Prelude.{◌≡◌, ◌≤◌, ◌++◌, ◌∷◌, Err, IsSome, IsNone, OnOk, OnErr, IfErr, length, codes, decimal};
 ghost use Rattle.std.specs.List.{flat_map};
+ghost use Rattle.std.specs.Io.KnownBytes.{Appends};
 ghost use Rattle.hex.specs.Hex.{encode_lower};
+ghost use Rattle.logical_time.specs.declared.fault.Fault.TheVariants as fault;
+ghost use Rattle.logical_time.specs.Fault.{number_of};
+ghost use Rattle.program.specs.Outputs.{Adds, AppendsPart};
 ghost use Rattle.workload.specs.Text.{column_text, row_text, op_text, commit_text, answer_text, refusal_text, entry_text, text_of};
 
 use crate::transcript::{Entry, Transcript};
+use itoa::Buffer;
 use logical_time::{Fault, Node, Stamp, Time};
-use slice::{Answer, AnsweredRow, Column};
-use std::alloc::{AllocError, Global};
+use program::Output;
+use slice::{AnsweredRow, Column};
+use std::io::Write;
 
-/// How many bytes are few: their digits are put together before they go into the text.
-const FEW: usize = 32;
+/// How many bytes are few: their digits are put together on the stack before they are written.
+const FEW: usize = 64;
 
-// Many bytes in hexadecimal: two digits for each, which take the place of as many bytes.
-fn add_long_hex(text: &mut Vec<u8>, bytes: &[u8]) -> Result<(), AllocError>
-    ensures { OnOk result (text.new.items ≡ text.old.items ++ encode_lower bytes.now) }
+// A few bytes in hexadecimal.
+fn put_few<W: Write>(output: &mut Output<W>, bytes: &[u8]) -> Result<(), Fault>
+    requires { length bytes.now ≤ 64 }
+    ensures { Adds W.contents output.old output.new result (encode_lower bytes.now) }
 {
-    let start = text.len();
-    text.resize(start.saturating_add(2 * bytes.len()), 0)?;
-    hex::encode_to_slice(bytes, &mut text.as_mut_slice()[start..]).unwrap();
-    Ok(())
-}
-
-// Bytes in hexadecimal.
-fn add_hex(text: &mut Vec<u8>, bytes: &[u8]) -> Result<(), AllocError>
-    ensures { OnOk result (text.new.items ≡ text.old.items ++ encode_lower bytes.now) }
-{
-    if bytes.len() > FEW {
-        return add_long_hex(text, bytes);
-    }
     let mut digits = [0; 2 * FEW];
     let shown = &mut digits[..2 * bytes.len()];
     hex::encode_to_slice(bytes, shown).unwrap();
-    text.extend_from_slice(shown)
+    output.put(shown)
+}
+
+// A mark, and then a few bytes in hexadecimal.
+fn put_marked_few<W: Write>(output: &mut Output<W>, mark: u8, bytes: &[u8]) -> Result<(), Fault>
+    requires { length bytes.now ≤ 64 }
+    ensures { Adds W.contents output.old output.new result (mark ∷ encode_lower bytes.now) }
+{
+    let mut text = [mark; 1 + 2 * FEW];
+    let end = 1 + 2 * bytes.len();
+    hex::encode_to_slice(bytes, &mut text[1..end]).unwrap();
+    output.put(&text[..end])
+}
+
+// Many bytes in hexadecimal, a few at a time.
+fn put_many<W: Write>(output: &mut Output<W>, bytes: &[u8]) -> Result<(), Fault>
+    requires { IsNone output.old.failure }
+    ensures { Adds W.contents output.old output.new result (encode_lower bytes.now) }
+{
+    let mut rest = bytes;
+    while FEW < rest.len() {
+        let (few, more) = rest.split_at(FEW);
+        put_few(output, few)?;
+        rest = more;
+    }
+    put_few(output, rest)
+}
+
+// A mark, and then bytes in hexadecimal.
+fn put_marked<W: Write>(output: &mut Output<W>, mark: u8, bytes: &[u8]) -> Result<(), Fault>
+    ensures { Adds W.contents output.old output.new result (mark ∷ encode_lower bytes.now) }
+{
+    if bytes.len() <= FEW {
+        return put_marked_few(output, mark, bytes);
+    }
+    output.put(&[mark])?;
+    put_many(output, bytes)
 }
 
 // ` NAME=VALUE`.
-fn add_column(text: &mut Vec<u8>, column: &Column) -> Result<(), AllocError>
-    ensures { OnOk result (text.new.items ≡ text.old.items ++ column_text column.now) }
+fn put_column<W: Write>(output: &mut Output<W>, column: &Column) -> Result<(), Fault>
+    ensures { Adds W.contents output.old output.new result (column_text column.now) }
 {
-    text.push(b' ')?;
-    add_hex(text, column.name.as_slice())?;
-    text.push(b'=')?;
-    add_hex(text, column.value.as_slice())
+    put_marked(output, b' ', column.name.as_slice())?;
+    put_marked(output, b'=', column.value.as_slice())
 }
 
-fn add_columns(text: &mut Vec<u8>, columns: &[Column]) -> Result<(), AllocError>
-    ensures { OnOk result (text.new.items ≡ text.old.items ++ flat_map column_text columns.now) }
+// Each column, in order.
+fn put_columns<W: Write>(output: &mut Output<W>, columns: &[Column]) -> Result<(), Fault>
+    requires { IsNone output.old.failure }
+    ensures { Adds W.contents output.old output.new result (flat_map column_text columns.now) }
 {
     for column in columns {
-        add_column(text, column)?;
+        put_column(output, column)?;
     }
     Ok(())
 }
 
-// `  KEY:`, then each column.
-fn add_row(text: &mut Vec<u8>, row: &AnsweredRow) -> Result<(), AllocError>
-    ensures { OnOk result (text.new.items ≡ text.old.items ++ row_text row.now) }
+// `  KEY:`.
+fn put_key<W: Write>(output: &mut Output<W>, key: &[u8]) -> Result<(), Fault>
+    ensures { Adds W.contents output.old output.new result (codes "  " ++ encode_lower key.now ++ codes ":") }
 {
-    text.extend_from_slice("  ".as_bytes())?;
-    add_hex(text, row.key.as_slice())?;
-    text.push(b':')?;
-    add_columns(text, row.columns.as_slice())?;
-    text.push(b'\n')?;
+    output.put(b" ")?;
+    put_marked(output, b' ', key)?;
+    output.put(b":")
+}
+
+// `  KEY:`, then each column, and the end of the line.
+fn put_row<W: Write>(output: &mut Output<W>, row: &AnsweredRow) -> Result<(), Fault>
+    ensures { Adds W.contents output.old output.new result (row_text row.now) }
+{
+    put_key(output, row.key.as_slice())?;
+    put_columns(output, row.columns.as_slice())?;
+    output.put(b"\n")
+}
+
+// Each row, in order.
+fn put_rows<W: Write>(output: &mut Output<W>, rows: &[AnsweredRow]) -> Result<(), Fault>
+    requires { IsNone output.old.failure }
+    ensures { Adds W.contents output.old output.new result (flat_map row_text rows.now) }
+{
+    for row in rows {
+        put_row(output, row)?;
+    }
     Ok(())
 }
 
-fn add_rows(text: &mut Vec<u8>, answer: &Answer) -> Result<(), AllocError>
-    ensures { OnOk result (text.new.items ≡ text.old.items ++ flat_map row_text answer.now) }
+// Words, and then a number.
+fn put_number<W: Write>(output: &mut Output<W>, words: &[u8], number: u64) -> Result<(), Fault>
+    ensures { Adds W.contents output.old output.new result (words.now ++ decimal number) }
 {
-    for row in answer.as_slice() {
-        add_row(text, row)?;
-    }
-    Ok(())
+    output.put(words)?;
+    output.put(Buffer::new().format(number).as_bytes())
+}
+
+// Words, and then the number of a node.
+fn put_node<W: Write>(output: &mut Output<W>, words: &[u8], node: Node) -> Result<(), Fault>
+    ensures { Adds W.contents output.old output.new result (words.now ++ decimal node) }
+{
+    put_number(output, words, u64::from(node.get()))
+}
+
+// Words, and then a time.
+fn put_time<W: Write>(output: &mut Output<W>, words: &[u8], time: Time) -> Result<(), Fault>
+    ensures { Adds W.contents output.old output.new result (words.now ++ decimal time) }
+{
+    put_number(output, words, time.get())
+}
+
+// ` refused R`.
+fn put_fault<W: Write>(output: &mut Output<W>, fault: Fault) -> Result<(), Fault>
+    ensures { Adds W.contents output.old output.new result (codes " refused " ++ decimal (number_of fault)) }
+{
+    put_number(output, b" refused ", u64::from(fault.number()))
+}
+
+// ` stamp T.K`.
+fn put_stamp<W: Write>(output: &mut Output<W>, stamp: Stamp) -> Result<(), Fault>
+    ensures { Adds W.contents output.old output.new result (codes " stamp " ++ decimal stamp.time ++ codes "." ++ decimal stamp.node) }
+{
+    put_time(output, b" stamp ", stamp.time())?;
+    put_node(output, b".", stamp.node())
 }
 
 // `node N op M`.
-#[tactic(auto, unfolding(crate::specs::Text::op_text))]
-fn add_op(text: &mut String, node: Node, number: u64) -> Result<(), AllocError>
-    ensures { OnOk result (string_bytes text.new ≡ string_bytes text.old ++ op_text node number) }
+fn put_op<W: Write>(output: &mut Output<W>, node: Node, number: u64) -> Result<(), Fault>
+    ensures { Adds W.contents output.old output.new result (op_text node number) }
 {
-    let node = node.get();
-    write!(text, "node {node} op {number}")
+    put_node(output, b"node ", node)?;
+    put_number(output, b" op ", number)
 }
 
 // ` wrote commit C stamp T.K`, and the end of the line.
-fn add_commit(text: &mut String, commit: Time, stamp: Stamp) -> Result<(), AllocError>
-    ensures { OnOk result (string_bytes text.new ≡ string_bytes text.old ++ commit_text commit stamp) }
+fn put_commit<W: Write>(output: &mut Output<W>, commit: Time, stamp: Stamp) -> Result<(), Fault>
+    ensures { Adds W.contents output.old output.new result (commit_text commit stamp) }
 {
-    let (commit, time, coordinator) = (commit.get(), stamp.time().get(), stamp.node().get());
-    write!(text, " wrote commit {commit} stamp {time}.{coordinator}\n")
+    put_time(output, b" wrote commit ", commit)?;
+    put_stamp(output, stamp)?;
+    output.put(b"\n")
 }
 
-// ` read at T`, and the end of the line.
-fn add_effective(text: &mut String, effective: Time) -> Result<(), AllocError>
-    ensures { OnOk result (string_bytes text.new ≡ string_bytes text.old ++ (codes " read at " ++ decimal effective ++ codes "\n")) }
+// ` read at T`, and the end of the line; then its rows.
+fn put_answer<W: Write>(
+    output: &mut Output<W>,
+    effective: Time,
+    rows: &[AnsweredRow],
+) -> Result<(), Fault>
+    ensures { Adds W.contents output.old output.new result (answer_text effective rows.now) }
 {
-    let time = effective.get();
-    write!(text, " read at {time}\n")
+    put_time(output, b" read at ", effective)?;
+    output.put(b"\n")?;
+    put_rows(output, rows)
 }
 
-// `node N refused R`, and the end of the line.
-fn add_refusal(text: &mut String, node: Node, fault: Fault) -> Result<(), AllocError>
-    ensures { OnOk result (string_bytes text.new ≡ string_bytes text.old ++ refusal_text node fault) }
+// A refusal: `node N refused R`, and the end of the line.
+fn put_refusal<W: Write>(output: &mut Output<W>, node: Node, fault: Fault) -> Result<(), Fault>
+    ensures { Adds W.contents output.old output.new result (refusal_text node fault) }
 {
-    let (node, refusal) = (node.get(), fault.number());
-    write!(text, "node {node} refused {refusal}\n")
+    put_node(output, b"node ", node)?;
+    put_fault(output, fault)?;
+    output.put(b"\n")
 }
 
-// A write. Its line is put together in the place of what the given one held, as are the lines of the others.
-fn add_wrote(
-    text: &mut Vec<u8>,
-    line: &mut String,
+// A write.
+fn put_wrote<W: Write>(
+    output: &mut Output<W>,
     node: Node,
     number: u64,
     commit: Time,
     stamp: Stamp,
-) -> Result<(), AllocError>
-    ensures { OnOk result (text.new.items ≡ text.old.items ++ (op_text node number ++ commit_text commit stamp)) }
+) -> Result<(), Fault>
+    ensures { Adds W.contents output.old output.new result (op_text node number ++ commit_text commit stamp) }
 {
-    line.clear();
-    add_op(line, node, number)?;
-    add_commit(line, commit, stamp)?;
-    text.extend_from_slice(line.as_bytes())
+    put_op(output, node, number)?;
+    put_commit(output, commit, stamp)
 }
 
 // A read, with its rows.
-fn add_read(
-    text: &mut Vec<u8>,
-    line: &mut String,
+fn put_read<W: Write>(
+    output: &mut Output<W>,
     node: Node,
     number: u64,
     effective: Time,
-    answer: &Answer,
-) -> Result<(), AllocError>
-    ensures { OnOk result (text.new.items ≡ text.old.items ++ (op_text node number ++ answer_text effective answer.now)) }
+    rows: &[AnsweredRow],
+) -> Result<(), Fault>
+    ensures { Adds W.contents output.old output.new result (op_text node number ++ answer_text effective rows.now) }
 {
-    line.clear();
-    add_op(line, node, number)?;
-    add_effective(line, effective)?;
-    text.extend_from_slice(line.as_bytes())?;
-    add_rows(text, answer)
+    put_op(output, node, number)?;
+    put_answer(output, effective, rows)
 }
 
 // A read that came too late.
-fn add_collected(
-    text: &mut Vec<u8>,
-    line: &mut String,
-    node: Node,
-    number: u64,
-) -> Result<(), AllocError>
-    ensures { OnOk result (text.new.items ≡ text.old.items ++ (op_text node number ++ codes " collected\n")) }
+fn put_collected<W: Write>(output: &mut Output<W>, node: Node, number: u64) -> Result<(), Fault>
+    ensures { Adds W.contents output.old output.new result (op_text node number ++ codes " collected\n") }
 {
-    line.clear();
-    add_op(line, node, number)?;
-    line.push_str(" collected\n")?;
-    text.extend_from_slice(line.as_bytes())
-}
-
-// A refusal.
-fn add_refused(
-    text: &mut Vec<u8>,
-    line: &mut String,
-    node: Node,
-    fault: Fault,
-) -> Result<(), AllocError>
-    ensures { OnOk result (text.new.items ≡ text.old.items ++ refusal_text node fault) }
-{
-    line.clear();
-    add_refusal(line, node, fault)?;
-    text.extend_from_slice(line.as_bytes())
+    put_op(output, node, number)?;
+    output.put(b" collected\n")
 }
 
 // An entry, with the rows of a read.
-fn add_entry(text: &mut Vec<u8>, line: &mut String, entry: &Entry) -> Result<(), AllocError>
-    ensures { OnOk result (text.new.items ≡ text.old.items ++ entry_text entry.now) }
+fn put_entry<W: Write>(output: &mut Output<W>, entry: &Entry) -> Result<(), Fault>
+    ensures { Adds W.contents output.old output.new result (entry_text entry.now) }
 {
     match entry {
         Entry::Wrote {
@@ -182,35 +235,46 @@ fn add_entry(text: &mut Vec<u8>, line: &mut String, entry: &Entry) -> Result<(),
             number,
             commit,
             stamp,
-        } => add_wrote(text, line, *node, *number, *commit, *stamp),
+        } => put_wrote(output, *node, *number, *commit, *stamp),
         Entry::Read {
             node,
             number,
             effective,
             answer,
-        } => add_read(text, line, *node, *number, *effective, answer),
-        Entry::Collected { node, number } => add_collected(text, line, *node, *number),
-        Entry::Refused { node, fault } => add_refused(text, line, *node, *fault),
+        } => put_read(output, *node, *number, *effective, answer.as_slice()),
+        Entry::Collected { node, number } => put_collected(output, *node, *number),
+        Entry::Refused { node, fault } => put_refusal(output, *node, *fault),
     }
 }
 
-fn add_entries(alloc: Global, text: &mut Vec<u8>, entries: &[Entry]) -> Result<(), AllocError>
-    ensures { OnOk result (text.new.items ≡ text.old.items ++ text_of entries.now) }
+// Each entry, in order.
+fn put_entries<W: Write>(output: &mut Output<W>, entries: &[Entry]) -> Result<(), Fault>
+    requires { IsNone output.old.failure }
+    ensures { Adds W.contents output.old output.new result (text_of entries.now) }
 {
-    let mut line = String::new(alloc);
     for entry in entries {
-        add_entry(text, &mut line, entry)?;
+        put_entry(output, entry)?;
     }
     Ok(())
 }
 
-/// The text of a transcript: a line for each entry and, after that of a read, one for each asked row. Numbers are
-/// decimal, bytes lower-case hexadecimal. Refused with `Memory`. Linear in the text.
-pub fn transcript_text(alloc: Global, transcript: &Transcript) -> Result<Vec<u8>, Fault>
-    ensures ok { IfOk result (λ text. text.items ≡ text_of transcript.now) }
-    ensures memory { IfErr result (λ e. e ≡ Fault.Memory) }
+/// Writes the text of a transcript and passes it on: a line for each entry and, after that of a read, one for each asked row.
+/// Numbers are decimal, bytes lower-case hexadecimal. Refused with `WriteFailed` exactly where the output has failed; then a
+/// beginning of the text is written, and nothing where it had failed before. Linear in the text. Takes no memory: the text is
+/// written in pieces of up to 129 bytes, so a writer that calls the system for each should have a buffer before it.
+pub fn write_transcript<W: Write>(
+    output: &mut Output<W>,
+    transcript: &Transcript,
+) -> Result<(), Fault>
+    ensures whole { OnOk result (Appends (W.contents output.old.writer) (W.contents output.new.writer) (text_of transcript.now)) }
+    ensures sound { OnOk result (IsNone output.new.failure) }
+    ensures part { OnErr result (AppendsPart (W.contents output.old.writer) (W.contents output.new.writer) (text_of transcript.now)) }
+    ensures failed { IfErr result (λ e. (e ≡ fault.WriteFailed) × IsSome output.new.failure) }
+    ensures spent { IsSome output.old.failure → (output.new ≡ output.old) × (result ≡ Err fault.WriteFailed) }
 {
-    let mut text = Vec::new(alloc);
-    add_entries(alloc, &mut text, transcript.as_slice())?;
-    Ok(text)
+    if output.failure.is_some() {
+        return Err(Fault::WriteFailed);
+    }
+    put_entries(output, transcript.as_slice())?;
+    output.flush()
 }

@@ -1,13 +1,14 @@
 use Rattle.std.proofs.Common.{rules}
+use Rattle.workload.specs.Text.{text_of}
 use Rattle.workload.proofs.Refused.{cut_ends}
 use Rattle.workload.proofs.performing.perform.Goals as goal
 
 pub returns-clause-ended : goal.returns-clause-ended
 returns-clause-ended g c = λ one. record {
-  fault = c.in-Err-write_all.fault;
+  fault = c.in-Err-written.fault;
   more = c.line.result;
   cause =
-      cut_ends g.T.Task.is_text g.T.Task.is_refused g.R.Read.remaining g.W.Write.contents g.E.Write.contents c.args.input.now c.read_all.new.self c.args.output.now c.write_all.new.self c.in-Err-write_all.fault
-      c.in-Ok.bytes.items c.in-Ok-text.text.items c.in-Ok.ensures.whole (search rules) c.in-Err-write_all.ensures.failed (search rules);
-  tells = c.tell-in-Err-write_all.ensures.told;
+      cut_ends g.T.Task.is_text g.T.Task.is_refused g.R.Read.remaining g.W.Write.contents g.E.Write.contents c.args.input.now c.read_all.new.self c.args.output.now c.write_transcript-written.new.output c.in-Err-written.fault
+      c.in-Ok.bytes.items (text_of c.in-Ok-transcript.transcript) c.in-Ok.ensures.whole (search rules) c.in-Err-written.ensures.failed (search rules);
+  tells = c.tell-in-Err-written.ensures.told;
 }

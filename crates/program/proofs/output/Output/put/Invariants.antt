@@ -1,6 +1,6 @@
 use Rattle.std.proofs.Common.{◌≤◌, length, take, IsNone}
 use Rattle.std.specs.Io.KnownBytes.{Appends}
-use Rattle.program.proofs.output.Output.write_all.Given as goal
+use Rattle.program.proofs.output.Output.put.Given as goal
 
 -- so many bytes are written
 abbrev pub invariant-loop : goal.invariant-loop
