@@ -1,8 +1,11 @@
 -- The pieces of a text that is written.
-use Rattle.std.proofs.Common.{◌≡◌, ◌∙◌, ℕ, ◌+◌, ◌<◌, ◌/◌, ◌%◌, suc, List, [], ◌∷◌, ◌++◌, slice_index, get_or, length, take, drop, Option, Result, Ok, Err, refl, ap, sym, subst, drop-cons, take-append-drop, append-nil}
+use Rattle.std.proofs.Common.{◌≡◌, ◌∙◌, ℕ, ◌+◌, ◌-◌, ◌≤◌, arith, slice_set, append_assoc, length-take, length-drop, length-set, length-append, codes, ◌<◌, ◌/◌, ◌%◌, suc, List, [], ◌∷◌, ◌++◌, slice_index, get_or, length, take, drop, Option, Result, Ok, Err, refl, ap, sym, subst, drop-cons, take-append-drop, append-nil}
 use Rattle.std.specs.Prelude.{IsErrAnd}
 use Rattle.std.specs.List.{flat_map}
-use Rattle.std.proofs.lemmas.List.{take_more}
+use Rattle.std.proofs.lemmas.List.{take_more, take_more_set}
+use Rattle.std.proofs.lemmas.Slice.{take-put_mid}
+use lib.Seq.{take_at}
+use borrow.Rule.Slice.PartMut.{put_mid, same_len_mid}
 use Rattle.std.proofs.lemmas.List.Concat.{flat_map-append}
 use Rattle.hex.specs.Hex.{encode_with, encode_lower, lower_digits}
 use Rattle.logical_time.specs.declared.fault.Fault.{Fault}
@@ -60,3 +63,36 @@ pub digits_joined : {W T U : Type 0} (contents : W → Option (List ℕ)) (old m
     → Adds contents old mid (Ok done) (encode_lower before) → Adds contents mid new result (encode_lower few) → Adds contents old new result (encode_lower bytes)
 digits_joined contents old mid new done result bytes before few is first step =
     joined contents old mid new done result (encode_lower bytes) (encode_lower before) (encode_lower few) (ap encode_lower is ∙ encode_append lower_digits before few) first step
+
+-- a name's digits behind the first mark, and a value's behind the second
+pub column_is : (xs name value left right : List ℕ) (m e : ℕ) → name ≡ left → value ≡ right → m ≡ 1 + length left → e ≡ m + 1 + length right → e ≤ length xs → take 1 xs ≡ 32 ∷ []
+    → take e (put_mid (m + 1) (e - (m + 1)) (slice_set (put_mid 1 (m - 1) xs name) m 61) value) ≡ codes " " ++ left ++ codes "=" ++ right
+column_is xs name value left right m e is_left is_right hm he fits first =
+    rw (is_left, is_right)
+    (let ys = put_mid 1 (m - 1) xs left in
+    let long : length ys ≡ length xs = same_len_mid 1 (m - 1) xs left (omega (arith, length-take (m - 1) (drop 1 xs), length-drop 1 xs)) in
+    let a : take m ys ≡ take 1 xs ++ left = take-put_mid 1 (m - 1) xs left m hm (omega arith) in
+    let b : take (m + 1) (slice_set ys m 61) ≡ take m ys ++ 61 ∷ [] = take_more_set ys m 61 (omega arith) in
+    let c : length (slice_set ys m 61) ≡ length ys = length-set ys m 61 in
+    take-put_mid (m + 1) (e - (m + 1)) (slice_set ys m 61) right e he (omega arith)
+    ∙ ap (λ l. l ++ right) (b ∙ ap (λ l. l ++ 61 ∷ []) (a ∙ ap (λ l. l ++ left) first))
+    ∙ simp append_assoc)
+
+-- words, and digits behind them
+pub words_is : (xs words digits left right : List ℕ) (m e : ℕ) → words ≡ left → digits ≡ right → m ≡ length left → e ≡ m + length right → e ≤ length xs
+    → take e (put_mid m (e - m) (words ++ drop m xs) digits) ≡ left ++ right
+words_is xs words digits left right m e is_left is_right hm he fits =
+    rw (is_left, is_right)
+    (take-put_mid m (e - m) (left ++ drop m xs) right e he (omega (arith, length-append left (drop m xs)))
+    ∙ ap (λ l. l ++ right) (take_at left (drop m xs) m (sym hm)))
+
+-- a key's digits between the two marks before it and the one behind it
+pub key_is : (xs key digits : List ℕ) (e : ℕ) → key ≡ digits → e ≡ 2 + length digits → e + 1 ≤ length xs → take 2 xs ≡ codes "  "
+    → take (e + 1) (slice_set (put_mid 2 (e - 2) xs key) e 58) ≡ codes "  " ++ digits ++ codes ":"
+key_is xs key digits e is he fits first =
+    rw is
+    (let ys = put_mid 2 (e - 2) xs digits in
+    let long : length ys ≡ length xs = same_len_mid 2 (e - 2) xs digits (omega (arith, length-take (e - 2) (drop 2 xs), length-drop 2 xs)) in
+    take_more_set ys e 58 (omega arith)
+    ∙ ap (λ l. l ++ 58 ∷ []) (take-put_mid 2 (e - 2) xs digits e he (omega arith) ∙ ap (λ l. l ++ digits) first)
+    ∙ simp append_assoc)

@@ -1,5 +1,5 @@
 //! The texts of transcripts, written piece by piece: no piece takes memory.
-ghost use Rattle.std.specs.Prelude.{◌≡◌, ◌≤◌, ◌++◌, ◌∷◌, Err, IsSome, IsNone, OnOk, OnErr, IfErr, length, codes, decimal};
+ghost use Rattle.std.specs.Prelude.{◌≡◌, ◌≤◌, ◌+◌, ◌*◌, ◌++◌, ◌∷◌, Err, IsSome, IsNone, OnOk, OnErr, IfErr, length, codes, decimal};
 ghost use Rattle.std.specs.List.{flat_map};
 ghost use Rattle.std.specs.Io.KnownBytes.{Appends};
 ghost use Rattle.hex.specs.Hex.{encode_lower};
@@ -17,6 +17,15 @@ use std::io::Write;
 
 /// How many bytes are few: their digits are put together on the stack before they are written.
 const FEW: usize = 64;
+
+/// How many bytes a key, a name or a value has at most that is written in one piece with what stands around it.
+const SHORT: usize = 32;
+
+/// How many bytes a few words have at most.
+const WORDS: usize = 16;
+
+/// How many digits a number has at most.
+const DIGITS: usize = 40;
 
 // A few bytes in hexadecimal.
 fn put_few<W: Write>(output: &mut Output<W>, bytes: &[u8]) -> Result<(), Fault>
@@ -65,12 +74,43 @@ fn put_marked<W: Write>(output: &mut Output<W>, mark: u8, bytes: &[u8]) -> Resul
     put_many(output, bytes)
 }
 
+// ` NAME=VALUE`, of a short name and a short value.
+fn put_short_column<W: Write>(
+    output: &mut Output<W>,
+    name: &[u8],
+    value: &[u8],
+) -> Result<(), Fault>
+    requires name { length name.now ≤ 32 }
+    requires value { length value.now ≤ 32 }
+    ensures { Adds W.contents output.old output.new result (codes " " ++ encode_lower name.now ++ codes "=" ++ encode_lower value.now) }
+{
+    let mut text = [b' '; 2 + 4 * SHORT];
+    let middle = 1 + 2 * name.len();
+    let end = middle + 1 + 2 * value.len();
+    hex::encode_to_slice(name, &mut text[1..middle]).unwrap();
+    text[middle] = b'=';
+    hex::encode_to_slice(value, &mut text[middle + 1..end]).unwrap();
+    output.put(&text[..end])
+}
+
+// ` NAME=VALUE`, of any name and value.
+fn put_long_column<W: Write>(output: &mut Output<W>, name: &[u8], value: &[u8]) -> Result<(), Fault>
+    ensures { Adds W.contents output.old output.new result (codes " " ++ encode_lower name.now ++ codes "=" ++ encode_lower value.now) }
+{
+    put_marked(output, b' ', name)?;
+    put_marked(output, b'=', value)
+}
+
 // ` NAME=VALUE`.
 fn put_column<W: Write>(output: &mut Output<W>, column: &Column) -> Result<(), Fault>
     ensures { Adds W.contents output.old output.new result (column_text column.now) }
 {
-    put_marked(output, b' ', column.name.as_slice())?;
-    put_marked(output, b'=', column.value.as_slice())
+    let (name, value) = (column.name.as_slice(), column.value.as_slice());
+    if name.len() <= SHORT && value.len() <= SHORT {
+        put_short_column(output, name, value)
+    } else {
+        put_long_column(output, name, value)
+    }
 }
 
 // Each column, in order.
@@ -84,13 +124,36 @@ fn put_columns<W: Write>(output: &mut Output<W>, columns: &[Column]) -> Result<(
     Ok(())
 }
 
-// `  KEY:`.
-fn put_key<W: Write>(output: &mut Output<W>, key: &[u8]) -> Result<(), Fault>
+// `  KEY:`, of a short key.
+fn put_short_key<W: Write>(output: &mut Output<W>, key: &[u8]) -> Result<(), Fault>
+    requires { length key.now ≤ 32 }
+    ensures { Adds W.contents output.old output.new result (codes "  " ++ encode_lower key.now ++ codes ":") }
+{
+    let mut text = [b' '; 3 + 2 * SHORT];
+    let end = 2 + 2 * key.len();
+    hex::encode_to_slice(key, &mut text[2..end]).unwrap();
+    text[end] = b':';
+    output.put(&text[..end + 1])
+}
+
+// `  KEY:`, of any key.
+fn put_long_key<W: Write>(output: &mut Output<W>, key: &[u8]) -> Result<(), Fault>
     ensures { Adds W.contents output.old output.new result (codes "  " ++ encode_lower key.now ++ codes ":") }
 {
     output.put(b" ")?;
     put_marked(output, b' ', key)?;
     output.put(b":")
+}
+
+// `  KEY:`.
+fn put_key<W: Write>(output: &mut Output<W>, key: &[u8]) -> Result<(), Fault>
+    ensures { Adds W.contents output.old output.new result (codes "  " ++ encode_lower key.now ++ codes ":") }
+{
+    if key.len() <= SHORT {
+        put_short_key(output, key)
+    } else {
+        put_long_key(output, key)
+    }
 }
 
 // `  KEY:`, then each column, and the end of the line.
@@ -113,23 +176,32 @@ fn put_rows<W: Write>(output: &mut Output<W>, rows: &[AnsweredRow]) -> Result<()
     Ok(())
 }
 
-// Words, and then a number.
+// A few words, and then a number.
 fn put_number<W: Write>(output: &mut Output<W>, words: &[u8], number: u64) -> Result<(), Fault>
+    requires { length words.now ≤ 16 }
     ensures { Adds W.contents output.old output.new result (words.now ++ decimal number) }
 {
-    output.put(words)?;
-    output.put(Buffer::new().format(number).as_bytes())
+    let mut text = [0; WORDS + DIGITS];
+    let mut buffer = Buffer::new();
+    let digits = buffer.format(number).as_bytes();
+    let middle = words.len();
+    let end = middle + digits.len();
+    text[..middle].copy_from_slice(words);
+    text[middle..end].copy_from_slice(digits);
+    output.put(&text[..end])
 }
 
-// Words, and then the number of a node.
+// A few words, and then the number of a node.
 fn put_node<W: Write>(output: &mut Output<W>, words: &[u8], node: Node) -> Result<(), Fault>
+    requires { length words.now ≤ 16 }
     ensures { Adds W.contents output.old output.new result (words.now ++ decimal node) }
 {
     put_number(output, words, u64::from(node.get()))
 }
 
-// Words, and then a time.
+// A few words, and then a time.
 fn put_time<W: Write>(output: &mut Output<W>, words: &[u8], time: Time) -> Result<(), Fault>
+    requires { length words.now ≤ 16 }
     ensures { Adds W.contents output.old output.new result (words.now ++ decimal time) }
 {
     put_number(output, words, time.get())
@@ -261,7 +333,7 @@ fn put_entries<W: Write>(output: &mut Output<W>, entries: &[Entry]) -> Result<()
 /// Writes the text of a transcript and passes it on: a line for each entry and, after that of a read, one for each asked row.
 /// Numbers are decimal, bytes lower-case hexadecimal. Refused with `WriteFailed` exactly where the output has failed; then a
 /// beginning of the text is written, and nothing where it had failed before. Linear in the text. Takes no memory: the text is
-/// written in pieces of up to 129 bytes, so a writer that calls the system for each should have a buffer before it.
+/// written in pieces of up to 130 bytes, so a writer that calls the system for each should have a buffer before it.
 pub fn write_transcript<W: Write>(
     output: &mut Output<W>,
     transcript: &Transcript,

@@ -1,15 +1,17 @@
-use Rattle.std.proofs.Common.{decimal, refl}
-use Rattle.workload.proofs.Pieces.{ended, joined}
+use Rattle.std.proofs.Common.{rules, refl, subst, arith, length, decimal, replicate, ℕ, List, ◌≡◌, ◌∙◌, ◌+◌, ◌++◌}
+use Rattle.program.specs.Outputs.{Adds}
+use Rattle.workload.proofs.Pieces.{words_is}
 use Rattle.workload.proofs.text.put_number.Goals as goal
-
-pub returns-in_err-put : goal.returns-in_err-put
-returns-in_err-put g c =
-    let first = c.args.words.now in
-    let second = decimal c.args.number in
-    ended g.W.Write.contents _ _ _ c.from_residual.result _ first second refl c.from_residual.ensures.1 c.in_err-put.ensures.adds
 
 pub returns : goal.returns
 returns g c =
-    let first = c.args.words.now in
-    let second = decimal c.args.number in
-    joined g.W.Write.contents _ _ _ _ _ _ first second refl c.in_ok-put.ensures.adds (rw (c.as_bytes.ensures.value, c.format.ensures.text) at c.put-2.ensures.adds)
+    let words = c.args.words.now in
+    let digits = c.as_bytes-digits.result.now in
+    let blank : List ℕ = replicate 56 0 in
+    let wide : length blank ≡ 56 = refl in
+    let is : digits ≡ decimal c.args.number = c.as_bytes-digits.ensures.value ∙ c.format.ensures.text in
+    let adds = subst (λ text. Adds g.W.Write.contents c.args.output.now c.put.new.self c.put.result text)
+    (words_is blank c.copy_from_slice.new.self c.copy_from_slice-2.new.self words digits (length words) (length words + length digits)
+    (search rules) (search rules) refl refl (omega (arith, wide, c.requires, c.format.ensures.short, c.as_bytes-digits.ensures.len)))
+    c.put.ensures.adds in
+    subst (λ d. Adds g.W.Write.contents c.args.output.now c.put.new.self c.put.result (words ++ d)) is adds
