@@ -8,7 +8,7 @@ use crate::seat::Seat;
 use crate::turn::Turn;
 use logical_time::{Fault, Node};
 use std::alloc::Global;
-use std::sync::{Mutex, Wait};
+use std::sync::{Mutex, MutexGuard, Wait};
 use std::thread;
 use std::thread::Threads;
 
@@ -33,16 +33,17 @@ impl Gate for Open {
 /// Workers that go round the seats.
 pub struct Pool;
 
-/// How often a worker that is alone stays at a seat whose turn handled an envelope, before it goes on: what a seat looks at stays
-/// near then. Of several, one would wait for the lock of the other.
+/// How often a worker stays at a seat whose turn handled an envelope, before it goes on: what a seat looks at stays near then.
 const STAYS: usize = 16;
+
+/// How many seats one after the other a worker passes by while others are at them, before it waits for the next one's lock.
+const PASSES: usize = 4;
 
 /// Where a worker is on its way round the seats.
 #[derive(Drop)]
 struct Stand {
     place: usize,
-    // How often it may stay at a seat, and did at this one.
-    stays: usize,
+    // How often it stayed at this seat.
     stayed: usize,
     // How many idle turns it took one after the other, of seats that had nothing of their own left to do.
     resting: usize,
@@ -50,15 +51,36 @@ struct Stand {
 
 impl Stand {
     /// At the seat of this place, before its first turn.
-    fn at(place: usize, stays: usize) -> Stand
+    fn at(place: usize) -> Stand
         ensures { (result.place ≡ place) × (result.resting ≡ 0) }
     {
         Stand {
             place,
-            stays,
             stayed: 0,
             resting: 0,
         }
+    }
+
+    /// Goes on to the next seat.
+    fn step(&mut self, seats: usize)
+        requires { self.old.place < seats }
+        ensures { (self.new.place < seats) × (self.new.resting ≡ self.old.resting) }
+    {
+        self.stayed = 0;
+        self.place = if self.place + 1 < seats {
+            self.place + 1
+        } else {
+            0
+        };
+    }
+
+    /// Passes a seat by while another worker is at it.
+    fn pass(&mut self, seats: usize)
+        requires { self.old.place < seats }
+        ensures { (self.new.place < seats) × (self.new.resting ≡ 0) }
+    {
+        self.resting = 0;
+        self.step(seats);
     }
 
     /// After a turn of its seat, of which it is told whether nothing of its own was left to do: it stays where an envelope was
@@ -72,26 +94,37 @@ impl Stand {
         } else {
             0
         };
-        if turn == Turn::Handled && self.stayed < self.stays {
+        if turn == Turn::Handled && self.stayed < STAYS {
             self.stayed += 1;
         } else {
-            self.stayed = 0;
-            self.place = if self.place + 1 < seats {
-                self.place + 1
-            } else {
-                0
-            };
+            self.step(seats);
         }
     }
 }
 
-/// Takes a turn of a seat, under its lock. The answer is the turn's, and whether nothing of its own was left to do.
-fn one_turn<M: Machine, G: Gate, R: Wait>(
+/// The seat at which a worker stands, locked: it passes by those at which others are, some of them, and then waits.
+fn locked<'s, M: Machine, R: Wait>(
     rt: &R,
-    seat: &Mutex<Seat<M>>,
+    seats: &'s [Mutex<Seat<M>>],
+    stand: &mut Stand,
+) -> MutexGuard<'s, Seat<M>>
+    requires { (stand.old.place < length seats.now) × (stand.old.resting < length seats.now) }
+    ensures { (stand.new.place < length seats.now) × (stand.new.resting < length seats.now) }
+{
+    for _ in 0..PASSES {
+        match seats[stand.place].try_lock() {
+            Some(seat) => return seat,
+            None => stand.pass(seats.len()),
+        }
+    }
+    seats[stand.place].lock(rt)
+}
+
+/// Takes a turn of a seat that is locked. The answer is the turn's, and whether nothing of its own was left to do.
+fn one_turn<M: Machine, G: Gate>(
+    mut seat: MutexGuard<'_, Seat<M>>,
     gate: &G,
 ) -> (Result<Turn, Fault>, bool) {
-    let mut seat = seat.lock(rt);
     gate.before(seat.node());
     let turn = seat.turn();
     let did = !matches!(turn, Ok(Turn::Idle));
@@ -105,7 +138,6 @@ fn go_round<M: Machine, G: Gate, R: Wait>(
     rt: &R,
     seats: &[Mutex<Seat<M>>],
     worker: usize,
-    stays: usize,
     turns: u64,
     gate: &G,
 ) -> Shift
@@ -117,10 +149,10 @@ fn go_round<M: Machine, G: Gate, R: Wait>(
             end: End::Rest,
         };
     }
-    let mut stand = Stand::at(worker % seats.len(), stays);
+    let mut stand = Stand::at(worker % seats.len());
     let mut taken = 0;
     while taken < turns {
-        let (turn, done) = one_turn(rt, &seats[stand.place], gate);
+        let (turn, done) = one_turn(locked(rt, seats, &mut stand), gate);
         taken += 1;
         match turn {
             Err(fault) => {
@@ -146,9 +178,10 @@ fn go_round<M: Machine, G: Gate, R: Wait>(
 
 impl Pool {
     /// Runs the seats by so many workers, each for at most so many turns. A worker goes round the seats, worker w from the
-    /// seat `w mod seats` on: it locks one and takes a turn of it; a worker that is alone takes the same again, at most 16 times,
-    /// after each turn that handled an envelope. It stops after its turns, after a turn that was refused, or after a round in which all seats were
-    /// idle, all machines free and all backlogs empty. It waits for locks. 1 to 16 workers and at least one seat are the
+    /// seat `w mod seats` on: it locks one and takes a turn of it, and the same again, at most 16 times, after each turn that
+    /// handled an envelope. A seat at which another worker is it passes by; after four of them one after the other it waits for
+    /// the next one's lock. It stops after its turns, after a turn that was refused, or after a round in which it came by all
+    /// seats, and all were idle, all machines free and all backlogs empty. 1 to 16 workers and at least one seat are the
     /// caller's condition. Refused with `Memory` alone.
     pub fn run<M: Machine + Send, G: Gate, R: Threads + Wait + Sync>(
         rt: &R,
@@ -164,14 +197,13 @@ impl Pool {
         ensures each { IfOk result (λ report. All (IsWithin turns) report.shifts.items) }
         ensures memory { IfErr result (λ e. e ≡ Fault.Memory) }
     {
-        let stays = if workers == 1 { STAYS } else { 0 };
         let shifts = thread::map_indices(
             rt,
             alloc,
             workers,
             &|worker: usize| -> Shift
                 ensures { IsWithin turns result }
-            { go_round(rt, seats, worker, stays, turns, gate) },
+            { go_round(rt, seats, worker, turns, gate) },
         )?;
         Ok(Report { shifts })
     }

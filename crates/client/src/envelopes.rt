@@ -3,7 +3,7 @@ ghost use Rattle.std.specs.Prelude.{◌≡◌, ◌++◌, map, IfOk, OnOk, OnErr,
 ghost use Rattle.client.specs.Envelopes.{node_in, prepare_part, batch_envelopes, read_keys};
 
 use logical_time::{Fault, Node, Shard, Time, TxnId};
-use messages::{Body, Cohorts, Dependencies, Envelope, Home, Outbox};
+use messages::{Body, Cohorts, Dependencies, Envelope, Home, Outbox, Shared};
 use planner::{BatchPlan, ShardKeys, ShardPart};
 use slice::{Keys, Read};
 use std::alloc::Global;
@@ -65,7 +65,7 @@ pub(crate) fn reads(
     let mut envelopes = Vec::new(alloc);
     for share in shares {
         let ShardKeys { shard, keys } = share;
-        let own = share_of(read, keys)?;
+        let own = Shared::new(alloc, share_of(read, keys)?)?;
         envelopes.push(Envelope {
             from: node,
             to: home.node_of(shard),

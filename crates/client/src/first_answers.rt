@@ -13,7 +13,7 @@ use crate::envelopes::{send, share_of};
 use crate::hearing::{complete, put};
 use crate::kept::Kept;
 use logical_time::{Clock, Fault, Node, Time};
-use messages::{Body, Envelope, Outbox, RowsNow};
+use messages::{Body, Envelope, Outbox, RowsNow, Shared};
 use read_txn::{FirstRound, FirstTaken, LateShard, SecondRound};
 use slice::Read;
 use std::mem;
@@ -36,7 +36,7 @@ fn late_reads(kept: &Kept, time: Time, round: &SecondRound) -> Result<Vec<Envelo
     let asks = round.asks();
     let effective = round.time();
     for late in asks {
-        let read = late_read(round, late)?;
+        let read = Shared::new(kept.alloc, late_read(round, late)?)?;
         envelopes.push(Envelope {
             from: kept.node,
             to: late.node,

@@ -32,7 +32,7 @@ fn answer_to<A: AnswersAt>(
     ensures ok { (f : ℕ → Read → AtTime) → AnswersBy (A.answered answers.now) f → IfOk result (λ e. e ≡ reply me time f wait.now) }
     ensures memory { IfErr result (λ e. e ≡ Fault.Memory) }
 {
-    let answer = answers.answer(wait.time, &wait.read)?;
+    let answer = answers.answer(wait.time, wait.read.get())?;
     Ok(Envelope {
         from: me,
         to: wait.session,

@@ -7,6 +7,7 @@ ghost use Rattle.commit_check.specs.Waiting.{concerns, is_among, is_freed, still
 
 use crate::cause::Cause;
 use logical_time::{Fault, Node, Time, TxnId};
+use messages::Shared;
 use slice::Read;
 use std::alloc::Global;
 use std::marker::Model;
@@ -21,7 +22,7 @@ pub struct Wait {
     /// The time.
     pub time: Time,
     /// What it asks.
-    pub read: Read,
+    pub read: Shared<Read>,
     /// The transactions.
     pub left: Vec<TxnId>,
 }

@@ -111,7 +111,7 @@ pub(crate) fn is_first_round(b: &Body, number: u64, read: &Read) -> bool
         Body::Read {
             number: its_number,
             read: its_read,
-        } => *its_number == number && same_read(its_read, read),
+        } => *its_number == number && same_read(its_read.get(), read),
         _ => false,
     }
 }
@@ -124,7 +124,7 @@ pub(crate) fn is_second_round(b: &Body, number: u64, time: Time, read: &Read) ->
             number: its_number,
             time: its_time,
             read: its_read,
-        } => *its_number == number && *its_time == time && same_read(its_read, read),
+        } => *its_number == number && *its_time == time && same_read(its_read.get(), read),
         _ => false,
     }
 }

@@ -43,7 +43,7 @@ joined v w session number shard =
     ∙ ap (λ n. record { txn = record { session = w.txn.session; number = n }; shard = v.shard }) number
     ∙ ap (λ s. record { txn = w.txn; shard = s }) shard
 
-same : (v w : WriterValue) → same_writer v w ≡ true → v ≡ w
+pub same : (v w : WriterValue) → same_writer v w ≡ true → v ≡ w
 same v w e = joined v w (same_session v w e) (same_number v w e) (same_shard v w e)
 
 -- writers that compare as equal are the same

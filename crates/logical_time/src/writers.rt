@@ -1,5 +1,5 @@
 //! Lists of writers.
-ghost use Rattle.std.specs.Prelude.{◌≡◌, ◌↔◌, Contains, IfOk};
+ghost use Rattle.std.specs.Prelude.{◌≡◌, ◌∷◌, [], ◌↔◌, Contains, IfOk};
 ghost use Rattle.std.specs.List.Sorted.{IsStrictlySortedBy};
 ghost use Rattle.logical_time.specs.Stamps.{WriterValue, writer_cmp};
 
@@ -7,19 +7,29 @@ use crate::ids::Writer;
 use std::alloc::AllocError;
 use std::marker::Model;
 
-/// Transactions that something rests on, in order and each once.
-#[derive(Drop, Clone)]
+/// Where writers are kept.
+#[derive(Drop)]
+enum Kept {
+    /// One in the handle: mostly one wrote all that is shown of a row.
+    One([Writer; 1]),
+    /// None, or more.
+    Many(Vec<Writer>),
+}
+
+/// Transactions that something rests on, in order and each once. One alone takes no memory.
+#[derive(Drop)]
 pub struct Writers {
-    writers: Vec<Writer>,
+    kept: Kept,
 }
 
 impl Model for Writers {
     ghost use Rattle.std.specs.Prelude.{List};
     ghost use Rattle.logical_time.specs.Stamps.{WriterValue};
+    ghost use Rattle.logical_time.specs.Writers.{kept_in};
 
     ghost Value = { List WriterValue };
 
-    ghost view = { λ list. list.writers.items };
+    ghost view = { λ list. kept_in list.kept };
 }
 
 impl Writers {
@@ -27,7 +37,18 @@ impl Writers {
     pub fn from_vec(writers: Vec<Writer>) -> Writers
         ensures { result ≡ writers.items }
     {
-        Writers { writers }
+        Writers {
+            kept: Kept::Many(writers),
+        }
+    }
+
+    /// This writer alone. Takes no memory.
+    pub fn one(writer: Writer) -> Writers
+        ensures { result ≡ writer ∷ [] }
+    {
+        Writers {
+            kept: Kept::One([writer]),
+        }
     }
 
     /// These writers in the order of their transactions' numbers, each once. In the order of n log n for n writers, and
@@ -40,13 +61,28 @@ impl Writers {
         writers.dedup();
         // a list is kept as long as the answer that it came with
         writers.shrink_to_fit();
-        Ok(Writers { writers })
+        Ok(Writers::from_vec(writers))
     }
 
     /// The writers.
     pub fn as_slice(&self) -> &[Writer]
         ensures { result.now ≡ self.now }
     {
-        self.writers.as_slice()
+        match &self.kept {
+            Kept::One(writer) => writer.as_slice(),
+            Kept::Many(writers) => writers.as_slice(),
+        }
+    }
+}
+
+impl Clone for Writers {
+    ghost is_clone = { λ list copy. copy ≡ list };
+
+    fn clone(&self) -> Result<Writers, AllocError> {
+        let kept = match &self.kept {
+            Kept::One(writer) => Kept::One(*writer),
+            Kept::Many(writers) => Kept::Many(writers.clone()?),
+        };
+        Ok(Writers { kept })
     }
 }

@@ -148,7 +148,7 @@ pub enum Body {
         /// The number of the read among the session's operations.
         number: u64,
         /// What is asked of this shard.
-        read: Read,
+        read: Shared<Read>,
     },
     /// The second round of a read: asks for the versions at its effective time.
     ReadAt {
@@ -157,7 +157,7 @@ pub enum Body {
         /// The effective time.
         time: Time,
         /// What is asked of this shard.
-        read: Read,
+        read: Shared<Read>,
     },
     /// Replicates a write: to its coordinator in another data centre.
     ReplBegin {

@@ -5,6 +5,7 @@ ghost use Rattle.messages.specs.declared.body.Body.TheVariants as body;
 use crate::body::{Body, Cohorts, Dependencies};
 use crate::rows_at::AtTime;
 use crate::rows_now::RowsNow;
+use crate::shared::Shared;
 use column_family::Batch;
 use logical_time::{Shard, Stamp, Time, TxnId};
 use slice::Read;
@@ -36,7 +37,7 @@ pub(crate) fn prepare(txn: TxnId, rows: &Batch, coordinator: Shard) -> Result<Bo
     })
 }
 
-pub(crate) fn first_round(number: u64, read: &Read) -> Result<Body, AllocError>
+pub(crate) fn first_round(number: u64, read: &Shared<Read>) -> Result<Body, AllocError>
     ensures { IfOk result (λ copy. copy ≡ body.Read number read.now) }
 {
     Ok(Body::Read {
@@ -45,7 +46,7 @@ pub(crate) fn first_round(number: u64, read: &Read) -> Result<Body, AllocError>
     })
 }
 
-pub(crate) fn second_round(number: u64, time: Time, read: &Read) -> Result<Body, AllocError>
+pub(crate) fn second_round(number: u64, time: Time, read: &Shared<Read>) -> Result<Body, AllocError>
     ensures { IfOk result (λ copy. copy ≡ body.ReadAt number time read.now) }
 {
     Ok(Body::ReadAt {

@@ -12,7 +12,7 @@ use crate::below::writers_below;
 use crate::kept::Kept;
 use commit_check::{Wait, answer_at, rows_now};
 use logical_time::{Clock, Fault, Node, Time, TxnId, Writer};
-use messages::{Body, Envelope, Outbox};
+use messages::{Body, Envelope, Outbox, Shared};
 use replicator::checks;
 use slice::Read;
 
@@ -23,7 +23,7 @@ pub(crate) fn read(
     clock: Clock,
     from: Node,
     number: u64,
-    asked: &Read,
+    asked: &Shared<Read>,
     outbox: &mut Outbox,
 ) -> Result<(), Fault>
     ensures step { OnOk result (Does (λ top me a. on_read me clock a from number asked.now) kept.old kept.new outbox.old.sent outbox.new.sent) }
@@ -40,7 +40,7 @@ pub(crate) fn read(
         transactions.store(),
         transactions.marks(),
         time,
-        asked,
+        asked.get(),
     )?;
     outbox.reserve(1)?;
     let part = Envelope {
@@ -62,7 +62,7 @@ fn answered(
     from: Node,
     number: u64,
     time: Time,
-    asked: &Read,
+    asked: &Shared<Read>,
     outbox: &mut Outbox,
 ) -> Result<(), Fault>
     ensures step { OnOk result (Does (λ top me a. answer clock a (part_at me clock a (waiting_read from number time asked.now []))) kept.old kept.new outbox.old.sent outbox.new.sent) }
@@ -70,7 +70,7 @@ fn answered(
     ensures unsent { OnErr result (outbox.new.sent ≡ outbox.old.sent) }
     ensures memory { IfErr result (λ e. e ≡ fault.Memory) }
 {
-    let answer = answer_at(kept.alloc, kept.transactions.store(), time, asked)?;
+    let answer = answer_at(kept.alloc, kept.transactions.store(), time, asked.get())?;
     outbox.reserve(1)?;
     let part = Envelope {
         from: kept.place.node(),
@@ -114,10 +114,10 @@ fn waits(
     from: Node,
     number: u64,
     time: Time,
-    asked: Read,
+    asked: Shared<Read>,
     writers: &[Writer],
     outbox: &mut Outbox,
-) -> Result<(), (Fault, Read)>
+) -> Result<(), (Fault, Shared<Read>)>
     ensures step { OnOk result (Does (λ top me a. record { state = record a { clock = clock; waiting = a.waiting ++ waiting_read from number time asked writers.now ∷ [] }; sends = map (check_of top me clock time) writers.now }) kept.old kept.new outbox.old.sent outbox.new.sent) }
     ensures same { OnErr result (GoesOn kept.old kept.new) }
     ensures unsent { OnErr result (outbox.new.sent ≡ outbox.old.sent) }
@@ -149,14 +149,14 @@ fn waits(
 
 /// The writers whose transactions a read at a time waits for: none where the horizon is above the time, since it is answered
 /// then. Refused with `Memory` alone.
-fn waited_for(kept: &Kept, time: Time, read: &Read) -> Result<Vec<Writer>, Fault>
+fn waited_for(kept: &Kept, time: Time, read: &Shared<Read>) -> Result<Vec<Writer>, Fault>
     ensures ok { (top : TopologyValue) (me : ℕ) (a : ShardState) → Represents top me kept.now a → IfOk result (λ writers. writers.items ≡ (if nat_lt time a.low then [] else asked_below a time read.now)) }
     ensures memory { IfErr result (λ e. e ≡ fault.Memory) }
 {
     if time < kept.transactions.store().low() {
         return Ok(Vec::new(kept.alloc));
     }
-    writers_below(kept, time, read)
+    writers_below(kept, time, read.get())
 }
 
 /// ReadAt: ignored where the read waits; else it is answered where the horizon is above its time, or nothing has a mark below
@@ -168,9 +168,9 @@ pub(crate) fn read_at(
     from: Node,
     number: u64,
     time: Time,
-    asked: Read,
+    asked: Shared<Read>,
     outbox: &mut Outbox,
-) -> Result<(), (Fault, Read)>
+) -> Result<(), (Fault, Shared<Read>)>
     ensures step { OnOk result (Does (λ top me a. on_read_at top me clock a from number time asked) kept.old kept.new outbox.old.sent outbox.new.sent) }
     ensures same { OnErr result (GoesOn kept.old kept.new) }
     ensures unsent { OnErr result (outbox.new.sent ≡ outbox.old.sent) }

@@ -1,5 +1,5 @@
 -- A part put together from the columns that are seen.
-use Rattle.std.proofs.Common.{◌≡◌, ◌∙◌, ap, sym, subst, ℕ, max, Bool, true, false, List, [], ◌∷◌, ◌++◌, map, filter_map, Option, Some, None, option_map, Contains, Result, Ok, Err, IfOk}
+use Rattle.std.proofs.Common.{◌≡◌, ◌∙◌, ap, sym, subst, ℕ, suc, ◌≤◌, arith, length, max, Bool, true, false, List, [], ◌∷◌, ◌++◌, map, filter_map, Option, Some, None, option_map, Contains, Result, Ok, Err, IfOk}
 use Rattle.std.specs.Prelude.{if◌then◌else◌, option_to_list, ◌↔◌}
 use Rattle.std.specs.List.{cons_option, dedup}
 use Rattle.std.specs.List.Sorted.{IsStrictlySortedBy}
@@ -78,3 +78,12 @@ any_evt applied r p part evt is = record { columns = is.columns; writers = is.wr
 pub if_ok : {T E : Type 0} {P Q : T → Type 0} (result : Result T E) → ((x : T) → P x → Q x) → IfOk result P → IfOk result Q
 if_ok (Ok x) f h = f x h
 if_ok (Err e) f h = tt
+
+-- what a function gives of things is not more than these
+pub not_more : {X Y : Type 0} (f : X → Option Y) (xs : List X) → length (filter_map f xs) ≤ length xs
+not_more f [] = omega arith
+not_more f (x ∷ xs) = at_most (f x) (filter_map f xs) xs (not_more f xs)
+  where
+    at_most : {X Y : Type 0} (o : Option Y) (ys : List Y) (xs : List X) → length ys ≤ length xs → length (cons_option o ys) ≤ suc (length xs)
+    at_most None ys xs le = omega arith
+    at_most (Some y) ys xs le = omega arith

@@ -12,6 +12,7 @@ pub mod PartAt
 pub mod FromEvt
 pub mod Untouched
 pub mod EvtBelow
+pub mod OneWriter
 pub mod Overtaken
 pub mod KeepsApplied
 pub mod HashedRows

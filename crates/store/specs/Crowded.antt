@@ -1,7 +1,6 @@
 -- Which rows a collection has to look at.
 use Rattle.std.specs.Prelude.{◌≡◌, ◌≤◌, length, nat_lt, Bool, true, false, ◌||◌, List, map}
 use Rattle.std.specs.List.{list_any}
-use Rattle.std.specs.Ordering.{is_eq}
 use Rattle.column_family.specs.declared.batch.Row.{Row}
 use Rattle.column_family.specs.Places.{is_listed, row_cmp}
 use Rattle.versions.specs.Chain.{Held}

@@ -1,5 +1,5 @@
 -- What is seen of a row at a moment, and what a read finds in it.
-use Rattle.std.specs.Prelude.{◌≡◌, ℕ, max, Bool, true, false, not, ◌&&◌, if◌then◌else◌, List, [], ◌∷◌, ◌++◌, map, filter_map, Option, Some, None, option_map, option_to_list, Contains, slice_get, ◌↔◌}
+use Rattle.std.specs.Prelude.{◌≡◌, ℕ, max, Bool, true, false, not, ◌==◌, ◌&&◌, if◌then◌else◌, List, [], ◌∷◌, ◌++◌, map, filter_map, Option, Some, None, option_map, option_to_list, Contains, slice_get, ◌↔◌}
 use Rattle.std.specs.List.Sorted.{IsStrictlySortedBy}
 use Rattle.std.specs.declared.ops.Bound.{Bound}
 use Rattle.std.specs.declared.ops.Bound.TheVariants.{Included, Unbounded}
@@ -118,6 +118,15 @@ evt_of_sight d seen = max (evt_or_0 d) (greatest_of (map (λ s. s.1.evt) seen))
 -- the writer of a column's version, where a read that returned these columns rests on it
 abbrev pub writer_of : Predicate → List Column → Option Version → NamedVersion → Option WriterValue
 writer_of p columns d s = if is_within p columns s.0 && not (is_covered d s.1) then Some s.1.what.writer else None
+
+-- both are one writer
+abbrev pub same_writer : WriterValue → WriterValue → Bool
+same_writer v w = ((v.txn.session == w.txn.session) && (v.txn.number == w.txn.number)) && (v.shard == w.shard)
+
+-- there is no other writer than this one
+abbrev pub has_no_other : WriterValue → Option WriterValue → Bool
+has_no_other w None = true
+has_no_other w (Some v) = same_writer v w
 
 -- the writers that a read rests on which returned these columns
 abbrev pub writers_of : Predicate → List Column → Option Version → List NamedVersion → List WriterValue

@@ -1,6 +1,11 @@
 //! A row's part, found in its chains.
-ghost use Rattle.std.specs.Prelude.{◌≡◌, ◌++◌, IfOk, IfErr, map, filter, filter_map, is_some, option_map, option_to_list, max};
+ghost use Rattle.std.specs.Prelude.{◌≡◌, ◌↔◌, ◌≤◌, ◌++◌, ◌∷◌, [], List, Contains, IfOk, IfErr, IfSome, true, length, map, filter, filter_map, is_some, option_map, option_to_list, max};
 ghost use Rattle.std.specs.Option.{option_copied};
+ghost use Rattle.std.specs.List.{list_all};
+ghost use Rattle.std.specs.List.Sorted.{IsStrictlySortedBy};
+ghost use Rattle.logical_time.specs.Stamps.{WriterValue, writer_cmp};
+ghost use Rattle.slice.specs.declared.column.Column.{Column as ColumnValue};
+ghost use Rattle.slice.specs.Slice.{first_of_walk};
 ghost use Rattle.logical_time.specs.declared.fault.Fault.TheVariants as fault;
 ghost use Rattle.column_family.specs.Places.{row_cmp};
 ghost use Rattle.store.specs.Kept.{held_by, no_row};
@@ -14,7 +19,7 @@ use crate::row::RowChains;
 use crate::sight::{Moment, Seen, asked_columns, seen_in};
 use column_family::Row;
 use logical_time::{Fault, Time, Writer, Writers};
-use slice::{Column, Columns, Predicate, first_of_walk};
+use slice::{Column, Columns, Predicate};
 use std::alloc::{AllocError, Global};
 use std::collections::HashMap;
 use versions::Version;
@@ -150,6 +155,120 @@ fn writers_of(
     Ok(writers)
 }
 
+// Whether a column's version has this writer, or the read doesn't rest on it.
+fn has_no_other(
+    predicate: &Predicate,
+    columns: &[Column],
+    deletion: Option<&Version>,
+    seen: &Seen,
+    writer: Writer,
+) -> bool
+    ensures { result ≡ sight.has_no_other writer (sight.writer_of predicate.now columns.now (option_copied deletion.entry) (named seen.now)) }
+{
+    match writer_of(predicate, columns, deletion, seen) {
+        Some(other) => other == writer,
+        None => true,
+    }
+}
+
+// Whether each of the columns' versions has this writer, or the read doesn't rest on it.
+fn have_no_other(
+    predicate: &Predicate,
+    columns: &[Column],
+    deletion: Option<&Version>,
+    seen: &[Seen],
+    writer: Writer,
+) -> bool
+    ensures { result ≡ list_all (λ s. sight.has_no_other writer (sight.writer_of predicate.now columns.now (option_copied deletion.entry) (named s))) seen.now }
+{
+    seen.iter().all(|one| has_no_other(predicate, columns, deletion, one, writer))
+}
+
+// The writer of the deletion or, without one, of the first of the columns, if the read rests on that.
+fn first_writer(
+    predicate: &Predicate,
+    columns: &[Column],
+    deletion: Option<&Version>,
+    seen: &[Seen],
+) -> Option<Writer>
+    ensures rests { IfSome result (λ writer. Contains (filter_map (λ s. sight.writer_of predicate.now columns.now (option_copied deletion.entry) (named s)) seen.now ++ option_to_list (option_map (λ v. v.what.writer) (option_copied deletion.entry))) writer) }
+    ensures deletion { IfSome (option_copied deletion.entry) (λ v. IfSome result (λ writer. writer ≡ v.what.writer)) }
+{
+    match deletion {
+        Some(deletion) => Some(deletion.what.writer),
+        None => writer_of(predicate, columns, deletion, seen.first()?),
+    }
+}
+
+// The writer on which a read rests that returned these columns, if it is seen to be only one.
+fn only_writer(
+    predicate: &Predicate,
+    columns: &[Column],
+    deletion: Option<&Version>,
+    seen: &[Seen],
+) -> Option<Writer>
+    ensures { IfSome result (λ writer. (w : WriterValue) → Contains (writer ∷ []) w ↔ Contains (filter_map (λ s. sight.writer_of predicate.now columns.now (option_copied deletion.entry) (named s)) seen.now ++ option_to_list (option_map (λ v. v.what.writer) (option_copied deletion.entry))) w) }
+{
+    let writer = first_writer(predicate, columns, deletion, seen)?;
+    if have_no_other(predicate, columns, deletion, seen, writer) {
+        Some(writer)
+    } else {
+        None
+    }
+}
+
+// The writers on which a read rests that returned these columns, in order and each once.
+fn rested_on(
+    alloc: Global,
+    predicate: &Predicate,
+    columns: &[Column],
+    deletion: Option<&Version>,
+    seen: &[Seen],
+) -> Result<Writers, AllocError>
+    ensures same { IfOk result (λ writers. (w : WriterValue) → Contains writers w ↔ Contains (filter_map (λ s. sight.writer_of predicate.now columns.now (option_copied deletion.entry) (named s)) seen.now ++ option_to_list (option_map (λ v. v.what.writer) (option_copied deletion.entry))) w) }
+    ensures in_order { IfOk result (IsStrictlySortedBy writer_cmp) }
+{
+    // mostly one transaction wrote all columns of a row
+    if let Some(writer) = only_writer(predicate, columns, deletion, seen) {
+        return Ok(Writers::one(writer));
+    }
+    let mut writers = writers_of(alloc, predicate, columns, deletion, seen)?;
+    writers.dedup();
+    Writers::sorted(writers)
+}
+
+// Whether a walk that comes past at most so many columns, which are all asked for, takes all of them in their order.
+fn takes_all(predicate: &Predicate, most: usize) -> bool
+    ensures { result ≡ true → (columns : List ColumnValue) → length columns ≤ most → first_of_walk predicate.now columns ≡ columns }
+{
+    match predicate {
+        Predicate::Names(_) => true,
+        Predicate::Range {
+            reversed,
+            count,
+            ..
+        } => !*reversed && most <= *count as usize,
+    }
+}
+
+// The columns of these that a read shows, which asks for all of them.
+fn shown_columns(
+    alloc: Global,
+    predicate: &Predicate,
+    deletion: Option<&Version>,
+    seen: &[Seen],
+) -> Result<Vec<Column>, Fault>
+    ensures ok { IfOk result (λ columns. columns.items ≡ first_of_walk predicate.now (filter_map (λ s. sight.live_of (option_copied deletion.entry) (named s)) seen.now)) }
+    ensures memory { IfErr result (λ e. e ≡ fault.Memory) }
+{
+    if takes_all(predicate, seen.len()) {
+        return live_columns(alloc, deletion, seen);
+    }
+    let live = live_ones(alloc, deletion, seen)?;
+    let shown = slice::first_of_walk(live, predicate);
+    live_columns(alloc, deletion, shown.as_slice())
+}
+
 // The part that is made of these columns and this deletion, where the columns are asked for. Only the columns that it
 // shows are copied.
 fn made_of(
@@ -161,13 +280,8 @@ fn made_of(
     ensures ok { IfOk result (λ part. AreAskedFor predicate.now (map named seen.now) → IsMadeOf (option_copied deletion.entry) (map named seen.now) predicate.now part) }
     ensures memory { IfErr result (λ e. e ≡ fault.Memory) }
 {
-    let live = live_ones(alloc, deletion, seen)?;
-    let shown = first_of_walk(live, predicate);
-    let found = live_columns(alloc, deletion, shown.as_slice())?;
-    let mut rested = writers_of(alloc, predicate, found.as_slice(), deletion, seen)?;
-    // mostly one transaction wrote all columns of a row
-    rested.dedup();
-    let writers = Writers::sorted(rested)?;
+    let found = shown_columns(alloc, predicate, deletion, seen)?;
+    let writers = rested_on(alloc, predicate, found.as_slice(), deletion, seen)?;
     let columns = Columns::from_vec(alloc, found)?;
     Ok(Part {
         writers,

@@ -23,8 +23,37 @@ pub fn answer(alloc: Global, history: &History, time: Time, read: &Read) -> Resu
     answer_keys(alloc, &entries, read, &keys)
 }
 
+/// Up to how many keys each is compared with those before it.
+const FEW: usize = 16;
+
 /// Each key once, in the order of first asking. In the order of n log n for n keys. Refused with `Memory` alone.
 pub fn each_once(alloc: Global, keys: &[Key]) -> Result<Vec<Key>, Fault>
+    ensures ok { IfOk result (λ once. once.items ≡ meaning.each_once keys.now) }
+    ensures memory { IfErr result (λ e. e ≡ Fault.Memory) }
+{
+    if keys.len() <= FEW {
+        each_of_few(alloc, keys)
+    } else {
+        each_of_many(alloc, keys)
+    }
+}
+
+// Each key once, by those that were taken before it.
+fn each_of_few(alloc: Global, keys: &[Key]) -> Result<Vec<Key>, Fault>
+    ensures ok { IfOk result (λ once. once.items ≡ meaning.each_once keys.now) }
+    ensures memory { IfErr result (λ e. e ≡ Fault.Memory) }
+{
+    let mut once = Vec::with_capacity(alloc, keys.len())?;
+    for key in keys {
+        if !once.contains(key) {
+            once.push(key.clone()?)?;
+        }
+    }
+    Ok(once)
+}
+
+// Each key once, by a set of those that were taken before it.
+fn each_of_many(alloc: Global, keys: &[Key]) -> Result<Vec<Key>, Fault>
     ensures ok { IfOk result (λ once. once.items ≡ meaning.each_once keys.now) }
     ensures memory { IfErr result (λ e. e ≡ Fault.Memory) }
 {

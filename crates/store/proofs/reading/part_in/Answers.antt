@@ -1,6 +1,5 @@
-use Rattle.std.proofs.Common.{rules, ◌≡◌, sym, subst, IfOk}
-use Rattle.column_family.specs.Places.{row_cmp}
-use Rattle.store.specs.Kept.{Chains, no_row, held_by}
+use Rattle.std.proofs.Common.{rules, sym, subst, IfOk}
+use Rattle.store.specs.Kept.{Chains}
 use Rattle.store.specs.Sight.{sight_of, IsPartSeen}
 use Rattle.store.proofs.Maps.{found_row, no_row_found}
 use Rattle.store.proofs.reading.part_in.Goals as goal

@@ -2,7 +2,6 @@ use Rattle.std.proofs.Common.{rules, ◌≡◌, ◌≤◌, ◌<◌, ◌∙◌, r
 use Rattle.std.specs.Prelude.{◌&&◌}
 use Rattle.column_family.specs.declared.batch.Row.{Row}
 use Rattle.column_family.specs.Location.{is_same_row}
-use Rattle.column_family.specs.Places.{row_cmp}
 use Rattle.store.specs.Kept.{Place, no_row, chain_of, chain_at, is_of_place}
 use Rattle.store.proofs.Maps.{each_row, none_held}
 use Rattle.store.proofs.rows.add_row.Goals as goal

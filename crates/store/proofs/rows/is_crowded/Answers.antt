@@ -1,4 +1,4 @@
-use Rattle.std.proofs.Common.{rules, ◌≡◌, ◌∙◌, sym, ap}
+use Rattle.std.proofs.Common.{rules, ◌∙◌, sym, ap}
 use Rattle.store.specs.Kept.{Chains}
 use Rattle.store.specs.Crowded.{is_crowded}
 use Rattle.store.proofs.Maps.{found_row}

@@ -1,8 +1,7 @@
 use Rattle.std.proofs.Common.{rules, ◌≡◌, ◌≤◌, ◌+◌, refl, subst, arith}
 use Rattle.std.specs.Prelude.{if◌then◌else◌, ◌&&◌}
-use Rattle.column_family.specs.Places.{row_cmp}
 use Rattle.versions.specs.Chain.{put_of}
-use Rattle.store.specs.Kept.{Place, Chains, no_row, chain_of, is_of_place, version_of}
+use Rattle.store.specs.Kept.{Place, Chains, chain_of, is_of_place, version_of}
 use Rattle.store.proofs.Maps.{each_row, found_row, no_row_found}
 use Rattle.store.proofs.Places.{IsReady, nowhere, nothing_there}
 use Rattle.store.proofs.rows.put_mutation.Goals as goal

@@ -1,8 +1,7 @@
 use Rattle.std.proofs.Common.{rules, ◌≡◌, ◌∙◌, ◌≤◌, ◌<◌, refl, sym, subst, true, None, arith}
 use Rattle.std.specs.Map.{lookup}
 use Rattle.std.specs.Prelude.{◌&&◌}
-use Rattle.column_family.specs.Places.{row_cmp}
-use Rattle.store.specs.Kept.{Place, Chains, no_row, chain_of, is_of_place}
+use Rattle.store.specs.Kept.{Place, Chains, chain_of, is_of_place}
 use Rattle.store.proofs.HashedRows.{row_eq, found_by}
 use Rattle.store.proofs.Maps.{each_row, found_row, no_row_found}
 use Rattle.store.proofs.Places.{own_at, no_room_missing, on_ok}

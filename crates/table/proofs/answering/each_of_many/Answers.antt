@@ -1,12 +1,10 @@
 use Rattle.std.proofs.Common.{rules, ◌≡◌, true, false, [], ◌∷◌, ◌++◌, ap, ◌∙◌, sym, refl}
-use Rattle.std.specs.List.{list_any}
 use Rattle.std.specs.Ordering.{nat_cmp}
 use Rattle.std.specs.Cmp.Lexicographic.{slice_cmp}
 use Rattle.std.specs.BTreeSet.{contains}
-use Rattle.std.specs.Str.{bytes_eq}
 use Rattle.table.proofs.EachOnce.{each_once_old, each_once_new, seen_more, seen_same}
-use Rattle.table.proofs.answering.each_once.Goals as goal
-use Rattle.table.proofs.answering.each_once.Goals.{then-branch+in_ok-clone-2+in_ok-push, else-branch}
+use Rattle.table.proofs.answering.each_of_many.Goals as goal
+use Rattle.table.proofs.answering.each_of_many.Goals.{then-branch+in_ok-clone-2+in_ok-push, else-branch}
 
 pub loop-key-preserved : goal.loop-key-preserved
 loop-key-preserved c =

@@ -5,7 +5,7 @@ use Rattle.std.specs.Ordering.{nat_cmp}
 use Rattle.std.specs.Cmp.Lexicographic.{slice_cmp}
 use Rattle.std.specs.BTreeSet.{contains}
 use Rattle.table.specs.Meaning.{each_once}
-use Rattle.table.proofs.answering.each_once.Given as goal
+use Rattle.table.proofs.answering.each_of_many.Given as goal
 
 -- the keys that were taken are those that were seen
 abbrev pub invariant-loop-key : goal.invariant-loop-key
