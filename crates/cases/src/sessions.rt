@@ -71,11 +71,11 @@ fn add_number(seen: &mut String, submitted: Result<u64, Fault>) -> Result<(), Fa
 /// Adds the keys that a message asks for, or its kind.
 fn add_body(seen: &mut String, body: &Body) -> Result<(), Fault> {
     match body {
-        Body::Read { read, .. } => add_keys(seen, read.keys.as_slice()),
+        Body::Read { read, .. } => add_keys(seen, read.get().keys.as_slice()),
         Body::ReadAt { time, read, .. } => {
             let time = time.get();
             write!(seen, "@{time}")?;
-            add_keys(seen, read.keys.as_slice())
+            add_keys(seen, read.get().keys.as_slice())
         }
         Body::Begin { .. } => Ok(seen.push_str(" begin")?),
         Body::Prepare { .. } => Ok(seen.push_str(" prepare")?),
