@@ -33,8 +33,9 @@ impl Gate for Open {
 /// Workers that go round the seats.
 pub struct Pool;
 
-/// How often a worker stays at a seat whose turn handled an envelope, before it goes on: what a seat looks at stays near then.
-const STAYS: usize = 16;
+/// How many turns of a seat a worker takes one after the other at most, while each handles an envelope: what a seat looks at stays
+/// near then, and its lock is taken once.
+const STAYS: u64 = 16;
 
 /// How many seats one after the other a worker passes by while others are at them, before it waits for the next one's lock.
 const PASSES: usize = 4;
@@ -43,8 +44,6 @@ const PASSES: usize = 4;
 #[derive(Drop)]
 struct Stand {
     place: usize,
-    // How often it stayed at this seat.
-    stayed: usize,
     // How many idle turns it took one after the other, of seats that had nothing of their own left to do.
     resting: usize,
 }
@@ -54,11 +53,7 @@ impl Stand {
     fn at(place: usize) -> Stand
         ensures { (result.place ≡ place) × (result.resting ≡ 0) }
     {
-        Stand {
-            place,
-            stayed: 0,
-            resting: 0,
-        }
+        Stand { place, resting: 0 }
     }
 
     /// Goes on to the next seat.
@@ -66,7 +61,6 @@ impl Stand {
         requires { self.old.place < seats }
         ensures { (self.new.place < seats) × (self.new.resting ≡ self.old.resting) }
     {
-        self.stayed = 0;
         self.place = if self.place + 1 < seats {
             self.place + 1
         } else {
@@ -83,23 +77,28 @@ impl Stand {
         self.step(seats);
     }
 
-    /// After a turn of its seat, of which it is told whether nothing of its own was left to do: it stays where an envelope was
-    /// handled, some times, and else goes on to the next seat.
-    fn go_on(&mut self, turn: Turn, done: bool, seats: usize)
+    /// Goes on from a seat after its turns there.
+    fn go_on(&mut self, visit: &Visit, seats: usize)
         requires { (self.old.place < seats) × (self.old.resting < seats) }
         ensures { (self.new.place < seats) × (self.new.resting ≤ seats) }
     {
-        self.resting = if turn == Turn::Idle && done {
-            self.resting + 1
-        } else {
-            0
+        self.resting = match (visit.rested, visit.turns) {
+            (false, _) => 0,
+            (true, 1) => self.resting + 1,
+            (true, _) => 1,
         };
-        if turn == Turn::Handled && self.stayed < STAYS {
-            self.stayed += 1;
-        } else {
-            self.step(seats);
-        }
+        self.step(seats);
     }
+}
+
+/// What a worker did at a seat.
+#[derive(Drop)]
+struct Visit {
+    turns: u64,
+    // Whether the last turn was idle, and nothing of its own was left to do for the seat.
+    rested: bool,
+    // Why the last turn was refused.
+    fault: Option<Fault>,
 }
 
 /// The seat at which a worker stands, locked: it passes by those at which others are, some of them, and then waits.
@@ -120,17 +119,44 @@ fn locked<'s, M: Machine, R: Wait>(
     seats[stand.place].lock(rt)
 }
 
-/// Takes a turn of a seat that is locked. The answer is the turn's, and whether nothing of its own was left to do.
-fn one_turn<M: Machine, G: Gate>(
-    mut seat: MutexGuard<'_, Seat<M>>,
-    gate: &G,
-) -> (Result<Turn, Fault>, bool) {
+/// Takes a turn of a seat that is locked.
+fn one_turn<M: Machine, G: Gate>(seat: &mut Seat<M>, gate: &G) -> Result<Turn, Fault> {
     gate.before(seat.node());
     let turn = seat.turn();
     let did = !matches!(turn, Ok(Turn::Idle));
-    let done = seat.is_done();
     gate.after(seat.node(), did);
-    (turn, done)
+    turn
+}
+
+/// Takes turns of a seat that is locked: one, and the next while each handled an envelope, so many at most.
+fn stay<M: Machine, G: Gate>(mut seat: MutexGuard<'_, Seat<M>>, gate: &G, most: u64) -> Visit
+    requires { 0 < most }
+    ensures { (0 < result.turns) × (result.turns ≤ most) }
+{
+    for before in 0..most {
+        match one_turn(&mut seat, gate) {
+            Ok(Turn::Handled) => {}
+            Ok(turn) => {
+                return Visit {
+                    turns: before + 1,
+                    rested: turn == Turn::Idle && seat.is_done(),
+                    fault: None,
+                };
+            }
+            Err(fault) => {
+                return Visit {
+                    turns: before + 1,
+                    rested: false,
+                    fault: Some(fault),
+                };
+            }
+        }
+    }
+    Visit {
+        turns: most,
+        rested: false,
+        fault: None,
+    }
 }
 
 /// Goes round the seats, from the one that is the worker's. Without a seat there is nothing to do.
@@ -152,17 +178,16 @@ fn go_round<M: Machine, G: Gate, R: Wait>(
     let mut stand = Stand::at(worker % seats.len());
     let mut taken = 0;
     while taken < turns {
-        let (turn, done) = one_turn(locked(rt, seats, &mut stand), gate);
-        taken += 1;
-        match turn {
-            Err(fault) => {
-                return Shift {
-                    turns: taken,
-                    end: End::Fault(fault),
-                };
-            }
-            Ok(turn) => stand.go_on(turn, done, seats.len()),
+        let seat = locked(rt, seats, &mut stand);
+        let visit = stay(seat, gate, STAYS.min(turns - taken));
+        taken += visit.turns;
+        if let Some(fault) = visit.fault {
+            return Shift {
+                turns: taken,
+                end: End::Fault(fault),
+            };
         }
+        stand.go_on(&visit, seats.len());
         if stand.resting >= seats.len() {
             return Shift {
                 turns: taken,
@@ -178,11 +203,11 @@ fn go_round<M: Machine, G: Gate, R: Wait>(
 
 impl Pool {
     /// Runs the seats by so many workers, each for at most so many turns. A worker goes round the seats, worker w from the
-    /// seat `w mod seats` on: it locks one and takes a turn of it, and the same again, at most 16 times, after each turn that
-    /// handled an envelope. A seat at which another worker is it passes by; after four of them one after the other it waits for
-    /// the next one's lock. It stops after its turns, after a turn that was refused, or after a round in which it came by all
-    /// seats, and all were idle, all machines free and all backlogs empty. 1 to 16 workers and at least one seat are the
-    /// caller's condition. Refused with `Memory` alone.
+    /// seat `w mod seats` on: it locks one and takes a turn of it, and the next while each handled an envelope, 16 at most. A seat
+    /// at which another worker is it passes by; after four of them one after the other it waits for the next one's lock. It
+    /// stops after its turns, after a turn that was refused, or after a round in which it came by all seats, and all were idle,
+    /// all machines free and all backlogs empty. 1 to 16 workers and at least one seat are the caller's condition. Refused with
+    /// `Memory` alone.
     pub fn run<M: Machine + Send, G: Gate, R: Threads + Wait + Sync>(
         rt: &R,
         alloc: Global,
