@@ -1,7 +1,7 @@
 use Rattle.std.proofs.Common.{◌≡◌, ◌<◌, get_or, length, refl, rules, arith}
+use Rattle.std.proofs.lemmas.Grind.{common_steps}
 use Rattle.actors.specs.Opening.{new_seat}
 use Rattle.actors.proofs.Built.{first_of, others_of, its_rings, is_new, none_built, one_more_seat}
-use Rattle.std.proofs.lemmas.Grind.{common_steps}
 use Rattle.actors.proofs.building.seat_all.Goals as goal
 
 pub new-requires-in-loop-node-clause-rings : goal.new-requires-in-loop-node-clause-rings
@@ -36,3 +36,6 @@ loop-node-init g c = record { rest = refl; room = search rules; seats = none_bui
 
 pub loop-node-smaller : goal.loop-node-smaller
 loop-node-smaller g c = grind (arith, common_steps)
+
+pub remove-requires : goal.remove-requires
+remove-requires c = grind (arith, common_steps)

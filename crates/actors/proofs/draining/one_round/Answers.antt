@@ -1,4 +1,5 @@
-use Rattle.std.proofs.Common.{◌≡◌, ◌<◌, ◌≤◌, get_or, length, sym, subst, rules}
+use Rattle.std.proofs.Common.{arith, ◌≡◌, ◌<◌, ◌≤◌, get_or, length, sym, subst, rules}
+use Rattle.std.proofs.lemmas.Grind.{common_steps}
 use Rattle.std.proofs.lemmas.Result.{err_from_is_err_and}
 use Rattle.actors.specs.Seats.{SeatValue}
 use Rattle.actors.specs.Turns.{HasSame, IsTurn, HasLooked}
@@ -65,3 +66,12 @@ returns-clause-round g c =
     let inv = c.loop-place.invariant in
     let past : length c.loop-place.seats ≤ c.loop-place.place = search rules in
     round_done c.loop-place.round c.args.seats.now c.loop-place.seats c.loop-place.place inv.later past inv.so_far
+
+pub loop-place-init : goal.loop-place-init
+loop-place-init c = grind (arith, common_steps)
+
+pub returns-in_err-turn-clause-taken : goal.returns-in_err-turn-clause-taken
+returns-in_err-turn-clause-taken c = grind (arith, common_steps)
+
+pub returns-in_err-turn-clause-round : goal.returns-in_err-turn-clause-round
+returns-in_err-turn-clause-round c = grind (arith, common_steps)

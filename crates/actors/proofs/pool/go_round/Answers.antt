@@ -7,3 +7,9 @@ loop-taken-preserved c = grind (arith, common_steps)
 
 pub loop-taken-smaller : goal.loop-taken-smaller
 loop-taken-smaller c = grind (arith, common_steps)
+
+pub nonzero_rem-worker : goal.nonzero_rem-worker
+nonzero_rem-worker c = grind (arith, common_steps)
+
+pub loop-taken-init : goal.loop-taken-init
+loop-taken-init c = grind (arith, common_steps)

@@ -1,4 +1,5 @@
 use Rattle.std.proofs.Common.{◌≡◌, ◌∙◌, ◌++◌, ap, sym, subst, ℕ, List, map, arith}
+use Rattle.std.proofs.lemmas.Grind.{common_steps}
 use Rattle.logical_time.specs.Stamps.{StampValue}
 use Rattle.txn_state.specs.Prepared.{PreparedValue}
 use Rattle.messages.specs.declared.envelope.Envelope.{Envelope}
@@ -7,7 +8,6 @@ use Rattle.messages.specs.Posting.{commit_to}
 use Rattle.shard.specs.declared.kept.Kept.{Kept}
 use Rattle.shard.specs.Deciding.{node_at, IsSettled}
 use Rattle.shard.proofs.Begins.{decides_begun}
-use Rattle.std.proofs.lemmas.Grind.{common_steps}
 use Rattle.shard.proofs.begun.decide_now.Goals as goal
 
 pub returns-clause-step : goal.returns-clause-step
@@ -46,3 +46,6 @@ returns-in-Err-clause-step c = grind (arith, common_steps)
 
 pub returns-in-Err-clause-unsent : goal.returns-in-Err-clause-unsent
 returns-in-Err-clause-unsent c = grind (arith, common_steps)
+
+pub settle-requires-clause-decided : goal.settle-requires-clause-decided
+settle-requires-clause-decided c = grind (arith, common_steps)

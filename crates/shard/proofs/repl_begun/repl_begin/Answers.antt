@@ -1,14 +1,15 @@
-use Rattle.std.proofs.Common.{rules, ap, sym, subst}
+use Rattle.std.proofs.Common.{arith, rules, ap, sym, subst}
+use Rattle.std.proofs.lemmas.Grind.{common_steps}
 use Rattle.std.specs.Prelude.{is_some}
 use Rattle.logical_time.specs.Stamps.{TxnValue}
 use Rattle.store.specs.Keeps.{AreApart}
 use Rattle.messages.specs.Shard.{KeptBallot}
-use Rattle.messages.specs.Replication as machine
 use Rattle.write_txn.specs.Ledger.{state_of}
 use Rattle.write_txn.specs.Voters.{voters_of}
 use Rattle.shard.specs.Kept.{IsStep}
 use Rattle.shard.specs.ReplBegun.{ballot_begun, IsBegun}
 use Rattle.shard.proofs.QuietSteps.{contrary, ballot_before}
+use Rattle.messages.specs.Replication as machine
 use Rattle.shard.proofs.repl_begun.repl_begin.Goals as goal
 
 pub returns-in-Ok-clause-step : goal.returns-in-Ok-clause-step
@@ -25,3 +26,6 @@ returns-in_err-remote-clause-quiet c = λ top me a r e.
 pub returns-in-Err-clause-quiet : goal.returns-in-Err-clause-quiet
 returns-in-Err-clause-quiet c = λ top me a r e.
     contrary (is_some (state_of c.args.kept.now.transactions.ledger c.args.begun.txn)) (ballot_before top me c.args.clock c.args.kept.now a (ballot_begun c.args.begun) r e) (search rules)
+
+pub returns-then-knows-clause-step : goal.returns-then-knows-clause-step
+returns-then-knows-clause-step c = grind (arith, common_steps)

@@ -19,3 +19,6 @@ returns-in_default-clause-ok c = grind (arith, common_steps)
 
 pub returns-in_default-clause-waits : goal.returns-in_default-clause-waits
 returns-in_default-clause-waits c = grind (arith, common_steps)
+
+pub returns-in-Some-Remote-clause-ok : goal.returns-in-Some-Remote-clause-ok
+returns-in-Some-Remote-clause-ok c = grind (arith, common_steps)

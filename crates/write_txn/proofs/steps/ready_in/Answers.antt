@@ -1,3 +1,4 @@
+use Rattle.std.proofs.lemmas.Grind.{elements}
 use Rattle.std.proofs.Common.{arith}
 use Rattle.txn_state.specs.Ballot.{CompleteValue}
 use Rattle.write_txn.specs.Ledger.{state_ready, readied_by}
@@ -28,3 +29,6 @@ pub returns-in-Some-clause-own : goal.returns-in-Some-clause-own
 returns-in-Some-clause-own c =
     answer_own c.args.statuses.now c.args.under_way.now.items c.args.txn c.in-Some.place c.swap_remove-held.result c.requires c.in-Some.ensures c.swap_remove-held.ensures.value
     (readied_by c.args.time) (λ (x : CompleteValue). x.own.part.writer.txn) (ready_own c.args.time) c.readied-next.result.1 c.readied-next.ensures.complete
+
+pub swap_remove-held-requires : goal.swap_remove-held-requires
+swap_remove-held-requires c = grind (arith, elements)

@@ -1,11 +1,11 @@
 use Rattle.std.proofs.Common.{◌≡◌, ◌∙◌, ◌++◌, ◌∷◌, ℕ, ◌<◌, ◌^◌, Some, List, [], ap, sym, subst, rules, arith}
 use Rattle.std.specs.Prelude.{min, slice_get, option_to_list}
+use Rattle.std.proofs.lemmas.Grind.{common_steps}
 use Rattle.messages.specs.declared.envelope.Envelope.{Envelope}
 use Rattle.messages.specs.declared.event.Event.{Event}
 use Rattle.actors.specs.Journals.{followed_by}
 use Rattle.actors.specs.Shown.{clock_with}
 use Rattle.actors.proofs.Recording.{recorded_more, followed_twice, all_in_first}
-use Rattle.std.proofs.lemmas.Grind.{common_steps}
 use Rattle.actors.proofs.recorded.Recorded.happen.Goals as goal
 
 pub returns-clause-recorded : goal.returns-clause-recorded
@@ -77,3 +77,6 @@ returns-then-len-self-clause-refused g c = grind (arith, common_steps)
 
 pub returns-then-len-self-clause-room : goal.returns-then-len-self-clause-room
 returns-then-len-self-clause-room g c = grind (arith, common_steps)
+
+pub keep-requires : goal.keep-requires
+keep-requires c = grind (arith, common_steps)

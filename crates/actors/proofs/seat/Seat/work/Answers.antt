@@ -1,6 +1,7 @@
 use Rattle.std.proofs.Common.{◌≡◌, ◌∙◌, ◌<◌, ◌∷◌, ◌++◌, ℕ, List, [], true, refl, ap, sym, subst, rules, arith}
-use Rattle.logical_time.specs.declared.fault.Fault.{Fault}
 use Rattle.std.specs.Prelude.{All}
+use Rattle.std.proofs.lemmas.Grind.{common_steps}
+use Rattle.logical_time.specs.declared.fault.Fault.{Fault}
 use Rattle.logical_time.specs.Fault.{number_of}
 use Rattle.messages.specs.declared.event.Event.{Event}
 use Rattle.actors.specs.Journals.{IsOwn}
@@ -9,7 +10,6 @@ use Rattle.actors.proofs.Refusing.{refusal_of, kept_back, taken_off}
 use Rattle.actors.specs.Seats.{SeatValue, through}
 use Rattle.actors.proofs.Seating.{kept_own, kept_same, own_first, own_rest}
 use Rattle.actors.proofs.Working.{worked}
-use Rattle.std.proofs.lemmas.Grind.{common_steps}
 use Rattle.actors.proofs.seat.Seat.work.Goals as goal
 
 pub invariant_of-self : goal.invariant_of-self
@@ -126,3 +126,6 @@ returns-in-Ok-reserve-clause-full g c = grind (arith, common_steps)
 
 pub returns-in-Ok-reserve-clause-refused : goal.returns-in-Ok-reserve-clause-refused
 returns-in-Ok-reserve-clause-refused g c = grind (arith, common_steps)
+
+pub push_front_reserved-requires-in-Err-reserve : goal.push_front_reserved-requires-in-Err-reserve
+push_front_reserved-requires-in-Err-reserve c = grind (arith, common_steps)
