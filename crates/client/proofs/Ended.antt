@@ -1,5 +1,5 @@
 -- A first round that ends with a second one had its last answer added.
-use Rattle.std.proofs.Common.{◌≡◌, ◌∙◌, ℕ, ◌<◌, Bool, true, false, ap, refl, sym, subst, List, [], ◌∷◌, ◌++◌, length, arith}
+use Rattle.std.proofs.Common.{◌≡◌, ◌∙◌, ℕ, Bool, true, false, ap, List, [], ◌∷◌, ◌++◌}
 use Rattle.messages.specs.declared.rows_now.RowNow.{RowNow}
 use Rattle.messages.specs.Session.{HeardNow}
 use Rattle.messages.specs.Rounds as rounds
@@ -49,14 +49,6 @@ pub ended_heard : (f : First) (from : ℕ) (rows : List RowNow) (s : Second) →
     → s.first ≡ f.heard ++ record { from = from; rows = rows } ∷ []
 ended_heard f from rows s e = (ended f from rows s e).first
 
-some_last : (xs : List HeardNow) (x : HeardNow) → 0 < length (xs ++ x ∷ [])
-some_last [] x = omega arith
-some_last (y ∷ xs) x = omega arith
-
-pub ended_some : (f : First) (from : ℕ) (rows : List RowNow) (s : Second) → in_first.Second s ≡ taken.first_taken f from rows → 0 < length s.first
-ended_some f from rows s e =
-    subst (λ (xs : List HeardNow). 0 < length xs) (sym (ended_heard f from rows s e)) (some_last f.heard (record { from = from; rows = rows }))
-
 abbrev pub back_at : Second → ℕ → List HeardNow → First
 back_at s floor heard = record { read = s.read; floor = floor; asked = s.asked; heard = heard }
 
@@ -65,11 +57,3 @@ pub ended_back : (f : First) (from : ℕ) (rows : List RowNow) (s : Second) → 
 ended_back f from rows s e =
     let h = ended f from rows s e in
     ap (λ r. record f { read = r; asked = s.asked }) h.read ∙ ap (λ nodes. record f { asked = nodes }) h.asked
-
-missing_if : (b : Bool) (f : First) (from : ℕ) (rows : List RowNow) (s : Second) → in_first.Second s ≡ taken.first_taken_if b f from rows → b ≡ true
-missing_if true f from rows s e = refl
-missing_if false f from rows s e = absurd (cc)
-
-pub ended_missing : (f : First) (from : ℕ) (rows : List RowNow) (s : Second) → in_first.Second s ≡ taken.first_taken f from rows
-    → rounds.is_missing f.asked f.heard from ≡ true
-ended_missing f from rows s e = missing_if (rounds.is_missing f.asked f.heard from) f from rows s e

@@ -1,10 +1,9 @@
 -- An accepted operation is the machine's step at a submission, and a refused one is refused as by the machine.
 use Rattle.std.proofs.Common.{◌≡◌, ◌∙◌, ℕ, ◌+◌, ◌^◌, ◌<◌, max, Bool, true, false, ap, refl, sym, subst, List, [], ◌++◌, Option, Some, None, append-nil, arith}
-use Rattle.std.specs.Prelude.{nat_lt, if◌then◌else◌, Result, Ok, Err, ◌≤◌, IsOk, IfErr, OnOk}
+use Rattle.std.specs.Prelude.{nat_lt, if◌then◌else◌, Result, Ok, Err, ◌≤◌, IsOk, IfErr}
 use Rattle.std.proofs.lemmas.Bool.Decides.{nat_tests}
 use Rattle.std.proofs.lemmas.Bool.{false≢true}
 use Rattle.logical_time.specs.declared.fault.Fault.{Fault}
-use Rattle.logical_time.specs.declared.fault.Fault.TheVariants.{ClockSpent}
 use Rattle.messages.specs.declared.envelope.Envelope.{Envelope}
 use Rattle.messages.specs.declared.op.Op.{Op}
 use Rattle.messages.specs.declared.op.Op.TheVariants as op
@@ -128,13 +127,6 @@ would_accept k o allowed lt =
     (sym (ap (λ f. submit_if f (topology_of k) k.node (state_of k) o) allowed ∙ ap (λ t. on_clock t (λ n. begun (topology_of k) k.node n (state_of k) o)) (ticked_some k.clock k.clock (max k.clock k.clock + 1) refl lt)))
     refl
 
-pub would_refuse : (k : Kept) (o : Op) (e : Fault) → fault_of k o ≡ Some e → session_submit (topology_of k) k.node (state_of k) o ≡ Err e
-would_refuse k o e refused = ap (λ f. submit_if f (topology_of k) k.node (state_of k) o) refused
-
-pub would_be_spent : (k : Kept) (o : Op) → fault_of k o ≡ None → 2 ^ 48 ≤ max k.clock k.clock + 1 → session_submit (topology_of k) k.node (state_of k) o ≡ Err ClockSpent
-would_be_spent k o allowed le =
-    ap (λ f. submit_if f (topology_of k) k.node (state_of k) o) allowed ∙ ap (λ t. on_clock t (λ n. begun (topology_of k) k.node n (state_of k) o)) (spent_none k.clock le)
-
 -- the machine's step at a submission, whatever of the topology isn't kept
 ends_alike : (f : Option Fault) (t : Option ℕ) (x y : ℕ → SessionStep) (P Q : Option Fault → Result SessionStep Fault) → ((g : Fault) → P (Some g) ≡ Err g)
     → ((g : Fault) → Q (Some g) ≡ Err g) → P None ≡ on_clock t x → Q None ≡ on_clock t y → (IsOk (P f) → IsOk (Q f)) × ((e : Fault) → P f ≡ Err e → Q f ≡ Err e)
@@ -160,11 +152,6 @@ stands_alike k o top a r =
     Alike s =
         (IsOk (session_submit (topology_of k) k.node (state_of k) o) → IsOk s)
         × ((e : Fault) → session_submit (topology_of k) k.node (state_of k) o ≡ Err e → s ≡ Err e)
-
-pub allowed_so : {X : Type 0} (r : Result X Fault) (k : Kept) (o : Op) → OnOk r (IsOk (session_submit (topology_of k) k.node (state_of k) o))
-    → (top : TopologyValue) (a : SessionState) → Represents k top a → OnOk r (IsOk (session_submit top k.node a o))
-allowed_so (Ok x) k o h top a is = (stands_alike k o top a is).0 h
-allowed_so (Err e) k o h top a is = tt
 
 pub refused_so : {X : Type 0} (r : Result X Fault) (k : Kept) (o : Op) → IfErr r (λ e. session_submit (topology_of k) k.node (state_of k) o ≡ Err e)
     → (top : TopologyValue) (a : SessionState) → Represents k top a → IfErr r (λ e. session_submit top k.node a o ≡ Err e)

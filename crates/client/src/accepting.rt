@@ -34,7 +34,6 @@ fn check(kept: &Kept, op: &Op) -> Result<(), Fault>
 }
 
 /// Whether the operation would be accepted now, with enough memory: refused as `submit` is otherwise.
-#[tactic(auto, using(crate::proofs::Submitted::would_accept, crate::proofs::Submitted::would_refuse, crate::proofs::Submitted::would_be_spent))]
 pub(crate) fn would_accept(kept: &Kept, op: &Op) -> Result<(), Fault>
     ensures allowed { OnOk result (IsOk (session_submit (topology_of kept.now) kept.now.node (state_of kept.now) op.now)) }
     ensures refused { IfErr result (λ e. session_submit (topology_of kept.now) kept.now.node (state_of kept.now) op.now ≡ Err e) }
@@ -93,7 +92,6 @@ fn coordinator_of(plan: &BatchPlan) -> Shard
 }
 
 /// Submits a batch that is allowed.
-#[tactic(auto, using(crate::proofs::Planned::posted_batch))]
 fn submit_batch(kept: &mut Kept, batch: &Batch, outbox: &mut Outbox) -> Result<u64, Fault>
     requires counted { kept.old.count ≤ kept.old.clock }
     requires allowed { fault_of kept.old (op.Batch batch.now) ≡ None }
@@ -128,7 +126,6 @@ fn submit_batch(kept: &mut Kept, batch: &Batch, outbox: &mut Outbox) -> Result<u
 }
 
 /// What a read asks: the shards, and the envelopes to them.
-#[tactic(auto, using(crate::proofs::Planned::posted_read, crate::proofs::Planned::asked_read))]
 fn asks(kept: &Kept, clock: Clock, read: &Read) -> Result<(Vec<Node>, Vec<Envelope>), Fault>
     requires counted { kept.now.count < 2 ^ 48 }
     requires allowed { fault_of kept.now (op.Read read.now) ≡ None }

@@ -96,7 +96,6 @@ fn open_second(
 }
 
 /// PartNow in a first round, which was taken out: it is heard if it is of the open read.
-#[tactic(auto, using(crate::proofs::Ended::ended_heard, crate::proofs::Ended::ended_some, crate::proofs::Ended::ended_back, crate::proofs::Ended::ended_missing))]
 fn first(
     kept: &mut Kept,
     clock: Clock,

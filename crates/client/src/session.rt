@@ -83,7 +83,6 @@ impl Session {
     /// of the read before it, however many came before. Refused with `Busy` while another operation is open, then as
     /// `plan_batch` and `plan_read` refuse it, then with `ClockSpent`, and with `Memory`; then nothing changes, and the
     /// operation is handed back.
-    #[tactic(auto, using(crate::proofs::Submitted::submitted, crate::proofs::Submitted::submit_refused))]
     pub fn submit(&mut self, op: Op, outbox: &mut Outbox) -> Result<u64, (Fault, Op)>
         ensures number { IfOk result (λ n. n ≡ self.old.count + 1) }
         ensures step { (top : TopologyValue) (a : SessionState) → Represents self.old top a
@@ -103,7 +102,6 @@ impl Session {
 
     /// Whether the operation would be accepted now, with enough memory: refused as `submit` is otherwise, and never with
     /// `Memory`. In the order of m log m for m mutations or keys.
-    #[tactic(auto, using(crate::proofs::Submitted::allowed_so, crate::proofs::Submitted::refused_so))]
     pub fn check(&self, op: &Op) -> Result<(), Fault>
         ensures allowed { (top : TopologyValue) (a : SessionState) → Represents self.now top a
             → OnOk result (IsOk (session_submit top self.now.node a op.now)) }
@@ -124,7 +122,6 @@ impl Session {
     /// alone. A session that completes a write or a read keeps its outcome. In the order of m log m for m rows, with the
     /// last answer of a round. Refused with `ClockSpent` where the clock would leave its range, and with `Memory`, but not
     /// what is ignored; then nothing changes, and the envelope is handed back.
-    #[tactic(auto, using(crate::proofs::HeardNow::handled, crate::proofs::HeardNow::handle_refused, crate::proofs::RightAnswers::answers_right, crate::proofs::SameNode::node_stays))]
     pub fn handle(&mut self, envelope: Envelope, outbox: &mut Outbox) -> Result<(), Refused>
         ensures step { (top : TopologyValue) (a : SessionState) → Represents self.old top a
             → OnOk result (IsStepOf (session_handle top self.old.node a envelope) top self.new outbox.old.sent outbox.new.sent) }

@@ -1,11 +1,11 @@
 use Rattle.std.proofs.Common.{rules, ◌≡◌, ◌∙◌, ℕ, ap, subst, arith}
 use Rattle.std.specs.Prelude.{OnErr}
 use Rattle.std.proofs.lemmas.Grind.{common_steps}
-use Rattle.read_txn.specs.declared.first_round.FirstTaken.TheVariants as in_first
 use Rattle.read_txn.specs.States.{First as FirstState}
 use Rattle.read_txn.specs.Taken.{first_taken}
-use Rattle.client.specs.declared.current.Current.TheVariants as current
 use Rattle.client.proofs.Ended.{back_at, ended_back, ended_heard}
+use Rattle.read_txn.specs.declared.first_round.FirstTaken.TheVariants as in_first
+use Rattle.client.specs.declared.current.Current.TheVariants as current
 use Rattle.client.proofs.first_answers.first.Goals as goal
 
 pub returns-in-Err-clause-same : goal.returns-in-Err-clause-same
@@ -74,3 +74,6 @@ returns-in-Ok-Second-clause-unasked c = grind (arith, common_steps)
 
 pub returns-in-Ok-Second-clause-unsent : goal.returns-in-Ok-Second-clause-unsent
 returns-in-Ok-Second-clause-unsent c = grind (arith, common_steps)
+
+pub open_second-requires-clause-heard : goal.open_second-requires-clause-heard
+open_second-requires-clause-heard c = grind (arith, common_steps)

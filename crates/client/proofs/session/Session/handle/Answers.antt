@@ -1,5 +1,8 @@
 use Rattle.std.proofs.Common.{arith, ◌≡◌, false, sym, subst, rules}
 use Rattle.std.proofs.lemmas.Grind.{common_steps}
+use Rattle.client.proofs.HeardNow.{handled, handle_refused}
+use Rattle.client.proofs.RightAnswers.{answers_right}
+use Rattle.client.proofs.SameNode.{node_stays}
 use Rattle.client.specs.declared.kept.Kept.{Kept}
 use Rattle.client.specs.Ignored.{heeds}
 use Rattle.client.proofs.Ignored.{ignored_rests}
@@ -15,3 +18,9 @@ returns-clause-ignored c = λ top a r ignored.
 
 pub returns-clause-refused : goal.returns-clause-refused
 returns-clause-refused c = grind (arith, common_steps)
+
+pub returns-clause-step : goal.returns-clause-step
+returns-clause-step c = grind (arith, handled, handle_refused, answers_right, node_stays)
+
+pub returns-clause-right : goal.returns-clause-right
+returns-clause-right c = grind (arith, handled, handle_refused, answers_right, node_stays)
