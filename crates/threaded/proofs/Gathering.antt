@@ -12,7 +12,6 @@ use Rattle.messages.specs.Topology.{TopologyValue, session_node}
 use Rattle.actors.specs.Seats.{SeatValue}
 use Rattle.world.specs.declared.completed.Completed.{Completed}
 use Rattle.world.specs.Threads.{op_in, op_numbered}
-use Rattle.world.proofs.AskedFor.{all_asked}
 use Rattle.world.proofs.Replacing.{item_at}
 use Rattle.threaded.specs.OneRun.{seat_of}
 use Rattle.threaded.specs.Submitted.{op_at, AreSubmittedAt}
@@ -142,10 +141,6 @@ pub one_more_entry : (f : (ℕ × Outcome) → Option Completed) (outcomes : Lis
 one_more_entry f outcomes k o old list now entry lt at is so_far more =
     more ∙ ap (λ l. l ++ option_to_list entry) so_far ∙ append_assoc old (filter_map f (take k outcomes)) (option_to_list entry)
     ∙ ap (λ l. old ++ l) (ap (λ z. filter_map f (take k outcomes) ++ option_to_list z) is ∙ sym (given_more f outcomes k o lt at))
-
-pub all_of_them : (f : (ℕ × Outcome) → Option Completed) (outcomes : List (ℕ × Outcome)) (k : ℕ) (old list : List Completed) → length outcomes ≤ k
-    → list ≡ old ++ filter_map f (take k outcomes) → list ≡ old ++ filter_map f outcomes
-all_of_them f outcomes k old list le is = is ∙ ap (λ l. old ++ filter_map f l) (all_asked outcomes k le)
 
 -- ## Sessions
 

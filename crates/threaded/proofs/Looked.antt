@@ -1,7 +1,6 @@
 -- Seats are looked through.
-use Rattle.std.proofs.Common.{◌≡◌, ◌∙◌, ℕ, zero, suc, ◌+◌, ◌<◌, ◌≤◌, Bool, true, false, ◌&&◌, cond, List, [], ◌∷◌, ◌++◌, length, Some, None, ◌⊎◌, inl, inr, refl, sym, ap, subst, arith, slice_get}
+use Rattle.std.proofs.Common.{◌≡◌, ◌∙◌, ℕ, zero, suc, ◌+◌, ◌<◌, Bool, true, false, ◌&&◌, cond, List, [], ◌∷◌, ◌++◌, length, Some, None, ◌⊎◌, inl, inr, refl, sym, ap, subst, arith, slice_get}
 use Rattle.std.specs.Prelude.{◌==◌, ◌↔◌, find, nat_lt, slice_index_or}
-use Rattle.std.specs.List.{list_all}
 use Rattle.std.proofs.lemmas.Bool.Decides.{nat_tests}
 use Rattle.std.proofs.lemmas.List.{length-append}
 use Rattle.std.proofs.lemmas.Option.{slice_get_within, slice_get-get_or}
@@ -10,7 +9,6 @@ use Rattle.logical_time.specs.declared.fault.Fault.TheVariants.{StrangerEnd}
 use Rattle.messages.specs.declared.event.Event.{Event}
 use Rattle.messages.specs.Topology.{TopologyValue, is_topology, node_count}
 use Rattle.actors.specs.Seats.{SeatValue}
-use Rattle.world.proofs.Beginning.{sound_topology}
 use Rattle.world.proofs.Replacing.{item_at}
 use Rattle.threaded.specs.OneRun.{seat_of, journal_at, journal_of, AreOfTopology, AreSeatsOf, DoLinksMatch, AreOfOneRun}
 use Rattle.threaded.specs.Matching.{IsKept, AreKept, AreAllTimed, IsPlace, ArePlaces, DoesReceive, DoReceive, AreFromActors, IsUnseated, IsUnconcluded}
@@ -45,24 +43,6 @@ below_or_last i k lt = by (nat_lt i k) refl
     by : (b : Bool) → nat_lt i k ≡ b → (i < k) ⊎ (i ≡ k)
     by true q = inl (grind (arith, nat_tests))
     by false q = inr (grind (arith, nat_tests))
-
-pub one_more_of : (top : TopologyValue) (seats : List SeatValue) (place : ℕ) (s : SeatValue) → place < length seats → s ≡ slice_index_or seats place s → s.topology ≡ top
-    → AreFirstOf top seats place → AreFirstOf top seats (place + 1)
-one_more_of top seats place s lt at is are i t below there = elim (below_or_last i place below) [
-  | inl less ↦ are i t less there
-  | inr last ↦
-      let here = item_at seats place s lt at in
-      let both : Some t ≡ Some s = sym there ∙ ap (slice_get seats) last ∙ here in
-      let same : t ≡ s = cc in
-      ap (λ (z : SeatValue). z.topology) same ∙ is
-]
-
-pub all_of : (top : TopologyValue) (seats : List SeatValue) → AreFirstOf top seats (length seats) → AreOfTopology top seats
-all_of top seats are k s at = are k s (slice_get_within seats k s at) at
-
-pub not_of : (top : TopologyValue) (seats : List SeatValue) (place : ℕ) (s : SeatValue) → place < length seats → s ≡ slice_index_or seats place s
-    → (s.topology ≡ top → ⊥) → AreOfTopology top seats → ⊥
-not_of top seats place s lt at apart are = apart (are place s (item_at seats place s lt at))
 
 -- ## Places
 
@@ -103,9 +83,6 @@ one_more_place seats node place places are is =
         | inr new ↦ subst (λ q. IsPlace seats n q) new.1 (subst (λ m. IsPlace seats m place) (sym (new.0 ∙ are.len)) is)
       ];
     }
-
-pub unseated : (seats : List SeatValue) (count node : ℕ) → node < count → seat_of seats node ≡ None → IsUnseated count seats StrangerEnd
-unseated seats count node lt none = inr (refl, (node, lt, none))
 
 -- ## Seats at their places
 
@@ -215,13 +192,6 @@ module _ (count : ℕ) (seats : List SeatValue) (places : List ℕ) (node from t
 pub some_shards : (top : TopologyValue) → is_topology top.dcs top.shards top.homes ≡ true → 0 < top.shards
 some_shards top sound = grind (arith, nat_tests)
 
-some_nodes : (top : TopologyValue) → is_topology top.dcs top.shards top.homes ≡ true → 0 < length top.homes
-some_nodes top sound = grind (arith, nat_tests)
-
-pub within_limits : (top : TopologyValue) → (1 ≤ top.dcs) × (top.dcs ≤ 4) → (1 ≤ top.shards) × (top.shards ≤ 8) → (1 ≤ length top.homes) × (length top.homes ≤ 16)
-    → list_all (λ d. nat_lt d top.dcs) top.homes ≡ true → is_topology top.dcs top.shards top.homes ≡ true
-within_limits top dcs shards homes all = sound_topology top.dcs top.shards top.homes dcs.0 dcs.1 shards.0 shards.1 homes.0 homes.1 all
-
 pub are_seats : (top : TopologyValue) (seats : List SeatValue) (places : List ℕ) → is_topology top.dcs top.shards top.homes ≡ true → length seats ≡ node_count top
     → AreOfTopology top seats → ArePlaces (node_count top) seats places → AreSeatsOf top seats
 are_seats top seats places sound count of are =
@@ -233,9 +203,6 @@ are_seats top seats places sound count of are =
     }
 
 -- ## What concludes nothing
-
-pub no_seats : (seats : List SeatValue) → seats ≡ [] → IsUnconcluded seats StrangerEnd
-no_seats seats none = inr (refl, λ one. let len : length seats ≡ 0 = ap (λ (l : List SeatValue). length l) none in let c = one.are.count in let h = some_nodes one.top one.are.sound in absurd (omega arith))
 
 module _ (seats : List SeatValue) (s : SeatValue) (lt : 0 < length seats) (at : s ≡ slice_index_or seats 0 s) where
   its_topology : (one : AreOfOneRun seats) → one.top ≡ s.topology

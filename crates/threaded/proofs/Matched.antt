@@ -70,14 +70,6 @@ one_more_none [] count none (suc from) n at = absurd cc
 one_more_none (m ∷ received) count none zero n at = none 0 n at
 one_more_none (m ∷ received) count none (suc from) n at = one_more_none received count (λ k j there. none (suc k) j there) from n at
 
-pub nothing_received : (count : ℕ) (seats : List SeatValue) (to : ℕ) (journal : List Event) (received : List ℕ) → length received ≡ count
-    → ((from n : ℕ) → slice_get received from ≡ Some n → n ≡ 0) → HaveReceived count seats to (take 0 journal) received
-nothing_received count seats to journal received len none =
-    record {
-      len = len;
-      each = λ from n at. let is : n ≡ 0 = none from n at in (ap (λ k. take k (sent_to seats from to)) (sym is), sym is);
-    }
-
 module _ (count : ℕ) (seats : List SeatValue) (to : ℕ) (journal : List Event) (place : ℕ) (received : List ℕ) (so_far : HaveReceived count seats to (take place journal) received) where
   -- no count is above the number of events
   pub within_place : (from n : ℕ) → slice_get received from ≡ Some n → n ≤ place

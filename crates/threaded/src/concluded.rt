@@ -83,7 +83,6 @@ impl Concluded {
 
     /// The operations that ended, by the nodes of their sessions, each session's in order: as each run with these journals has
     /// them, of which there is one.
-    #[tactic(auto, using(crate::proofs::Promised::one_table, crate::proofs::Promised::past, crate::proofs::Promised::fresh, crate::proofs::Promised::whole, crate::proofs::Promised::given_up, crate::proofs::Promised::entries, crate::proofs::Promised::outcomes, crate::proofs::Promised::once, crate::proofs::Promised::told, crate::proofs::Promised::times, crate::proofs::Promised::homes))]
     pub fn transcript(&self) -> &[Completed]
         ensures run { AreConcluded self.now.top self.now.seats }
         ensures listed { InEachRun self.now.top self.now.seats (λ w. result.now ≡ by_session self.now.top w.transcript) }
@@ -117,7 +116,6 @@ impl Concluded {
     /// coordinator there. Session by session, in the order of submission. That there is such a data centre is the caller's
     /// condition. In the order of m log n for m submitted batches and n transactions, beside the copies, which share the bytes of
     /// keys, names and values. Refused with `Memory` alone.
-    #[tactic(auto, using(crate::proofs::Promised::listed, crate::proofs::Promised::tells, crate::proofs::Promised::stamps, crate::proofs::Promised::causes, crate::proofs::Promised::pasts))]
     pub fn history(&self, alloc: Global, dc: u16) -> Result<History, Fault>
         requires { dc < self.now.top.dcs }
         ensures run { AreConcluded self.now.top self.now.seats }

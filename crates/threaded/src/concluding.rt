@@ -18,7 +18,6 @@ use std::alloc::Global;
 use world::Completed;
 
 /// How many actors a topology has, which is within its limits.
-#[tactic(auto, using(crate::proofs::Looked::within_limits))]
 fn count_of(topology: &Topology) -> u16
     ensures value { result ≡ node_count topology.now }
     ensures limits { is_topology topology.now.dcs topology.now.shards topology.now.homes ≡ true }
@@ -30,7 +29,6 @@ fn count_of(topology: &Topology) -> u16
 }
 
 /// Whether all seats are of this topology.
-#[tactic(auto, using(crate::proofs::Looked::one_more_of, crate::proofs::Looked::all_of))]
 fn are_of(topology: &Topology, seats: &[Seat<Actor>]) -> bool
     ensures { (result ≡ true) ↔ AreOfTopology topology.now seats.now }
 {
@@ -43,7 +41,6 @@ fn are_of(topology: &Topology, seats: &[Seat<Actor>]) -> bool
 }
 
 /// Where the seat of the actor with a node stands, if there is one.
-#[tactic(auto, using(crate::proofs::Looked::place_found, crate::proofs::Looked::one_more_elsewhere, crate::proofs::Looked::nowhere))]
 pub(crate) fn place_of(seats: &[Seat<Actor>], node: Node) -> Option<usize>
     ensures some { IfSome result (IsPlace seats.now node) }
     ensures none { IfNone result (seat_of seats.now node ≡ None) }
@@ -57,7 +54,6 @@ pub(crate) fn place_of(seats: &[Seat<Actor>], node: Node) -> Option<usize>
 }
 
 /// Where the seats of so many nodes stand. Refused with `StrangerEnd` where one has none, and with `Memory`.
-#[tactic(auto, using(crate::proofs::Looked::no_place, crate::proofs::Looked::one_more_place))]
 fn places_of(alloc: Global, seats: &[Seat<Actor>], count: u16) -> Result<Vec<usize>, Fault>
     ensures ok { IfOk result (λ places. ArePlaces count seats.now places.items) }
     ensures refused { IfErr result (IsUnseated count seats.now) }
@@ -115,7 +111,6 @@ fn topology_of(alloc: Global, seats: &[Seat<Actor>]) -> Result<Topology, Fault>
 }
 
 /// The topology of seats whose journals are a run, and the transcript of that by sessions. Refused as `topology_of` is.
-#[tactic(auto, using(crate::proofs::Whole::is_concluded))]
 fn tell(alloc: Global, seats: &[Seat<Actor>]) -> Result<(Topology, Vec<Completed>), Fault>
     ensures ok { IfOk result (λ told. IsConcluded told.0 seats.now told.1.items) }
     ensures refused { IfErr result (IsUnconcluded seats.now) }

@@ -32,7 +32,6 @@ pub(crate) fn submitted(event: &Event) -> Option<&Op>
 }
 
 /// The places in a journal where operations are submitted. Refused with `Memory` alone.
-#[tactic(auto, using(crate::proofs::Gathering::one_more_submission, crate::proofs::Gathering::no_more_submission))]
 fn submissions(alloc: Global, journal: &[Event]) -> Result<Vec<usize>, Fault>
     ensures ok { IfOk result (λ places. AreSubmittedAt journal.now places.items) }
     ensures memory { IfErr result (λ e. e ≡ Memory) }
@@ -47,7 +46,6 @@ fn submissions(alloc: Global, journal: &[Event]) -> Result<Vec<usize>, Fault>
 }
 
 /// The operation with a number, by the places in the journal where operations are submitted.
-#[tactic(auto, using(crate::proofs::Gathering::number_within, crate::proofs::Gathering::numbered, crate::proofs::Gathering::unnumbered))]
 fn op_numbered<'a>(journal: &'a [Event], places: &[usize], number: u64) -> Option<&'a Op>
     requires { AreSubmittedAt journal.now places.now }
     ensures { option_copied result ≡ threads.op_numbered journal.now number }
@@ -96,7 +94,6 @@ fn add(list: &mut Vec<Completed>, entry: Option<Completed>) -> Result<(), Fault>
 
 /// Adds the entries of a session at the end, in the order of its outcomes. Refused with `Memory` alone. The journal is gone
 /// through once.
-#[tactic(auto, using(crate::proofs::Gathering::all_of_them))]
 fn add_outcomes(
     alloc: Global,
     list: &mut Vec<Completed>,
@@ -139,7 +136,6 @@ fn add_session(
 
 /// The entries of all sessions, by their nodes, each session's in the order of its outcomes. Refused with `Memory` alone. Each
 /// session's journal is gone through once.
-#[tactic(auto, using(crate::proofs::Gathering::one_more_session))]
 pub(crate) fn entries(
     alloc: Global,
     seats: &[Seat<Actor>],

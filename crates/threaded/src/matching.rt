@@ -13,7 +13,6 @@ use messages::{Envelope, Event, Topology};
 use std::alloc::Global;
 
 /// Whether all that each seat sent carries the clocks of its events. Looks at each seat once.
-#[tactic(auto, using(crate::proofs::Looked::one_more_timed, crate::proofs::Looked::one_more_kept, crate::proofs::Looked::seat_at_place))]
 pub(crate) fn are_timed(seats: &[Seat<Actor>], places: &[usize]) -> bool
     requires { ArePlaces (length places.now) seats.now places.now }
     ensures timed { (result ≡ true) ↔ AreAllTimed (length places.now) seats.now }
@@ -29,7 +28,6 @@ pub(crate) fn are_timed(seats: &[Seat<Actor>], places: &[usize]) -> bool
 }
 
 /// No envelope was received from any of so many actors. Refused with `Memory` alone.
-#[tactic(auto, using(crate::proofs::Matched::one_more_none))]
 fn none_received(alloc: Global, count: usize) -> Result<Vec<usize>, Fault>
     ensures ok { IfOk result (λ received. (length received.items ≡ count) × ((from n : ℕ) → slice_get received.items from ≡ Some n → n ≡ 0)) }
     ensures memory { IfErr result (λ e. e ≡ Memory) }
@@ -42,7 +40,6 @@ fn none_received(alloc: Global, count: usize) -> Result<Vec<usize>, Fault>
 }
 
 /// Whether the envelope is the next one on its link to an actor, where so many were received on each. Then it's counted.
-#[tactic(auto, using(crate::proofs::Looked::seat_at_place))]
 fn counts(
     seats: &[Seat<Actor>],
     places: &[usize],
@@ -94,7 +91,6 @@ fn is_next(
 
 /// Whether on each link to an actor the receipts of its journal are a beginning of what the sender's seat sent there.
 /// Refused with `Memory` alone. Costs a look at the ways of the sender for each receipt.
-#[tactic(auto, using(crate::proofs::Matched::nothing_received, crate::proofs::Matched::all_received))]
 fn receives(
     alloc: Global,
     seats: &[Seat<Actor>],

@@ -1,4 +1,5 @@
-use Rattle.std.proofs.Common.{◌≡◌, ◌<◌, true, length, subst, rules}
+use Rattle.std.proofs.Common.{arith, ◌≡◌, ◌<◌, true, length, subst, rules}
+use Rattle.std.proofs.lemmas.Grind.{elements}
 use Rattle.std.proofs.lemmas.Result.{err_from_is_err_and}
 use Rattle.messages.specs.Topology.{node_count}
 use Rattle.threaded.specs.OneRun.{journal_of, AreOfTopology, DoLinksMatch}
@@ -32,3 +33,6 @@ returns-then-not-fit-clause-refused c =
     let lt : 0 < length c.args.seats.now = search rules in
     no_match c.args.seats.now c.index-seats-0.result lt c.index-seats-0.is
     (subst (λ t. DoLinksMatch t (journal_of c.args.seats.now) → ⊥) c.topology-topology.ensures (c.in_ok-fit.ensures.apart c.if-not-fit.true))
+
+pub returns-then-seats-from-clause-refused : goal.returns-then-seats-from-clause-refused
+returns-then-seats-from-clause-refused c = grind (arith, elements)

@@ -1,4 +1,5 @@
-use Rattle.std.proofs.Common.{◌∙◌, ◌<◌, length, ap, subst}
+use Rattle.std.proofs.Common.{arith, ◌∙◌, ◌<◌, length, ap, subst}
+use Rattle.std.proofs.lemmas.Grind.{common_steps}
 use Rattle.std.specs.Prelude.{slice_index_or}
 use Rattle.threaded.specs.Entries.{entry_by}
 use Rattle.threaded.proofs.Gathering.{one_more_entry}
@@ -14,3 +15,6 @@ loop-place-preserved c =
     (c.index-outcomes-place.is ∙ ap (λ l. slice_index_or l place o) c.outcomes-outcomes.ensures)
     (c.in_ok-told.ensures.ok ∙ ap (λ j. entry_by c.args.node c.args.home j o) c.journal-journal.ensures.value)
     c.loop-place.invariant c.in_ok-add.ensures.ok
+
+pub returns-clause-ok : goal.returns-clause-ok
+returns-clause-ok c = grind (arith, common_steps)

@@ -1,4 +1,5 @@
-use Rattle.std.proofs.Common.{◌∙◌}
+use Rattle.std.proofs.Common.{arith, ◌∙◌}
+use Rattle.std.proofs.lemmas.Grind.{elements}
 use Rattle.threaded.proofs.AskedFor.{are_asked, with_seat, without_seat}
 use Rattle.threaded.proofs.history.history.Goals.{in-Some+in_ok-add_session, in_default}
 use Rattle.threaded.proofs.history.history.Goals as goal
@@ -21,3 +22,9 @@ loop-session-preserved c =
           w.history-is
           ∙ without_seat top states seats c.args.dc n node c.loop-session.history c.session_node-node.ensures (c.loop-session.invariant states are replays) w.in_default.ensures.none
     ]
+
+pub offset_bounds-seats-place : goal.offset_bounds-seats-place
+offset_bounds-seats-place c = grind (arith, elements)
+
+pub bounds-seats-place : goal.bounds-seats-place
+bounds-seats-place c = grind (arith, elements)

@@ -1,5 +1,5 @@
-use Rattle.std.proofs.Common.{◌<◌, ◌&&◌, ap, length, rules}
-use Rattle.threaded.proofs.Looked.{seat_is, one_more_kept, one_more_timed}
+use Rattle.std.proofs.Common.{arith, ◌<◌, ◌&&◌, ap, length, rules}
+use Rattle.threaded.proofs.Looked.{seat_at_place, seat_is, one_more_kept, one_more_timed}
 use Rattle.threaded.proofs.matching.are_timed.Goals as goal
 
 pub loop-node-preserved : goal.loop-node-preserved
@@ -14,3 +14,9 @@ loop-node-preserved c =
           c.loop-node.invariant.0,
       one_more_kept seats node seat found c.journal-kept.ensures.keeps c.loop-node.invariant.1,
     )
+
+pub offset_bounds-seats-places : goal.offset_bounds-seats-places
+offset_bounds-seats-places c = grind (arith, seat_at_place)
+
+pub bounds-seats-places : goal.bounds-seats-places
+bounds-seats-places c = grind (arith, seat_at_place)

@@ -1,5 +1,6 @@
-use Rattle.std.proofs.Common.{◌≡◌, ◌∙◌, ◌+◌, ◌<◌, ◌^◌, ap, sym, length, None, Some, rules}
+use Rattle.std.proofs.Common.{arith, ◌≡◌, ◌∙◌, ◌+◌, ◌<◌, ◌^◌, ap, sym, length, None, Some, rules}
 use Rattle.std.specs.Option.{option_copied}
+use Rattle.threaded.proofs.Looked.{seat_at_place}
 use Rattle.threaded.proofs.Matched.{next_on, counted_on, not_on, small_count}
 use Rattle.threaded.proofs.matching.counts.Goals as goal
 
@@ -46,3 +47,9 @@ returns-in_default-2-clause-other c = λ no.
     not_on c.args.seats.now c.args.places.now c.args.to c.args.received.now.items c.args.envelope.now c.index-seats-places.result c.from-from.result c.index.result.now
     c.requires.places c.requires.sender is c.index-seats-places.is within c.index.ensures None (sym (ap option_copied c.in_default.is) ∙ c.sent_to.ensures)
     (λ sent is_it same. absurd cc)
+
+pub offset_bounds-seats-places : goal.offset_bounds-seats-places
+offset_bounds-seats-places c = grind (arith, seat_at_place)
+
+pub bounds-seats-places : goal.bounds-seats-places
+bounds-seats-places c = grind (arith, seat_at_place)

@@ -1,5 +1,6 @@
-use Rattle.std.proofs.Common.{◌≡◌, ◌<◌, ℕ, sym, subst, rules}
+use Rattle.std.proofs.Common.{arith, ◌≡◌, ◌<◌, ℕ, sym, subst, rules}
 use Rattle.std.specs.Prelude.{IfOk}
+use Rattle.threaded.proofs.Promised.{stamps, pasts, listed_ok, tells_ok, grows, causes}
 use Rattle.messages.specs.Shard.{ShardState}
 use Rattle.world.specs.Entries.{TellsDecided}
 use Rattle.world.specs.Histories.{IsHistory}
@@ -7,7 +8,6 @@ use Rattle.world.specs.Promises.{HistoriesGrow, StampsFollowCauses}
 use Rattle.threaded.specs.OneRun.{AreSeatsOf}
 use Rattle.threaded.specs.Asking.{AreReplays, asked_of}
 use Rattle.threaded.specs.Concluded.{InEachRun, InEachCut, ConcludedValue}
-use Rattle.threaded.proofs.Promised.{listed_ok, tells_ok, grows, causes}
 use Rattle.threaded.proofs.concluded.Concluded.history.Goals as goal
 
 pub returns-clause-listed : goal.returns-clause-listed
@@ -41,3 +41,9 @@ pub returns-clause-grows : goal.returns-clause-grows
 returns-clause-grows c =
     subst (λ (v : ConcludedValue). InEachCut v.top v.seats (HistoriesGrow v.top)) c.self.view_is
     (grows c.self.inside.topology c.self.inside.seats.items c.self.invariant.run)
+
+pub returns-clause-stamps : goal.returns-clause-stamps
+returns-clause-stamps c = grind (arith, stamps)
+
+pub returns-clause-pasts : goal.returns-clause-pasts
+returns-clause-pasts c = grind (arith, pasts)

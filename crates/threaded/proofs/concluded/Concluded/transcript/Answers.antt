@@ -1,8 +1,8 @@
-use Rattle.std.proofs.Common.{subst}
+use Rattle.std.proofs.Common.{arith, subst}
+use Rattle.threaded.proofs.Promised.{fresh, given_up, entries, outcomes, once, told, one_table, stays, past, whole, above, times, homes}
 use Rattle.world.specs.Fresh.{FirstRoundsAreWhole}
 use Rattle.world.specs.Promises.{AnswersStay, LaterCommitsAreAbove, ReadsShowOneTable, ReadsShowTheirPast, TimesNeverFall, SessionsStayAtHome}
 use Rattle.threaded.specs.Concluded.{InEachRun, InEachCut, ConcludedValue}
-use Rattle.threaded.proofs.Promised.{one_table, stays, past, whole, above, times, homes}
 use Rattle.threaded.proofs.concluded.Concluded.transcript.Goals as goal
 
 pub returns-clause-one_table : goal.returns-clause-one_table
@@ -39,3 +39,21 @@ pub returns-clause-above : goal.returns-clause-above
 returns-clause-above c =
     subst (λ (v : ConcludedValue). InEachCut v.top v.seats (LaterCommitsAreAbove v.top)) c.self.view_is
     (above c.self.inside.topology c.self.inside.seats.items c.self.invariant.run)
+
+pub returns-clause-fresh : goal.returns-clause-fresh
+returns-clause-fresh c = grind (arith, fresh)
+
+pub returns-clause-given_up : goal.returns-clause-given_up
+returns-clause-given_up c = grind (arith, given_up)
+
+pub returns-clause-entries : goal.returns-clause-entries
+returns-clause-entries c = grind (arith, entries)
+
+pub returns-clause-outcomes : goal.returns-clause-outcomes
+returns-clause-outcomes c = grind (arith, outcomes)
+
+pub returns-clause-once : goal.returns-clause-once
+returns-clause-once c = grind (arith, once)
+
+pub returns-clause-told : goal.returns-clause-told
+returns-clause-told c = grind (arith, told)
