@@ -17,7 +17,7 @@ use Rattle.threaded.specs.Machines.{StaysApart, has_none_open, as_finished}
 use Rattle.threaded.specs.OneRun.{seat_of, journal_of, AreSeatsOf, DoLinksMatch}
 use Rattle.threaded.specs.Matching.{AreKept, AreAllTimed, DoReceive}
 use Rattle.threaded.specs.Entries.{entries_of}
-use Rattle.threaded.specs.Concluded.{AreAsInRun, AreConcluded, IsConcluded}
+use Rattle.threaded.specs.Concluded.{AreAsInRun, AreConcluded, InEachRun, by_session}
 use Rattle.threaded.proofs.Looked.{some_shards}
 use Rattle.threaded.proofs.Told.{entries_are}
 use Rattle.threaded.proofs.Stages.{runs_stay_apart}
@@ -108,11 +108,7 @@ module _ (top : TopologyValue) (seats : List SeatValue) (are : AreSeatsOf top se
   pub unmatched_link : (all : Bool) → (all ≡ true) ↔ DoReceive (node_count top) seats → all ≡ false → DoLinksMatch top (journal_of seats) → ⊥
   unmatched_link all received off match = let on : all ≡ true = received.1 (compares top seats are kept match).1 in absurd (cc)
 
--- the transcript that seats tell is that of each run, by sessions
-pub is_concluded : (top : TopologyValue) (seats : List SeatValue) (transcript : List Completed) → AreConcluded top seats → transcript ≡ entries_of top seats
-    → IsConcluded top seats transcript
-is_concluded top seats transcript c told =
-    record {
-      run = c;
-      told = λ events is. told ∙ entries_are top seats c.are.sound events is c.are.each (c.alike events is).outcomes;
-    }
+-- the entries that seats tell are the transcript of each run, by sessions
+pub are_told : (top : TopologyValue) (seats : List SeatValue) (list : List Completed) → AreConcluded top seats → list ≡ entries_of top seats
+    → InEachRun top seats (λ w. list ≡ by_session top w.transcript)
+are_told top seats list c told events is = told ∙ entries_are top seats c.are.sound events is c.are.each (c.alike events is).outcomes

@@ -40,11 +40,6 @@ abbrev pub by_session : TopologyValue → List Completed → List Completed
 by_session top transcript =
     flat_map (λ i. filter (λ (c : Completed). c.node == session_node top i) transcript) (range_with_len 0 (length top.homes))
 
--- what is concluded: the seats, and the transcript of each run with their journals, by sessions
-pub record IsConcluded (top : TopologyValue) (seats : List SeatValue) (transcript : List Completed) : Type 0 where
-  pub run : AreConcluded top seats
-  pub told : InEachRun top seats (λ w. transcript ≡ by_session top w.transcript)
-
 -- seats that are one for each actor of a topology
 pub record ConcludedValue : Type 0 where
   pub top : TopologyValue

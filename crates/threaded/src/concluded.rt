@@ -7,17 +7,17 @@ ghost use Rattle.world.specs.Fresh.{FirstRoundsAreWhole};
 ghost use Rattle.world.specs.Promises.{EntriesAreOfSubmissions, OutcomesAreListed, ReadsShowOneTable, AnswersStay, LaterCommitsAreAbove, HistoriesGrow, ReadsShowTheirPast, ReadsAreFresh, StampsFollowCauses, TimesNeverFall, SessionsStayAtHome, OperationsEndOnce};
 ghost use Rattle.world.specs.Histories.{IsHistory};
 ghost use Rattle.threaded.specs.OneRun.{seat_of};
-ghost use Rattle.threaded.specs.Concluded.{InEachRun, InEachCut, AreConcluded, IsConcluded, by_session};
+ghost use Rattle.threaded.specs.Concluded.{InEachRun, InEachCut, AreConcluded, by_session};
 
 use crate::actor::Actor;
 use crate::concluding::place_of;
+use crate::entries::entries;
 use crate::history::history;
 use actors::Seat;
 use logical_time::{Fault, Node};
 use messages::Topology;
 use std::alloc::Global;
 use std::marker::Model;
-use std::mem;
 use table::History;
 use world::Completed;
 
@@ -26,34 +26,25 @@ use world::Completed;
 pub struct Concluded {
     topology: Topology,
     seats: Vec<Seat<Actor>>,
-    transcript: Vec<Completed>,
 }
 
 impl Model for Concluded {
-    ghost use Rattle.threaded.specs.Concluded.{ConcludedValue, IsConcluded};
+    ghost use Rattle.threaded.specs.Concluded.{ConcludedValue, AreConcluded};
 
     ghost Value = { ConcludedValue };
 
     ghost view = { λ c. record { top = c.topology; seats = c.seats.items } };
 
-    ghost invariant = { λ c. IsConcluded c.topology c.seats.items c.transcript.items };
+    ghost invariant = { λ c. AreConcluded c.topology c.seats.items };
 }
 
 impl Concluded {
-    /// Seats of a topology whose journals are a run, and the transcript of each such run by sessions.
-    pub(crate) fn new(
-        topology: Topology,
-        seats: Vec<Seat<Actor>>,
-        transcript: Vec<Completed>,
-    ) -> Concluded
-        requires { IsConcluded topology seats.items transcript.items }
+    /// Seats of a topology whose journals are a run.
+    pub(crate) fn new(topology: Topology, seats: Vec<Seat<Actor>>) -> Concluded
+        requires { AreConcluded topology seats.items }
         ensures { result ≡ record { top = topology; seats = seats.items } }
     {
-        Concluded {
-            topology,
-            seats,
-            transcript,
-        }
+        Concluded { topology, seats }
     }
 
     /// Which actors there are.
@@ -82,10 +73,12 @@ impl Concluded {
     }
 
     /// The operations that ended, by the nodes of their sessions, each session's in order: as each run with these journals has
-    /// them, of which there is one.
-    pub fn transcript(&self) -> &[Completed]
+    /// them, of which there is one. Goes through each session's journal once; the copies share the bytes of keys, names and
+    /// values. Refused with `Memory` alone.
+    pub fn transcript(&self, alloc: Global) -> Result<Vec<Completed>, Fault>
         ensures run { AreConcluded self.now.top self.now.seats }
-        ensures listed { InEachRun self.now.top self.now.seats (λ w. result.now ≡ by_session self.now.top w.transcript) }
+        ensures listed { IfOk result (λ t. InEachRun self.now.top self.now.seats (λ w. t.items ≡ by_session self.now.top w.transcript)) }
+        ensures memory { IfErr result (λ e. e ≡ Fault.Memory) }
         // whatever the threads did, each read is answered with the meaning of its request on one table: its home's history at
         // its effective time
         ensures one_table { InEachRun self.now.top self.now.seats (ReadsShowOneTable self.now.top) }
@@ -109,7 +102,7 @@ impl Concluded {
         ensures times { InEachRun self.now.top self.now.seats TimesNeverFall }
         ensures homes { InEachRun self.now.top self.now.seats SessionsStayAtHome }
     {
-        self.transcript.as_slice()
+        entries(alloc, self.seats.as_slice(), &self.topology)
     }
 
     /// The history of a data centre, as each run with these journals has it: by asking, for each submitted batch, the seat of its
@@ -138,7 +131,6 @@ impl Concluded {
         let Concluded {
             topology: _,
             mut seats,
-            transcript: _,
         } = self;
         while let Some(seat) = seats.pop() {
             actors::Machine::close(seat.close());
@@ -146,15 +138,12 @@ impl Concluded {
         seats.destroy_empty();
     }
 
-    /// The same for a program that ends with them: the memory of what they recorded and of the transcript is given back with
-    /// that of the process.
+    /// The same for a program that ends with them: the memory of what they recorded is given back with that of the process.
     pub fn leave(self) {
         let Concluded {
             topology: _,
             mut seats,
-            transcript,
         } = self;
-        mem::forget(transcript);
         while let Some(seat) = seats.pop() {
             actors::Machine::close(seat.leave());
         }

@@ -4,18 +4,16 @@ ghost use Rattle.logical_time.specs.declared.fault.Fault.TheVariants.{Memory};
 ghost use Rattle.messages.specs.Topology.{is_topology, node_count};
 ghost use Rattle.threaded.specs.OneRun.{seat_of, journal_of, AreOfTopology, AreSeatsOf, DoLinksMatch};
 ghost use Rattle.threaded.specs.Matching.{IsPlace, ArePlaces, IsUnseated, IsUnconcluded};
-ghost use Rattle.threaded.specs.Concluded.{AreConcluded, IsConcluded};
+ghost use Rattle.threaded.specs.Concluded.{AreConcluded};
 
 use crate::actor::Actor;
 use crate::concluded::Concluded;
-use crate::entries::entries;
 use crate::matching::{are_timed, do_receive};
 use actors::Seat;
 use equality::same_topology;
 use logical_time::{Fault, Node};
 use messages::Topology;
 use std::alloc::Global;
-use world::Completed;
 
 /// How many actors a topology has, which is within its limits.
 fn count_of(topology: &Topology) -> u16
@@ -110,20 +108,10 @@ fn topology_of(alloc: Global, seats: &[Seat<Actor>]) -> Result<Topology, Fault>
     Ok(topology.copied()?)
 }
 
-/// The topology of seats whose journals are a run, and the transcript of that by sessions. Refused as `topology_of` is.
-fn tell(alloc: Global, seats: &[Seat<Actor>]) -> Result<(Topology, Vec<Completed>), Fault>
-    ensures ok { IfOk result (λ told. IsConcluded told.0 seats.now told.1.items) }
-    ensures refused { IfErr result (IsUnconcluded seats.now) }
-{
-    let topology = topology_of(alloc, seats)?;
-    let transcript = entries(alloc, seats, &topology)?;
-    Ok((topology, transcript))
-}
-
 /// What the journals of these seats conclude: a run of all actors, whose journals they are. Refused with `StrangerEnd`
 /// exactly where the seats aren't one for each node of one topology, or where on some link the receipts aren't a beginning of
 /// what the sender's journal sent there; and with `Memory`. Then the seats are handed back. Each receipt is compared once with
-/// what its sender's seat shows that it sent, beside copies of the operations and outcomes; no event is done again.
+/// what its sender's seat shows that it sent; no event is done again.
 pub fn conclude(
     alloc: Global,
     seats: Vec<Seat<Actor>>,
@@ -133,8 +121,8 @@ pub fn conclude(
     ensures refused { IfErr result (λ e. IsUnconcluded seats.items e.0) }
     ensures back { IfErr result (λ e. e.1.items ≡ seats.items) }
 {
-    match tell(alloc, seats.as_slice()) {
-        Ok((topology, transcript)) => Ok(Concluded::new(topology, seats, transcript)),
+    match topology_of(alloc, seats.as_slice()) {
+        Ok(topology) => Ok(Concluded::new(topology, seats)),
         Err(fault) => Err((fault, seats)),
     }
 }

@@ -95,7 +95,8 @@ impl Count {
 
     /// Adds all operations that ended.
     pub(crate) fn add_all(&mut self, alloc: Global, concluded: &Concluded) -> Result<(), Fault> {
-        for ended in concluded.transcript() {
+        let transcript = concluded.transcript(alloc)?;
+        for ended in transcript.iter() {
             if concluded.topology().dcs() <= ended.home {
                 return Err(Fault::Script);
             }

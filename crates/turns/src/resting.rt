@@ -63,9 +63,9 @@ fn ended(alloc: Global, mut seats: Vec<Seat<Actor>>) -> Result<usize, Fault> {
     }
     match conclude(alloc, seats) {
         Ok(concluded) => {
-            let ended = concluded.transcript().len();
+            let transcript = concluded.transcript(alloc);
             concluded.close();
-            Ok(ended)
+            Ok(transcript?.len())
         }
         Err((fault, seats)) => {
             close_all(seats);

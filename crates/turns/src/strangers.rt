@@ -124,9 +124,9 @@ impl Meshes {
 fn ended(alloc: Global, seats: Vec<Seat<Actor>>) -> Result<usize, Fault> {
     match conclude(alloc, seats) {
         Ok(concluded) => {
-            let ended = concluded.transcript().len();
+            let transcript = concluded.transcript(alloc);
             concluded.close();
-            Ok(ended)
+            Ok(transcript?.len())
         }
         Err((fault, seats)) => {
             close_all(seats);

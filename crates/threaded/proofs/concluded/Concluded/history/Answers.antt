@@ -19,7 +19,7 @@ returns-clause-listed c =
     let lt : dc < top.dcs = subst (λ (v : ConcludedValue). dc < v.top.dcs) (sym c.self.view_is) c.requires in
     let same : c.as_slice.result.now ≡ seats = search rules in
     let asked = subst (λ l. (states : ℕ → ShardState) → AreSeatsOf top l → AreReplays top l states → IfOk r (λ h. h ≡ asked_of top states l dc)) same c.history.ensures.ok in
-    subst (λ (v : ConcludedValue). IfOk r (λ h. InEachRun v.top v.seats (λ w. IsHistory v.top w dc h))) c.self.view_is (listed_ok top seats c.self.invariant.run dc r lt asked)
+    subst (λ (v : ConcludedValue). IfOk r (λ h. InEachRun v.top v.seats (λ w. IsHistory v.top w dc h))) c.self.view_is (listed_ok top seats c.self.invariant dc r lt asked)
 
 pub returns-clause-tells : goal.returns-clause-tells
 returns-clause-tells c =
@@ -30,17 +30,17 @@ returns-clause-tells c =
     let lt : dc < top.dcs = subst (λ (v : ConcludedValue). dc < v.top.dcs) (sym c.self.view_is) c.requires in
     let same : c.as_slice.result.now ≡ seats = search rules in
     let asked = subst (λ l. (states : ℕ → ShardState) → AreSeatsOf top l → AreReplays top l states → IfOk r (λ h. h ≡ asked_of top states l dc)) same c.history.ensures.ok in
-    subst (λ (v : ConcludedValue). IfOk r (λ h. InEachRun v.top v.seats (λ w. TellsDecided v.top w dc h))) c.self.view_is (tells_ok top seats c.self.invariant.run dc r lt asked)
+    subst (λ (v : ConcludedValue). IfOk r (λ h. InEachRun v.top v.seats (λ w. TellsDecided v.top w dc h))) c.self.view_is (tells_ok top seats c.self.invariant dc r lt asked)
 
 pub returns-clause-causes : goal.returns-clause-causes
 returns-clause-causes c =
     subst (λ (v : ConcludedValue). InEachRun v.top v.seats (StampsFollowCauses v.top)) c.self.view_is
-    (causes c.self.inside.topology c.self.inside.seats.items c.self.invariant.run)
+    (causes c.self.inside.topology c.self.inside.seats.items c.self.invariant)
 
 pub returns-clause-grows : goal.returns-clause-grows
 returns-clause-grows c =
     subst (λ (v : ConcludedValue). InEachCut v.top v.seats (HistoriesGrow v.top)) c.self.view_is
-    (grows c.self.inside.topology c.self.inside.seats.items c.self.invariant.run)
+    (grows c.self.inside.topology c.self.inside.seats.items c.self.invariant)
 
 pub returns-clause-stamps : goal.returns-clause-stamps
 returns-clause-stamps c = grind (arith, stamps)
