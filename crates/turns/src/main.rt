@@ -1,13 +1,14 @@
-//! A program of seats and threads: turns by hand, workers that meet, what the journals of seats conclude, and scripts that
-//! threads run.
+//! A program of seats, threads and lines: turns by hand, workers that meet, what the journals of seats conclude, scripts that
+//! threads run, and what is exchanged over lines.
 //!
-//! The folder where it is started holds the steps and the scripts. What it writes has to be what was found by hand, whatever
-//! the schedule is.
+//! The folder where it is started holds the steps, the scripts and what is exchanged. What it writes has to be what was found by
+//! hand, whatever the schedule is.
 #![tactic(auto)]
 
 mod building;
 mod bytes;
 mod counting;
+mod exchanges;
 mod judging;
 mod meeting;
 mod resting;
@@ -26,5 +27,6 @@ fn main(rt: HostRuntime) -> Result<(), Fault> {
     strangers::tell(&rt)?;
     scripts::tell(&rt, &rt)?;
     bytes::tell(&rt, &rt)?;
-    counting::tell(&rt, &rt)
+    counting::tell(&rt, &rt)?;
+    exchanges::tell(&rt)
 }

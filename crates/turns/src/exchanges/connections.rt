@@ -1,5 +1,6 @@
 //! Connections over loopback, one client after the other: those that ask, and those that leave without an answer.
-use crate::showing::{bytes_of, digits, print};
+use super::showing::{bytes_of, digits};
+use crate::showing::print;
 use logical_time::Fault;
 use service::serve_connections;
 use std::alloc::Global;

@@ -1,6 +1,7 @@
 //! A session served over a line in memory, in small steps, and with each call of the line failing in turn.
-use crate::showing::{bytes_of, digits, print, word_of};
-use crate::worlds::{REQUESTS, world};
+use super::showing::{bytes_of, digits, word_of};
+use super::worlds::{REQUESTS, world};
+use crate::showing::print;
 use front::{Ended, Failing, MemoryLine};
 use logical_time::{Fault, Node};
 use service::serve_session;
@@ -118,7 +119,7 @@ fn tell_step(rt: &HostRuntime, step: usize) -> Result<(), Fault> {
 
 /// Tells how a line is served whose calls give and take so many bytes, for each number of the file.
 pub(crate) fn tell(rt: &HostRuntime) -> Result<(), Fault> {
-    let Ok(text) = fs::read_to_string(rt, "steps.txt") else {
+    let Ok(text) = fs::read_to_string(rt, "lines.txt") else {
         return Err(Fault::ReadFailed);
     };
     for line in text.lines() {

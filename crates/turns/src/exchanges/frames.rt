@@ -1,6 +1,7 @@
 //! Worked frames and hostile ones: each read whole, cut at every place, and byte by byte, and served by a session.
-use crate::lines::{Served, serve};
-use crate::showing::{bytes_of, digits, number_of, print, word_of};
+use super::lines::{Served, serve};
+use super::showing::{bytes_of, digits, number_of, word_of};
+use crate::showing::print;
 use front::Failing;
 use logical_time::Fault;
 use messages::Outcome;

@@ -31,8 +31,3 @@ pub(crate) fn word_of(ended: Ended) -> &'static str {
         Ended::WriteFailed => "write failed",
     }
 }
-
-/// Prints a line.
-pub(crate) fn print(rt: &HostRuntime, line: &str) -> Result<(), Fault> {
-    println!(rt; "{line}").map_err(|_| Fault::WriteFailed)
-}

@@ -1,5 +1,5 @@
 use Rattle.std.proofs.Common.{length}
-use Rattle.exchanges.proofs.frames.read_all.Given as goal
+use Rattle.turns.proofs.exchanges.frames.read_all.Given as goal
 
 abbrev pub decreases-loop-op : goal.decreases-loop-op
 decreases-loop-op l = length l.reader.held

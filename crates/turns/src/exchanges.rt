@@ -1,0 +1,33 @@
+//! Exchanges: worked frames, lines in memory and connections, with what is read of them, answered and left. An empty file leaves
+//! its part out.
+mod connections;
+mod frames;
+mod lines;
+mod showing;
+mod worlds;
+
+use logical_time::Fault;
+use std::thread;
+
+/// Tells of the clients that are served over loopback, one after the other, by a world with a session for each.
+fn tell_clients(rt: &HostRuntime) -> Result<(), Fault> {
+    let clients = connections::clients(rt)?;
+    let sessions = connections::count(clients.as_str());
+    let (listener, port) = connections::listen(rt)?;
+    let mut world = worlds::world(rt.alloc(), sessions.max(1))?;
+    let (served, told) = thread::join(
+        rt,
+        || connections::serve(rt.alloc(), &listener, &mut world, sessions),
+        || connections::run_all(rt, rt.alloc(), port, clients.as_str()),
+    );
+    world.close();
+    served?;
+    connections::tell(rt, told?.as_str())
+}
+
+/// Tells of frames, lines and connections.
+pub(crate) fn tell(rt: &HostRuntime) -> Result<(), Fault> {
+    frames::tell(rt)?;
+    lines::tell(rt)?;
+    tell_clients(rt)
+}
