@@ -12,3 +12,6 @@ returns-in_default c =
     let others : StartsWithBytes 7 y = subst (λ l. StartsWithBytes 7 l) c.other.view_is (text_bytes c.other.inside.text c.other.invariant) in
     let by_numbers : c.cmp.result ≡ nat_cmp (head_of 7 x) (head_of 7 y) = search rules in
     by_heads 7 x y c.cmp.result own others by_numbers c.in_default.not-Equal
+
+pub returns-in-Equal : goal.returns-in-Equal
+returns-in-Equal c = search rules
