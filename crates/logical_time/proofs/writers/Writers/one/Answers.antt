@@ -1,0 +1,5 @@
+use Rattle.std.proofs.Common.{rules}
+use Rattle.logical_time.proofs.writers.Writers.one.Goals as goal
+
+pub returns : goal.returns
+returns c = search rules
