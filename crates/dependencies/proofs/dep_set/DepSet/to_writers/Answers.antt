@@ -1,0 +1,6 @@
+use Rattle.dependencies.proofs.Ordered.{added_in_order}
+use Rattle.std.proofs.Common.{arith}
+use Rattle.dependencies.proofs.dep_set.DepSet.to_writers.Goals as goal
+
+pub returns-clause-ok : goal.returns-clause-ok
+returns-clause-ok c = grind (arith, added_in_order)
