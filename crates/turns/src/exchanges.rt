@@ -7,16 +7,16 @@ mod showing;
 mod worlds;
 
 use logical_time::Fault;
-use std::thread;
+use std::thread::{self, Threads};
 
 /// Tells of the clients that are served over loopback, one after the other, by a world with a session for each.
-fn tell_clients(rt: &HostRuntime) -> Result<(), Fault> {
+fn tell_clients<R: Threads>(rt: &HostRuntime, threads: &R) -> Result<(), Fault> {
     let clients = connections::clients(rt)?;
     let sessions = connections::count(clients.as_str());
     let (listener, port) = connections::listen(rt)?;
     let mut world = worlds::world(rt.alloc(), sessions.max(1))?;
     let (served, told) = thread::join(
-        rt,
+        threads,
         || connections::serve(rt.alloc(), &listener, &mut world, sessions),
         || connections::run_all(rt, rt.alloc(), port, clients.as_str()),
     );
@@ -26,8 +26,8 @@ fn tell_clients(rt: &HostRuntime) -> Result<(), Fault> {
 }
 
 /// Tells of frames, lines and connections.
-pub(crate) fn tell(rt: &HostRuntime) -> Result<(), Fault> {
+pub(crate) fn tell<R: Threads>(rt: &HostRuntime, threads: &R) -> Result<(), Fault> {
     frames::tell(rt)?;
     lines::tell(rt)?;
-    tell_clients(rt)
+    tell_clients(rt, threads)
 }

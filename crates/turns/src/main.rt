@@ -28,5 +28,5 @@ fn main(rt: HostRuntime) -> Result<(), Fault> {
     scripts::tell(&rt, &rt)?;
     bytes::tell(&rt, &rt)?;
     counting::tell(&rt, &rt)?;
-    exchanges::tell(&rt)
+    exchanges::tell(&rt, &rt)
 }

@@ -1,6 +1,7 @@
 use Rattle.std.proofs.Common.{rules, refl, subst, arith, length, decimal, replicate, ℕ, List, ◌≡◌, ◌∙◌, ◌+◌, ◌++◌}
 use Rattle.program.specs.Outputs.{Adds}
 use Rattle.workload.proofs.Pieces.{words_is}
+use Rattle.std.proofs.lemmas.Grind.{common_steps}
 use Rattle.workload.proofs.text.put_number.Goals as goal
 
 pub returns : goal.returns
@@ -15,3 +16,12 @@ returns g c =
     (search rules) (search rules) refl refl (omega (arith, wide, c.requires, c.format.ensures.short, c.as_bytes-digits.ensures.len)))
     c.put.ensures.adds in
     subst (λ d. Adds g.W.Write.contents c.args.output.now c.put.new.self c.put.result (words ++ d)) is adds
+
+pub slice_bounds-text-end-2 : goal.slice_bounds-text-end-2
+slice_bounds-text-end-2 c = grind (arith, common_steps)
+
+pub slice_bounds-text-end-3 : goal.slice_bounds-text-end-3
+slice_bounds-text-end-3 c = grind (arith, common_steps)
+
+pub slice_bounds-put-end : goal.slice_bounds-put-end
+slice_bounds-put-end c = grind (arith, common_steps)
