@@ -8,3 +8,4 @@ pub mod UpTo
 pub mod Joins
 pub mod RowOrder
 pub mod Heads
+pub mod Apart

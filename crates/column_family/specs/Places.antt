@@ -1,5 +1,5 @@
 -- How the normal form is found: the place of each change in it, and what is kept at each place.
-use Rattle.std.specs.Prelude.{ℕ, ◌+◌, Bool, ◌||◌, if◌then◌else◌, List, [], ◌∷◌, Option, Some, None, is_some}
+use Rattle.std.specs.Prelude.{ℕ, ◌+◌, Bool, true, false, not, ◌&&◌, ◌||◌, if◌then◌else◌, List, [], ◌∷◌, Option, Some, None, is_some}
 use Rattle.std.specs.declared.cmp.Ordering.{Ordering}
 use Rattle.std.specs.Ordering.{nat_cmp, is_eq, ordering_then}
 use Rattle.std.specs.Option.{option_cmp}
@@ -14,6 +14,18 @@ use Rattle.column_family.specs.declared.batch.Mutation.TheVariants.{Insert, Dele
 use Rattle.column_family.specs.declared.normalizing.Place.{Place}
 use Rattle.column_family.specs.Location.{is_same_row}
 use Rattle.column_family.specs.Normal.{changes_before}
+
+-- whether the mutation touches something
+abbrev pub is_effective : Mutation → Bool
+is_effective (Insert n v) = true
+is_effective (DeleteColumn n) = true
+is_effective DeleteRow = true
+is_effective (DeleteRange start finish) = false
+
+-- whether each change touches something, in a row of its own: such changes are their own normal form
+abbrev pub are_apart : List Change → Bool
+are_apart [] = true
+are_apart (c ∷ cs) = is_effective c.mutation && not (list_any (λ d. is_same_row c.row d.row) cs) && are_apart cs
 
 -- changes at their places
 abbrev pub Placed : Type 0

@@ -2,10 +2,12 @@
 //!
 //! Changes are taken from the newest to the oldest, and kept by their place in the normal form. An older
 //! change is without effect where its place is taken, and where its row is deleted by a newer one.
-ghost use Rattle.std.specs.Prelude.{◌≡◌, [], length, unwrap_or, Some, IfOk, OnOk, IfErr};
+ghost use Rattle.std.specs.Prelude.{◌≡◌, [], length, unwrap_or, true, Some, IfOk, OnOk, IfErr};
+ghost use Rattle.std.specs.List.{list_any};
 ghost use Rattle.std.specs.BTreeMap.{get, values};
 ghost use Rattle.logical_time.specs.declared.fault.Fault.TheVariants as fault;
 ghost use Rattle.column_family.specs.declared.batch.Row.{Row};
+ghost use Rattle.column_family.specs.Location.{is_same_row};
 ghost use Rattle.column_family.specs.Normal.{IsNormal, IsInOrderOf, StandsFor, changes_before};
 ghost use Rattle.column_family.specs.Places as spec;
 
@@ -14,6 +16,9 @@ use crate::byte_strings::Name;
 use logical_time::Fault;
 use std::alloc::{AllocError, Global};
 use std::collections::BTreeMap;
+
+/// So many changes are compared with one another, row by row, before they are put at places.
+const FEW: usize = 8;
 
 /// Where a change stands in the normal form.
 #[derive(Drop, PartialEq, Eq, PartialOrd, Ord)]
@@ -101,11 +106,52 @@ fn keep_all(alloc: Global, changes: &[Change]) -> Result<BTreeMap<Place, Change>
     Ok(kept)
 }
 
+/// Whether one of the changes is of the row.
+fn is_in(row: &Row, changes: &[Change]) -> bool
+    ensures { result ≡ list_any (λ c. is_same_row row.now c.row) changes.now }
+{
+    changes.iter().any(|change| *row == change.row)
+}
+
+/// Whether the mutation touches something.
+fn is_effective(mutation: &Mutation) -> bool
+    ensures { result ≡ spec.is_effective mutation.now }
+{
+    match mutation {
+        Mutation::Insert { .. } | Mutation::DeleteColumn { .. } | Mutation::DeleteRow => true,
+        Mutation::DeleteRange { .. } => false,
+    }
+}
+
+/// Whether each of the changes touches something, in a row of its own.
+fn are_apart(changes: &[Change]) -> bool
+    ensures { result ≡ spec.are_apart changes.now }
+{
+    let mut rest = changes;
+    while let [first, others @ ..] = rest {
+        if !is_effective(&first.mutation) || is_in(&first.row, others) {
+            return false;
+        }
+        rest = others;
+    }
+    true
+}
+
+/// Whether the changes are their own normal form, as far as few comparisons show it.
+fn are_seen_normal(changes: &[Change]) -> bool
+    ensures { result ≡ true → spec.normal_of changes.now ≡ changes.now }
+{
+    changes.len() <= FEW && are_apart(changes)
+}
+
 /// The kept changes, in the order of their places.
 fn kept_changes(alloc: Global, batch: &Batch) -> Result<Batch, Fault>
     ensures exact { IfOk result (λ kept. kept ≡ spec.normal_of batch.now) }
     ensures memory { IfErr result (λ e. e ≡ fault.Memory) }
 {
+    if are_seen_normal(batch.as_slice()) {
+        return Ok(batch.clone()?);
+    }
     let kept = keep_all(alloc, batch.as_slice())?;
     let changes: Vec<Change> = kept.into_values().collect(alloc)?;
     Ok(Batch::from_changes(changes))

@@ -1,9 +1,11 @@
 -- The rows that are noted for each transaction, and what is marked after all of them are cleared.
-use Rattle.std.proofs.Common.{◌≡◌, ℕ, ap, sym, subst, refl, ◌∙◌, Bool, true, false, ◌||◌, List, [], ◌∷◌, Option, Some, None, IsSome, Result, Ok, Err, OnOk, OnErr}
+use Rattle.std.proofs.Common.{◌≡◌, ℕ, ap, sym, subst, refl, ◌∙◌, Bool, true, false, ◌||◌, List, [], ◌∷◌, ◌++◌, Option, Some, None, IsSome, Result, Ok, Err, OnOk, OnErr}
 use Rattle.std.specs.Prelude.{unwrap_or, if◌then◌else◌, ◌&&◌}
 use Rattle.std.specs.Ordering.{is_eq}
+use Rattle.std.specs.declared.cmp.Ordering.{Ordering}
 use Rattle.std.specs.BTreeMap.{BTreeMap, Updates}
-use Rattle.std.proofs.lemmas.Cmp.{eq_by_cmp_equiv}
+use Rattle.std.proofs.lemmas.Cmp.{eq_by_cmp_equiv, tied_itself}
+use Rattle.std.proofs.lemmas.List.Folds.{list_any-append}
 use Rattle.logical_time.specs.Stamps.{TxnValue, txn_cmp}
 use Rattle.column_family.specs.declared.batch.Row.{Row}
 use Rattle.column_family.proofs.RowOrder.{row_total, same_row}
@@ -55,7 +57,7 @@ noted_clear ms ns m n txn noted u cleared r t some =
     let same : rows_of n.entries t ≡ rows_of m.entries t = ap (λ (o : Option (List Row)). unwrap_or o []) (u.0 t) ∙ rw other refl in
     subst (λ (rs : List Row). is_listed rs r ≡ true) (sym same) (noted r t (subst (λ (o : Option ℕ). IsSome o) (cleared r t ∙ rw other refl) some)))
 
-one_more : (a b l : Bool) (o : Option ℕ) → (if a && l then None else (if b && a then None else o)) ≡ (if a && (b || l) then None else o)
+one_more : (a b l : Bool) (o : Option ℕ) → (if b && a then None else (if a && l then None else o)) ≡ (if a && (l || (b || false)) then None else o)
 one_more true true true o = refl
 one_more true true false o = refl
 one_more true false true o = refl
@@ -65,18 +67,42 @@ one_more false true false o = refl
 one_more false false true o = refl
 one_more false false false o = refl
 
--- what is left to clear when one row of it is cleared
-pub cleared_more : (ls ns : MarkList) (all : Row → TxnValue → Option ℕ) (txn : TxnValue) (left rest : List Row) (row : Row) → left ≡ row ∷ rest → ((r : Row) (t : TxnValue) → (if is_eq (txn_cmp txn t) && is_listed left r then None else time_at ls r t) ≡ all r t) → ((r : Row) (t : TxnValue) → time_at ns r t ≡ (if is_same_mark row txn r t then None else time_at ls r t)) → (r : Row) (t : TxnValue) → (if is_eq (txn_cmp txn t) && is_listed rest r then None else time_at ns r t) ≡ all r t
-cleared_more ls ns all txn left rest row is so_far step r t =
+none_yet : (a : Bool) (o : Option ℕ) → o ≡ (if a && false then None else o)
+none_yet true o = refl
+none_yet false o = refl
+
+-- of these rows the marks of the transaction are taken away
+abbrev pub AreTaken : MarkList → MarkList → List Row → TxnValue → Type 0
+AreTaken old new rows txn = (r : Row) (t : TxnValue) → time_at new r t ≡ (if is_eq (txn_cmp txn t) && is_listed rows r then None else time_at old r t)
+
+pub taken_none : (ms : MarkList) (txn : TxnValue) → AreTaken ms ms [] txn
+taken_none ms txn r t = none_yet (is_eq (txn_cmp txn t)) (time_at ms r t)
+
+-- and of one row more
+pub taken_more : (old mid new : MarkList) (rows : List Row) (row : Row) (txn : TxnValue) → AreTaken old mid rows txn → ((r : Row) (t : TxnValue) → time_at new r t ≡ (if is_same_mark row txn r t then None else time_at mid r t)) → AreTaken old new (rows ++ row ∷ []) txn
+taken_more old mid new rows row txn so_far step r t =
     let turned : is_eq (row_cmp row r) ≡ is_eq (row_cmp r row) = (eq_by_cmp_equiv row_total).symm row r in
     let own = is_eq (txn_cmp txn t) in
-    ap (λ (o : Option ℕ). if own && is_listed rest r then None else o) (step r t)
-    ∙ ap (λ (b : Bool). if own && is_listed rest r then None else (if b && own then None else time_at ls r t)) turned
-    ∙ one_more own (is_eq (row_cmp r row)) (is_listed rest r) (time_at ls r t)
-    ∙ ap (λ (rs : List Row). if own && is_listed rs r then None else time_at ls r t) (sym is)
-    ∙ so_far r t
+    step r t
+    ∙ ap (λ (b : Bool). if b && own then None else time_at mid r t) turned
+    ∙ ap (λ (o : Option ℕ). if is_eq (row_cmp r row) && own then None else o) (so_far r t)
+    ∙ one_more own (is_eq (row_cmp r row)) (is_listed rows r) (time_at old r t)
+    ∙ ap (λ (b : Bool). if own && b then None else time_at old r t) (sym (list_any-append (λ (s : Row). is_eq (row_cmp r s)) rows (row ∷ [])))
 
--- what is true stays so where true may be put in its place
-pub still_true : (b x : Bool) → x ≡ true → (if b then true else x) ≡ true
-still_true true x h = refl
-still_true false x h = h
+either : (a b : Bool) → a ≡ true → (a || b) ≡ true
+either true b h = refl
+either false b h = absurd (cc)
+
+or_true : (a b : Bool) → b ≡ true → (a || (b || false)) ≡ true
+or_true true b h = refl
+or_true false true h = refl
+or_true false false h = h
+
+-- a row that is added is listed, and so is what was
+pub still_listed : (rows : List Row) (row r : Row) → is_listed rows r ≡ true → is_listed (rows ++ row ∷ []) r ≡ true
+still_listed rows row r h = list_any-append (λ (s : Row). is_eq (row_cmp r s)) rows (row ∷ []) ∙ either (is_listed rows r) (is_listed (row ∷ []) r) h
+
+pub listed_last : (rows : List Row) (row : Row) → is_listed (rows ++ row ∷ []) row ≡ true
+listed_last rows row =
+    list_any-append (λ (s : Row). is_eq (row_cmp row s)) rows (row ∷ [])
+    ∙ or_true (is_listed rows row) (is_eq (row_cmp row row)) (ap (λ (o : Ordering). is_eq o) (tied_itself row_total row))

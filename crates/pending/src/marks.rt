@@ -1,11 +1,11 @@
 //! The marks, by row and by transaction.
-ghost use Rattle.std.specs.Prelude.{◌≡◌, [], if◌then◌else◌, ◌&&◌, IfOk, OnOk, OnErr, IfErr, Some, None};
+ghost use Rattle.std.specs.Prelude.{◌≡◌, [], if◌then◌else◌, ◌&&◌, true, IfOk, OnOk, OnErr, IfErr, Some, None};
 ghost use Rattle.std.specs.Ordering.{is_eq};
 ghost use Rattle.logical_time.specs.declared.fault.Fault.TheVariants as fault;
 ghost use Rattle.logical_time.specs.Stamps.{TxnValue, txn_cmp};
 ghost use Rattle.column_family.specs.declared.batch.Row.{Row};
 ghost use Rattle.pending.specs.Marks.{time_at, is_same_mark, IsNoted, IsLeast, IsBelow};
-ghost use Rattle.pending.specs.Marked.{AreMarked, AreCleared, AreBelow};
+ghost use Rattle.pending.specs.Marked.{touches, AreMarked, AreCleared, AreBelow};
 
 use crate::row_marks::RowMarks;
 use crate::rows::{below_in, below_rows, clear_rows, least_in, mark_row};
@@ -48,6 +48,16 @@ fn clear_noted(
 {
     if let Some(noted) = touched.remove(&txn) {
         clear_rows(rows, noted.rows(), txn);
+    }
+}
+
+/// Whether the first of the changes is of the row.
+fn is_first(row: &Row, changes: &[Change]) -> bool
+    ensures { result ≡ true → touches changes.now row.now ≡ true }
+{
+    match changes.first() {
+        Some(change) => *row == change.row,
+        None => false,
     }
 }
 
@@ -100,6 +110,21 @@ impl Marks {
         )
     }
 
+    /// Marks the row for the transaction, or takes away every mark of the transaction.
+    fn mark_or_clear(&mut self, row: &Row, txn: TxnId, time: Time) -> Result<(), Fault>
+        ensures ok { OnOk result ((r : Row) (t : TxnValue) → time_at self.new r t ≡ (if is_same_mark row.now txn r t then Some time else time_at self.old r t)) }
+        ensures err { OnErr result (AreCleared self.old self.new txn) }
+        ensures memory { IfErr result (λ e. e ≡ fault.Memory) }
+    {
+        match self.mark(row, txn, time) {
+            Ok(()) => Ok(()),
+            Err(fault) => {
+                self.clear(txn);
+                Err(fault)
+            }
+        }
+    }
+
     /// Marks each row that these changes touch for the transaction with its prepare time, in place of its marks
     /// there. Refused with `Memory`, and then the transaction has no mark on any row, so that nothing has changed
     /// for a transaction that had none. In the order of m log n for m changes and n marks.
@@ -108,14 +133,12 @@ impl Marks {
         ensures err { OnErr result (AreCleared self.old self.new txn) }
         ensures memory { IfErr result (λ e. e ≡ fault.Memory) }
     {
-        for change in changes {
-            match self.mark(&change.row, txn, time) {
-                Ok(()) => {}
-                Err(fault) => {
-                    self.clear(txn);
-                    return Err(fault);
-                }
+        let mut rest = changes;
+        while let Some((change, later)) = rest.split_first() {
+            if !is_first(&change.row, later) {
+                self.mark_or_clear(&change.row, txn, time)?;
             }
+            rest = later;
         }
         Ok(())
     }

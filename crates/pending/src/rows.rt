@@ -15,7 +15,7 @@ use crate::row_marks::RowMarks;
 use column_family::Row;
 use logical_time::{Fault, Time, TxnId};
 use std::alloc::Global;
-use std::collections::{BTreeMap, BTreeSet};
+use std::collections::BTreeMap;
 
 /// Gives a row without a mark its first.
 fn add_row(
@@ -78,10 +78,10 @@ pub(crate) fn clear_row(rows: &mut BTreeMap<Row, RowMarks>, row: &Row, txn: TxnI
 }
 
 /// Takes the marks of the transaction from these rows.
-pub(crate) fn clear_rows(rows: &mut BTreeMap<Row, RowMarks>, touched: &BTreeSet<Row>, txn: TxnId)
-    ensures { (r : Row) (t : TxnValue) → time_at rows.new.entries r t ≡ (if is_eq (txn_cmp txn t) && is_listed touched.now.keys r then None else time_at rows.old.entries r t) }
+pub(crate) fn clear_rows(rows: &mut BTreeMap<Row, RowMarks>, touched: &[Row], txn: TxnId)
+    ensures { (r : Row) (t : TxnValue) → time_at rows.new.entries r t ≡ (if is_eq (txn_cmp txn t) && is_listed touched.now r then None else time_at rows.old.entries r t) }
 {
-    for row in touched.iter() {
+    for row in touched {
         clear_row(rows, row, txn);
     }
 }

@@ -11,13 +11,13 @@ ghost use Rattle.pending.specs.Marks.{rows_of};
 use column_family::Row;
 use logical_time::{Fault, TxnId};
 use std::alloc::Global;
-use std::collections::{BTreeMap, BTreeSet};
+use std::collections::BTreeMap;
 use std::marker::Model;
 
-/// The rows in which a transaction may have marks.
+/// The rows in which a transaction may have marks, some of them perhaps twice.
 #[derive(Drop)]
 pub(crate) struct Touched {
-    rows: BTreeSet<Row>,
+    rows: Vec<Row>,
 }
 
 impl Model for Touched {
@@ -26,16 +26,16 @@ impl Model for Touched {
 
     ghost Value = { List Row };
 
-    ghost view = { λ touched. touched.rows.keys };
+    ghost view = { λ touched. touched.rows.items };
 }
 
-/// Adds a row to a set.
-fn add_row(rows: &mut BTreeSet<Row>, row: Row) -> Result<(), Fault>
-    ensures kept { (r : Row) → is_listed rows.old.keys r ≡ true → is_listed rows.new.keys r ≡ true }
-    ensures ok { OnOk result (is_listed rows.new.keys row ≡ true) }
+/// Adds a row to a list.
+fn add_row(rows: &mut Vec<Row>, row: Row) -> Result<(), Fault>
+    ensures kept { (r : Row) → is_listed rows.old.items r ≡ true → is_listed rows.new.items r ≡ true }
+    ensures ok { OnOk result (is_listed rows.new.items row ≡ true) }
     ensures memory { IfErr result (λ e. e ≡ fault.Memory) }
 {
-    rows.insert(row)?;
+    rows.push(row)?;
     Ok(())
 }
 
@@ -45,7 +45,7 @@ impl Touched {
         ensures { result ≡ [] }
     {
         Touched {
-            rows: BTreeSet::new(alloc),
+            rows: Vec::new(alloc),
         }
     }
 
@@ -59,10 +59,10 @@ impl Touched {
     }
 
     /// The rows.
-    pub(crate) fn rows(&self) -> &BTreeSet<Row>
-        ensures { result.now.keys ≡ self.now }
+    pub(crate) fn rows(&self) -> &[Row]
+        ensures { result.now ≡ self.now }
     {
-        &self.rows
+        self.rows.as_slice()
     }
 }
 

@@ -46,6 +46,17 @@ fn part_of(alloc: Global, changes: &[Change], shard: Shard, shards: Shards) -> R
     Ok(Batch::from_changes(part))
 }
 
+/// The changes of a shard's rows, in order; the others are let go of. Takes no memory.
+fn part_left(batch: Batch, shard: Shard, shards: Shards) -> Batch
+    ensures { result ≡ plans.part_for shards batch shard }
+{
+    let mut changes = batch.into_vec();
+    changes.retain(|change| shard_of(&change.row.key, shards) == shard);
+    // a part is kept as long as the message that brings it
+    changes.shrink_to_fit();
+    Batch::from_changes(changes)
+}
+
 /// Whether the batch touches a row of the shard.
 fn is_touched(changes: &[Change], shard: Shard, shards: Shards) -> bool
     ensures { result ≡ plans.is_touched shards changes.now shard }
@@ -101,7 +112,7 @@ fn cut(alloc: Global, batch: &Batch, shards: Shards) -> Result<BatchPlan, Fault>
     let kept = normal(alloc, batch)?;
     let shard = coordinator_of(batch.as_slice(), shards);
     let cohorts = cohort_parts(alloc, kept.as_slice(), shard, shards)?;
-    let batch = part_of(alloc, kept.as_slice(), shard, shards)?;
+    let batch = part_left(kept, shard, shards);
     Ok(BatchPlan {
         coordinator: ShardPart { shard, batch },
         cohorts,

@@ -6,9 +6,9 @@ use Rattle.pending.proofs.marks.clear_noted.Goals as goal
 
 pub returns-in-Some-clause-cleared : goal.returns-in-Some-clause-cleared
 returns-in-Some-clause-cleared c =
-    cleared_noted c.args.rows.now.entries c.clear_rows.new.rows.entries c.args.touched.now.entries c.args.txn c.rows.result.now.keys c.requires (found txn_cmp c.args.touched.now c.args.txn c.in-Some.noted (search rules) ∙ sym c.rows.ensures) c.clear_rows.ensures
+    cleared_noted c.args.rows.now.entries c.clear_rows.new.rows.entries c.args.touched.now.entries c.args.txn c.rows.result.now c.requires (found txn_cmp c.args.touched.now c.args.txn c.in-Some.noted (search rules) ∙ sym c.rows.ensures) c.clear_rows.ensures
 
 pub returns-in-Some-clause-noted : goal.returns-in-Some-clause-noted
 returns-in-Some-clause-noted c =
     noted_clear c.args.rows.now.entries c.clear_rows.new.rows.entries c.args.touched.now c.remove.new.self c.args.txn c.requires c.remove.ensures.updates
-    (cleared_noted c.args.rows.now.entries c.clear_rows.new.rows.entries c.args.touched.now.entries c.args.txn c.rows.result.now.keys c.requires (found txn_cmp c.args.touched.now c.args.txn c.in-Some.noted (search rules) ∙ sym c.rows.ensures) c.clear_rows.ensures)
+    (cleared_noted c.args.rows.now.entries c.clear_rows.new.rows.entries c.args.touched.now.entries c.args.txn c.rows.result.now c.requires (found txn_cmp c.args.touched.now c.args.txn c.in-Some.noted (search rules) ∙ sym c.rows.ensures) c.clear_rows.ensures)

@@ -1,4 +1,4 @@
-use Rattle.std.proofs.Common.{inl, inr}
+use Rattle.std.proofs.Common.{inl, inr, rules}
 use Rattle.world.proofs.Addresses.{stands}
 use Rattle.service.proofs.Asked.{left_open_now}
 use Rattle.service.proofs.asking.ask.Goals as goal
@@ -8,3 +8,6 @@ returns-in-None-clause-asks c =
     inr (inr (inl (left_open_now c.args.world.now c.submit.new.world c.drain.new.world c.args.session c.args.op c.in_ok-number.number c.in_ok-drain.field-0
     (stands c.args.world.now.top c.topology-limits.ensures.limits).some c.in_ok-number.ensures.topology c.in_ok-drain.ensures.topology c.in_ok-number.ensures.ok c.in_ok-drain.ensures.ok
     c.in_ok-drain.ensures.nothing_left c.in-None.ensures.none)))
+
+pub returns-in-Some-Wrote-clause-asks : goal.returns-in-Some-Wrote-clause-asks
+returns-in-Some-Wrote-clause-asks c = search rules

@@ -1,4 +1,4 @@
-use Rattle.std.proofs.Common.{◌≡◌, ◌∙◌, ◌<◌, length, ap, arith, refl, subst, sym}
+use Rattle.std.proofs.Common.{◌≡◌, ◌∙◌, ◌<◌, length, ap, arith, refl, subst, sym, rules}
 use Rattle.messages.specs.Topology.{TopologyValue, session_node, is_session}
 use Rattle.world.specs.World.{WorldValue}
 use Rattle.service.specs.Connections.{AreServed}
@@ -15,3 +15,6 @@ session_node-session-requires c =
     let lt = c.loop-index-test.true in
     let le = c.requires in
     omega arith
+
+pub loop-index-preserved : goal.loop-index-preserved
+loop-index-preserved c = search rules

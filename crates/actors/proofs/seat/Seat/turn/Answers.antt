@@ -1,9 +1,8 @@
-use Rattle.std.specs.Prelude.{◌⊎◌}
+use Rattle.std.specs.Prelude.{◌⊎◌, IsSome, Result, Err, IfErr}
 use Rattle.actors.specs.Resting.{unsent, HasNoEnvelope}
 use Rattle.actors.specs.Turns.{IsTurn, IsWork}
 use Rattle.actors.proofs.Turning.{rested, fewer, waits, none_left, worked_on, each_worked}
 use Rattle.std.proofs.Common.{inl, inr, sym, subst, ◌≡◌, ◌<◌, ◌∙◌, [], length, None, true, false, ap, rules, arith}
-use Rattle.std.specs.Prelude.{IsSome, Result, Err, IfErr}
 use Rattle.logical_time.specs.declared.fault.Fault.{Fault}
 use Rattle.actors.specs.Refusals.{CanRefuse}
 use Rattle.actors.specs.declared.turn.Turn.{Turn}
