@@ -2,7 +2,7 @@
 use Rattle.std.proofs.Common.{◌≡◌, ◌∙◌, ℕ, ◌+◌, ◌-◌, ◌≤◌, arith, slice_set, append_assoc, length-take, length-drop, length-set, length-append, codes, ◌<◌, ◌/◌, ◌%◌, suc, List, [], ◌∷◌, ◌++◌, slice_index, get_or, length, take, drop, Option, Result, Ok, Err, refl, ap, sym, subst, drop-cons, take-append-drop, append-nil}
 use Rattle.std.specs.Prelude.{IsErrAnd}
 use Rattle.std.specs.List.{flat_map}
-use Rattle.std.proofs.lemmas.List.{take_more, take_more_set}
+use Rattle.std.proofs.lemmas.List.{drop_all, length-take-le, take_more, take_more_set}
 use Rattle.std.proofs.lemmas.Slice.{take-put_mid}
 use lib.Seq.{take_at}
 use borrow.Rule.Slice.PartMut.{put_mid, same_len_mid}
@@ -64,6 +64,11 @@ pub digits_joined : {W T U : Type 0} (contents : W → Option (List ℕ)) (old m
 digits_joined contents old mid new done result bytes before few is first step =
     joined contents old mid new done result (encode_lower bytes) (encode_lower before) (encode_lower few) (ap encode_lower is ∙ encode_append lower_digits before few) first step
 
+-- the mark at the beginning
+pub mark_first : (xs : List ℕ) (x : ℕ) → 1 ≤ length xs → take 1 (slice_set xs 0 x) ≡ x ∷ []
+mark_first [] x some = absurd (omega (arith, some))
+mark_first (y ∷ xs) x some = refl
+
 -- a name's digits behind the first mark, and a value's behind the second
 pub column_is : (xs name value left right : List ℕ) (m e : ℕ) → name ≡ left → value ≡ right → m ≡ 1 + length left → e ≡ m + 1 + length right → e ≤ length xs → take 1 xs ≡ 32 ∷ []
     → take e (put_mid (m + 1) (e - (m + 1)) (slice_set (put_mid 1 (m - 1) xs name) m 61) value) ≡ codes " " ++ left ++ codes "=" ++ right
@@ -96,3 +101,14 @@ key_is xs key digits e is he fits first =
     take_more_set ys e 58 (omega arith)
     ∙ ap (λ l. l ++ 58 ∷ []) (take-put_mid 2 (e - 2) xs digits e he (omega arith) ∙ ap (λ l. l ++ digits) first)
     ∙ simp append_assoc)
+
+-- a piece is laid behind what is laid
+pub laid_more : (xs piece a b : List ℕ) (end k : ℕ) → end ≤ length xs → k ≤ length piece → take end xs ≡ a → take k piece ≡ b
+    → take (end + k) (put_mid end (length xs - end) xs piece) ≡ a ++ b
+laid_more xs piece a b end k fits short before is =
+    let none : drop (length xs - end) (drop end xs) ≡ [] = drop_all (length xs - end) (drop end xs) (omega (arith, length-drop end xs)) in
+    ap (λ l. take (end + k) (take end xs ++ (piece ++ l))) none
+    ∙ ap (λ l. take (end + k) (take end xs ++ l)) (append-nil piece ∙ sym (take-append-drop k piece))
+    ∙ ap (take (end + k)) (sym (append_assoc (take end xs) (take k piece) (drop k piece)))
+    ∙ take_at (take end xs ++ take k piece) (drop k piece) (end + k) (omega (arith, length-append (take end xs) (take k piece), length-take-le end xs fits, length-take-le k piece short))
+    ∙ ap (λ l. l ++ take k piece) before ∙ ap (λ l. a ++ l) is

@@ -6,7 +6,7 @@ use Rattle.std.specs.Str.{bytes_eq}
 use Rattle.std.specs.Borrow.{Bor}
 use Rattle.std.specs.declared.alloc.Global.{Global}
 use Rattle.json.specs.Token.{Token}
-use Rattle.json.specs.Json.{Json, array, object, string, document, if_last, Items, no_items, item, Members, no_members, member, parse_map, after_end_array, read_key, items, members, value}
+use Rattle.json.specs.Json.{Json, array, object, string, document, if_last, Items, no_items, item, Members, no_members, member, parse_map, after_end_array, read_key, value}
 use Rattle.json.specs.Lex.{tokens}
 use Rattle.json.specs.Find.{as_str, as_array, get_member, later_or}
 use Rattle.json.specs.Value.{value_view, members_view}
@@ -20,7 +20,6 @@ use Rattle.messages.specs.declared.op.Op.{Op}
 use Rattle.messages.specs.declared.op.Op.TheVariants.{Batch, Read as Asks}
 use Rattle.messages.specs.Topology.{TopologyValue, shard_count, session_node}
 use Rattle.workload.specs.declared.script.Event.{Event}
-use Rattle.workload.specs.declared.script.Script.{Script}
 use Rattle.workload.specs.declared.script.Event.TheVariants.{Submit, Deliver, Collect, Drain}
 use Rattle.workload.specs.Gives.{◌>>=◌}
 use Rattle.workload.specs.Shape.{jsons_of, all_by, list_by, all_within, list_within, member_by, members_len, is_same, has_members, whole_of, whole_below}

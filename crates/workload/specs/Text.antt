@@ -1,5 +1,5 @@
 -- The text of a transcript: numbers are decimal, bytes are two hexadecimal digits each, in lower case.
-use Rattle.std.specs.Prelude.{ℕ, List, ◌++◌, codes, decimal}
+use Rattle.std.specs.Prelude.{ℕ, Bool, ◌&&◌, nat_le, List, ◌++◌, length, codes, decimal}
 use Rattle.std.specs.List.{flat_map}
 use Rattle.hex.specs.Hex.{encode_lower}
 use Rattle.logical_time.specs.declared.fault.Fault.{Fault}
@@ -13,6 +13,10 @@ use Rattle.workload.specs.declared.transcript.Entry.TheVariants.{Wrote, Read, Co
 -- ` NAME=VALUE`
 abbrev pub column_text : Column → List ℕ
 column_text c = codes " " ++ encode_lower c.name ++ codes "=" ++ encode_lower c.value
+
+-- a column is short whose name and value have at most 32 bytes each
+abbrev pub is_short_column : Column → Bool
+is_short_column c = nat_le (length c.name) 32 && nat_le (length c.value) 32
 
 -- `  KEY:`, then each column
 abbrev pub row_text : AnsweredRow → List ℕ

@@ -1,12 +1,12 @@
 //! The texts of transcripts, written piece by piece: no piece takes memory.
-ghost use Rattle.std.specs.Prelude.{◌≡◌, ◌≤◌, ◌+◌, ◌*◌, ◌++◌, ◌∷◌, Err, IsSome, IsNone, OnOk, OnErr, IfErr, length, codes, decimal};
-ghost use Rattle.std.specs.List.{flat_map};
+ghost use Rattle.std.specs.Prelude.{◌≡◌, ◌≤◌, ◌+◌, ◌*◌, ◌++◌, ◌∷◌, true, Err, IsSome, IsNone, OnOk, OnErr, IfErr, length, take, codes, decimal};
+ghost use Rattle.std.specs.List.{flat_map, list_all};
 ghost use Rattle.std.specs.Io.KnownBytes.{Appends};
 ghost use Rattle.hex.specs.Hex.{encode_lower};
 ghost use Rattle.logical_time.specs.declared.fault.Fault.TheVariants as fault;
 ghost use Rattle.logical_time.specs.Fault.{number_of};
 ghost use Rattle.program.specs.Outputs.{Adds, AppendsPart};
-ghost use Rattle.workload.specs.Text.{column_text, row_text, op_text, commit_text, answer_text, refusal_text, entry_text, text_of};
+ghost use Rattle.workload.specs.Text.{is_short_column, column_text, row_text, op_text, commit_text, answer_text, refusal_text, entry_text, text_of};
 
 use crate::transcript::{Entry, Transcript};
 use itoa::Buffer;
@@ -20,6 +20,9 @@ const FEW: usize = 64;
 
 /// How many bytes a key, a name or a value has at most that is written in one piece with what stands around it.
 const SHORT: usize = 32;
+
+/// How many short columns are written in one piece at most.
+const COLUMNS: usize = 4;
 
 /// How many bytes a few words have at most.
 const WORDS: usize = 16;
@@ -74,22 +77,62 @@ fn put_marked<W: Write>(output: &mut Output<W>, mark: u8, bytes: &[u8]) -> Resul
     put_many(output, bytes)
 }
 
-// ` NAME=VALUE`, of a short name and a short value.
-fn put_short_column<W: Write>(
-    output: &mut Output<W>,
-    name: &[u8],
-    value: &[u8],
-) -> Result<(), Fault>
+// Whether a column's name and its value are short.
+fn is_short(column: &Column) -> bool
+    ensures { result ≡ is_short_column column.now }
+{
+    column.name.as_slice().len() <= SHORT && column.value.as_slice().len() <= SHORT
+}
+
+// Whether each of the columns is short.
+fn are_short(columns: &[Column]) -> bool
+    ensures { result ≡ list_all is_short_column columns.now }
+{
+    columns.iter().all(|column| is_short(column))
+}
+
+// Lays ` NAME=VALUE`, of a short name and a short value, at the beginning of a text: how many bytes it has.
+fn lay_column(text: &mut [u8], name: &[u8], value: &[u8]) -> usize
+    requires room { 130 ≤ length text.old }
     requires name { length name.now ≤ 32 }
     requires value { length value.now ≤ 32 }
-    ensures { Adds W.contents output.old output.new result (codes " " ++ encode_lower name.now ++ codes "=" ++ encode_lower value.now) }
+    ensures laid { take result text.new ≡ codes " " ++ encode_lower name.now ++ codes "=" ++ encode_lower value.now }
+    ensures length { length text.new ≡ length text.old }
+    ensures most { result ≤ 130 }
 {
-    let mut text = [b' '; 2 + 4 * SHORT];
     let middle = 1 + 2 * name.len();
     let end = middle + 1 + 2 * value.len();
+    text[0] = b' ';
     hex::encode_to_slice(name, &mut text[1..middle]).unwrap();
     text[middle] = b'=';
     hex::encode_to_slice(value, &mut text[middle + 1..end]).unwrap();
+    end
+}
+
+// Lays short columns one after the other at the beginning of a text: how many bytes they have.
+fn lay_columns(text: &mut [u8], columns: &[Column]) -> usize
+    requires room { 130 * length columns.now ≤ length text.old }
+    requires short { list_all is_short_column columns.now ≡ true }
+    ensures laid { take result text.new ≡ flat_map column_text columns.now }
+    ensures length { length text.new ≡ length text.old }
+    ensures most { result ≤ 130 * length columns.now }
+{
+    let mut end = 0;
+    for column in columns {
+        let (name, value) = (column.name.as_slice(), column.value.as_slice());
+        end += lay_column(&mut text[end..], name, value);
+    }
+    end
+}
+
+// Up to four short columns, in one piece.
+fn put_short_columns<W: Write>(output: &mut Output<W>, columns: &[Column]) -> Result<(), Fault>
+    requires few { length columns.now ≤ 4 }
+    requires short { list_all is_short_column columns.now ≡ true }
+    ensures { Adds W.contents output.old output.new result (flat_map column_text columns.now) }
+{
+    let mut text = [b' '; COLUMNS * (2 + 4 * SHORT)];
+    let end = lay_columns(&mut text, columns);
     output.put(&text[..end])
 }
 
@@ -101,20 +144,15 @@ fn put_long_column<W: Write>(output: &mut Output<W>, name: &[u8], value: &[u8]) 
     put_marked(output, b'=', value)
 }
 
-// ` NAME=VALUE`.
+// ` NAME=VALUE`, of any column.
 fn put_column<W: Write>(output: &mut Output<W>, column: &Column) -> Result<(), Fault>
     ensures { Adds W.contents output.old output.new result (column_text column.now) }
 {
-    let (name, value) = (column.name.as_slice(), column.value.as_slice());
-    if name.len() <= SHORT && value.len() <= SHORT {
-        put_short_column(output, name, value)
-    } else {
-        put_long_column(output, name, value)
-    }
+    put_long_column(output, column.name.as_slice(), column.value.as_slice())
 }
 
 // Each column, in order.
-fn put_columns<W: Write>(output: &mut Output<W>, columns: &[Column]) -> Result<(), Fault>
+fn put_each_column<W: Write>(output: &mut Output<W>, columns: &[Column]) -> Result<(), Fault>
     requires { IsNone output.old.failure }
     ensures { Adds W.contents output.old output.new result (flat_map column_text columns.now) }
 {
@@ -122,6 +160,33 @@ fn put_columns<W: Write>(output: &mut Output<W>, columns: &[Column]) -> Result<(
         put_column(output, column)?;
     }
     Ok(())
+}
+
+// Up to four columns, in order.
+fn put_few_columns<W: Write>(output: &mut Output<W>, columns: &[Column]) -> Result<(), Fault>
+    requires few { length columns.now ≤ 4 }
+    requires sound { IsNone output.old.failure }
+    ensures { Adds W.contents output.old output.new result (flat_map column_text columns.now) }
+{
+    if are_short(columns) {
+        put_short_columns(output, columns)
+    } else {
+        put_each_column(output, columns)
+    }
+}
+
+// Each column, in order, four at a time.
+fn put_columns<W: Write>(output: &mut Output<W>, columns: &[Column]) -> Result<(), Fault>
+    requires { IsNone output.old.failure }
+    ensures { Adds W.contents output.old output.new result (flat_map column_text columns.now) }
+{
+    let mut rest = columns;
+    while COLUMNS < rest.len() {
+        let (few, more) = rest.split_at(COLUMNS);
+        put_few_columns(output, few)?;
+        rest = more;
+    }
+    put_few_columns(output, rest)
 }
 
 // `  KEY:`, of a short key.
@@ -333,7 +398,7 @@ fn put_entries<W: Write>(output: &mut Output<W>, entries: &[Entry]) -> Result<()
 /// Writes the text of a transcript and passes it on: a line for each entry and, after that of a read, one for each asked row.
 /// Numbers are decimal, bytes lower-case hexadecimal. Refused with `WriteFailed` exactly where the output has failed; then a
 /// beginning of the text is written, and nothing where it had failed before. Linear in the text. Takes no memory: the text is
-/// written in pieces of up to 130 bytes, so a writer that calls the system for each should have a buffer before it.
+/// written in pieces of up to 520 bytes, so a writer that calls the system for each should have a buffer before it.
 pub fn write_transcript<W: Write>(
     output: &mut Output<W>,
     transcript: &Transcript,

@@ -1,4 +1,4 @@
-use Rattle.std.proofs.Common.{◌≡◌, sym, ◌∙◌, arith}
+use Rattle.std.proofs.Common.{◌≡◌, ◌∙◌, arith}
 use Rattle.json.specs.Lex.{tokens}
 use Rattle.workload.proofs.Streams.{script_reads}
 use Rattle.workload.proofs.streaming.streamed.Goals as goal
