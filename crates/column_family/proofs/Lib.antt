@@ -1,3 +1,4 @@
+pub mod Alike
 pub mod Firsts
 pub mod Kept
 pub mod Standing

@@ -1,6 +1,6 @@
 //! Few bytes, in the order of two numbers.
 ghost use Rattle.std.specs.Prelude.{◌≡◌, ◌≤◌, length};
-ghost use Rattle.std.specs.Ordering.{nat_cmp};
+ghost use Rattle.std.specs.Ordering.{nat_cmp, is_eq};
 ghost use Rattle.std.specs.Cmp.Lexicographic.{slice_cmp};
 ghost use Rattle.column_family.specs.Heads.{first_of, head_of, second_of};
 
@@ -71,6 +71,15 @@ impl Few {
     {
         let _ = &self.bytes;
         self.first() / 256
+    }
+
+    /// Whether the bytes are the same: what comes first, and what follows and the count.
+    pub(crate) fn is(&self, other: &Few) -> bool
+        ensures { result ≡ is_eq (slice_cmp nat_cmp self.now other.now) }
+    {
+        let _ = &self.bytes;
+        let _ = &other.bytes;
+        self.first() == other.first() && self.second() == other.second()
     }
 
     /// Compares as bytes: by what comes first, and then by what follows and the count.

@@ -140,7 +140,10 @@ impl PartialEq for SharedBytes {
     ghost laws = { partial_equiv_from_equiv nat_list_eq_equiv };
 
     fn eq(&self, other: &SharedBytes) -> bool {
-        self.cmp(other).is_eq()
+        match (&self.text, &other.text) {
+            (Text::Few(few), Text::Few(others)) => few.is(others),
+            _ => self.cmp(other).is_eq(),
+        }
     }
 }
 

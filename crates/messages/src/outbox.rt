@@ -1,11 +1,12 @@
 //! Envelopes in the order of sending.
-ghost use Rattle.std.specs.Prelude.{◌≡◌, ◌+◌, ◌≤◌, ◌<◌, ◌++◌, [], ◌∷◌, length, slice_get, take, drop, Some, if◌then◌else◌, is_ok, IsOk, IfErr, OnOk, OnErr};
+ghost use Rattle.std.specs.Prelude.{◌≡◌, ◌+◌, ◌≤◌, ◌<◌, ◌++◌, [], ◌∷◌, length, slice_get, slice_set, take, drop, Some, if◌then◌else◌, is_ok, IsOk, IfErr, OnOk, OnErr};
 ghost use Rattle.std.specs.Option.{option_copied};
 
 use crate::envelope::{Envelope, Refused};
 use logical_time::Fault;
 use std::alloc::Global;
 use std::marker::Model;
+use std::mem;
 
 /// Envelopes in the order in which they were posted, numbered from 0.
 #[derive(Drop)]
@@ -82,6 +83,26 @@ impl Outbox {
         ensures room { self.old.room ≤ self.new.room }
     {
         self.envelopes.remove(number)
+    }
+
+    /// Puts an envelope in the place of the one with this number, and takes that out. Takes no memory.
+    pub fn replace(&mut self, number: usize, envelope: Envelope) -> Envelope
+        requires { number < length self.old.sent }
+        ensures value { slice_get self.old.sent number ≡ Some result }
+        ensures put { self.new.sent ≡ slice_set self.old.sent number envelope }
+        ensures room { self.old.room ≤ self.new.room }
+    {
+        mem::replace(&mut self.envelopes[number], envelope)
+    }
+
+    /// Puts an envelope in the place of the one with this number, if so many were posted. Takes no memory.
+    pub fn put_back(&mut self, number: usize, envelope: Envelope)
+        ensures put { self.new.sent ≡ slice_set self.old.sent number envelope }
+        ensures room { self.old.room ≤ self.new.room }
+    {
+        if let Some(place) = self.envelopes.get_mut(number) {
+            *place = envelope;
+        }
     }
 
     /// How many more envelopes fit without memory.

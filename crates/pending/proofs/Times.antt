@@ -114,3 +114,12 @@ below_of_values es bound sorted =
 pub none_below : (bound : ℕ) → IsBelow (time_in []) bound []
 unfolding IsStrictlySortedBy
 none_below bound = below_of_values [] bound tt
+
+-- of one mark
+pub least_of_one : (txn : TxnValue) (n : ℕ) → IsLeast (time_in ((txn, n) ∷ [])) (Some n)
+unfolding IsStrictlySortedBy
+least_of_one txn n = least_of_values ((txn, n) ∷ []) (tt, tt)
+
+pub below_of_one : (txn : TxnValue) (n bound : ℕ) → IsBelow (time_in ((txn, n) ∷ [])) bound (keys_of (filter (λ e. nat_lt e.1 bound) ((txn, n) ∷ [])))
+unfolding IsStrictlySortedBy
+below_of_one txn n bound = below_of_values ((txn, n) ∷ []) bound (tt, tt)

@@ -30,8 +30,8 @@ fn add_row(
     ensures err { OnErr result (rows.new.entries ≡ rows.old.entries) }
     ensures memory { IfErr result (λ e. e ≡ fault.Memory) }
 {
-    let mut marks = RowMarks::new(alloc);
-    marks.mark(txn, time)?;
+    let mut marks = RowMarks::new();
+    marks.mark(alloc, txn, time)?;
     rows.insert(row.clone()?, marks)?;
     Ok(())
 }
@@ -49,7 +49,7 @@ pub(crate) fn mark_row(
     ensures memory { IfErr result (λ e. e ≡ fault.Memory) }
 {
     match rows.get_mut(row) {
-        Some(marks) => marks.mark(txn, time),
+        Some(marks) => marks.mark(alloc, txn, time),
         None => add_row(alloc, rows, row, txn, time),
     }
 }

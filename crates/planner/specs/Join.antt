@@ -17,9 +17,13 @@ row_for rows key = find (λ r. bytes_eq r.key key) rows
 abbrev pub columns_for : List AnsweredRow → List ℕ → List Column
 columns_for rows key = unwrap_or (option_map (λ r. r.columns) (row_for rows key)) []
 
+-- a key with its columns among the rows given
+abbrev pub joined_row : List AnsweredRow → List ℕ → AnsweredRow
+joined_row rows k = record { key = k; columns = columns_for rows k }
+
 -- the join of rows: each asked key once, in the order of first asking, with its columns among them
 abbrev pub joined : List (List ℕ) → List AnsweredRow → List AnsweredRow
-joined keys rows = map (λ k. record { key = k; columns = columns_for rows k }) (each_once keys)
+joined keys rows = map (joined_row rows) (each_once keys)
 
 -- where the first row of this key stands
 abbrev pub place_in : List AnsweredRow → List ℕ → Option ℕ

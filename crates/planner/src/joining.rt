@@ -6,7 +6,7 @@ ghost use Rattle.std.specs.Cmp.Lexicographic.{slice_cmp};
 ghost use Rattle.std.specs.BTreeMap.{get};
 ghost use Rattle.column_family.specs.History.{History, up_to};
 ghost use Rattle.table.specs.Meaning.{each_once as once_of, meaning, shown_row};
-ghost use Rattle.planner.specs.Join.{columns_for, joined, place_in, AreRight};
+ghost use Rattle.planner.specs.Join.{columns_for, joined, joined_row, place_in, row_for, AreRight};
 
 use column_family::Key;
 use logical_time::Fault;
@@ -14,6 +14,9 @@ use slice::{Answer, AnsweredRow, Columns, Read};
 use std::alloc::Global;
 use std::collections::BTreeMap;
 use table::each_once;
+
+/// Up to how many rows each key is looked for from the first on.
+const FEW: usize = 16;
 
 /// Where the first row of each key stands.
 fn places(alloc: Global, rows: &[AnsweredRow]) -> Result<BTreeMap<Key, usize>, Fault>
@@ -64,22 +67,62 @@ fn columns_at(
     }
 }
 
+/// The first row of a key.
+fn first_of<'r>(rows: &'r [AnsweredRow], key: &Key) -> Option<&'r AnsweredRow>
+    ensures { option_copied result ≡ row_for rows.now key.now }
+{
+    rows.iter().find(|row| row.key == *key)
+}
+
+/// The columns of a key among the rows, looked for from the first row on.
+fn columns_among(rows: &[AnsweredRow], key: &Key) -> Result<Columns, Fault>
+    ensures exact { IfOk result (λ columns. columns ≡ columns_for rows.now key.now) }
+    ensures memory { IfErr result (λ e. e ≡ Fault.Memory) }
+{
+    match first_of(rows, key) {
+        Some(row) => columns_of(row),
+        None => Ok(Columns::none()),
+    }
+}
+
+/// These keys, each with its columns among few rows.
+fn join_few(alloc: Global, once: Vec<Key>, rows: &[AnsweredRow]) -> Result<Answer, Fault>
+    ensures exact { IfOk result (λ answer. answer ≡ map (joined_row rows.now) once.items) }
+    ensures memory { IfErr result (λ e. e ≡ Fault.Memory) }
+{
+    let mut answer = Answer::with_capacity(alloc, once.len())?;
+    for key in once {
+        let columns = columns_among(rows, &key)?;
+        answer.push(AnsweredRow { key, columns })?;
+    }
+    Ok(answer)
+}
+
+/// These keys, each with its columns among many rows.
+fn join_many(alloc: Global, once: Vec<Key>, rows: &[AnsweredRow]) -> Result<Answer, Fault>
+    ensures exact { IfOk result (λ answer. answer ≡ map (joined_row rows.now) once.items) }
+    ensures memory { IfErr result (λ e. e ≡ Fault.Memory) }
+{
+    let places = places(alloc, rows)?;
+    let mut answer = Answer::with_capacity(alloc, once.len())?;
+    for key in once {
+        let columns = columns_at(alloc, rows, &places, &key)?;
+        answer.push(AnsweredRow { key, columns })?;
+    }
+    Ok(answer)
+}
+
 /// The join of the rows.
 fn join(alloc: Global, keys: &[Key], rows: &[AnsweredRow]) -> Result<Answer, Fault>
     ensures exact { IfOk result (λ answer. answer ≡ joined keys.now rows.now) }
     ensures memory { IfErr result (λ e. e ≡ Fault.Memory) }
 {
-    let places = places(alloc, rows)?;
     let once = each_once(alloc, keys)?;
-    let mut answer = Answer::new(alloc);
-    for key in &once {
-        let columns = columns_at(alloc, rows, &places, key)?;
-        answer.push(AnsweredRow {
-            key: key.clone()?,
-            columns,
-        })?;
+    if rows.len() <= FEW {
+        join_few(alloc, once, rows)
+    } else {
+        join_many(alloc, once, rows)
     }
-    Ok(answer)
 }
 
 /// The answer of a read, of the rows that shards answered, in any order: each asked key once, in the order of first

@@ -80,7 +80,7 @@ under_way_after t s n k room ts l grown ledger room_early becomes store early u 
   state = λ x. ap (λ (y : TransactionsValue). state_of y.ledger x) u.transactions ∙ subst (λ (z : LedgerValue). Becomes t (Some s) z ts.ledger) ledger becomes x;
   store = λ all keeps. subst (λ (y : TransactionsValue). Keeps y.store all) (sym u.transactions) (subst (λ y. Keeps y all) (sym store) (grown.keeps all keeps));
   early = λ x other. ap (λ (y : TransactionsValue). voters_of y.early x) u.transactions ∙ ap (λ (es : VoterList). voters_of es x) (early ∙ room_early);
-  notices = λ x other. u.notices x ∙ ap (λ (b : Bool). if b then [] else voters_of k.notices x) other;
+  notices = u.notices;
   askers = λ x other. ap (λ ks. askers_of ks x) u.askers;
   own_askers = λ e. ap (λ ks. askers_of ks t) u.askers;
   waiting = u.waiting;

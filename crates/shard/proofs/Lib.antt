@@ -8,6 +8,7 @@ pub mod ReplBegunSteps
 pub mod Closed
 pub mod ComingAnswers
 pub mod Commits
+pub mod CountsEarly
 pub mod Decisions
 pub mod EarlySteps
 pub mod Grow

@@ -8,6 +8,7 @@ use Rattle.write_txn.specs.Ledger.{state_of, decided_in}
 use Rattle.write_txn.specs.Voters.{voters_of}
 use Rattle.shard.specs.declared.kept.Kept.{Kept}
 use Rattle.shard.specs.Deciding.{IsSettled}
+use Rattle.shard.specs.Effects.{OthersHaveSameVoters}
 
 -- the transaction is decided with this commit time and this stamp, it has no cohorts, and there is room for its part
 pub record MaySettle (t : TxnValue) (commit : ℕ) (stamp : StampValue) (k : Kept) (c : CompleteValue) : Type 0 where
@@ -16,12 +17,12 @@ pub record MaySettle (t : TxnValue) (commit : ℕ) (stamp : StampValue) (k : Kep
   pub decided : decided_in (state_of k.transactions.ledger t) ≡ Some (commit, stamp)
   pub room : HasRoom k.transactions.store.rows c.own.part.batch
 
--- the transaction goes on being under way: no notice is kept of it that came early, and the clock shows this
+-- the transaction goes on being under way: of the others the notices that came early are kept, and the clock shows this
 pub record IsUnderWay (t : TxnValue) (n : ℕ) (k l : Kept) : Type 0 where
   pub place : l.place ≡ k.place
   pub clock : l.clock ≡ n
   pub transactions : l.transactions ≡ k.transactions
-  pub notices : (u : TxnValue) → voters_of l.notices u ≡ (if is_same_txn t u then [] else voters_of k.notices u)
+  pub notices : OthersHaveSameVoters t k.notices l.notices
   pub askers : l.askers ≡ k.askers
   pub waiting : l.waiting ≡ k.waiting
 

@@ -6,6 +6,7 @@ ghost use Rattle.messages.specs.Clock.{ticked};
 ghost use Rattle.messages.specs.Shard.{ShardState};
 ghost use Rattle.messages.specs.ShardEvents.{handled};
 ghost use Rattle.shard.specs.Handled.{is_handed_over};
+ghost use Rattle.shard.specs.Handled as handled_words;
 ghost use Rattle.shard.specs.Ignored.{IfIgnored, IsIgnored};
 ghost use Rattle.shard.specs.Kept.{Represents, Does, GoesOn, IsSpentOrMemory};
 
@@ -96,6 +97,76 @@ fn act(kept: &mut Kept, clock: Clock, from: Node, body: Body, outbox: &mut Outbo
             Err(fault) => Err((fault, other)),
         },
     }
+}
+
+/// Whether what a body holds is kept by the shard that hears it for the first time.
+fn is_handed_over(body: &Body) -> bool
+    ensures { result ≡ handled_words.is_handed_over body.now }
+{
+    matches!(
+        body,
+        Body::Begin { .. }
+            | Body::Prepare { .. }
+            | Body::ReadAt { .. }
+            | Body::ReplBegin { .. }
+            | Body::ReplPart { .. }
+    )
+}
+
+/// Does what a copy of a body makes of the shard at this clock. Refused with `Memory` alone.
+fn act_on_copy(
+    kept: &mut Kept,
+    clock: Clock,
+    from: Node,
+    body: &Body,
+    outbox: &mut Outbox,
+) -> Result<(), Fault>
+    ensures step { OnOk result (Does (λ top me a. handled top me clock a from body.now) kept.old kept.new outbox.old.sent outbox.new.sent) }
+    ensures same { OnErr result (GoesOn kept.old kept.new) }
+    ensures unsent { OnErr result (outbox.new.sent ≡ outbox.old.sent) }
+    ensures memory { IfErr result (λ e. e ≡ fault.Memory) }
+{
+    match act(kept, clock, from, body.copied()?, outbox) {
+        Ok(()) => Ok(()),
+        Err((fault, _)) => Err(fault),
+    }
+}
+
+/// Does what a body makes of the shard at this clock. What is kept of it is copied. Refused with `Memory` alone.
+fn act_on(
+    kept: &mut Kept,
+    clock: Clock,
+    from: Node,
+    body: &Body,
+    outbox: &mut Outbox,
+) -> Result<(), Fault>
+    ensures step { OnOk result (Does (λ top me a. handled top me clock a from body.now) kept.old kept.new outbox.old.sent outbox.new.sent) }
+    ensures same { OnErr result (GoesOn kept.old kept.new) }
+    ensures unsent { OnErr result (outbox.new.sent ≡ outbox.old.sent) }
+    ensures memory { IfErr result (λ e. e ≡ fault.Memory) }
+{
+    if is_handed_over(body) {
+        act_on_copy(kept, clock, from, body, outbox)
+    } else {
+        hear(kept, clock, from, body, outbox)
+    }
+}
+
+/// Handles an envelope that stays where it is, as `handle` does. Refused where that is no time, and with `Memory`.
+pub(crate) fn hear_envelope(
+    kept: &mut Kept,
+    envelope: &Envelope,
+    outbox: &mut Outbox,
+) -> Result<(), Fault>
+    ensures time { OnOk result (max kept.old.clock envelope.now.time + 1 < 2 ^ 48) }
+    ensures step { OnOk result (Does (λ top me a. handled top me (max kept.old.clock envelope.now.time + 1) a envelope.now.from envelope.now.body) kept.old kept.new outbox.old.sent outbox.new.sent) }
+    ensures same { OnErr result (GoesOn kept.old kept.new) }
+    ensures unsent { OnErr result (outbox.new.sent ≡ outbox.old.sent) }
+    ensures refused { IfErr result (λ e. IsSpentOrMemory (ticked kept.old.clock envelope.now.time) e) }
+{
+    let mut clock = kept.clock;
+    clock.receive(envelope.time)?;
+    act_on(kept, clock, envelope.from, &envelope.body, outbox)
 }
 
 /// Handles an envelope, at one past the later of the shard's clock and its time. Refused where that is no time, and with

@@ -107,9 +107,8 @@ pub(crate) fn conclude(
     }
 }
 
-/// A notice or an answer: counted if a ballot of the transaction waits that misses it, and the last missing thing makes the
-/// ballot ready; else ignored. Refused with `Memory` alone.
-fn count(
+/// A notice or an answer that may be the last missing thing, as `count` counts it. Refused with `Memory` alone.
+fn count_last(
     kept: &mut Kept,
     clock: Clock,
     txn: TxnId,
@@ -145,6 +144,31 @@ fn count(
     let complete = kept.transactions.count(txn, missing, time)?;
     conclude(kept, clock, txn, complete, stamp, envelopes, outbox);
     Ok(())
+}
+
+/// A notice or an answer: counted if a ballot of the transaction waits that misses it, and the last missing thing makes the
+/// ballot ready; else ignored. Refused with `Memory` alone.
+fn count(
+    kept: &mut Kept,
+    clock: Clock,
+    txn: TxnId,
+    missing: Missing,
+    outbox: &mut Outbox,
+) -> Result<(), Fault>
+    requires { IsInTime missing (state_of kept.old.transactions.ledger txn) }
+    ensures step { OnOk result (Does (λ top me a. on_missing missing top me clock a txn) kept.old kept.new outbox.old.sent outbox.new.sent) }
+    ensures same { OnErr result (GoesOn kept.old kept.new) }
+    ensures unsent { OnErr result (outbox.new.sent ≡ outbox.old.sent) }
+    // it takes no memory where only the clock moves
+    ensures quiet { IfIgnored (λ top me a. on_missing missing top me clock a txn) clock kept.old (IsOk result) }
+    ensures memory { IfErr result (λ e. e ≡ fault.Memory) }
+{
+    let early = missing;
+    if !kept.transactions.count_early(txn, early) {
+        kept.clock = clock;
+        return Ok(());
+    }
+    count_last(kept, clock, txn, missing, outbox)
 }
 
 /// Notify: an early notice is kept, once for each node; one of a cohort that isn't yet counted is counted, and the last

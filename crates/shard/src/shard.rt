@@ -85,6 +85,20 @@ impl Shard {
         handling::handle(&mut self.kept, envelope, outbox)
     }
 
+    /// Handles an envelope that stays with the caller, as `handle` does. What the shard keeps of it is copied, and shares the
+    /// bytes of keys, names and values. Refused with `ClockSpent` where the clock would leave its range, and with `Memory`;
+    /// then the shard stands for what it stood for, and nothing is sent.
+    pub fn hear(&mut self, envelope: &Envelope, outbox: &mut Outbox) -> Result<(), Fault>
+        ensures step { (top : TopologyValue) (me : ℕ) (a : ShardState) → Represents top me self.old a
+            → OnOk result (IsStepOf top me (shard_handle top me a envelope.now) self.new outbox.old.sent outbox.new.sent) }
+        ensures refused { (top : TopologyValue) (me : ℕ) (a : ShardState) → Represents top me self.old a
+            → IfErr result (λ e. IsRefusalOf (shard_handle top me a envelope.now) e) }
+        ensures same { OnErr result (GoesOn self.old self.new) }
+        ensures unsent { OnErr result (outbox.new.sent ≡ outbox.old.sent) }
+    {
+        handling::hear_envelope(&mut self.kept, envelope, outbox)
+    }
+
     /// Raises the horizon to this time, unless it is there: versions that no read from there on sees may be dropped, and a
     /// read at a time below it may be given up. It is an event without a message. Refused with `ClockSpent` where the clock
     /// would leave its range, and then nothing changes.

@@ -1,14 +1,14 @@
 -- Names put in order one by one, from the last to the first.
-use Rattle.std.proofs.Common.{◌≡◌, ℕ, List, [], ◌∷◌, ◌++◌, refl, ap, ◌∙◌, sym}
+use Rattle.std.proofs.Common.{◌≡◌, ℕ, Bool, true, false, ◌&&◌, List, [], ◌∷◌, ◌++◌, refl, ap, ◌∙◌, sym}
 use Rattle.std.specs.declared.cmp.Ordering.{Ordering}
 use Rattle.std.specs.declared.cmp.Ordering.TheVariants.{Less, Equal, Greater}
-use Rattle.std.specs.Ordering.{nat_cmp, match_ordering, ordering_reverse}
+use Rattle.std.specs.Ordering.{nat_cmp, is_lt, match_ordering, ordering_reverse}
 use Rattle.std.specs.List.{AllByRecursion}
 use Rattle.std.specs.List.Sorted.{IsStrictlySortedBy}
 use Rattle.std.proofs.lemmas.Cmp.{nat_list_cmp_total}
 use Rattle.std.specs.Cmp.Lexicographic.{slice_cmp}
 use Rattle.std.specs.BTreeSet.{insert_key}
-use Rattle.slice.specs.Live.{placed_name, with_name, in_name_order}
+use Rattle.slice.specs.Live.{placed_name, with_name, in_name_order, comes_first, ascend}
 
 -- the names ns put among names that stand in order
 abbrev pub put_among : List (List ℕ) → List (List ℕ) → List (List ℕ)
@@ -37,6 +37,29 @@ put_among_last (m ∷ ns) ms n = ap (with_name m) (put_among_last ns ms n)
 -- the step of a loop that puts the last of what is left into a set
 pub put_among_insert : (all ns ms : List (List ℕ)) (n : List ℕ) → all ≡ ns ++ n ∷ [] → put_among all ms ≡ put_among ns (insert_key (slice_cmp nat_cmp) ms n)
 put_among_insert all ns ms n e = ap (λ ks. put_among ks ms) e ∙ (put_among_last ns ms n ∙ ap (put_among ns) (sym (insert_key_is ms n)))
+
+placed_before : (o : Ordering) (n m : List ℕ) (ms others : List (List ℕ)) → is_lt o ≡ true → placed_name o n m ms others ≡ n ∷ m ∷ ms
+placed_before Less n m ms others e = refl
+placed_before Equal n m ms others e = absurd (cc)
+placed_before Greater n m ms others e = absurd (cc)
+
+first_true : (a b : Bool) → (a && b) ≡ true → a ≡ true
+first_true true b e = refl
+first_true false b e = e
+
+second_true : (a b : Bool) → (a && b) ≡ true → b ≡ true
+second_true true b e = e
+second_true false b e = absurd (cc)
+
+with_first : (n : List ℕ) (ns : List (List ℕ)) → comes_first n ns ≡ true → with_name n ns ≡ n ∷ ns
+with_first n [] e = refl
+with_first n (m ∷ ms) e = placed_before (slice_cmp nat_cmp n m) n m ms (with_name n ms) e
+
+-- names that ascend are in order
+pub ascending_in_order : (ns : List (List ℕ)) → ascend ns ≡ true → in_name_order ns ≡ ns
+ascending_in_order [] e = refl
+ascending_in_order (n ∷ ns) e =
+    ap (with_name n) (ascending_in_order ns (second_true (comes_first n ns) (ascend ns) e)) ∙ with_first n ns (first_true (comes_first n ns) (ascend ns) e)
 
 every_weaker : {X : Type 0} (P Q : X → Type 0) → ((x : X) → P x → Q x) → (xs : List X) → AllByRecursion P xs → AllByRecursion Q xs
 every_weaker P Q f [] h = h

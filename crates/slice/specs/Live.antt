@@ -1,8 +1,8 @@
 -- The live columns of a row, by a history.
-use Rattle.std.specs.Prelude.{ℕ, if◌then◌else◌, List, [], ◌∷◌, filter_map, flat_map, Option, Some, None, option_map}
+use Rattle.std.specs.Prelude.{ℕ, Bool, true, ◌&&◌, if◌then◌else◌, List, [], ◌∷◌, filter_map, flat_map, Option, Some, None, option_map}
 use Rattle.std.specs.declared.cmp.Ordering.{Ordering}
 use Rattle.std.specs.declared.cmp.Ordering.TheVariants.{Less, Equal, Greater}
-use Rattle.std.specs.Ordering.{nat_cmp}
+use Rattle.std.specs.Ordering.{nat_cmp, is_lt}
 use Rattle.std.specs.Cmp.Lexicographic.{slice_cmp}
 use Rattle.column_family.specs.declared.batch.Row.{Row}
 use Rattle.column_family.specs.declared.batch.Change.{Change}
@@ -26,6 +26,16 @@ with_name n (m ∷ ms) = placed_name (slice_cmp nat_cmp n m) n m ms (with_name n
 abbrev pub in_name_order : List (List ℕ) → List (List ℕ)
 in_name_order [] = []
 in_name_order (n ∷ ns) = with_name n (in_name_order ns)
+
+-- whether a name comes before the first of others
+abbrev pub comes_first : List ℕ → List (List ℕ) → Bool
+comes_first n [] = true
+comes_first n (m ∷ ms) = is_lt (slice_cmp nat_cmp n m)
+
+-- whether the names of a list stand in name order, each once
+abbrev pub ascend : List (List ℕ) → Bool
+ascend [] = true
+ascend (n ∷ ns) = comes_first n ns && ascend ns
 
 -- the column that a mutation inserts or deletes
 abbrev pub column_named : Mutation → Option (List ℕ)

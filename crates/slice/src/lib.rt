@@ -14,7 +14,7 @@ mod selecting;
 pub use column::{Column, Columns};
 pub use law::{live_columns_are_the_table, reads_rest_on_the_same};
 pub use live::{columns_changed, live_columns};
-pub use ordering::set_of;
+pub use ordering::{are_in_order, set_of};
 pub use predicate::{Names, Predicate};
 pub use read::{Answer, AnsweredRow, Keys, Read};
 pub use selecting::{first_of_walk, select};

@@ -101,6 +101,15 @@ impl Answer {
         }
     }
 
+    /// An answer without a row, with room for so many. Fails by memory alone.
+    pub fn with_capacity(alloc: Global, rows: usize) -> Result<Answer, AllocError>
+        ensures { IfOk result (λ answer. answer ≡ []) }
+    {
+        Ok(Answer {
+            rows: Vec::with_capacity(alloc, rows)?,
+        })
+    }
+
     /// Adds a row at the end. Fails by memory alone; then nothing changes, and
     /// it is handed back.
     pub fn push(&mut self, row: AnsweredRow) -> Result<(), AllocFailed<AnsweredRow>>

@@ -3,6 +3,7 @@ ghost use Rattle.std.specs.Prelude.{◌≡◌, IfOk, IfErr, map, filter, filter_
 ghost use Rattle.std.specs.Option.{option_copied};
 ghost use Rattle.std.specs.BTreeMap.{IsOrdered};
 ghost use Rattle.std.specs.Range.Bound.{bound_map};
+ghost use Rattle.slice.specs.Live.{in_name_order};
 ghost use Rattle.slice.specs.Slice as slice_words;
 ghost use Rattle.logical_time.specs.declared.fault.Fault.TheVariants as fault;
 ghost use Rattle.store.specs.Kept.{name_cmp};
@@ -12,7 +13,7 @@ ghost use Rattle.store.specs.Sight.{AreSeen, named, sight_of};
 use crate::row::RowChains;
 use column_family::Name;
 use logical_time::{Fault, Time};
-use slice::{Predicate, set_of};
+use slice::{Predicate, are_in_order, set_of};
 use std::alloc::{AllocError, Global};
 use std::collections::{BTreeMap, BTreeSet};
 use std::ops::Bound;
@@ -84,6 +85,44 @@ fn seen_among<'s>(
     Ok(seen)
 }
 
+// The columns with these names of which a version is seen, in the order of the names.
+fn seen_listed<'s>(
+    alloc: Global,
+    columns: &'s BTreeMap<Name, Chain>,
+    names: &[Name],
+    moment: &Moment,
+) -> Result<Vec<Seen<'s>>, AllocError>
+    ensures { IfOk result (λ seen. map named seen.items ≡ filter_map (sight.seen_at moment.now columns.now.entries) names.now) }
+{
+    let mut seen = Vec::with_capacity(alloc, names.len())?;
+    let mut rest = names;
+    while let Some((name, others)) = rest.split_first() {
+        if let Some(one) = seen_named(columns, name, moment) {
+            seen.push(one)?;
+        }
+        rest = others;
+    }
+    Ok(seen)
+}
+
+// The columns with the names of a list of which a version is seen, in name order.
+fn seen_by_names<'s>(
+    alloc: Global,
+    columns: &'s BTreeMap<Name, Chain>,
+    names: &[Name],
+    moment: &Moment,
+) -> Result<Vec<Seen<'s>>, Fault>
+    ensures ok { IfOk result (λ seen. map named seen.items ≡ filter_map (sight.seen_at moment.now columns.now.entries) (in_name_order names.now)) }
+    ensures memory { IfErr result (λ e. e ≡ fault.Memory) }
+{
+    // mostly they are listed in order
+    if are_in_order(names) {
+        return Ok(seen_listed(alloc, columns, names, moment)?);
+    }
+    let set = set_of(alloc, names)?;
+    Ok(seen_among(alloc, columns, &set, moment)?)
+}
+
 // Whether neither end is open and the first lies above the second.
 fn is_backwards(low: &Name, high: &Name) -> bool
     ensures { result ≡ sight.is_backwards low.now high.now }
@@ -102,6 +141,15 @@ fn bound_of(end: &Name) -> Bound<&Name>
     }
 }
 
+// How many columns a list has room for at first that holds those between these ends: all where both are open.
+fn most_between(columns: &BTreeMap<Name, Chain>, low: &Name, high: &Name) -> usize {
+    if low.as_slice().is_empty() && high.as_slice().is_empty() {
+        columns.len()
+    } else {
+        0
+    }
+}
+
 // The columns between these ends of which a version is seen, in name order.
 fn seen_between<'s>(
     alloc: Global,
@@ -111,9 +159,9 @@ fn seen_between<'s>(
     moment: &Moment,
 ) -> Result<Vec<Seen<'s>>, AllocError>
     ensures between { IfOk result (λ seen. map named seen.items ≡ filter_map (sight.seen_entry moment.now) (filter (λ e. slice_words.is_between low.now high.now e.0) columns.now.entries)) }
-    ensures ordered { sight.is_backwards low.now high.now ≡ false → IsOrdered name_cmp columns.now }
+    ensures ordered { IfOk result (λ seen. sight.is_backwards low.now high.now ≡ false → IsOrdered name_cmp columns.now) }
 {
-    let mut seen = Vec::new(alloc);
+    let mut seen = Vec::with_capacity(alloc, most_between(columns, low, high))?;
     if is_backwards(low, high) {
         return Ok(seen);
     }
@@ -138,10 +186,7 @@ pub(crate) fn asked_columns<'s>(
 {
     let columns = &row.columns;
     match predicate {
-        Predicate::Names(names) => {
-            let names = set_of(alloc, names.as_slice())?;
-            Ok(seen_among(alloc, columns, &names, moment)?)
-        }
+        Predicate::Names(names) => { Ok(seen_by_names(alloc, columns, names.as_slice(), moment)?) }
         Predicate::Range {
             start,
             finish,

@@ -15,8 +15,8 @@ ghost use Rattle.world.specs.Steps.{StaysApart, DidShard};
 
 use crate::completed::Completed;
 use crate::station::Station;
-use logical_time::{Clock, Fault, Node, Time};
-use messages::{Envelope, Op, Outbox, Topology};
+use logical_time::{Clock, Fault, Node, Time, TxnId};
+use messages::{Body, Envelope, Op, Outbox, Topology};
 use shard::Shard;
 
 /// The actors of a topology, all that they sent and what ended.
@@ -33,25 +33,43 @@ pub struct Actors {
     pub transcript: Vec<Completed>,
 }
 
-/// A shard handles an envelope. Refused as the shard refuses it; then all stand for what they stood for.
+/// What stands in the network in the place of a message that is being handled.
+fn blank() -> Envelope {
+    let node = Node::new(0);
+    Envelope {
+        from: node,
+        to: node,
+        time: Time::zero(),
+        body: Body::Yes {
+            txn: TxnId {
+                session: node,
+                number: 0,
+            },
+        },
+    }
+}
+
+/// A shard handles the message of this number, which stays in the network. Refused as the shard refuses it; then all stand
+/// for what they stood for.
 fn hand_over(
     shards: &mut Vec<Shard>,
     place: usize,
-    envelope: Envelope,
+    number: usize,
     network: &mut Outbox,
 ) -> Result<(), Fault>
-    requires { place < length shards.old.items }
-    ensures ok { (top : TopologyValue) (states : ℕ → ShardState) → AreShards top states shards.old.items → StaysApart (shard_handle top place (states place) envelope)
-        → OnOk result (DidShard top states place (shard_handle top place (states place) envelope) shards.new.items network.old.sent network.new.sent) }
-    ensures refused { (top : TopologyValue) (states : ℕ → ShardState) → AreShards top states shards.old.items
-        → IfErr result (λ e. IsRefusalOf (shard_handle top place (states place) envelope) e) }
+    requires place { place < length shards.old.items }
+    requires sent { number < length network.old.sent }
+    ensures ok { (top : TopologyValue) (states : ℕ → ShardState) (e : Envelope) → slice_get network.old.sent number ≡ Some e → AreShards top states shards.old.items → StaysApart (shard_handle top place (states place) e)
+        → OnOk result (DidShard top states place (shard_handle top place (states place) e) shards.new.items network.old.sent network.new.sent) }
+    ensures refused { (top : TopologyValue) (states : ℕ → ShardState) (e : Envelope) → slice_get network.old.sent number ≡ Some e → AreShards top states shards.old.items
+        → IfErr result (λ f. IsRefusalOf (shard_handle top place (states place) e) f) }
     ensures same { (top : TopologyValue) (states : ℕ → ShardState) → AreShards top states shards.old.items → OnErr result (AreShards top states shards.new.items) }
     ensures unsent { OnErr result (network.new.sent ≡ network.old.sent) }
 {
-    match shards[place].handle(envelope, network) {
-        Ok(()) => Ok(()),
-        Err(refused) => Err(refused.fault),
-    }
+    let envelope = network.replace(number, blank());
+    let heard = shards[place].hear(&envelope, network);
+    network.put_back(number, envelope);
+    heard
 }
 
 /// A shard collects up to a time. Refused as the shard refuses it; then all stand for what they stood for.
@@ -158,10 +176,56 @@ impl Actors {
         copy_of(&self.network, number)
     }
 
+    /// Whom the message of this number is for.
+    fn addressee(&self, number: usize) -> Node
+        requires { number < length self.now.network.sent }
+        ensures { (e : Envelope) → slice_get self.now.network.sent number ≡ Some e → result ≡ e.to }
+    {
+        match self.network.get(number) {
+            Some(envelope) => envelope.to,
+            None => unreachable!(),
+        }
+    }
+
     /// The message of this number is delivered.
     pub fn deliver(&mut self, number: usize) -> Result<(), Fault>
         requires sent { number < length self.old.network.sent }
         requires addressed { (e : Envelope) → slice_get self.old.network.sent number ≡ Some e → e.to < length self.old.shards.items + length self.old.stations.items }
+        ensures ok { (top : TopologyValue) (events : List Event) → IsRunning top (run top events) self.old → OnOk result (HasTaken top events (Deliver number) self.new) }
+        ensures refused { (top : TopologyValue) (events : List Event) → IsRunning top (run top events) self.old
+            → IfErr result (IsRefusedAs (refusal_of top (run top events) (Deliver number))) }
+        ensures same { (top : TopologyValue) (events : List Event) → IsRunning top (run top events) self.old → OnErr result (IsRunning top (run top events) self.new) }
+        ensures topology { self.new.topology ≡ self.old.topology }
+    {
+        let place = usize::from(self.addressee(number).get());
+        if place < self.shards.len() {
+            self.to_shard(place, number)
+        } else {
+            self.to_session(number)
+        }
+    }
+
+    /// The shard at this place handles the message of this number.
+    fn to_shard(&mut self, place: usize, number: usize) -> Result<(), Fault>
+        requires place { place < length self.old.shards.items }
+        requires sent { number < length self.old.network.sent }
+        requires to { (e : Envelope) → slice_get self.old.network.sent number ≡ Some e → e.to ≡ place }
+        ensures ok { (top : TopologyValue) (events : List Event) → IsRunning top (run top events) self.old → OnOk result (HasTaken top events (Deliver number) self.new) }
+        ensures refused { (top : TopologyValue) (events : List Event) → IsRunning top (run top events) self.old
+            → IfErr result (IsRefusedAs (refusal_of top (run top events) (Deliver number))) }
+        ensures same { (top : TopologyValue) (events : List Event) → IsRunning top (run top events) self.old → OnErr result (IsRunning top (run top events) self.new) }
+        ensures topology { self.new.topology ≡ self.old.topology }
+    {
+        match hand_over(&mut self.shards, place, number, &mut self.network) {
+            Ok(()) => Ok(()),
+            Err(fault) => Err(fault),
+        }
+    }
+
+    /// A session handles the message of this number.
+    fn to_session(&mut self, number: usize) -> Result<(), Fault>
+        requires sent { number < length self.old.network.sent }
+        requires addressed { (e : Envelope) → slice_get self.old.network.sent number ≡ Some e → (length self.old.shards.items ≤ e.to) × (e.to < length self.old.shards.items + length self.old.stations.items) }
         ensures ok { (top : TopologyValue) (events : List Event) → IsRunning top (run top events) self.old → OnOk result (HasTaken top events (Deliver number) self.new) }
         ensures refused { (top : TopologyValue) (events : List Event) → IsRunning top (run top events) self.old
             → IfErr result (IsRefusedAs (refusal_of top (run top events) (Deliver number))) }
@@ -174,9 +238,9 @@ impl Actors {
         }
     }
 
-    /// The actor to whom it is addressed handles an envelope.
+    /// The session to which it is addressed handles an envelope.
     fn hand(&mut self, envelope: Envelope) -> Result<(), Fault>
-        requires to { envelope.to < length self.old.shards.items + length self.old.stations.items }
+        requires to { (length self.old.shards.items ≤ envelope.to) × (envelope.to < length self.old.shards.items + length self.old.stations.items) }
         requires room { HasRoom self.old.transcript }
         ensures ok { (top : TopologyValue) (events : List Event) (k : ℕ) → IsRunning top (run top events) self.old → slice_get self.old.network.sent k ≡ Some envelope
             → OnOk result (HasTaken top events (Deliver k) self.new) }
@@ -185,34 +249,12 @@ impl Actors {
         ensures same { (top : TopologyValue) (events : List Event) → IsRunning top (run top events) self.old → OnErr result (IsRunning top (run top events) self.new) }
         ensures topology { self.new.topology ≡ self.old.topology }
     {
-        let place = usize::from(envelope.to.get());
-        let shards = self.shards.len();
-        if place < shards {
-            self.to_shard(place, envelope)
-        } else {
-            self.to_session(place - shards, envelope)
-        }
-    }
-
-    /// The shard at this place handles an envelope.
-    fn to_shard(&mut self, place: usize, envelope: Envelope) -> Result<(), Fault>
-        requires place { place < length self.old.shards.items }
-        requires to { envelope.to ≡ place }
-        ensures ok { (top : TopologyValue) (events : List Event) (k : ℕ) → IsRunning top (run top events) self.old → slice_get self.old.network.sent k ≡ Some envelope
-            → OnOk result (HasTaken top events (Deliver k) self.new) }
-        ensures refused { (top : TopologyValue) (events : List Event) (k : ℕ) → IsRunning top (run top events) self.old → slice_get self.old.network.sent k ≡ Some envelope
-            → IfErr result (IsRefusedAs (refusal_of top (run top events) (Deliver k))) }
-        ensures same { (top : TopologyValue) (events : List Event) → IsRunning top (run top events) self.old → OnErr result (IsRunning top (run top events) self.new) }
-        ensures topology { self.new.topology ≡ self.old.topology }
-    {
-        match hand_over(&mut self.shards, place, envelope, &mut self.network) {
-            Ok(()) => Ok(()),
-            Err(fault) => Err(fault),
-        }
+        let place = usize::from(envelope.to.get()) - self.shards.len();
+        self.to_station(place, envelope)
     }
 
     /// The session at this place, which follows the shards, handles an envelope.
-    fn to_session(&mut self, place: usize, envelope: Envelope) -> Result<(), Fault>
+    fn to_station(&mut self, place: usize, envelope: Envelope) -> Result<(), Fault>
         requires place { place < length self.old.stations.items }
         requires to { envelope.to ≡ length self.old.shards.items + place }
         requires room { HasRoom self.old.transcript }

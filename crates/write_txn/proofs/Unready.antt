@@ -1,5 +1,5 @@
 -- A ballot of which something is missing isn't made ready: what is known of its transaction stays.
-use Rattle.std.proofs.Common.{◌≡◌, refl, ap, sym, ◌∙◌, ℕ, Bool, false, Option, Some, None}
+use Rattle.std.proofs.Common.{◌≡◌, refl, ap, sym, subst, ◌∙◌, ℕ, Bool, true, false, Option, Some, None}
 use Rattle.std.specs.Prelude.{if◌then◌else◌}
 use Rattle.logical_time.specs.Stamps.{TxnValue}
 use Rattle.txn_state.specs.Ready.{ready_at}
@@ -54,6 +54,11 @@ still_marked m t marks l k are becomes r u =
     (λ e.
     sym (ap (λ (v : Option State). mark_of v r) (becomes u)
     ∙ ap (λ (b : Bool). mark_of (if b then state_with m (state_of l t) else state_of l u) r) e))
+
+-- whether or not something was counted
+pub marked_early : (last : Bool) (m : Missing) (t : TxnValue) (marks : MarkList) (l k : LedgerValue) → AreMarksOf marks l → (last ≡ false → Becomes t (state_with m (state_of l t)) l k) → (last ≡ true → k ≡ l) → AreMarksOf marks k
+marked_early false m t marks l k are counted same = still_marked m t marks l k are (counted refl)
+marked_early true m t marks l k are counted same = subst (λ (x : LedgerValue). AreMarksOf marks x) (sym (same refl)) are
 
 stays : (s : Option State) (t : TxnValue) (l : LedgerValue) → s ≡ state_of l t → Becomes t s l l
 stays s t l same u =

@@ -164,6 +164,18 @@ impl Transactions {
         add_remote(&mut self.ledger, &mut self.marks, remote, time)
     }
 
+    /// Counts what was missing of the transaction's ballot, if one waits that misses more. Whether one waits that misses
+    /// nothing else; then nothing is counted. Takes no memory.
+    pub fn count_early(&mut self, txn: TxnId, missing: Missing) -> bool
+        ensures last { result ≡ lacks_nothing (state_with missing (state_of self.old.ledger txn)) }
+        ensures counted { result ≡ false → Becomes txn (state_with missing (state_of self.old.ledger txn)) self.old.ledger self.new.ledger }
+        ensures same { result ≡ true → self.new ≡ self.old }
+        ensures store { self.new.store ≡ self.old.store }
+        ensures early { self.new.early ≡ self.old.early }
+    {
+        self.ledger.count_early(txn, missing)
+    }
+
     /// Counts what was missing of the transaction's ballot, if one waits. With the last missing thing the ballot is made
     /// ready at this time, as `wait` does; else this takes no memory. Refused with `Memory` alone, and then nothing is
     /// counted.

@@ -10,9 +10,9 @@ use Rattle.store.specs.Sight.{named, seen_at, seen_entry, sight_of, AreSeen, is_
 use Rattle.store.proofs.Sights.{names_seen, range_seen}
 use Rattle.store.proofs.sight.asked_columns.Goals as goal
 
-pub returns-in_ok-seen_among-in-Names-clause-ok : goal.returns-in_ok-seen_among-in-Names-clause-ok
-returns-in_ok-seen_among-in-Names-clause-ok c =
-    let seen = map named c.in_ok-seen_among-in-Names.field-0.items in
+pub returns-in_ok-seen_by_names-in-Names-clause-ok : goal.returns-in_ok-seen_by_names-in-Names-clause-ok
+returns-in_ok-seen_by_names-in-Names-clause-ok c =
+    let seen = map named c.in_ok-seen_by_names-in-Names.field-0.items in
     let is : seen ≡ filter_map (seen_at c.args.moment.now c.args.row.now.columns) (in_name_order c.in-Names.names) = search rules in
     subst (λ (p : Predicate). AreSeen (sight_of c.args.moment.now c.args.row.now) p seen) (sym c.in-Names.is) (names_seen c.args.moment.now c.args.row.now c.in-Names.names seen is)
 

@@ -11,7 +11,7 @@ use Rattle.store.proofs.sight.seen_between.Goals as goal
 pub returns-then-is_backwards-clause-between : goal.returns-then-is_backwards-clause-between
 returns-then-is_backwards-clause-between c =
     let backwards : is_backwards c.args.low.now c.args.high.now ≡ true = search rules in
-    ap (λ (ss : List Seen). map named ss) c.new-seen.ensures.items
+    ap (λ (ss : List Seen). map named ss) c.in_ok-seen.ensures.items
     ∙ sym (ap (filter_map (seen_entry c.args.moment.now)) (none_kept (is_between c.args.low.now c.args.high.now) (none_between c.args.low.now c.args.high.now backwards) c.args.columns.now.entries))
 
 pub range-name-items-requires : goal.range-name-items-requires
@@ -23,5 +23,5 @@ pub loop-name-init : goal.loop-name-init
 loop-name-init c =
     let es = c.args.columns.now.entries in
     let between : c.range-name-items.result ≡ entries_between name_cmp (bound_at c.args.low.now) (bound_at c.args.high.now) es = search rules in
-    ap (λ (ss : List Seen). map named ss ++ filter_map (seen_entry c.args.moment.now) c.into_iter-name-iterator.result) c.new-seen.ensures.items
+    ap (λ (ss : List Seen). map named ss ++ filter_map (seen_entry c.args.moment.now) c.into_iter-name-iterator.result) c.in_ok-seen.ensures.items
     ∙ ap (filter_map (seen_entry c.args.moment.now)) (c.into_iter-name-iterator.ensures.into_iter_gives ∙ between ∙ in_range c.args.low.now c.args.high.now es)

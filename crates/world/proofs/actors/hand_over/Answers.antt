@@ -1,17 +1,27 @@
-use Rattle.world.proofs.Replacing.{shard_did, shard_stands, shard_still}
+use Rattle.world.proofs.Replacing.{did_hear, on_err, refused_alike, shard_stands, shard_still, unsent_back}
 use Rattle.world.proofs.actors.hand_over.Goals as goal
 
-pub returns-in-Ok-clause-ok : goal.returns-in-Ok-clause-ok
-returns-in-Ok-clause-ok c =
-    λ top states are apart.
-    shard_did top states _ c.args.place _ _ _ _ c.requires are apart
-    (c.in-Ok.ensures.step top c.args.place (states c.args.place) (shard_stands top states _ c.args.place _ c.requires c.index_mut.ensures.value are))
+pub returns-clause-ok : goal.returns-clause-ok
+returns-clause-ok c =
+    λ top states e found are apart.
+    let place = c.args.place in
+    did_hear c.hear-heard.result top states c.args.shards.now.items place c.index_mut.result.now c.hear-heard.new.self c.args.network.now.sent c.replace-envelope.new.self.sent c.hear-heard.new.outbox.sent c.put_back.new.self.sent c.args.number
+    c.replace-envelope.result c.blank.result c.requires.place c.index_mut.ensures.value c.replace-envelope.ensures.value c.replace-envelope.ensures.put c.put_back.ensures.put
+    (λ a r. c.hear-heard.ensures.step top place a r) e found are apart
 
-pub returns-in-Err-clause-refused : goal.returns-in-Err-clause-refused
-returns-in-Err-clause-refused c =
+pub returns-clause-refused : goal.returns-clause-refused
+returns-clause-refused c =
+    λ top states e found are.
+    let place = c.args.place in
+    refused_alike c.hear-heard.result top place c.args.number (states place) c.args.network.now.sent c.replace-envelope.result e c.replace-envelope.ensures.value found
+    (c.hear-heard.ensures.refused top place (states place) (shard_stands top states c.args.shards.now.items place c.index_mut.result.now c.requires.place c.index_mut.ensures.value are))
+
+pub returns-clause-same : goal.returns-clause-same
+returns-clause-same c =
     λ top states are.
-    c.in-Err.ensures.refused top c.args.place (states c.args.place) (shard_stands top states _ c.args.place _ c.requires c.index_mut.ensures.value are)
+    on_err c.hear-heard.result (λ goes. shard_still top states c.args.shards.now.items c.args.place c.index_mut.result.now c.hear-heard.new.self c.requires.place c.index_mut.ensures.value are goes) c.hear-heard.ensures.same
 
-pub returns-in-Err-clause-same : goal.returns-in-Err-clause-same
-returns-in-Err-clause-same c =
-    λ top states are. shard_still top states _ c.args.place _ _ c.requires c.index_mut.ensures.value are c.in-Err.ensures.same
+pub returns-clause-unsent : goal.returns-clause-unsent
+returns-clause-unsent c =
+    unsent_back c.hear-heard.result c.args.network.now.sent c.replace-envelope.new.self.sent c.hear-heard.new.outbox.sent c.put_back.new.self.sent c.args.number
+    c.replace-envelope.result c.blank.result c.replace-envelope.ensures.value c.replace-envelope.ensures.put c.put_back.ensures.put c.hear-heard.ensures.unsent

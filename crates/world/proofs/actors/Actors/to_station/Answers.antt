@@ -1,7 +1,7 @@
 use Rattle.std.proofs.Common.{refl}
 use Rattle.world.proofs.Replacing.{item_at}
 use Rattle.world.proofs.Taking.{station_takes, station_refuses}
-use Rattle.world.proofs.actors.Actors.to_session.Goals as goal
+use Rattle.world.proofs.actors.Actors.to_station.Goals as goal
 
 pub returns-in-Ok-clause-ok : goal.returns-in-Ok-clause-ok
 returns-in-Ok-clause-ok c =
