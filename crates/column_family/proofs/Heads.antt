@@ -178,7 +178,7 @@ bytes_few bytes each = subst (λ l. StartsWithBytes 14 l) (sym (front bytes (dro
 
 pub text_bytes : (text : Text) → IsText text → StartsWithBytes 7 (bytes_of text)
 text_bytes (Few few) is = begun 7 14 few is.1 (omega arith)
-text_bytes (Many head bytes) is = is.2
+text_bytes (Many high middle low bytes) is = is.2
 
 head_none : (bytes : List ℕ) → head_of 0 bytes ≡ 0
 unfolding head_of
@@ -199,16 +199,10 @@ head_eight places bytes padded =
     let eight : head_of 8 bytes ≡ head_of 7 bytes * 256 + get_or bytes 7 0 = head_more 7 bytes in
     omega (arith, none, one, two, three, four, five, six, seven, eight, padded 0 (omega arith), padded 1 (omega arith), padded 2 (omega arith), padded 3 (omega arith), padded 4 (omega arith), padded 5 (omega arith), padded 6 (omega arith), padded 7 (omega arith))
 
-taken : (n i : ℕ) (bytes : List ℕ) → i < n → get_or (take n bytes) i 0 ≡ get_or bytes i 0
-taken zero i bytes lt = absurd (omega (arith, lt))
-taken (suc n) i [] lt = refl
-taken (suc n) zero (b ∷ bytes) lt = refl
-taken (suc n) (suc i) (b ∷ bytes) lt = taken n i bytes (omega (arith, lt))
-
--- the first seven bytes as one number
-pub head_seven : (places bytes : List ℕ) → places ≡ take 7 bytes
-    → slice_index_or places 0 0 * 256 ^ 6 + slice_index_or places 1 0 * 256 ^ 5 + slice_index_or places 2 0 * 256 ^ 4 + slice_index_or places 3 0 * 256 ^ 3 + slice_index_or places 4 0 * 256 ^ 2 + slice_index_or places 5 0 * 256 + slice_index_or places 6 0 ≡ head_of 7 bytes
-head_seven places bytes is =
+-- the first seven bytes as one number in three parts
+pub head_seven : (bytes : List ℕ)
+    → get_or bytes 0 0 * 256 ^ 6 + (get_or bytes 1 0 * 256 + get_or bytes 2 0) * 256 ^ 4 + (get_or bytes 3 0 * 256 ^ 3 + get_or bytes 4 0 * 256 ^ 2 + get_or bytes 5 0 * 256 + get_or bytes 6 0) ≡ head_of 7 bytes
+head_seven bytes =
     let none = head_none bytes in
     let one : head_of 1 bytes ≡ head_of 0 bytes * 256 + get_or bytes 0 0 = head_more 0 bytes in
     let two : head_of 2 bytes ≡ head_of 1 bytes * 256 + get_or bytes 1 0 = head_more 1 bytes in
@@ -217,8 +211,7 @@ head_seven places bytes is =
     let five : head_of 5 bytes ≡ head_of 4 bytes * 256 + get_or bytes 4 0 = head_more 4 bytes in
     let six : head_of 6 bytes ≡ head_of 5 bytes * 256 + get_or bytes 5 0 = head_more 5 bytes in
     let seven : head_of 7 bytes ≡ head_of 6 bytes * 256 + get_or bytes 6 0 = head_more 6 bytes in
-    let place : (i : ℕ) → i < 7 → get_or places i 0 ≡ get_or bytes i 0 = λ i lt. ap (λ l. get_or l i 0) is ∙ taken 7 i bytes lt in
-    omega (arith, none, one, two, three, four, five, six, seven, place 0 (omega arith), place 1 (omega arith), place 2 (omega arith), place 3 (omega arith), place 4 (omega arith), place 5 (omega arith), place 6 (omega arith))
+    omega (arith, none, one, two, three, four, five, six, seven)
 
 -- the six places behind them
 behind_eight : (bytes : List ℕ) → StartsWithBytes 14 bytes → (q : ℕ) × (head_of 14 bytes ≡ head_of 8 bytes * 256 ^ 6 + q) × (q < 256 ^ 6)

@@ -1,11 +1,12 @@
 //! Bytes of which few stand in the handle, and more are shared.
-ghost use Rattle.std.specs.Prelude.{◌≡◌, ◌≤◌, nat_eq, refl, Some, IfOk, length, take};
+ghost use Rattle.std.specs.Prelude.{◌≡◌, ◌<◌, nat_eq, refl, Some, IfOk, length};
 ghost use Rattle.std.specs.Ordering.{nat_cmp};
 ghost use Rattle.std.specs.Cmp.Lexicographic.{pointwise, slice_cmp, nat_list_eq_equiv, nat_list_cmp_total, texts_ties, texts_po};
 ghost use Rattle.std.specs.Cmp.{partial_equiv_from_equiv};
 ghost use Rattle.std.specs.Cmp.Rules.{hashing};
 ghost use Rattle.std.proofs.Common.{rules};
 ghost use Rattle.column_family.specs.Heads.{fed_of, head_of};
+ghost use Rattle.column_family.specs.Texts.{bytes_of, IsText};
 
 use crate::few::{FEW, Few};
 use std::alloc::{AllocError, Global};
@@ -14,18 +15,19 @@ use std::hash::{Hash, Hasher};
 use std::marker::Model;
 use std::sync::Arc;
 
-/// How many bytes of a long text stand in its handle.
-const HEAD: usize = 7;
-
 /// Bytes in one of two places.
 #[derive(Drop)]
 pub(crate) enum Text {
     /// Few stand in the handle.
     Few(Few),
-    /// Of more the first stand there, and all are shared.
+    /// Of more the first seven stand there, as one number in three parts, and all are shared.
     Many {
-        /// The first bytes.
-        head: [u8; HEAD],
+        /// The first byte.
+        high: u8,
+        /// The two bytes behind it.
+        middle: u16,
+        /// The four bytes behind these.
+        low: u32,
         /// All bytes.
         bytes: Arc<Vec<u8>>,
     },
@@ -56,14 +58,21 @@ impl Model for SharedBytes {
     ghost invariant = { λ bytes. IsText bytes.text };
 }
 
-// The first bytes of a long text.
-fn head_in(bytes: &[u8]) -> [u8; HEAD]
-    requires { 7 ≤ length bytes.now }
-    ensures { result ≡ take 7 bytes.now }
+// A long text of these bytes, all of which the shared ones hold.
+fn many(bytes: &[u8], shared: Arc<Vec<u8>>) -> Text
+    requires long { 14 < length bytes.now }
+    requires all { shared.value.items ≡ bytes.now }
+    ensures same { bytes_of result ≡ bytes.now }
+    ensures text { IsText result }
 {
-    let mut head = [0; HEAD];
-    head.copy_from_slice(&bytes[..HEAD]);
-    head
+    let middle = u16::from_be_bytes([bytes[1], bytes[2]]);
+    let low = u32::from_be_bytes([bytes[3], bytes[4], bytes[5], bytes[6]]);
+    Text::Many {
+        high: bytes[0],
+        middle,
+        low,
+        bytes: shared,
+    }
 }
 
 impl SharedBytes {
@@ -76,10 +85,7 @@ impl SharedBytes {
         } else {
             let mut all = Vec::with_capacity(alloc, bytes.len())?;
             all.extend_from_slice(bytes)?;
-            Text::Many {
-                head: head_in(bytes),
-                bytes: Arc::new(alloc, all)?,
-            }
+            many(bytes, Arc::new(alloc, all)?)
         };
         Ok(SharedBytes { text })
     }
@@ -100,9 +106,12 @@ impl SharedBytes {
     {
         match &self.text {
             Text::Few(few) => few.head(),
-            Text::Many { head: b, .. } => {
-                u64::from_be_bytes([0, b[0], b[1], b[2], b[3], b[4], b[5], b[6]])
-            }
+            Text::Many {
+                high,
+                middle,
+                low,
+                ..
+            } => { u64::from(*high) * (1 << 48) + u64::from(*middle) * (1 << 32) + u64::from(*low) }
         }
     }
 
@@ -125,8 +134,15 @@ impl Clone for SharedBytes {
     fn clone(&self) -> Result<SharedBytes, AllocError> {
         let text = match &self.text {
             Text::Few(few) => Text::Few(few.clone()?),
-            Text::Many { head, bytes } => Text::Many {
-                head: *head,
+            Text::Many {
+                high,
+                middle,
+                low,
+                bytes,
+            } => Text::Many {
+                high: *high,
+                middle: *middle,
+                low: *low,
                 bytes: bytes.clone()?,
             },
         };

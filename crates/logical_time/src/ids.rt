@@ -1,5 +1,5 @@
 //! The numbers of actors and transactions, and the stamps that order transactions.
-ghost use Rattle.std.specs.Prelude.{◌≡◌, ◌&&◌, ◌==◌};
+ghost use Rattle.std.specs.Prelude.{◌≡◌, ◌&&◌, ◌==◌, ◌+◌, ◌*◌, ◌^◌, ◌<◌};
 ghost use Rattle.std.specs.Ordering.{as_partial_cmp};
 ghost use Rattle.std.specs.Cmp.{partial_order_from_own_ties, partial_order_from_total};
 ghost use Rattle.std.specs.Cmp.Rules.{comparing};
@@ -144,20 +144,23 @@ impl Model for TxnId {
 /// A transaction that something rests on, and the shard that coordinates it.
 #[derive(Clone, Copy)]
 pub struct Writer {
-    // the shard beside the session, where it takes no room
-    session: Node,
-    shard: Shard,
-    number: u64,
+    // the halves of one number, of which the session weighs most, then the operation's number, then the
+    // shard: session * 2^80 + number * 2^16 + shard
+    high: u64,
+    low: u64,
 }
 
 impl Model for Writer {
+    ghost use Rattle.std.specs.Prelude.{◌*◌, ◌+◌, ◌/◌, ◌%◌, ◌^◌, ◌<◌};
     ghost use Rattle.logical_time.specs.Stamps.{WriterValue};
 
     ghost Value = { WriterValue };
 
-    ghost view = { λ w. record { txn = record { session = w.session; number = w.number }; shard = w.shard } };
+    ghost view = { λ w. record { txn = record { session = w.high / 65536; number = (w.high % 65536) * 2 ^ 48 + w.low / 65536 }; shard = w.low % 65536 } };
 
-    ghost inverse = { λ w. record { session = w.txn.session; shard = w.shard; number = w.txn.number } };
+    ghost invariant = { λ w. (w.high < 2 ^ 32) × (w.low < 2 ^ 64) × (w.low % 65536 < 8) };
+
+    ghost inverse = { λ w. record { high = w.txn.session * 65536 + w.txn.number / 2 ^ 48; low = (w.txn.number % 2 ^ 48) * 65536 + w.shard } };
 }
 
 impl Writer {
@@ -166,9 +169,8 @@ impl Writer {
         ensures { result ≡ record { txn = txn; shard = shard } }
     {
         Writer {
-            session: txn.session,
-            shard,
-            number: txn.number,
+            high: u64::from(txn.session.get()) * 65536 + txn.number / 0x1_0000_0000_0000,
+            low: txn.number % 0x1_0000_0000_0000 * 65536 + u64::from(shard.get()),
         }
     }
 
@@ -177,8 +179,8 @@ impl Writer {
         ensures { result ≡ self.txn }
     {
         TxnId {
-            session: self.session,
-            number: self.number,
+            session: Node((self.high / 65536) as u16),
+            number: self.high % 65536 * 0x1_0000_0000_0000 + self.low / 65536,
         }
     }
 
@@ -186,7 +188,16 @@ impl Writer {
     pub fn shard(self) -> Shard
         ensures { result ≡ self.shard }
     {
-        self.shard
+        Shard::in_writer(self.low)
+    }
+
+    // The number that orders writers.
+    fn place(self) -> u128
+        ensures value { result ≡ (self.txn.session * 2 ^ 64 + self.txn.number) * 65536 + self.shard }
+        ensures number { self.txn.number < 2 ^ 64 }
+        ensures shard { self.shard < 8 }
+    {
+        u128::from(self.high) * 0x1_0000_0000_0000_0000 + u128::from(self.low)
     }
 }
 
@@ -196,7 +207,7 @@ impl PartialEq for Writer {
     ghost laws = { Prim.search (comparing, rules) };
 
     fn eq(&self, other: &Writer) -> bool {
-        self.session == other.session && self.number == other.number && self.shard == other.shard
+        self.high == other.high && self.low == other.low
     }
 }
 
@@ -225,9 +236,6 @@ impl Ord for Writer {
     ghost matches_eq = { Prim.search (comparing, rules) };
 
     fn cmp(&self, other: &Writer) -> Ordering {
-        self.session
-            .cmp(&other.session)
-            .then(self.number.cmp(&other.number))
-            .then(self.shard.cmp(&other.shard))
+        self.place().cmp(&other.place())
     }
 }

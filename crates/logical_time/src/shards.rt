@@ -43,6 +43,14 @@ impl Shard {
         }
     }
 
+    /// The shard in the lowest 16 bits of a number.
+    pub(crate) fn in_writer(number: u64) -> Shard
+        requires { number % 65536 < 8 }
+        ensures { result ≡ number % 65536 }
+    {
+        Shard((number % 65536) as u8)
+    }
+
     /// The number of the shard.
     pub fn get(self) -> u16
         ensures value { result ≡ self }

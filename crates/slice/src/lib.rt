@@ -17,4 +17,4 @@ pub use live::{columns_changed, live_columns};
 pub use ordering::{are_in_order, set_of};
 pub use predicate::{Names, Predicate};
 pub use read::{Answer, AnsweredRow, Keys, Read};
-pub use selecting::{first_of_walk, select};
+pub use selecting::select;

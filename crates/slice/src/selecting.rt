@@ -25,25 +25,6 @@ pub fn select(alloc: Global, live: &[Column], predicate: &Predicate) -> Result<C
     copies(alloc, &found)
 }
 
-/// Of things that stand in name order and are all asked for, those that the walk of a predicate comes past first: at
-/// most `count`, from the start or, reversed, from the end. A list of names takes all. Linear, and takes no memory.
-pub fn first_of_walk<T: Drop>(mut asked: Vec<T>, predicate: &Predicate) -> Vec<T>
-    ensures { result.items ≡ slice.first_of_walk predicate.now asked.items }
-{
-    if let Predicate::Range {
-        reversed,
-        count,
-        ..
-    } = predicate
-    {
-        if *reversed {
-            asked.reverse();
-        }
-        asked.truncate(*count as usize);
-    }
-    asked
-}
-
 // The columns of the slice.
 fn chosen<'a>(
     alloc: Global,

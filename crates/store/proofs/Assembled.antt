@@ -1,10 +1,9 @@
 -- A part put together from the columns that are seen.
 use Rattle.std.proofs.Common.{◌≡◌, ◌∙◌, ap, sym, subst, ℕ, suc, ◌≤◌, arith, length, max, Bool, true, false, List, [], ◌∷◌, ◌++◌, map, filter_map, Option, Some, None, option_map, Contains, Result, Ok, Err, IfOk}
 use Rattle.std.specs.Prelude.{if◌then◌else◌, option_to_list, ◌↔◌}
-use Rattle.std.specs.List.{cons_option, dedup}
+use Rattle.std.specs.List.{cons_option}
 use Rattle.std.specs.List.Sorted.{IsStrictlySortedBy}
 use Rattle.logical_time.specs.Stamps.{WriterValue, writer_cmp}
-use Rattle.logical_time.proofs.WriterOrder.{same_writer, kept_once, only_kept}
 use Rattle.slice.specs.declared.column.Column.{Column}
 use Rattle.slice.specs.declared.predicate.Predicate.{Predicate}
 use Rattle.slice.specs.Slice.{is_asked, AreAsked, slice_of}
@@ -13,6 +12,7 @@ use Rattle.column_family.specs.declared.batch.Row.{Row}
 use Rattle.store.specs.declared.part.Applied.{Applied}
 use Rattle.store.specs.declared.part.Part.{Part}
 use Rattle.store.specs.declared.sight.Seen.{Seen}
+use Rattle.store.specs.Kept.{name_cmp}
 use Rattle.store.specs.Part.{greatest_of, IsPartOf}
 use Rattle.store.specs.Sight.{Sight, NamedVersion, named, AreSeen, AreAskedFor, is_covered, live_of, evt_or_0, writer_of, writers_of, IsMadeOf, IsPartSeen}
 use Rattle.store.proofs.Lists.{contains_first, contains_rest, given_seen, map_of_map}
@@ -52,21 +52,13 @@ part_made p part items d live found asks lives cut writes same in_order evt =
       evt = evt ∙ ap (λ ts. max (evt_or_0 d) (greatest_of ts)) (sym (map_of_map (λ (s : NamedVersion). s.1.evt) named items));
     }
 
--- writers that lose neighbours that are the same are those writers
-pub deduped_first : (found once writers : List WriterValue) → once ≡ dedup same_writer found
-    → ((w : WriterValue) → Contains writers w ↔ Contains once w) → (w : WriterValue) → Contains writers w ↔ Contains found w
-deduped_first found once writers e same w = (
-  λ has. only_kept found w (subst (λ ws. Contains ws w) e ((same w).0 has)),
-  λ has. (same w).1 (subst (λ ws. Contains ws w) (sym e) (kept_once found w has)),
-)
-
 -- a part that is made of what is seen is what is seen
 pub made_seen : (f : Sight) (p : Predicate) (part : Part) (seen : List NamedVersion) (d : Option Version) → AreSeen f p seen → d ≡ f None
-    → (AreAskedFor p seen → IsMadeOf d seen p part) → IsPartSeen f p part
+    → (IsStrictlySortedBy name_cmp (map (λ s. s.0) seen) → AreAskedFor p seen → IsMadeOf d seen p part) → IsPartSeen f p part
 made_seen f p part seen d are_seen is made = record {
   seen = seen;
   are_seen = are_seen;
-  made = subst (λ (o : Option Version). IsMadeOf o seen p part) is (made (λ n v has. (are_seen.sound n v has).0));
+  made = subst (λ (o : Option Version). IsMadeOf o seen p part) is (made are_seen.in_order (λ n v has. (are_seen.sound n v has).0));
 }
 
 -- a right part stays right whatever its earliest valid time says

@@ -55,6 +55,10 @@ le_by a b c Equal u p q e f = ap (λ (z : List ℕ). is_le (slice_cmp nat_cmp z 
 le_by a b c Greater u p q e f = absurd (cc)
 le_by a b c Less Greater p q e f = absurd (cc)
 
+-- a name that isn't above another isn't above what that one isn't above
+pub le_through : (a b c : List ℕ) → name_le a b ≡ true → name_le b c ≡ true → name_le a c ≡ true
+le_through a b c e f = le_by a b c (slice_cmp nat_cmp a b) (slice_cmp nat_cmp b c) refl refl e f
+
 lt_or_le : (o : Ordering) → is_lt (ordering_reverse o) ≡ true → is_le o ≡ true → ⊥
 lt_or_le Less e f = absurd (cc)
 lt_or_le Equal e f = absurd (cc)

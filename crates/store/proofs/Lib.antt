@@ -27,3 +27,5 @@ pub mod Merged
 pub mod MergeSteps
 pub mod ReadWith
 pub mod SameParts
+pub mod CameTo
+pub mod Gathered

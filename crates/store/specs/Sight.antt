@@ -119,6 +119,14 @@ evt_of_sight d seen = max (evt_or_0 d) (greatest_of (map (λ s. s.1.evt) seen))
 abbrev pub writer_of : Predicate → List Column → Option Version → NamedVersion → Option WriterValue
 writer_of p columns d s = if is_within p columns s.0 && not (is_covered d s.1) then Some s.1.what.writer else None
 
+-- the writer of a column's version that no newer deletion of its row covers
+abbrev pub uncovered_writer : Option Version → NamedVersion → Option WriterValue
+uncovered_writer d s = if is_covered d s.1 then None else Some s.1.what.writer
+
+-- both lists have the same writers, however often each
+abbrev pub HaveSameWriters : List WriterValue → List WriterValue → Type 0
+HaveSameWriters xs ys = (w : WriterValue) → Contains xs w ↔ Contains ys w
+
 -- both are one writer
 abbrev pub same_writer : WriterValue → WriterValue → Bool
 same_writer v w = ((v.txn.session == w.txn.session) && (v.txn.number == w.txn.number)) && (v.shard == w.shard)

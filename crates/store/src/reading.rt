@@ -1,23 +1,24 @@
 //! A row's part, found in its chains.
-ghost use Rattle.std.specs.Prelude.{◌≡◌, ◌↔◌, ◌≤◌, ◌++◌, ◌∷◌, [], List, Contains, IfOk, IfErr, IfSome, true, length, map, filter, filter_map, is_some, option_map, option_to_list, max};
+ghost use Rattle.std.specs.Prelude.{◌≡◌, ◌↔◌, ◌≤◌, ◌<◌, ◌++◌, ◌∷◌, [], Contains, IfOk, IfErr, IfSome, true, length, map, take, drop, filter, filter_map, is_some, option_map, option_to_list, max};
 ghost use Rattle.std.specs.Option.{option_copied};
+ghost use Rattle.std.specs.Ordering.{is_lt};
 ghost use Rattle.std.specs.List.{list_all};
 ghost use Rattle.std.specs.List.Sorted.{IsStrictlySortedBy};
-ghost use Rattle.logical_time.specs.Stamps.{WriterValue, writer_cmp};
-ghost use Rattle.slice.specs.declared.column.Column.{Column as ColumnValue};
-ghost use Rattle.slice.specs.Slice.{first_of_walk};
+ghost use Rattle.logical_time.specs.Stamps.{writer_cmp};
+ghost use Rattle.slice.specs.Slice.{first_of_walk, name_le, walked};
+ghost use Rattle.slice.specs.Rests.{is_reached, is_within};
 ghost use Rattle.logical_time.specs.declared.fault.Fault.TheVariants as fault;
 ghost use Rattle.column_family.specs.Places.{row_cmp};
-ghost use Rattle.store.specs.Kept.{held_by, no_row};
+ghost use Rattle.store.specs.Kept.{held_by, name_cmp, no_row};
 ghost use Rattle.store.specs.Part.{greatest_of};
 ghost use Rattle.store.specs.Sight as sight;
-ghost use Rattle.store.specs.Sight.{AreAskedFor, IsMadeOf, IsPartSeen, laid_over, named, sight_of};
+ghost use Rattle.store.specs.Sight.{AreAskedFor, HaveSameWriters, IsMadeOf, IsPartSeen, laid_over, named, sight_of};
 
 use crate::merging::{merged, newer_seen};
 use crate::part::Part;
 use crate::row::RowChains;
 use crate::sight::{Moment, Seen, asked_columns, seen_in};
-use column_family::Row;
+use column_family::{Name, Row};
 use logical_time::{Fault, Time, Writer, Writers};
 use slice::{Column, Columns, Predicate};
 use std::alloc::{AllocError, Global};
@@ -58,20 +59,6 @@ fn is_live(deletion: Option<&Version>, seen: &Seen) -> bool
     seen.version.what.value.is_some() && !is_covered(deletion, seen.version)
 }
 
-// Those of the columns that are live, in order.
-fn live_ones<'s>(
-    alloc: Global,
-    deletion: Option<&Version>,
-    seen: &[Seen<'s>],
-) -> Result<Vec<Seen<'s>>, AllocError>
-    ensures { IfOk result (λ live. live.items ≡ filter (λ s. is_some (sight.live_of (option_copied deletion.entry) (named s))) seen.now) }
-{
-    seen.iter()
-        .copied()
-        .filter(|one| is_live(deletion, one))
-        .collect(alloc)
-}
-
 // The columns that are live, in order.
 fn live_columns(
     alloc: Global,
@@ -106,48 +93,134 @@ fn evt_of(deletion: Option<&Version>, seen: &[Seen]) -> Time
     evt
 }
 
-// The writer of a column's version, where a read that returned these columns rests on it.
-fn writer_of(
+// How many of the columns, which stand in name order, come before the name.
+fn count_below(seen: &[Seen], name: &Name) -> usize
+    ensures bound { result ≤ length seen.now }
+    ensures below { IsStrictlySortedBy name_cmp (map (λ s. s.name.now) seen.now) → drop result seen.now ≡ filter (λ s. name_le name.now s.name.now) seen.now }
+{
+    seen.partition_point(
+        |one: &Seen| -> bool
+            ensures { result ≡ is_lt (name_cmp one.now.name.now name.entry.now) }
+        { one.name < name },
+    )
+}
+
+// How many of the columns, which stand in name order, come before the name or are its own.
+fn count_up_to(seen: &[Seen], name: &Name) -> usize
+    ensures bound { result ≤ length seen.now }
+    ensures up_to { IsStrictlySortedBy name_cmp (map (λ s. s.name.now) seen.now) → take result seen.now ≡ filter (λ s. name_le s.name.now name.now) seen.now }
+{
+    seen.partition_point(
+        |one: &Seen| -> bool
+            ensures { result ≡ name_le one.now.name.now name.entry.now }
+        { one.name <= name },
+    )
+}
+
+// Those of the columns to which a walk came that returned these columns, where all stand in name order.
+fn come_to<'a, 's>(reversed: bool, columns: &[Column], seen: &'a [Seen<'s>]) -> &'a [Seen<'s>]
+    ensures { IsStrictlySortedBy name_cmp (map (λ s. s.name.now) seen.now) → result.now ≡ filter (λ s. is_reached reversed columns.now s.name.now) seen.now }
+{
+    match columns.last() {
+        None => &seen[..0],
+        Some(last) if reversed => &seen[count_below(seen, &last.name)..],
+        Some(last) => &seen[..count_up_to(seen, &last.name)],
+    }
+}
+
+// Those of the columns on which a read rests that returned these columns, where all stand in name order.
+fn reached<'a, 's>(
     predicate: &Predicate,
     columns: &[Column],
-    deletion: Option<&Version>,
-    seen: &Seen,
-) -> Option<Writer>
-    ensures { result ≡ sight.writer_of predicate.now columns.now (option_copied deletion.entry) (named seen.now) }
+    seen: &'a [Seen<'s>],
+) -> &'a [Seen<'s>]
+    ensures { IsStrictlySortedBy name_cmp (map (λ s. s.name.now) seen.now) → result.now ≡ filter (λ s. is_within predicate.now columns.now s.name.now) seen.now }
 {
-    if predicate.is_within(columns, seen.name) && !is_covered(deletion, seen.version) {
+    match predicate {
+        Predicate::Range {
+            reversed,
+            count,
+            ..
+        } if *count as usize <= columns.len() => come_to(*reversed, columns, seen),
+        _ => seen,
+    }
+}
+
+// The writer of a column's version, unless a newer deletion covers it.
+fn writer_of(deletion: Option<&Version>, seen: &Seen) -> Option<Writer>
+    ensures { result ≡ sight.uncovered_writer (option_copied deletion.entry) (named seen.now) }
+{
+    if !is_covered(deletion, seen.version) {
         Some(seen.version.what.writer)
     } else {
         None
     }
 }
 
-// The writers of the columns' versions on which a read rests that returned these columns.
-fn column_writers(
-    alloc: Global,
-    predicate: &Predicate,
-    columns: &[Column],
-    deletion: Option<&Version>,
-    seen: &[Seen],
-) -> Result<Vec<Writer>, AllocError>
-    ensures { IfOk result (λ writers. writers.items ≡ filter_map (λ s. sight.writer_of predicate.now columns.now (option_copied deletion.entry) (named s)) seen.now) }
+/// How many notes there are of where writers stand.
+const NOTES: usize = 512;
+
+// Which note tells where the writer stands, if one does.
+fn note_of(writer: Writer) -> usize
+    ensures { result < 512 }
 {
-    seen.iter()
-        .filter_map(|one| writer_of(predicate, columns, deletion, one))
-        .collect(alloc)
+    let txn = writer.txn();
+    ((txn.number % 512 + u64::from(txn.session.get()) * 37) % 512) as usize
 }
 
-// The writers on which a read rests that returned these columns.
-fn writers_of(
+// Whether the writer stands at the place.
+fn stands_at(writers: &[Writer], place: usize, writer: Writer) -> bool
+    ensures { result ≡ true → Contains writers.now writer }
+{
+    match writers.get(place) {
+        Some(other) => *other == writer,
+        None => false,
+    }
+}
+
+// Adds a writer, unless its note tells that it is there.
+fn add_noted(
+    notes: &mut [u16; NOTES],
+    writers: &mut Vec<Writer>,
+    writer: Writer,
+) -> Result<(), AllocError>
+    ensures { IfOk result (λ done. HaveSameWriters writers.new.items (writers.old.items ++ writer ∷ [])) }
+{
+    let note = note_of(writer);
+    if !stands_at(writers, usize::from(notes[note]), writer) {
+        notes[note] = (writers.len() % 65536) as u16;
+        writers.push(writer)?;
+    }
+    Ok(())
+}
+
+// The writers of the columns' versions that no newer deletion covers. Many have one writer: most of these are met by a note.
+fn column_writers(
     alloc: Global,
-    predicate: &Predicate,
-    columns: &[Column],
     deletion: Option<&Version>,
     seen: &[Seen],
 ) -> Result<Vec<Writer>, AllocError>
-    ensures { IfOk result (λ writers. writers.items ≡ filter_map (λ s. sight.writer_of predicate.now columns.now (option_copied deletion.entry) (named s)) seen.now ++ option_to_list (option_map (λ v. v.what.writer) (option_copied deletion.entry))) }
+    ensures { IfOk result (λ writers. HaveSameWriters writers.items (filter_map (λ s. sight.uncovered_writer (option_copied deletion.entry) (named s)) seen.now)) }
 {
-    let mut writers = column_writers(alloc, predicate, columns, deletion, seen)?;
+    let mut notes = [0; NOTES];
+    let mut writers = Vec::new(alloc);
+    for one in seen {
+        if let Some(writer) = writer_of(deletion, one) {
+            add_noted(&mut notes, &mut writers, writer)?;
+        }
+    }
+    Ok(writers)
+}
+
+// The writers of the columns' versions and of the deletion.
+fn writers_of(
+    alloc: Global,
+    deletion: Option<&Version>,
+    seen: &[Seen],
+) -> Result<Vec<Writer>, AllocError>
+    ensures { IfOk result (λ writers. HaveSameWriters writers.items (filter_map (λ s. sight.uncovered_writer (option_copied deletion.entry) (named s)) seen.now ++ option_to_list (option_map (λ v. v.what.writer) (option_copied deletion.entry)))) }
+{
+    let mut writers = column_writers(alloc, deletion, seen)?;
     match deletion {
         Some(deletion) => writers.push(deletion.what.writer)?,
         None => {}
@@ -155,100 +228,104 @@ fn writers_of(
     Ok(writers)
 }
 
-// Whether a column's version has this writer, or the read doesn't rest on it.
-fn has_no_other(
-    predicate: &Predicate,
-    columns: &[Column],
-    deletion: Option<&Version>,
-    seen: &Seen,
-    writer: Writer,
-) -> bool
-    ensures { result ≡ sight.has_no_other writer (sight.writer_of predicate.now columns.now (option_copied deletion.entry) (named seen.now)) }
+// Whether a column's version has this writer, or a newer deletion covers it.
+fn has_no_other(deletion: Option<&Version>, seen: &Seen, writer: Writer) -> bool
+    ensures { result ≡ sight.has_no_other writer (sight.uncovered_writer (option_copied deletion.entry) (named seen.now)) }
 {
-    match writer_of(predicate, columns, deletion, seen) {
+    match writer_of(deletion, seen) {
         Some(other) => other == writer,
         None => true,
     }
 }
 
-// Whether each of the columns' versions has this writer, or the read doesn't rest on it.
-fn have_no_other(
-    predicate: &Predicate,
-    columns: &[Column],
-    deletion: Option<&Version>,
-    seen: &[Seen],
-    writer: Writer,
-) -> bool
-    ensures { result ≡ list_all (λ s. sight.has_no_other writer (sight.writer_of predicate.now columns.now (option_copied deletion.entry) (named s))) seen.now }
+// Whether each of the columns' versions has this writer, or a newer deletion covers it.
+fn have_no_other(deletion: Option<&Version>, seen: &[Seen], writer: Writer) -> bool
+    ensures { result ≡ list_all (λ s. sight.has_no_other writer (sight.uncovered_writer (option_copied deletion.entry) (named s))) seen.now }
 {
-    seen.iter().all(|one| has_no_other(predicate, columns, deletion, one, writer))
+    seen.iter().all(|one| has_no_other(deletion, one, writer))
 }
 
-// The writer of the deletion or, without one, of the first of the columns, if the read rests on that.
-fn first_writer(
-    predicate: &Predicate,
-    columns: &[Column],
-    deletion: Option<&Version>,
-    seen: &[Seen],
-) -> Option<Writer>
-    ensures rests { IfSome result (λ writer. Contains (filter_map (λ s. sight.writer_of predicate.now columns.now (option_copied deletion.entry) (named s)) seen.now ++ option_to_list (option_map (λ v. v.what.writer) (option_copied deletion.entry))) writer) }
+// The writer of the deletion or, without one, of the first of the columns.
+fn first_writer(deletion: Option<&Version>, seen: &[Seen]) -> Option<Writer>
+    ensures rests { IfSome result (λ writer. Contains (filter_map (λ s. sight.uncovered_writer (option_copied deletion.entry) (named s)) seen.now ++ option_to_list (option_map (λ v. v.what.writer) (option_copied deletion.entry))) writer) }
     ensures deletion { IfSome (option_copied deletion.entry) (λ v. IfSome result (λ writer. writer ≡ v.what.writer)) }
 {
     match deletion {
         Some(deletion) => Some(deletion.what.writer),
-        None => writer_of(predicate, columns, deletion, seen.first()?),
+        None => writer_of(deletion, seen.first()?),
     }
 }
 
-// The writer on which a read rests that returned these columns, if it is seen to be only one.
-fn only_writer(
-    predicate: &Predicate,
-    columns: &[Column],
-    deletion: Option<&Version>,
-    seen: &[Seen],
-) -> Option<Writer>
-    ensures { IfSome result (λ writer. (w : WriterValue) → Contains (writer ∷ []) w ↔ Contains (filter_map (λ s. sight.writer_of predicate.now columns.now (option_copied deletion.entry) (named s)) seen.now ++ option_to_list (option_map (λ v. v.what.writer) (option_copied deletion.entry))) w) }
+// The writer of all of the columns' versions and of the deletion, if it is seen to be only one.
+fn only_writer(deletion: Option<&Version>, seen: &[Seen]) -> Option<Writer>
+    ensures { IfSome result (λ writer. HaveSameWriters (writer ∷ []) (filter_map (λ s. sight.uncovered_writer (option_copied deletion.entry) (named s)) seen.now ++ option_to_list (option_map (λ v. v.what.writer) (option_copied deletion.entry)))) }
 {
-    let writer = first_writer(predicate, columns, deletion, seen)?;
-    if have_no_other(predicate, columns, deletion, seen, writer) {
+    let writer = first_writer(deletion, seen)?;
+    if have_no_other(deletion, seen, writer) {
         Some(writer)
     } else {
         None
     }
 }
 
-// The writers on which a read rests that returned these columns, in order and each once.
+// The writers of the columns' versions that the deletion doesn't cover and of the deletion, in order and each once.
 fn rested_on(
     alloc: Global,
-    predicate: &Predicate,
-    columns: &[Column],
     deletion: Option<&Version>,
     seen: &[Seen],
 ) -> Result<Writers, AllocError>
-    ensures same { IfOk result (λ writers. (w : WriterValue) → Contains writers w ↔ Contains (filter_map (λ s. sight.writer_of predicate.now columns.now (option_copied deletion.entry) (named s)) seen.now ++ option_to_list (option_map (λ v. v.what.writer) (option_copied deletion.entry))) w) }
+    ensures same { IfOk result (λ writers. HaveSameWriters writers (filter_map (λ s. sight.uncovered_writer (option_copied deletion.entry) (named s)) seen.now ++ option_to_list (option_map (λ v. v.what.writer) (option_copied deletion.entry)))) }
     ensures in_order { IfOk result (IsStrictlySortedBy writer_cmp) }
 {
     // mostly one transaction wrote all columns of a row
-    if let Some(writer) = only_writer(predicate, columns, deletion, seen) {
+    if let Some(writer) = only_writer(deletion, seen) {
         return Ok(Writers::one(writer));
     }
-    let mut writers = writers_of(alloc, predicate, columns, deletion, seen)?;
-    writers.dedup();
-    Writers::sorted(writers)
+    Writers::sorted(writers_of(alloc, deletion, seen)?)
 }
 
-// Whether a walk that comes past at most so many columns, which are all asked for, takes all of them in their order.
-fn takes_all(predicate: &Predicate, most: usize) -> bool
-    ensures { result ≡ true → (columns : List ColumnValue) → length columns ≤ most → first_of_walk predicate.now columns ≡ columns }
+// The first of the columns that are live, from the start or, reversed, from the end, and at most so many.
+fn first_live<'s>(
+    alloc: Global,
+    reversed: bool,
+    most: usize,
+    deletion: Option<&Version>,
+    seen: &[Seen<'s>],
+) -> Result<Vec<Seen<'s>>, AllocError>
+    ensures { IfOk result (λ live. live.items ≡ take most (walked reversed (filter (λ s. is_some (sight.live_of (option_copied deletion.entry) (named s))) seen.now))) }
 {
-    match predicate {
-        Predicate::Names(_) => true,
-        Predicate::Range {
-            reversed,
-            count,
-            ..
-        } => !*reversed && most <= *count as usize,
+    if reversed {
+        seen.iter()
+            .rev()
+            .copied()
+            .filter(|one| is_live(deletion, one))
+            .take(most)
+            .collect(alloc)
+    } else {
+        seen.iter()
+            .copied()
+            .filter(|one| is_live(deletion, one))
+            .take(most)
+            .collect(alloc)
     }
+}
+
+// The columns of a walk over these, at most so many.
+fn walked_columns(
+    alloc: Global,
+    reversed: bool,
+    most: usize,
+    deletion: Option<&Version>,
+    seen: &[Seen],
+) -> Result<Vec<Column>, Fault>
+    ensures ok { IfOk result (λ columns. columns.items ≡ take most (walked reversed (filter_map (λ s. sight.live_of (option_copied deletion.entry) (named s)) seen.now))) }
+    ensures memory { IfErr result (λ e. e ≡ fault.Memory) }
+{
+    if !reversed && seen.len() <= most {
+        return live_columns(alloc, deletion, seen);
+    }
+    let live = first_live(alloc, reversed, most, deletion, seen)?;
+    live_columns(alloc, deletion, &live)
 }
 
 // The columns of these that a read shows, which asks for all of them.
@@ -261,27 +338,29 @@ fn shown_columns(
     ensures ok { IfOk result (λ columns. columns.items ≡ first_of_walk predicate.now (filter_map (λ s. sight.live_of (option_copied deletion.entry) (named s)) seen.now)) }
     ensures memory { IfErr result (λ e. e ≡ fault.Memory) }
 {
-    if takes_all(predicate, seen.len()) {
-        return live_columns(alloc, deletion, seen);
+    match predicate {
+        Predicate::Names(_) => live_columns(alloc, deletion, seen),
+        Predicate::Range {
+            reversed,
+            count,
+            ..
+        } => walked_columns(alloc, *reversed, *count as usize, deletion, seen),
     }
-    let live = live_ones(alloc, deletion, seen)?;
-    let shown = slice::first_of_walk(live, predicate);
-    live_columns(alloc, deletion, shown.as_slice())
 }
 
-// The part that is made of these columns and this deletion, where the columns are asked for. Only the columns that it
-// shows are copied.
+// The part that is made of these columns and this deletion, where the columns are asked for and stand in name order. Only
+// the columns that it shows are copied.
 fn made_of(
     alloc: Global,
     predicate: &Predicate,
     deletion: Option<&Version>,
     seen: &[Seen],
 ) -> Result<Part, Fault>
-    ensures ok { IfOk result (λ part. AreAskedFor predicate.now (map named seen.now) → IsMadeOf (option_copied deletion.entry) (map named seen.now) predicate.now part) }
+    ensures ok { IfOk result (λ part. IsStrictlySortedBy name_cmp (map (λ s. s.name.now) seen.now) → AreAskedFor predicate.now (map named seen.now) → IsMadeOf (option_copied deletion.entry) (map named seen.now) predicate.now part) }
     ensures memory { IfErr result (λ e. e ≡ fault.Memory) }
 {
     let found = shown_columns(alloc, predicate, deletion, seen)?;
-    let writers = rested_on(alloc, predicate, found.as_slice(), deletion, seen)?;
+    let writers = rested_on(alloc, deletion, reached(predicate, found.as_slice(), seen))?;
     let columns = Columns::from_vec(alloc, found)?;
     Ok(Part {
         writers,

@@ -2,7 +2,10 @@ use Rattle.std.proofs.Common.{rules, ◌≡◌, ◌∙◌, ap, subst, List, map,
 use Rattle.std.specs.Option.{option_copied}
 use Rattle.versions.specs.declared.version.Version.{Version}
 use Rattle.store.specs.declared.sight.Seen.{Seen}
-use Rattle.store.specs.Sight.{named, sight_of, newer_seen, laid_over, merged, AreAskedFor, IsMadeOf}
+use Rattle.std.specs.List.Sorted.{IsStrictlySortedBy}
+use Rattle.store.specs.Kept.{name_cmp}
+use Rattle.store.specs.Sight.{NamedVersion, named, sight_of, newer_seen, laid_over, merged, AreAskedFor, IsMadeOf}
+use Rattle.store.proofs.Lists.{map_of_map}
 use Rattle.store.proofs.Assembled.{if_ok, made_seen}
 use Rattle.store.proofs.Merged.{merged_seen}
 use Rattle.store.proofs.reading.part_over.Goals as goal
@@ -27,5 +30,5 @@ returns-clause-ok c =
     ∙ ap (λ (o : Option Version). newer_seen o (option_copied c.seen_in-2.result)) one
     ∙ ap (newer_seen (f None)) other in
     if_ok c.made_of.result
-    (λ part made. made_seen (laid_over f g) p part seen d (merged_seen f g p below above seen c.in_ok-below.ensures.ok c.in_ok-above.ensures.ok is) deletion made)
-    (subst (λ (ss : List Seen). IfOk c.made_of.result (λ part. AreAskedFor p (map named ss) → IsMadeOf d (map named ss) p part)) c.deref-3.ensures.value c.made_of.ensures.ok)
+    (λ part made. made_seen (laid_over f g) p part seen d (merged_seen f g p below above seen c.in_ok-below.ensures.ok c.in_ok-above.ensures.ok is) deletion (λ sorted. made (subst (IsStrictlySortedBy name_cmp) (map_of_map (λ (s : NamedVersion). s.0) named c.in_ok-seen.seen.items) sorted)))
+    (subst (λ (ss : List Seen). IfOk c.made_of.result (λ part. IsStrictlySortedBy name_cmp (map (λ s. s.name.now) ss) → AreAskedFor p (map named ss) → IsMadeOf d (map named ss) p part)) c.deref-3.ensures.value c.made_of.ensures.ok)

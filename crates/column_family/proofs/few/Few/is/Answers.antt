@@ -1,6 +1,6 @@
 use Rattle.std.proofs.Common.{rules, ◌≡◌, ◌∙◌, ◌≤◌, length, true, false}
 use Rattle.std.specs.Prelude.{◌==◌}
-use Rattle.column_family.specs.Heads.{first_of, second_of, StartsWithBytes}
+use Rattle.column_family.specs.Heads.{first_of, StartsWithBytes}
 use Rattle.column_family.proofs.Alike.{alike_then, alike_else}
 use Rattle.column_family.proofs.few.Few.is.Goals as goal
 
