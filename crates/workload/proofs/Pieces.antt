@@ -56,6 +56,10 @@ each_ended contents old mid new done e result f xs i x lt is before failed step 
     joined contents old mid new done result (flat_map f xs) (flat_map f (take i xs)) (f x ++ rest) (each_left f xs i x lt is) before
     (ended contents mid new e result (f x ++ rest) (f x) rest refl failed step)
 
+-- four parts behind a first one
+pub behind : (a b c d e : List ℕ) → a ++ (b ++ c ++ d ++ e) ≡ a ++ b ++ c ++ d ++ e
+behind a b c d e = simp append_assoc
+
 -- ## Digits
 
 -- so many bytes' digits, and then those of a few more
@@ -68,6 +72,12 @@ digits_joined contents old mid new done result bytes before few is first step =
 pub mark_first : (xs : List ℕ) (x : ℕ) → 1 ≤ length xs → take 1 (slice_set xs 0 x) ≡ x ∷ []
 mark_first [] x some = absurd (omega (arith, some))
 mark_first (y ∷ xs) x some = refl
+
+-- both marks at the beginning
+pub marks_first : (xs : List ℕ) (x y : ℕ) → 2 ≤ length xs → take 2 (slice_set (slice_set xs 0 x) 1 y) ≡ x ∷ y ∷ []
+marks_first [] x y some = absurd (omega (arith, some))
+marks_first (a ∷ []) x y some = absurd (omega (arith, some))
+marks_first (a ∷ b ∷ xs) x y some = refl
 
 -- a name's digits behind the first mark, and a value's behind the second
 pub column_is : (xs name value left right : List ℕ) (m e : ℕ) → name ≡ left → value ≡ right → m ≡ 1 + length left → e ≡ m + 1 + length right → e ≤ length xs → take 1 xs ≡ 32 ∷ []
@@ -112,3 +122,11 @@ laid_more xs piece a b end k fits short before is =
     ∙ ap (take (end + k)) (sym (append_assoc (take end xs) (take k piece) (drop k piece)))
     ∙ take_at (take end xs ++ take k piece) (drop k piece) (end + k) (omega (arith, length-append (take end xs) (take k piece), length-take-le end xs fits, length-take-le k piece short))
     ∙ ap (λ l. l ++ take k piece) before ∙ ap (λ l. a ++ l) is
+
+-- the end of a line behind what is laid
+pub line_is : (xs piece a b : List ℕ) (middle k : ℕ) → middle + k < length xs → k ≤ length piece → length (put_mid middle (length xs - middle) xs piece) ≡ length xs → take middle xs ≡ a → take k piece ≡ b
+    → take (middle + k + 1) (slice_set (put_mid middle (length xs - middle) xs piece) (middle + k) 10) ≡ a ++ b ++ codes "\n"
+line_is xs piece a b middle k fits short same before is =
+    let ys = put_mid middle (length xs - middle) xs piece in
+    take_more_set ys (middle + k) 10 (omega (arith, fits, same))
+    ∙ ap (λ l. l ++ 10 ∷ []) (laid_more xs piece a b middle k (omega (arith, fits)) short before is)

@@ -1,12 +1,13 @@
 -- Values that are read token by token.
 use Rattle.std.proofs.Common.{◌≡◌, ℕ, suc, ◌-◌, ◌<◌, ◌≤◌, Bool, true, false, cond, List, [], ◌∷◌, ◌++◌, length, Option, Some, None, option_map, option_and_then, refl, sym, ap, subst, ◌∙◌, arith}
-use Rattle.std.specs.Prelude.{⊤, IfSome, codes, if◌then◌else◌}
+use Rattle.std.specs.Prelude.{⊤, IfSome, codes, nat_lt, if◌then◌else◌}
+use Rattle.std.proofs.lemmas.Bool.Decides.{nat_tests}
 use Rattle.std.proofs.lemmas.Bool.{false≢true}
 use Rattle.std.specs.Str.{bytes_eq}
 use Rattle.std.specs.Borrow.{Bor}
 use Rattle.std.specs.declared.alloc.Global.{Global}
 use Rattle.json.specs.Token.{Token}
-use Rattle.json.specs.Json.{Json, array, object, string, document, if_last, Items, no_items, item, Members, no_members, member, parse_map, after_end_array, read_key, value}
+use Rattle.json.specs.Json.{Json, array, object, string, number as spelled, document, if_last, Items, no_items, item, Members, no_members, member, parse_map, after_end_array, read_key, value}
 use Rattle.json.specs.Lex.{tokens}
 use Rattle.json.specs.Find.{as_str, as_array, get_member, later_or}
 use Rattle.json.specs.Value.{value_view, members_view}
@@ -16,14 +17,15 @@ use Rattle.column_family.specs.declared.batch.Change.{Change}
 use Rattle.column_family.specs.declared.batch.Mutation.{Mutation}
 use Rattle.column_family.specs.declared.batch.Mutation.TheVariants.{Insert, DeleteColumn, DeleteRow, DeleteRange}
 use Rattle.slice.specs.declared.predicate.Predicate.{Predicate}
+use Rattle.slice.specs.declared.predicate.Predicate.TheVariants.{Names}
 use Rattle.messages.specs.declared.op.Op.{Op}
 use Rattle.messages.specs.declared.op.Op.TheVariants.{Batch, Read as Asks}
 use Rattle.messages.specs.Topology.{TopologyValue, shard_count, session_node}
 use Rattle.workload.specs.declared.script.Event.{Event}
 use Rattle.workload.specs.declared.script.Event.TheVariants.{Submit, Deliver, Collect, Drain}
 use Rattle.workload.specs.Gives.{◌>>=◌}
-use Rattle.workload.specs.Shape.{jsons_of, all_by, list_by, all_within, list_within, member_by, members_len, is_same, has_members, whole_of, whole_below}
-use Rattle.workload.specs.Script.{insert_of, delete_of, delete_row_of, delete_range_of, mutation_of, change_of, predicate_of, read_of, batch_of, op_in, op_of, small_of, families_of, topology_among, topology_of, event_of, script_of, submit_of, deliver_of, time_of, collect_of, drain_of}
+use Rattle.workload.specs.Shape.{jsons_of, all_by, list_by, all_within, list_within, member_by, members_len, is_same, has_members, whole_of, whole_below, if_below}
+use Rattle.workload.specs.Script.{insert_of, delete_of, delete_row_of, delete_range_of, mutation_of, change_of, predicate_of, names_of, predicate_in, range_of, read_of, batch_of, op_in, op_of, small_of, families_of, topology_among, topology_of, event_of, script_of, submit_of, deliver_of, time_of, collect_of, drain_of}
 use Rattle.workload.specs.Streams.{Reads, ReadsRest, ItemsAre, MembersAre, followed_by, BeginWith, IsHeader}
 use Rattle.workload.proofs.Lists.{all_by_snoc, all_within_short}
 
@@ -304,11 +306,41 @@ pub reads_read : (k : List ℕ) (depth : ℕ) (ts r : List Token) (o : Option Op
     → IfSome o (Reads (λ j. op_of (object (member k j no_members))) depth ts r)
 reads_read k depth ts r o f e h = if_some _ _ o (λ x g. (g.0, g.1, read_under k g.0 f e ∙ g.2)) h
 
-pub op_reads : (depth : ℕ) (ts s u v r : List Token) (k : List ℕ) (op : Op) → 0 < depth → ts ≡ Token.begin_object ∷ s → read_key s ≡ Some (Some k, u) → Reads (λ j. op_of (object (member k j no_members))) (depth - 1) u v op
-    → read_key v ≡ Some (None, r) → Reads op_of depth ts r op
-op_reads depth ts s u v r k op some e f h end =
+-- an object of one member
+pub member_reads : {A : Type 0} (f : Json → Option A) (depth : ℕ) (ts s u v r : List Token) (k : List ℕ) (x : A) → 0 < depth → ts ≡ Token.begin_object ∷ s → read_key s ≡ Some (Some k, u)
+    → Reads (λ j. f (object (member k j no_members))) (depth - 1) u v x → read_key v ≡ Some (None, r) → Reads f depth ts r x
+member_reads f depth ts s u v r k x some e key h end =
     let ms = member k h.0 no_members in
-    (object ms, is_object depth ts s r ms some e (one_more_member (depth - 1) s u v r k h.0 no_members f h.1 (no_more_members (depth - 1) v r end)), h.2)
+    (object ms, is_object depth ts s r ms some e (one_more_member (depth - 1) s u v r k h.0 no_members key h.1 (no_more_members (depth - 1) v r end)), h.2)
+
+-- ---- predicates
+
+names_under : (k : List ℕ) (j : Json) (names : List (List ℕ)) → bytes_eq k (codes "names") ≡ true → list_by as_str j ≡ Some names → predicate_of (object (member k j no_members)) ≡ Some (Names names)
+unfolding predicate_of names_of
+names_under k j names h e = (λ i. predicate_in (cond (h i) (Some j) None) (cond (bytes_eq k (codes "range")) (Some j) None)) ∙ ap (λ o. o >>= (λ ns. Some (Names ns))) e
+
+range_under : (k : List ℕ) (j : Json) → bytes_eq k (codes "names") ≡ false → bytes_eq k (codes "range") ≡ true → predicate_of (object (member k j no_members)) ≡ range_of j
+unfolding predicate_of
+range_under k j f h = λ i. predicate_in (cond (f i) (Some j) None) (cond (h i) (Some j) None)
+
+pub names_read : (k : List ℕ) (depth : ℕ) (ts r : List Token) (names : List (List ℕ)) → bytes_eq k (codes "names") ≡ true → Reads (list_by as_str) depth ts r names
+    → Reads (λ j. predicate_of (object (member k j no_members))) depth ts r (Names names)
+names_read k depth ts r names e h = (h.0, h.1, names_under k h.0 names e h.2)
+
+pub range_reads : (k : List ℕ) (depth : ℕ) (ts r : List Token) (o : Option Predicate) → bytes_eq k (codes "names") ≡ false → bytes_eq k (codes "range") ≡ true → IfSome o (Reads range_of depth ts r)
+    → IfSome o (Reads (λ j. predicate_of (object (member k j no_members))) depth ts r)
+range_reads k depth ts r o f e h = if_some _ _ o (λ x g. (g.0, g.1, range_under k g.0 f e ∙ g.2)) h
+
+-- ---- numbers
+
+pub number_reads : (depth : ℕ) (ts r : List Token) (digits : List ℕ) (o : Option ℕ) → ts ≡ Token.number digits ∷ r → o ≡ whole_of (spelled digits) → IfSome o (Reads whole_of depth ts r)
+number_reads depth ts r digits None e h = tt
+number_reads depth ts r digits (Some n) e h = (spelled digits, ap (value depth) e ∙ value_is depth (Token.number digits ∷ r), sym h)
+
+pub below_reads : (end depth : ℕ) (ts r : List Token) (n : ℕ) → Reads whole_of depth ts r n → n < end → Reads (whole_below end) depth ts r n
+below_reads end depth ts r n h lt =
+    let below : nat_lt n end ≡ true = grind (arith, nat_tests) in
+    (h.0, h.1, ap (option_and_then (if_below end)) h.2 ∙ pick (nat_lt n end) (Some n) None below)
 
 -- ---- the members of a script
 

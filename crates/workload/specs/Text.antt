@@ -18,9 +18,13 @@ column_text c = codes " " ++ encode_lower c.name ++ codes "=" ++ encode_lower c.
 abbrev pub is_short_column : Column → Bool
 is_short_column c = nat_le (length c.name) 32 && nat_le (length c.value) 32
 
--- `  KEY:`, then each column
+-- `  KEY:`, then each column, and the end of the line
+abbrev pub line_text : List ℕ → List Column → List ℕ
+line_text key columns = codes "  " ++ encode_lower key ++ codes ":" ++ flat_map column_text columns ++ codes "\n"
+
+-- the line of a row
 abbrev pub row_text : AnsweredRow → List ℕ
-row_text r = codes "  " ++ encode_lower r.key ++ codes ":" ++ flat_map column_text r.columns ++ codes "\n"
+row_text r = line_text r.key r.columns
 
 -- `node N op M`
 unfoldable pub op_text : ℕ → ℕ → List ℕ

@@ -131,6 +131,10 @@ impl Shaped for Predicate {
     fn of_json(alloc: Global, json: &Json<'_>) -> Result<Predicate, Fault> {
         predicate(alloc, json)
     }
+
+    fn of_reader(alloc: Global, reader: &mut Reader<'_>, depth: usize) -> Option<Predicate> {
+        streaming::predicate(alloc, reader, depth)
+    }
 }
 
 impl Shaped for Op {
@@ -170,6 +174,10 @@ impl Shaped for usize {
 
     fn of_json(_alloc: Global, json: &Json<'_>) -> Result<usize, Fault> {
         Ok(whole(json).ok_or(Fault::Script)? as usize)
+    }
+
+    fn of_reader(_alloc: Global, reader: &mut Reader<'_>, depth: usize) -> Option<usize> {
+        Some(streaming::number(reader, depth)? as usize)
     }
 }
 
@@ -305,7 +313,7 @@ fn range_members(json: &Json<'_>) -> usize
 }
 
 #[tactic(auto, unfolding(crate::specs::Script::range_of))]
-fn range(alloc: Global, json: &Json<'_>) -> Result<Predicate, Fault>
+pub(crate) fn range(alloc: Global, json: &Json<'_>) -> Result<Predicate, Fault>
     ensures { Gives result (form.range_of (value_view json.now)) }
 {
     if !has_members(json, range_members(json)) {

@@ -5,18 +5,18 @@ ghost use Rattle.std.specs.Prelude.{◌≡◌, ◌∷◌, [], Some, true, IfSome
 ghost use Rattle.json.specs.Token as spec;
 ghost use Rattle.json.specs.Json.{Json as SpecJson, document, object, member, no_members};
 ghost use Rattle.json.specs.Value.{value_view};
-ghost use Rattle.workload.specs.Shape.{list_by, has_members as form_members, whole_below as below};
+ghost use Rattle.workload.specs.Shape.{list_by, has_members as form_members, whole_below as below, whole_of};
 ghost use Rattle.workload.specs.Script as form;
 ghost use Rattle.workload.specs.Streams.{Reads, ReadsRest, BeginWith, IsHeader};
 
-use crate::reading::{MOST_EVENTS, topology};
+use crate::reading::{MOST_EVENTS, range, topology};
 use crate::script::{Event, Events, Script};
-use crate::shape::{Shaped, has_members, whole_below};
+use crate::shape::{Shaped, has_members, whole};
 use column_family::{Batch, Change, Family, Key, Mutation, Name, Row, Value};
 use json::{MAX_DEPTH, Reader, Scratch, Token, Value as Json};
 use logical_time::{Node, Time};
 use messages::{Op, Topology};
-use slice::{Keys, Predicate, Read};
+use slice::{Keys, Names, Predicate, Read};
 use std::alloc::Global;
 
 /// Whether a list begins.
@@ -147,6 +147,53 @@ pub(crate) fn change(alloc: Global, reader: &mut Reader<'_>, depth: usize) -> Op
     })
 }
 
+/// The range that comes next.
+fn range_in(alloc: Global, reader: &mut Reader<'_>, depth: usize) -> Option<Predicate>
+    ensures { IfSome result (Reads form.range_of depth reader.old reader.new) }
+{
+    let json = Json::read(alloc, reader, depth).ok()?;
+    range(alloc, &json).ok()
+}
+
+/// The predicate that stands under this name and comes next.
+fn predicate_under(
+    alloc: Global,
+    name: &str,
+    reader: &mut Reader<'_>,
+    depth: usize,
+) -> Option<Predicate>
+    ensures { IfSome result (Reads (λ j. form.predicate_of (object (member name.now j no_members))) depth reader.old reader.new) }
+{
+    if name == "names" {
+        let names = list_in(alloc, reader, depth)?;
+        match Names::from_vec(alloc, names) {
+            Ok(names) => Some(Predicate::Names(names)),
+            Err(_) => None,
+        }
+    } else if name == "range" {
+        range_in(alloc, reader, depth)
+    } else {
+        None
+    }
+}
+
+/// The predicate that comes next.
+pub(crate) fn predicate(alloc: Global, reader: &mut Reader<'_>, depth: usize) -> Option<Predicate>
+    ensures { IfSome result (Reads form.predicate_of depth reader.old reader.new) }
+{
+    if depth == 0 || !opens_object(reader) {
+        return None;
+    }
+    let Ok(Some(name)) = reader.next_key() else {
+        return None;
+    };
+    let predicate = predicate_under(alloc, name, reader, depth - 1)?;
+    match reader.next_key() {
+        Ok(None) => Some(predicate),
+        _ => None,
+    }
+}
+
 /// The read that comes next.
 fn read(alloc: Global, reader: &mut Reader<'_>, depth: usize) -> Option<Op>
     ensures { IfSome result (Reads form.read_of depth reader.old reader.new) }
@@ -205,12 +252,30 @@ pub(crate) fn op(alloc: Global, reader: &mut Reader<'_>, depth: usize) -> Option
     }
 }
 
+/// The text of the number that comes next.
+fn digits<'a>(reader: &mut Reader<'a>) -> Option<&'a str>
+    ensures { IfSome result (λ digits. reader.old ≡ spec.number digits.now ∷ reader.new) }
+{
+    match reader.next() {
+        Some(Token::Number(digits)) => Some(digits),
+        _ => None,
+    }
+}
+
+/// The whole number that comes next.
+pub(crate) fn number(reader: &mut Reader<'_>, depth: usize) -> Option<u64>
+    ensures { IfSome result (Reads whole_of depth reader.old reader.new) }
+{
+    let digits = digits(reader)?;
+    whole(&Json::Number(digits))
+}
+
 /// The whole number below an end that comes next.
-fn number_below(alloc: Global, reader: &mut Reader<'_>, depth: usize, end: u64) -> Option<u64>
+fn number_below(reader: &mut Reader<'_>, depth: usize, end: u64) -> Option<u64>
     ensures { IfSome result (Reads (below end) depth reader.old reader.new) }
 {
-    let json = Json::read(alloc, reader, depth).ok()?;
-    whole_below(&json, end).ok()
+    let number = number(reader, depth)?;
+    if number < end { Some(number) } else { None }
 }
 
 /// A session and an operation, and the end of the list.
@@ -223,7 +288,7 @@ fn submit(
     ensures { IfSome result (ReadsRest (form.submit_of topology.now) depth reader.old reader.new) }
 {
     let end = topology.homes().len() as u64;
-    let session = number_below(alloc, reader, depth, end)? as u16;
+    let session = number_below(reader, depth, end)? as u16;
     let op = op(alloc, reader, depth)?;
     if !reader.take_end_array() {
         return None;
@@ -255,7 +320,7 @@ fn collect(
     ensures { IfSome result (ReadsRest (form.collect_of topology.now) depth reader.old reader.new) }
 {
     let end = u64::from(topology.shard_count());
-    let shard = number_below(alloc, reader, depth, end)? as u16;
+    let shard = number_below(reader, depth, end)? as u16;
     let time = Time::of_reader(alloc, reader, depth)?;
     if !reader.take_end_array() {
         return None;

@@ -6,7 +6,7 @@ ghost use Rattle.hex.specs.Hex.{encode_lower};
 ghost use Rattle.logical_time.specs.declared.fault.Fault.TheVariants as fault;
 ghost use Rattle.logical_time.specs.Fault.{number_of};
 ghost use Rattle.program.specs.Outputs.{Adds, AppendsPart};
-ghost use Rattle.workload.specs.Text.{is_short_column, column_text, row_text, op_text, commit_text, answer_text, refusal_text, entry_text, text_of};
+ghost use Rattle.workload.specs.Text.{is_short_column, column_text, line_text, row_text, op_text, commit_text, answer_text, refusal_text, entry_text, text_of};
 
 use crate::transcript::{Entry, Transcript};
 use itoa::Buffer;
@@ -24,11 +24,8 @@ const SHORT: usize = 32;
 /// How many short columns are written in one piece at most.
 const COLUMNS: usize = 4;
 
-/// How many bytes a few words have at most.
-const WORDS: usize = 16;
-
-/// How many digits a number has at most.
-const DIGITS: usize = 40;
+/// How many bytes a few words and a number behind them have at most.
+const NUMBER: usize = 56;
 
 // A few bytes in hexadecimal.
 fn put_few<W: Write>(output: &mut Output<W>, bytes: &[u8]) -> Result<(), Fault>
@@ -189,20 +186,8 @@ fn put_columns<W: Write>(output: &mut Output<W>, columns: &[Column]) -> Result<(
     put_few_columns(output, rest)
 }
 
-// `  KEY:`, of a short key.
-fn put_short_key<W: Write>(output: &mut Output<W>, key: &[u8]) -> Result<(), Fault>
-    requires { length key.now ≤ 32 }
-    ensures { Adds W.contents output.old output.new result (codes "  " ++ encode_lower key.now ++ codes ":") }
-{
-    let mut text = [b' '; 3 + 2 * SHORT];
-    let end = 2 + 2 * key.len();
-    hex::encode_to_slice(key, &mut text[2..end]).unwrap();
-    text[end] = b':';
-    output.put(&text[..end + 1])
-}
-
 // `  KEY:`, of any key.
-fn put_long_key<W: Write>(output: &mut Output<W>, key: &[u8]) -> Result<(), Fault>
+fn put_key<W: Write>(output: &mut Output<W>, key: &[u8]) -> Result<(), Fault>
     ensures { Adds W.contents output.old output.new result (codes "  " ++ encode_lower key.now ++ codes ":") }
 {
     output.put(b" ")?;
@@ -210,24 +195,82 @@ fn put_long_key<W: Write>(output: &mut Output<W>, key: &[u8]) -> Result<(), Faul
     output.put(b":")
 }
 
-// `  KEY:`.
-fn put_key<W: Write>(output: &mut Output<W>, key: &[u8]) -> Result<(), Fault>
-    ensures { Adds W.contents output.old output.new result (codes "  " ++ encode_lower key.now ++ codes ":") }
+// `  KEY:`, then each column, and the end of the line, of any key and columns.
+fn put_long_row<W: Write>(
+    output: &mut Output<W>,
+    key: &[u8],
+    columns: &[Column],
+) -> Result<(), Fault>
+    ensures { Adds W.contents output.old output.new result (line_text key.now columns.now) }
 {
-    if key.len() <= SHORT {
-        put_short_key(output, key)
-    } else {
-        put_long_key(output, key)
-    }
+    put_key(output, key)?;
+    put_columns(output, columns)?;
+    output.put(b"\n")
+}
+
+// Lays `  KEY:`, of a short key, at the beginning of a text: how many bytes it has.
+fn lay_key(text: &mut [u8], key: &[u8]) -> usize
+    requires room { 67 ≤ length text.old }
+    requires key { length key.now ≤ 32 }
+    ensures laid { take result text.new ≡ codes "  " ++ encode_lower key.now ++ codes ":" }
+    ensures length { length text.new ≡ length text.old }
+    ensures most { result ≤ 67 }
+{
+    let end = 2 + 2 * key.len();
+    text[0] = b' ';
+    text[1] = b' ';
+    hex::encode_to_slice(key, &mut text[2..end]).unwrap();
+    text[end] = b':';
+    end + 1
+}
+
+// Lays the line of a short key and of up to four short columns at the beginning of a text: how many bytes it has.
+fn lay_row(text: &mut [u8], key: &[u8], columns: &[Column]) -> usize
+    requires room { 588 ≤ length text.old }
+    requires key { length key.now ≤ 32 }
+    requires few { length columns.now ≤ 4 }
+    requires short { list_all is_short_column columns.now ≡ true }
+    ensures laid { take result text.new ≡ line_text key.now columns.now }
+    ensures most { result ≤ length text.new }
+{
+    let middle = lay_key(text, key);
+    let end = middle + lay_columns(&mut text[middle..], columns);
+    text[end] = b'\n';
+    end + 1
+}
+
+// The line of a short key and of up to four short columns, in one piece.
+fn put_short_row<W: Write>(
+    output: &mut Output<W>,
+    key: &[u8],
+    columns: &[Column],
+) -> Result<(), Fault>
+    requires key { length key.now ≤ 32 }
+    requires few { length columns.now ≤ 4 }
+    requires short { list_all is_short_column columns.now ≡ true }
+    ensures { Adds W.contents output.old output.new result (line_text key.now columns.now) }
+{
+    let mut text = [0; 4 + 2 * SHORT + COLUMNS * (2 + 4 * SHORT)];
+    let end = lay_row(&mut text, key, columns);
+    output.put(&text[..end])
 }
 
 // `  KEY:`, then each column, and the end of the line.
+fn put_line<W: Write>(output: &mut Output<W>, key: &[u8], columns: &[Column]) -> Result<(), Fault>
+    ensures { Adds W.contents output.old output.new result (line_text key.now columns.now) }
+{
+    if key.len() <= SHORT && columns.len() <= COLUMNS && are_short(columns) {
+        put_short_row(output, key, columns)
+    } else {
+        put_long_row(output, key, columns)
+    }
+}
+
+// The line of a row.
 fn put_row<W: Write>(output: &mut Output<W>, row: &AnsweredRow) -> Result<(), Fault>
     ensures { Adds W.contents output.old output.new result (row_text row.now) }
 {
-    put_key(output, row.key.as_slice())?;
-    put_columns(output, row.columns.as_slice())?;
-    output.put(b"\n")
+    put_line(output, row.key.as_slice(), row.columns.as_slice())
 }
 
 // Each row, in order.
@@ -241,89 +284,99 @@ fn put_rows<W: Write>(output: &mut Output<W>, rows: &[AnsweredRow]) -> Result<()
     Ok(())
 }
 
-// A few words, and then a number.
-fn put_number<W: Write>(output: &mut Output<W>, words: &[u8], number: u64) -> Result<(), Fault>
-    requires { length words.now ≤ 16 }
-    ensures { Adds W.contents output.old output.new result (words.now ++ decimal number) }
+// Lays a few words, and then a number, at the beginning of a text: how many bytes they have.
+fn lay_number(text: &mut [u8], words: &[u8], number: u64) -> usize
+    requires room { 56 ≤ length text.old }
+    requires words { length words.now ≤ 16 }
+    ensures laid { take result text.new ≡ words.now ++ decimal number }
+    ensures length { length text.new ≡ length text.old }
+    ensures most { result ≤ 56 }
 {
-    let mut text = [0; WORDS + DIGITS];
     let mut buffer = Buffer::new();
     let digits = buffer.format(number).as_bytes();
     let middle = words.len();
     let end = middle + digits.len();
     text[..middle].copy_from_slice(words);
     text[middle..end].copy_from_slice(digits);
-    output.put(&text[..end])
+    end
 }
 
-// A few words, and then the number of a node.
-fn put_node<W: Write>(output: &mut Output<W>, words: &[u8], node: Node) -> Result<(), Fault>
-    requires { length words.now ≤ 16 }
-    ensures { Adds W.contents output.old output.new result (words.now ++ decimal node) }
+// Lays `node N op M`: how many bytes it has.
+fn lay_op(text: &mut [u8], node: Node, number: u64) -> usize
+    requires { 112 ≤ length text.old }
+    ensures laid { take result text.new ≡ op_text node number }
+    ensures length { length text.new ≡ length text.old }
+    ensures most { result ≤ 112 }
 {
-    put_number(output, words, u64::from(node.get()))
+    let middle = lay_number(text, b"node ", u64::from(node.get()));
+    middle + lay_number(&mut text[middle..], b" op ", number)
 }
 
-// A few words, and then a time.
-fn put_time<W: Write>(output: &mut Output<W>, words: &[u8], time: Time) -> Result<(), Fault>
-    requires { length words.now ≤ 16 }
-    ensures { Adds W.contents output.old output.new result (words.now ++ decimal time) }
+// Lays ` stamp T.K`: how many bytes it has.
+fn lay_stamp(text: &mut [u8], stamp: Stamp) -> usize
+    requires { 112 ≤ length text.old }
+    ensures laid { take result text.new ≡ codes " stamp " ++ decimal stamp.time ++ codes "." ++ decimal stamp.node }
+    ensures length { length text.new ≡ length text.old }
+    ensures most { result ≤ 112 }
 {
-    put_number(output, words, time.get())
+    let middle = lay_number(text, b" stamp ", stamp.time().get());
+    middle + lay_number(&mut text[middle..], b".", u64::from(stamp.node().get()))
 }
 
-// ` refused R`.
-fn put_fault<W: Write>(output: &mut Output<W>, fault: Fault) -> Result<(), Fault>
-    ensures { Adds W.contents output.old output.new result (codes " refused " ++ decimal (number_of fault)) }
+// Lays ` wrote commit C stamp T.K`, and the end of the line: how many bytes it has.
+fn lay_commit(text: &mut [u8], commit: Time, stamp: Stamp) -> usize
+    requires { 169 ≤ length text.old }
+    ensures laid { take result text.new ≡ commit_text commit stamp }
+    ensures most { result ≤ 169 }
+    ensures length { length text.new ≡ length text.old }
 {
-    put_number(output, b" refused ", u64::from(fault.number()))
+    let middle = lay_number(text, b" wrote commit ", commit.get());
+    let end = middle + lay_stamp(&mut text[middle..], stamp);
+    text[end] = b'\n';
+    end + 1
 }
 
-// ` stamp T.K`.
-fn put_stamp<W: Write>(output: &mut Output<W>, stamp: Stamp) -> Result<(), Fault>
-    ensures { Adds W.contents output.old output.new result (codes " stamp " ++ decimal stamp.time ++ codes "." ++ decimal stamp.node) }
+// Lays a write: how many bytes it has.
+fn lay_wrote(text: &mut [u8], node: Node, number: u64, commit: Time, stamp: Stamp) -> usize
+    requires { 281 ≤ length text.old }
+    ensures laid { take result text.new ≡ op_text node number ++ commit_text commit stamp }
+    ensures most { result ≤ length text.new }
 {
-    put_time(output, b" stamp ", stamp.time())?;
-    put_node(output, b".", stamp.node())
+    let middle = lay_op(text, node, number);
+    middle + lay_commit(&mut text[middle..], commit, stamp)
 }
 
-// `node N op M`.
-fn put_op<W: Write>(output: &mut Output<W>, node: Node, number: u64) -> Result<(), Fault>
-    ensures { Adds W.contents output.old output.new result (op_text node number) }
+// Lays the line of a read, without its rows: how many bytes it has.
+fn lay_read(text: &mut [u8], node: Node, number: u64, effective: Time) -> usize
+    requires { 169 ≤ length text.old }
+    ensures laid { take result text.new ≡ op_text node number ++ codes " read at " ++ decimal effective ++ codes "\n" }
+    ensures most { result ≤ length text.new }
 {
-    put_node(output, b"node ", node)?;
-    put_number(output, b" op ", number)
+    let middle = lay_op(text, node, number);
+    let end = middle + lay_number(&mut text[middle..], b" read at ", effective.get());
+    text[end] = b'\n';
+    end + 1
 }
 
-// ` wrote commit C stamp T.K`, and the end of the line.
-fn put_commit<W: Write>(output: &mut Output<W>, commit: Time, stamp: Stamp) -> Result<(), Fault>
-    ensures { Adds W.contents output.old output.new result (commit_text commit stamp) }
+// Lays a refusal: `node N refused R`, and the end of the line: how many bytes it has.
+fn lay_refusal(text: &mut [u8], node: Node, fault: Fault) -> usize
+    requires { 113 ≤ length text.old }
+    ensures laid { take result text.new ≡ refusal_text node fault }
+    ensures most { result ≤ length text.new }
 {
-    put_time(output, b" wrote commit ", commit)?;
-    put_stamp(output, stamp)?;
-    output.put(b"\n")
+    let middle = lay_number(text, b"node ", u64::from(node.get()));
+    let end = middle + lay_number(&mut text[middle..], b" refused ", u64::from(fault.number()));
+    text[end] = b'\n';
+    end + 1
 }
 
-// ` read at T`, and the end of the line; then its rows.
-fn put_answer<W: Write>(
-    output: &mut Output<W>,
-    effective: Time,
-    rows: &[AnsweredRow],
-) -> Result<(), Fault>
-    ensures { Adds W.contents output.old output.new result (answer_text effective rows.now) }
-{
-    put_time(output, b" read at ", effective)?;
-    output.put(b"\n")?;
-    put_rows(output, rows)
-}
-
-// A refusal: `node N refused R`, and the end of the line.
+// A refusal.
 fn put_refusal<W: Write>(output: &mut Output<W>, node: Node, fault: Fault) -> Result<(), Fault>
     ensures { Adds W.contents output.old output.new result (refusal_text node fault) }
 {
-    put_node(output, b"node ", node)?;
-    put_fault(output, fault)?;
-    output.put(b"\n")
+    let mut text = [0; 1 + 2 * NUMBER];
+    let end = lay_refusal(&mut text, node, fault);
+    output.put(&text[..end])
 }
 
 // A write.
@@ -336,8 +389,9 @@ fn put_wrote<W: Write>(
 ) -> Result<(), Fault>
     ensures { Adds W.contents output.old output.new result (op_text node number ++ commit_text commit stamp) }
 {
-    put_op(output, node, number)?;
-    put_commit(output, commit, stamp)
+    let mut text = [0; 1 + 5 * NUMBER];
+    let end = lay_wrote(&mut text, node, number, commit, stamp);
+    output.put(&text[..end])
 }
 
 // A read, with its rows.
@@ -350,15 +404,19 @@ fn put_read<W: Write>(
 ) -> Result<(), Fault>
     ensures { Adds W.contents output.old output.new result (op_text node number ++ answer_text effective rows.now) }
 {
-    put_op(output, node, number)?;
-    put_answer(output, effective, rows)
+    let mut text = [0; 1 + 3 * NUMBER];
+    let end = lay_read(&mut text, node, number, effective);
+    output.put(&text[..end])?;
+    put_rows(output, rows)
 }
 
 // A read that came too late.
 fn put_collected<W: Write>(output: &mut Output<W>, node: Node, number: u64) -> Result<(), Fault>
     ensures { Adds W.contents output.old output.new result (op_text node number ++ codes " collected\n") }
 {
-    put_op(output, node, number)?;
+    let mut text = [0; 2 * NUMBER];
+    let end = lay_op(&mut text, node, number);
+    output.put(&text[..end])?;
     output.put(b" collected\n")
 }
 
@@ -398,7 +456,7 @@ fn put_entries<W: Write>(output: &mut Output<W>, entries: &[Entry]) -> Result<()
 /// Writes the text of a transcript and passes it on: a line for each entry and, after that of a read, one for each asked row.
 /// Numbers are decimal, bytes lower-case hexadecimal. Refused with `WriteFailed` exactly where the output has failed; then a
 /// beginning of the text is written, and nothing where it had failed before. Linear in the text. Takes no memory: the text is
-/// written in pieces of up to 520 bytes, so a writer that calls the system for each should have a buffer before it.
+/// written in pieces of up to 588 bytes, so a writer that calls the system for each should have a buffer before it.
 pub fn write_transcript<W: Write>(
     output: &mut Output<W>,
     transcript: &Transcript,

@@ -1,7 +1,7 @@
 use Rattle.std.proofs.Common.{codes, ◌++◌, refl}
 use Rattle.hex.specs.Hex.{encode_lower}
 use Rattle.workload.proofs.Pieces.{ended, joined}
-use Rattle.workload.proofs.text.put_long_key.Goals as goal
+use Rattle.workload.proofs.text.put_key.Goals as goal
 
 pub returns-in_err-put : goal.returns-in_err-put
 returns-in_err-put g c =
