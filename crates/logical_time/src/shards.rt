@@ -115,7 +115,19 @@ impl Shards {
         ensures value { result ≡ number % self }
         ensures below { result < self }
     {
-        Shard((number % u128::from(self.0)) as u8)
+        Shard(remainder(number, self.0))
+    }
+}
+
+// The remainder of a number by another, by a division of 64 bits where the number has no more.
+fn remainder(number: u128, by: u8) -> u8
+    requires { 0 < by }
+    ensures { result ≡ number % by }
+{
+    if number <= u128::from(u64::MAX) {
+        (number as u64 % u64::from(by)) as u8
+    } else {
+        (number % u128::from(by)) as u8
     }
 }
 

@@ -86,28 +86,34 @@ fn columns_among(rows: &[AnsweredRow], key: &Key) -> Result<Columns, Fault>
 }
 
 /// These keys, each with its columns among few rows.
-fn join_few(alloc: Global, once: Vec<Key>, rows: &[AnsweredRow]) -> Result<Answer, Fault>
-    ensures exact { IfOk result (λ answer. answer ≡ map (joined_row rows.now) once.items) }
+fn join_few(alloc: Global, once: &[Key], rows: &[AnsweredRow]) -> Result<Answer, Fault>
+    ensures exact { IfOk result (λ answer. answer ≡ map (joined_row rows.now) once.now) }
     ensures memory { IfErr result (λ e. e ≡ Fault.Memory) }
 {
     let mut answer = Answer::with_capacity(alloc, once.len())?;
     for key in once {
-        let columns = columns_among(rows, &key)?;
-        answer.push(AnsweredRow { key, columns })?;
+        let columns = columns_among(rows, key)?;
+        answer.push(AnsweredRow {
+            key: key.clone()?,
+            columns,
+        })?;
     }
     Ok(answer)
 }
 
 /// These keys, each with its columns among many rows.
-fn join_many(alloc: Global, once: Vec<Key>, rows: &[AnsweredRow]) -> Result<Answer, Fault>
-    ensures exact { IfOk result (λ answer. answer ≡ map (joined_row rows.now) once.items) }
+fn join_many(alloc: Global, once: &[Key], rows: &[AnsweredRow]) -> Result<Answer, Fault>
+    ensures exact { IfOk result (λ answer. answer ≡ map (joined_row rows.now) once.now) }
     ensures memory { IfErr result (λ e. e ≡ Fault.Memory) }
 {
     let places = places(alloc, rows)?;
     let mut answer = Answer::with_capacity(alloc, once.len())?;
     for key in once {
-        let columns = columns_at(alloc, rows, &places, &key)?;
-        answer.push(AnsweredRow { key, columns })?;
+        let columns = columns_at(alloc, rows, &places, key)?;
+        answer.push(AnsweredRow {
+            key: key.clone()?,
+            columns,
+        })?;
     }
     Ok(answer)
 }
@@ -119,9 +125,9 @@ fn join(alloc: Global, keys: &[Key], rows: &[AnsweredRow]) -> Result<Answer, Fau
 {
     let once = each_once(alloc, keys)?;
     if rows.len() <= FEW {
-        join_few(alloc, once, rows)
+        join_few(alloc, once.as_slice(), rows)
     } else {
-        join_many(alloc, once, rows)
+        join_many(alloc, once.as_slice(), rows)
     }
 }
 

@@ -37,14 +37,16 @@ struct Placed {
 }
 
 /// Each of the keys with its shard.
-fn with_shards(alloc: Global, keys: Vec<Key>, shards: Shards) -> Result<Vec<Placed>, Fault>
-    ensures exact { IfOk result (λ all. map place_of all.items ≡ map (placed_in shards) keys.items) }
+fn with_shards(alloc: Global, keys: &[Key], shards: Shards) -> Result<Vec<Placed>, Fault>
+    ensures exact { IfOk result (λ all. map place_of all.items ≡ map (placed_in shards) keys.now) }
     ensures memory { IfErr result (λ e. e ≡ Fault.Memory) }
 {
     let mut all = Vec::with_capacity(alloc, keys.len())?;
     for key in keys {
-        let shard = shard_of(&key, shards);
-        all.push(Placed { key, shard })?;
+        all.push(Placed {
+            key: key.clone()?,
+            shard: shard_of(key, shards),
+        })?;
     }
     Ok(all)
 }
@@ -69,7 +71,7 @@ fn cut(alloc: Global, keys: &[Key], shards: Shards) -> Result<ReadPlan, Fault>
     ensures memory { IfErr result (λ e. e ≡ Fault.Memory) }
 {
     let once = each_once(alloc, keys)?;
-    let placed = with_shards(alloc, once, shards)?;
+    let placed = with_shards(alloc, once.as_slice(), shards)?;
     let mut asked = Vec::new(alloc);
     for shard in shards.all() {
         let own = keys_of(alloc, &placed, shard)?;

@@ -25,13 +25,6 @@ last_or_before xs z x Q before last has = elim (Contains-append_cases xs (z ∷ 
   ])
 ]
 
--- a writer that is there needn't be added
-pub there_already : (xs : List WriterValue) (w : WriterValue) → Contains xs w → HaveSameWriters xs (xs ++ w ∷ [])
-there_already xs w has = λ v. (
-  λ there. Contains-append_left xs (w ∷ []) v there,
-  λ there. last_or_before xs w v (Contains xs v) (λ before. before) (λ last. subst (Contains xs) last has) there,
-)
-
 pub all_there : (xs : List WriterValue) → HaveSameWriters xs xs
 all_there xs = λ v. (λ has. has, λ has. has)
 

@@ -1,5 +1,5 @@
 -- Keys taken once each, one after the other.
-use Rattle.std.proofs.Common.{◌≡◌, ℕ, ◌+◌, ◌<◌, Bool, true, false, not, ◌||◌, cond, List, [], ◌∷◌, ◌++◌, filter, length, take, get_or, refl, ap, ◌∙◌, sym, rules, append-nil}
+use Rattle.std.proofs.Common.{◌≡◌, ℕ, ◌+◌, ◌<◌, Bool, true, false, not, ◌&&◌, ◌||◌, cond, List, [], ◌∷◌, ◌++◌, filter, length, take, get_or, refl, ap, ◌∙◌, sym, rules, append-nil}
 use Rattle.std.specs.List.{list_any}
 use Rattle.std.specs.Ordering.{nat_cmp, is_eq}
 use Rattle.std.specs.Cmp.Lexicographic.{slice_cmp}
@@ -10,7 +10,9 @@ use Rattle.std.proofs.lemmas.List.Folds.{list_any-append}
 use Rattle.std.proofs.lemmas.Map.Text.{is_eq-slice_cmp}
 use Rattle.std.proofs.lemmas.Map.Views.{any-filter_same}
 use Rattle.std.proofs.lemmas.Slice.Eq.{bytes_eq-Decides}
+use Rattle.std.specs.Cmp.{both_ways}
 use Rattle.table.specs.Meaning.{each_once}
+use Rattle.table.specs.Once.{do_differ}
 
 -- the keys other than k
 abbrev others : List ℕ → List (List ℕ) → List (List ℕ)
@@ -86,3 +88,26 @@ seen_more once once' x y k before after last now added same taken so_far =
 
 pub seen_same : (once once' : List (List ℕ)) (k : List ℕ) (before last : Bool) → last ≡ before → once' ≡ once → before ≡ list_any (λ z. bytes_eq z k) once → last ≡ list_any (λ z. bytes_eq z k) once'
 seen_same once once' k before last now kept so_far = now ∙ (so_far ∙ ap (list_any (λ z. bytes_eq z k)) (sym kept))
+
+both : (a b : Bool) → (not a && b) ≡ true → (a ≡ false) × (b ≡ true)
+both true b e = absurd (cc)
+both false b e = (refl, e)
+
+none_left_out : (k : List ℕ) (ks : List (List ℕ)) → list_any (λ j. bytes_eq j k) ks ≡ false → others k ks ≡ ks
+none_left_out k [] e = refl
+none_left_out k (j ∷ ks) e = go (bytes_eq j k) (bytes_eq k j) (swapped k j) e (none_left_out k ks)
+  where
+    swapped : (a b : List ℕ) → bytes_eq a b ≡ bytes_eq b a
+    swapped a b = both_ways _ _ (λ h. search (rules, bytes_eq-Decides)) (λ h. search (rules, bytes_eq-Decides))
+
+    go : (a b : Bool) → b ≡ a → (a || list_any (λ i. bytes_eq i k) ks) ≡ false → (list_any (λ i. bytes_eq i k) ks ≡ false → others k ks ≡ ks) → cond (not b) (j ∷ others k ks) (others k ks) ≡ j ∷ ks
+    go true b same none rest = absurd (cc)
+    go false true same none rest = absurd (cc)
+    go false false same none rest = ap (λ js. j ∷ js) (rest none)
+
+-- keys that all differ are each once
+pub once_where_differ : (ks : List (List ℕ)) → do_differ ks ≡ true → each_once ks ≡ ks
+once_where_differ [] e = refl
+once_where_differ (k ∷ ks) e =
+    let parts = both (list_any (λ j. bytes_eq j k) ks) (do_differ ks) e in
+    ap (λ js. k ∷ others k js) (once_where_differ ks parts.1) ∙ ap (λ js. k ∷ js) (none_left_out k ks parts.0)

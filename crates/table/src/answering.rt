@@ -1,8 +1,9 @@
 //! The meaning of a read, by running it.
-ghost use Rattle.std.specs.Prelude.{◌≡◌, IfOk, IfErr, map};
+ghost use Rattle.std.specs.Prelude.{◌≡◌, true, IfOk, IfErr, map};
 ghost use Rattle.slice.specs.Slice.{slice_of};
 ghost use Rattle.slice.specs.Live as live;
 ghost use Rattle.table.specs.Meaning as meaning;
+ghost use Rattle.table.specs.Once.{do_differ, keys_once};
 
 use crate::history::History;
 use column_family::{Committed, Key, Row, up_to};
@@ -20,22 +21,68 @@ pub fn answer(alloc: Global, history: &History, time: Time, read: &Read) -> Resu
 {
     let entries = up_to(alloc, history.as_slice(), time)?;
     let keys = each_once(alloc, read.keys.as_slice())?;
-    answer_keys(alloc, &entries, read, &keys)
+    answer_keys(alloc, &entries, read, keys.as_slice())
 }
 
 /// Up to how many keys each is compared with those before it.
 const FEW: usize = 16;
 
-/// Each key once, in the order of first asking. In the order of n log n for n keys. Refused with `Memory` alone.
-pub fn each_once(alloc: Global, keys: &[Key]) -> Result<Vec<Key>, Fault>
-    ensures ok { IfOk result (λ once. once.items ≡ meaning.each_once keys.now) }
+/// Keys, each once. Where they were listed so, these are those of the list.
+#[derive(Drop)]
+pub enum Once<'k> {
+    /// Those that were listed.
+    Listed(&'k [Key]),
+    /// Those that were taken from a list.
+    Taken(Vec<Key>),
+}
+
+impl Once<'_> {
+    /// The keys.
+    pub fn as_slice(&self) -> &[Key]
+        ensures { result.now ≡ keys_once self.now }
+    {
+        match self {
+            Once::Listed(keys) => keys,
+            Once::Taken(keys) => keys.as_slice(),
+        }
+    }
+}
+
+/// Each key once, in the order of first asking. In the order of n log n for n keys; few that differ are compared with each
+/// other, and not copied. Refused with `Memory` alone.
+pub fn each_once(alloc: Global, keys: &[Key]) -> Result<Once<'_>, Fault>
+    ensures ok { IfOk result (λ once. keys_once once ≡ meaning.each_once keys.now) }
     ensures memory { IfErr result (λ e. e ≡ Fault.Memory) }
 {
-    if keys.len() <= FEW {
-        each_of_few(alloc, keys)
+    if FEW < keys.len() {
+        Ok(Once::Taken(each_of_many(alloc, keys)?))
+    } else if do_differ(keys) {
+        Ok(Once::Listed(keys))
     } else {
-        each_of_many(alloc, keys)
+        Ok(Once::Taken(each_of_few(alloc, keys)?))
     }
+}
+
+// Whether no key is listed twice.
+#[tactic(auto, using(crate::proofs::EachOnce::once_where_differ))]
+fn do_differ(keys: &[Key]) -> bool
+    ensures same { result ≡ true → meaning.each_once keys.now ≡ keys.now }
+{
+    differ(keys)
+}
+
+// Whether no key comes again behind itself.
+fn differ(keys: &[Key]) -> bool
+    ensures { result ≡ do_differ keys.now }
+{
+    let mut rest = keys;
+    while let Some((key, others)) = rest.split_first() {
+        if others.contains(key) {
+            return false;
+        }
+        rest = others;
+    }
+    true
 }
 
 // Each key once, by those that were taken before it.

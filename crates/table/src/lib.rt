@@ -4,5 +4,5 @@
 mod answering;
 mod history;
 
-pub use answering::{answer, each_once};
+pub use answering::{Once, answer, each_once};
 pub use history::History;

@@ -2,12 +2,10 @@
 ghost use Rattle.std.specs.Prelude.{◌≡◌, ◌+◌, ◌-◌, ◌≤◌, ◌<◌, [], length, slice_get, IfOk, OnOk, OnErr, IfErr, IsOk, is_ok, is_some, if◌then◌else◌, remove, MatchOption, Contains, IfSome, ℕ, ◌↔◌, ◌⊎◌, Some, true, false};
 ghost use Rattle.std.specs.Option.{option_copied};
 
-use crate::entry::Entry;
-use crate::places::{keep_from, put_in, take_out};
+use crate::places::{Entries, keep_from, put_in, take_out};
 use crate::times::{interval_at, newest_at, newest_of};
 use crate::version::Version;
 use logical_time::{Fault, Time};
-use smallvec::SmallVec;
 use std::alloc::Global;
 use std::marker::Model;
 
@@ -16,7 +14,7 @@ use std::marker::Model;
 #[derive(Drop)]
 pub struct Chain {
     // by rising stamp, so that the newest comes and goes at the end
-    entries: SmallVec<Entry, 1>,
+    entries: Entries,
 }
 
 impl Model for Chain {
@@ -42,7 +40,7 @@ impl Chain {
         ensures { result.versions ≡ [] }
     {
         Chain {
-            entries: SmallVec::new(alloc),
+            entries: Entries::new(alloc),
         }
     }
 

@@ -11,6 +11,9 @@ use logical_time::{Fault, Time};
 use smallvec::SmallVec;
 use std::cmp::Ordering;
 
+/// The entries of a chain, by rising stamp. Four take no memory of their own.
+pub(crate) type Entries = SmallVec<Entry, 4>;
+
 // Where a version goes, or nowhere if its stamp is held. Looks at those of greater stamps alone.
 fn index_of(entries: &[Entry], version: &Version) -> Option<usize>
     ensures { IsIndexOf version.now entries.now result }
@@ -59,11 +62,7 @@ fn mend(entries: &mut [Entry], index: usize, bound: u64)
 }
 
 // Puts a version at this index.
-fn insert_at(
-    entries: &mut SmallVec<Entry, 1>,
-    i: usize,
-    version: Version,
-) -> Result<(), (Fault, Version)>
+fn insert_at(entries: &mut Entries, i: usize, version: Version) -> Result<(), (Fault, Version)>
     requires ended { AreEnded (2 ^ 48) (reverse entries.old.items) }
     requires inside { i ≤ length entries.old.items }
     ensures ended { AreEnded (2 ^ 48) (reverse entries.new.items) }
@@ -86,10 +85,7 @@ fn insert_at(
 }
 
 /// Puts a version in its place, unless its stamp is held.
-pub(crate) fn put_in(
-    entries: &mut SmallVec<Entry, 1>,
-    version: Version,
-) -> Result<(), (Fault, Version)>
+pub(crate) fn put_in(entries: &mut Entries, version: Version) -> Result<(), (Fault, Version)>
     requires { AreEnded (2 ^ 48) (reverse entries.old.items) }
     ensures ended { AreEnded (2 ^ 48) (reverse entries.new.items) }
     ensures ok { OnOk result (versions_of entries.new.items ≡ put_of (versions_of entries.old.items) version) }
@@ -107,7 +103,7 @@ pub(crate) fn put_in(
 }
 
 /// Takes out the version at this place, if there is one.
-pub(crate) fn take_out(entries: &mut SmallVec<Entry, 1>, place: usize) -> Option<Version>
+pub(crate) fn take_out(entries: &mut Entries, place: usize) -> Option<Version>
     requires { AreEnded (2 ^ 48) (reverse entries.old.items) }
     ensures ended { AreEnded (2 ^ 48) (reverse entries.new.items) }
     ensures removed { result ≡ slice_get (versions_of entries.old.items) place }
@@ -127,7 +123,7 @@ pub(crate) fn take_out(entries: &mut SmallVec<Entry, 1>, place: usize) -> Option
 }
 
 /// Keeps the versions that are the newest at some time from this one on.
-pub(crate) fn keep_from(entries: &mut SmallVec<Entry, 1>, time: Time)
+pub(crate) fn keep_from(entries: &mut Entries, time: Time)
     requires { AreEnded (2 ^ 48) (reverse entries.old.items) }
     ensures ended { AreEnded (2 ^ 48) (reverse entries.new.items) }
     ensures kept { versions_of entries.new.items ≡ kept_from time (versions_of entries.old.items) }

@@ -1,5 +1,5 @@
 use Rattle.std.proofs.Common.{rules}
 use Rattle.table.proofs.answering.each_once.Goals as goal
 
-pub returns-then-keys-le-FEW-clause-ok : goal.returns-then-keys-le-FEW-clause-ok
-returns-then-keys-le-FEW-clause-ok c = search rules
+pub returns-in_ok-each_of_few-clause-ok : goal.returns-in_ok-each_of_few-clause-ok
+returns-in_ok-each_of_few-clause-ok c = search rules
