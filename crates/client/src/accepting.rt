@@ -21,6 +21,7 @@ use slice::Read;
 use std::mem;
 
 /// Whether the operation may be submitted: refused with `Busy` while another is open, and then as its plan is.
+#[inline]
 fn check(kept: &Kept, op: &Op) -> Result<(), Fault>
     ensures { IsRefusedFor (fault_of kept.now op.now) result }
 {
@@ -55,6 +56,7 @@ fn moved(kept: &Kept) -> Result<Clock, Fault>
 }
 
 /// Sends these envelopes, and puts the writers of the last read among the dependencies. All growths come first.
+#[inline]
 fn settle(kept: &mut Kept, envelopes: Vec<Envelope>, outbox: &mut Outbox) -> Result<(), Fault>
     ensures state { OnOk result (kept.new ≡ record kept.old { dependencies = dependencies_of kept.old }) }
     ensures sends { OnOk result (outbox.new.sent ≡ outbox.old.sent ++ envelopes.items) }
@@ -70,6 +72,7 @@ fn settle(kept: &mut Kept, envelopes: Vec<Envelope>, outbox: &mut Outbox) -> Res
 
 /// Accepts an operation, which can't fail, and gives it the next number. The writers of the last read are among the
 /// dependencies.
+#[inline]
 fn accept(kept: &mut Kept, clock: Clock, current: Current) -> u64
     requires counted { kept.old.count < 2 ^ 48 }
     ensures number { result ≡ kept.old.count + 1 }

@@ -40,6 +40,7 @@ impl Current {
     }
 
     /// Gives up what is open: for a session that is closed.
+    #[inline]
     pub(crate) fn close(self) {
         match self {
             Current::Idle | Current::Write(_) => {}

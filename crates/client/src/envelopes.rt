@@ -38,6 +38,7 @@ fn add_prepares(
 }
 
 /// The read, of these keys.
+#[inline]
 pub(crate) fn share_of(read: &Read, keys: Keys) -> Result<Read, Fault>
     ensures ok { IfOk result (λ share. share ≡ record read.now { keys = keys }) }
     ensures memory { IfErr result (λ e. e ≡ Fault.Memory) }
@@ -111,6 +112,7 @@ fn shards_of(alloc: Global, parts: &[ShardPart]) -> Result<Cohorts, Fault>
 }
 
 /// A Begin for the coordinator and a Prepare for each cohort.
+#[inline]
 pub(crate) fn writes(
     alloc: Global,
     home: Home,

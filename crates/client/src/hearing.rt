@@ -22,6 +22,7 @@ pub(crate) fn put(kept: &mut Kept, current: Current)
 }
 
 /// Ends the open operation, of which no round is left, with this outcome.
+#[inline]
 fn finish(kept: &mut Kept, clock: Clock, floor: Time, added: Writers, outcome: Outcome)
     ensures { kept.new ≡ steps.finished clock kept.old floor kept.old.dependencies added outcome }
 {

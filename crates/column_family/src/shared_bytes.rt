@@ -77,6 +77,7 @@ fn many(bytes: &[u8], shared: Arc<Vec<u8>>) -> Text
 
 impl SharedBytes {
     /// A copy of these bytes. Fails by memory alone.
+    #[inline]
     pub(crate) fn from_slice(alloc: Global, bytes: &[u8]) -> Result<SharedBytes, AllocError>
         ensures { IfOk result (λ copy. copy ≡ bytes.now) }
     {
@@ -91,6 +92,7 @@ impl SharedBytes {
     }
 
     /// The bytes.
+    #[inline]
     pub(crate) fn as_slice(&self) -> &[u8]
         ensures { result.now ≡ self.now }
     {
@@ -101,6 +103,7 @@ impl SharedBytes {
     }
 
     // The first seven bytes as one number.
+    #[inline]
     fn head(&self) -> u64
         ensures { result ≡ head_of 7 self.now }
     {
@@ -131,6 +134,7 @@ impl SharedBytes {
 impl Clone for SharedBytes {
     ghost is_clone = { λ bytes copy. copy ≡ bytes };
 
+    #[inline]
     fn clone(&self) -> Result<SharedBytes, AllocError> {
         let text = match &self.text {
             Text::Few(few) => Text::Few(few.clone()?),
@@ -155,6 +159,7 @@ impl PartialEq for SharedBytes {
 
     ghost laws = { partial_equiv_from_equiv nat_list_eq_equiv };
 
+    #[inline]
     fn eq(&self, other: &SharedBytes) -> bool {
         match (&self.text, &other.text) {
             (Text::Few(few), Text::Few(others)) => few.is(others),
@@ -186,6 +191,7 @@ impl Ord for SharedBytes {
 
     ghost matches_eq = { texts_ties };
 
+    #[inline]
     fn cmp(&self, other: &SharedBytes) -> Ordering {
         match (&self.text, &other.text) {
             (Text::Few(few), Text::Few(others)) => few.cmp_few(others),
@@ -199,6 +205,7 @@ impl Hash for SharedBytes {
 
     ghost respects_eq = { Prim.search (hashing, rules) };
 
+    #[inline]
     fn hash<H: Hasher>(&self, state: &mut H) {
         match &self.text {
             Text::Few(few) => {

@@ -161,6 +161,7 @@ impl Waits {
     /// The reads that this concerns no longer wait for a transaction. Those that wait for nothing more are dropped:
     /// `freed_answers` has their answers, and is called before. Takes no memory. In the order of m for m transactions that
     /// reads wait for, over all reads.
+    #[inline]
     pub fn release(&mut self, txn: TxnId, cause: &Cause)
         ensures { self.new ≡ still txn cause.now self.old }
     {

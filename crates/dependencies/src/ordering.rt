@@ -17,6 +17,7 @@ fn only(writers: &[Writer], others: &[Writer]) -> Option<Writer>
 
 /// These writers and those in the order of their transactions' numbers, each once. In the order of n log n for n
 /// writers. Refused with `Memory` alone.
+#[inline]
 pub(crate) fn in_order(
     alloc: Global,
     writers: &[Writer],

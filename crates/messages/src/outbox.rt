@@ -1,5 +1,5 @@
 //! Envelopes in the order of sending.
-ghost use Rattle.std.specs.Prelude.{◌≡◌, ◌+◌, ◌≤◌, ◌<◌, ◌++◌, [], ◌∷◌, length, slice_get, slice_set, take, drop, Some, if◌then◌else◌, is_ok, IsOk, IfErr, OnOk, OnErr};
+ghost use Rattle.std.specs.Prelude.{◌≡◌, ◌+◌, ◌≤◌, ◌<◌, ◌++◌, [], ◌∷◌, length, slice_get, slice_set, take, drop, Some, unwrap_or, if◌then◌else◌, is_ok, IsOk, IfErr, OnOk, OnErr};
 ghost use Rattle.std.specs.Option.{option_copied};
 
 use crate::envelope::{Envelope, Refused};
@@ -35,6 +35,7 @@ impl Outbox {
 
     /// Makes room for so many more envelopes, so that the next `additional` posts succeed. What was posted stays.
     /// Refused with `Memory` alone.
+    #[inline]
     pub fn reserve(&mut self, additional: usize) -> Result<(), Fault>
         ensures same { self.new.sent ≡ self.old.sent }
         ensures ok { OnOk result (additional ≤ self.new.room) }
@@ -49,6 +50,7 @@ impl Outbox {
 
     /// Adds an envelope at the end. Refused with `Memory` alone, never where there is room; then the outbox stays, and
     /// the envelope is handed back.
+    #[inline]
     pub fn post(&mut self, envelope: Envelope) -> Result<(), Refused>
         ensures ok { OnOk result (self.new.sent ≡ self.old.sent ++ envelope ∷ []) }
         ensures room { self.old.room ≤ self.new.room + (if is_ok result then 1 else 0) }
@@ -85,23 +87,16 @@ impl Outbox {
         self.envelopes.remove(number)
     }
 
-    /// Puts an envelope in the place of the one with this number, and takes that out. Takes no memory.
-    pub fn replace(&mut self, number: usize, envelope: Envelope) -> Envelope
-        requires { number < length self.old.sent }
-        ensures value { slice_get self.old.sent number ≡ Some result }
+    /// Puts an envelope in the place of the one with this number, and hands that one out; where not so many were posted,
+    /// the envelope itself comes back. Takes no memory.
+    pub fn exchange(&mut self, number: usize, envelope: Envelope) -> Envelope
         ensures put { self.new.sent ≡ slice_set self.old.sent number envelope }
+        ensures taken { result ≡ unwrap_or (slice_get self.old.sent number) envelope }
         ensures room { self.old.room ≤ self.new.room }
     {
-        mem::replace(&mut self.envelopes[number], envelope)
-    }
-
-    /// Puts an envelope in the place of the one with this number, if so many were posted. Takes no memory.
-    pub fn put_back(&mut self, number: usize, envelope: Envelope)
-        ensures put { self.new.sent ≡ slice_set self.old.sent number envelope }
-        ensures room { self.old.room ≤ self.new.room }
-    {
-        if let Some(place) = self.envelopes.get_mut(number) {
-            *place = envelope;
+        match self.envelopes.get_mut(number) {
+            Some(place) => mem::replace(place, envelope),
+            None => envelope,
         }
     }
 
@@ -120,6 +115,7 @@ impl Outbox {
     }
 
     /// The envelope of this number, if so many were posted.
+    #[inline]
     pub fn get(&self, number: usize) -> Option<&Envelope>
         ensures { option_copied result ≡ slice_get self.now.sent number }
     {

@@ -30,6 +30,7 @@ impl Outcome {
     ghost use Rattle.std.specs.Prelude.{◌≡◌, IfOk};
 
     /// A copy, which shares the bytes of keys, names and values. Fails by memory alone.
+    #[inline]
     pub fn copied(&self) -> Result<Outcome, AllocError>
         ensures { IfOk result (λ copy. copy ≡ self.now) }
     {

@@ -106,3 +106,39 @@ pub listed_last : (rows : List Row) (row : Row) → is_listed (rows ++ row ∷ [
 listed_last rows row =
     list_any-append (λ (s : Row). is_eq (row_cmp row s)) rows (row ∷ [])
     ∙ or_true (is_listed rows row) (is_eq (row_cmp row row)) (ap (λ (o : Ordering). is_eq o) (tied_itself row_total row))
+
+-- what is listed among the others is listed
+pub listed_later : (first : Row) (old new : List Row) → ((r : Row) → is_listed old r ≡ true → is_listed new r ≡ true)
+    → (r : Row) → is_listed (first ∷ old) r ≡ true → is_listed (first ∷ new) r ≡ true
+listed_later first old new later r h = go (is_eq (row_cmp r first)) (is_listed old r) (is_listed new r) (later r) h
+  where
+    go : (a b c : Bool) → (b ≡ true → c ≡ true) → (a || b) ≡ true → (a || c) ≡ true
+    go true b c f g = refl
+    go false b c f g = f g
+
+pub listed_after : (first : Row) (more : List Row) (row : Row) → is_listed more row ≡ true → is_listed (first ∷ more) row ≡ true
+listed_after first more row h = go (is_eq (row_cmp row first)) (is_listed more row) h
+  where
+    go : (a b : Bool) → b ≡ true → (a || b) ≡ true
+    go true b h = refl
+    go false b h = h
+
+taken_twice : (a b l : Bool) (o : Option ℕ) → (if a && l then None else (if b && a then None else o)) ≡ (if a && (b || l) then None else o)
+taken_twice true true true o = refl
+taken_twice true true false o = refl
+taken_twice true false true o = refl
+taken_twice true false false o = refl
+taken_twice false true true o = refl
+taken_twice false true false o = refl
+taken_twice false false true o = refl
+taken_twice false false false o = refl
+
+-- from a first row they are taken, and then from the others
+pub taken_both : (old mid new : MarkList) (first : Row) (more : List Row) (txn : TxnValue) → ((r : Row) (t : TxnValue) → time_at mid r t ≡ (if is_same_mark first txn r t then None else time_at old r t))
+    → AreTaken mid new more txn → AreTaken old new (first ∷ more) txn
+taken_both old mid new first more txn step later r t =
+    let turned : is_eq (row_cmp first r) ≡ is_eq (row_cmp r first) = (eq_by_cmp_equiv row_total).symm first r in
+    let own = is_eq (txn_cmp txn t) in
+    later r t
+    ∙ ap (λ (o : Option ℕ). if own && is_listed more r then None else o) (step r t ∙ ap (λ (b : Bool). if b && own then None else time_at old r t) turned)
+    ∙ taken_twice own (is_eq (row_cmp r first)) (is_listed more r) (time_at old r t)

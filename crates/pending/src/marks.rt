@@ -8,7 +8,7 @@ ghost use Rattle.pending.specs.Marks.{time_at, is_same_mark, IsNoted, IsLeast, I
 ghost use Rattle.pending.specs.Marked.{touches, AreMarked, AreCleared, AreBelow};
 
 use crate::row_marks::RowMarks;
-use crate::rows::{below_in, below_rows, clear_rows, least_in, mark_row};
+use crate::rows::{below_in, below_rows, clear_row, clear_rows, least_in, mark_row};
 use crate::touched::{Touched, note};
 use column_family::{Change, Row};
 use logical_time::{Fault, Time, TxnId};
@@ -47,7 +47,9 @@ fn clear_noted(
     ensures cleared { (r : Row) (t : TxnValue) → time_at rows.new.entries r t ≡ (if is_eq (txn_cmp txn t) then None else time_at rows.old.entries r t) }
 {
     if let Some(noted) = touched.remove(&txn) {
-        clear_rows(rows, noted.rows(), txn);
+        let (first, more) = noted.rows();
+        clear_row(rows, first, txn);
+        clear_rows(rows, more, txn);
     }
 }
 

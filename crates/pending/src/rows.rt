@@ -69,6 +69,7 @@ fn clear_mark(rows: &mut BTreeMap<Row, RowMarks>, row: &Row, txn: TxnId) -> bool
 }
 
 /// Takes the mark of the transaction from a row, and the row away if it has no mark left.
+#[inline]
 pub(crate) fn clear_row(rows: &mut BTreeMap<Row, RowMarks>, row: &Row, txn: TxnId)
     ensures { (r : Row) (t : TxnValue) → time_at rows.new.entries r t ≡ (if is_same_mark row.now txn r t then None else time_at rows.old.entries r t) }
 {

@@ -1,5 +1,5 @@
 //! The rows of each transaction.
-ghost use Rattle.std.specs.Prelude.{◌≡◌, [], true, OnOk, IfErr, None};
+ghost use Rattle.std.specs.Prelude.{◌≡◌, [], ◌∷◌, true, OnOk, IfErr, None};
 ghost use Rattle.std.specs.Ordering.{is_eq};
 ghost use Rattle.std.specs.Map.{lookup};
 ghost use Rattle.logical_time.specs.declared.fault.Fault.TheVariants as fault;
@@ -14,19 +14,20 @@ use std::alloc::Global;
 use std::collections::BTreeMap;
 use std::marker::Model;
 
-/// The rows in which a transaction may have marks, some of them perhaps twice.
+/// The rows in which a transaction may have marks, some of them perhaps twice. One alone takes no memory.
 #[derive(Drop)]
 pub(crate) struct Touched {
-    rows: Vec<Row>,
+    first: Row,
+    more: Vec<Row>,
 }
 
 impl Model for Touched {
-    ghost use Rattle.std.specs.Prelude.{List};
+    ghost use Rattle.std.specs.Prelude.{List, ◌∷◌};
     ghost use Rattle.column_family.specs.declared.batch.Row.{Row};
 
     ghost Value = { List Row };
 
-    ghost view = { λ touched. touched.rows.items };
+    ghost view = { λ touched. touched.first ∷ touched.more.items };
 }
 
 /// Adds a row to a list.
@@ -40,29 +41,31 @@ fn add_row(rows: &mut Vec<Row>, row: Row) -> Result<(), Fault>
 }
 
 impl Touched {
-    /// No row.
-    fn new(alloc: Global) -> Touched
-        ensures { result ≡ [] }
+    /// This row alone. Takes no memory.
+    fn one(alloc: Global, row: Row) -> Touched
+        ensures { result ≡ row ∷ [] }
     {
         Touched {
-            rows: Vec::new(alloc),
+            first: row,
+            more: Vec::new(alloc),
         }
     }
 
     /// Adds a row.
+    #[tactic(auto, using(crate::proofs::Noted::listed_later, crate::proofs::Noted::listed_after))]
     fn add(&mut self, row: Row) -> Result<(), Fault>
         ensures kept { (r : Row) → is_listed self.old r ≡ true → is_listed self.new r ≡ true }
         ensures ok { OnOk result (is_listed self.new row ≡ true) }
         ensures memory { IfErr result (λ e. e ≡ fault.Memory) }
     {
-        add_row(&mut self.rows, row)
+        add_row(&mut self.more, row)
     }
 
-    /// The rows.
-    pub(crate) fn rows(&self) -> &[Row]
-        ensures { result.now ≡ self.now }
+    /// The first row, and the others.
+    pub(crate) fn rows(&self) -> (&Row, &[Row])
+        ensures { result.0.now ∷ result.1.now ≡ self.now }
     {
-        self.rows.as_slice()
+        (&self.first, self.more.as_slice())
     }
 }
 
@@ -78,9 +81,7 @@ fn note_first(
     ensures ok { OnOk result (is_listed (rows_of touched.new.entries txn) row ≡ true) }
     ensures memory { IfErr result (λ e. e ≡ fault.Memory) }
 {
-    let mut rows = Touched::new(alloc);
-    rows.add(row)?;
-    touched.insert(txn, rows)?;
+    touched.insert(txn, Touched::one(alloc, row))?;
     Ok(())
 }
 

@@ -72,6 +72,7 @@ fn are_keys(keys: &[Key]) -> bool
 /// Whether the read may be submitted to a store of this schema: refused with `EmptyRead` for no key, then `TooMany` for
 /// more than 256 as listed, `UnknownFamily`, `KeyLength` for a key in order, and then for its predicate: `TooMany`,
 /// `NameLength`, `RangeOrder`.
+#[inline]
 pub fn check_read(schema: &Schema, read: &Read) -> Result<(), Fault>
     ensures { IsRefusedFor (read_fault schema.now read.now) result }
 {

@@ -50,6 +50,7 @@ impl<W: Write> Output<W> {
 
     /// Writes the bytes, without a `flush`. Refused with `WriteFailed` exactly where it has failed; then a beginning of them is
     /// written, and nothing where it had failed before. Takes no memory.
+    #[inline]
     pub fn put(&mut self, bytes: &[u8]) -> Result<(), Fault>
         ensures adds { Adds W.contents self.old self.new result bytes.now }
         ensures spent { IsSome self.old.failure → (self.new ≡ self.old) × (result ≡ Err fault.WriteFailed) }

@@ -55,6 +55,7 @@ fn own_part<'b>(kept: &Kept, time: Time, deciding: &Deciding<'b>) -> Coming<'b>
 
 /// What a decision at this time tells beside `Commit`: Done and ReplBegin where the write was submitted here, a DepOk to
 /// each that asked for the transaction, and the answers to the reads that it lets go. Refused with `Memory` alone.
+#[inline]
 pub(crate) fn tell(kept: &Kept, time: Time, deciding: &Deciding) -> Result<Vec<Envelope>, Fault>
     ensures ok { (top : TopologyValue) (me : ℕ) (a : ShardState) → Represents top me kept.now a → decision_of deciding.now.txn a ≡ None
         → AreApart (decide top me time a (ballot_in deciding.now)).state.applied
@@ -82,6 +83,7 @@ pub(crate) fn tell(kept: &Kept, time: Time, deciding: &Deciding) -> Result<Vec<E
 /// Settles a transaction that is decided at this clock with this stamp: tells its cohorts, applies its own part, sends these
 /// envelopes, and lets go of what is needed no more. There is room for all of it. Takes memory only as
 /// `Store::apply_in_room` does, and isn't refused for it.
+#[inline]
 pub(crate) fn settle(
     kept: &mut Kept,
     clock: Clock,

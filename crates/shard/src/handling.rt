@@ -6,7 +6,6 @@ ghost use Rattle.messages.specs.Clock.{ticked};
 ghost use Rattle.messages.specs.Shard.{ShardState};
 ghost use Rattle.messages.specs.ShardEvents.{handled};
 ghost use Rattle.shard.specs.Handled.{is_handed_over};
-ghost use Rattle.shard.specs.Handled as handled_words;
 ghost use Rattle.shard.specs.Ignored.{IfIgnored, IsIgnored};
 ghost use Rattle.shard.specs.Kept.{Represents, Does, GoesOn, IsSpentOrMemory};
 
@@ -99,56 +98,36 @@ fn act(kept: &mut Kept, clock: Clock, from: Node, body: Body, outbox: &mut Outbo
     }
 }
 
-/// Whether what a body holds is kept by the shard that hears it for the first time.
-fn is_handed_over(body: &Body) -> bool
-    ensures { result ≡ handled_words.is_handed_over body.now }
-{
-    matches!(
-        body,
-        Body::Begin { .. }
-            | Body::Prepare { .. }
-            | Body::ReadAt { .. }
-            | Body::ReplBegin { .. }
-            | Body::ReplPart { .. }
-    )
-}
-
-/// Does what a copy of a body makes of the shard at this clock. Refused with `Memory` alone.
-fn act_on_copy(
-    kept: &mut Kept,
-    clock: Clock,
-    from: Node,
-    body: &Body,
-    outbox: &mut Outbox,
-) -> Result<(), Fault>
-    ensures step { OnOk result (Does (λ top me a. handled top me clock a from body.now) kept.old kept.new outbox.old.sent outbox.new.sent) }
-    ensures same { OnErr result (GoesOn kept.old kept.new) }
-    ensures unsent { OnErr result (outbox.new.sent ≡ outbox.old.sent) }
-    ensures memory { IfErr result (λ e. e ≡ fault.Memory) }
-{
-    match act(kept, clock, from, body.copied()?, outbox) {
-        Ok(()) => Ok(()),
-        Err((fault, _)) => Err(fault),
-    }
-}
-
 /// Does what a body makes of the shard at this clock. What is kept of it is copied. Refused with `Memory` alone.
-fn act_on(
-    kept: &mut Kept,
-    clock: Clock,
-    from: Node,
-    body: &Body,
-    outbox: &mut Outbox,
-) -> Result<(), Fault>
+#[rattlefmt::skip]
+fn act_on(kept: &mut Kept, clock: Clock, from: Node, body: &Body, outbox: &mut Outbox) -> Result<(), Fault>
     ensures step { OnOk result (Does (λ top me a. handled top me clock a from body.now) kept.old kept.new outbox.old.sent outbox.new.sent) }
     ensures same { OnErr result (GoesOn kept.old kept.new) }
     ensures unsent { OnErr result (outbox.new.sent ≡ outbox.old.sent) }
     ensures memory { IfErr result (λ e. e ≡ fault.Memory) }
 {
-    if is_handed_over(body) {
-        act_on_copy(kept, clock, from, body, outbox)
-    } else {
-        hear(kept, clock, from, body, outbox)
+    match *body {
+        Body::Begin { txn, ref rows, ref cohorts, ref dependencies } => {
+            let begun = Begun { txn, rows: rows.clone()?, cohorts: cohorts.clone()?, dependencies: dependencies.clone()? };
+            match begin(kept, clock, begun, outbox) { Ok(()) => Ok(()), Err((fault, _)) => Err(fault) }
+        }
+        Body::Prepare { txn, ref rows, coordinator } => {
+            let part = WritePart { writer: Writer::new(txn, coordinator), batch: rows.clone()? };
+            match prepare(kept, clock, part, outbox) { Ok(()) => Ok(()), Err((fault, _)) => Err(fault) }
+        }
+        Body::ReadAt { number, time, ref read } => {
+            let copy = read.clone()?;
+            match read_at(kept, clock, from, number, time, copy, outbox) { Ok(()) => Ok(()), Err((fault, _)) => Err(fault) }
+        }
+        Body::ReplBegin { txn, ref rows, stamp, ref cohorts, ref dependencies } => {
+            let begun = ReplBegun { txn, rows: rows.clone()?, stamp, cohorts: cohorts.clone()?, dependencies: dependencies.clone()? };
+            match repl_begin(kept, clock, begun, outbox) { Ok(()) => Ok(()), Err((fault, _)) => Err(fault) }
+        }
+        Body::ReplPart { txn, ref rows, stamp, coordinator } => {
+            let part = WritePart { writer: Writer::new(txn, coordinator), batch: rows.clone()? };
+            match repl_part(kept, clock, KeptPart { part, stamp }, outbox) { Ok(()) => Ok(()), Err((fault, KeptPart { part: _, stamp: _ })) => Err(fault) }
+        }
+        ref other => hear(kept, clock, from, other, outbox),
     }
 }
 

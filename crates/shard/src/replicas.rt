@@ -148,6 +148,7 @@ fn count_last(
 
 /// A notice or an answer: counted if a ballot of the transaction waits that misses it, and the last missing thing makes the
 /// ballot ready; else ignored. Refused with `Memory` alone.
+#[inline]
 fn count(
     kept: &mut Kept,
     clock: Clock,

@@ -370,6 +370,7 @@ fn made_of(
 }
 
 // What is seen of a row.
+#[inline]
 fn part_of(
     alloc: Global,
     row: &RowChains,

@@ -51,6 +51,7 @@ fn version(origin: &Origin, value: Option<Value>) -> Version
 }
 
 // Puts a version into a chain, and answers whether the chain holds more than one then.
+#[inline]
 fn put_version(chain: &mut Chain, version: Version) -> bool
     requires { (0 < chain.old.room) ⊎ (has_stamp chain.old.versions version.stamp ≡ true) }
     ensures versions { chain.new.versions ≡ put_of chain.old.versions version }
@@ -62,6 +63,7 @@ fn put_version(chain: &mut Chain, version: Version) -> bool
 }
 
 // Puts a version into the chain of a column, and answers whether the chain holds more than one then.
+#[inline]
 fn put_column(columns: &mut BTreeMap<Name, Chain>, name: &Name, version: Version) -> bool
     requires { (0 < (column_held columns.old.entries name.now).room) ⊎ (has_stamp (column_held columns.old.entries name.now).versions version.stamp ≡ true) }
     ensures versions { (n : List ℕ) → (column_held columns.new.entries n).versions ≡ (if bytes_eq name.now n then put_of (column_held columns.old.entries n).versions version else (column_held columns.old.entries n).versions) }
@@ -137,6 +139,7 @@ impl RowChains {
 
     /// Puts what a mutation leaves into the chain of its place, and answers whether that holds more than one version
     /// then.
+    #[inline]
     pub(crate) fn put(&mut self, mutation: Mutation, origin: &Origin) -> bool
         requires { (p : Place) → is_of_place p mutation ≡ true → (0 < (chain_of self.old p).room) ⊎ (has_stamp (chain_of self.old p).versions origin.now.stamp ≡ true) }
         ensures versions { (p : Place) → (chain_of self.new p).versions ≡ (if is_of_place p mutation then put_of (chain_of self.old p).versions (kept.version_of origin.now mutation) else (chain_of self.old p).versions) }
@@ -175,6 +178,7 @@ impl RowChains {
     }
 
     /// Makes room for what a mutation leaves.
+    #[inline]
     pub(crate) fn reserve(&mut self, alloc: Global, mutation: &Mutation) -> Result<(), Fault>
         ensures versions { (p : Place) → (chain_of self.new p).versions ≡ (chain_of self.old p).versions }
         ensures room { (p : Place) → (chain_of self.old p).room ≤ (chain_of self.new p).room }

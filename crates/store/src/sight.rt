@@ -56,6 +56,7 @@ fn seen_column<'s>(name: &'s Name, chain: &'s Chain, moment: &Moment) -> Option<
 }
 
 // The column of this name, if a version of it is seen.
+#[inline]
 fn seen_named<'s>(
     columns: &'s BTreeMap<Name, Chain>,
     name: &Name,
@@ -175,6 +176,7 @@ fn seen_between<'s>(
 
 /// The columns of a row that are asked for and of which a version is seen, in name order. Looks for each name of
 /// a list, or walks over the columns of a range.
+#[inline]
 pub(crate) fn asked_columns<'s>(
     alloc: Global,
     row: &'s RowChains,

@@ -50,6 +50,7 @@ impl Once<'_> {
 
 /// Each key once, in the order of first asking. In the order of n log n for n keys; few that differ are compared with each
 /// other, and not copied. Refused with `Memory` alone.
+#[inline]
 pub fn each_once(alloc: Global, keys: &[Key]) -> Result<Once<'_>, Fault>
     ensures ok { IfOk result (λ once. keys_once once ≡ meaning.each_once keys.now) }
     ensures memory { IfErr result (λ e. e ≡ Fault.Memory) }

@@ -160,6 +160,7 @@ fn put_each_column<W: Write>(output: &mut Output<W>, columns: &[Column]) -> Resu
 }
 
 // Up to four columns, in order.
+#[inline]
 fn put_few_columns<W: Write>(output: &mut Output<W>, columns: &[Column]) -> Result<(), Fault>
     requires few { length columns.now ≤ 4 }
     requires sound { IsNone output.old.failure }
@@ -285,6 +286,7 @@ fn put_rows<W: Write>(output: &mut Output<W>, rows: &[AnsweredRow]) -> Result<()
 }
 
 // Lays a few words, and then a number, at the beginning of a text: how many bytes they have.
+#[inline]
 fn lay_number(text: &mut [u8], words: &[u8], number: u64) -> usize
     requires room { 56 ≤ length text.old }
     requires words { length words.now ≤ 16 }

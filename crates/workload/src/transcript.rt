@@ -102,6 +102,7 @@ impl Transcript {
 
     /// Adds an entry at the end. Fails by memory alone; then nothing changes, and
     /// it is handed back.
+    #[inline]
     pub fn push(&mut self, entry: Entry) -> Result<(), AllocFailed<Entry>>
         ensures ok { OnOk result (self.new ≡ self.old ++ entry ∷ []) }
         ensures err { OnErr result (self.new ≡ self.old) }

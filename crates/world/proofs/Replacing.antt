@@ -1,6 +1,6 @@
 -- One actor of a list does its step.
 use Rattle.std.proofs.Common.{append-nil, arith, ◌≡◌, ◌∙◌, ℕ, zero, suc, ◌<◌, List, [], ◌∷◌, ◌++◌, length, slice_get, Option, None, Some, Result, Ok, Err, refl, sym, ap, subst}
-use Rattle.std.specs.Prelude.{slice_set, slice_index_or, OnOk, OnErr, IfErr}
+use Rattle.std.specs.Prelude.{slice_set, slice_index_or, unwrap_or, OnOk, OnErr, IfErr}
 use Rattle.std.proofs.lemmas.Option.{slice_get-get_or}
 use Rattle.logical_time.specs.declared.fault.Fault.{Fault}
 use Rattle.messages.specs.declared.envelope.Envelope.{Envelope}
@@ -85,6 +85,10 @@ pub at_place : {X : Type 0} (xs : List X) (n : ℕ) → n < length xs → (x : X
 at_place [] n lt = absurd (omega (arith, lt))
 at_place (x ∷ xs) zero lt = (x, refl)
 at_place (x ∷ xs) (suc n) lt = at_place xs n (omega (arith, lt))
+
+-- what is exchanged stood there
+pub stood : {X : Type 0} (xs : List X) (n : ℕ) (x y : X) → n < length xs → x ≡ unwrap_or (slice_get xs n) y → slice_get xs n ≡ Some x
+stood {X} xs n x y lt is = let there = at_place xs n lt in there.1 ∙ ap Some (sym (is ∙ ap (λ (o : Option X). unwrap_or o y) there.1))
 
 -- what is refused of the one is of the other, which is the same
 pub refused_alike : {T : Type 0} (result : Result T Fault) (top : TopologyValue) (place n : ℕ) (a : ShardState) (before : List Envelope) (heard e : Envelope) → slice_get before n ≡ Some heard → slice_get before n ≡ Some e

@@ -18,6 +18,7 @@ use crate::station::Station;
 use logical_time::{Clock, Fault, Node, Time, TxnId};
 use messages::{Body, Envelope, Op, Outbox, Topology};
 use shard::Shard;
+use std::mem;
 
 /// The actors of a topology, all that they sent and what ended.
 pub struct Actors {
@@ -66,9 +67,10 @@ fn hand_over(
     ensures same { (top : TopologyValue) (states : ℕ → ShardState) → AreShards top states shards.old.items → OnErr result (AreShards top states shards.new.items) }
     ensures unsent { OnErr result (network.new.sent ≡ network.old.sent) }
 {
-    let envelope = network.replace(number, blank());
+    let envelope = network.exchange(number, blank());
     let heard = shards[place].hear(&envelope, network);
-    network.put_back(number, envelope);
+    // what stood in its place holds no memory
+    mem::forget(network.exchange(number, envelope));
     heard
 }
 

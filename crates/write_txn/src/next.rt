@@ -52,6 +52,7 @@ pub(crate) fn prepared(held: Open, time: Time) -> Open
 }
 
 /// Whether what is under way is a ballot that waits, and this is the last thing that it misses.
+#[inline]
 pub(crate) fn is_last(held: &Open, missing: &Missing) -> bool
     ensures { result ≡ lacks_nothing (state_with missing.now (Some (Holds held.now))) }
 {
@@ -62,6 +63,7 @@ pub(crate) fn is_last(held: &Open, missing: &Missing) -> bool
 }
 
 /// Counts what was missing of a ballot that waits.
+#[inline]
 pub(crate) fn count(held: &mut Open, missing: Missing)
     ensures { Some (Holds held.new) ≡ state_with missing (Some (Holds held.old)) }
 {

@@ -138,6 +138,7 @@ impl Remote {
     ghost use Rattle.write_txn.specs.Ledger.{remote_with};
 
     /// Whether this is the last thing that is missing.
+    #[inline]
     pub fn is_last(&self, missing: &Missing) -> bool
         ensures { result ≡ (missing_in (remote_with self.now missing.now).ballot == 0) }
     {

@@ -55,6 +55,7 @@ pub(crate) fn put_back(under_way: &mut Vec<Open>, place: usize, held: Open)
 }
 
 /// Puts what became of a transaction in the place of what was taken out there.
+#[inline]
 pub(crate) fn put(
     statuses: &mut Statuses,
     under_way: &mut Vec<Open>,

@@ -66,6 +66,7 @@ impl Statuses {
     }
 
     /// The status of a transaction.
+    #[inline]
     pub(crate) fn get(&self, txn: TxnId) -> Option<&Status>
         ensures { option_copied result ≡ status_in self.now txn }
     {
@@ -73,6 +74,7 @@ impl Statuses {
     }
 
     /// Gives a transaction this status. Refused with `Memory` alone, and then nothing has changed.
+    #[inline]
     pub(crate) fn add(&mut self, txn: TxnId, status: Status) -> Result<(), Fault>
         ensures ok { OnOk result ((u : TxnValue) → status_in self.new u ≡ (if is_eq (txn_cmp txn u) then Some status else status_in self.old u)) }
         ensures err { OnErr result (self.new ≡ self.old) }
@@ -83,6 +85,7 @@ impl Statuses {
     }
 
     /// Changes the status of a transaction that has one.
+    #[inline]
     pub(crate) fn set(&mut self, txn: TxnId, status: Status)
         ensures { (u : TxnValue) → status_in self.new u ≡ status_set txn status u (status_in self.old u) }
     {

@@ -167,6 +167,7 @@ impl Voters {
     }
 
     /// Takes the votes for the transaction away. Takes no memory. In the order of log n for n transactions.
+    #[inline]
     pub fn forget(&mut self, txn: TxnId)
         ensures { (u : TxnValue) → voters_of self.new u ≡ (if is_eq (txn_cmp txn u) then [] else voters_of self.old u) }
     {
