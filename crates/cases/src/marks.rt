@@ -1,5 +1,5 @@
 //! Marks of pending transactions.
-use crate::building::{row, time, txn};
+use crate::building::{batch, row, time, txn};
 use crate::steps::Subject;
 use logical_time::Fault;
 use pending::Marks;
@@ -32,7 +32,10 @@ impl Subject for Marks {
     fn step(&mut self, alloc: Global, words: &[&str], seen: &mut String) -> Result<(), Fault> {
         match words {
             ["mark", key, marked, at] => self.mark(&row(alloc, key)?, txn(marked), time(at)),
-            ["clear", marked] => Ok(self.clear(txn(marked))),
+            ["clear", marked, keys @ ..] => {
+                self.clear(batch(alloc, keys)?.as_slice(), txn(marked));
+                Ok(())
+            }
             ["least", key] => add_least(alloc, self, key, seen),
             ["below", key, at] => add_below(alloc, self, (key, at), seen),
             _ => Err(Fault::Script),

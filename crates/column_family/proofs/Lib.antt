@@ -8,5 +8,6 @@ pub mod Order
 pub mod UpTo
 pub mod Joins
 pub mod RowOrder
+pub mod HashedRows
 pub mod Heads
 pub mod Apart

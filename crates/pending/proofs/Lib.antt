@@ -1,5 +1,4 @@
 pub mod Maps
-pub mod Noted
 pub mod Times
 pub mod MarkedRows
 pub mod BelowRows

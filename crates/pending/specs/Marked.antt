@@ -18,9 +18,10 @@ abbrev pub AreMarked : MarkList → MarkList → List Change → TxnValue → �
 AreMarked old new changes u time =
     (r : Row) (t : TxnValue) → time_at new r t ≡ (if is_eq (txn_cmp u t) && touches changes r then Some time else time_at old r t)
 
--- the transaction has no mark; all other marks are as they were
-abbrev pub AreCleared : MarkList → MarkList → TxnValue → Type 0
-AreCleared old new u = (r : Row) (t : TxnValue) → time_at new r t ≡ (if is_eq (txn_cmp u t) then None else time_at old r t)
+-- the transaction has no mark on the rows that these changes touch; all other marks are as they were
+abbrev pub AreCleared : MarkList → MarkList → List Change → TxnValue → Type 0
+AreCleared old new changes u =
+    (r : Row) (t : TxnValue) → time_at new r t ≡ (if is_eq (txn_cmp u t) && touches changes r then None else time_at old r t)
 
 -- the transaction has a mark below the bound on one of these rows
 abbrev pub IsMarkedBelow : MarkList → List Row → ℕ → TxnValue → Type 0

@@ -1,5 +1,5 @@
 -- Marks on rows: which transactions have one, and their times.
-use Rattle.std.specs.Prelude.{◌≡◌, ◌↔◌, ℕ, ◌<◌, ◌≤◌, Bool, true, ◌&&◌, List, [], Option, Some, None, unwrap_or, IsSome}
+use Rattle.std.specs.Prelude.{◌≡◌, ◌↔◌, ℕ, ◌<◌, ◌≤◌, Bool, ◌&&◌, List, [], Option, Some, None, unwrap_or}
 use Rattle.std.specs.Ordering.{is_eq}
 use Rattle.std.specs.declared.cmp.Ordering.{Ordering}
 use Rattle.std.specs.Map.{lookup}
@@ -7,7 +7,7 @@ use Rattle.std.specs.List.{Contains}
 use Rattle.std.specs.List.Sorted.{IsStrictlySortedBy}
 use Rattle.logical_time.specs.Stamps.{TxnValue, txn_cmp}
 use Rattle.column_family.specs.declared.batch.Row.{Row}
-use Rattle.column_family.specs.Places.{is_listed, row_cmp}
+use Rattle.column_family.specs.Places.{row_cmp}
 
 -- the marks of a row: transactions with their times
 abbrev pub RowList : Type 0
@@ -29,10 +29,6 @@ listed R es k = unwrap_or (lookup (λ q. is_eq (R k q)) es) []
 abbrev pub marks_of : MarkList → Row → RowList
 marks_of = listed row_cmp
 
--- the rows that are noted for this transaction
-abbrev pub rows_of : List (TxnValue × List Row) → TxnValue → List Row
-rows_of = listed txn_cmp
-
 -- the time of the transaction's mark on the row
 abbrev pub time_at : MarkList → Row → TxnValue → Option ℕ
 time_at ms r t = time_in (marks_of ms r) t
@@ -40,10 +36,6 @@ time_at ms r t = time_in (marks_of ms r) t
 -- whether a mark on the row r of the transaction t is the one on the row s of the transaction u
 abbrev pub is_same_mark : Row → TxnValue → Row → TxnValue → Bool
 is_same_mark r t s u = is_eq (row_cmp r s) && is_eq (txn_cmp t u)
-
--- each row with a mark of a transaction is noted for it
-abbrev pub IsNoted : MarkList → List (TxnValue × List Row) → Type 0
-IsNoted ms ts = (r : Row) (t : TxnValue) → IsSome (time_at ms r t) → is_listed (rows_of ts t) r ≡ true
 
 -- the least of the times, if there is one
 abbrev pub IsLeast : (TxnValue → Option ℕ) → Option ℕ → Type 0

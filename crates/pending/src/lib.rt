@@ -8,6 +8,5 @@
 mod marks;
 mod row_marks;
 mod rows;
-mod touched;
 
 pub use marks::Marks;

@@ -1,5 +1,5 @@
 //! The marks of a row.
-ghost use Rattle.std.specs.Prelude.{◌≡◌, [], ◌∷◌, if◌then◌else◌, IfOk, OnOk, OnErr, IfErr, IsTrue, ◌↔◌, Some, None, min};
+ghost use Rattle.std.specs.Prelude.{◌≡◌, [], ◌∷◌, if◌then◌else◌, IfOk, OnOk, OnErr, IfErr, true, false, Some, None, min};
 ghost use Rattle.std.specs.List.{reduce, filter};
 ghost use Rattle.std.specs.Prelude.{nat_lt};
 ghost use Rattle.std.specs.Map.{keys_of, values_of};
@@ -151,8 +151,23 @@ fn cleared(held: Held, txn: TxnId) -> Held
         }
         Held::Many(mut times) => {
             take_time(&mut times, txn);
-            Held::Many(times)
+            if times.is_empty() {
+                Held::None
+            } else {
+                Held::Many(times)
+            }
         }
+    }
+}
+
+/// Whether no other transaction than this one is seen to have a mark.
+fn is_without_other(held: &Held, txn: TxnId) -> bool
+    ensures { result ≡ true → (t : TxnValue) → is_eq (txn_cmp txn t) ≡ false → time_in (held_in held.now) t ≡ None }
+{
+    match held {
+        Held::None => true,
+        Held::One(mark) => mark.txn == txn,
+        Held::Many(_) => false,
     }
 }
 
@@ -182,6 +197,20 @@ impl RowMarks {
         ensures err { OnErr result (self.new ≡ self.old) }
         ensures memory { IfErr result (λ e. e ≡ fault.Memory) }
     {
+        if is_without_other(&self.held, txn) {
+            self.held = Held::One(Mark { txn, time });
+            return Ok(());
+        }
+        self.mark_beside(alloc, txn, time)
+    }
+
+    /// Gives the transaction a mark of this time beside those of others.
+    #[inline(never)]
+    fn mark_beside(&mut self, alloc: Global, txn: TxnId, time: Time) -> Result<(), Fault>
+        ensures ok { OnOk result ((t : TxnValue) → time_in self.new t ≡ (if is_eq (txn_cmp txn t) then Some time else time_in self.old t)) }
+        ensures err { OnErr result (self.new ≡ self.old) }
+        ensures memory { IfErr result (λ e. e ≡ fault.Memory) }
+    {
         match marked(alloc, mem::replace(&mut self.held, Held::None), txn, time) {
             Ok(held) => {
                 self.held = held;
@@ -195,21 +224,23 @@ impl RowMarks {
     }
 
     /// Takes the mark of the transaction away.
+    #[inline]
     pub(crate) fn clear(&mut self, txn: TxnId)
         ensures { (t : TxnValue) → time_in self.new t ≡ (if is_eq (txn_cmp txn t) then None else time_in self.old t) }
     {
-        self.held = cleared(mem::replace(&mut self.held, Held::None), txn);
+        if is_without_other(&self.held, txn) {
+            self.held = Held::None;
+        } else {
+            self.clear_beside(txn);
+        }
     }
 
-    /// Whether no transaction has a mark.
-    pub(crate) fn is_empty(&self) -> bool
-        ensures { IsTrue result ↔ (self.now ≡ []) }
+    /// Takes the mark of the transaction away beside those of others.
+    #[inline(never)]
+    fn clear_beside(&mut self, txn: TxnId)
+        ensures { (t : TxnValue) → time_in self.new t ≡ (if is_eq (txn_cmp txn t) then None else time_in self.old t) }
     {
-        match &self.held {
-            Held::None => true,
-            Held::One(_) => false,
-            Held::Many(times) => times.is_empty(),
-        }
+        self.held = cleared(mem::replace(&mut self.held, Held::None), txn);
     }
 
     /// The least time of a mark.

@@ -1,31 +1,29 @@
 //! The marks of each row.
 ghost use Rattle.std.specs.Prelude.{◌≡◌, if◌then◌else◌, [], ◌&&◌, IfOk, OnOk, OnErr, IfErr, Some, None, true, ◌↔◌};
 ghost use Rattle.std.specs.Ordering.{is_eq};
-ghost use Rattle.std.specs.Map.{lookup};
 ghost use Rattle.logical_time.specs.declared.fault.Fault.TheVariants as fault;
 ghost use Rattle.logical_time.specs.Stamps.{TxnValue, txn_cmp};
 ghost use Rattle.column_family.specs.declared.batch.Row.{Row};
-ghost use Rattle.column_family.specs.Places.{is_listed, row_cmp};
 ghost use Rattle.std.specs.List.{Contains};
 ghost use Rattle.std.specs.List.Sorted.{IsStrictlySortedBy};
 ghost use Rattle.pending.specs.Marks.{time_at, marks_of, is_same_mark, IsLeast, IsBelow};
-ghost use Rattle.pending.specs.Marked.{IsMarkedBelow, AreBelow};
+ghost use Rattle.pending.specs.Marked.{touches, AreCleared, IsMarkedBelow, AreBelow};
 
 use crate::row_marks::RowMarks;
-use column_family::Row;
+use column_family::{Change, Row};
 use logical_time::{Fault, Time, TxnId};
 use std::alloc::Global;
-use std::collections::BTreeMap;
+use std::collections::HashMap;
 
 /// Gives a row without a mark its first.
 fn add_row(
     alloc: Global,
-    rows: &mut BTreeMap<Row, RowMarks>,
+    rows: &mut HashMap<Row, RowMarks>,
     row: &Row,
     txn: TxnId,
     time: Time,
 ) -> Result<(), Fault>
-    requires { lookup (λ k. is_eq (row_cmp row.now k)) rows.old.entries ≡ None }
+    requires { marks_of rows.old.entries row.now ≡ [] }
     ensures ok { OnOk result ((r : Row) (t : TxnValue) → time_at rows.new.entries r t ≡ (if is_same_mark row.now txn r t then Some time else time_at rows.old.entries r t)) }
     ensures err { OnErr result (rows.new.entries ≡ rows.old.entries) }
     ensures memory { IfErr result (λ e. e ≡ fault.Memory) }
@@ -39,7 +37,7 @@ fn add_row(
 /// Gives a row a mark of the transaction, in place of its mark there if it has one.
 pub(crate) fn mark_row(
     alloc: Global,
-    rows: &mut BTreeMap<Row, RowMarks>,
+    rows: &mut HashMap<Row, RowMarks>,
     row: &Row,
     txn: TxnId,
     time: Time,
@@ -54,41 +52,41 @@ pub(crate) fn mark_row(
     }
 }
 
-/// Takes the mark of the transaction from a row, and answers whether the row has no mark left.
-fn clear_mark(rows: &mut BTreeMap<Row, RowMarks>, row: &Row, txn: TxnId) -> bool
-    ensures cleared { (r : Row) (t : TxnValue) → time_at rows.new.entries r t ≡ (if is_same_mark row.now txn r t then None else time_at rows.old.entries r t) }
-    ensures none { result ≡ true → marks_of rows.new.entries row.now ≡ [] }
+/// Takes the mark of the transaction from a row, which stays, for the next one.
+#[inline]
+pub(crate) fn clear_row(rows: &mut HashMap<Row, RowMarks>, row: &Row, txn: TxnId)
+    ensures { (r : Row) (t : TxnValue) → time_at rows.new.entries r t ≡ (if is_same_mark row.now txn r t then None else time_at rows.old.entries r t) }
 {
-    match rows.get_mut(row) {
-        Some(marks) => {
-            marks.clear(txn);
-            marks.is_empty()
-        }
+    if let Some(marks) = rows.get_mut(row) {
+        marks.clear(txn);
+    }
+}
+
+/// Whether the first of the changes is of the row.
+pub(crate) fn is_first(row: &Row, changes: &[Change]) -> bool
+    ensures { result ≡ true → touches changes.now row.now ≡ true }
+{
+    match changes.first() {
+        Some(change) => *row == change.row,
         None => false,
     }
 }
 
-/// Takes the mark of the transaction from a row, and the row away if it has no mark left.
-#[inline]
-pub(crate) fn clear_row(rows: &mut BTreeMap<Row, RowMarks>, row: &Row, txn: TxnId)
-    ensures { (r : Row) (t : TxnValue) → time_at rows.new.entries r t ≡ (if is_same_mark row.now txn r t then None else time_at rows.old.entries r t) }
+/// Takes away the marks of the transaction on the rows that these changes touch.
+pub(crate) fn clear_rows(rows: &mut HashMap<Row, RowMarks>, changes: &[Change], txn: TxnId)
+    ensures { AreCleared rows.old.entries rows.new.entries changes.now txn }
 {
-    if clear_mark(rows, row, txn) {
-        rows.remove(row);
-    }
-}
-
-/// Takes the marks of the transaction from these rows.
-pub(crate) fn clear_rows(rows: &mut BTreeMap<Row, RowMarks>, touched: &[Row], txn: TxnId)
-    ensures { (r : Row) (t : TxnValue) → time_at rows.new.entries r t ≡ (if is_eq (txn_cmp txn t) && is_listed touched.now r then None else time_at rows.old.entries r t) }
-{
-    for row in touched {
-        clear_row(rows, row, txn);
+    let mut rest = changes;
+    while let Some((change, later)) = rest.split_first() {
+        if !is_first(&change.row, later) {
+            clear_row(rows, &change.row, txn);
+        }
+        rest = later;
     }
 }
 
 /// The least time of a mark in the row.
-pub(crate) fn least_in(rows: &BTreeMap<Row, RowMarks>, row: &Row) -> Option<Time>
+pub(crate) fn least_in(rows: &HashMap<Row, RowMarks>, row: &Row) -> Option<Time>
     ensures { IsLeast (time_at rows.now.entries row.now) result }
 {
     match rows.get(row) {
@@ -100,7 +98,7 @@ pub(crate) fn least_in(rows: &BTreeMap<Row, RowMarks>, row: &Row) -> Option<Time
 /// The transactions with marks in the row strictly below the time, in order.
 pub(crate) fn below_in(
     alloc: Global,
-    rows: &BTreeMap<Row, RowMarks>,
+    rows: &HashMap<Row, RowMarks>,
     row: &Row,
     time: Time,
 ) -> Result<Vec<TxnId>, Fault>
@@ -116,7 +114,7 @@ pub(crate) fn below_in(
 /// The transactions with marks in these rows strictly below the time, a row after the other.
 fn below_each(
     alloc: Global,
-    rows: &BTreeMap<Row, RowMarks>,
+    rows: &HashMap<Row, RowMarks>,
     asked: &[Row],
     time: Time,
 ) -> Result<Vec<TxnId>, Fault>
@@ -144,7 +142,7 @@ fn in_order(mut txns: Vec<TxnId>) -> Vec<TxnId>
 /// The transactions with marks in one of these rows strictly below the time, in order.
 pub(crate) fn below_rows(
     alloc: Global,
-    rows: &BTreeMap<Row, RowMarks>,
+    rows: &HashMap<Row, RowMarks>,
     asked: &[Row],
     time: Time,
 ) -> Result<Vec<TxnId>, Fault>

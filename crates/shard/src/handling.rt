@@ -1,5 +1,5 @@
 //! Envelopes.
-ghost use Rattle.std.specs.Prelude.{◌≡◌, ◌+◌, ◌^◌, ◌<◌, max, ℕ, false, IsOk, OnOk, OnErr, IfErr};
+ghost use Rattle.std.specs.Prelude.{◌≡◌, ◌+◌, ◌^◌, ◌<◌, max, ℕ, true, false, IsOk, OnOk, OnErr, IfErr};
 ghost use Rattle.logical_time.specs.declared.fault.Fault.TheVariants as fault;
 ghost use Rattle.messages.specs.Topology.{TopologyValue};
 ghost use Rattle.messages.specs.Clock.{ticked};
@@ -98,9 +98,10 @@ fn act(kept: &mut Kept, clock: Clock, from: Node, body: Body, outbox: &mut Outbo
     }
 }
 
-/// Does what a body makes of the shard at this clock. What is kept of it is copied. Refused with `Memory` alone.
+/// Hears a body of which something is kept: that is copied. Refused with `Memory` alone.
 #[rattlefmt::skip]
-fn act_on(kept: &mut Kept, clock: Clock, from: Node, body: &Body, outbox: &mut Outbox) -> Result<(), Fault>
+fn keep_of(kept: &mut Kept, clock: Clock, from: Node, body: &Body, outbox: &mut Outbox) -> Result<(), Fault>
+    requires { is_handed_over body.now ≡ true }
     ensures step { OnOk result (Does (λ top me a. handled top me clock a from body.now) kept.old kept.new outbox.old.sent outbox.new.sent) }
     ensures same { OnErr result (GoesOn kept.old kept.new) }
     ensures unsent { OnErr result (outbox.new.sent ≡ outbox.old.sent) }
@@ -127,7 +128,23 @@ fn act_on(kept: &mut Kept, clock: Clock, from: Node, body: &Body, outbox: &mut O
             let part = WritePart { writer: Writer::new(txn, coordinator), batch: rows.clone()? };
             match repl_part(kept, clock, KeptPart { part, stamp }, outbox) { Ok(()) => Ok(()), Err((fault, KeptPart { part: _, stamp: _ })) => Err(fault) }
         }
-        ref other => hear(kept, clock, from, other, outbox),
+        _ => unreachable!(),
+    }
+}
+
+/// Does what a body makes of the shard at this clock. What is kept of it is copied. Refused with `Memory` alone.
+#[rattlefmt::skip]
+fn act_on(kept: &mut Kept, clock: Clock, from: Node, body: &Body, outbox: &mut Outbox) -> Result<(), Fault>
+    ensures step { OnOk result (Does (λ top me a. handled top me clock a from body.now) kept.old kept.new outbox.old.sent outbox.new.sent) }
+    ensures same { OnErr result (GoesOn kept.old kept.new) }
+    ensures unsent { OnErr result (outbox.new.sent ≡ outbox.old.sent) }
+    ensures memory { IfErr result (λ e. e ≡ fault.Memory) }
+{
+    match *body {
+        Body::Begin { .. } | Body::Prepare { .. } | Body::ReadAt { .. } | Body::ReplBegin { .. } | Body::ReplPart { .. } => {
+            keep_of(kept, clock, from, body, outbox)
+        }
+        _ => hear(kept, clock, from, body, outbox),
     }
 }
 

@@ -18,4 +18,5 @@ pub mod Added
 pub mod Early
 pub mod Listed
 pub mod StepMarks
+pub mod Clearing
 pub mod Unready

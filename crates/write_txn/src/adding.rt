@@ -6,7 +6,7 @@ ghost use Rattle.logical_time.specs.declared.fault.Fault.TheVariants as fault;
 ghost use Rattle.pending.specs.Marked.{AreMarked};
 ghost use Rattle.write_txn.specs.declared.open.Open.TheVariants as in_open;
 ghost use Rattle.write_txn.specs.Ledger.{state_of, txn_of, part_of, Holds, Becomes, HaveSameStates, state_ready, readied_by};
-ghost use Rattle.write_txn.specs.Marking.{AreMarksBut, is_to_vote, is_part, is_led, is_kept, is_remote};
+ghost use Rattle.write_txn.specs.Marking.{AreMarksBut, IsMarkedWithin, is_to_vote, is_part, is_led, is_kept, is_remote};
 ghost use Rattle.write_txn.specs.Transactions.{AreMarksOf, cohorts_part};
 
 use crate::ledger::Ledger;
@@ -58,11 +58,12 @@ fn into_remote(held: Open) -> Remote
     remote
 }
 
-/// Adds what is under way of a transaction whose rows are marked already. Where it is refused it comes back, and the
-/// marks of the transaction are taken away.
+/// Adds what is under way of a transaction whose rows are marked already, and no other rows. Where it is refused it comes
+/// back, and the marks of the transaction are taken away.
 fn add_marked(ledger: &mut Ledger, marks: &mut Marks, held: Open) -> Result<(), (Fault, Open)>
     requires unknown { state_of ledger.old (txn_of held) ≡ None }
     requires others { AreMarksBut (txn_of held) marks.old ledger.old }
+    requires own { IsMarkedWithin (part_of held).batch (txn_of held) marks.old }
     ensures marks { OnOk result (marks.new ≡ marks.old) }
     ensures cleared { OnErr result (AreMarksOf marks.new ledger.new) }
     ensures ok { OnOk result (Becomes (txn_of held) (Some (Holds held)) ledger.old ledger.new) }
@@ -72,9 +73,9 @@ fn add_marked(ledger: &mut Ledger, marks: &mut Marks, held: Open) -> Result<(), 
     let txn = held.txn();
     match ledger.add(held) {
         Ok(()) => Ok(()),
-        Err(refused) => {
-            marks.clear(txn);
-            Err(refused)
+        Err((fault, held)) => {
+            marks.clear(held.rows().as_slice(), txn);
+            Err((fault, held))
         }
     }
 }

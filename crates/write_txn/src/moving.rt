@@ -116,8 +116,8 @@ pub(crate) fn vote(
     ensures voted { Becomes txn (state_voted me commit node (state_of ledger.old txn)) ledger.old ledger.new }
 {
     let complete = ledger.vote(txn, node, me, commit);
-    if complete.is_some() {
-        marks.clear(txn);
+    if let Some(complete) = &complete {
+        marks.clear(complete.part().as_slice(), txn);
     }
     complete
 }

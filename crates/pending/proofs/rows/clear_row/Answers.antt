@@ -1,7 +1,14 @@
-use Rattle.std.proofs.Common.{rules, ◌∙◌}
-use Rattle.pending.proofs.Maps.{without_row}
+use Rattle.std.proofs.Common.{rules, ◌≡◌, None}
+use Rattle.pending.proofs.Maps.{each_mark, none_to_clear, found, not_found}
 use Rattle.pending.proofs.rows.clear_row.Goals as goal
 
-pub returns-then-clear_mark : goal.returns-then-clear_mark
-returns-then-clear_mark c = λ r t.
-    without_row c.clear_mark.new.rows c.remove.new.self c.args.row.now c.remove.ensures.updates (c.clear_mark.ensures.none (search rules)) r t ∙ c.clear_mark.ensures.cleared r t
+pub returns-in-Some : goal.returns-in-Some
+returns-in-Some c =
+    let h = c.get_mut.follows.holds c.clear.new.self in
+    let f = found c.args.rows.now.entries c.args.row.now c.in-Some.marks.now (search rules) in
+    each_mark c.args.rows.now.entries (c.get_mut.follows.lender c.clear.new.self).entries c.args.row.now c.clear.new.self c.args.txn None (h.3 (search rules)).0 (rw f c.clear.ensures)
+
+pub returns-in_default : goal.returns-in_default
+returns-in_default c =
+    let same : c.get_mut.follows.lender-at-none ≡ c.args.rows.now = search rules in
+    rw same (none_to_clear c.args.rows.now.entries c.args.row.now c.args.txn (not_found c.args.rows.now.entries c.args.row.now (search rules)))

@@ -1,20 +1,14 @@
-use Rattle.std.proofs.Common.{rules, take, subst, ◌++◌, [], ◌∷◌, List}
-use Rattle.std.proofs.lemmas.List.{take_more, take_all}
-use Rattle.column_family.specs.declared.batch.Row.{Row}
-use Rattle.pending.proofs.Noted.{AreTaken, taken_none, taken_more}
+use Rattle.std.proofs.Common.{List, None, subst, rules}
+use Rattle.column_family.specs.declared.batch.Change.{Change}
+use Rattle.pending.proofs.MarkedRows.{WillBe, one_is, is_later}
 use Rattle.pending.proofs.rows.clear_rows.Goals as goal
 
-pub loop-row-init : goal.loop-row-init
-loop-row-init c = taken_none c.args.rows.now.entries c.args.txn
+pub loop-change-preserved-then-not-is_first : goal.loop-change-preserved-then-not-is_first
+loop-change-preserved-then-not-is_first c =
+    let split = subst (λ (cs : List Change). WillBe c.args.rows.now.entries c.loop-change.rows.entries cs c.args.changes.now c.args.txn None) c.in-Some.ensures.cases.0 c.loop-change.invariant in
+    one_is c.args.rows.now.entries c.loop-change.rows.entries c.clear_row.new.rows.entries c.in-Some.change.now c.in-Some.later.now c.args.changes.now c.args.txn None split c.clear_row.ensures
 
-pub loop-row-preserved : goal.loop-row-preserved
-loop-row-preserved c =
-    let so_far = take c.loop-row.row-index c.args.touched.now in
-    let e = take_more c.args.touched.now c.loop-row.row-index c.row-item.result c.loop-row-test.true in
-    rw e (subst (λ (x : Row). AreTaken c.args.rows.now.entries c.clear_row.new.rows.entries (so_far ++ x ∷ []) c.args.txn) c.row-item.is
-    (taken_more c.args.rows.now.entries c.loop-row.rows.entries c.clear_row.new.rows.entries so_far c.row-item.result c.args.txn c.loop-row.invariant c.clear_row.ensures))
-
-pub returns : goal.returns
-returns c =
-    let all = take_all c.loop-row.row-index c.args.touched.now (search rules) in
-    subst (λ (rows : List Row). AreTaken c.args.rows.now.entries c.loop-row.rows.entries rows c.args.txn) all c.loop-row.invariant
+pub loop-change-preserved : goal.loop-change-preserved
+loop-change-preserved c =
+    let split = subst (λ (cs : List Change). WillBe c.args.rows.now.entries c.loop-change.rows.entries cs c.args.changes.now c.args.txn None) c.in-Some.ensures.cases.0 c.loop-change.invariant in
+    is_later c.args.rows.now.entries c.loop-change.rows.entries c.in-Some.change.now c.in-Some.later.now c.args.changes.now c.args.txn None (c.is_first.ensures (search rules)) split

@@ -1,4 +1,4 @@
-use Rattle.std.proofs.Common.{rules, ◌≡◌, ℕ, List, [], ◌∷◌, Option, Some, subst, sym}
+use Rattle.std.proofs.Common.{rules, ◌≡◌, ℕ, [], ◌∷◌, Option, Some, subst, sym}
 use Rattle.pending.specs.Marks.{RowList, IsLeast, time_in}
 use Rattle.pending.proofs.Times.{least_of_one, least_of_values}
 use Rattle.pending.proofs.row_marks.RowMarks.least.Goals as goal
