@@ -58,13 +58,14 @@ impl Outbox {
         ensures err { OnErr result (self.new.sent ≡ self.old.sent) }
         ensures back { IfErr result (λ r. r ≡ record { fault = Fault.Memory; envelope = envelope }) }
     {
-        match self.envelopes.push(envelope) {
-            Ok(()) => Ok(()),
-            Err(refused) => Err(Refused {
+        if self.envelopes.reserve(1).is_err() {
+            return Err(Refused {
                 fault: Fault::Memory,
-                envelope: refused.value,
-            }),
+                envelope,
+            });
         }
+        self.envelopes.push_reserved(envelope);
+        Ok(())
     }
 
     /// Adds envelopes at the end, in their order. There is room for them. Takes no memory.

@@ -24,7 +24,7 @@ asked_value p false n None rest asked h = h
 asked_value p false n (Some v) rest asked h = (asked, h)
 
 -- the live columns of those that are asked for are asked for
-live_asked : (p : Predicate) (d : Option Version) (seen : List NamedVersion) → AreAskedFor p seen → AreAsked p (filter_map (live_of d) seen)
+pub live_asked : (p : Predicate) (d : Option Version) (seen : List NamedVersion) → AreAskedFor p seen → AreAsked p (filter_map (live_of d) seen)
 live_asked p d [] asked = tt
 live_asked p d (s ∷ seen) asked =
     asked_value p (is_covered d s.1) s.0 s.1.what.value (filter_map (live_of d) seen) (asked s.0 s.1 (contains_first s seen))

@@ -12,7 +12,7 @@ use Rattle.store.specs.declared.sight.Seen.{Seen}
 use Rattle.store.specs.Sight.{HaveSameWriters, named, is_covered, uncovered_writer, writer_of}
 use Rattle.store.proofs.Lists.{contains_first, contains_rest, first_or_rest, none_in_empty}
 
-at_end : {X : Type 0} (xs : List X) (x : X) → Contains (xs ++ x ∷ []) x
+pub at_end : {X : Type 0} (xs : List X) (x : X) → Contains (xs ++ x ∷ []) x
 at_end [] x = contains_first x []
 at_end (z ∷ xs) x = contains_rest z x (xs ++ x ∷ []) (at_end xs x)
 
@@ -39,12 +39,12 @@ pub then_same : (xs ys zs : List WriterValue) → HaveSameWriters xs ys → Have
 then_same xs ys zs one two = λ v. (λ has. (two v).0 ((one v).0 has), λ has. (one v).1 ((two v).1 has))
 
 -- of one that is kept what is given of it, and of no other
-given_next : {X Y : Type 0} (f : X → Option Y) (x : X) (xs : List X) (rest : List Y) (b : Bool) → filter_map f xs ≡ rest
+pub given_next : {X Y : Type 0} (f : X → Option Y) (x : X) (xs : List X) (rest : List Y) (b : Bool) → filter_map f xs ≡ rest
     → filter_map f (if b then x ∷ xs else xs) ≡ cons_option (if b then f x else None) rest
 given_next f x xs rest true e = ap (cons_option (f x)) e
 given_next f x xs rest false e = e
 
-within_only : (within covered : Bool) (w : WriterValue)
+pub within_only : (within covered : Bool) (w : WriterValue)
     → (if within then (if covered then None else Some w) else None) ≡ (if within && not covered then Some w else None)
 within_only true true w = refl
 within_only true false w = refl

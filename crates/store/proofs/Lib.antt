@@ -17,6 +17,7 @@ pub mod Overtaken
 pub mod KeepsApplied
 pub mod HashedRows
 pub mod Lasting
+pub mod Latest
 pub mod Collected
 pub mod Listed
 pub mod Later
@@ -29,3 +30,5 @@ pub mod ReadWith
 pub mod SameParts
 pub mod CameTo
 pub mod Gathered
+pub mod Walks
+pub mod WalkedParts

@@ -12,6 +12,7 @@ mod row;
 mod rows;
 mod sight;
 mod store;
+mod walk;
 
 pub use part::{Applied, Part};
 pub use store::Store;

@@ -10,6 +10,9 @@ ghost use Rattle.slice.specs.Rests.{is_reached, is_within};
 ghost use Rattle.logical_time.specs.declared.fault.Fault.TheVariants as fault;
 ghost use Rattle.column_family.specs.Places.{row_cmp};
 ghost use Rattle.store.specs.Kept.{held_by, name_cmp, no_row};
+ghost use Rattle.store.specs.Latest.{IsLatest};
+ghost use Rattle.store.specs.declared.sight.Moment.TheVariants.{Now};
+ghost use Rattle.slice.specs.declared.predicate.Predicate.TheVariants.{Range};
 ghost use Rattle.store.specs.Part.{greatest_of};
 ghost use Rattle.store.specs.Sight as sight;
 ghost use Rattle.store.specs.Sight.{AreAskedFor, HaveSameWriters, IsMadeOf, IsPartSeen, laid_over, named, sight_of};
@@ -18,6 +21,7 @@ use crate::merging::{merged, newer_seen};
 use crate::part::Part;
 use crate::row::RowChains;
 use crate::sight::{Moment, Seen, asked_columns, seen_in};
+use crate::walk::walk_until;
 use column_family::{Name, Row};
 use logical_time::{Fault, Time, Writer, Writers};
 use slice::{Column, Columns, Predicate};
@@ -52,8 +56,8 @@ fn live_column(deletion: Option<&Version>, seen: &Seen) -> Result<Option<Column>
     }
 }
 
-// Whether the column is live.
-fn is_live(deletion: Option<&Version>, seen: &Seen) -> bool
+/// Whether the column is live.
+pub(crate) fn is_live(deletion: Option<&Version>, seen: &Seen) -> bool
     ensures { result ≡ is_some (sight.live_of (option_copied deletion.entry) (named seen.now)) }
 {
     seen.version.what.value.is_some() && !is_covered(deletion, seen.version)
@@ -77,14 +81,21 @@ fn live_columns(
     Ok(columns)
 }
 
+// Since when the deletion is seen, or 0 without one.
+fn evt_of_deletion(deletion: Option<&Version>) -> Time
+    ensures { result ≡ sight.evt_or_0 (option_copied deletion.entry) }
+{
+    match deletion {
+        None => Time::zero(),
+        Some(deletion) => deletion.evt,
+    }
+}
+
 // Since when the deletion and the columns are all seen.
 fn evt_of(deletion: Option<&Version>, seen: &[Seen]) -> Time
     ensures { result ≡ max (sight.evt_or_0 (option_copied deletion.entry)) (greatest_of (map (λ s. s.version.now.evt) seen.now)) }
 {
-    let mut evt = match deletion {
-        None => Time::zero(),
-        Some(deletion) => deletion.evt,
-    };
+    let mut evt = evt_of_deletion(deletion);
     for one in seen {
         if evt < one.version.evt {
             evt = one.version.evt;
@@ -268,6 +279,19 @@ fn only_writer(deletion: Option<&Version>, seen: &[Seen]) -> Option<Writer>
     }
 }
 
+/// A list of more writers than these is first sorted where it stands.
+const FEW: usize = 20;
+
+// The writers, many of them in their order: then sorting them once more takes one pass.
+fn nearly_sorted(mut writers: Vec<Writer>) -> Vec<Writer>
+    ensures { HaveSameWriters result.items writers.items }
+{
+    if writers.len() > FEW {
+        writers.sort_unstable();
+    }
+    writers
+}
+
 // The writers of the columns' versions that the deletion doesn't cover and of the deletion, in order and each once.
 fn rested_on(
     alloc: Global,
@@ -281,7 +305,7 @@ fn rested_on(
     if let Some(writer) = only_writer(deletion, seen) {
         return Ok(Writers::one(writer));
     }
-    Writers::sorted(writers_of(alloc, deletion, seen)?)
+    Writers::sorted(nearly_sorted(writers_of(alloc, deletion, seen)?))
 }
 
 // The first of the columns that are live, from the start or, reversed, from the end, and at most so many.
@@ -369,6 +393,58 @@ fn made_of(
     })
 }
 
+// Which way a walk over all columns goes by their newest versions, how many it asks for, and their latest EVT: if such a
+// walk is asked for and that EVT is known.
+fn whole_walk(
+    row: &RowChains,
+    predicate: &Predicate,
+    moment: &Moment,
+) -> Option<(bool, usize, Time)>
+    ensures { IfSome result (λ walk. (moment.now ≡ Now) × (predicate.now ≡ Range [] [] walk.0 walk.1) × IsLatest row.now.columns walk.2) }
+{
+    match (moment, predicate) {
+        (
+            Moment::Now,
+            Predicate::Range {
+                start,
+                finish,
+                reversed,
+                count,
+            },
+        ) if start.as_slice().is_empty() && finish.as_slice().is_empty() => Some((
+            *reversed,
+            *count as usize,
+            row.latest()?,
+        )),
+        _ => None,
+    }
+}
+
+// What is seen now of a row by a walk over all of its columns, which ends with the one that makes its count full. The
+// latest EVT tells since when all of them are seen.
+fn part_walked(
+    alloc: Global,
+    row: &RowChains,
+    reversed: bool,
+    most: usize,
+    latest: Time,
+) -> Result<Part, Fault>
+    requires { IsLatest row.now.columns latest }
+    ensures ok { IfOk result (IsPartSeen (sight_of Now row.now) (Range [] [] reversed most)) }
+    ensures memory { IfErr result (λ e. e ≡ fault.Memory) }
+{
+    let deletion = seen_in(&row.deletions, &Moment::Now);
+    let walk = walk_until(alloc, &row.columns, reversed, most, deletion)?;
+    let found = live_columns(alloc, deletion, &walk)?;
+    let writers = rested_on(alloc, deletion, &walk)?;
+    let columns = Columns::from_vec(alloc, found)?;
+    Ok(Part {
+        writers,
+        evt: evt_of_deletion(deletion).max(latest),
+        columns,
+    })
+}
+
 // What is seen of a row.
 #[inline]
 fn part_of(
@@ -380,6 +456,9 @@ fn part_of(
     ensures ok { IfOk result (IsPartSeen (sight_of moment.now row.now) predicate.now) }
     ensures memory { IfErr result (λ e. e ≡ fault.Memory) }
 {
+    if let Some((reversed, most, latest)) = whole_walk(row, predicate, moment) {
+        return part_walked(alloc, row, reversed, most, latest);
+    }
     let seen = asked_columns(alloc, row, predicate, moment)?;
     made_of(alloc, predicate, seen_in(&row.deletions, moment), &seen)
 }

@@ -1,5 +1,5 @@
 //! The chains of a row.
-ghost use Rattle.std.specs.Prelude.{◌≡◌, ◌+◌, ◌≤◌, ◌<◌, ◌⊎◌, [], ℕ, List, Some, None, length, true, false, if◌then◌else◌, OnOk, IfOk, IfErr, IsOk, map};
+ghost use Rattle.std.specs.Prelude.{◌≡◌, ◌+◌, ◌≤◌, ◌<◌, ◌⊎◌, [], ℕ, List, Some, None, length, true, false, if◌then◌else◌, OnOk, IfOk, IfErr, IfSome, IsOk, IsSomeAnd, map, slice_get};
 ghost use Rattle.std.specs.List.{list_any};
 ghost use Rattle.std.specs.Map.{lookup};
 ghost use Rattle.std.specs.Ordering.{is_eq};
@@ -9,6 +9,8 @@ ghost use Rattle.versions.specs.Chain.{put_of};
 ghost use Rattle.versions.specs.Newest.{has_stamp};
 ghost use Rattle.store.specs.Crowded as crowded;
 ghost use Rattle.store.specs.Crowded.{holds_more};
+ghost use Rattle.store.specs.Latest.{IsLatest, IsLatestAfter};
+ghost use Rattle.store.specs.Sight.{evt_or_0};
 ghost use Rattle.store.specs.Kept as kept;
 ghost use Rattle.store.specs.Kept.{Place, chain_of, collected_held, collected_row, column_held, is_of_place, name_cmp, put_all, written};
 
@@ -26,14 +28,20 @@ use versions::{Chain, Version, What};
 pub(crate) struct RowChains {
     pub(crate) columns: BTreeMap<Name, Chain>,
     pub(crate) deletions: Chain,
+    // the greatest EVT of the newest versions of the columns, where it is known
+    latest: Option<Time>,
 }
 
 impl Model for RowChains {
+    ghost use Rattle.std.specs.Prelude.{IfSome};
     ghost use Rattle.store.specs.Kept.{Chains};
+    ghost use Rattle.store.specs.Latest.{IsLatest};
 
     ghost Value = { Chains };
 
     ghost view = { λ r. record { columns = r.columns.entries; deletions = r.deletions } };
+
+    ghost invariant = { λ r. IfSome r.latest (IsLatest r.columns.entries) };
 }
 
 // The version of this origin that leaves a value, or a deletion.
@@ -62,16 +70,54 @@ fn put_version(chain: &mut Chain, version: Version) -> bool
     chain.len() > 1
 }
 
-// Puts a version into the chain of a column, and answers whether the chain holds more than one then.
+// The EVT of the newest version of a chain, or 0 without one.
 #[inline]
-fn put_column(columns: &mut BTreeMap<Name, Chain>, name: &Name, version: Version) -> bool
+fn newest_evt(chain: &Chain) -> Time
+    ensures { result ≡ evt_or_0 (slice_get chain.now.versions 0) }
+{
+    match chain.newest() {
+        Some(version) => version.evt,
+        None => Time::zero(),
+    }
+}
+
+// The latest EVT once that of one column went from one to another, if it was known and still is.
+#[inline]
+fn latest_after(latest: Option<Time>, before: Time, after: Time) -> Option<Time>
+    ensures { IfSome result (λ now. IsSomeAnd latest (λ was. IsLatestAfter was before after now)) }
+{
+    let was = latest?;
+    if was <= after {
+        Some(after)
+    } else if before < was {
+        Some(was)
+    } else {
+        None
+    }
+}
+
+// Puts a version into the chain of a column, and answers whether the chain holds more than one then. Keeps the latest
+// EVT, where it is known.
+#[inline]
+fn put_column(
+    columns: &mut BTreeMap<Name, Chain>,
+    latest: &mut Option<Time>,
+    name: &Name,
+    version: Version,
+) -> bool
     requires { (0 < (column_held columns.old.entries name.now).room) ⊎ (has_stamp (column_held columns.old.entries name.now).versions version.stamp ≡ true) }
     ensures versions { (n : List ℕ) → (column_held columns.new.entries n).versions ≡ (if bytes_eq name.now n then put_of (column_held columns.old.entries n).versions version else (column_held columns.old.entries n).versions) }
     ensures room { (n : List ℕ) → (column_held columns.old.entries n).room ≤ (column_held columns.new.entries n).room + (if bytes_eq name.now n then 1 else 0) }
     ensures more { result ≡ holds_more (column_held columns.new.entries name.now) }
+    ensures latest { IfSome latest.old (IsLatest columns.old.entries) → IfSome latest.new (IsLatest columns.new.entries) }
 {
     match columns.get_mut(name) {
-        Some(chain) => put_version(chain, version),
+        Some(chain) => {
+            let before = newest_evt(chain);
+            let more = put_version(chain, version);
+            *latest = latest_after(*latest, before, newest_evt(chain));
+            more
+        }
         None => false,
     }
 }
@@ -134,6 +180,7 @@ impl RowChains {
         RowChains {
             columns: BTreeMap::new(alloc),
             deletions: Chain::new(alloc),
+            latest: Some(Time::zero()),
         }
     }
 
@@ -149,17 +196,27 @@ impl RowChains {
         match mutation {
             Mutation::Insert { name, value } => put_column(
                 &mut self.columns,
+                &mut self.latest,
                 &name,
                 version(origin, Some(value)),
             ),
             Mutation::DeleteColumn { name } => put_column(
                 &mut self.columns,
+                &mut self.latest,
                 &name,
                 version(origin, None),
             ),
             Mutation::DeleteRow => put_version(&mut self.deletions, version(origin, None)),
             Mutation::DeleteRange { .. } => false,
         }
+    }
+
+    /// The greatest EVT of the newest versions of the columns, or 0 without one, where it is known: until the version that
+    /// has it is followed by one with an earlier EVT.
+    pub(crate) fn latest(&self) -> Option<Time>
+        ensures { IfSome result (IsLatest self.now.columns) }
+    {
+        self.latest
     }
 
     /// Whether a chain holds more than one version. Linear in the columns.

@@ -47,8 +47,8 @@ pub(crate) fn seen_in<'c>(chain: &'c Chain, moment: &Moment) -> Option<&'c Versi
     }
 }
 
-// The column, if a version of it is seen.
-fn seen_column<'s>(name: &'s Name, chain: &'s Chain, moment: &Moment) -> Option<Seen<'s>>
+/// The column, if a version of it is seen.
+pub(crate) fn seen_column<'s>(name: &'s Name, chain: &'s Chain, moment: &Moment) -> Option<Seen<'s>>
     ensures { option_map named result ≡ sight.seen_entry moment.now (name.now, chain.now) }
 {
     let version = seen_in(chain, moment)?;

@@ -1,5 +1,5 @@
 -- What is left of a list once all that passes a test is taken out.
-use Rattle.std.proofs.Common.{◌≡◌, ap, refl, Bool, true, false, not, cond, ◌==◌, List, [], ◌∷◌, filter, length, arith}
+use Rattle.std.proofs.Common.{◌≡◌, ℕ, ap, refl, Bool, true, false, not, cond, ◌==◌, List, [], ◌∷◌, ◌++◌, take, drop, filter, length, arith}
 use Rattle.std.specs.Prelude.{◌&&◌, ◌||◌}
 use Rattle.std.specs.List.{list_any, list_all}
 use Rattle.std.proofs.lemmas.Bool.Decides.{nat_tests}
@@ -27,3 +27,9 @@ all_left {X} p (x ∷ xs) none = go (p x) none (all_left p xs)
     go : (b : Bool) → (b || list_any p xs) ≡ false → (list_any p xs ≡ false → rest ≡ xs) → cond (not b) (x ∷ rest) rest ≡ x ∷ xs
     go true e more = absurd (cc)
     go false e more = ap (λ ys. x ∷ ys) (more e)
+
+-- ## One after the other
+
+-- those before a place, and those from there on that pass
+abbrev pub passed : {X : Type 0} → (X → Bool) → ℕ → List X → List X
+passed p i xs = take i xs ++ filter p (drop i xs)

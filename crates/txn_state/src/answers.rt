@@ -9,13 +9,12 @@ ghost use Rattle.txn_state.specs.Answers.{is_unanswered, is_dependency, answered
 
 use logical_time::{Fault, TxnId, Writer};
 use std::alloc::Global;
-use std::collections::BTreeSet;
 use std::marker::Model;
 
-/// The dependencies of a write whose answers are missing, as transactions.
+/// The dependencies of a write whose answers are missing, as transactions in order.
 #[derive(Drop)]
 pub struct Answers {
-    missing: BTreeSet<TxnId>,
+    missing: Vec<TxnId>,
 }
 
 impl Model for Answers {
@@ -25,37 +24,38 @@ impl Model for Answers {
 
     ghost Value = { List TxnValue };
 
-    ghost view = { λ a. a.missing.keys };
+    ghost view = { λ a. a.missing.items };
 
-    ghost invariant = { λ a. IsStrictlySortedBy txn_cmp a.missing.keys };
+    ghost invariant = { λ a. IsStrictlySortedBy txn_cmp a.missing.items };
 }
 
-/// The transactions of these dependencies.
-fn txns_of(alloc: Global, dependencies: &[Writer]) -> Result<BTreeSet<TxnId>, Fault>
-    ensures ok { IfOk result (λ txns. (t : TxnValue) → is_unanswered txns.keys t ≡ is_dependency dependencies.now t) }
-    ensures ordered { IfOk result (λ txns. IsStrictlySortedBy txn_cmp txns.keys) }
+/// The transactions of these dependencies, in order and each once.
+fn txns_of(alloc: Global, dependencies: &[Writer]) -> Result<Vec<TxnId>, Fault>
+    ensures ok { IfOk result (λ txns. (t : TxnValue) → is_unanswered txns.items t ≡ is_dependency dependencies.now t) }
+    ensures ordered { IfOk result (λ txns. IsStrictlySortedBy txn_cmp txns.items) }
     ensures memory { IfErr result (λ e. e ≡ fault.Memory) }
 {
-    let mut txns = BTreeSet::new(alloc);
-    for writer in dependencies {
-        txns.insert(writer.txn())?;
-    }
+    let mut txns: Vec<TxnId> = dependencies.iter().map(|w| w.txn()).collect(alloc)?;
+    txns.sort_unstable();
+    txns.dedup();
     Ok(txns)
 }
 
-fn are_all(missing: &BTreeSet<TxnId>, txn: TxnId) -> bool
-    ensures { result ≡ list_all (λ u. is_eq (txn_cmp u txn)) missing.now.keys }
+fn are_all(missing: &[TxnId], txn: TxnId) -> bool
+    ensures { result ≡ list_all (λ u. is_eq (txn_cmp u txn)) missing.now }
 {
     missing.iter().all(|t| *t == txn)
 }
 
 /// Takes the transaction out.
-fn take_out(missing: &mut BTreeSet<TxnId>, txn: TxnId)
-    requires { IsStrictlySortedBy txn_cmp missing.old.keys }
-    ensures ordered { IsStrictlySortedBy txn_cmp missing.new.keys }
-    ensures rest { missing.new.keys ≡ answered missing.old.keys txn }
+fn take_out(missing: &mut Vec<TxnId>, txn: TxnId)
+    requires { IsStrictlySortedBy txn_cmp missing.old.items }
+    ensures ordered { IsStrictlySortedBy txn_cmp missing.new.items }
+    ensures rest { missing.new.items ≡ answered missing.old.items txn }
 {
-    let _was_missing = missing.remove(&txn);
+    if let Ok(place) = missing.binary_search(&txn) {
+        let _answered = missing.remove(place);
+    }
 }
 
 impl Answers {
@@ -84,7 +84,7 @@ impl Answers {
         are_all(&self.missing, txn)
     }
 
-    /// Counts an answer. In the order of log d for d that are missing.
+    /// Counts an answer. Finds it in the order of log d for d that are missing, and moves those behind it.
     pub(crate) fn count(&mut self, txn: TxnId)
         ensures { self.new ≡ answered self.old txn }
     {

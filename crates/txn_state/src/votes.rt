@@ -52,7 +52,14 @@ fn take_one_out(missing: &mut Vec<Node>, voter: Node)
     ensures rest { missing.new.items ≡ filter (λ n. not (n == voter)) missing.old.items }
     ensures room { vec_capacity missing.new ≡ vec_capacity missing.old }
 {
-    missing.retain(|n| *n != voter);
+    let mut place = 0;
+    while place < missing.len() {
+        if missing[place] == voter {
+            let _voter = missing.remove(place);
+        } else {
+            place += 1;
+        }
+    }
 }
 
 impl Votes {

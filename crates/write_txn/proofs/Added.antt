@@ -17,7 +17,7 @@ use Rattle.write_txn.proofs.Settled.{same_place}
 use Rattle.write_txn.proofs.Txns.{by_txn, equal_txn}
 
 -- what is read of a list with one more at its end
-read_pushed : {X : Type 0} (xs : List X) (x : X) (k : ℕ) → slice_get (xs ++ x ∷ []) k ≡ (if k == length xs then Some x else slice_get xs k)
+pub read_pushed : {X : Type 0} (xs : List X) (x : X) (k : ℕ) → slice_get (xs ++ x ∷ []) k ≡ (if k == length xs then Some x else slice_get xs k)
 read_pushed xs x k =
     let long = length_push xs x in
     by_equal {P = slice_get (xs ++ x ∷ []) k ≡ (if k == length xs then Some x else slice_get xs k)} k (length xs)

@@ -17,6 +17,9 @@ pub mod SameTxn
 pub mod Added
 pub mod Early
 pub mod Listed
+pub mod Entries
+pub mod OneList
+pub mod Everywhere
 pub mod StepMarks
 pub mod Clearing
 pub mod Unready

@@ -1,6 +1,7 @@
 pub mod Roles
 pub mod Ledger
 pub mod Places
+pub mod Statuses
 pub mod Next
 pub mod Voters
 pub mod View

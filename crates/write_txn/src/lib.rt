@@ -3,9 +3,11 @@
 
 mod adding;
 mod applying;
+mod far;
 mod law;
 mod ledger;
 mod moving;
+mod near;
 mod next;
 mod open;
 mod places;

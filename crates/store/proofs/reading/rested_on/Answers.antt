@@ -23,4 +23,6 @@ pub returns-clause-same : goal.returns-clause-same
 returns-clause-same c =
     let d = option_copied c.args.deletion in
     let writers = filter_map (λ s. uncovered_writer d (named s)) c.args.seen.now ++ option_to_list (option_map (λ (v : Version). v.what.writer) d) in
-    if_ok c.sorted.result (λ all same. then_same all c.in_ok-writers_of.field-0.items writers same c.in_ok-writers_of.ensures) c.sorted.ensures.same
+    let found = c.in_ok-writers_of.field-0.items in
+    let before : HaveSameWriters c.nearly_sorted.result.items writers = then_same c.nearly_sorted.result.items found writers c.nearly_sorted.ensures c.in_ok-writers_of.ensures in
+    if_ok c.sorted.result (λ all same. then_same all c.nearly_sorted.result.items writers same before) c.sorted.ensures.same

@@ -1,24 +1,21 @@
-use Rattle.std.proofs.Common.{◌≡◌, ◌∙◌, sym, ap, subst, true, cond, ◌+◌, ◌++◌, ◌∷◌, [], take, arith}
-use Rattle.std.specs.Ordering.{is_eq}
-use Rattle.std.specs.List.{list_any}
-use Rattle.std.proofs.lemmas.List.{take_more}
-use Rattle.logical_time.specs.Stamps.{TxnValue, txn_cmp}
-use Rattle.txn_state.proofs.Txns.{one_more}
+use Rattle.std.proofs.Common.{rules, ℕ, Ok}
+use Rattle.std.proofs.lemmas.Iterator.{items_from_collect, YieldsList-from_slice, YieldsList-from_map}
+use Rattle.std.proofs.lemmas.Iterator.Consumers.{YieldsList-at}
+use Rattle.std.proofs.lemmas.List.Filters.{dedup_is}
+use Rattle.logical_time.specs.Stamps.{WriterValue}
+use Rattle.txn_state.proofs.Txns.{same_txn, known, strictly_sorted}
 use Rattle.txn_state.proofs.answers.txns_of.Goals as goal
 
-pub loop-writer-preserved : goal.loop-writer-preserved
-loop-writer-preserved c =
-    let i = c.loop-writer.writer-index in
-    let ws = c.args.dependencies.now in
-    let w = c.writer-item.result in
-    let before = c.loop-writer.txns.keys in
-    let after = c.insert.new.self.keys in
-    let e : take (i + 1) ws ≡ take i ws ++ w ∷ [] = take_more ws i w (omega arith) ∙ ap (λ y. take i ws ++ y ∷ []) (sym c.writer-item.is) in
-    record {
-      known = λ t.
-          rw e
-          (one_more t before after (take i ws) w
-          (subst (λ (v : TxnValue). list_any (λ u. is_eq (txn_cmp t u)) after ≡ cond (is_eq (txn_cmp v t)) true (list_any (λ u. is_eq (txn_cmp t u)) before)) c.txn.ensures (c.in_ok-insert.ensures.updates.0 t))
-          (c.loop-writer.invariant.known t));
-      ordered = c.in_ok-insert.ensures.ordered;
-    }
+pub returns-clause-ok : goal.returns-clause-ok
+returns-clause-ok c =
+    let is = dedup_is same_txn _ _ c.dedup.ensures.filtered in
+    let all = items_from_collect {E = ℕ} (Ok c.in_ok-txns.txns) c.in_ok-txns.ensures.ran
+    (YieldsList-from_map _ (λ (w : WriterValue). w.txn)
+    (YieldsList-at c.map.ensures.source (YieldsList-from_slice c.args.dependencies.now (cc)))
+    c.map.ensures.closure (λ x r q k. search rules)) in
+    λ t. rw is (known c.args.dependencies.now _ _ all c.sort_unstable.ensures.permutation t)
+
+pub returns-clause-ordered : goal.returns-clause-ordered
+returns-clause-ordered c =
+    let is = dedup_is same_txn _ _ c.dedup.ensures.filtered in
+    rw is (strictly_sorted _ c.sort_unstable.ensures.sorted)
