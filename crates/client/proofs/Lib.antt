@@ -1,3 +1,4 @@
+pub mod Idle
 pub mod Planned
 pub mod Submitted
 pub mod Heard

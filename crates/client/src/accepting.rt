@@ -5,12 +5,14 @@ ghost use Rattle.messages.specs.declared.op.Op.TheVariants as op;
 ghost use Rattle.messages.specs.Clock.{ticked};
 ghost use Rattle.messages.specs.Submitting.{session_submit};
 ghost use Rattle.messages.specs.Rounds.{asked_nodes};
+ghost use Rattle.client.specs.declared.current.Current.TheVariants.{Idle};
 ghost use Rattle.client.specs.Accepted.{fault_of, accepted, posted};
 ghost use Rattle.client.specs.State.{dependencies_of, state_of, topology_of};
 ghost use Rattle.client.specs.Represents.{IsRefusalOf, IsSpentOrMemory};
 
 use crate::current::Current;
 use crate::envelopes::{nodes, reads, writes};
+use crate::hearing::put;
 use crate::kept::Kept;
 use column_family::Batch;
 use logical_time::{Clock, Fault, Node, Shard, TxnId, Writers};
@@ -18,7 +20,6 @@ use messages::{Dependencies, Envelope, Op, Outbox};
 use planner::{BatchPlan, check_batch, check_read, plan_batch, plan_read};
 use read_txn::FirstRound;
 use slice::Read;
-use std::mem;
 
 /// Whether the operation may be submitted: refused with `Busy` while another is open, and then as its plan is.
 #[inline]
@@ -75,6 +76,7 @@ fn settle(kept: &mut Kept, envelopes: Vec<Envelope>, outbox: &mut Outbox) -> Res
 #[inline]
 fn accept(kept: &mut Kept, clock: Clock, current: Current) -> u64
     requires counted { kept.old.count < 2 ^ 48 }
+    requires idle { kept.old.current ≡ Idle }
     ensures number { result ≡ kept.old.count + 1 }
     ensures state { kept.new ≡ record kept.old { clock = clock; count = kept.old.count + 1; added = []; current = current; untaken = None } }
 {
@@ -82,8 +84,7 @@ fn accept(kept: &mut Kept, clock: Clock, current: Current) -> u64
     kept.count += 1;
     kept.added = Writers::from_vec(Vec::new(kept.alloc));
     kept.untaken = None;
-    // nothing was open
-    mem::replace(&mut kept.current, current).close();
+    put(kept, current);
     kept.count
 }
 
@@ -95,6 +96,7 @@ fn coordinator_of(plan: &BatchPlan) -> Shard
 }
 
 /// Submits a batch that is allowed.
+#[tactic(auto, using(crate::proofs::Idle::idle_allowed))]
 fn submit_batch(kept: &mut Kept, batch: &Batch, outbox: &mut Outbox) -> Result<u64, Fault>
     requires counted { kept.old.count ≤ kept.old.clock }
     requires allowed { fault_of kept.old (op.Batch batch.now) ≡ None }
@@ -171,6 +173,7 @@ fn ask(kept: &mut Kept, read: &Read, outbox: &mut Outbox) -> Result<(Clock, Read
 }
 
 /// Submits a read that is allowed.
+#[tactic(auto, using(crate::proofs::Idle::idle_allowed))]
 fn submit_read(kept: &mut Kept, read: &Read, outbox: &mut Outbox) -> Result<u64, Fault>
     requires counted { kept.old.count ≤ kept.old.clock }
     requires allowed { fault_of kept.old (op.Read read.now) ≡ None }

@@ -63,7 +63,7 @@ pub(crate) fn reads(
     ensures ok { IfOk result (λ envelopes. envelopes.items ≡ map (read_keys home node time number read.now) shares.items) }
     ensures memory { IfErr result (λ e. e ≡ Fault.Memory) }
 {
-    let mut envelopes = Vec::new(alloc);
+    let mut envelopes = Vec::with_capacity(alloc, shares.len())?;
     for share in shares {
         let ShardKeys { shard, keys } = share;
         let own = Shared::new(alloc, share_of(read, keys)?)?;
@@ -82,7 +82,7 @@ pub(crate) fn nodes(alloc: Global, home: Home, shares: &[ShardKeys]) -> Result<V
     ensures ok { IfOk result (λ nodes. nodes.items ≡ map (λ s. node_in home s.shard) shares.now) }
     ensures memory { IfErr result (λ e. e ≡ Fault.Memory) }
 {
-    let mut nodes = Vec::new(alloc);
+    let mut nodes = Vec::with_capacity(alloc, shares.len())?;
     let mut rest = shares;
     while let [first, others @ ..] = rest {
         nodes.push(home.node_of(first.shard))?;
@@ -130,7 +130,7 @@ pub(crate) fn writes(
         coordinator: ShardPart { shard, batch },
         cohorts,
     } = plan;
-    let mut envelopes = Vec::new(alloc);
+    let mut envelopes = Vec::with_capacity(alloc, cohorts.len().saturating_add(1))?;
     envelopes.push(Envelope {
         from: node,
         to: home.node_of(shard),

@@ -32,8 +32,8 @@ fn late_reads(kept: &Kept, time: Time, round: &SecondRound) -> Result<Vec<Envelo
     ensures ok { IfOk result (λ envelopes. envelopes.items ≡ map (steps.read_late time kept.now round.now) (asked_again round.now.asked round.now.time round.now.first)) }
     ensures memory { IfErr result (λ e. e ≡ Fault.Memory) }
 {
-    let mut envelopes = Vec::new(kept.alloc);
     let asks = round.asks();
+    let mut envelopes = Vec::with_capacity(kept.alloc, asks.len())?;
     let effective = round.time();
     for late in asks {
         let read = Shared::new(kept.alloc, late_read(round, late)?)?;

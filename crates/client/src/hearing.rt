@@ -1,8 +1,9 @@
 //! Answers of shards.
-ghost use Rattle.std.specs.Prelude.{◌≡◌, true, false, IsOk, OnOk, OnErr, IfErr};
+ghost use Rattle.std.specs.Prelude.{◌≡◌, true, false, IsOk, IsSome, OnOk, OnErr, IfErr};
 ghost use Rattle.messages.specs.Words.{is_same_txn};
 ghost use Rattle.read_txn.specs.Taken.{second_taken, is_awaited};
 ghost use Rattle.client.specs.declared.current.Current.TheVariants.{Idle, Second};
+ghost use Rattle.client.specs.Current.{coordinator_of};
 ghost use Rattle.client.specs.Ignored.{heeds_at};
 ghost use Rattle.client.specs.Steps as steps;
 
@@ -13,24 +14,40 @@ use messages::{AtTime, Outcome};
 use read_txn::{Answered, SecondRound, SecondTaken};
 use std::mem;
 
-/// Opens what is given, while nothing is open.
+/// Opens what is given, while nothing is open: so what was there needn't be moved out, to be closed.
+#[inline]
 pub(crate) fn put(kept: &mut Kept, current: Current)
     requires { kept.old.current ≡ Idle }
     ensures { kept.new ≡ record kept.old { current = current } }
 {
-    mem::replace(&mut kept.current, current).close();
+    let before = mem::replace(&mut kept.current, current);
+    let Current::Idle = before else {
+        unreachable!()
+    };
 }
 
-/// Ends the open operation, of which no round is left, with this outcome.
+/// Takes the open write out.
+#[inline]
+fn end_write(kept: &mut Kept)
+    requires { IsSome (coordinator_of kept.old.current) }
+    ensures { kept.new ≡ record kept.old { current = Idle } }
+{
+    let before = mem::replace(&mut kept.current, Current::Idle);
+    let Current::Write(_) = before else {
+        unreachable!()
+    };
+}
+
+/// Ends the last operation, which was taken out, with this outcome.
 #[inline]
 fn finish(kept: &mut Kept, clock: Clock, floor: Time, added: Writers, outcome: Outcome)
+    requires { kept.old.current ≡ Idle }
     ensures { kept.new ≡ steps.finished clock kept.old floor kept.old.dependencies added outcome }
 {
     kept.clock = clock;
     kept.floor = floor;
     kept.added = added;
     kept.untaken = Some((kept.count, outcome));
-    mem::replace(&mut kept.current, Current::Idle).close();
 }
 
 /// Ends the open write.
@@ -42,6 +59,7 @@ fn written(
     commit: Time,
     stamp: Stamp,
 )
+    requires { IsSome (coordinator_of kept.old.current) }
     ensures { kept.new ≡ steps.done_if true clock kept.old coordinator txn commit stamp }
 {
     let floor = if kept.floor < commit {
@@ -52,6 +70,7 @@ fn written(
     kept.dependencies
         .completed_write(Writer::new(txn, coordinator));
     let added = Writers::from_vec(Vec::new(kept.alloc));
+    end_write(kept);
     finish(kept, clock, floor, added, Outcome::Wrote { commit, stamp });
 }
 
@@ -81,8 +100,9 @@ pub(crate) fn done(kept: &mut Kept, clock: Clock, txn: TxnId, commit: Time, stam
     }
 }
 
-/// Completes the open read, of which no round is left.
+/// Completes the last read, whose round was taken out.
 pub(crate) fn complete(kept: &mut Kept, clock: Clock, answered: Answered)
+    requires { kept.old.current ≡ Idle }
     ensures { kept.new ≡ steps.completed clock kept.old answered }
 {
     let Answered {

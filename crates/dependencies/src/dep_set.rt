@@ -47,6 +47,21 @@ fn add(held: &mut Held, writers: &[Writer]) -> Result<bool, Fault>
     }
 }
 
+/// Up to how many writers are held as they come, however often each comes.
+const FEW: usize = 256;
+
+/// These writers and those as they come, with room for as many again.
+fn appended(alloc: Global, writers: &[Writer], others: &[Writer]) -> Result<Vec<Writer>, Fault>
+    ensures ok { IfOk result (λ all. all.items ≡ writers.now ++ others.now) }
+    ensures memory { IfErr result (λ e. e ≡ Fault.Memory) }
+{
+    let room = writers.len().saturating_add(others.len());
+    let mut all = Vec::with_capacity(alloc, room.saturating_mul(2))?;
+    all.extend_from_slice(writers)?;
+    all.extend_from_slice(others)?;
+    Ok(all)
+}
+
 /// These writers and those, put in order, each once, with room for as many again.
 fn grown(alloc: Global, writers: &[Writer], others: &[Writer]) -> Result<Vec<Writer>, Fault>
     ensures ok { IfOk result (λ all. all.items ≡ in_writer_order (writers.now ++ others.now)) }
@@ -107,8 +122,8 @@ impl DepSet {
     }
 
     /// A read completes: the writers of its rows are added. In the order of m log n for m of them, among n, over a
-    /// series of reads: all are put in order, each once, only where the list would have to grow. Refused with `Memory`
-    /// alone, and never without a writer.
+    /// series of reads: all are put in order, each once, only where the list would have to grow above 256. Refused with
+    /// `Memory` alone, and never without a writer.
     #[tactic(auto, using(crate::proofs::Ordered::added_in_order, crate::proofs::Ordered::added_to_held))]
     pub fn completed_read(&mut self, writers: &[Writer]) -> Result<(), Fault>
         ensures ok { OnOk result (self.new ≡ in_writer_order (self.old ++ writers.now)) }
@@ -119,7 +134,12 @@ impl DepSet {
         if add(&mut self.held, writers)? {
             return Ok(());
         }
-        let all = grown(self.alloc, writers_in(&self.held), writers)?;
+        let own = writers_in(&self.held);
+        let all = if own.len() <= FEW && writers.len() <= FEW - own.len() {
+            appended(self.alloc, own, writers)?
+        } else {
+            grown(self.alloc, own, writers)?
+        };
         self.held = Held::Writers(all);
         Ok(())
     }

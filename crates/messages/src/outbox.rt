@@ -1,12 +1,11 @@
 //! Envelopes in the order of sending.
-ghost use Rattle.std.specs.Prelude.{◌≡◌, ◌+◌, ◌≤◌, ◌<◌, ◌++◌, [], ◌∷◌, length, slice_get, slice_set, take, drop, Some, unwrap_or, if◌then◌else◌, is_ok, IsOk, IfErr, OnOk, OnErr};
+ghost use Rattle.std.specs.Prelude.{◌≡◌, ◌+◌, ◌≤◌, ◌<◌, ◌++◌, [], ◌∷◌, length, slice_get, take, drop, Some, if◌then◌else◌, is_ok, IsOk, IfErr, OnOk, OnErr};
 ghost use Rattle.std.specs.Option.{option_copied};
 
 use crate::envelope::{Envelope, Refused};
 use logical_time::Fault;
 use std::alloc::Global;
 use std::marker::Model;
-use std::mem;
 
 /// Envelopes in the order in which they were posted, numbered from 0.
 #[derive(Drop)]
@@ -69,13 +68,11 @@ impl Outbox {
     }
 
     /// Adds envelopes at the end, in their order. There is room for them. Takes no memory.
-    pub fn post_all(&mut self, envelopes: Vec<Envelope>)
+    pub fn post_all(&mut self, mut envelopes: Vec<Envelope>)
         requires { length envelopes.items ≤ self.old.room }
         ensures { self.new.sent ≡ self.old.sent ++ envelopes.items }
     {
-        for envelope in envelopes {
-            self.post(envelope).unwrap();
-        }
+        self.envelopes.append(&mut envelopes).unwrap();
     }
 
     /// Takes out the envelope of this number; those after it move up. Costs what stands after it. Takes no memory.
@@ -86,19 +83,6 @@ impl Outbox {
         ensures room { self.old.room ≤ self.new.room }
     {
         self.envelopes.remove(number)
-    }
-
-    /// Puts an envelope in the place of the one with this number, and hands that one out; where not so many were posted,
-    /// the envelope itself comes back. Takes no memory.
-    pub fn exchange(&mut self, number: usize, envelope: Envelope) -> Envelope
-        ensures put { self.new.sent ≡ slice_set self.old.sent number envelope }
-        ensures taken { result ≡ unwrap_or (slice_get self.old.sent number) envelope }
-        ensures room { self.old.room ≤ self.new.room }
-    {
-        match self.envelopes.get_mut(number) {
-            Some(place) => mem::replace(place, envelope),
-            None => envelope,
-        }
     }
 
     /// How many more envelopes fit without memory.

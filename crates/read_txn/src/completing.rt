@@ -115,12 +115,21 @@ fn add_writers(all: &mut Vec<Writer>, writers: &Writers) -> Result<(), Fault>
     Ok(())
 }
 
+/// How many writers these rows have, as far as a `usize` counts.
+fn count_of(rows: &[Taken]) -> usize {
+    let mut count = 0usize;
+    for row in rows {
+        count = count.saturating_add(row.writers.as_slice().len());
+    }
+    count
+}
+
 /// The writers of these rows.
 fn writers_of(alloc: Global, rows: &[Taken]) -> Result<Vec<Writer>, Fault>
     ensures exact { IfOk result (λ writers. writers.items ≡ flat_map (λ r. r.writers) (map row_of rows.now)) }
     ensures memory { IfErr result (λ e. e ≡ Fault.Memory) }
 {
-    let mut writers = Vec::with_capacity(alloc, rows.len())?;
+    let mut writers = Vec::with_capacity(alloc, count_of(rows))?;
     for row in rows {
         add_writers(&mut writers, row.writers)?;
     }

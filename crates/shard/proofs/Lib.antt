@@ -14,6 +14,7 @@ pub mod EarlySteps
 pub mod Grow
 pub mod HandledSteps
 pub mod Handles
+pub mod HeardAt
 pub mod InPlace
 pub mod LastVotes
 pub mod LetGo

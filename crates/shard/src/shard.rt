@@ -1,6 +1,7 @@
 //! Shards.
-ghost use Rattle.std.specs.Prelude.{◌≡◌, ℕ, List, [], ◌∷◌, ◌++◌, Err, is_some, option_map, IfSome, IfOk, OnOk, IfErr, OnErr};
+ghost use Rattle.std.specs.Prelude.{◌≡◌, ◌<◌, ℕ, List, [], ◌∷◌, ◌++◌, length, slice_get, Some, Err, is_some, option_map, IfSome, IfOk, OnOk, IfErr, OnErr};
 ghost use Rattle.logical_time.specs.declared.fault.Fault.TheVariants as fault;
+ghost use Rattle.messages.specs.declared.envelope.Envelope.{Envelope};
 ghost use Rattle.messages.specs.declared.event.Event.{Event};
 ghost use Rattle.messages.specs.declared.event.Event.TheVariants.{Handle, Collect};
 ghost use Rattle.messages.specs.Topology.{TopologyValue, is_shard};
@@ -85,18 +86,19 @@ impl Shard {
         handling::handle(&mut self.kept, envelope, outbox)
     }
 
-    /// Handles an envelope that stays with the caller, as `handle` does. What the shard keeps of it is copied, and shares the
-    /// bytes of keys, names and values. Refused with `ClockSpent` where the clock would leave its range, and with `Memory`;
-    /// then the shard stands for what it stood for, and nothing is sent.
-    pub fn hear(&mut self, envelope: &Envelope, outbox: &mut Outbox) -> Result<(), Fault>
-        ensures step { (top : TopologyValue) (me : ℕ) (a : ShardState) → Represents top me self.old a
-            → OnOk result (IsStepOf top me (shard_handle top me a envelope.now) self.new outbox.old.sent outbox.new.sent) }
-        ensures refused { (top : TopologyValue) (me : ℕ) (a : ShardState) → Represents top me self.old a
-            → IfErr result (λ e. IsRefusalOf (shard_handle top me a envelope.now) e) }
+    /// Handles the envelope of this number, which stays in the outbox, as `handle` does. What the shard keeps of it is copied,
+    /// and shares the bytes of keys, names and values. Refused with `ClockSpent` where the clock would leave its range, and
+    /// with `Memory`; then the shard stands for what it stood for, and nothing is sent.
+    pub fn hear_at(&mut self, number: usize, outbox: &mut Outbox) -> Result<(), Fault>
+        requires sent { number < length outbox.old.sent }
+        ensures step { (top : TopologyValue) (me : ℕ) (a : ShardState) (e : Envelope) → slice_get outbox.old.sent number ≡ Some e → Represents top me self.old a
+            → OnOk result (IsStepOf top me (shard_handle top me a e) self.new outbox.old.sent outbox.new.sent) }
+        ensures refused { (top : TopologyValue) (me : ℕ) (a : ShardState) (e : Envelope) → slice_get outbox.old.sent number ≡ Some e → Represents top me self.old a
+            → IfErr result (λ f. IsRefusalOf (shard_handle top me a e) f) }
         ensures same { OnErr result (GoesOn self.old self.new) }
         ensures unsent { OnErr result (outbox.new.sent ≡ outbox.old.sent) }
     {
-        handling::hear_envelope(&mut self.kept, envelope, outbox)
+        handling::hear_at(&mut self.kept, number, outbox)
     }
 
     /// Raises the horizon to this time, unless it is there: versions that no read from there on sees may be dropped, and a
@@ -158,6 +160,23 @@ impl Shard {
             waiting,
         } = kept;
         transactions.close();
+        askers.close();
+        waiting.close();
+    }
+
+    /// The same for a program that ends with it: the memory of its rows is given back with that of the process.
+    pub fn leave(self) {
+        let Shard { kept } = self;
+        let Kept {
+            alloc: _,
+            place: _,
+            clock: _,
+            transactions,
+            notices: _,
+            askers,
+            waiting,
+        } = kept;
+        transactions.leave();
         askers.close();
         waiting.close();
     }

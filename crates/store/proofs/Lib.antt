@@ -32,3 +32,4 @@ pub mod CameTo
 pub mod Gathered
 pub mod Walks
 pub mod WalkedParts
+pub mod Gatherings

@@ -60,14 +60,16 @@ listed_added l m olds news row d put is before added listed = λ whole r p not_l
 
 pub listed_unless : (l : Listed) (olds news : List (Row × Chains)) (row : Row) (d : Mutation) (put : Row → Place → List Version)
     → ((r : Row) (p : Place) → (chain_at news r p).versions ≡ (if is_same_row r row && is_of_place p d then put r p else (chain_at olds r p).versions))
-    → ((p : Place) → is_of_place p d ≡ true → length (chain_at news row p).versions ≤ 1)
+    → ((p : Place) → is_of_place p d ≡ true → length (chain_at olds row p).versions ≤ 1 → length (chain_at news row p).versions ≤ 1)
     → AreListed l olds → AreListed l news
 listed_unless l olds news row d put is few listed = λ whole r p not_listed.
     by_cases (is_eq (row_cmp row r))
     (λ same.
     let own : is_same_row r row ≡ true = sym (row_test row r) ∙ same in
     by_cases (is_of_place p d)
-    (λ at. subst (λ (s : Row). length (chain_at news s p).versions ≤ 1) (same_row row r same) (few p at))
+    (λ at.
+    let before : length (chain_at olds row p).versions ≤ 1 = subst (λ (s : Row). length (chain_at olds s p).versions ≤ 1) (sym (same_row row r same)) (listed whole r p not_listed) in
+    subst (λ (s : Row). length (chain_at news s p).versions ≤ 1) (same_row row r same) (few p at before))
     (λ off.
     let stays : (chain_at news r p).versions ≡ (chain_at olds r p).versions = is r p ∙ rw (own, off) refl in
     subst (λ (xs : List Version). length xs ≤ 1) (sym stays) (listed whole r p not_listed)))

@@ -87,11 +87,11 @@ live_keeps_name d s c e = covers (is_covered d s.1) e
     covers true e = absurd (cc)
     covers false e = holds s.1.what.value e
 
-asks_all : (r : Bool) (n : ℕ) (m : List ℕ) → is_asked (Range [] [] r n) m ≡ true
+pub asks_all : (r : Bool) (n : ℕ) (m : List ℕ) → is_asked (Range [] [] r n) m ≡ true
 asks_all true n m = refl
 asks_all false n m = refl
 
-all_of : {X : Type 0} (xs : List X) → filter (λ x. true) xs ≡ xs
+pub all_of : {X : Type 0} (xs : List X) → filter (λ x. true) xs ≡ xs
 all_of [] = refl
 all_of (x ∷ xs) = ap (λ ys. x ∷ ys) (all_of xs)
 

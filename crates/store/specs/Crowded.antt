@@ -1,5 +1,5 @@
 -- Which rows a collection has to look at.
-use Rattle.std.specs.Prelude.{◌≡◌, ◌≤◌, length, nat_lt, Bool, true, false, ◌||◌, List, map}
+use Rattle.std.specs.Prelude.{◌≡◌, ◌≤◌, length, nat_lt, Bool, true, false, not, ◌&&◌, ◌||◌, List, map}
 use Rattle.std.specs.List.{list_any}
 use Rattle.column_family.specs.declared.batch.Row.{Row}
 use Rattle.column_family.specs.Places.{is_listed, row_cmp}
@@ -14,6 +14,10 @@ pub record Listed : Type 0 where
 -- whether a chain holds more than one version
 abbrev pub holds_more : Held → Bool
 holds_more h = nat_lt 1 (length h.versions)
+
+-- whether a chain comes to hold more than one version
+abbrev pub comes_to_more : Held → Held → Bool
+comes_to_more before after = not (holds_more before) && holds_more after
 
 -- whether a chain of the row holds more than one version: a collection drops nothing from any other row
 abbrev pub is_crowded : Chains → Bool

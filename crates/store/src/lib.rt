@@ -3,7 +3,9 @@
 //! Nothing here knows of votes, messages or sessions.
 #![tactic(auto)]
 
+mod boxed_chain;
 mod crowded;
+mod gathering;
 mod merging;
 mod origin;
 mod part;

@@ -1,5 +1,5 @@
 //! A row's part, found in its chains.
-ghost use Rattle.std.specs.Prelude.{◌≡◌, ◌↔◌, ◌≤◌, ◌<◌, ◌++◌, ◌∷◌, [], Contains, IfOk, IfErr, IfSome, true, length, map, take, drop, filter, filter_map, is_some, option_map, option_to_list, max};
+ghost use Rattle.std.specs.Prelude.{◌≡◌, ◌↔◌, ◌≤◌, ◌<◌, ◌++◌, ◌∷◌, [], ℕ, false, Contains, IfOk, IfErr, IfSome, true, length, map, take, drop, filter, filter_map, is_some, option_map, option_to_list, max};
 ghost use Rattle.std.specs.Option.{option_copied};
 ghost use Rattle.std.specs.Ordering.{is_lt};
 ghost use Rattle.std.specs.List.{list_all};
@@ -12,15 +12,19 @@ ghost use Rattle.column_family.specs.Places.{row_cmp};
 ghost use Rattle.store.specs.Kept.{held_by, name_cmp, no_row};
 ghost use Rattle.store.specs.Latest.{IsLatest};
 ghost use Rattle.store.specs.declared.sight.Moment.TheVariants.{Now};
-ghost use Rattle.slice.specs.declared.predicate.Predicate.TheVariants.{Range};
+ghost use Rattle.slice.specs.declared.predicate.Predicate.TheVariants.{Names, Range};
+ghost use Rattle.slice.specs.Live.{in_name_order};
 ghost use Rattle.store.specs.Part.{greatest_of};
 ghost use Rattle.store.specs.Sight as sight;
 ghost use Rattle.store.specs.Sight.{AreAskedFor, HaveSameWriters, IsMadeOf, IsPartSeen, laid_over, named, sight_of};
 
+use crate::gathering::{
+    asks_for_few, few_names, gather_all, gather_named, gather_two, turned_names,
+};
 use crate::merging::{merged, newer_seen};
 use crate::part::Part;
 use crate::row::RowChains;
-use crate::sight::{Moment, Seen, asked_columns, seen_in};
+use crate::sight::{Moment, Seen, asked_columns, seen_deletion};
 use crate::walk::walk_until;
 use column_family::{Name, Row};
 use logical_time::{Fault, Time, Writer, Writers};
@@ -29,8 +33,8 @@ use std::alloc::{AllocError, Global};
 use std::collections::HashMap;
 use versions::Version;
 
-// Whether the row's deletion is newer than a version of a column.
-fn is_covered(deletion: Option<&Version>, version: &Version) -> bool
+/// Whether the row's deletion is newer than a version of a column.
+pub(crate) fn is_covered(deletion: Option<&Version>, version: &Version) -> bool
     ensures { result ≡ sight.is_covered (option_copied deletion.entry) version.now }
 {
     match deletion {
@@ -39,8 +43,8 @@ fn is_covered(deletion: Option<&Version>, version: &Version) -> bool
     }
 }
 
-// The column, where it is live.
-fn live_column(deletion: Option<&Version>, seen: &Seen) -> Result<Option<Column>, Fault>
+/// The column, where it is live.
+pub(crate) fn live_column(deletion: Option<&Version>, seen: &Seen) -> Result<Option<Column>, Fault>
     ensures ok { IfOk result (λ column. column ≡ sight.live_of (option_copied deletion.entry) (named seen.now)) }
     ensures memory { IfErr result (λ e. e ≡ fault.Memory) }
 {
@@ -81,8 +85,8 @@ fn live_columns(
     Ok(columns)
 }
 
-// Since when the deletion is seen, or 0 without one.
-fn evt_of_deletion(deletion: Option<&Version>) -> Time
+/// Since when the deletion is seen, or 0 without one.
+pub(crate) fn evt_of_deletion(deletion: Option<&Version>) -> Time
     ensures { result ≡ sight.evt_or_0 (option_copied deletion.entry) }
 {
     match deletion {
@@ -433,7 +437,7 @@ fn part_walked(
     ensures ok { IfOk result (IsPartSeen (sight_of Now row.now) (Range [] [] reversed most)) }
     ensures memory { IfErr result (λ e. e ≡ fault.Memory) }
 {
-    let deletion = seen_in(&row.deletions, &Moment::Now);
+    let deletion = seen_deletion(row, &Moment::Now);
     let walk = walk_until(alloc, &row.columns, reversed, most, deletion)?;
     let found = live_columns(alloc, deletion, &walk)?;
     let writers = rested_on(alloc, deletion, &walk)?;
@@ -443,6 +447,47 @@ fn part_walked(
         evt: evt_of_deletion(deletion).max(latest),
         columns,
     })
+}
+
+// What is seen of a row of the columns with these names, which are in order.
+fn part_named(
+    alloc: Global,
+    row: &RowChains,
+    names: &[Name],
+    moment: &Moment,
+) -> Result<Part, Fault>
+    ensures ok { IfOk result (λ part. in_name_order names.now ≡ names.now → IsPartSeen (sight_of moment.now row.now) (Names names.now) part) }
+    ensures memory { IfErr result (λ e. e ≡ fault.Memory) }
+{
+    let deletion = seen_deletion(row, moment);
+    let found = gather_named(alloc, &row.columns, names, moment, deletion)?;
+    found.into_part(alloc)
+}
+
+// What is seen of a row of the columns with these two names, which were listed the other way round.
+fn part_of_two(
+    alloc: Global,
+    row: &RowChains,
+    first: &Name,
+    second: &Name,
+    moment: &Moment,
+) -> Result<Part, Fault>
+    ensures ok { IfOk result (λ part. in_name_order (second.now ∷ first.now ∷ []) ≡ first.now ∷ second.now ∷ [] → IsPartSeen (sight_of moment.now row.now) (Names (second.now ∷ first.now ∷ [])) part) }
+    ensures memory { IfErr result (λ e. e ≡ fault.Memory) }
+{
+    let deletion = seen_deletion(row, moment);
+    let found = gather_two(alloc, &row.columns, first, second, moment, deletion)?;
+    found.into_part(alloc)
+}
+
+// What is seen of a row by a read of all of its columns, which asks for more than there are.
+fn part_whole(alloc: Global, row: &RowChains, moment: &Moment) -> Result<Part, Fault>
+    ensures ok { IfOk result (λ part. (n : ℕ) → length row.now.columns < n → IsPartSeen (sight_of moment.now row.now) (Range [] [] false n) part) }
+    ensures memory { IfErr result (λ e. e ≡ fault.Memory) }
+{
+    let deletion = seen_deletion(row, moment);
+    let found = gather_all(alloc, &row.columns, moment, deletion)?;
+    found.into_part(alloc)
 }
 
 // What is seen of a row.
@@ -456,11 +501,20 @@ fn part_of(
     ensures ok { IfOk result (IsPartSeen (sight_of moment.now row.now) predicate.now) }
     ensures memory { IfErr result (λ e. e ≡ fault.Memory) }
 {
+    if let Some(names) = few_names(predicate) {
+        return part_named(alloc, row, names, moment);
+    }
+    if let Some((first, second)) = turned_names(predicate) {
+        return part_of_two(alloc, row, first, second, moment);
+    }
+    if asks_for_few(predicate, row.columns.len()) {
+        return part_whole(alloc, row, moment);
+    }
     if let Some((reversed, most, latest)) = whole_walk(row, predicate, moment) {
         return part_walked(alloc, row, reversed, most, latest);
     }
     let seen = asked_columns(alloc, row, predicate, moment)?;
-    made_of(alloc, predicate, seen_in(&row.deletions, moment), &seen)
+    made_of(alloc, predicate, seen_deletion(row, moment), &seen)
 }
 
 // What is seen of a row where another is laid over it.
@@ -477,10 +531,7 @@ fn part_over<'s>(
     let below = asked_columns(alloc, row, predicate, moment)?;
     let above = asked_columns(alloc, over, predicate, moment)?;
     let seen = merged(alloc, &below, &above)?;
-    let deletion = newer_seen(
-        seen_in(&row.deletions, moment),
-        seen_in(&over.deletions, moment),
-    );
+    let deletion = newer_seen(seen_deletion(row, moment), seen_deletion(over, moment));
     made_of(alloc, predicate, deletion, &seen)
 }
 

@@ -1,6 +1,7 @@
 //! The chains of a row.
-ghost use Rattle.std.specs.Prelude.{◌≡◌, ◌+◌, ◌≤◌, ◌<◌, ◌⊎◌, [], ℕ, List, Some, None, length, true, false, if◌then◌else◌, OnOk, IfOk, IfErr, IfSome, IsOk, IsSomeAnd, map, slice_get};
+ghost use Rattle.std.specs.Prelude.{◌≡◌, ◌+◌, ◌≤◌, ◌<◌, ◌⊎◌, [], ℕ, List, Some, None, length, true, false, if◌then◌else◌, OnOk, IfOk, IfErr, IfSome, IsOk, IsSomeAnd, map, slice_get, unwrap_or};
 ghost use Rattle.std.specs.List.{list_any};
+ghost use Rattle.std.specs.Option.{option_copied};
 ghost use Rattle.std.specs.Map.{lookup};
 ghost use Rattle.std.specs.Ordering.{is_eq};
 ghost use Rattle.std.specs.Str.{bytes_eq};
@@ -8,38 +9,39 @@ ghost use Rattle.logical_time.specs.declared.fault.Fault.TheVariants as fault;
 ghost use Rattle.versions.specs.Chain.{put_of};
 ghost use Rattle.versions.specs.Newest.{has_stamp};
 ghost use Rattle.store.specs.Crowded as crowded;
-ghost use Rattle.store.specs.Crowded.{holds_more};
+ghost use Rattle.store.specs.Crowded.{comes_to_more, holds_more};
 ghost use Rattle.store.specs.Latest.{IsLatest, IsLatestAfter};
 ghost use Rattle.store.specs.Sight.{evt_or_0};
 ghost use Rattle.store.specs.Kept as kept;
-ghost use Rattle.store.specs.Kept.{Place, chain_of, collected_held, collected_row, column_held, is_of_place, name_cmp, put_all, written};
+ghost use Rattle.store.specs.Kept.{Place, chain_of, collected_held, collected_row, column_held, is_of_place, name_cmp, nothing_held, put_all, written};
 
+use crate::boxed_chain::BoxedChain;
 use crate::origin::Origin;
 use column_family::{Change, Mutation, Name, Row, Value};
 use logical_time::{Fault, Time};
 use std::alloc::Global;
 use std::collections::BTreeMap;
 use std::marker::Model;
-use version_gc::collect;
 use versions::{Chain, Version, What};
 
 /// The chains of a row: one for each of its columns, and one for its deletions.
 #[derive(Drop)]
 pub(crate) struct RowChains {
-    pub(crate) columns: BTreeMap<Name, Chain>,
-    pub(crate) deletions: Chain,
+    pub(crate) columns: BTreeMap<Name, BoxedChain>,
+    // made with the first deletion
+    deletions: Option<BoxedChain>,
     // the greatest EVT of the newest versions of the columns, where it is known
     latest: Option<Time>,
 }
 
 impl Model for RowChains {
-    ghost use Rattle.std.specs.Prelude.{IfSome};
-    ghost use Rattle.store.specs.Kept.{Chains};
+    ghost use Rattle.std.specs.Prelude.{IfSome, unwrap_or};
+    ghost use Rattle.store.specs.Kept.{Chains, nothing_held};
     ghost use Rattle.store.specs.Latest.{IsLatest};
 
     ghost Value = { Chains };
 
-    ghost view = { λ r. record { columns = r.columns.entries; deletions = r.deletions } };
+    ghost view = { λ r. record { columns = r.columns.entries; deletions = unwrap_or r.deletions nothing_held } };
 
     ghost invariant = { λ r. IfSome r.latest (IsLatest r.columns.entries) };
 }
@@ -56,18 +58,6 @@ fn version(origin: &Origin, value: Option<Value>) -> Version
             value,
         },
     }
-}
-
-// Puts a version into a chain, and answers whether the chain holds more than one then.
-#[inline]
-fn put_version(chain: &mut Chain, version: Version) -> bool
-    requires { (0 < chain.old.room) ⊎ (has_stamp chain.old.versions version.stamp ≡ true) }
-    ensures versions { chain.new.versions ≡ put_of chain.old.versions version }
-    ensures room { chain.old.room ≤ chain.new.room + 1 }
-    ensures more { result ≡ holds_more chain.new }
-{
-    chain.put(version).unwrap();
-    chain.len() > 1
 }
 
 // The EVT of the newest version of a chain, or 0 without one.
@@ -96,11 +86,11 @@ fn latest_after(latest: Option<Time>, before: Time, after: Time) -> Option<Time>
     }
 }
 
-// Puts a version into the chain of a column, and answers whether the chain holds more than one then. Keeps the latest
-// EVT, where it is known.
+// Puts a version into the chain of a column, and answers whether that came to hold more than one. Keeps the latest EVT,
+// where it is known.
 #[inline]
 fn put_column(
-    columns: &mut BTreeMap<Name, Chain>,
+    columns: &mut BTreeMap<Name, BoxedChain>,
     latest: &mut Option<Time>,
     name: &Name,
     version: Version,
@@ -108,14 +98,14 @@ fn put_column(
     requires { (0 < (column_held columns.old.entries name.now).room) ⊎ (has_stamp (column_held columns.old.entries name.now).versions version.stamp ≡ true) }
     ensures versions { (n : List ℕ) → (column_held columns.new.entries n).versions ≡ (if bytes_eq name.now n then put_of (column_held columns.old.entries n).versions version else (column_held columns.old.entries n).versions) }
     ensures room { (n : List ℕ) → (column_held columns.old.entries n).room ≤ (column_held columns.new.entries n).room + (if bytes_eq name.now n then 1 else 0) }
-    ensures more { result ≡ holds_more (column_held columns.new.entries name.now) }
+    ensures more { result ≡ comes_to_more (column_held columns.old.entries name.now) (column_held columns.new.entries name.now) }
     ensures latest { IfSome latest.old (IsLatest columns.old.entries) → IfSome latest.new (IsLatest columns.new.entries) }
 {
     match columns.get_mut(name) {
         Some(chain) => {
-            let before = newest_evt(chain);
-            let more = put_version(chain, version);
-            *latest = latest_after(*latest, before, newest_evt(chain));
+            let before = newest_evt(chain.as_chain());
+            let more = chain.put(version);
+            *latest = latest_after(*latest, before, newest_evt(chain.as_chain()));
             more
         }
         None => false,
@@ -123,15 +113,18 @@ fn put_column(
 }
 
 // Gives a row a column with room for one version.
-fn add_column(alloc: Global, columns: &mut BTreeMap<Name, Chain>, name: &Name) -> Result<(), Fault>
+fn add_column(
+    alloc: Global,
+    columns: &mut BTreeMap<Name, BoxedChain>,
+    name: &Name,
+) -> Result<(), Fault>
     requires { lookup (λ k. is_eq (name_cmp name.now k)) columns.old.entries ≡ None }
     ensures versions { (n : List ℕ) → (column_held columns.new.entries n).versions ≡ (column_held columns.old.entries n).versions }
     ensures room { (n : List ℕ) → (column_held columns.old.entries n).room ≤ (column_held columns.new.entries n).room }
     ensures ok { OnOk result (0 < (column_held columns.new.entries name.now).room) }
     ensures memory { IfErr result (λ e. e ≡ fault.Memory) }
 {
-    let mut chain = Chain::new(alloc);
-    chain.reserve(1)?;
+    let chain = BoxedChain::new(alloc)?;
     columns.insert(name.clone()?, chain)?;
     Ok(())
 }
@@ -139,7 +132,7 @@ fn add_column(alloc: Global, columns: &mut BTreeMap<Name, Chain>, name: &Name) -
 // Makes room for one more version of a column.
 fn reserve_column(
     alloc: Global,
-    columns: &mut BTreeMap<Name, Chain>,
+    columns: &mut BTreeMap<Name, BoxedChain>,
     name: &Name,
 ) -> Result<(), Fault>
     ensures versions { (n : List ℕ) → (column_held columns.new.entries n).versions ≡ (column_held columns.old.entries n).versions }
@@ -149,26 +142,64 @@ fn reserve_column(
     ensures memory { IfErr result (λ e. e ≡ fault.Memory) }
 {
     match columns.get_mut(name) {
-        Some(chain) => chain.reserve(1),
+        Some(chain) => chain.reserve(),
         None => add_column(alloc, columns, name),
     }
 }
 
 // Drops what can't be seen from the time on of each column.
-fn collect_columns(columns: &mut BTreeMap<Name, Chain>, time: Time)
+fn collect_columns(columns: &mut BTreeMap<Name, BoxedChain>, time: Time)
     ensures { columns.new.entries ≡ map (λ e. (e.0, collected_held time e.1)) columns.old.entries }
 {
     columns.retain(|_, chain| {
-        collect(chain, time);
+        chain.collect(time);
         true
     });
 }
 
 // Whether the chain of a column holds more than one version.
-fn is_crowded_in(columns: &BTreeMap<Name, Chain>) -> bool
+fn is_crowded_in(columns: &BTreeMap<Name, BoxedChain>) -> bool
     ensures { result ≡ list_any holds_more (map (λ e. e.1) columns.now.entries) }
 {
-    columns.values().any(|chain| chain.len() > 1)
+    columns.values().any(|chain| chain.as_chain().len() > 1)
+}
+
+// Puts a version into the chain of the deletions, and answers whether that came to hold more than one.
+#[inline]
+fn put_deletion(deletions: &mut Option<BoxedChain>, version: Version) -> bool
+    requires { (0 < (unwrap_or deletions.old nothing_held).room) ⊎ (has_stamp (unwrap_or deletions.old nothing_held).versions version.stamp ≡ true) }
+    ensures versions { (unwrap_or deletions.new nothing_held).versions ≡ put_of (unwrap_or deletions.old nothing_held).versions version }
+    ensures room { (unwrap_or deletions.old nothing_held).room ≤ (unwrap_or deletions.new nothing_held).room + 1 }
+    ensures more { result ≡ comes_to_more (unwrap_or deletions.old nothing_held) (unwrap_or deletions.new nothing_held) }
+{
+    match deletions {
+        Some(chain) => chain.put(version),
+        None => unreachable!(),
+    }
+}
+
+// Makes room for one more deletion.
+fn reserve_deletion(alloc: Global, deletions: &mut Option<BoxedChain>) -> Result<(), Fault>
+    ensures versions { (unwrap_or deletions.new nothing_held).versions ≡ (unwrap_or deletions.old nothing_held).versions }
+    ensures room { (unwrap_or deletions.old nothing_held).room ≤ (unwrap_or deletions.new nothing_held).room }
+    ensures ok { OnOk result (0 < (unwrap_or deletions.new nothing_held).room) }
+    ensures succeeds { 0 < (unwrap_or deletions.old nothing_held).room → IsOk result }
+    ensures memory { IfErr result (λ e. e ≡ fault.Memory) }
+{
+    if let Some(chain) = deletions {
+        return chain.reserve();
+    }
+    *deletions = Some(BoxedChain::new(alloc)?);
+    Ok(())
+}
+
+// Drops what can't be seen from the time on of the deletions.
+fn collect_deletions(deletions: &mut Option<BoxedChain>, time: Time)
+    ensures { unwrap_or deletions.new nothing_held ≡ collected_held time (unwrap_or deletions.old nothing_held) }
+{
+    if let Some(chain) = deletions {
+        chain.collect(time);
+    }
 }
 
 impl RowChains {
@@ -179,19 +210,19 @@ impl RowChains {
     {
         RowChains {
             columns: BTreeMap::new(alloc),
-            deletions: Chain::new(alloc),
+            deletions: None,
             latest: Some(Time::zero()),
         }
     }
 
-    /// Puts what a mutation leaves into the chain of its place, and answers whether that holds more than one version
-    /// then.
+    /// Puts what a mutation leaves into the chain of its place, and answers whether that came to hold more than one
+    /// version.
     #[inline]
     pub(crate) fn put(&mut self, mutation: Mutation, origin: &Origin) -> bool
         requires { (p : Place) → is_of_place p mutation ≡ true → (0 < (chain_of self.old p).room) ⊎ (has_stamp (chain_of self.old p).versions origin.now.stamp ≡ true) }
         ensures versions { (p : Place) → (chain_of self.new p).versions ≡ (if is_of_place p mutation then put_of (chain_of self.old p).versions (kept.version_of origin.now mutation) else (chain_of self.old p).versions) }
         ensures room { (p : Place) → (chain_of self.old p).room ≤ (chain_of self.new p).room + (if is_of_place p mutation then 1 else 0) }
-        ensures more { result ≡ false → (p : Place) → is_of_place p mutation ≡ true → length (chain_of self.new p).versions ≤ 1 }
+        ensures more { result ≡ false → (p : Place) → is_of_place p mutation ≡ true → length (chain_of self.old p).versions ≤ 1 → length (chain_of self.new p).versions ≤ 1 }
     {
         match mutation {
             Mutation::Insert { name, value } => put_column(
@@ -206,7 +237,7 @@ impl RowChains {
                 &name,
                 version(origin, None),
             ),
-            Mutation::DeleteRow => put_version(&mut self.deletions, version(origin, None)),
+            Mutation::DeleteRow => put_deletion(&mut self.deletions, version(origin, None)),
             Mutation::DeleteRange { .. } => false,
         }
     }
@@ -219,11 +250,22 @@ impl RowChains {
         self.latest
     }
 
+    /// The chain of the deletions, if there was one.
+    #[inline]
+    pub(crate) fn deletions(&self) -> Option<&Chain>
+        ensures { unwrap_or (option_copied result) nothing_held ≡ self.now.deletions }
+    {
+        match &self.deletions {
+            Some(chain) => Some(chain.as_chain()),
+            None => None,
+        }
+    }
+
     /// Whether a chain holds more than one version. Linear in the columns.
     pub(crate) fn is_crowded(&self) -> bool
         ensures { result ≡ crowded.is_crowded self.now }
     {
-        is_crowded_in(&self.columns) || self.deletions.len() > 1
+        is_crowded_in(&self.columns) || self.deletions().is_some_and(|chain| chain.len() > 1)
     }
 
     /// Drops the versions that are the newest of their chain at no time from this one on. Linear in the versions.
@@ -231,7 +273,7 @@ impl RowChains {
         ensures { self.new ≡ collected_row time self.old }
     {
         collect_columns(&mut self.columns, time);
-        collect(&mut self.deletions, time);
+        collect_deletions(&mut self.deletions, time);
     }
 
     /// Makes room for what a mutation leaves.
@@ -249,7 +291,7 @@ impl RowChains {
                 &mut self.columns,
                 name,
             ),
-            Mutation::DeleteRow => self.deletions.reserve(1),
+            Mutation::DeleteRow => reserve_deletion(alloc, &mut self.deletions),
             Mutation::DeleteRange { .. } => Ok(()),
         }
     }

@@ -20,8 +20,8 @@ use logical_time::{Fault, Time};
 use std::alloc::Global;
 use std::collections::HashMap;
 
-// Puts what a mutation of a row leaves into the chain of its place, and answers whether that holds more than one
-// version then.
+// Puts what a mutation of a row leaves into the chain of its place, and answers whether that came to hold more than one
+// version.
 fn put_mutation(
     rows: &mut HashMap<Row, RowChains>,
     row: &Row,
@@ -31,7 +31,7 @@ fn put_mutation(
     requires { (p : Place) → is_of_place p mutation ≡ true → (0 < (chain_at rows.old.entries row.now p).room) ⊎ (has_stamp (chain_at rows.old.entries row.now p).versions origin.now.stamp ≡ true) }
     ensures versions { (r : Row) (p : Place) → (chain_at rows.new.entries r p).versions ≡ (if is_same_row r row.now && is_of_place p mutation then put_of (chain_at rows.old.entries r p).versions (kept.version_of origin.now mutation) else (chain_at rows.old.entries r p).versions) }
     ensures room { (r : Row) (p : Place) → (chain_at rows.old.entries r p).room ≤ (chain_at rows.new.entries r p).room + (if is_same_row r row.now && is_of_place p mutation then 1 else 0) }
-    ensures more { result ≡ false → (p : Place) → is_of_place p mutation ≡ true → length (chain_at rows.new.entries row.now p).versions ≤ 1 }
+    ensures more { result ≡ false → (p : Place) → is_of_place p mutation ≡ true → length (chain_at rows.old.entries row.now p).versions ≤ 1 → length (chain_at rows.new.entries row.now p).versions ≤ 1 }
 {
     match rows.get_mut(row) {
         Some(held) => held.put(mutation, origin),
@@ -39,7 +39,8 @@ fn put_mutation(
     }
 }
 
-// Puts what a change leaves into the chain of its place, and lists its row if it is crowded then.
+// Puts what a change leaves into the chain of its place, and lists its row if that came to hold more than one version: a
+// row of which a chain held more before is listed.
 fn put_change(
     rows: &mut HashMap<Row, RowChains>,
     crowded: &mut Crowded,

@@ -10,6 +10,7 @@ ghost use Rattle.store.specs.Kept.{name_cmp};
 ghost use Rattle.store.specs.Sight as sight;
 ghost use Rattle.store.specs.Sight.{AreSeen, named, sight_of};
 
+use crate::boxed_chain::BoxedChain;
 use crate::row::RowChains;
 use column_family::Name;
 use logical_time::{Fault, Time};
@@ -47,6 +48,15 @@ pub(crate) fn seen_in<'c>(chain: &'c Chain, moment: &Moment) -> Option<&'c Versi
     }
 }
 
+/// The deletion that is seen of a row.
+#[inline]
+pub(crate) fn seen_deletion<'r>(row: &'r RowChains, moment: &Moment) -> Option<&'r Version>
+    ensures { option_copied result ≡ sight.seen_in moment.now row.now.deletions.versions }
+{
+    let chain = row.deletions()?;
+    seen_in(chain, moment)
+}
+
 /// The column, if a version of it is seen.
 pub(crate) fn seen_column<'s>(name: &'s Name, chain: &'s Chain, moment: &Moment) -> Option<Seen<'s>>
     ensures { option_map named result ≡ sight.seen_entry moment.now (name.now, chain.now) }
@@ -55,23 +65,23 @@ pub(crate) fn seen_column<'s>(name: &'s Name, chain: &'s Chain, moment: &Moment)
     Some(Seen { name, version })
 }
 
-// The column of this name, if a version of it is seen.
+/// The column of this name, if a version of it is seen.
 #[inline]
-fn seen_named<'s>(
-    columns: &'s BTreeMap<Name, Chain>,
+pub(crate) fn seen_named<'s>(
+    columns: &'s BTreeMap<Name, BoxedChain>,
     name: &Name,
     moment: &Moment,
 ) -> Option<Seen<'s>>
     ensures { option_map named result ≡ sight.seen_at moment.now columns.now.entries name.now }
 {
     let (name, chain) = columns.get_key_value(name)?;
-    seen_column(name, chain, moment)
+    seen_column(name, chain.as_chain(), moment)
 }
 
 // The columns with these names of which a version is seen, in name order.
 fn seen_among<'s>(
     alloc: Global,
-    columns: &'s BTreeMap<Name, Chain>,
+    columns: &'s BTreeMap<Name, BoxedChain>,
     names: &BTreeSet<Name>,
     moment: &Moment,
 ) -> Result<Vec<Seen<'s>>, AllocError>
@@ -89,7 +99,7 @@ fn seen_among<'s>(
 // The columns with these names of which a version is seen, in the order of the names.
 fn seen_listed<'s>(
     alloc: Global,
-    columns: &'s BTreeMap<Name, Chain>,
+    columns: &'s BTreeMap<Name, BoxedChain>,
     names: &[Name],
     moment: &Moment,
 ) -> Result<Vec<Seen<'s>>, AllocError>
@@ -109,7 +119,7 @@ fn seen_listed<'s>(
 // The columns with the names of a list of which a version is seen, in name order.
 fn seen_by_names<'s>(
     alloc: Global,
-    columns: &'s BTreeMap<Name, Chain>,
+    columns: &'s BTreeMap<Name, BoxedChain>,
     names: &[Name],
     moment: &Moment,
 ) -> Result<Vec<Seen<'s>>, Fault>
@@ -143,7 +153,7 @@ fn bound_of(end: &Name) -> Bound<&Name>
 }
 
 // How many columns a list has room for at first that holds those between these ends: all where both are open.
-fn most_between(columns: &BTreeMap<Name, Chain>, low: &Name, high: &Name) -> usize {
+fn most_between(columns: &BTreeMap<Name, BoxedChain>, low: &Name, high: &Name) -> usize {
     if low.as_slice().is_empty() && high.as_slice().is_empty() {
         columns.len()
     } else {
@@ -154,7 +164,7 @@ fn most_between(columns: &BTreeMap<Name, Chain>, low: &Name, high: &Name) -> usi
 // The columns between these ends of which a version is seen, in name order.
 fn seen_between<'s>(
     alloc: Global,
-    columns: &'s BTreeMap<Name, Chain>,
+    columns: &'s BTreeMap<Name, BoxedChain>,
     low: &Name,
     high: &Name,
     moment: &Moment,
@@ -167,7 +177,7 @@ fn seen_between<'s>(
         return Ok(seen);
     }
     for (name, chain) in columns.range((bound_of(low), bound_of(high))) {
-        if let Some(one) = seen_column(name, chain, moment) {
+        if let Some(one) = seen_column(name, chain.as_chain(), moment) {
             seen.push(one)?;
         }
     }

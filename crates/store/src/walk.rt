@@ -8,17 +8,21 @@ ghost use Rattle.store.specs.Kept.{name_cmp};
 ghost use Rattle.store.specs.Sight.{named};
 ghost use Rattle.store.specs.Walk.{seen_until};
 
+use crate::boxed_chain::BoxedChain;
 use crate::reading::is_live;
 use crate::sight::{Moment, Seen, seen_column};
 use column_family::Name;
 use std::alloc::{AllocError, Global};
 use std::collections::BTreeMap;
 use std::collections::btree_map::Iter;
-use versions::{Chain, Version};
+use versions::Version;
 
 // The next column of a walk, from the start or, reversed, from the end.
 #[inline]
-fn next_of<'s>(columns: &mut Iter<'s, Name, Chain>, reversed: bool) -> Option<(&'s Name, &'s Chain)>
+fn next_of<'s>(
+    columns: &mut Iter<'s, Name, BoxedChain>,
+    reversed: bool,
+) -> Option<(&'s Name, &'s BoxedChain)>
     ensures { MatchOption result (walked reversed columns.old ≡ []) (λ e. walked reversed columns.old ≡ (e.0.now, e.1.now) ∷ walked reversed columns.new) }
 {
     if reversed {
@@ -34,12 +38,12 @@ fn walk_past<'s>(
     wanted: usize,
     deletion: Option<&Version>,
     name: &'s Name,
-    chain: &'s Chain,
+    chain: &'s BoxedChain,
 ) -> Result<usize, AllocError>
     requires { 0 < wanted }
     ensures { IfOk result (λ more. (rest : List (List ℕ × Held)) → map named walk.new.items ++ seen_until (option_copied deletion.entry) more rest ≡ map named walk.old.items ++ seen_until (option_copied deletion.entry) wanted ((name.now, chain.now) ∷ rest)) }
 {
-    if let Some(one) = seen_column(name, chain, &Moment::Now) {
+    if let Some(one) = seen_column(name, chain.as_chain(), &Moment::Now) {
         walk.push(one)?;
         if is_live(deletion, &one) {
             return Ok(wanted - 1);
@@ -52,7 +56,7 @@ fn walk_past<'s>(
 /// so many are live. Linear in these and the columns between them of which none is seen.
 pub(crate) fn walk_until<'s>(
     alloc: Global,
-    columns: &'s BTreeMap<Name, Chain>,
+    columns: &'s BTreeMap<Name, BoxedChain>,
     reversed: bool,
     most: usize,
     deletion: Option<&Version>,

@@ -1,12 +1,11 @@
 -- One actor of a list does its step.
-use Rattle.std.proofs.Common.{append-nil, arith, ◌≡◌, ◌∙◌, ℕ, zero, suc, ◌<◌, List, [], ◌∷◌, ◌++◌, length, slice_get, Option, None, Some, Result, Ok, Err, refl, sym, ap, subst}
-use Rattle.std.specs.Prelude.{slice_set, slice_index_or, unwrap_or, OnOk, OnErr, IfErr}
+use Rattle.std.proofs.Common.{arith, ◌≡◌, ◌∙◌, ℕ, zero, suc, ◌<◌, List, [], ◌∷◌, length, slice_get, Some, Result, Ok, Err, refl, sym, ap, subst}
+use Rattle.std.specs.Prelude.{slice_set, slice_index_or, OnOk, OnErr, IfErr}
 use Rattle.std.proofs.lemmas.Option.{slice_get-get_or}
 use Rattle.logical_time.specs.declared.fault.Fault.{Fault}
 use Rattle.messages.specs.declared.envelope.Envelope.{Envelope}
 use Rattle.messages.specs.Topology.{TopologyValue}
 use Rattle.messages.specs.Shard.{ShardState, ShardStep}
-use Rattle.messages.specs.ShardEvents.{shard_handle}
 use Rattle.shard.specs.declared.kept.Kept.{Kept}
 use Rattle.shard.specs.Kept as shard
 use Rattle.messages.specs.Session.{SessionState, SessionStep}
@@ -35,12 +34,6 @@ shard_did top states xs place l (Ok s) before after lt are apart did =
     let d = did apart in
     (shards_go_on top states xs place l s.state are lt d.state, d.sends)
 
--- what another stood in the place of is put back there
-pub put_back : {X : Type 0} (xs ys : List X) (n : ℕ) (x y : X) → slice_get xs n ≡ Some x → slice_set (slice_set xs n y ++ ys) n x ≡ xs ++ ys
-put_back {X} [] ys n x y there = absurd (let e : None ≡ Some x = there in cc)
-put_back {X} (z ∷ xs) ys zero x y there = ap (λ (w : X). w ∷ xs ++ ys) (let e : Some z ≡ Some x = there in let f : x ≡ z = cc in f)
-put_back {X} (z ∷ xs) ys (suc n) x y there = ap (λ (ws : List X). z ∷ ws) (put_back xs ys n x y there)
-
 pub on_ok : {X E : Type 0} {P Q : Type 0} (r : Result X E) → (P → Q) → OnOk r P → OnOk r Q
 on_ok (Ok x) f p = f p
 on_ok (Err e) f p = p
@@ -49,53 +42,11 @@ pub on_err : {X E : Type 0} {P Q : Type 0} (r : Result X E) → (P → Q) → On
 on_err (Ok x) f p = p
 on_err (Err e) f p = f p
 
-one_found : (o : Option Envelope) (d e : Envelope) → o ≡ Some d → o ≡ Some e → d ≡ e
-one_found o d e f g = cc
-
-did_back : (top : TopologyValue) (states : ℕ → ShardState) (place : ℕ) (r : Result ShardStep Fault) (kept : List Kept) (before after : List Envelope) (n : ℕ) (e blank : Envelope)
-    → slice_get before n ≡ Some e → DidShard top states place r kept (slice_set before n blank) after → DidShard top states place r kept before (slice_set after n e)
-did_back top states place (Err f) kept before after n e blank there did = did
-did_back top states place (Ok s) kept before after n e blank there did =
-    (did.0, ap (λ (es : List Envelope). slice_set es n e) did.1 ∙ put_back before s.sends n e blank there)
-
--- A shard does its step in the list, where another envelope stood in the place of the one that it heard.
-module _ {T E : Type 0} (result : Result T E) (top : TopologyValue) (states : ℕ → ShardState) (xs : List Kept) (place : ℕ) (k l : Kept) (before mid after final : List Envelope) (n : ℕ) (heard blank : Envelope)
-    (lt : place < length xs) (at : k ≡ slice_index_or xs place k) (there : slice_get before n ≡ Some heard) (put : mid ≡ slice_set before n blank) (back : final ≡ slice_set after n heard) where
-  pub did_hear : ((a : ShardState) → shard.Represents top place k a → OnOk result (shard.IsStepOf top place (shard_handle top place a heard) l mid after))
-      → (e : Envelope) → slice_get before n ≡ Some e → AreShards top states xs → StaysApart (shard_handle top place (states place) e)
-      → OnOk result (DidShard top states place (shard_handle top place (states place) e) (slice_set xs place l) before final)
-  did_hear steps e found are =
-      subst (λ (x : Envelope). StaysApart (shard_handle top place (states place) x) → OnOk result (DidShard top states place (shard_handle top place (states place) x) (slice_set xs place l) before final))
-      (one_found (slice_get before n) heard e there found)
-      (λ apart. on_ok result
-      (λ step. subst (λ (es : List Envelope). DidShard top states place (shard_handle top place (states place) heard) (slice_set xs place l) before es) (sym back)
-      (did_back top states place (shard_handle top place (states place) heard) (slice_set xs place l) before after n heard blank there
-      (shard_did top states xs place l (shard_handle top place (states place) heard) (slice_set before n blank) after lt are apart
-      (subst (λ (es : List Envelope). shard.IsStepOf top place (shard_handle top place (states place) heard) l es after) put step))))
-      (steps (states place) (shard_stands top states xs place k lt at are)))
-
--- nothing was sent
-pub unsent_back : {T E : Type 0} (result : Result T E) (before mid after final : List Envelope) (n : ℕ) (heard blank : Envelope)
-    → slice_get before n ≡ Some heard → mid ≡ slice_set before n blank → final ≡ slice_set after n heard → OnErr result (after ≡ mid) → OnErr result (final ≡ before)
-unsent_back result before mid after final n heard blank there put back = on_err result (λ same.
-    back ∙ ap (λ (es : List Envelope). slice_set es n heard) (same ∙ put ∙ sym (append-nil (slice_set before n blank))) ∙ put_back before [] n heard blank there ∙ append-nil before)
-
 -- something stands at a place of a list
 pub at_place : {X : Type 0} (xs : List X) (n : ℕ) → n < length xs → (x : X) × (slice_get xs n ≡ Some x)
 at_place [] n lt = absurd (omega (arith, lt))
 at_place (x ∷ xs) zero lt = (x, refl)
 at_place (x ∷ xs) (suc n) lt = at_place xs n (omega (arith, lt))
-
--- what is exchanged stood there
-pub stood : {X : Type 0} (xs : List X) (n : ℕ) (x y : X) → n < length xs → x ≡ unwrap_or (slice_get xs n) y → slice_get xs n ≡ Some x
-stood {X} xs n x y lt is = let there = at_place xs n lt in there.1 ∙ ap Some (sym (is ∙ ap (λ (o : Option X). unwrap_or o y) there.1))
-
--- what is refused of the one is of the other, which is the same
-pub refused_alike : {T : Type 0} (result : Result T Fault) (top : TopologyValue) (place n : ℕ) (a : ShardState) (before : List Envelope) (heard e : Envelope) → slice_get before n ≡ Some heard → slice_get before n ≡ Some e
-    → IfErr result (λ f. shard.IsRefusalOf (shard_handle top place a heard) f) → IfErr result (λ f. shard.IsRefusalOf (shard_handle top place a e) f)
-refused_alike result top place n a before heard e there found =
-    subst (λ (x : Envelope). IfErr result (λ f. shard.IsRefusalOf (shard_handle top place a heard) f) → IfErr result (λ f. shard.IsRefusalOf (shard_handle top place a x) f))
-    (one_found (slice_get before n) heard e there found) (λ h. h)
 
 -- a shard that goes on to stand for what it stood for is one of them still
 pub shard_still : (top : TopologyValue) (states : ℕ → ShardState) (xs : List Kept) (place : ℕ) (k l : Kept) → place < length xs → k ≡ slice_index_or xs place k

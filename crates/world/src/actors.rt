@@ -15,10 +15,9 @@ ghost use Rattle.world.specs.Steps.{StaysApart, DidShard};
 
 use crate::completed::Completed;
 use crate::station::Station;
-use logical_time::{Clock, Fault, Node, Time, TxnId};
-use messages::{Body, Envelope, Op, Outbox, Topology};
+use logical_time::{Clock, Fault, Node, Time};
+use messages::{Envelope, Op, Outbox, Topology};
 use shard::Shard;
-use std::mem;
 
 /// The actors of a topology, all that they sent and what ended.
 pub struct Actors {
@@ -32,22 +31,6 @@ pub struct Actors {
     pub network: Outbox,
     /// The operations that ended, in order.
     pub transcript: Vec<Completed>,
-}
-
-/// What stands in the network in the place of a message that is being handled.
-fn blank() -> Envelope {
-    let node = Node::new(0);
-    Envelope {
-        from: node,
-        to: node,
-        time: Time::zero(),
-        body: Body::Yes {
-            txn: TxnId {
-                session: node,
-                number: 0,
-            },
-        },
-    }
 }
 
 /// A shard handles the message of this number, which stays in the network. Refused as the shard refuses it; then all stand
@@ -67,11 +50,7 @@ fn hand_over(
     ensures same { (top : TopologyValue) (states : ℕ → ShardState) → AreShards top states shards.old.items → OnErr result (AreShards top states shards.new.items) }
     ensures unsent { OnErr result (network.new.sent ≡ network.old.sent) }
 {
-    let envelope = network.exchange(number, blank());
-    let heard = shards[place].hear(&envelope, network);
-    // what stood in its place holds no memory
-    mem::forget(network.exchange(number, envelope));
-    heard
+    shards[place].hear_at(number, network)
 }
 
 /// A shard collects up to a time. Refused as the shard refuses it; then all stand for what they stood for.

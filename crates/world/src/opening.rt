@@ -132,6 +132,14 @@ pub fn close_shards(mut shards: Vec<Shard>) {
     shards.destroy_empty();
 }
 
+/// Ends the shards for a program that ends with them.
+pub fn leave_shards(mut shards: Vec<Shard>) {
+    while let Some(shard) = shards.pop() {
+        shard.leave();
+    }
+    shards.destroy_empty();
+}
+
 /// Ends the sessions.
 pub fn close_stations(mut stations: Vec<Station>) {
     while let Some(station) = stations.pop() {

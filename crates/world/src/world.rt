@@ -18,7 +18,7 @@ use crate::actors::Actors;
 use crate::completed::Completed;
 use crate::history::history;
 use crate::log::Log;
-use crate::opening::{close_shards, close_stations, open_actors};
+use crate::opening::{close_shards, close_stations, leave_shards, open_actors};
 use logical_time::{Fault, Node, Time};
 use messages::{Envelope, Op, Topology};
 use std::alloc::Global;
@@ -237,8 +237,8 @@ impl World {
         close_stations(stations);
     }
 
-    /// The same for a program that ends with it: the memory of its events, its messages and its transcript is given back with
-    /// that of the process.
+    /// The same for a program that ends with it: the memory of its events, its messages, its transcript and the rows of its
+    /// shards is given back with that of the process.
     pub fn leave(self) {
         let World { actors, log } = self;
         let Actors {
@@ -251,7 +251,7 @@ impl World {
         mem::forget(log);
         mem::forget(network);
         mem::forget(transcript);
-        close_shards(shards);
+        leave_shards(shards);
         close_stations(stations);
     }
 }

@@ -30,6 +30,7 @@ use messages::Outbox;
 use pending::Marks;
 use std::alloc::Global;
 use std::marker::Model;
+use std::mem;
 use store::Store;
 use txn_state::{Complete, WritePart};
 
@@ -328,6 +329,20 @@ impl Transactions {
             store: _,
             early: _,
         } = self;
+        ledger.close();
+    }
+
+    /// The same for a program that ends with it: the memory of the store and of the marks is given back with that of the
+    /// process.
+    pub fn leave(self) {
+        let Transactions {
+            ledger,
+            marks,
+            store,
+            early: _,
+        } = self;
+        mem::forget(marks);
+        mem::forget(store);
         ledger.close();
     }
 }

@@ -23,11 +23,11 @@ returns-clause-ok c =
     ∙ ap (λ (ss : List Seen). merged (map named ss) (map named c.deref-2.result.now)) c.deref.ensures.value
     ∙ ap (λ (ss : List Seen). merged below (map named ss)) c.deref-2.ensures.value in
     let d = option_copied c.newer_seen-deletion.result in
-    let one : option_copied c.seen_in.result ≡ f None = search rules in
-    let other : option_copied c.seen_in-2.result ≡ g None = search rules in
+    let one : option_copied c.seen_deletion.result ≡ f None = search rules in
+    let other : option_copied c.seen_deletion-2.result ≡ g None = search rules in
     let deletion : d ≡ laid_over f g None =
     c.newer_seen-deletion.ensures
-    ∙ ap (λ (o : Option Version). newer_seen o (option_copied c.seen_in-2.result)) one
+    ∙ ap (λ (o : Option Version). newer_seen o (option_copied c.seen_deletion-2.result)) one
     ∙ ap (newer_seen (f None)) other in
     if_ok c.made_of.result
     (λ part made. made_seen (laid_over f g) p part seen d (merged_seen f g p below above seen c.in_ok-below.ensures.ok c.in_ok-above.ensures.ok is) deletion (λ sorted. made (subst (IsStrictlySortedBy name_cmp) (map_of_map (λ (s : NamedVersion). s.0) named c.in_ok-seen.seen.items) sorted)))

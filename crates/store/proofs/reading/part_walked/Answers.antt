@@ -14,12 +14,12 @@ use Rattle.store.proofs.reading.part_walked.Goals as goal
 
 pub returns-clause-ok : goal.returns-clause-ok
 returns-clause-ok c =
-    let d = option_copied c.seen_in-deletion.result in
+    let d = option_copied c.seen_deletion-deletion.result in
     let row = c.args.row.now in
     let walk = c.in_ok-walk.walk.items in
     let rest = option_to_list (option_map (λ (v : Version). v.what.writer) d) in
     let columns : c.row.inside.columns.entries ≡ row.columns = ap (λ (r : Chains). r.columns) c.row.view_is in
-    let deletion : d ≡ slice_get row.deletions.versions 0 = c.seen_in-deletion.ensures ∙ ap (λ (r : Chains). slice_get r.deletions.versions 0) c.row.view_is in
+    let deletion : d ≡ slice_get row.deletions.versions 0 = c.seen_deletion-deletion.ensures in
     walked_part row c.args.reversed c.args.most c.args.latest (record { columns = c.in_ok-columns.columns; writers = c.in_ok-writers.writers; evt = c.max.result }) walk d
     (subst (λ (es : List (List ℕ × Held)). IsStrictlySortedBy name_cmp (map (λ e. e.0) es)) columns c.in_ok-walk.ensures.ordered)
     deletion

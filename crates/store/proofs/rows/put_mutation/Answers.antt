@@ -1,4 +1,4 @@
-use Rattle.std.proofs.Common.{rules, ◌≡◌, ◌≤◌, ◌+◌, refl, subst, arith}
+use Rattle.std.proofs.Common.{rules, ◌≡◌, ◌≤◌, ◌+◌, refl, subst, length, arith}
 use Rattle.std.specs.Prelude.{if◌then◌else◌, ◌&&◌}
 use Rattle.versions.specs.Chain.{put_of}
 use Rattle.store.specs.Kept.{Place, Chains, chain_of, is_of_place, version_of}
@@ -24,10 +24,11 @@ returns-in-Some-clause-room c =
     each_row (λ b x y. (p : Place) → (chain_of x p).room ≤ (chain_of y p).room + (if b && is_of_place p c.args.mutation then 1 else 0)) c.args.rows.now.entries (c.get_mut.follows.lender c.put.new.self).entries c.args.row.now c.put.new.self (h.3 (search rules)).0 (rw f c.put.ensures.room) (λ x p. omega arith)
 
 pub returns-in-Some-clause-more : goal.returns-in-Some-clause-more
-returns-in-Some-clause-more c = λ no p at.
+returns-in-Some-clause-more c = λ no p at few.
     let h = c.get_mut.follows.holds c.put.new.self in
+    let was = found_row c.args.rows.now.entries c.args.row.now c.in-Some.held.now (search rules) in
     let held = found_row (c.get_mut.follows.lender c.put.new.self).entries c.args.row.now c.put.new.self (h.3 (search rules)).1 in
-    rw held (c.put.ensures.more no p at)
+    rw held (c.put.ensures.more no p at (subst (λ (row : Chains). length (chain_of row p).versions ≤ 1) was few))
 
 pub returns-in-None-clause-versions : goal.returns-in-None-clause-versions
 returns-in-None-clause-versions c = λ r p.
@@ -36,6 +37,6 @@ returns-in-None-clause-versions c = λ r p.
     rw (same, nowhere c.args.rows.now.entries c.args.row.now c.args.mutation c.args.origin.now.stamp none c.requires r p) refl
 
 pub returns-in-None-clause-more : goal.returns-in-None-clause-more
-returns-in-None-clause-more c = λ no p at.
+returns-in-None-clause-more c = λ no p at few.
     let same : c.get_mut.follows.lender-at-none ≡ c.args.rows.now = search rules in
     rw same (nothing_there c.args.rows.now.entries c.args.row.now (no_row_found c.args.rows.now.entries c.args.row.now (search rules)) p)

@@ -13,7 +13,7 @@ put_column-requires-in-DeleteColumn c =
     let at = at_deletion (IsReady c.args.origin.now.stamp) c.args.self.now c.args.mutation c.in-DeleteColumn.name c.in-DeleteColumn.is c.requires in
     rw c.version-in-DeleteColumn.ensures (subst (λ (row : Chains). IsReady c.args.origin.now.stamp (column_held row.columns c.in-DeleteColumn.name)) (sym c.self.view_is) at)
 
-pub put_version-requires : goal.put_version-requires
-put_version-requires c =
+pub put_deletion-requires : goal.put_deletion-requires
+put_deletion-requires c =
     let at = at_row_deletion (IsReady c.args.origin.now.stamp) c.args.self.now c.args.mutation c.in-DeleteRow.is c.requires in
     rw c.version-in-DeleteRow.ensures (subst (λ (row : Chains). IsReady c.args.origin.now.stamp row.deletions) (sym c.self.view_is) at)

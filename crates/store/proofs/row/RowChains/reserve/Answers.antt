@@ -7,7 +7,7 @@ pub returns-in-DeleteRow-clause-succeeds : goal.returns-in-DeleteRow-clause-succ
 returns-in-DeleteRow-clause-succeeds c = λ room.
     let at = at_row_deletion (λ h. 0 < h.room) c.args.self.now c.args.mutation.now c.in-DeleteRow.is room in
     let here = subst (λ (row : Chains). 0 < row.deletions.room) (sym c.self.view_is) at in
-    c.reserve.ensures.succeeds (omega arith) (omega arith)
+    c.reserve_deletion.ensures.succeeds here
 
 pub returns-in-Insert-clause-succeeds : goal.returns-in-Insert-clause-succeeds
 returns-in-Insert-clause-succeeds c = λ room.

@@ -1,0 +1,22 @@
+use Rattle.std.proofs.Common.{sym, subst}
+use Rattle.std.specs.Prelude.{OnErr}
+use Rattle.shard.specs.declared.kept.Kept.{Kept}
+use Rattle.shard.specs.Kept.{Represents, GoesOn}
+use Rattle.shard.proofs.ShardSteps.{both_ok, if_err, handles, refuses}
+use Rattle.shard.proofs.shard.Shard.hear_at.Goals as goal
+
+pub returns-clause-step : goal.returns-clause-step
+returns-clause-step c = λ top me a e found r.
+    both_ok c.hear_at.result
+    (λ lt does. handles c.self.inside.kept c.hear_at.new.kept e c.args.outbox.now.sent c.hear_at.new.outbox.sent lt does top me a
+    (subst (λ (k : Kept). Represents top me k a) (sym c.self.view_is) r))
+    (c.hear_at.ensures.time e found) (c.hear_at.ensures.step e found)
+
+pub returns-clause-refused : goal.returns-clause-refused
+returns-clause-refused c = λ top me a e found r.
+    if_err c.hear_at.result
+    (λ f spent. refuses c.self.inside.kept e f spent top me a (subst (λ (k : Kept). Represents top me k a) (sym c.self.view_is) r))
+    (c.hear_at.ensures.refused e found)
+
+pub returns-clause-same : goal.returns-clause-same
+returns-clause-same c = subst (λ (k : Kept). OnErr c.hear_at.result (GoesOn k c.hear_at.new.kept)) c.self.view_is c.hear_at.ensures.same

@@ -1,0 +1,27 @@
+use Rattle.std.proofs.Common.{rules, ◌≡◌, ◌∙◌, ap, sym, subst, refl, ℕ, List, [], filter_map}
+use Rattle.std.specs.Option.{option_copied}
+use Rattle.slice.specs.declared.predicate.Predicate.TheVariants.{Names}
+use Rattle.versions.specs.Chain.{Held}
+use Rattle.store.specs.Gathering.{IsLeft}
+use Rattle.store.specs.Kept.{Chains}
+use Rattle.store.specs.Sight.{NamedVersion, seen_at, sight_of}
+use Rattle.store.proofs.Assembled.{if_ok}
+use Rattle.store.proofs.Gatherings.{gathered_part, each_field}
+use Rattle.store.proofs.Sights.{names_seen}
+use Rattle.store.proofs.reading.part_named.Goals as goal
+
+pub returns-clause-ok : goal.returns-clause-ok
+returns-clause-ok c =
+    let m = c.args.moment.now in
+    let row = c.args.row.now in
+    let ns = c.args.names.now in
+    let d = option_copied c.seen_deletion-deletion.result in
+    let columns : c.row.inside.columns.entries ≡ row.columns = ap (λ (r : Chains). r.columns) c.row.view_is in
+    let seen = filter_map (seen_at m row.columns) ns in
+    let left : IsLeft d [] seen c.in_ok-found.found = subst (λ (es : List (List ℕ × Held)). IsLeft d _ (filter_map (seen_at m es) ns) c.in_ok-found.found) columns c.in_ok-found.ensures.ok in
+    each_field c.into_part.result
+    (λ part cs ws o e ordered.
+    gathered_part (sight_of m row) (Names ns) part d seen c.in_ok-found.found
+    (names_seen m row ns seen (ap (filter_map (seen_at m row.columns)) (sym ordered)))
+    c.seen_deletion-deletion.ensures left cs ws o e refl (λ n. refl))
+    c.into_part.ensures.columns c.into_part.ensures.same c.into_part.ensures.in_order c.into_part.ensures.evt
