@@ -18,10 +18,10 @@ use Rattle.shard.specs.Kept as shard
 use Rattle.world.specs.declared.actors.Actors.{Actors}
 use Rattle.world.specs.declared.log.Log.{Log}
 use Rattle.world.specs.declared.written.Written.{Written}
-use Rattle.world.specs.Run.{Run, Event, Submission, run}
+use Rattle.world.specs.Run.{Run, Submission, run}
 use Rattle.world.specs.Histories.{batch_in, IsHistory}
 use Rattle.world.specs.Lookups.{entry_asked}
-use Rattle.world.specs.Asked.{batch_at, write_of, write_at, entry_by, entry_of, entry_at}
+use Rattle.world.specs.Asked.{write_of, write_noted, entry_by, entry_of, entry_at}
 use Rattle.world.specs.Entries.{named_by}
 use Rattle.world.specs.Holds.{AreShards, Holds}
 use Rattle.world.specs.World.{WorldValue, run_of}
@@ -34,15 +34,12 @@ told_is batch None told e = ap (entry_by batch) (sym e)
 told_is batch (Some d) told e = ap (entry_by batch) (sym e)
 
 -- the entry by what the coordinator told
-pub entry_told : (top : TopologyValue) (states : ℕ → ShardState) (dc : ℕ) (events : List Event) (x : Written) (batch : List Change) (told : Option (ℕ × StampValue)) → Some batch ≡ batch_at events x.event
+pub entry_told : (top : TopologyValue) (states : ℕ → ShardState) (dc : ℕ) (x : Written) (batch : List Change) (told : Option (ℕ × StampValue)) → batch ≡ x.batch
     → option_map (λ (d : Decision). (d.commit, d.stamp)) (decision_of x.txn (states (shard_node top dc (coordinator_of top.shards batch)))) ≡ told
-    → entry_by batch told ≡ entry_at top states dc events x
-entry_told top states dc events x batch told is e =
+    → entry_by batch told ≡ entry_at top states dc x
+entry_told top states dc x batch told is e =
     told_is batch (decision_of x.txn (states (shard_node top dc (coordinator_of top.shards batch)))) told e
-    ∙ ap (λ o. option_and_then (entry_of top states dc) (option_map (λ (b : List Change). (x.txn, b)) o)) is
-
-pub none_told : (top : TopologyValue) (states : ℕ → ShardState) (dc : ℕ) (events : List Event) (x : Written) → None ≡ batch_at events x.event → None ≡ entry_at top states dc events x
-none_told top states dc events x is = ap (λ o. option_and_then (entry_of top states dc) (option_map (λ (b : List Change). (x.txn, b)) o)) is
+    ∙ ap (λ (b : List Change). entry_of top states dc (x.txn, b)) is
 
 -- one more write is asked for
 pub one_more_asked : (f : Written → Option Committed) (xs : List Written) (k : ℕ) (x : Written) (h g : List Committed) (o : Option Committed) → slice_get xs k ≡ Some x
@@ -70,15 +67,9 @@ one_more_asked f xs k x h g o at is same added =
     longer (z ∷ ys) (suc j) y e = ap (cons_option (f z)) (longer ys j y e) ∙ onto (f z) (filter_map f (take j ys)) (option_to_list (f y))
 
 -- by what is noted of the writes, or by the submissions
-noted_alike : (f : TxnValue × List Change → Option Committed) (g : Written → Option (TxnValue × List Change)) (xs : List Written) (ys : List (TxnValue × List Change)) → map g xs ≡ map Some ys
-    → filter_map (λ x. option_and_then f (g x)) xs ≡ filter_map f ys
-noted_alike f g [] [] e = refl
-noted_alike f g [] (y ∷ ys) e = absurd (cc)
-noted_alike f g (x ∷ xs) [] e = absurd (cc)
-noted_alike f g (x ∷ xs) (y ∷ ys) e =
-    let head : g x ≡ Some y = cc in
-    let tail : map g xs ≡ map Some ys = cc in
-    ap (λ o. cons_option (option_and_then f o) (filter_map (λ z. option_and_then f (g z)) xs)) head ∙ ap (cons_option (f y)) (noted_alike f g xs ys tail)
+noted_alike : (f : TxnValue × List Change → Option Committed) (xs : List Written) → filter_map (λ x. f (write_noted x)) xs ≡ filter_map f (map write_noted xs)
+noted_alike f [] = refl
+noted_alike f (x ∷ xs) = ap (cons_option (f (write_noted x))) (noted_alike f xs)
 
 asked_alike : (top : TopologyValue) (w : Run) (dc : ℕ) (xs : List Submission) → filter_map (entry_of top w.shards dc) (filter_map write_of xs) ≡ filter_map (entry_asked top w dc) xs
 asked_alike top w dc [] = refl
@@ -91,11 +82,11 @@ asked_alike top w dc (x ∷ xs) =
     first (Some b) rest = refl
 
 pub asked_is_history : (a : Actors) (l : Log) (dc : ℕ) (h : List Committed) → Holds a.topology a l
-    → h ≡ filter_map (entry_at a.topology (run a.topology l.events.items).shards dc l.events.items) l.writes.items → IsHistory a.topology (run a.topology l.events.items) dc h
+    → h ≡ filter_map (entry_at a.topology (run a.topology l.events.items).shards dc) l.writes.items → IsHistory a.topology (run a.topology l.events.items) dc h
 asked_is_history a l dc h holds is =
     let w = run a.topology l.events.items in
     subst (IsHistory a.topology w dc)
-    (sym (is ∙ noted_alike (entry_of a.topology w.shards dc) (write_at l.events.items) l.writes.items (filter_map write_of w.submitted) holds.writes ∙ asked_alike a.topology w dc w.submitted))
+    (sym (is ∙ noted_alike (entry_of a.topology w.shards dc) l.writes.items ∙ ap (filter_map (entry_of a.topology w.shards dc)) holds.writes ∙ asked_alike a.topology w dc w.submitted))
     (histories_are_asked a.topology l.events.items (stands a.topology holds.running.sound).some dc)
 
 -- what the shard at the coordinator's place tells
@@ -109,16 +100,15 @@ decided_there top states home xs batch txn place number k told e are at is there
     ap (λ n. option_map (λ (d : Decision). (d.commit, d.stamp)) (decision_of txn (states n))) node ∙ decides top place (states place) (are.each place k there)
 
 -- what is asked of a world is the history of its run
-pub listed : (v : WorldValue) (a : Actors) (l : Log) (dc : ℕ) (home : HomeValue) (xs : List Kept) (es : List Event) (ws : List Written) (r : Result (List Committed) Fault) → Holds a.topology a l
-    → record { top = a.topology; events = l.events.items } ≡ v → home ≡ record { dc = dc; shards = a.topology.shards } → xs ≡ a.shards.items → es ≡ l.events.items → ws ≡ l.writes.items
-    → ((top : TopologyValue) (states : ℕ → ShardState) → top.shards ≡ home.shards → AreShards top states xs → IfOk r (λ h. h ≡ filter_map (entry_at top states home.dc es) ws))
+pub listed : (v : WorldValue) (a : Actors) (l : Log) (dc : ℕ) (home : HomeValue) (xs : List Kept) (ws : List Written) (r : Result (List Committed) Fault) → Holds a.topology a l
+    → record { top = a.topology; events = l.events.items } ≡ v → home ≡ record { dc = dc; shards = a.topology.shards } → xs ≡ a.shards.items → ws ≡ l.writes.items
+    → ((top : TopologyValue) (states : ℕ → ShardState) → top.shards ≡ home.shards → AreShards top states xs → IfOk r (λ h. h ≡ filter_map (entry_at top states home.dc) ws))
     → IfOk r (λ h. IsHistory v.top (run_of v) dc h)
-listed v a l dc home xs es ws (Err e) holds is at shards events writes asked = tt
-listed v a l dc home xs es ws (Ok h) holds is at shards events writes asked =
+listed v a l dc home xs ws (Err e) holds is at shards writes asked = tt
+listed v a l dc home xs ws (Ok h) holds is at shards writes asked =
     let w = run a.topology l.events.items in
     let q = asked a.topology w.shards (ap (λ (z : HomeValue). z.shards) (sym at)) (subst (AreShards a.topology w.shards) (sym shards) holds.running.shards) in
-    let p = q ∙ ap (λ (z : HomeValue). filter_map (entry_at a.topology w.shards z.dc es) ws) at ∙ ap (λ l. filter_map (entry_at a.topology w.shards dc l) ws) events
-    ∙ ap (filter_map (entry_at a.topology w.shards dc l.events.items)) writes in
+    let p = q ∙ ap (λ (z : HomeValue). filter_map (entry_at a.topology w.shards z.dc) ws) at ∙ ap (filter_map (entry_at a.topology w.shards dc)) writes in
     subst (λ (z : WorldValue). IsHistory z.top (run_of z) dc h) is (asked_is_history a l dc h holds p)
 
 pub room_for : (a : Actors) (l : Log) (dc n shards : ℕ) → Holds a.topology a l → shards ≡ a.topology.shards → dc < a.topology.dcs → n ≡ length a.shards.items → dc * shards + shards ≤ n

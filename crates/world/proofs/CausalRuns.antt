@@ -5,7 +5,6 @@ use Rattle.messages.specs.declared.op.Op.{Op}
 use Rattle.messages.specs.declared.envelope.Envelope.{Envelope}
 use Rattle.messages.specs.Topology.{TopologyValue, is_shard, is_session}
 use Rattle.messages.specs.Clock.{ticked, on_clock}
-use Rattle.messages.specs.Session.{is_idle}
 use Rattle.messages.specs.Submitting.{begun, submit_fault, submit_if as session_submit_if}
 use Rattle.messages.specs.SessionEvents.{heard, session_handle}
 use Rattle.messages.specs.ShardEvents.{handled, shard_handle, collected}

@@ -1,6 +1,6 @@
 -- What a world keeps stands for its run after each event.
 use Rattle.std.proofs.Common.{◌≡◌, ◌∙◌, ℕ, ◌+◌, ◌<◌, ◌≤◌, zero, suc, Bool, true, false, ◌||◌, List, [], ◌∷◌, ◌++◌, map, length, Option, Some, None, inl, inr, refl, sym, ap, subst, arith, eqb-true, eq-eqb, leb-true, ltb-true, slice_get}
-use Rattle.std.specs.Prelude.{◌==◌, filter_map, option_map, option_and_then, option_to_list, find, not, nat_lt, nat_le, ◌↔◌}
+use Rattle.std.specs.Prelude.{◌==◌, filter_map, option_map, option_to_list, find, not, nat_lt, nat_le, ◌↔◌}
 use Rattle.std.specs.List.{list_any, range_with_len, cons_option}
 use Rattle.std.specs.Prelude.{if◌then◌else◌}
 use Rattle.std.proofs.lemmas.Bool.{false≢true, and_parts}
@@ -11,13 +11,11 @@ use Rattle.std.proofs.lemmas.List.Folds.{list_any-append}
 use Rattle.logical_time.specs.declared.fault.Fault.{Fault}
 use Rattle.logical_time.specs.Stamps.{TxnValue}
 use Rattle.column_family.specs.declared.batch.Change.{Change}
-use Rattle.messages.specs.declared.op.Op.TheVariants as op
 use Rattle.messages.specs.Clock.{ticked, on_clock}
 use Rattle.messages.specs.Submitting.{begun, submit_fault, submit_if as submitted_if, session_submit}
 use Rattle.messages.specs.declared.op.Op.{Op}
 use Rattle.messages.specs.declared.envelope.Envelope.{Envelope}
 use Rattle.messages.specs.Topology.{TopologyValue, is_shard, is_session, is_topology, shard_count, node_count}
-use Rattle.messages.specs.Session.{is_idle}
 use Rattle.world.specs.declared.actors.Actors.{Actors}
 use Rattle.world.specs.declared.log.Log.{Log}
 use Rattle.world.specs.declared.written.Written.{Written}
@@ -27,7 +25,7 @@ use Rattle.world.specs.Quiet.{number_delivered, handled, IsQuiet}
 use Rattle.world.specs.Lookups.{first_unhandled}
 use Rattle.world.specs.Delivered.{is_marked, IsFirstUnmarked}
 use Rattle.world.specs.Log.{IsSameLog, written_by}
-use Rattle.world.specs.Asked.{batch_of, write_of, write_at}
+use Rattle.world.specs.Asked.{write_of, write_noted}
 use Rattle.world.specs.Histories.{batch_in}
 use Rattle.world.specs.Holds.{IsRunning, HasTaken, Holds}
 use Rattle.world.specs.World.{WorldValue, Takes, run_of}
@@ -89,9 +87,7 @@ still_holds a b l m h same still top =
       events = subst (λ es. (run a.topology es).events ≡ es) (sym same.events) h.events;
       running = same_running a.topology _ _ b (sym same.events) (still a.topology l.events.items h.running);
       delivered = λ k. same.delivered k ∙ h.delivered k ∙ ap (λ es. list_any (λ j. j == k) (handled (run a.topology es))) (sym same.events);
-      writes =
-          ap (λ ws. map (write_at m.events.items) ws) same.writes ∙ ap (λ es. map (write_at es) l.writes.items) same.events ∙ h.writes
-          ∙ ap (λ es. map Some (filter_map write_of (run a.topology es).submitted)) (sym same.events);
+      writes = ap (map write_noted) same.writes ∙ h.writes ∙ ap (λ es. filter_map write_of (run a.topology es).submitted) (sym same.events);
     })
 
 pub still_logged : (a : Actors) (l m : Log) → Holds a.topology a l → IsSameLog l m → Holds a.topology a m
@@ -101,7 +97,7 @@ still_logged a l m h same = still_holds a a l m h same (λ top events is. is) re
 record Notes (top : TopologyValue) (x : Event) (l m : Log) : Type 0 where
   events : m.events.items ≡ l.events.items ++ x ∷ []
   delivered : (k : ℕ) → is_marked m.delivered.marks k ≡ (is_marked l.delivered.marks k || list_any (λ j. j == k) (filter_map number_delivered (x ∷ [])))
-  writes : map (write_at (l.events.items ++ x ∷ [])) m.writes.items ≡ map Some (filter_map write_of (step top (run top l.events.items) x).submitted)
+  writes : map write_noted m.writes.items ≡ filter_map write_of (step top (run top l.events.items) x).submitted
 
 noted : (a b : Actors) (l m : Log) (x : Event) → Holds a.topology a l → HasTaken a.topology l.events.items x b → Notes a.topology x l m → b.topology ≡ a.topology
     → Holds b.topology b m
@@ -116,8 +112,8 @@ noted a b l m x h taken notes top =
           ∙ sym (was_handled a.topology l.events.items x h.events taken.allowed k)
           ∙ ap (λ es. list_any (λ j. j == k) (handled (run a.topology es))) (sym notes.events);
       writes =
-          ap (λ es. map (write_at es) m.writes.items) notes.events ∙ notes.writes ∙ ap (λ (w : Run). map Some (filter_map write_of w.submitted)) (sym pushed)
-          ∙ ap (λ es. map Some (filter_map write_of (run a.topology es).submitted)) (sym notes.events);
+          notes.writes ∙ ap (λ (w : Run). filter_map write_of w.submitted) (sym pushed)
+          ∙ ap (λ es. filter_map write_of (run a.topology es).submitted) (sym notes.events);
     })
 
 -- the actors took the event, after rooms were made for noting it
@@ -134,33 +130,10 @@ same_submitted top w k = event_cases top w (Deliver k) (λ v. v.submitted ≡ w.
 same_submitted_so : (top : TopologyValue) (w : Run) (node time : ℕ) → (step top w (Collect node time)).submitted ≡ w.submitted
 same_submitted_so top w node time = event_cases top w (Collect node time) (λ v. v.submitted ≡ w.submitted) (record { nothing = refl; handled = λ j e n is sent to. refl; heard = λ j e n is sent other to. refl; begun = λ node o n is to. absurd (let no : Collect _ _ ≡ Submit node o = is in cc); collected = λ node time n is. refl })
 
--- what was noted of the writes stays when an event comes
-get_more : (es more : List Event) (k : ℕ) (e : Event) → slice_get es k ≡ Some e → slice_get (es ++ more) k ≡ Some e
-get_more [] more k e at = absurd (cc)
-get_more (x ∷ es) more zero e at = at
-get_more (x ∷ es) more (suc k) e at = get_more es more k e at
-
-write_stays : (es more : List Event) (x : Written) (y : TxnValue × List Change) → write_at es x ≡ Some y → write_at (es ++ more) x ≡ Some y
-write_stays es more x y at = go (slice_get es x.event) refl (ap (λ o. option_map (λ (b : List Change). (x.txn, b)) (option_and_then batch_of o)) refl ∙ at)
-  where
-    go : (o : Option Event) → slice_get es x.event ≡ o → option_map (λ (b : List Change). (x.txn, b)) (option_and_then batch_of o) ≡ Some y → write_at (es ++ more) x ≡ Some y
-    go None there is = absurd (cc)
-    go (Some e) there is = ap (λ o. option_map (λ (b : List Change). (x.txn, b)) (option_and_then batch_of o)) (get_more es more x.event e there) ∙ is
-
-writes_stay : (es more : List Event) (xs : List Written) (ys : List (TxnValue × List Change)) → map (write_at es) xs ≡ map Some ys → map (write_at (es ++ more)) xs ≡ map Some ys
-writes_stay es more [] [] e = refl
-writes_stay es more [] (y ∷ ys) e = absurd (cc)
-writes_stay es more (x ∷ xs) [] e = absurd (cc)
-writes_stay es more (x ∷ xs) (y ∷ ys) e =
-    let head : write_at es x ≡ Some y = cc in
-    let tail : map (write_at es) xs ≡ map Some ys = cc in
-    ap (λ o. o ∷ map (write_at (es ++ more)) xs) (write_stays es more x y head) ∙ ap (λ l. Some y ∷ l) (writes_stay es more xs ys tail)
-
-unwritten : {w v : List Submission} (x : Event) (m n : Log) → map (write_at m.events.items) m.writes.items ≡ map Some (filter_map write_of w) → n.writes ≡ m.writes → v ≡ w
-    → map (write_at (m.events.items ++ x ∷ [])) n.writes.items ≡ map Some (filter_map write_of v)
-unwritten {w} {v} x m n noted writes same =
-    ap (λ ws. map (write_at (m.events.items ++ x ∷ [])) ws.items) writes
-    ∙ writes_stay m.events.items (x ∷ []) m.writes.items (filter_map write_of w) noted ∙ ap (λ l. map Some (filter_map write_of l)) (sym same)
+-- what was noted of the writes stays when another event comes
+unwritten : {w v : List Submission} (m n : Log) → map write_noted m.writes.items ≡ filter_map write_of w → n.writes ≡ m.writes → v ≡ w
+    → map write_noted n.writes.items ≡ filter_map write_of v
+unwritten {w} {v} m n noted writes same = ap (λ ws. map write_noted ws.items) writes ∙ noted ∙ ap (filter_map write_of) (sym same)
 
 pub delivery_holds : (a b : Actors) (l m n : Log) (number : ℕ) → Holds a.topology a l → IsSameLog l m → Took a b (Deliver number) → b.topology ≡ a.topology
     → n.events.items ≡ m.events.items ++ Deliver number ∷ [] → n.writes ≡ m.writes
@@ -173,7 +146,7 @@ delivery_holds a b l m n number h same took top events writes marks =
       delivered = λ k.
           marks k ∙ or_other (k == number) (is_marked m.delivered.marks k)
           ∙ ap (λ c. is_marked m.delivered.marks k || c) (both_ways k number ∙ sym (or_false (number == k)));
-      writes = unwritten (Deliver number) m n g.writes writes (same_submitted a.topology (run a.topology m.events.items) number);
+      writes = unwritten m n g.writes writes (same_submitted a.topology (run a.topology m.events.items) number);
     })
     top
 
@@ -185,7 +158,7 @@ collection_holds a b l m n shard time h same took top events writes marks =
     (record {
       events = events;
       delivered = λ k. ap (λ d. is_marked d.marks k) marks ∙ sym (or_false (is_marked m.delivered.marks k));
-      writes = unwritten (Collect shard time) m n g.writes writes (same_submitted_so a.topology (run a.topology m.events.items) shard time);
+      writes = unwritten m n g.writes writes (same_submitted_so a.topology (run a.topology m.events.items) shard time);
     })
     top
 
@@ -233,28 +206,23 @@ writes_last top w node o allowed = by (is_session top node) refl
         (sym (ap (λ b. if b then refused_by (session_submit top node (w.sessions node) o) else Some NoSuchActor) is) ∙ allowed) refl refl
 
 -- what is noted of an accepted operation tells its write
-get_last : (es : List Event) (e : Event) → slice_get (es ++ e ∷ []) (length es) ≡ Some e
-get_last [] e = refl
-get_last (x ∷ es) e = get_last es e
+noted_last : (node number : ℕ) (batch : Option (List Change))
+    → map write_noted (written_by node number batch) ≡ option_to_list (option_map (λ (b : List Change). (record { session = node; number = number }, b)) batch)
+noted_last node number None = refl
+noted_last node number (Some b) = refl
 
-noted_last : (es : List Event) (node number : ℕ) (o : Op) → map (write_at (es ++ Submit node o ∷ [])) (written_by node number (length es) o) ≡ map Some (option_to_list (write_by node number o))
-noted_last es node number (op.Read read) = refl
-noted_last es node number (op.Batch batch) =
-    ap (λ e. option_map (λ (b : List Change). (record { session = node; number = number }, b)) (option_and_then batch_of e) ∷ []) (get_last es (Submit node (op.Batch batch)))
+written : (xs zs : List Written) (ys vs : List (TxnValue × List Change)) (node number : ℕ) (o : Op) (batch : Option (List Change)) → map write_noted xs ≡ ys
+    → zs ≡ xs ++ written_by node number batch → batch ≡ batch_in o → vs ≡ ys ++ option_to_list (write_by node number o) → map write_noted zs ≡ vs
+written xs zs ys vs node number o batch noted added is told =
+    ap (map write_noted) added ∙ map-append write_noted xs (written_by node number batch) ∙ ap (λ l. l ++ map write_noted (written_by node number batch)) noted
+    ∙ ap (λ l. ys ++ l) (noted_last node number batch ∙ ap (λ z. option_to_list (option_map (λ (b : List Change). (record { session = node; number = number }, b)) z)) is) ∙ sym told
 
-written : (es : List Event) (xs zs : List Written) (ys vs : List (TxnValue × List Change)) (node number : ℕ) (o : Op) → map (write_at es) xs ≡ map Some ys
-    → zs ≡ xs ++ written_by node number (length es) o → vs ≡ ys ++ option_to_list (write_by node number o) → map (write_at (es ++ Submit node o ∷ [])) zs ≡ map Some vs
-written es xs zs ys vs node number o noted added told =
-    ap (map (write_at (es ++ Submit node o ∷ []))) added ∙ map-append (write_at (es ++ Submit node o ∷ [])) xs (written_by node number (length es) o)
-    ∙ ap (λ l. l ++ map (write_at (es ++ Submit node o ∷ [])) (written_by node number (length es) o)) (writes_stay es (Submit node o ∷ []) xs ys noted)
-    ∙ ap (λ l. map Some ys ++ l) (noted_last es node number o) ∙ sym (map-append Some ys (option_to_list (write_by node number o))) ∙ ap (map Some) (sym told)
-
-pub submission_holds : (a b : Actors) (l m n : Log) (session number : ℕ) (o told : Op) → Holds a.topology a l → IsSameLog l m
+pub submission_holds : (a b : Actors) (l m n : Log) (session number : ℕ) (o told : Op) (batch : Option (List Change)) → Holds a.topology a l → IsSameLog l m
     → ((top : TopologyValue) (events : List Event) → IsRunning top (run top events) a → HasTaken top events (Submit session o) b × (number ≡ ((run top events).sessions session).count + 1))
-    → b.topology ≡ a.topology → told ≡ o
-    → n.events.items ≡ m.events.items ++ Submit session told ∷ [] → n.writes.items ≡ m.writes.items ++ written_by session number (length m.events.items) told
+    → b.topology ≡ a.topology → told ≡ o → batch ≡ batch_in o
+    → n.events.items ≡ m.events.items ++ Submit session told ∷ [] → n.writes.items ≡ m.writes.items ++ written_by session number batch
     → n.delivered ≡ m.delivered → Holds b.topology b n
-submission_holds a b l m n session number o told h same took top same_told events writes marks =
+submission_holds a b l m n session number o told batch h same took top same_told same_batch events writes marks =
     let g = still_logged a l m h same in
     let t = took a.topology m.events.items g.running in
     let w = run a.topology m.events.items in
@@ -263,9 +231,8 @@ submission_holds a b l m n session number o told h same took top same_told event
       events = events ∙ ap (λ z. m.events.items ++ Submit session z ∷ []) same_told;
       delivered = λ k. ap (λ d. is_marked d.marks k) marks ∙ sym (or_false (is_marked m.delivered.marks k));
       writes =
-          written m.events.items m.writes.items n.writes.items (filter_map write_of w.submitted) (filter_map write_of (step a.topology w (Submit session o)).submitted) session number o g.writes
-          (writes ∙ ap (λ z. m.writes.items ++ written_by session number (length m.events.items) z) same_told)
-          (writes_last a.topology w session o t.0.allowed ∙ ap (λ c. filter_map write_of w.submitted ++ option_to_list (write_by session c o)) (sym t.1));
+          written m.writes.items n.writes.items (filter_map write_of w.submitted) (filter_map write_of (step a.topology w (Submit session o)).submitted) session number o batch g.writes
+          writes same_batch (writes_last a.topology w session o t.0.allowed ∙ ap (λ c. filter_map write_of w.submitted ++ option_to_list (write_by session c o)) (sym t.1));
     })
     top
 

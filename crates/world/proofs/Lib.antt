@@ -103,6 +103,7 @@ pub mod LiveSessions
 pub mod LiveReads
 pub mod LiveHeard
 pub mod Stations
+mod Stretched
 pub mod Addresses
 pub mod SteppedLive
 pub mod SubmittedLive

@@ -11,7 +11,7 @@ use Rattle.messages.specs.declared.event.Event.TheVariants.{Submit as SubmitHere
 use Rattle.messages.specs.Topology.{TopologyValue, is_shard}
 use Rattle.messages.specs.Clock.{ticked, on_clock}
 use Rattle.messages.specs.Shard.{ShardStep}
-use Rattle.messages.specs.Session.{SessionStep, Finished, is_idle}
+use Rattle.messages.specs.Session.{SessionStep, Finished}
 use Rattle.messages.specs.ShardEvents.{shard_handle, shard_collect}
 use Rattle.messages.specs.SessionEvents.{heard}
 use Rattle.messages.specs.Submitting.{begun, submit_fault, submit_if as submitted_if}

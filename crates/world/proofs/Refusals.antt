@@ -9,7 +9,7 @@ use Rattle.messages.specs.declared.envelope.Envelope.{Envelope}
 use Rattle.messages.specs.Topology.{TopologyValue, is_shard, is_session}
 use Rattle.messages.specs.Shard.{ShardStep}
 use Rattle.messages.specs.Clock.{ticked, on_clock}
-use Rattle.messages.specs.Session.{SessionStep, is_idle}
+use Rattle.messages.specs.Session.{SessionStep}
 use Rattle.messages.specs.ShardEvents.{handled, shard_handle, collected, shard_collect}
 use Rattle.messages.specs.SessionEvents.{heard, session_handle}
 use Rattle.messages.specs.Submitting.{begun, submit_fault, submit_if as session_submit_if, session_submit}

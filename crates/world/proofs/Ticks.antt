@@ -18,7 +18,7 @@ use Rattle.messages.specs.Topology.{TopologyValue}
 use Rattle.messages.specs.Words.{is_same_txn, envelope}
 use Rattle.messages.specs.Clock.{ticked, on_clock}
 use Rattle.messages.specs.Shard.{ShardState, ShardStep}
-use Rattle.messages.specs.Session.{SessionState, SessionStep, Open, Idle, Writing, FirstRound, SecondRound, HeardNow, HeardAt, is_idle}
+use Rattle.messages.specs.Session.{SessionState, SessionStep, Open, Idle, Writing, FirstRound, SecondRound, HeardNow, HeardAt}
 use Rattle.messages.specs.ShardEvents.{handled, collected}
 use Rattle.messages.specs.Submitting.{home_node, begin_of, prepare_of, share_of, begun, submit_fault, submit_if as submitted_if}
 use Rattle.messages.specs.Rounds.{asked_nodes, is_missing, all_heard, effective_time, late_nodes, is_missing_at, all_heard_at}

@@ -12,7 +12,7 @@ use Rattle.client.specs.Represents as session
 use Rattle.world.specs.declared.station.Station.{Station}
 use Rattle.world.specs.declared.actors.Actors.{Actors}
 use Rattle.world.specs.declared.log.Log.{Log}
-use Rattle.world.specs.Asked.{write_of, write_at}
+use Rattle.world.specs.Asked.{write_of, write_noted}
 use Rattle.world.specs.Delivered.{is_marked}
 use Rattle.world.specs.Run.{Run, Event, Submission, Completed, submission_of, step, run}
 use Rattle.world.specs.Refusals.{refusal_of}
@@ -61,7 +61,7 @@ pub record Holds (top : TopologyValue) (a : Actors) (l : Log) : Type 0 where
   pub events : (run top l.events.items).events ≡ l.events.items
   pub running : IsRunning top (run top l.events.items) a
   pub delivered : (k : ℕ) → is_marked l.delivered.marks k ≡ list_any (λ j. j == k) (handled (run top l.events.items))
-  pub writes : map (write_at l.events.items) l.writes.items ≡ map Some (filter_map write_of (run top l.events.items).submitted)
+  pub writes : map write_noted l.writes.items ≡ filter_map write_of (run top l.events.items).submitted
 
 -- ## What a session's step ended
 

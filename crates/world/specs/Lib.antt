@@ -8,6 +8,7 @@ pub mod Worked
 pub mod WorkedTimes
 pub mod WorkedDrains
 pub mod Committed
+pub mod Events
 pub mod Entries
 pub mod Refusals
 pub mod Journals

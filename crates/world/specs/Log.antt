@@ -1,9 +1,8 @@
 -- What a world notes of what happened.
-use Rattle.std.specs.Prelude.{◌≡◌, ℕ, ◌<◌, List, [], ◌∷◌}
+use Rattle.std.specs.Prelude.{◌≡◌, ℕ, ◌<◌, List, Option, option_map, option_to_list}
 use Rattle.std.specs.Global.{Vec}
 use Rattle.std.specs.Vec.{vec_len, vec_capacity}
-use Rattle.messages.specs.declared.op.Op.{Op}
-use Rattle.messages.specs.declared.op.Op.TheVariants as op
+use Rattle.column_family.specs.declared.batch.Change.{Change}
 use Rattle.world.specs.declared.log.Log.{Log}
 use Rattle.world.specs.declared.written.Written.{Written}
 use Rattle.world.specs.Delivered.{is_marked}
@@ -18,7 +17,6 @@ pub record IsSameLog (old new : Log) : Type 0 where
   pub writes : new.writes.items ≡ old.writes.items
   pub delivered : (k : ℕ) → is_marked new.delivered.marks k ≡ is_marked old.delivered.marks k
 
--- what is noted of a submitted operation: a write by its transaction and the place of its event, of a read nothing
-abbrev pub written_by : ℕ → ℕ → ℕ → Op → List Written
-written_by session number event (op.Batch batch) = record { txn = record { session = session; number = number }; event = event } ∷ []
-written_by session number event (op.Read read) = []
+-- what is noted of a submitted operation: a write by its transaction and its batch, of a read nothing
+abbrev pub written_by : ℕ → ℕ → Option (List Change) → List Written
+written_by session number batch = option_to_list (option_map (λ b. record { txn = record { session = session; number = number }; batch = b }) batch)

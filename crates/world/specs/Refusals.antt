@@ -8,7 +8,6 @@ use Rattle.messages.specs.Topology.{TopologyValue, is_shard, is_session}
 use Rattle.messages.specs.Clock.{ticked}
 use Rattle.messages.specs.ShardEvents.{shard_handle, shard_collect}
 use Rattle.messages.specs.SessionEvents.{session_handle}
-use Rattle.messages.specs.Session.{is_idle}
 use Rattle.messages.specs.Submitting.{submit_fault, session_submit}
 use Rattle.world.specs.Run.{Run, Event, Submit, Deliver, Collect, run}
 

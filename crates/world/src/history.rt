@@ -1,17 +1,16 @@
 //! Histories of data centres, by asking.
-ghost use Rattle.std.specs.Prelude.{◌≡◌, ◌<◌, ◌≤◌, ◌+◌, ◌*◌, ◌++◌, ℕ, length, filter_map, option_map, option_to_list, option_copied, OnOk, IfOk, IfErr};
+ghost use Rattle.std.specs.Prelude.{◌≡◌, ◌<◌, ◌≤◌, ◌+◌, ◌*◌, ◌++◌, ℕ, length, filter_map, option_map, option_to_list, OnOk, IfOk, IfErr};
 ghost use Rattle.messages.specs.Topology.{TopologyValue, shard_node};
 ghost use Rattle.messages.specs.Shard.{ShardState, Decision};
 ghost use Rattle.messages.specs.Known.{decision_of};
 ghost use Rattle.planner.specs.Plan.{coordinator_of};
 ghost use Rattle.world.specs.Holds.{AreShards};
-ghost use Rattle.world.specs.Asked.{batch_at, entry_by, entry_at};
+ghost use Rattle.world.specs.Asked.{entry_by, entry_at};
 
-use crate::run_event::RunEvent;
 use crate::written::Written;
 use column_family::{Batch, Committed};
 use logical_time::{Fault, Shard as Number, Stamp, Time, TxnId};
-use messages::{Home, Op};
+use messages::Home;
 use planner::shard_of;
 use shard::Shard;
 use std::alloc::Global;
@@ -39,43 +38,19 @@ fn decided(home: Home, shards: &[Shard], batch: &Batch, txn: TxnId) -> Option<(T
     shards[usize::from(node.get())].decided(txn)
 }
 
-/// The batch that the event at this place submitted, if it submitted one.
-fn batch_at(events: &[RunEvent], place: usize) -> Option<&Batch>
-    ensures { option_copied result ≡ batch_at events.now place }
-{
-    match events.get(place) {
-        Some(
-            RunEvent::Submit {
-                op: Op::Batch(batch),
-                session: _,
-            },
-        ) => Some(batch.get()),
-        _ => None,
-    }
-}
-
 /// The entry of a write in the history of this data centre, by asking the coordinator there. None where it isn't decided
 /// there. Refused with `Memory` alone.
-#[tactic(auto, using(crate::proofs::AskedFor::entry_told, crate::proofs::AskedFor::none_told))]
-fn entry(
-    home: Home,
-    shards: &[Shard],
-    events: &[RunEvent],
-    write: &Written,
-) -> Result<Option<Committed>, Fault>
+#[tactic(auto, using(crate::proofs::AskedFor::entry_told))]
+fn entry(home: Home, shards: &[Shard], write: &Written) -> Result<Option<Committed>, Fault>
     requires some { 0 < home.shards }
     requires shards { home.dc * home.shards + home.shards ≤ length shards.now }
     ensures ok { (top : TopologyValue) (states : ℕ → ShardState) → top.shards ≡ home.shards → AreShards top states shards.now
-        → IfOk result (λ o. o ≡ entry_at top states home.dc events.now write.now) }
+        → IfOk result (λ o. o ≡ entry_at top states home.dc write.now) }
     ensures memory { IfErr result (λ e. e ≡ Fault.Memory) }
 {
-    match batch_at(events, write.event) {
-        None => Ok(None),
-        Some(batch) => {
-            let told = decided(home, shards, batch, write.txn);
-            entry_with(batch, told)
-        }
-    }
+    let batch = write.batch.get();
+    let told = decided(home, shards, batch, write.txn);
+    entry_with(batch, told)
 }
 
 /// The entry of a batch, by what was told of it. Refused with `Memory` alone.
@@ -110,18 +85,17 @@ pub fn history(
     alloc: Global,
     home: Home,
     shards: &[Shard],
-    events: &[RunEvent],
     writes: &[Written],
 ) -> Result<History, Fault>
     requires some { 0 < home.shards }
     requires shards { home.dc * home.shards + home.shards ≤ length shards.now }
     ensures ok { (top : TopologyValue) (states : ℕ → ShardState) → top.shards ≡ home.shards → AreShards top states shards.now
-        → IfOk result (λ h. h ≡ filter_map (entry_at top states home.dc events.now) writes.now) }
+        → IfOk result (λ h. h ≡ filter_map (entry_at top states home.dc) writes.now) }
     ensures memory { IfErr result (λ e. e ≡ Fault.Memory) }
 {
     let mut history = History::new(alloc);
     for write in writes {
-        let entry = entry(home, shards, events, write)?;
+        let entry = entry(home, shards, write)?;
         add(&mut history, entry)?;
     }
     Ok(history)

@@ -18,6 +18,7 @@ mod opening;
 mod promises;
 mod run_event;
 mod station;
+mod stretches;
 mod world;
 mod written;
 

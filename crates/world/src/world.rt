@@ -70,12 +70,12 @@ impl World {
         ensures same { OnErr result (self.new ≡ self.old) }
         ensures back { IfErr result (λ e. e.1 ≡ op) }
     {
-        let (kept, told) = match self.log.make_room_for_submission(&op) {
+        let (kept, told, batch) = match self.log.make_room_for_submission(&op) {
             Ok(copies) => copies,
             Err(_) => return Err((self.actors.submission_without_memory(session, &op), op)),
         };
         let number = self.actors.submit(session, op, kept)?;
-        self.log.add_submission(session, number, told);
+        self.log.add_submission(session, number, told, batch);
         Ok(number)
     }
 
@@ -218,7 +218,6 @@ impl World {
             alloc,
             self.actors.topology.home(dc),
             self.actors.shards.as_slice(),
-            self.log.events.as_slice(),
             self.log.writes.as_slice(),
         )
     }

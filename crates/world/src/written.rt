@@ -1,12 +1,14 @@
 //! Write transactions that were submitted.
 
+use column_family::Batch;
 use logical_time::TxnId;
+use messages::Shared;
 
-/// A write transaction that its session accepted. Its batch stands in the event that submitted it.
+/// A write transaction that its session accepted.
 #[derive(Drop)]
 pub struct Written {
     /// The transaction.
     pub txn: TxnId,
-    /// The place of its submission among the events.
-    pub event: usize,
+    /// What it writes, shared with the event that submitted it.
+    pub batch: Shared<Batch>,
 }

@@ -9,4 +9,4 @@ use Rattle.world.proofs.history.history.Given as goal
 abbrev pub invariant-loop-write : goal.invariant-loop-write
 invariant-loop-write l =
     (top : TopologyValue) (states : ℕ → ShardState) → top.shards ≡ l.home.shards → AreShards top states l.shards
-    → l.history ≡ filter_map (entry_at top states l.home.dc l.events) (take l.write-index l.writes)
+    → l.history ≡ filter_map (entry_at top states l.home.dc) (take l.write-index l.writes)
