@@ -8,3 +8,4 @@ pub mod RightAnswers
 pub mod Ended
 pub mod Ignored
 pub mod SameNode
+pub mod SameKeys

@@ -16,7 +16,7 @@ use crate::hearing::put;
 use crate::kept::Kept;
 use column_family::Batch;
 use logical_time::{Clock, Fault, Node, Shard, TxnId, Writers};
-use messages::{Dependencies, Envelope, Op, Outbox};
+use messages::{Dependencies, Envelope, Op, Outbox, Shared};
 use planner::{BatchPlan, check_batch, check_read, plan_batch, plan_read};
 use read_txn::FirstRound;
 use slice::Read;
@@ -131,14 +131,14 @@ fn submit_batch(kept: &mut Kept, batch: &Batch, outbox: &mut Outbox) -> Result<u
 }
 
 /// What a read asks: the shards, and the envelopes to them.
-fn asks(kept: &Kept, clock: Clock, read: &Read) -> Result<(Vec<Node>, Vec<Envelope>), Fault>
+fn asks(kept: &Kept, clock: Clock, read: &Shared<Read>) -> Result<(Vec<Node>, Vec<Envelope>), Fault>
     requires counted { kept.now.count < 2 ^ 48 }
     requires allowed { fault_of kept.now (op.Read read.now) ≡ None }
     ensures asked { IfOk result (λ asks. asks.0.items ≡ asked_nodes (topology_of kept.now) (state_of kept.now) read.now) }
     ensures sends { IfOk result (λ asks. asks.1.items ≡ posted kept.now clock (op.Read read.now)) }
     ensures memory { IfErr result (λ e. e ≡ Fault.Memory) }
 {
-    let plan = plan_read(kept.alloc, read, &kept.schema, kept.home.shards())?;
+    let plan = plan_read(kept.alloc, read.get(), &kept.schema, kept.home.shards())?;
     let asked = nodes(kept.alloc, kept.home, plan.asked.as_slice())?;
     let envelopes = reads(
         kept.alloc,
@@ -153,7 +153,11 @@ fn asks(kept: &Kept, clock: Clock, read: &Read) -> Result<(Vec<Node>, Vec<Envelo
 }
 
 /// Moves the clock, sends what a read asks, and gives the clock, a copy of the read, and the shards that it asks.
-fn ask(kept: &mut Kept, read: &Read, outbox: &mut Outbox) -> Result<(Clock, Read, Vec<Node>), Fault>
+fn ask(
+    kept: &mut Kept,
+    read: &Shared<Read>,
+    outbox: &mut Outbox,
+) -> Result<(Clock, Read, Vec<Node>), Fault>
     requires counted { kept.old.count ≤ kept.old.clock }
     requires allowed { fault_of kept.old (op.Read read.now) ≡ None }
     ensures clock { IfOk result (λ asked. (asked.0 ≡ max kept.old.clock kept.old.clock + 1) × (asked.0 < 2 ^ 48)) }
@@ -166,7 +170,7 @@ fn ask(kept: &mut Kept, read: &Read, outbox: &mut Outbox) -> Result<(Clock, Read
     ensures unsent { OnErr result (outbox.new.sent ≡ outbox.old.sent) }
 {
     let clock = moved(kept)?;
-    let own = read.clone()?;
+    let own = read.get().clone()?;
     let (asked, envelopes) = asks(kept, clock, read)?;
     settle(kept, envelopes, outbox)?;
     Ok((clock, own, asked))
@@ -174,7 +178,7 @@ fn ask(kept: &mut Kept, read: &Read, outbox: &mut Outbox) -> Result<(Clock, Read
 
 /// Submits a read that is allowed.
 #[tactic(auto, using(crate::proofs::Idle::idle_allowed))]
-fn submit_read(kept: &mut Kept, read: &Read, outbox: &mut Outbox) -> Result<u64, Fault>
+fn submit_read(kept: &mut Kept, read: &Shared<Read>, outbox: &mut Outbox) -> Result<u64, Fault>
     requires counted { kept.old.count ≤ kept.old.clock }
     requires allowed { fault_of kept.old (op.Read read.now) ≡ None }
     ensures number { IfOk result (λ n. n ≡ kept.old.count + 1) }
@@ -209,7 +213,7 @@ pub(crate) fn submit(kept: &mut Kept, op: Op, outbox: &mut Outbox) -> Result<u64
     }
     let submitted = match &op {
         Op::Batch(batch) => submit_batch(kept, batch.get(), outbox),
-        Op::Read(read) => submit_read(kept, read.get(), outbox),
+        Op::Read(read) => submit_read(kept, read, outbox),
     };
     match submitted {
         Ok(number) => Ok(number),

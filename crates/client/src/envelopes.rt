@@ -1,7 +1,8 @@
 //! The envelopes of submissions.
-ghost use Rattle.std.specs.Prelude.{◌≡◌, ◌++◌, map, IfOk, OnOk, OnErr, IfErr};
+ghost use Rattle.std.specs.Prelude.{◌≡◌, ◌++◌, true, map, IfOk, OnOk, OnErr, IfErr};
 ghost use Rattle.client.specs.Envelopes.{node_in, prepare_part, batch_envelopes, read_keys};
 
+use column_family::Key;
 use logical_time::{Fault, Node, Shard, Time, TxnId};
 use messages::{Body, Cohorts, Dependencies, Envelope, Home, Outbox, Shared};
 use planner::{BatchPlan, ShardKeys, ShardPart};
@@ -50,6 +51,26 @@ pub(crate) fn share_of(read: &Read, keys: Keys) -> Result<Read, Fault>
     })
 }
 
+/// Whether these keys are those, in their order.
+#[tactic(auto, using(crate::proofs::SameKeys::same_keys))]
+fn are_same(keys: &[Key], others: &[Key]) -> bool
+    ensures { result ≡ true → keys.now ≡ others.now }
+{
+    keys == others
+}
+
+/// What a shard is asked that holds these keys. Where they are all of the read's, it is the read itself, which is shared.
+#[inline]
+fn asked_of(alloc: Global, read: &Shared<Read>, keys: Keys) -> Result<Shared<Read>, Fault>
+    ensures ok { IfOk result (λ share. share ≡ record read.now { keys = keys }) }
+    ensures memory { IfErr result (λ e. e ≡ Fault.Memory) }
+{
+    if are_same(keys.as_slice(), read.get().keys.as_slice()) {
+        return Ok(read.clone()?);
+    }
+    Ok(Shared::new(alloc, share_of(read.get(), keys)?)?)
+}
+
 /// A Read for each shard that holds an asked key.
 pub(crate) fn reads(
     alloc: Global,
@@ -57,7 +78,7 @@ pub(crate) fn reads(
     node: Node,
     time: Time,
     number: u64,
-    read: &Read,
+    read: &Shared<Read>,
     shares: Vec<ShardKeys>,
 ) -> Result<Vec<Envelope>, Fault>
     ensures ok { IfOk result (λ envelopes. envelopes.items ≡ map (read_keys home node time number read.now) shares.items) }
@@ -66,7 +87,7 @@ pub(crate) fn reads(
     let mut envelopes = Vec::with_capacity(alloc, shares.len())?;
     for share in shares {
         let ShardKeys { shard, keys } = share;
-        let own = Shared::new(alloc, share_of(read, keys)?)?;
+        let own = asked_of(alloc, read, keys)?;
         envelopes.push(Envelope {
             from: node,
             to: home.node_of(shard),

@@ -1,6 +1,6 @@
 pub mod Checks
+pub mod Homes
 pub mod Join
 pub mod Partition
 pub mod Plan
-pub mod Placed
 pub mod Planned

@@ -1,12 +1,14 @@
 //! The cut of a batch by shards.
-ghost use Rattle.std.specs.Prelude.{◌≡◌, ◌&&◌, ◌==◌, not, ◌∷◌, map, filter, IfOk, IfErr};
-ghost use Rattle.std.specs.List.{range_with_len};
+ghost use Rattle.std.specs.Prelude.{◌≡◌, ◌<◌, IsTrue, ◌&&◌, ◌==◌, not, ◌∷◌, length, map, filter, IfOk, IfErr};
+ghost use Rattle.std.specs.List.{list_any, range_with_len};
 ghost use Rattle.column_family.specs.Places.{normal_of};
 ghost use Rattle.planner.specs.Checks.{batch_fault, IsRefusedForOrMemory};
+ghost use Rattle.planner.specs.Homes.{home_of, kept_of};
 ghost use Rattle.planner.specs.Plan as plans;
 ghost use Rattle.planner.specs.Planned.{part_on, IsCut};
 
 use crate::checks::check_batch;
+use crate::homes::{count_of, is_home};
 use crate::partition::shard_of;
 use column_family::{Batch, Change, Schema, normal};
 use logical_time::{Fault, Shard, Shards};
@@ -30,20 +32,41 @@ pub struct BatchPlan {
     pub cohorts: Vec<ShardPart>,
 }
 
-/// Of a batch in normal form the changes of a shard's rows, in order.
-fn part_of(alloc: Global, changes: &[Change], shard: Shard, shards: Shards) -> Result<Batch, Fault>
-    ensures exact { IfOk result (λ part. part ≡ plans.part_for shards changes.now shard) }
+/// The shard of each of the changes.
+fn homes_of(alloc: Global, changes: &[Change], shards: Shards) -> Result<Vec<Shard>, Fault>
+    ensures exact { IfOk result (λ homes. homes.items ≡ map (home_of shards) changes.now) }
     ensures memory { IfErr result (λ e. e ≡ Fault.Memory) }
 {
-    let mut part = Vec::new(alloc);
+    let mut homes = Vec::with_capacity(alloc, changes.len())?;
     for change in changes {
-        if shard_of(&change.row.key, shards) == shard {
-            part.push(change.copied()?)?;
+        homes.push(shard_of(&change.row.key, shards))?;
+    }
+    Ok(homes)
+}
+
+/// Of changes, with the shard of each, those of a shard's rows, in order. There is room for these alone, since a part is
+/// kept as long as the message that brings it.
+fn part_of(alloc: Global, changes: &[Change], homes: &[Shard], shard: Shard) -> Result<Batch, Fault>
+    requires { length homes.now ≡ length changes.now }
+    ensures exact { IfOk result (λ part. part ≡ kept_of shard homes.now changes.now) }
+    ensures memory { IfErr result (λ e. e ≡ Fault.Memory) }
+{
+    let mut part = Vec::with_capacity(alloc, count_of(homes, shard))?;
+    for place in 0..homes.len() {
+        if homes[place] == shard {
+            part.push(changes[place].copied()?)?;
         }
     }
-    // a part is kept as long as the message that brings it
-    part.shrink_to_fit();
     Ok(Batch::from_changes(part))
+}
+
+/// The batch, without room for more: a part is kept as long as the message that brings it.
+fn fitted(batch: Batch) -> Batch
+    ensures { result ≡ batch }
+{
+    let mut changes = batch.into_vec();
+    changes.shrink_to_fit();
+    Batch::from_changes(changes)
 }
 
 /// The changes of a shard's rows, in order; the others are let go of. Takes no memory.
@@ -52,41 +75,45 @@ fn part_left(batch: Batch, shard: Shard, shards: Shards) -> Batch
 {
     let mut changes = batch.into_vec();
     changes.retain(|change| shard_of(&change.row.key, shards) == shard);
-    // a part is kept as long as the message that brings it
-    changes.shrink_to_fit();
-    Batch::from_changes(changes)
+    fitted(Batch::from_changes(changes))
 }
 
-/// Whether the batch touches a row of the shard.
-fn is_touched(changes: &[Change], shard: Shard, shards: Shards) -> bool
-    ensures { result ≡ plans.is_touched shards changes.now shard }
+/// The changes of a shard's rows, in order, where it is known whether the shard has all.
+fn own_part(batch: Batch, is_alone: bool, shard: Shard, shards: Shards) -> Batch
+    requires { IsTrue is_alone → plans.part_for shards batch shard ≡ batch }
+    ensures { result ≡ plans.part_for shards batch shard }
 {
-    changes
-        .iter()
-        .any(|change| shard_of(&change.row.key, shards) == shard)
+    if is_alone {
+        fitted(batch)
+    } else {
+        part_left(batch, shard, shards)
+    }
 }
 
-/// Whether the shard is another than the coordinator, and the batch touches one of its rows.
-fn is_cohort(changes: &[Change], shard: Shard, coordinator: Shard, shards: Shards) -> bool
-    ensures { result ≡ (not (shard == coordinator) && plans.is_touched shards changes.now shard) }
+/// Whether the shard is another than the coordinator, and has one of the changes.
+fn is_cohort(homes: &[Shard], shard: Shard, coordinator: Shard) -> bool
+    ensures { result ≡ (not (shard == coordinator) && list_any (λ h. h == shard) homes.now) }
 {
-    shard != coordinator && is_touched(changes, shard, shards)
+    shard != coordinator && is_home(homes, shard)
 }
 
-/// The parts of the shards that a batch in normal form touches, without that of the coordinator, ascending.
+/// Of a batch in normal form, with the shard of each change, the parts of the shards that it touches, without that of the
+/// coordinator, ascending.
 fn cohort_parts(
     alloc: Global,
     changes: &[Change],
+    homes: &[Shard],
     coordinator: Shard,
     shards: Shards,
 ) -> Result<Vec<ShardPart>, Fault>
+    requires { homes.now ≡ map (home_of shards) changes.now }
     ensures exact { IfOk result (λ parts. parts.items ≡ map (part_on shards changes.now) (filter (λ s. not (s == coordinator) && plans.is_touched shards changes.now s) (range_with_len 0 shards))) }
     ensures memory { IfErr result (λ e. e ≡ Fault.Memory) }
 {
     let mut parts = Vec::new(alloc);
     for shard in shards.all() {
-        if is_cohort(changes, shard, coordinator, shards) {
-            let batch = part_of(alloc, changes, shard, shards)?;
+        if is_cohort(homes, shard, coordinator) {
+            let batch = part_of(alloc, changes, homes, shard)?;
             parts.push(ShardPart { shard, batch })?;
         }
     }
@@ -103,16 +130,18 @@ fn coordinator_of(changes: &[Change], shards: Shards) -> Shard
     }
 }
 
-/// The plan of a batch that is accepted.
+/// The plan of a batch that is accepted. Where no other shard is touched, the coordinator's part is the normal form.
 fn cut(alloc: Global, batch: &Batch, shards: Shards) -> Result<BatchPlan, Fault>
+    requires { 0 < shards }
     ensures coordinator { IfOk result (λ plan. plan.coordinator ≡ part_on shards (normal_of batch.now) (plans.coordinator_of shards batch.now)) }
     ensures cohorts { IfOk result (λ plan. plan.cohorts.items ≡ map (part_on shards (normal_of batch.now)) (filter (λ s. not (s == plans.coordinator_of shards batch.now) && plans.is_touched shards (normal_of batch.now) s) (range_with_len 0 shards))) }
     ensures memory { IfErr result (λ e. e ≡ Fault.Memory) }
 {
     let kept = normal(alloc, batch)?;
     let shard = coordinator_of(batch.as_slice(), shards);
-    let cohorts = cohort_parts(alloc, kept.as_slice(), shard, shards)?;
-    let batch = part_left(kept, shard, shards);
+    let homes = homes_of(alloc, kept.as_slice(), shards)?;
+    let cohorts = cohort_parts(alloc, kept.as_slice(), &homes, shard, shards)?;
+    let batch = own_part(kept, cohorts.is_empty(), shard, shards);
     Ok(BatchPlan {
         coordinator: ShardPart { shard, batch },
         cohorts,

@@ -5,6 +5,7 @@
 
 mod batches;
 mod checks;
+mod homes;
 mod joining;
 mod law;
 mod partition;

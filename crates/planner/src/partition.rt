@@ -1,14 +1,32 @@
 //! The partition of rows over the shards of a data centre.
-ghost use Rattle.std.specs.Prelude.{◌≡◌, ◌<◌, sum};
+ghost use Rattle.std.specs.Prelude.{◌≡◌, ◌<◌, ◌≤◌, length, sum};
 ghost use Rattle.planner.specs.Partition as partition;
 
 use column_family::Key;
 use logical_time::{Shard, Shards};
 
+/// Up to how many bytes are added as numbers of 64 bits.
+const FEW: usize = 65_536;
+
+/// The sum of few bytes.
+fn byte_sum_of_few(bytes: &[u8]) -> u64
+    requires { length bytes.now ≤ 65536 }
+    ensures { result ≡ sum bytes.now }
+{
+    let mut total: u64 = 0;
+    for byte in bytes {
+        total += u64::from(*byte);
+    }
+    total
+}
+
 /// The sum of the bytes.
 fn byte_sum(bytes: &[u8]) -> u128
     ensures { result ≡ sum bytes.now }
 {
+    if bytes.len() <= FEW {
+        return u128::from(byte_sum_of_few(bytes));
+    }
     let mut total: u128 = 0;
     for byte in bytes {
         total += u128::from(*byte);

@@ -1,11 +1,13 @@
 //! The cut of a read by shards.
-ghost use Rattle.std.specs.Prelude.{◌≡◌, map, IfOk, IfErr};
+ghost use Rattle.std.specs.Prelude.{◌≡◌, length, map, IfOk, IfErr};
 ghost use Rattle.planner.specs.Checks.{read_fault, IsRefusedForOrMemory};
 ghost use Rattle.planner.specs.Plan as plans;
-ghost use Rattle.planner.specs.Placed.{keys_in, place_of, placed_in};
+ghost use Rattle.planner.specs.Homes.{kept_of};
+ghost use Rattle.planner.specs.Partition.{shard_of};
 ghost use Rattle.planner.specs.Planned.{keys_on, IsKeyCut};
 
 use crate::checks::check_read;
+use crate::homes::{count_of, is_home};
 use crate::partition::shard_of;
 use column_family::{Key, Schema};
 use logical_time::{Fault, Shard, Shards};
@@ -29,37 +31,29 @@ pub struct ReadPlan {
     pub asked: Vec<ShardKeys>,
 }
 
-/// A key that is asked, and its shard.
-#[derive(Drop)]
-struct Placed {
-    key: Key,
-    shard: Shard,
-}
-
-/// Each of the keys with its shard.
-fn with_shards(alloc: Global, keys: &[Key], shards: Shards) -> Result<Vec<Placed>, Fault>
-    ensures exact { IfOk result (λ all. map place_of all.items ≡ map (placed_in shards) keys.now) }
+/// The shard of each of the keys.
+fn homes_of(alloc: Global, keys: &[Key], shards: Shards) -> Result<Vec<Shard>, Fault>
+    ensures exact { IfOk result (λ homes. homes.items ≡ map (shard_of shards) keys.now) }
     ensures memory { IfErr result (λ e. e ≡ Fault.Memory) }
 {
-    let mut all = Vec::with_capacity(alloc, keys.len())?;
+    let mut homes = Vec::with_capacity(alloc, keys.len())?;
     for key in keys {
-        all.push(Placed {
-            key: key.clone()?,
-            shard: shard_of(key, shards),
-        })?;
+        homes.push(shard_of(key, shards))?;
     }
-    Ok(all)
+    Ok(homes)
 }
 
-/// The keys of a shard among these.
-fn keys_of(alloc: Global, keys: &[Placed], shard: Shard) -> Result<Vec<Key>, Fault>
-    ensures exact { IfOk result (λ own. own.items ≡ keys_in shard (map place_of keys.now)) }
+/// Of the keys, with the shard of each, those of a shard. There is room for these alone, since they are kept as long as
+/// the message that brings them.
+fn keys_of(alloc: Global, keys: &[Key], homes: &[Shard], shard: Shard) -> Result<Vec<Key>, Fault>
+    requires { length homes.now ≡ length keys.now }
+    ensures exact { IfOk result (λ own. own.items ≡ kept_of shard homes.now keys.now) }
     ensures memory { IfErr result (λ e. e ≡ Fault.Memory) }
 {
-    let mut own = Vec::new(alloc);
-    for one in keys {
-        if one.shard == shard {
-            own.push(one.key.clone()?)?;
+    let mut own = Vec::with_capacity(alloc, count_of(homes, shard))?;
+    for place in 0..homes.len() {
+        if homes[place] == shard {
+            own.push(keys[place].clone()?)?;
         }
     }
     Ok(own)
@@ -70,12 +64,14 @@ fn cut(alloc: Global, keys: &[Key], shards: Shards) -> Result<ReadPlan, Fault>
     ensures exact { IfOk result (λ plan. plan.asked.items ≡ map (keys_on shards keys.now) (plans.shards_asked shards keys.now)) }
     ensures memory { IfErr result (λ e. e ≡ Fault.Memory) }
 {
-    let once = each_once(alloc, keys)?;
-    let placed = with_shards(alloc, once.as_slice(), shards)?;
+    let listed = each_once(alloc, keys)?;
+    let once = listed.as_slice();
+    let placed = homes_of(alloc, once, shards)?;
+    let homes = placed.as_slice();
     let mut asked = Vec::new(alloc);
     for shard in shards.all() {
-        let own = keys_of(alloc, &placed, shard)?;
-        if !own.is_empty() {
+        if is_home(homes, shard) {
+            let own = keys_of(alloc, once, homes, shard)?;
             asked.push(ShardKeys {
                 shard,
                 keys: Keys::from_vec(alloc, own)?,

@@ -19,6 +19,9 @@ use messages::{Op, Topology};
 use slice::{Keys, Names, Predicate, Read};
 use std::alloc::Global;
 
+/// How many items a list has room for at first: mostly it has no more.
+const FEW: usize = 2;
+
 /// Whether a list begins.
 fn opens(reader: &mut Reader<'_>) -> bool
     ensures { result ≡ true → reader.old ≡ spec.begin_array ∷ reader.new }
@@ -54,10 +57,14 @@ pub(crate) fn list_in<T: Shaped>(
     if depth == 0 || !opens(reader) {
         return None;
     }
-    let mut all = Vec::new(alloc);
+    let mut all = Vec::with_capacity(alloc, FEW).ok()?;
     while !reader.take_end_array() {
         let item = T::of_reader(alloc, reader, depth - 1)?;
         all.push(item).ok()?;
+    }
+    // a list is kept as long as its script
+    if 2 * FEW < all.len() {
+        all.shrink_to_fit();
     }
     Some(all)
 }

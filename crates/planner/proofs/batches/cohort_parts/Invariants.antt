@@ -8,5 +8,5 @@ use Rattle.planner.proofs.batches.cohort_parts.Given as goal
 -- the parts so far, then those of the shards to come, are those of all
 abbrev pub invariant-loop-shard : goal.invariant-loop-shard
 invariant-loop-shard l =
-    l.parts.items ++ map (part_on l.shards l.changes) (filter (λ s. not (s == l.coordinator) && is_touched l.shards l.changes s) l.shard-iterator)
-    ≡ map (part_on l.shards l.changes) (filter (λ s. not (s == l.coordinator) && is_touched l.shards l.changes s) (range_with_len 0 l.shards))
+    l.parts.items ++ map (part_on l.fn.shards l.changes) (filter (λ s. not (s == l.coordinator) && is_touched l.fn.shards l.changes s) l.shard-iterator)
+    ≡ map (part_on l.fn.shards l.changes) (filter (λ s. not (s == l.coordinator) && is_touched l.fn.shards l.changes s) (range_with_len 0 l.fn.shards))

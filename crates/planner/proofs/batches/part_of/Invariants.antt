@@ -1,6 +1,7 @@
-use Rattle.std.proofs.Common.{◌≡◌, take}
-use Rattle.planner.specs.Plan.{part_for}
+use Rattle.std.proofs.Common.{◌≡◌, ◌++◌, drop}
+use Rattle.planner.specs.Homes.{kept_of}
 use Rattle.planner.proofs.batches.part_of.Given as goal
 
-abbrev pub invariant-loop-change : goal.invariant-loop-change
-invariant-loop-change l = l.part.items ≡ part_for l.shards (take l.change-index l.changes) l.shard
+-- the changes so far, then those that are left, are those of all
+abbrev pub invariant-loop-place : goal.invariant-loop-place
+invariant-loop-place l = l.part.items ++ kept_of l.shard (drop l.place l.homes) (drop l.place l.changes) ≡ kept_of l.shard l.homes l.changes

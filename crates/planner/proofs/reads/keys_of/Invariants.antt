@@ -1,6 +1,7 @@
-use Rattle.std.proofs.Common.{◌≡◌, take, map}
-use Rattle.planner.specs.Placed.{keys_in, place_of}
+use Rattle.std.proofs.Common.{◌≡◌, ◌++◌, drop}
+use Rattle.planner.specs.Homes.{kept_of}
 use Rattle.planner.proofs.reads.keys_of.Given as goal
 
-abbrev pub invariant-loop-one : goal.invariant-loop-one
-invariant-loop-one l = l.own.items ≡ keys_in l.shard (map place_of (take l.one-index l.keys))
+-- the keys so far, then those that are left, are those of all
+abbrev pub invariant-loop-place : goal.invariant-loop-place
+invariant-loop-place l = l.own.items ++ kept_of l.shard (drop l.place l.homes) (drop l.place l.keys) ≡ kept_of l.shard l.homes l.keys

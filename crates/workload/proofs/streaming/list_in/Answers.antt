@@ -14,4 +14,6 @@ loop-alloc-preserved g c =
     rw pushed (one_more_so_far g.T.Shaped.stands_for (c.args.depth - 1) c.opens.new.reader c.loop-alloc.reader c.of_reader.new.reader c.loop-alloc.all.items c.in_ok-item.item c.loop-alloc.invariant (rw (← same) c.in_ok-item.ensures))
 
 pub returns : goal.returns
-returns g c = all_so_far g.T.Shaped.stands_for c.args.depth c.args.reader.now c.opens.new.reader c.loop-alloc.reader c.take_end_array.new.self c.loop-alloc.all.items (omega arith) (grind arith) c.loop-alloc.invariant (grind arith)
+returns g c =
+    let same : c.if-len.all.items ≡ c.loop-alloc.all.items = search rules in
+    rw same (all_so_far g.T.Shaped.stands_for c.args.depth c.args.reader.now c.opens.new.reader c.loop-alloc.reader c.take_end_array.new.self c.loop-alloc.all.items (omega arith) (grind arith) c.loop-alloc.invariant (grind arith))
