@@ -8,5 +8,6 @@ pub mod Spelled
 pub mod Drains
 pub mod DrainsInTime
 pub mod Plays
+pub mod Noted
 pub mod Ends
 pub mod Pieces

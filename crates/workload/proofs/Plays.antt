@@ -1,6 +1,5 @@
 -- What the calls of a world are as events of a script.
-use Rattle.std.proofs.Common.{◌≡◌, ◌∙◌, ◌≢◌, ℕ, ◌≤◌, ◌+◌, ◌⊎◌, false, List, [], ◌∷◌, ◌++◌, length, Some, Result, Ok, Err, map, drop, inl, inr, refl, ap, sym, subst, append-nil, append_assoc, arith}
-use Rattle.std.specs.Prelude.{OnOk}
+use Rattle.std.proofs.Common.{◌≡◌, ◌∙◌, ◌≢◌, ℕ, ◌≤◌, ◌+◌, ◌⊎◌, false, List, [], ◌∷◌, ◌++◌, length, Some, Result, Ok, Err, inl, inr, refl, ap, sym, subst, append-nil, arith}
 use Rattle.std.proofs.lemmas.List.{length-append}
 use Rattle.std.proofs.lemmas.Option.{slice_get_past}
 use Rattle.logical_time.specs.declared.fault.Fault.{Fault}
@@ -20,7 +19,7 @@ use Rattle.workload.specs.declared.script.Event.{Event as ScriptEvent}
 use Rattle.workload.specs.declared.script.Event.TheVariants as script
 use Rattle.workload.specs.declared.transcript.Entry.{Entry}
 use Rattle.workload.specs.declared.transcript.Entry.TheVariants as entry
-use Rattle.workload.specs.Simulation.{entry_of, deliveries, spelled, ended_between, submission_refused, refused_as, told_if, told_of, then_told, told, simulated_in}
+use Rattle.workload.specs.Simulation.{deliveries, spelled, ended_between, submission_refused, refused_as, told_if, told_of, then_told, told, simulated_in}
 use Rattle.workload.specs.HasTold.{HasTold}
 use Rattle.workload.specs.Drain.{IsDrained, IsDrainedUntil}
 use Rattle.workload.specs.Playing.{Plays, PlaysBefore, Adds, EndsWith}
@@ -102,13 +101,6 @@ refusal_plays w v node o e known not refused same = go (by_memory_or_run (refusa
               ∙ ap (λ es. Ok (entry.Refused node e ∷ es)) (sym (ap (ended_between w_run) (ap run_of same) ∙ none_ended w_run));
         }
 
-pub refusal_told : {A : Type 0} (r : Result A Fault) (w v : WorldValue) (node : ℕ) (o : Op) (e : Fault) (before after : List Entry)
-    → OnOk r (after ≡ before ++ entry.Refused node e ∷ []) → OnOk r (e ≢ Memory) → OnOk r (e ≢ ClockSpent)
-    → IsRefusedAs (refusal_in w (Submit node o)) e → v ≡ w → OnOk r (Adds before after (PlaysBefore w (script.Submit node o) v))
-refusal_told (Ok x) w v node o e before after told known unspent refused same =
-    (entry.Refused node e ∷ [], told, refusal_plays w v node o e known unspent refused same)
-refusal_told (Err x) w v node o e before after told known unspent refused same = tt
-
 -- ## Deliveries, collections and drains
 
 pub unsent_ends : (w : WorldValue) (k : ℕ) → length (run_of w).sent ≤ k → EndsWith w (script.Deliver k) NoScript
@@ -147,15 +139,6 @@ no_fewer_ended w v s entries p =
     let count : length (run_of v).transcript ≡ length (run_of w).transcript + length more.0 =
     ap (λ (u : Run). length u.transcript) p.run ∙ ap (λ (cs : List Completed). length cs) more.1 ∙ length-append (run_of w).transcript more.0 in
     omega arith
-
--- and is told with what was told before
-pub ended_told : {A : Type 0} (r : Result A Fault) (w v : WorldValue) (s : ScriptEvent) (before between after : List Entry) (ended : List Completed)
-    → Adds before between (PlaysBefore w s v) → ended ≡ drop (length (run_of w).transcript) (run_of v).transcript → OnOk r (after ≡ between ++ map entry_of ended)
-    → OnOk r (Adds before after (Plays w s v))
-ended_told (Ok x) w v s before between after ended (es, added, plays) is told =
-    let rest = ended_between (run_of w) (run_of v) in
-    (es ++ rest, told ∙ ap (λ cs. between ++ map entry_of cs) is ∙ ap (λ xs. xs ++ rest) added ∙ append_assoc before es rest, plays)
-ended_told (Err x) w v s before between after ended added is told = tt
 
 -- ## A script so far
 

@@ -1,6 +1,7 @@
 -- The entries of a script are a transcript of its run, and its reads show the one table of their homes.
-use Rattle.std.proofs.Common.{◌≡◌, ◌∙◌, ℕ, ◌<◌, List, Ok, map, refl, ap, subst}
-use Rattle.std.specs.Prelude.{Contains}
+use Rattle.std.proofs.Common.{◌≡◌, ◌∙◌, ℕ, ◌<◌, List, Result, Ok, Err, map, refl, ap, sym, subst}
+use Rattle.std.specs.Prelude.{Contains, IfOk, IsOkAnd}
+use Rattle.logical_time.specs.declared.fault.Fault.{Fault}
 use Rattle.slice.specs.declared.read.Read.{Read}
 use Rattle.slice.specs.declared.read.AnsweredRow.{AnsweredRow}
 use Rattle.messages.specs.declared.op.Op.{Op}
@@ -10,14 +11,16 @@ use Rattle.messages.specs.declared.outcome.Outcome.TheVariants as outcome
 use Rattle.messages.specs.Topology.{TopologyValue}
 use Rattle.world.specs.declared.run_event.RunEvent.{RunEvent as Event}
 use Rattle.world.specs.declared.completed.Completed.{Completed}
-use Rattle.world.specs.Run.{opening, run}
+use Rattle.world.specs.Run.{Run, opening, run}
 use Rattle.world.specs.Promises.{Fits}
 use Rattle.world.proofs.Among.{among_contains, contains_among, filter_among, map_only}
 use Rattle.world.proofs.Laws.{reads_show_one_table, entries_are_of_submissions}
+use Rattle.workload.specs.declared.script.Event.{Event as ScriptEvent}
 use Rattle.workload.specs.declared.script.Script.{Script}
 use Rattle.workload.specs.declared.transcript.Entry.{Entry}
 use Rattle.workload.specs.declared.transcript.Entry.TheVariants as entry
-use Rattle.workload.specs.Simulation.{entry_by, entry_of, is_outcome, events_of, simulated, ShowsOneTable, IsTranscriptOf}
+use Rattle.workload.specs.Simulation.{entry_by, entry_of, is_outcome, events_of, simulated_in, simulated, ShowsOneTable, IsTranscriptOf}
+use Rattle.workload.specs.HasTold.{HasTold}
 use Rattle.workload.proofs.Told.{tells}
 
 -- the outcome that an entry of a read is of
@@ -71,3 +74,20 @@ is_transcript s entries some h =
           (subst (λ es. Contains es (entry.Read node number time answer)) t.outcomes
           (among_contains _ _ (filter_among is_outcome entries (entry.Read node number time answer) (contains_among _ _ has) refl)));
     }
+
+-- the entries that were told of the events of a script are its transcript
+shown_told : (s : Script) (top : TopologyValue) (events : List ScriptEvent) (w : Run) (entries : List Entry) → 0 < s.topology.shards → top ≡ s.topology → events ≡ s.events
+    → HasTold top events w entries → IsTranscriptOf s entries
+shown_told s top events w entries some same all h =
+    is_transcript s entries some (ap (λ t. simulated_in t s.events) (sym same) ∙ ap (simulated_in top) (sym all) ∙ h.told)
+
+pub shown_moved : (r : Result (List Entry) Fault) (s : Script) (top : TopologyValue) (events : List ScriptEvent) (w : Run) (entries : List Entry) → 0 < s.topology.shards
+    → top ≡ s.topology → events ≡ s.events → HasTold top events w entries → IfOk r (λ es. es ≡ entries) → IfOk r (IsTranscriptOf s)
+shown_moved (Ok es) s top events w entries some same all h is = subst (IsTranscriptOf s) (sym is) (shown_told s top events w entries some same all h)
+shown_moved (Err e) s top events w entries some same all h is = tt
+
+pub shown_copied : {M : Type 0} (r : Result (List Entry) Fault) (p : Result M Fault) (of : M → List Entry) (s : Script) (top : TopologyValue) (events : List ScriptEvent) (w : Run)
+    → 0 < s.topology.shards → top ≡ s.topology → events ≡ s.events → IfOk p (λ m. HasTold top events w (of m)) → IfOk r (λ es. IsOkAnd p (λ m. es ≡ of m)) → IfOk r (IsTranscriptOf s)
+shown_copied (Ok es) (Ok m) of s top events w some same all h is = subst (IsTranscriptOf s) (sym is) (shown_told s top events w (of m) some same all h)
+shown_copied (Ok es) (Err e) of s top events w some same all h is = absurd is
+shown_copied (Err e) p of s top events w some same all h is = tt

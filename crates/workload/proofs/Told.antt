@@ -24,7 +24,7 @@ use Rattle.workload.specs.Simulation.{entry_by, entry_of, ended_between, submiss
 
 -- ## What ended
 
-past_is : {X : Type 0} (xs ys : List X) (b : IsBeginning xs ys) → drop (length xs) ys ≡ b.0
+pub past_is : {X : Type 0} (xs ys : List X) (b : IsBeginning xs ys) → drop (length xs) ys ≡ b.0
 past_is xs ys b = ap (drop (length xs)) b.1 ∙ drop-append_seam xs b.0
 
 pub none_ended : (w : Run) → ended_between w w ≡ []

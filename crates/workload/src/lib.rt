@@ -5,6 +5,7 @@
 
 mod draining;
 mod explaining;
+mod marks;
 mod performing;
 mod reading;
 mod script;

@@ -7,7 +7,7 @@ ghost use Rattle.workload.specs.Text.{text_of};
 use crate::explaining;
 use crate::reading::read_script;
 use crate::script::{Event, Script};
-use crate::simulating::{play, simulate_to_the_end};
+use crate::simulating::{happen, simulate_to_the_end};
 use crate::text::write_transcript;
 use crate::transcript::Transcript;
 use json::{Scratch, Value as Json};
@@ -84,10 +84,9 @@ fn why(alloc: Global, event: &Event, fault: Fault) -> Option<String> {
 // Which event ends the script, and why: its events happen once more.
 fn explain_end(alloc: Global, script: &Script) -> Option<String> {
     let mut world = World::new(alloc, &script.topology).ok()?;
-    let mut transcript = Transcript::new(alloc);
     let mut found = None;
     for (place, event) in script.events.as_slice().iter().enumerate() {
-        if let Err(fault) = play(&mut world, event, &mut transcript) {
+        if let Err(fault) = happen(&mut world, event) {
             found = why(alloc, event, fault).map(|why: String| (place, why));
             break;
         }

@@ -1,31 +1,20 @@
 //! A script is run in a world.
-ghost use Rattle.std.specs.Prelude.{◌≡◌, ◌≢◌, ◌≤◌, ◌⊎◌, List, [], ◌∷◌, ◌++◌, length, map, drop, Err, IfOk, IfErr, OnOk};
+ghost use Rattle.std.specs.Prelude.{◌≡◌, ◌≢◌, ◌⊎◌, [], length, Some, Err, IsOkAnd, IfOk, IfErr, OnOk};
 ghost use Rattle.world.specs.World.{run_of};
 ghost use Rattle.workload.specs.declared.script.Event.TheVariants as script;
-ghost use Rattle.workload.specs.declared.transcript.Entry.TheVariants as entry;
-ghost use Rattle.workload.specs.Simulation.{entry_of, ended_between, simulated_in, simulated, IsTranscriptOf};
+ghost use Rattle.workload.specs.Marks.{ended_in, merged, told_refusal};
+ghost use Rattle.workload.specs.Simulation.{simulated_in, simulated, IsTranscriptOf};
 ghost use Rattle.workload.specs.Playing.{Plays, PlaysBefore, Adds, EndsWith};
 ghost use Rattle.workload.specs.HasTold.{HasTold};
 
 use crate::draining::drain;
+use crate::marks::{Mark, Refusal, note, with_copies, with_outcomes};
 use crate::script::{Event, Script};
-use crate::transcript::{Entry, Transcript};
+use crate::transcript::Transcript;
 use logical_time::{Fault, Node, Time};
 use messages::Op;
 use std::alloc::Global;
-use world::{Completed, World};
-
-// The operations that ended are told.
-fn tell(ended: &[Completed], transcript: &mut Transcript) -> Result<(), Fault>
-    ensures ok { OnOk result (transcript.new ≡ transcript.old ++ map entry_of ended.now) }
-    ensures memory { IfErr result (λ e. e ≡ Fault.Memory) }
-{
-    for completed in ended {
-        let entry = Entry::ended(completed.node, completed.number, &completed.outcome)?;
-        transcript.push(entry)?;
-    }
-    Ok(())
-}
+use world::World;
 
 // Why an operation was refused; it isn't needed any more.
 fn fault_of(refused: (Fault, Op)) -> Fault
@@ -34,38 +23,30 @@ fn fault_of(refused: (Fault, Op)) -> Fault
     refused.0
 }
 
-// The refusal of a submission is told, unless it ends the script.
-fn tell_refusal(session: Node, fault: Fault, transcript: &mut Transcript) -> Result<(), Fault>
-    ensures told { OnOk result (transcript.new ≡ transcript.old ++ entry.Refused session fault ∷ []) }
+// The refusal of a submission, unless it ends the script.
+fn refusal_of(node: Node, fault: Fault) -> Result<Option<Refusal>, Fault>
+    ensures told { IfOk result (λ refusal. refusal ≡ Some (record { node = node; fault = fault })) }
     ensures known { OnOk result (fault ≢ Fault.Memory) }
     ensures unspent { OnOk result (fault ≢ Fault.ClockSpent) }
     ensures ends { IfErr result (λ e. (e ≡ Fault.Memory) ⊎ ((e ≡ Fault.ClockSpent) × (fault ≡ Fault.ClockSpent))) }
 {
     match fault {
         Fault::Memory | Fault::ClockSpent => Err(fault),
-        _ => Ok(transcript.push(Entry::Refused {
-            node: session,
-            fault,
-        })?),
+        _ => Ok(Some(Refusal { node, fault })),
     }
 }
 
-// A session submits a copy of the operation. Where it refuses, that is told.
-fn submit(
-    world: &mut World,
-    session: Node,
-    op: &Op,
-    transcript: &mut Transcript,
-) -> Result<(), Fault>
-    ensures ok { OnOk result (Adds transcript.old transcript.new (PlaysBefore world.old (script.Submit session op.now) world.new)) }
+// A session submits a copy of the operation. The answer is its refusal, if it refuses.
+fn submit(world: &mut World, session: Node, op: &Op) -> Result<Option<Refusal>, Fault>
+    ensures ok { IfOk result (λ refusal. PlaysBefore world.old (script.Submit session op.now) world.new (told_refusal refusal)) }
     ensures ends { IfErr result (EndsWith world.old (script.Submit session op.now)) }
 {
     if world.topology().session_of(session).is_none() {
         return Err(Fault::Script);
     }
     match world.submit(session, op.copied()?) {
-        Ok(_) => Ok(()),
-        Err(refused) => tell_refusal(session, fault_of(refused), transcript),
+        Ok(_) => Ok(None),
+        Err(why) => refusal_of(session, fault_of(why)),
     }
 }
 
@@ -100,76 +81,64 @@ fn drain_all(world: &mut World) -> Result<(), Fault>
     Ok(())
 }
 
-// An event happens; what ended by it isn't told yet.
-fn happen(world: &mut World, event: &Event, transcript: &mut Transcript) -> Result<(), Fault>
-    ensures ok { OnOk result (Adds transcript.old transcript.new (PlaysBefore world.old event.now world.new)) }
+/// An event happens. The answer is the refusal of its submission, if it is one that is refused.
+pub(crate) fn happen(world: &mut World, event: &Event) -> Result<Option<Refusal>, Fault>
+    ensures ok { IfOk result (λ refusal. PlaysBefore world.old event.now world.new (told_refusal refusal)) }
     ensures ends { IfErr result (EndsWith world.old event.now) }
 {
     match event {
-        Event::Submit { session, op } => submit(world, *session, op, transcript),
-        Event::Deliver { number } => deliver(world, *number),
-        Event::Collect { shard, time } => collect(world, *shard, *time),
-        Event::Drain => drain_all(world),
+        Event::Submit { session, op } => submit(world, *session, op),
+        Event::Deliver { number } => {
+            deliver(world, *number)?;
+            Ok(None)
+        }
+        Event::Collect { shard, time } => {
+            collect(world, *shard, *time)?;
+            Ok(None)
+        }
+        Event::Drain => {
+            drain_all(world)?;
+            Ok(None)
+        }
     }
 }
 
-/// An event happens, and is told.
-pub(crate) fn play(
-    world: &mut World,
-    event: &Event,
-    transcript: &mut Transcript,
-) -> Result<(), Fault>
-    ensures ok { OnOk result (Adds transcript.old transcript.new (Plays world.old event.now world.new)) }
+// An event happens, and is noted: each operation that ended has its mark, before it and after it.
+fn play(world: &mut World, event: &Event, marks: &mut Vec<Mark>) -> Result<(), Fault>
+    requires marked { ended_in marks.old.items ≡ length (run_of world.old).transcript }
+    ensures marked { OnOk result (ended_in marks.new.items ≡ length (run_of world.new).transcript) }
+    ensures ok { OnOk result (Adds (merged marks.old.items (run_of world.old).transcript) (merged marks.new.items (run_of world.new).transcript) (Plays world.old event.now world.new)) }
     ensures ends { IfErr result (EndsWith world.old event.now) }
 {
     let before = world.transcript().len();
-    happen(world, event, transcript)?;
-    tell(&world.transcript()[before..], transcript)
+    let refusal = happen(world, event)?;
+    note(refusal, world.transcript().len() - before, marks)
 }
 
-// The events happen in order, until one ends the script.
-fn play_all(world: &mut World, events: &[Event], transcript: &mut Transcript) -> Result<(), Fault>
+// The events happen in order, until one ends the script, and are noted.
+fn play_all(alloc: Global, world: &mut World, events: &[Event]) -> Result<Vec<Mark>, Fault>
     requires opening { world.old.events ≡ [] }
-    requires empty { transcript.old ≡ [] }
-    ensures ok { OnOk result (HasTold world.old.top events.now (run_of world.new) transcript.new) }
+    ensures ok { IfOk result (λ marks. HasTold world.old.top events.now (run_of world.new) (merged marks.items (run_of world.new).transcript)) }
     ensures ends { IfErr result (λ e. (e ≡ Fault.Memory) ⊎ (simulated_in world.old.top events.now ≡ Err e)) }
 {
+    let mut marks = Vec::new(alloc);
     for event in events {
-        play(world, event, transcript)?;
+        play(world, event, &mut marks)?;
     }
-    Ok(())
+    Ok(marks)
 }
 
-/// What becomes of a world at the end of its run.
-#[derive(Drop)]
-enum End {
-    /// It is closed.
-    Close,
-    /// It is left to the end of the process.
-    Leave,
-}
-
-/// Ends a world.
-fn end_world(world: World, how: End) {
-    match how {
-        End::Close => world.close(),
-        End::Leave => world.leave(),
-    }
-}
-
-/// The transcript of a script, and the end of its world.
-fn simulate_and(alloc: Global, script: &Script, how: End) -> Result<Transcript, Fault>
-    ensures ok { IfOk result (IsTranscriptOf script.now) }
-    ensures faults { IfErr result (λ e. (e ≡ Fault.Memory) ⊎ (simulated script.now ≡ Err e)) }
+// The transcript of what was played, with copies of the outcomes, unless something ended the script.
+fn copied_transcript(
+    alloc: Global,
+    world: &World,
+    played: Result<Vec<Mark>, Fault>,
+) -> Result<Transcript, Fault>
+    ensures ok { IfOk result (λ transcript. IsOkAnd played (λ marks. transcript ≡ merged marks.items (run_of world.now).transcript)) }
+    ensures ends { IfErr result (λ e. (e ≡ Fault.Memory) ⊎ (played ≡ Err e)) }
 {
-    // each data centre has a shard
-    let _limits = script.topology.shards();
-    let mut world = World::new(alloc, &script.topology)?;
-    let mut transcript = Transcript::new(alloc);
-    let played = play_all(&mut world, script.events.as_slice(), &mut transcript);
-    end_world(world, how);
-    played?;
-    Ok(transcript)
+    let marks = played?;
+    with_copies(alloc, marks.as_slice(), world.transcript())
 }
 
 /// The transcript of a script, whose events happen in a world of its topology, in order: the outcome of each operation,
@@ -180,7 +149,13 @@ pub fn simulate(alloc: Global, script: &Script) -> Result<Transcript, Fault>
     ensures ok { IfOk result (IsTranscriptOf script.now) }
     ensures faults { IfErr result (λ e. (e ≡ Fault.Memory) ⊎ (simulated script.now ≡ Err e)) }
 {
-    simulate_and(alloc, script, End::Close)
+    // each data centre has a shard
+    let _limits = script.topology.shards();
+    let mut world = World::new(alloc, &script.topology)?;
+    let played = play_all(alloc, &mut world, script.events.as_slice());
+    let transcript = copied_transcript(alloc, &world, played);
+    world.close();
+    transcript
 }
 
 /// The same for a program that ends with it: the memory of what the world recorded is given back with that of the process.
@@ -188,5 +163,10 @@ pub(crate) fn simulate_to_the_end(alloc: Global, script: &Script) -> Result<Tran
     ensures ok { IfOk result (IsTranscriptOf script.now) }
     ensures faults { IfErr result (λ e. (e ≡ Fault.Memory) ⊎ (simulated script.now ≡ Err e)) }
 {
-    simulate_and(alloc, script, End::Leave)
+    let _limits = script.topology.shards();
+    let mut world = World::new(alloc, &script.topology)?;
+    let played = play_all(alloc, &mut world, script.events.as_slice());
+    let completed = world.leave();
+    let marks = played?;
+    with_outcomes(alloc, marks.as_slice(), completed)
 }

@@ -1,10 +1,10 @@
 //! Transcripts: what became of each submission.
-ghost use Rattle.std.specs.Prelude.{◌≡◌, ◌++◌, [], ◌∷◌, OnOk, OnErr, IfErr};
+ghost use Rattle.std.specs.Prelude.{◌≡◌, ◌++◌, [], ◌∷◌, OnOk, OnErr, IfOk, IfErr};
 
 use logical_time::{Fault, Node, Stamp, Time};
 use messages::Outcome;
 use slice::Answer;
-use std::alloc::{AllocFailed, Global};
+use std::alloc::{AllocError, AllocFailed, Global};
 use std::marker::Model;
 
 /// An entry of a transcript: the outcome of an operation, or the refusal of a submission.
@@ -57,20 +57,27 @@ impl Entry {
         ensures ok { IfOk result (λ e. e ≡ entry_by node number outcome.now) }
         ensures memory { IfErr result (λ e. e ≡ Fault.Memory) }
     {
-        match outcome.copied()? {
-            Outcome::Wrote { commit, stamp } => Ok(Entry::Wrote {
+        Ok(Entry::of_outcome(node, number, outcome.copied()?))
+    }
+
+    /// The same with the outcome itself.
+    pub fn of_outcome(node: Node, number: u64, outcome: Outcome) -> Entry
+        ensures { result ≡ entry_by node number outcome }
+    {
+        match outcome {
+            Outcome::Wrote { commit, stamp } => Entry::Wrote {
                 node,
                 number,
                 commit,
                 stamp,
-            }),
-            Outcome::Read { effective, answer } => Ok(Entry::Read {
+            },
+            Outcome::Read { effective, answer } => Entry::Read {
                 node,
                 number,
                 effective,
                 answer,
-            }),
-            Outcome::Collected => Ok(Entry::Collected { node, number }),
+            },
+            Outcome::Collected => Entry::Collected { node, number },
         }
     }
 }
@@ -98,6 +105,15 @@ impl Transcript {
         Transcript {
             entries: Vec::new(alloc),
         }
+    }
+
+    /// The same, with room for so many entries. Fails by memory alone.
+    pub fn with_capacity(alloc: Global, capacity: usize) -> Result<Transcript, AllocError>
+        ensures { IfOk result (λ transcript. transcript ≡ []) }
+    {
+        Ok(Transcript {
+            entries: Vec::with_capacity(alloc, capacity)?,
+        })
     }
 
     /// Adds an entry at the end. Fails by memory alone; then nothing changes, and

@@ -236,9 +236,12 @@ impl World {
         close_stations(stations);
     }
 
-    /// The same for a program that ends with it: the memory of its events, its messages, its transcript and the rows of its
-    /// shards is given back with that of the process.
-    pub fn leave(self) {
+    /// Ends the world for a program that ends with it, and hands out the operations that ended, in order: the memory of its
+    /// events, its messages and the rows of its shards is given back with that of the process.
+    #[tactic(auto, using(crate::proofs::Held::told_transcript))]
+    pub fn leave(self) -> Vec<Completed>
+        ensures { result.items ≡ (run_of self).transcript }
+    {
         let World { actors, log } = self;
         let Actors {
             topology: _,
@@ -249,8 +252,8 @@ impl World {
         } = actors;
         mem::forget(log);
         mem::forget(network);
-        mem::forget(transcript);
         leave_shards(shards);
         close_stations(stations);
+        transcript
     }
 }

@@ -1,6 +1,8 @@
-use Rattle.std.proofs.Common.{◌∙◌, ◌+◌, get_or, take, drop, refl}
+use Rattle.std.proofs.Common.{◌∙◌, ◌+◌, get_or, take, drop, refl, ap}
 use Rattle.std.proofs.lemmas.List.{take_more}
 use Rattle.std.proofs.lemmas.Result.{err_from_is_err_and}
+use Rattle.world.specs.World.{run_of}
+use Rattle.workload.specs.Marks.{merged}
 use Rattle.workload.proofs.Lists.{item_between}
 use Rattle.workload.proofs.Plays.{none_played, more_played, played_until}
 use Rattle.workload.proofs.simulating.play_all.Goals as goal
@@ -8,7 +10,8 @@ use Rattle.workload.proofs.simulating.play_all.Goals as goal
 pub loop-event-init : goal.loop-event-init
 loop-event-init c = record {
   topology = refl;
-  told = none_played c.args.world.now c.args.transcript.now c.requires.opening c.requires.empty;
+  marked = rw (c.new-marks.ensures.items, c.requires.opening) refl;
+  told = none_played c.args.world.now _ c.requires.opening (ap (λ ms. merged ms (run_of c.args.world.now).transcript) c.new-marks.ensures.items);
 }
 
 pub returns-in_err-play-clause-ends : goal.returns-in_err-play-clause-ends
@@ -18,7 +21,7 @@ returns-in_err-play-clause-ends c =
     let i = c.loop-event.event-index in
     let x = c.event-item.result in
     rw (p.1, p.2, ← item_between xs i x c.loop-event-test.true)
-    (played_until c.args.world.now.top (take i xs) (get_or xs i x) (drop (i + 1) xs) c.loop-event.world c.loop-event.transcript c.in_err-play.field-0.0
+    (played_until c.args.world.now.top (take i xs) (get_or xs i x) (drop (i + 1) xs) c.loop-event.world (merged c.loop-event.marks.items (run_of c.loop-event.world).transcript) c.in_err-play.field-0.0
     c.loop-event.invariant.topology c.loop-event.invariant.told (rw (← c.event-item.is) c.in_err-play.ensures.ends))
 
 pub loop-event-preserved : goal.loop-event-preserved
@@ -28,8 +31,9 @@ loop-event-preserved c =
     let x = c.event-item.result in
     record {
       topology = c.in_ok-play.ensures.ok.2.topology ∙ c.loop-event.invariant.topology;
+      marked = c.in_ok-play.ensures.marked;
       told =
           rw (take_more xs i x c.loop-event-test.true)
-          (more_played c.args.world.now.top (take i xs) (get_or xs i x) c.loop-event.world c.play.new.world c.loop-event.transcript c.play.new.transcript
+          (more_played c.args.world.now.top (take i xs) (get_or xs i x) c.loop-event.world c.play.new.world _ _
           c.loop-event.invariant.topology c.loop-event.invariant.told (rw (← c.event-item.is) c.in_ok-play.ensures.ok));
     }

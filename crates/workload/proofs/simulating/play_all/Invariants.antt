@@ -1,11 +1,13 @@
-use Rattle.std.proofs.Common.{◌≡◌, take}
+use Rattle.std.proofs.Common.{◌≡◌, length, take}
 use Rattle.world.specs.World.{run_of}
 use Rattle.workload.specs.HasTold.{HasTold}
+use Rattle.workload.specs.Marks.{ended_in, merged}
 use Rattle.workload.proofs.simulating.play_all.Given as goal
 
--- those before the next happened and are told
+-- those before the next happened and are noted
 abbrev pub invariant-loop-event : goal.invariant-loop-event
 invariant-loop-event l = record {
   topology : l.world.top ≡ l.fn.world.top;
-  told : HasTold l.fn.world.top (take l.event-index l.events) (run_of l.world) l.transcript;
+  marked : ended_in l.marks.items ≡ length (run_of l.world).transcript;
+  told : HasTold l.fn.world.top (take l.event-index l.events) (run_of l.world) (merged l.marks.items (run_of l.world).transcript);
 }
