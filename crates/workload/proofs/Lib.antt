@@ -9,5 +9,6 @@ pub mod Drains
 pub mod DrainsInTime
 pub mod Plays
 pub mod Noted
+pub mod Since
 pub mod Ends
 pub mod Pieces

@@ -48,10 +48,24 @@ front_snoc None ys zs x xs rest h = absurd cc
 front_snoc (Some y) None zs x xs rest h = absurd cc
 front_snoc (Some y) (Some ys) zs x xs rest h = rw (rest ys refl) (ap (λ vs. Some (vs ++ x ∷ [])) (some_same (y ∷ ys) xs h))
 
+-- more items after a first one and others
+joined : {A : Type 0} (y : Option A) (ys : Option (List A)) (zs : Option (List A)) (xs more : List A)
+    → ((ws : List A) → ys ≡ Some ws → zs ≡ Some (ws ++ more))
+    → option_and_then (λ v. option_map (λ vs. v ∷ vs) ys) y ≡ Some xs
+    → option_and_then (λ v. option_map (λ vs. v ∷ vs) zs) y ≡ Some (xs ++ more)
+joined None ys zs xs more rest h = absurd cc
+joined (Some y) None zs xs more rest h = absurd cc
+joined (Some y) (Some ys) zs xs more rest h = rw (rest ys refl) (ap (λ vs. Some (vs ++ more)) (some_same (y ∷ ys) xs h))
+
 -- one more item
 pub all_by_snoc : {A : Type 0} (f : Json → Option A) (ds : List Json) (xs : List A) (d : Json) (x : A) → all_by f ds ≡ Some xs → f d ≡ Some x → all_by f (ds ++ d ∷ []) ≡ Some (xs ++ x ∷ [])
 all_by_snoc f [] xs d x h e = rw e (ap (λ ys. Some (ys ++ x ∷ [])) (some_same _ _ h))
 all_by_snoc f (b ∷ ds) xs d x h e = front_snoc (f b) (all_by f ds) (all_by f (ds ++ d ∷ [])) x xs (λ ws g. all_by_snoc f ds ws d x g e) h
+
+-- more items after others
+pub all_by_join : {A : Type 0} (f : Json → Option A) (ds es : List Json) (xs ys : List A) → all_by f ds ≡ Some xs → all_by f es ≡ Some ys → all_by f (ds ++ es) ≡ Some (xs ++ ys)
+all_by_join f [] es xs ys h g = g ∙ ap (λ zs. Some (zs ++ ys)) (some_same _ _ h)
+all_by_join f (d ∷ ds) es xs ys h g = joined (f d) (all_by f ds) (all_by f (ds ++ es)) xs ys (λ ws k. all_by_join f ds es ws ys k g) h
 
 -- an item that stands for nothing
 pub all_by_none : {A B : Type 0} (f : Json → Option A) (see : B → Json) (bs : List B) (i : ℕ) (b : B) → i < length bs → f (see (get_or bs i b)) ≡ None → all_by f (map see bs) ≡ None

@@ -153,8 +153,7 @@ more_played top xs x w v before after same h (es, added, plays) =
     (subst (λ t. run_of v ≡ continued t (run_of w) (spelled t (run_of w) x)) same plays.run)
     (subst (λ t. told t (run_of w) (spelled t (run_of w) x) ≡ Ok es) same plays.told))
 
-pub played_until : (top : TopologyValue) (xs : List ScriptEvent) (x : ScriptEvent) (ys : List ScriptEvent) (w : WorldValue) (entries : List Entry) (e : Fault) → w.top ≡ top
-    → HasTold top xs (run_of w) entries → EndsWith w x e → (e ≡ Memory) ⊎ (simulated_in top (xs ++ x ∷ ys) ≡ Err e)
-played_until top xs x ys w entries e same h (inl memory) = inl memory
-played_until top xs x ys w entries e same h (inr ends) =
-    inr (told_until top xs x ys (run_of w) entries e h (subst (λ t. told t (run_of w) (spelled t (run_of w) x) ≡ Err e) same ends))
+pub ended_there : (top : TopologyValue) (xs : List ScriptEvent) (x : ScriptEvent) (ys : List ScriptEvent) (w : WorldValue) (entries : List Entry) (e : Fault) → w.top ≡ top
+    → HasTold top xs (run_of w) entries → told w.top (run_of w) (spelled w.top (run_of w) x) ≡ Err e → simulated_in top (xs ++ x ∷ ys) ≡ Err e
+ended_there top xs x ys w entries e same h ends =
+    told_until top xs x ys (run_of w) entries e h (subst (λ t. told t (run_of w) (spelled t (run_of w) x) ≡ Err e) same ends)

@@ -76,7 +76,7 @@ is_transcript s entries some h =
     }
 
 -- the entries that were told of the events of a script are its transcript
-shown_told : (s : Script) (top : TopologyValue) (events : List ScriptEvent) (w : Run) (entries : List Entry) → 0 < s.topology.shards → top ≡ s.topology → events ≡ s.events
+pub shown_told : (s : Script) (top : TopologyValue) (events : List ScriptEvent) (w : Run) (entries : List Entry) → 0 < s.topology.shards → top ≡ s.topology → events ≡ s.events
     → HasTold top events w entries → IsTranscriptOf s entries
 shown_told s top events w entries some same all h =
     is_transcript s entries some (ap (λ t. simulated_in t s.events) (sym same) ∙ ap (simulated_in top) (sym all) ∙ h.told)

@@ -4,6 +4,7 @@ use Rattle.std.specs.Prelude.{⊤, IfSome, codes, nat_lt, if◌then◌else◌}
 use Rattle.std.proofs.lemmas.Bool.Decides.{nat_tests}
 use Rattle.std.proofs.lemmas.Bool.{false≢true}
 use Rattle.std.specs.Str.{bytes_eq}
+use Rattle.std.specs.Cmp.Lexicographic.{bytes_decides}
 use Rattle.std.specs.Borrow.{Bor}
 use Rattle.std.specs.declared.alloc.Global.{Global}
 use Rattle.json.specs.Token.{Token}
@@ -26,8 +27,8 @@ use Rattle.workload.specs.declared.script.Event.TheVariants.{Submit, Deliver, Co
 use Rattle.workload.specs.Gives.{◌>>=◌}
 use Rattle.workload.specs.Shape.{jsons_of, all_by, list_by, all_within, list_within, member_by, members_len, is_same, has_members, whole_of, whole_below, if_below}
 use Rattle.workload.specs.Script.{insert_of, delete_of, delete_row_of, delete_range_of, mutation_of, change_of, predicate_of, names_of, predicate_in, range_of, read_of, batch_of, op_in, op_of, small_of, families_of, topology_among, topology_of, event_of, script_of, submit_of, deliver_of, time_of, collect_of, drain_of}
-use Rattle.workload.specs.Streams.{Reads, ReadsRest, ItemsAre, MembersAre, followed_by, BeginWith, IsHeader}
-use Rattle.workload.proofs.Lists.{all_by_snoc, all_within_short}
+use Rattle.workload.specs.Streams.{Reads, ReadsRest, ItemsAre, MembersAre, before, SoFar, IsStretch, followed_by, BeginWith, IsHeader, Begins}
+use Rattle.workload.proofs.Lists.{all_by_snoc, all_by_join, all_within_short}
 
 abbrev Found : {A : Type 0} → Option A → Type 0
 Found None = ⊥
@@ -91,10 +92,6 @@ is_object depth ts s r ms h e are = ap (value depth) e ∙ value-begin_object de
 
 -- ---- a list, item by item: what was read so far, and what comes
 
-abbrev pub before : List Json → Items → Items
-before [] rest = rest
-before (j ∷ js) rest = item j (before js rest)
-
 pub jsons_before : (js : List Json) → jsons_of (before js no_items) ≡ js
 jsons_before [] = refl
 jsons_before (j ∷ js) = ap (λ ks. j ∷ ks) (jsons_before js)
@@ -102,10 +99,6 @@ jsons_before (j ∷ js) = ap (λ ks. j ∷ ks) (jsons_before js)
 pub before_snoc : (js : List Json) (j : Json) (rest : Items) → before js (item j rest) ≡ before (js ++ j ∷ []) rest
 before_snoc [] j rest = refl
 before_snoc (k ∷ js) j rest = ap (item k) (before_snoc js j rest)
-
--- of the list from `first` on, what stands before `now` stands for the xs
-abbrev pub SoFar : {A : Type 0} → (Json → Option A) → ℕ → List Token → List Token → List A → Type 0
-SoFar f depth first now xs = (js : List Json) × (all_by f js ≡ Some xs) × ((rest : Items) (r : List Token) → ItemsAre depth now rest r → ItemsAre depth first (before js rest) r)
 
 pub none_so_far : {A : Type 0} (f : Json → Option A) (depth : ℕ) (first : List Token) → SoFar f depth first first []
 none_so_far f depth first = ([], refl, λ rest r are. are)
@@ -115,6 +108,23 @@ one_more_so_far f depth first now new xs x so_far h = (
   so_far.0 ++ h.0 ∷ [],
   all_by_snoc f so_far.0 xs h.0 x so_far.1 h.2,
   λ rest r are. rw (← before_snoc so_far.0 h.0 rest) (so_far.2 (item h.0 rest) r (one_more_item depth now new r h.0 rest h.1 are)),
+)
+
+before_join : (js ks : List Json) (rest : Items) → before js (before ks rest) ≡ before (js ++ ks) rest
+before_join [] ks rest = refl
+before_join (j ∷ js) ks rest = ap (item j) (before_join js ks rest)
+
+-- a list that went on comes with its next items
+pub stretched : {A : Type 0} (f : Json → Option A) (depth : ℕ) (first now new : List Token) (xs ys : List A) (last : Bool) → IsStretch f depth first now xs false → IsStretch f depth now new ys last
+    → IsStretch f depth first new (xs ++ ys) last
+stretched f depth first now new xs ys last (at, (js, are, leads), here) (to, (ks, also, further), ends) = (
+  to,
+  (
+    js ++ ks,
+    all_by_join f js ks xs ys are also,
+    λ rest r h. rw (← before_join js ks rest) (leads (before ks rest) r (subst (λ ts. ItemsAre depth ts (before ks rest) r) (sym here) (further rest r h))),
+  ),
+  ends,
 )
 
 pub all_so_far : {A : Type 0} (f : Json → Option A) (depth : ℕ) (ts first now r : List Token) (xs : List A) → 0 < depth → ts ≡ Token.begin_array ∷ first → SoFar f (depth - 1) first now xs → after_end_array now ≡ Some r
@@ -253,6 +263,12 @@ tagged : {A : Type 0} (whole f : Json → Option A) (o : Option A) (depth : ℕ)
     → ((js : Items) → whole (array (item (string t) js)) ≡ f (array (item (string t) js))) → IfSome o (ReadsRest f (depth - 1) u r) → IfSome o (Reads whole depth ts r)
 tagged whole f o depth ts s u r t some e g same h = if_some _ _ o (λ x k. tagged_reads whole f depth ts s u r t x some e g k same) h
 
+-- a tag is not two words
+delivered : (t : List ℕ) → bytes_eq t (codes "deliver") ≡ true → bytes_eq t (codes "submit") ≡ false
+delivered t e =
+    let is : t ≡ codes "deliver" = (bytes_decides t (codes "deliver")).0 e in
+    ap (λ u. bytes_eq u (codes "submit")) is
+
 module _ (depth : ℕ) (ts s u r : List Token) (t : List ℕ) (some : 0 < depth) (e : ts ≡ Token.begin_array ∷ s) (g : s ≡ Token.string t ∷ u) where
   pub inserts : (o : Option Mutation) → bytes_eq t (codes "insert") ≡ true → IfSome o (ReadsRest insert_of (depth - 1) u r) → IfSome o (Reads mutation_of depth ts r)
   unfolding mutation_of
@@ -275,9 +291,9 @@ module _ (depth : ℕ) (ts s u r : List Token) (t : List ℕ) (some : 0 < depth)
   unfolding event_of
   submits top o a = tagged (event_of top) (submit_of top) o depth ts s u r t some e g (λ js. pick _ _ _ a)
 
-  pub delivers : (top : TopologyValue) (o : Option Event) → bytes_eq t (codes "submit") ≡ false → bytes_eq t (codes "deliver") ≡ true → IfSome o (ReadsRest deliver_of (depth - 1) u r) → IfSome o (Reads (event_of top) depth ts r)
+  pub delivers : (top : TopologyValue) (o : Option Event) → bytes_eq t (codes "deliver") ≡ true → IfSome o (ReadsRest deliver_of (depth - 1) u r) → IfSome o (Reads (event_of top) depth ts r)
   unfolding event_of
-  delivers top o a b = tagged (event_of top) deliver_of o depth ts s u r t some e g (λ js. skip _ _ _ a ∙ pick _ _ _ b)
+  delivers top o a = tagged (event_of top) deliver_of o depth ts s u r t some e g (λ js. skip _ _ _ (delivered t a) ∙ pick _ _ _ a)
 
   pub collects : (top : TopologyValue) (o : Option Event) → bytes_eq t (codes "submit") ≡ false → bytes_eq t (codes "deliver") ≡ false → bytes_eq t (codes "collect") ≡ true → IfSome o (ReadsRest (collect_of top) (depth - 1) u r) → IfSome o (Reads (event_of top) depth ts r)
   unfolding event_of
@@ -416,3 +432,11 @@ script_reads text s u v ms top events e begin header h end le =
     ap (option_and_then script_of) found
     ∙ (λ i. if (begun.0 i) then ((begun.1 i) >>= (λ t. (member_by (list_within (event_of t) 100000) (codes "events") d) >>= (λ k. Some (record { topology = t; events = k })))) else None)
     ∙ ap (λ o. o >>= (λ k. Some (record { topology = top; events = k }))) member_is
+
+pub begins : (ts s u : List Token) (ms : List (Bor (List ℕ) × Value Global)) (o : Option TopologyValue) → ts ≡ Token.begin_object ∷ s → BeginWith 127 (codes "events") s u ms
+    → IfSome o (λ top. (j : Json) → IsHeader ms j top) → IfSome o (Begins ts u)
+begins ts s u ms o e begin h = if_some _ _ o (λ top header. (s, ms, e, begin, header)) h
+
+pub begun_reads : (text : List ℕ) (u v : List Token) (top : TopologyValue) (events : List Event) → Begins (tokens text) u top → Reads (list_by (event_of top)) 127 u v events → v ≡ Token.end_object ∷ []
+    → length events ≤ 100000 → option_and_then script_of (document text) ≡ Some (record { topology = top; events = events })
+begun_reads text u v top events (s, ms, e, begin, header) reads end le = script_reads text s u v ms top events e begin header reads end le

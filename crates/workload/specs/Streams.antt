@@ -1,13 +1,13 @@
 -- What the tokens to come stand for.
-use Rattle.std.specs.Prelude.{◌≡◌, ◌≤◌, ℕ, List, [], ◌∷◌, length, true, Option, Some, codes}
+use Rattle.std.specs.Prelude.{◌≡◌, ◌≤◌, ℕ, List, [], ◌∷◌, length, Bool, true, false, Option, Some, codes}
 use Rattle.std.specs.Borrow.{Bor}
 use Rattle.std.specs.declared.alloc.Global.{Global}
-use Rattle.json.specs.Token.{Token}
-use Rattle.json.specs.Json.{Json, array, object, Items, item, Members, member, no_members, items, members, value}
+use Rattle.json.specs.Token.{Token, begin_object}
+use Rattle.json.specs.Json.{Json, array, object, Items, item, Members, member, no_members, items, members, value, after_end_array}
 use Rattle.json.specs.Value.{value_view}
 use Rattle.json.specs.declared.value.Value.{Value}
 use Rattle.messages.specs.Topology.{TopologyValue}
-use Rattle.workload.specs.Shape.{has_members}
+use Rattle.workload.specs.Shape.{all_by, has_members}
 use Rattle.workload.specs.Script.{topology_of}
 
 -- the tokens begin with a value that stands for x, nested no deeper than the depth
@@ -26,6 +26,24 @@ MembersAre depth old ms new = (n : ℕ) → length old ≤ n → members (value 
 abbrev pub ReadsRest : {A : Type 0} → (Json → Option A) → ℕ → List Token → List Token → A → Type 0
 ReadsRest f depth old new x = (js : Items) × ItemsAre depth old js new × ((j : Json) → f (array (item j js)) ≡ Some x)
 
+-- these items, and others after them
+abbrev pub before : List Json → Items → Items
+before [] rest = rest
+before (j ∷ js) rest = item j (before js rest)
+
+-- of the list from `first` on, what stands before `now` stands for the xs
+abbrev pub SoFar : {A : Type 0} → (Json → Option A) → ℕ → List Token → List Token → List A → Type 0
+SoFar f depth first now xs = (js : List Json) × (all_by f js ≡ Some xs) × ((rest : Items) (r : List Token) → ItemsAre depth now rest r → ItemsAre depth first (before js rest) r)
+
+-- the bracket that closes a list is read, if it ends here
+abbrev pub EndsIf : Bool → List Token → List Token → Type 0
+EndsIf true now new = after_end_array now ≡ Some new
+EndsIf false now new = now ≡ new
+
+-- the next items of a list stand for the xs, and if they are its last, the bracket that closes it is read
+abbrev pub IsStretch : {A : Type 0} → (Json → Option A) → ℕ → List Token → List Token → List A → Bool → Type 0
+IsStretch f depth old new xs last = (now : List Token) × SoFar f depth old now xs × EndsIf last now new
+
 -- these members, and others after them
 abbrev pub followed_by : List (Bor (List ℕ) × Value Global) → Members → Members
 followed_by [] rest = rest
@@ -41,3 +59,9 @@ abbrev pub IsHeader : List (Bor (List ℕ) × Value Global) → Json → Topolog
 IsHeader ms events top =
     let whole = object (followed_by ms (member (codes "events") events no_members)) in
     (has_members 5 whole ≡ true) × (topology_of whole ≡ Some top)
+
+-- the tokens begin with a script of this topology, down to its events, which come last
+abbrev pub Begins : List Token → List Token → TopologyValue → Type 0
+Begins old new top =
+    (first : List Token) × (ms : List (Bor (List ℕ) × Value Global)) × (old ≡ begin_object ∷ first) × BeginWith 127 (codes "events") first new ms
+    × ((events : Json) → IsHeader ms events top)

@@ -3,6 +3,7 @@
 //! The run of a script, what is told of it and what its transcript shows are the definitions of `specs/Simulation.antt`.
 #![tactic(auto)]
 
+mod along;
 mod draining;
 mod explaining;
 mod marks;

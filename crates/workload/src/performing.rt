@@ -4,6 +4,7 @@ ghost use Rattle.logical_time.specs.declared.fault.Fault.{Fault as Refusal};
 ghost use Rattle.workload.specs.Performing.{IsTextFor, IsRefused, Prints, Ends, TellsUnread};
 ghost use Rattle.workload.specs.Text.{text_of};
 
+use crate::along::run_along;
 use crate::explaining;
 use crate::reading::read_script;
 use crate::script::{Event, Script};
@@ -64,6 +65,9 @@ pub fn sim(alloc: Global, input: &[u8]) -> Result<Transcript, Fault>
     let Ok(text) = simdutf8::compat::from_utf8(input) else {
         return Err(Fault::Script);
     };
+    if let Some(transcript) = run_along(alloc, text) {
+        return Ok(transcript);
+    }
     let script = read_script(alloc, text)?;
     let transcript = simulate_to_the_end(alloc, &script)?;
     mem::forget(script);

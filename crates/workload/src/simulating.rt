@@ -1,11 +1,12 @@
 //! A script is run in a world.
-ghost use Rattle.std.specs.Prelude.{◌≡◌, ◌≢◌, ◌⊎◌, [], length, Some, Err, IsOkAnd, IfOk, IfErr, OnOk};
+ghost use Rattle.std.specs.Prelude.{◌≡◌, ◌≢◌, ◌⊎◌, List, [], ◌++◌, length, Some, Err, IsOkAnd, IfOk, IfErr, OnOk};
 ghost use Rattle.world.specs.World.{run_of};
+ghost use Rattle.workload.specs.declared.script.Event.{Event as ScriptEvent};
 ghost use Rattle.workload.specs.declared.script.Event.TheVariants as script;
 ghost use Rattle.workload.specs.Marks.{ended_in, merged, told_refusal};
 ghost use Rattle.workload.specs.Simulation.{simulated_in, simulated, IsTranscriptOf};
 ghost use Rattle.workload.specs.Playing.{Plays, PlaysBefore, Adds, EndsWith};
-ghost use Rattle.workload.specs.HasTold.{HasTold};
+ghost use Rattle.workload.specs.HasTold.{HasTold, HasNoted};
 
 use crate::draining::drain;
 use crate::marks::{Mark, Refusal, note, with_copies, with_outcomes};
@@ -115,6 +116,24 @@ fn play(world: &mut World, event: &Event, marks: &mut Vec<Mark>) -> Result<(), F
     note(refusal, world.transcript().len() - before, marks)
 }
 
+/// The events happen in order, until one ends the script, and are noted. Others may have happened before.
+pub(crate) fn play_some(
+    world: &mut World,
+    events: &[Event],
+    marks: &mut Vec<Mark>,
+) -> Result<(), Fault>
+    requires marked { ended_in marks.old.items ≡ length (run_of world.old).transcript }
+    ensures topology { OnOk result (world.new.top ≡ world.old.top) }
+    ensures marked { OnOk result (ended_in marks.new.items ≡ length (run_of world.new).transcript) }
+    ensures ok { OnOk result ((before : List ScriptEvent) → HasNoted world.old.top before (run_of world.old) marks.old.items → HasNoted world.old.top (before ++ events.now) (run_of world.new) marks.new.items) }
+    ensures ends { IfErr result (λ e. (e ≡ Fault.Memory) ⊎ ((before : List ScriptEvent) → HasNoted world.old.top before (run_of world.old) marks.old.items → simulated_in world.old.top (before ++ events.now) ≡ Err e)) }
+{
+    for event in events {
+        play(world, event, marks)?;
+    }
+    Ok(())
+}
+
 // The events happen in order, until one ends the script, and are noted.
 fn play_all(alloc: Global, world: &mut World, events: &[Event]) -> Result<Vec<Mark>, Fault>
     requires opening { world.old.events ≡ [] }
@@ -122,9 +141,7 @@ fn play_all(alloc: Global, world: &mut World, events: &[Event]) -> Result<Vec<Ma
     ensures ends { IfErr result (λ e. (e ≡ Fault.Memory) ⊎ (simulated_in world.old.top events.now ≡ Err e)) }
 {
     let mut marks = Vec::new(alloc);
-    for event in events {
-        play(world, event, &mut marks)?;
-    }
+    play_some(world, events, &mut marks)?;
     Ok(marks)
 }
 

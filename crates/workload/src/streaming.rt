@@ -7,7 +7,7 @@ ghost use Rattle.json.specs.Json.{Json as SpecJson, document, object, member, no
 ghost use Rattle.json.specs.Value.{value_view};
 ghost use Rattle.workload.specs.Shape.{list_by, has_members as form_members, whole_below as below, whole_of};
 ghost use Rattle.workload.specs.Script as form;
-ghost use Rattle.workload.specs.Streams.{Reads, ReadsRest, BeginWith, IsHeader};
+ghost use Rattle.workload.specs.Streams.{Reads, ReadsRest, BeginWith, IsHeader, Begins};
 
 use crate::reading::{MOST_EVENTS, range, topology};
 use crate::script::{Event, Events, Script};
@@ -23,7 +23,7 @@ use std::alloc::Global;
 const FEW: usize = 2;
 
 /// Whether a list begins.
-fn opens(reader: &mut Reader<'_>) -> bool
+pub(crate) fn opens(reader: &mut Reader<'_>) -> bool
     ensures { result ≡ true → reader.old ≡ spec.begin_array ∷ reader.new }
 {
     matches!(reader.next(), Some(Token::BeginArray))
@@ -349,17 +349,23 @@ fn drain(reader: &mut Reader<'_>, depth: usize) -> Option<Event>
 }
 
 /// The event that comes next.
-fn event(alloc: Global, topology: &Topology, reader: &mut Reader<'_>, depth: usize) -> Option<Event>
+pub(crate) fn event(
+    alloc: Global,
+    topology: &Topology,
+    reader: &mut Reader<'_>,
+    depth: usize,
+) -> Option<Event>
     ensures { IfSome result (Reads (form.event_of topology.now) depth reader.old reader.new) }
 {
     if depth == 0 || !opens(reader) {
         return None;
     }
     let tag = text(reader)?;
-    if tag == "submit" {
-        submit(alloc, topology, reader, depth - 1)
-    } else if tag == "deliver" {
+    // the most frequent one of long scripts comes first
+    if tag == "deliver" {
         deliver(alloc, reader, depth - 1)
+    } else if tag == "submit" {
+        submit(alloc, topology, reader, depth - 1)
     } else if tag == "collect" {
         collect(alloc, topology, reader, depth - 1)
     } else if tag == "drain" {
@@ -433,10 +439,21 @@ fn topology_in<'a>(alloc: Global, mut members: Vec<(&'a str, Json<'a>)>) -> Opti
 }
 
 /// Whether an object ends, and the text with it.
-fn is_end(reader: &mut Reader<'_>) -> bool
+pub(crate) fn is_end(reader: &mut Reader<'_>) -> bool
     ensures { result ≡ true → reader.old ≡ spec.end_object ∷ [] }
 {
     matches!(reader.next_key(), Ok(None)) && reader.next().is_none()
+}
+
+/// The topology of the script that begins; then its events come.
+pub(crate) fn begun(alloc: Global, reader: &mut Reader<'_>) -> Option<Topology>
+    ensures { IfSome result (Begins reader.old reader.new) }
+{
+    if !opens_object(reader) {
+        return None;
+    }
+    let members = header(alloc, reader, MAX_DEPTH - 1)?;
+    topology_in(alloc, members)
 }
 
 /// The script that a text stands for, where its events are the last member, and memory is there.
@@ -445,11 +462,7 @@ pub(crate) fn streamed(alloc: Global, text: &str) -> Option<Script>
 {
     let mut scratch = Scratch::new(alloc);
     let mut reader = Reader::new(text, &mut scratch).ok()?;
-    if !opens_object(&mut reader) {
-        return None;
-    }
-    let members = header(alloc, &mut reader, MAX_DEPTH - 1)?;
-    let topology = topology_in(alloc, members)?;
+    let topology = begun(alloc, &mut reader)?;
     let events = events(alloc, &topology, &mut reader, MAX_DEPTH - 1)?;
     if events.len() > MOST_EVENTS || !is_end(&mut reader) {
         return None;

@@ -1,39 +1,13 @@
-use Rattle.std.proofs.Common.{◌∙◌, ◌+◌, get_or, take, drop, refl, ap}
-use Rattle.std.proofs.lemmas.List.{take_more}
 use Rattle.std.proofs.lemmas.Result.{err_from_is_err_and}
 use Rattle.world.specs.World.{run_of}
-use Rattle.workload.specs.Marks.{merged}
-use Rattle.workload.proofs.Lists.{item_between}
-use Rattle.workload.proofs.Plays.{none_played, more_played, played_until}
+use Rattle.workload.proofs.Since.{noted_from_start, ended_from_start}
 use Rattle.workload.proofs.simulating.play_all.Goals as goal
 
-pub loop-event-init : goal.loop-event-init
-loop-event-init c = record {
-  topology = refl;
-  marked = rw (c.new-marks.ensures.items, c.requires.opening) refl;
-  told = none_played c.args.world.now _ c.requires.opening (ap (λ ms. merged ms (run_of c.args.world.now).transcript) c.new-marks.ensures.items);
-}
-
-pub returns-in_err-play-clause-ends : goal.returns-in_err-play-clause-ends
-returns-in_err-play-clause-ends c =
+pub returns-in_err-play_some-clause-ends : goal.returns-in_err-play_some-clause-ends
+returns-in_err-play_some-clause-ends c =
     let p = err_from_is_err_and c.from_residual.result c.from_residual.ensures.1 in
-    let xs = c.args.events.now in
-    let i = c.loop-event.event-index in
-    let x = c.event-item.result in
-    rw (p.1, p.2, ← item_between xs i x c.loop-event-test.true)
-    (played_until c.args.world.now.top (take i xs) (get_or xs i x) (drop (i + 1) xs) c.loop-event.world (merged c.loop-event.marks.items (run_of c.loop-event.world).transcript) c.in_err-play.field-0.0
-    c.loop-event.invariant.topology c.loop-event.invariant.told (rw (← c.event-item.is) c.in_err-play.ensures.ends))
+    rw (p.1, p.2) (ended_from_start c.args.world.now c.new-marks.result.items c.args.events.now c.in_err-play_some.field-0.0 c.requires.opening c.new-marks.ensures.items c.in_err-play_some.ensures.ends)
 
-pub loop-event-preserved : goal.loop-event-preserved
-loop-event-preserved c =
-    let xs = c.args.events.now in
-    let i = c.loop-event.event-index in
-    let x = c.event-item.result in
-    record {
-      topology = c.in_ok-play.ensures.ok.2.topology ∙ c.loop-event.invariant.topology;
-      marked = c.in_ok-play.ensures.marked;
-      told =
-          rw (take_more xs i x c.loop-event-test.true)
-          (more_played c.args.world.now.top (take i xs) (get_or xs i x) c.loop-event.world c.play.new.world _ _
-          c.loop-event.invariant.topology c.loop-event.invariant.told (rw (← c.event-item.is) c.in_ok-play.ensures.ok));
-    }
+pub returns-clause-ok : goal.returns-clause-ok
+returns-clause-ok c =
+    (noted_from_start c.args.world.now c.new-marks.result.items c.args.events.now (run_of c.play_some.new.world) c.play_some.new.marks.items c.requires.opening c.new-marks.ensures.items c.in_ok-play_some.ensures.ok).told

@@ -1,6 +1,6 @@
 use Rattle.std.proofs.Common.{◌-◌, length}
 use Rattle.workload.specs.Script.{event_of}
-use Rattle.workload.proofs.Streams.{SoFar}
+use Rattle.workload.specs.Streams.{SoFar}
 use Rattle.workload.proofs.streaming.events.Given as goal
 
 abbrev pub invariant-loop-alloc : goal.invariant-loop-alloc

@@ -1,5 +1,5 @@
 use Rattle.std.proofs.Common.{◌-◌, length}
-use Rattle.workload.proofs.Streams.{SoFar}
+use Rattle.workload.specs.Streams.{SoFar}
 use Rattle.workload.proofs.streaming.list_in.Given as goal
 
 abbrev pub invariant-loop-alloc : goal.invariant-loop-alloc
