@@ -22,7 +22,7 @@ use read_txn::FirstRound;
 use slice::Read;
 
 /// Whether the operation may be submitted: refused with `Busy` while another is open, and then as its plan is.
-#[inline]
+#[inline(always)]
 fn check(kept: &Kept, op: &Op) -> Result<(), Fault>
     ensures { IsRefusedFor (fault_of kept.now op.now) result }
 {
@@ -97,6 +97,7 @@ fn coordinator_of(plan: &BatchPlan) -> Shard
 
 /// Submits a batch that is allowed.
 #[tactic(auto, using(crate::proofs::Idle::idle_allowed))]
+#[inline(always)]
 fn submit_batch(kept: &mut Kept, batch: &Batch, outbox: &mut Outbox) -> Result<u64, Fault>
     requires counted { kept.old.count ≤ kept.old.clock }
     requires allowed { fault_of kept.old (op.Batch batch.now) ≡ None }

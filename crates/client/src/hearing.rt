@@ -39,7 +39,7 @@ fn end_write(kept: &mut Kept)
 }
 
 /// Ends the last operation, which was taken out, with this outcome.
-#[inline]
+#[inline(always)]
 fn finish(kept: &mut Kept, clock: Clock, floor: Time, added: Writers, outcome: Outcome)
     requires { kept.old.current ≡ Idle }
     ensures { kept.new ≡ steps.finished clock kept.old floor kept.old.dependencies added outcome }
@@ -101,6 +101,7 @@ pub(crate) fn done(kept: &mut Kept, clock: Clock, txn: TxnId, commit: Time, stam
 }
 
 /// Completes the last read, whose round was taken out.
+#[inline(always)]
 pub(crate) fn complete(kept: &mut Kept, clock: Clock, answered: Answered)
     requires { kept.old.current ≡ Idle }
     ensures { kept.new ≡ steps.completed clock kept.old answered }

@@ -77,7 +77,7 @@ fn many(bytes: &[u8], shared: Arc<Vec<u8>>) -> Text
 
 impl SharedBytes {
     /// A copy of these bytes. Fails by memory alone.
-    #[inline]
+    #[inline(always)]
     pub(crate) fn from_slice(alloc: Global, bytes: &[u8]) -> Result<SharedBytes, AllocError>
         ensures { IfOk result (λ copy. copy ≡ bytes.now) }
     {
@@ -159,7 +159,7 @@ impl PartialEq for SharedBytes {
 
     ghost laws = { partial_equiv_from_equiv nat_list_eq_equiv };
 
-    #[inline]
+    #[inline(always)]
     fn eq(&self, other: &SharedBytes) -> bool {
         match (&self.text, &other.text) {
             (Text::Few(few), Text::Few(others)) => few.is(others),
@@ -191,7 +191,7 @@ impl Ord for SharedBytes {
 
     ghost matches_eq = { texts_ties };
 
-    #[inline]
+    #[inline(always)]
     fn cmp(&self, other: &SharedBytes) -> Ordering {
         match (&self.text, &other.text) {
             (Text::Few(few), Text::Few(others)) => few.cmp_few(others),
@@ -205,7 +205,7 @@ impl Hash for SharedBytes {
 
     ghost respects_eq = { Prim.search (hashing, rules) };
 
-    #[inline]
+    #[inline(always)]
     fn hash<H: Hasher>(&self, state: &mut H) {
         match &self.text {
             Text::Few(few) => {

@@ -91,6 +91,7 @@ fn lessen_all(waits: &mut Vec<Wait>, txn: TxnId, cause: &Cause)
 }
 
 /// Lets go of those reads that wait for nothing.
+#[inline(always)]
 fn keep_waiting(waits: &mut Vec<Wait>)
     ensures { waits.new.items ≡ filter (λ x. not (is_free x)) waits.old.items }
 {
@@ -161,7 +162,7 @@ impl Waits {
     /// The reads that this concerns no longer wait for a transaction. Those that wait for nothing more are dropped:
     /// `freed_answers` has their answers, and is called before. Takes no memory. In the order of m for m transactions that
     /// reads wait for, over all reads.
-    #[inline]
+    #[inline(always)]
     pub fn release(&mut self, txn: TxnId, cause: &Cause)
         ensures { self.new ≡ still txn cause.now self.old }
     {

@@ -78,6 +78,7 @@ impl Waiters {
     }
 
     /// Adds one at the end, unless the same shard asked for the same write already.
+    #[inline(always)]
     pub(crate) fn add(&mut self, one: Waiting) -> Result<(), Fault>
         ensures ok { OnOk result (self.new ≡ with_waiting one self.old) }
         ensures known { is_among one self.old ≡ true → IsOk result }

@@ -241,6 +241,7 @@ impl Body {
 
     /// A copy, which shares the bytes of keys, names and values. Fails by memory alone.
     #[rattlefmt::skip]
+    #[inline(always)]
     pub fn copied(&self) -> Result<Body, AllocError>
         ensures { IfOk result (λ copy. copy ≡ self.now) }
     {

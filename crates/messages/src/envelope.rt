@@ -22,7 +22,7 @@ impl Envelope {
     ghost use Rattle.std.specs.Prelude.{◌≡◌, IfOk};
 
     /// A copy, which shares the bytes of keys, names and values. Fails by memory alone.
-    #[inline]
+    #[inline(always)]
     pub fn copied(&self) -> Result<Envelope, AllocError>
         ensures { IfOk result (λ copy. copy ≡ self.now) }
     {

@@ -68,6 +68,7 @@ impl Outbox {
     }
 
     /// Adds envelopes at the end, in their order. There is room for them. Takes no memory.
+    #[inline(always)]
     pub fn post_all(&mut self, mut envelopes: Vec<Envelope>)
         requires { length envelopes.items ≤ self.old.room }
         ensures { self.new.sent ≡ self.old.sent ++ envelopes.items }
@@ -76,6 +77,7 @@ impl Outbox {
     }
 
     /// Takes out the envelope of this number; those after it move up. Costs what stands after it. Takes no memory.
+    #[inline(always)]
     pub fn remove(&mut self, number: usize) -> Envelope
         requires { number < length self.old.sent }
         ensures value { slice_get self.old.sent number ≡ Some result }

@@ -108,7 +108,7 @@ impl Place {
 
     /// The nodes of the shards of the same number in the other data centres, ascending. Refused with `Memory` alone.
     #[tactic(auto, using(crate::proofs::Places::others_at_place))]
-    #[inline]
+    #[inline(always)]
     pub fn others(self, alloc: Global) -> Result<Vec<Node>, Fault>
         ensures value { IfOk result (λ nodes. nodes.items ≡ others_of self) }
         ensures place { (top : TopologyValue) (me : ℕ) → IsPlace top me self → IfOk result (λ nodes. nodes.items ≡ map (λ d. spec.shard_node top d (spec.shard_of top me)) (other_dcs top me)) }

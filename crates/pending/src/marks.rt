@@ -94,6 +94,7 @@ impl Marks {
 
     /// Takes away the marks of the transaction on the rows that these changes touch, and no other. Takes no memory. Linear
     /// in the changes on average, and logarithmic in the marks on each row.
+    #[inline(always)]
     pub fn clear(&mut self, changes: &[Change], txn: TxnId)
         ensures { AreCleared self.old self.new changes.now txn }
     {

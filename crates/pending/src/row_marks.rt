@@ -191,7 +191,7 @@ impl RowMarks {
     }
 
     /// Gives the transaction a mark of this time, in place of its mark if it has one.
-    #[inline]
+    #[inline(always)]
     pub(crate) fn mark(&mut self, alloc: Global, txn: TxnId, time: Time) -> Result<(), Fault>
         ensures ok { OnOk result ((t : TxnValue) → time_in self.new t ≡ (if is_eq (txn_cmp txn t) then Some time else time_in self.old t)) }
         ensures err { OnErr result (self.new ≡ self.old) }

@@ -26,7 +26,7 @@ pub fn notify(place: Place, time: Time, txn: TxnId, coordinator: Shard) -> Envel
 }
 
 /// The nodes of a transaction's cohorts, in their order. Refused with `Memory` alone.
-#[inline]
+#[inline(always)]
 pub fn near_nodes(alloc: Global, place: Place, cohorts: &Cohorts) -> Result<Vec<Node>, Fault>
     ensures nodes { (top : TopologyValue) (me : ℕ) → IsPlace top me place → IfOk result (λ nodes. nodes.items ≡ map (λ s. shard_node top (dc_of top me) s) cohorts.now) }
     ensures memory { IfErr result (λ e. e ≡ Fault.Memory) }

@@ -12,6 +12,7 @@ use messages::{Body, Envelope, Outbox};
 
 /// Check: an At with the commit time and the stamp where the transaction is decided here, else a NotBy with the same
 /// time. Refused with `Memory` alone.
+#[inline(always)]
 pub(crate) fn check(
     kept: &mut Kept,
     clock: Clock,

@@ -66,7 +66,7 @@ impl AnswersAt for StoreWith<'_> {
 
 /// The answers to the reads that wait for the transaction of a part alone, as they will be once the part is applied, at the
 /// event at which it is and when the clock shows this time.
-#[inline]
+#[inline(always)]
 pub(crate) fn answers_with(kept: &Kept, time: Time, coming: &Coming) -> Result<Vec<Envelope>, Fault>
     ensures ok { (top : TopologyValue) (me : ℕ) (a : ShardState) → Represents top me kept.now a → AreApart (with_applied a (applied_of coming.now)).applied
         → IfOk result (λ envelopes. envelopes.items ≡ map (part_at me time (with_applied a (applied_of coming.now))) (freed coming.now.writer.txn cause.Applied a.waiting)) }

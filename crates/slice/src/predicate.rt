@@ -31,6 +31,7 @@ impl Model for Names {
 
 impl Names {
     /// These names. Fails by memory alone.
+    #[inline(always)]
     pub fn from_vec(alloc: Global, names: Vec<Name>) -> Result<Names, AllocError>
         ensures { IfOk result (λ list. list ≡ names.items) }
     {

@@ -24,7 +24,7 @@ impl Model for Keys {
 
 impl Keys {
     /// These keys. Fails by memory alone.
-    #[inline]
+    #[inline(always)]
     pub fn from_vec(alloc: Global, keys: Vec<Key>) -> Result<Keys, AllocError>
         ensures { IfOk result (λ list. list ≡ keys.items) }
     {
@@ -58,7 +58,7 @@ impl Read {
     ghost use Rattle.slice.specs.Rows as rows;
 
     /// The row that it means by a key.
-    #[inline]
+    #[inline(always)]
     pub fn row_of(&self, key: &Key) -> Result<Row, AllocError>
         ensures { IfOk result (λ row. row ≡ rows.row_of self.now key.now) }
     {

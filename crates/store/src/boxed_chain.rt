@@ -62,7 +62,7 @@ impl BoxedChain {
     }
 
     /// Puts a version into it, and answers whether it came to hold more than one by that.
-    #[inline]
+    #[inline(always)]
     pub(crate) fn put(&mut self, version: Version) -> bool
         requires { (0 < self.old.room) ⊎ (has_stamp self.old.versions version.stamp ≡ true) }
         ensures versions { self.new.versions ≡ put_of self.old.versions version }

@@ -44,6 +44,7 @@ pub(crate) fn is_covered(deletion: Option<&Version>, version: &Version) -> bool
 }
 
 /// The column, where it is live.
+#[inline(always)]
 pub(crate) fn live_column(deletion: Option<&Version>, seen: &Seen) -> Result<Option<Column>, Fault>
     ensures ok { IfOk result (λ column. column ≡ sight.live_of (option_copied deletion.entry) (named seen.now)) }
     ensures memory { IfErr result (λ e. e ≡ fault.Memory) }
@@ -547,6 +548,7 @@ fn empty_part(alloc: Global, predicate: &Predicate, moment: &Moment) -> Part
 }
 
 /// What is seen of one of the rows.
+#[inline(always)]
 pub(crate) fn part_in(
     alloc: Global,
     rows: &HashMap<Row, RowChains>,

@@ -88,7 +88,7 @@ fn latest_after(latest: Option<Time>, before: Time, after: Time) -> Option<Time>
 
 // Puts a version into the chain of a column, and answers whether that came to hold more than one. Keeps the latest EVT,
 // where it is known.
-#[inline]
+#[inline(always)]
 fn put_column(
     columns: &mut BTreeMap<Name, BoxedChain>,
     latest: &mut Option<Time>,
@@ -130,6 +130,7 @@ fn add_column(
 }
 
 // Makes room for one more version of a column.
+#[inline(always)]
 fn reserve_column(
     alloc: Global,
     columns: &mut BTreeMap<Name, BoxedChain>,
@@ -217,7 +218,7 @@ impl RowChains {
 
     /// Puts what a mutation leaves into the chain of its place, and answers whether that came to hold more than one
     /// version.
-    #[inline]
+    #[inline(always)]
     pub(crate) fn put(&mut self, mutation: Mutation, origin: &Origin) -> bool
         requires { (p : Place) → is_of_place p mutation ≡ true → (0 < (chain_of self.old p).room) ⊎ (has_stamp (chain_of self.old p).versions origin.now.stamp ≡ true) }
         ensures versions { (p : Place) → (chain_of self.new p).versions ≡ (if is_of_place p mutation then put_of (chain_of self.old p).versions (kept.version_of origin.now mutation) else (chain_of self.old p).versions) }
@@ -277,7 +278,7 @@ impl RowChains {
     }
 
     /// Makes room for what a mutation leaves.
-    #[inline]
+    #[inline(always)]
     pub(crate) fn reserve(&mut self, alloc: Global, mutation: &Mutation) -> Result<(), Fault>
         ensures versions { (p : Place) → (chain_of self.new p).versions ≡ (chain_of self.old p).versions }
         ensures room { (p : Place) → (chain_of self.old p).room ≤ (chain_of self.new p).room }

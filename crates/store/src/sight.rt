@@ -66,7 +66,7 @@ pub(crate) fn seen_column<'s>(name: &'s Name, chain: &'s Chain, moment: &Moment)
 }
 
 /// The column of this name, if a version of it is seen.
-#[inline]
+#[inline(always)]
 pub(crate) fn seen_named<'s>(
     columns: &'s BTreeMap<Name, BoxedChain>,
     name: &Name,

@@ -64,7 +64,7 @@ fn take_one_out(missing: &mut Vec<Node>, voter: Node)
 
 impl Votes {
     /// The votes of these cohorts, where these nodes have voted already. Refused with `Memory` alone.
-    #[inline]
+    #[inline(always)]
     pub fn new(alloc: Global, cohorts: Vec<Node>, voters: &[Node]) -> Result<Votes, Fault>
         ensures ok { IfOk result (λ votes. votes ≡ votes_after cohorts.items voters.now) }
         ensures memory { IfErr result (λ e. e ≡ fault.Memory) }

@@ -69,6 +69,7 @@ impl Chain {
     /// whose EVTs rise with their stamps, the newest ends one. Refused with `Memory` alone, never where there is room
     /// or the stamp is held, and then the version comes back and the chain stays.
     #[tactic(auto, using(crate::proofs::Falling::falling_put, crate::proofs::Held::put_if_held))]
+    #[inline(always)]
     pub fn put(&mut self, version: Version) -> Result<(), (Fault, Version)>
         ensures ok { OnOk result (self.new.versions ≡ put_of self.old.versions version) }
         ensures held { OnOk result ((w : Version) → Contains self.new.versions w ↔ (Contains self.old.versions w ⊎ ((w ≡ version) × (has_stamp self.old.versions version.stamp ≡ false)))) }

@@ -64,6 +64,7 @@ fn put_many<W: Write>(output: &mut Output<W>, bytes: &[u8]) -> Result<(), Fault>
 }
 
 // A mark, and then bytes in hexadecimal.
+#[inline(always)]
 fn put_marked<W: Write>(output: &mut Output<W>, mark: u8, bytes: &[u8]) -> Result<(), Fault>
     ensures { Adds W.contents output.old output.new result (mark ∷ encode_lower bytes.now) }
 {
@@ -107,6 +108,7 @@ fn lay_column(text: &mut [u8], name: &[u8], value: &[u8]) -> usize
 }
 
 // Lays short columns one after the other at the beginning of a text: how many bytes they have.
+#[inline(always)]
 fn lay_columns(text: &mut [u8], columns: &[Column]) -> usize
     requires room { 130 * length columns.now ≤ length text.old }
     requires short { list_all is_short_column columns.now ≡ true }
@@ -286,7 +288,7 @@ fn put_rows<W: Write>(output: &mut Output<W>, rows: &[AnsweredRow]) -> Result<()
 }
 
 // Lays a few words, and then a number, at the beginning of a text: how many bytes they have.
-#[inline]
+#[inline(always)]
 fn lay_number(text: &mut [u8], words: &[u8], number: u64) -> usize
     requires room { 56 ≤ length text.old }
     requires words { length words.now ≤ 16 }

@@ -144,6 +144,7 @@ impl Ledger {
 
     /// Counts what was missing of the transaction's ballot, if one waits that misses more. Whether one waits that misses
     /// nothing else; then nothing is counted. Takes no memory.
+    #[inline(always)]
     pub(crate) fn count_early(&mut self, txn: TxnId, missing: Missing) -> bool
         ensures last { result ≡ lacks_nothing (state_with missing (state_of self.old txn)) }
         ensures counted { result ≡ false → Becomes txn (state_with missing (state_of self.old txn)) self.old self.new }

@@ -200,6 +200,7 @@ impl Near {
     }
 
     /// Gives a transaction this status, as a new entry. Refused with `Memory` alone, and then no status has changed.
+    #[inline(always)]
     pub(crate) fn add(&mut self, txn: TxnId, status: Status) -> Result<(), Fault>
         requires { statuses.is_near self.old txn ≡ true }
         ensures ok { OnOk result ((u : TxnValue) → near_in self.new u ≡ (if is_eq (txn_cmp txn u) then Some status else near_in self.old u)) }

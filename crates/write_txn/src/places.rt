@@ -36,6 +36,7 @@ fn close_gap(statuses: &mut Statuses, under_way: &[Open], place: usize)
 }
 
 /// Closes the gap at a place, and changes the status of the transaction that left it.
+#[inline(always)]
 fn settle(statuses: &mut Statuses, under_way: &[Open], place: usize, txn: TxnId, status: Status)
     ensures { (u : TxnValue) → status_in statuses.new u ≡ status_set txn status u (status_moved (slice_get under_way.now place) place u (status_in statuses.old u)) }
 {
@@ -44,6 +45,7 @@ fn settle(statuses: &mut Statuses, under_way: &[Open], place: usize, txn: TxnId,
 }
 
 /// Puts what was taken out at a place back.
+#[inline(always)]
 pub(crate) fn put_back(under_way: &mut Vec<Open>, place: usize, held: Open)
     requires place { place ≤ vec_len under_way.old }
     requires room { vec_len under_way.old < vec_capacity under_way.old }
@@ -55,7 +57,7 @@ pub(crate) fn put_back(under_way: &mut Vec<Open>, place: usize, held: Open)
 }
 
 /// Puts what became of a transaction in the place of what was taken out there.
-#[inline]
+#[inline(always)]
 pub(crate) fn put(
     statuses: &mut Statuses,
     under_way: &mut Vec<Open>,

@@ -46,7 +46,7 @@ impl Statuses {
     }
 
     /// The status of a transaction.
-    #[inline]
+    #[inline(always)]
     pub(crate) fn get(&self, txn: TxnId) -> Option<&Status>
         ensures { option_copied result ≡ status_in self.now txn }
     {
@@ -60,6 +60,7 @@ impl Statuses {
     }
 
     /// Gives a transaction this status. Refused with `Memory` alone, and then no status has changed.
+    #[inline(always)]
     pub(crate) fn add(&mut self, txn: TxnId, status: Status) -> Result<(), Fault>
         ensures ok { OnOk result ((u : TxnValue) → status_in self.new u ≡ (if is_eq (txn_cmp txn u) then Some status else status_in self.old u)) }
         ensures err { OnErr result ((u : TxnValue) → status_in self.new u ≡ status_in self.old u) }
@@ -76,7 +77,7 @@ impl Statuses {
     }
 
     /// Changes the status of a transaction that has one.
-    #[inline]
+    #[inline(always)]
     pub(crate) fn set(&mut self, txn: TxnId, status: Status)
         ensures { (u : TxnValue) → status_in self.new u ≡ status_set txn status u (status_in self.old u) }
     {

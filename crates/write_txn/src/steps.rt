@@ -140,6 +140,7 @@ pub(crate) fn count_in(statuses: &Statuses, under_way: &mut Vec<Open>, txn: TxnI
 
 /// Counts what was missing of a transaction's ballot, if one waits that misses more. Whether one waits that misses nothing
 /// else; then nothing is counted.
+#[inline(always)]
 pub(crate) fn count_early_in(
     statuses: &Statuses,
     under_way: &mut Vec<Open>,

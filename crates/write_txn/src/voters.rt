@@ -126,6 +126,7 @@ fn add_one(
 }
 
 /// Takes the voters of a transaction away.
+#[inline(always)]
 fn take_away(entries: &mut BTreeMap<TxnId, Nodes>, txn: TxnId)
     ensures { (u : TxnValue) → voters_of entries.new.entries u ≡ (if is_eq (txn_cmp txn u) then [] else voters_of entries.old.entries u) }
 {
@@ -167,7 +168,7 @@ impl Voters {
     }
 
     /// Takes the votes for the transaction away. Takes no memory. In the order of log n for n transactions.
-    #[inline]
+    #[inline(always)]
     pub fn forget(&mut self, txn: TxnId)
         ensures { (u : TxnValue) → voters_of self.new u ≡ (if is_eq (txn_cmp txn u) then [] else voters_of self.old u) }
     {
