@@ -1,5 +1,6 @@
 pub mod Idle
 pub mod Planned
+pub mod Ascending
 pub mod Submitted
 pub mod Heard
 pub mod HeardNow

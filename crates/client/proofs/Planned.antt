@@ -19,7 +19,7 @@ pub mapped_twice : {X Y Z : Type 0} (f : X → Y) (g : Y → Z) (xs : List X) �
 mapped_twice f g [] = refl
 mapped_twice f g (x ∷ xs) = ap (λ ys. g (f x) ∷ ys) (mapped_twice f g xs)
 
-mapped_same : {X : Type 0} (xs : List X) → map (λ x. x) xs ≡ xs
+pub mapped_same : {X : Type 0} (xs : List X) → map (λ x. x) xs ≡ xs
 mapped_same [] = refl
 mapped_same (x ∷ xs) = ap (λ ys. x ∷ ys) (mapped_same xs)
 

@@ -1,5 +1,6 @@
 //! The envelopes of submissions.
 ghost use Rattle.std.specs.Prelude.{◌≡◌, ◌++◌, true, map, IfOk, OnOk, OnErr, IfErr};
+ghost use Rattle.std.specs.List.Sorted.{IsStrictlyIncreasing};
 ghost use Rattle.client.specs.Envelopes.{node_in, prepare_part, batch_envelopes, read_keys};
 
 use column_family::Key;
@@ -123,16 +124,19 @@ pub(crate) fn send(outbox: &mut Outbox, envelopes: Vec<Envelope>) -> Result<(), 
     Ok(())
 }
 
-/// The shards of these parts.
-fn shards_of(alloc: Global, parts: &[ShardPart]) -> Result<Cohorts, Fault>
-    ensures ok { IfOk result (λ cohorts. cohorts ≡ map (λ p. p.shard) parts.now) }
-    ensures memory { IfErr result (λ e. e ≡ Fault.Memory) }
+/// The shards of these parts, which ascend.
+fn shards_of(parts: &[ShardPart]) -> Cohorts
+    requires { IsStrictlyIncreasing (map (λ p. p.shard) parts.now) }
+    ensures { result ≡ map (λ p. p.shard) parts.now }
 {
-    let shards: Vec<Shard> = parts.iter().map(|part| part.shard).collect(alloc)?;
-    Ok(Cohorts::from_vec(alloc, shards)?)
+    let mut cohorts = Cohorts::none();
+    for part in parts {
+        cohorts = cohorts.with(part.shard);
+    }
+    cohorts
 }
 
-/// A Begin for the coordinator and a Prepare for each cohort.
+/// A Begin for the coordinator and a Prepare for each cohort, whose shards ascend.
 #[inline]
 pub(crate) fn writes(
     alloc: Global,
@@ -143,10 +147,11 @@ pub(crate) fn writes(
     dependencies: Dependencies,
     plan: BatchPlan,
 ) -> Result<Vec<Envelope>, Fault>
+    requires { IsStrictlyIncreasing (map (λ p. p.shard) plan.cohorts.items) }
     ensures ok { IfOk result (λ envelopes. envelopes.items ≡ batch_envelopes home node time txn dependencies plan.coordinator plan.cohorts.items) }
     ensures memory { IfErr result (λ e. e ≡ Fault.Memory) }
 {
-    let others = shards_of(alloc, plan.cohorts.as_slice())?;
+    let others = shards_of(plan.cohorts.as_slice());
     let BatchPlan {
         coordinator: ShardPart { shard, batch },
         cohorts,

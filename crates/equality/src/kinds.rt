@@ -137,7 +137,7 @@ pub(crate) fn is_repl_begin(
     cohorts: &Cohorts,
     dependencies: &Dependencies,
 ) -> bool
-    ensures { (result ≡ true) ↔ (b.now ≡ body.ReplBegin txn rows.now stamp cohorts.now dependencies.now) }
+    ensures { (result ≡ true) ↔ (b.now ≡ body.ReplBegin cohorts.now txn rows.now stamp dependencies.now) }
 {
     match b {
         Body::ReplBegin {

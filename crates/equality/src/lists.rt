@@ -2,7 +2,7 @@
 ghost use Rattle.std.specs.Prelude.{◌≡◌, ◌↔◌, true};
 
 use column_family::{Batch, Change, Key, Name};
-use logical_time::{Shard, Writer, Writers};
+use logical_time::{Writer, Writers};
 use messages::{Cohorts, Dependencies};
 use slice::{Column, Columns, Keys, Names};
 
@@ -58,12 +58,6 @@ fn same_column_list(a: &[Column], b: &[Column]) -> bool
     true
 }
 
-fn same_shards(a: &[Shard], b: &[Shard]) -> bool
-    ensures { (result ≡ true) ↔ (a.now ≡ b.now) }
-{
-    a == b
-}
-
 fn same_writer_list(a: &[Writer], b: &[Writer]) -> bool
     ensures { (result ≡ true) ↔ (a.now ≡ b.now) }
 {
@@ -105,7 +99,7 @@ pub(crate) fn same_columns(a: &Columns, b: &Columns) -> bool
 pub(crate) fn same_cohorts(a: &Cohorts, b: &Cohorts) -> bool
     ensures { (result ≡ true) ↔ (a.now ≡ b.now) }
 {
-    same_shards(a.as_slice(), b.as_slice())
+    a == b
 }
 
 pub(crate) fn same_writers(a: &Writers, b: &Writers) -> bool

@@ -1,4 +1,5 @@
 pub mod Announcing
+pub mod CohortBytes
 pub mod Greatest
 pub mod Numbering
 pub mod Places

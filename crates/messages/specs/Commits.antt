@@ -36,7 +36,7 @@ stamp_for me n (Some stamp) = stamp
 abbrev pub announcements : TopologyValue → ℕ → ℕ → BegunBallot → Option StampValue → List Envelope
 announcements top me n b None =
     envelope me b.txn.session n (Done b.txn n (stamp_for me n None))
-    ∷ map (λ d. envelope me (shard_node top d (shard_of top me)) n (ReplBegin b.txn b.rows (stamp_for me n None) b.cohorts b.dependencies)) (other_dcs top me)
+    ∷ map (λ d. envelope me (shard_node top d (shard_of top me)) n (ReplBegin b.cohorts b.txn b.rows (stamp_for me n None) b.dependencies)) (other_dcs top me)
 announcements top me n b (Some stamp) = []
 
 -- to those that asked for the transaction, in the order of their first asking

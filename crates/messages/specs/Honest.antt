@@ -31,7 +31,7 @@ all_told es = filter_map (λ e. told_in e.time e.body) es
 abbrev pub part_in : Body → List Change
 part_in (body.Begin t rows cohorts dependencies) = rows
 part_in (body.Prepare t rows coordinator) = rows
-part_in (body.ReplBegin t rows stamp cohorts dependencies) = rows
+part_in (body.ReplBegin cohorts t rows stamp dependencies) = rows
 part_in (body.ReplPart t rows stamp coordinator) = rows
 part_in other = []
 

@@ -1,6 +1,8 @@
 pub mod Topology
 pub mod Home
 pub mod Place
+pub mod CohortBits
+pub mod CohortLaws
 pub mod Outbox
 pub mod Posting
 pub mod Clock

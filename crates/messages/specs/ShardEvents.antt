@@ -23,7 +23,7 @@ handled top me n a from (NotBy txn time) = on_not_by me n a txn time
 handled top me n a from (Check txn time) = on_check me n a from txn time
 handled top me n a from (Read number read) = on_read me n a from number read
 handled top me n a from (ReadAt number time read) = on_read_at top me n a from number time read
-handled top me n a from (ReplBegin txn rows stamp cohorts dependencies) =
+handled top me n a from (ReplBegin cohorts txn rows stamp dependencies) =
     on_repl_begin top me n a
     (record { txn = txn; rows = rows; stamp = stamp; cohorts = cohorts; dependencies = dependencies })
 handled top me n a from (ReplPart txn rows stamp coordinator) =

@@ -1,6 +1,7 @@
 //! The kinds of messages.
 ghost use Rattle.std.specs.Prelude.{◌≡◌};
 
+use crate::cohorts::Cohorts;
 use crate::copies::{
     begin, first_round, part_at, part_now, prepare, repl_begin, repl_part, second_round,
 };
@@ -12,41 +13,6 @@ use logical_time::{Shard, Stamp, Time, TxnId, Writer, Writers};
 use slice::Read;
 use std::alloc::{AllocError, Global};
 use std::marker::Model;
-
-/// The cohorts of a transaction: the shards, beside its coordinator, of which it writes rows. The same in all data
-/// centres. Copies share them.
-#[derive(Drop, Clone)]
-pub struct Cohorts {
-    shards: Shared<Vec<Shard>>,
-}
-
-impl Model for Cohorts {
-    ghost use Rattle.std.specs.Prelude.{List, ℕ};
-
-    ghost Value = { List ℕ };
-
-    ghost view = { λ list. list.shards.items };
-}
-
-impl Cohorts {
-    ghost use Rattle.std.specs.Prelude.{IfOk};
-
-    /// These shards. Fails by memory alone.
-    pub fn from_vec(alloc: Global, shards: Vec<Shard>) -> Result<Cohorts, AllocError>
-        ensures { IfOk result (λ list. list ≡ shards.items) }
-    {
-        Ok(Cohorts {
-            shards: Shared::new(alloc, shards)?,
-        })
-    }
-
-    /// The shards.
-    pub fn as_slice(&self) -> &[Shard]
-        ensures { result.now ≡ self.now }
-    {
-        self.shards.get().as_slice()
-    }
-}
 
 /// What a write depends on: transactions with their coordinators, in order and each once. Copies share them.
 #[derive(Drop, Clone)]
@@ -161,14 +127,14 @@ pub enum Body {
     },
     /// Replicates a write: to its coordinator in another data centre.
     ReplBegin {
+        /// The other shards of the transaction, first of all, where a byte takes no room.
+        cohorts: Cohorts,
         /// The transaction.
         txn: TxnId,
         /// The coordinator's part.
         rows: Batch,
         /// The stamp of the transaction.
         stamp: Stamp,
-        /// The other shards of the transaction.
-        cohorts: Cohorts,
         /// What the write depends on.
         dependencies: Dependencies,
     },

@@ -2,7 +2,8 @@
 ghost use Rattle.std.specs.Prelude.{◌≡◌, IfOk};
 ghost use Rattle.messages.specs.declared.body.Body.TheVariants as body;
 
-use crate::body::{Body, Cohorts, Dependencies};
+use crate::body::{Body, Dependencies};
+use crate::cohorts::Cohorts;
 use crate::rows_at::AtTime;
 use crate::rows_now::RowsNow;
 use crate::shared::Shared;
@@ -22,7 +23,7 @@ pub(crate) fn begin(
     Ok(Body::Begin {
         txn,
         rows: rows.clone()?,
-        cohorts: cohorts.clone()?,
+        cohorts: *cohorts,
         dependencies: dependencies.clone()?,
     })
 }
@@ -64,13 +65,13 @@ pub fn repl_begin(
     cohorts: &Cohorts,
     dependencies: &Dependencies,
 ) -> Result<Body, AllocError>
-    ensures { IfOk result (λ copy. copy ≡ body.ReplBegin txn rows.now stamp cohorts.now dependencies.now) }
+    ensures { IfOk result (λ copy. copy ≡ body.ReplBegin cohorts.now txn rows.now stamp dependencies.now) }
 {
     Ok(Body::ReplBegin {
         txn,
         rows: rows.clone()?,
         stamp,
-        cohorts: cohorts.clone()?,
+        cohorts: *cohorts,
         dependencies: dependencies.clone()?,
     })
 }

@@ -5,6 +5,7 @@
 #![tactic(auto)]
 
 mod body;
+mod cohorts;
 mod copies;
 mod envelope;
 mod event;
@@ -20,7 +21,8 @@ mod rows_now;
 mod shared;
 mod topology;
 
-pub use body::{Body, Cohorts, Dependencies};
+pub use body::{Body, Dependencies};
+pub use cohorts::{CohortShards, Cohorts};
 pub use copies::{repl_begin, repl_part};
 pub use envelope::{Envelope, Refused};
 pub use event::Event;

@@ -40,11 +40,11 @@ parts_beside o top me from time p w rows stamp nodes here txn same coordinator o
 pub announced_beside : (stamp : Option StampValue) (top : TopologyValue) (me from time : ℕ) (t : TxnValue) (rows : List Change) (cohorts : List ℕ) (dependencies : List WriterValue) (nodes : List ℕ)
     → is_some stamp ≡ false → from ≡ me → AreBeside top me nodes
     → envelope from t.session time (body.Done t time (record { time = time; node = from }))
-    ∷ map (λ n. envelope from n time (body.ReplBegin t rows (record { time = time; node = from }) cohorts dependencies)) nodes
+    ∷ map (λ n. envelope from n time (body.ReplBegin cohorts t rows (record { time = time; node = from }) dependencies)) nodes
     ≡ machine.announcements top me time (record { txn = t; rows = rows; cohorts = cohorts; dependencies = dependencies; stamp = stamp }) stamp
 announced_beside (Some s) top me from time t rows cohorts dependencies nodes none own are = absurd (cc)
 announced_beside None top me from time t rows cohorts dependencies nodes none own are =
     ap (λ f. envelope f t.session time (body.Done t time (record { time = time; node = f }))
-    ∷ map (λ n. envelope f n time (body.ReplBegin t rows (record { time = time; node = f }) cohorts dependencies)) nodes) own
+    ∷ map (λ n. envelope f n time (body.ReplBegin cohorts t rows (record { time = time; node = f }) dependencies)) nodes) own
     ∙ ap (λ es. envelope me t.session time (body.Done t time (record { time = time; node = me })) ∷ es)
-    (sent_beside top me me time (body.ReplBegin t rows (record { time = time; node = me }) cohorts dependencies) nodes refl are)
+    (sent_beside top me me time (body.ReplBegin cohorts t rows (record { time = time; node = me }) dependencies) nodes refl are)

@@ -32,9 +32,8 @@ pub fn near_nodes(alloc: Global, place: Place, cohorts: &Cohorts) -> Result<Vec<
     ensures memory { IfErr result (λ e. e ≡ Fault.Memory) }
 {
     let nodes: Vec<Node> = cohorts
-        .as_slice()
-        .iter()
-        .map(|shard| place.near(*shard))
+        .shards()
+        .map(|shard| place.near(shard))
         .collect(alloc)?;
     Ok(nodes)
 }
@@ -51,9 +50,8 @@ pub fn prepare_remotes(
     ensures memory { IfErr result (λ e. e ≡ Fault.Memory) }
 {
     let envelopes: Vec<Envelope> = cohorts
-        .as_slice()
-        .iter()
-        .map(|shard| place.envelope_near(time, *shard, Body::PrepareRemote { txn }))
+        .shards()
+        .map(|shard| place.envelope_near(time, shard, Body::PrepareRemote { txn }))
         .collect(alloc)?;
     Ok(envelopes)
 }

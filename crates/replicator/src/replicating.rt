@@ -73,7 +73,7 @@ fn add_begins(
     cohorts: &Cohorts,
     dependencies: &Dependencies,
 ) -> Result<(), Fault>
-    ensures ok { OnOk result (envelopes.new.items ≡ envelopes.old.items ++ map (λ n. envelope stamp.node n stamp.time (body.ReplBegin txn rows.now stamp cohorts.now dependencies.now)) nodes.items) }
+    ensures ok { OnOk result (envelopes.new.items ≡ envelopes.old.items ++ map (λ n. envelope stamp.node n stamp.time (body.ReplBegin cohorts.now txn rows.now stamp dependencies.now)) nodes.items) }
     ensures memory { IfErr result (λ e. e ≡ Fault.Memory) }
 {
     for to in nodes {

@@ -1,8 +1,7 @@
 -- The step of a notice or an answer that isn't the last missing thing of a ballot, or of none.
-use Rattle.std.proofs.Common.{◌≡◌, ◌∙◌, sym, ap, subst, refl, ℕ, Bool, true, false, List, [], ◌∷◌, ◌++◌, Option, Some, None, append-nil}
+use Rattle.std.proofs.Common.{◌≡◌, ◌∙◌, sym, ap, subst, refl, ℕ, Bool, false, List, [], Option, Some, None, append-nil}
 use Rattle.std.specs.Prelude.{◌==◌, if◌then◌else◌}
-use Rattle.std.specs.Ordering.{is_eq}
-use Rattle.logical_time.specs.Stamps.{TxnValue, txn_cmp}
+use Rattle.logical_time.specs.Stamps.{TxnValue}
 use Rattle.store.specs.Keeps.{AreApart, Keeps}
 use Rattle.txn_state.specs.RemoteBallot.{missing_in}
 use Rattle.messages.specs.declared.envelope.Envelope.{Envelope}
@@ -11,7 +10,7 @@ use Rattle.messages.specs.Shard.{ShardState}
 use Rattle.write_txn.specs.declared.open.Missing.{Missing}
 use Rattle.write_txn.specs.declared.open.Open.TheVariants as in_open
 use Rattle.write_txn.specs.declared.open.Remote.{Remote}
-use Rattle.write_txn.specs.Ledger.{State, Holds, IsApplied, IsDecided, LedgerValue, state_of, open_in, Becomes, remote_with, state_with, state_ready, readied_by, lacks_nothing}
+use Rattle.write_txn.specs.Ledger.{State, Holds, IsApplied, IsDecided, LedgerValue, state_of, open_in, Becomes, remote_with, state_with, lacks_nothing}
 use Rattle.write_txn.specs.Transactions.{TransactionsValue}
 use Rattle.write_txn.specs.Stands.{kept_ballot_of}
 use Rattle.write_txn.specs.Voters.{VoterList, voters_of}
@@ -22,7 +21,6 @@ use Rattle.shard.specs.declared.kept.Kept.{Kept}
 use Rattle.shard.specs.Kept.{Represents, IsStep}
 use Rattle.shard.specs.Concluding.{IsUnderWay}
 use Rattle.shard.specs.Counting.{IsInTime, on_missing}
-use Rattle.shard.specs.Effects.{IsSpared}
 use Rattle.shard.proofs.InPlace.{stands_so}
 use Rattle.shard.proofs.NoticeSteps.{is_remote_open, missing_passes, missing_so}
 use Rattle.shard.proofs.Standing.{spared}

@@ -35,7 +35,7 @@ unheard top me n a from (body.DepOk dependency waiter commit) own x1 x2 x3 x4 x5
 unheard top me n a from (body.Begin t rows cohorts dependencies) own x1 x2 x3 x4 x5 x6 x7 x8 x9 x10 = absurd (cc)
 unheard top me n a from (body.Prepare t rows coordinator) own x1 x2 x3 x4 x5 x6 x7 x8 x9 x10 = absurd (cc)
 unheard top me n a from (body.ReadAt number time read) own x1 x2 x3 x4 x5 x6 x7 x8 x9 x10 = absurd (cc)
-unheard top me n a from (body.ReplBegin t rows stamp cohorts dependencies) own x1 x2 x3 x4 x5 x6 x7 x8 x9 x10 = absurd (cc)
+unheard top me n a from (body.ReplBegin cohorts t rows stamp dependencies) own x1 x2 x3 x4 x5 x6 x7 x8 x9 x10 = absurd (cc)
 unheard top me n a from (body.ReplPart t rows stamp coordinator) own x1 x2 x3 x4 x5 x6 x7 x8 x9 x10 = absurd (cc)
 unheard top me n a from (body.Done t commit stamp) own x1 x2 x3 x4 x5 x6 x7 x8 x9 x10 = refl
 unheard top me n a from (body.PartNow number rows) own x1 x2 x3 x4 x5 x6 x7 x8 x9 x10 = refl

@@ -59,9 +59,9 @@ handled_able top me last es a n e honest lt late has before h now at = by_body
     by_body (body.Read number read) is within = read_able a n number read e lt (now number read is) h
     by_body (body.ReadAt number time read) is within =
         read_at_able a n number time read e lt (let le = honest.read e number time read has is in omega (arith, late, le)) (λ new. at number time read is new) h
-    by_body (body.ReplBegin t rows stamp cohorts dependencies) is within =
+    by_body (body.ReplBegin cohorts t rows stamp dependencies) is within =
         repl_begin_able a n (record { txn = t; rows = rows; stamp = stamp; cohorts = cohorts; dependencies = dependencies }) honest lt
-        (normal (body.ReplBegin t rows stamp cohorts dependencies) is) within h
+        (normal (body.ReplBegin cohorts t rows stamp dependencies) is) within h
     by_body (body.ReplPart t rows stamp coordinator) is within =
         repl_part_able a n (record { txn = t; rows = rows; stamp = stamp; coordinator = coordinator }) lt
         (normal (body.ReplPart t rows stamp coordinator) is) h

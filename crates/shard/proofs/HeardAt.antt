@@ -19,13 +19,13 @@ pub one_of_five : (b : Body) → is_handed_over b ≡ true
     → ((t : TxnValue) (rows : Batch) (cohorts : List ℕ) (dependencies : List WriterValue) → b ≡ body.Begin t rows cohorts dependencies → ⊥)
     → ((t : TxnValue) (rows : Batch) (coordinator : ℕ) → b ≡ body.Prepare t rows coordinator → ⊥)
     → ((number time : ℕ) (read : Read) → b ≡ body.ReadAt number time read → ⊥)
-    → ((t : TxnValue) (rows : Batch) (stamp : StampValue) (cohorts : List ℕ) (dependencies : List WriterValue) → b ≡ body.ReplBegin t rows stamp cohorts dependencies → ⊥)
+    → ((cohorts : List ℕ) (t : TxnValue) (rows : Batch) (stamp : StampValue) (dependencies : List WriterValue) → b ≡ body.ReplBegin cohorts t rows stamp dependencies → ⊥)
     → ((t : TxnValue) (rows : Batch) (stamp : StampValue) (coordinator : ℕ) → b ≡ body.ReplPart t rows stamp coordinator → ⊥)
     → ⊥
 one_of_five (body.Begin t rows cohorts dependencies) own x1 x2 x3 x4 x5 = x1 t rows cohorts dependencies refl
 one_of_five (body.Prepare t rows coordinator) own x1 x2 x3 x4 x5 = x2 t rows coordinator refl
 one_of_five (body.ReadAt number time read) own x1 x2 x3 x4 x5 = x3 number time read refl
-one_of_five (body.ReplBegin t rows stamp cohorts dependencies) own x1 x2 x3 x4 x5 = x4 t rows stamp cohorts dependencies refl
+one_of_five (body.ReplBegin cohorts t rows stamp dependencies) own x1 x2 x3 x4 x5 = x4 cohorts t rows stamp dependencies refl
 one_of_five (body.ReplPart t rows stamp coordinator) own x1 x2 x3 x4 x5 = x5 t rows stamp coordinator refl
 one_of_five (body.Yes t) own x1 x2 x3 x4 x5 = absurd (cc)
 one_of_five (body.Commit t commit stamp) own x1 x2 x3 x4 x5 = absurd (cc)

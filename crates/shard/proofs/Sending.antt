@@ -29,7 +29,7 @@ pub record Plain (top : TopologyValue) (me n : ℕ) (P : Envelope → Type 0) : 
   pub commit : (shard : ℕ) (t : TxnValue) (stamp : StampValue) → P (envelope me (shard_node top (dc_of top me) shard) n (body.Commit t n stamp))
   pub done : (t : TxnValue) (stamp : StampValue) → P (envelope me t.session n (body.Done t n stamp))
   pub repl_begin : (dc : ℕ) (t : TxnValue) (rows : List Change) (stamp : StampValue) (cohorts : List ℕ) (dependencies : List WriterValue)
-      → P (envelope me (shard_node top dc (shard_of top me)) n (body.ReplBegin t rows stamp cohorts dependencies))
+      → P (envelope me (shard_node top dc (shard_of top me)) n (body.ReplBegin cohorts t rows stamp dependencies))
   pub notify : (shard : ℕ) (t : TxnValue) → P (envelope me (shard_node top (dc_of top me) shard) n (body.Notify t))
   pub prepare_remote : (shard : ℕ) (t : TxnValue) → P (envelope me (shard_node top (dc_of top me) shard) n (body.PrepareRemote t))
   pub dep_check : (shard : ℕ) (dependency waiter : TxnValue) → P (envelope me (shard_node top (dc_of top me) shard) n (body.DepCheck dependency waiter))
@@ -104,7 +104,7 @@ module _ (top : TopologyValue) (me n : ℕ) (P : Envelope → Type 0) (W : Waiti
   announced b None = (
     k.done b.txn (stamp_for me n None),
     each_mapped P
-        (λ d. envelope me (shard_node top d (shard_of top me)) n (body.ReplBegin b.txn b.rows (stamp_for me n None) b.cohorts b.dependencies))
+        (λ d. envelope me (shard_node top d (shard_of top me)) n (body.ReplBegin b.cohorts b.txn b.rows (stamp_for me n None) b.dependencies))
         (other_dcs top me)
         (λ d has. k.repl_begin d b.txn b.rows (stamp_for me n None) b.cohorts b.dependencies),
   )
@@ -334,7 +334,7 @@ module _ (top : TopologyValue) (me n : ℕ) (P : Envelope → Type 0) (W : Waiti
       one a (envelope me from n (body.PartNow number (map (row_now n a read) read.keys))) c.old (c.now number read refl)
   by_body a from (body.ReadAt number time read) is c =
       read_at_gives (is_waiting a from number) (nat_lt time a.low) a from number time read refl c.old (λ new left. c.asked number time read left refl new) is
-  by_body a from (body.ReplBegin t rows stamp cohorts dependencies) is c =
+  by_body a from (body.ReplBegin cohorts t rows stamp dependencies) is c =
       repl_begin_gives (is_known t a) a
       (record { txn = t; rows = rows; stamp = stamp; cohorts = cohorts; dependencies = dependencies }) c.old is
   by_body a from (body.ReplPart t rows stamp coordinator) is c =

@@ -1,11 +1,9 @@
 -- What the event of a ballot makes of what is kept, where nothing or the last thing is missing.
-use Rattle.std.specs.Prelude.{◌≡◌, ℕ, if◌then◌else◌, [], Option, Some, None}
+use Rattle.std.specs.Prelude.{◌≡◌, ℕ, [], Option, Some, None}
 use Rattle.logical_time.specs.Stamps.{StampValue, TxnValue}
 use Rattle.store.specs.Kept.{HasRoom}
 use Rattle.txn_state.specs.Ballot.{CompleteValue}
-use Rattle.messages.specs.Words.{is_same_txn}
 use Rattle.write_txn.specs.Ledger.{state_of, decided_in}
-use Rattle.write_txn.specs.Voters.{voters_of}
 use Rattle.shard.specs.declared.kept.Kept.{Kept}
 use Rattle.shard.specs.Deciding.{IsSettled}
 use Rattle.shard.specs.Effects.{OthersHaveSameVoters}

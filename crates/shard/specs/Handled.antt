@@ -8,6 +8,6 @@ abbrev pub is_handed_over : Body → Bool
 is_handed_over (Begin txn rows cohorts dependencies) = true
 is_handed_over (Prepare txn rows coordinator) = true
 is_handed_over (ReadAt number time read) = true
-is_handed_over (ReplBegin txn rows stamp cohorts dependencies) = true
+is_handed_over (ReplBegin cohorts txn rows stamp dependencies) = true
 is_handed_over (ReplPart txn rows stamp coordinator) = true
 is_handed_over other = false

@@ -114,7 +114,7 @@ fn begun_of(
     Ok(Begun {
         txn,
         rows: rows.clone()?,
-        cohorts: cohorts.clone()?,
+        cohorts: *cohorts,
         dependencies: dependencies.clone()?,
     })
 }
@@ -133,7 +133,7 @@ fn repl_begun_of(
         txn,
         rows: rows.clone()?,
         stamp,
-        cohorts: cohorts.clone()?,
+        cohorts: *cohorts,
         dependencies: dependencies.clone()?,
     })
 }

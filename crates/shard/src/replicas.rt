@@ -46,7 +46,7 @@ pub(crate) fn told_by(
         return Ok(Vec::new(kept.alloc));
     }
     let txn = remote.ballot.writer().txn();
-    if !remote.cohorts.as_slice().is_empty() {
+    if !remote.cohorts.is_empty() {
         return prepare_remotes(kept.alloc, kept.place, time, txn, &remote.cohorts);
     }
     let deciding = Deciding {

@@ -158,8 +158,8 @@ module _ (top : TopologyValue) (w : Run) (some : 0 < top.shards) (inv : Inv top 
   for_actor from to time (Commit t commit stamp) s l f = inl (to_shard top w some inv live k.stations from to time (Commit t commit stamp) s l refl)
   for_actor from to time (ReadNow number read) s l f = inl (to_shard top w some inv live k.stations from to time (ReadNow number read) s l refl)
   for_actor from to time (ReadAt number bound read) s l f = inl (to_shard top w some inv live k.stations from to time (ReadAt number bound read) s l refl)
-  for_actor from to time (ReplBegin t rows stamp cohorts dependencies) s l f =
-      inl (to_shard top w some inv live k.stations from to time (ReplBegin t rows stamp cohorts dependencies) s l refl)
+  for_actor from to time (ReplBegin cohorts t rows stamp dependencies) s l f =
+      inl (to_shard top w some inv live k.stations from to time (ReplBegin cohorts t rows stamp dependencies) s l refl)
   for_actor from to time (ReplPart t rows stamp coordinator) s l f =
       inl (to_shard top w some inv live k.stations from to time (ReplPart t rows stamp coordinator) s l refl)
   for_actor from to time (Notify t) s l f = inl (to_shard top w some inv live k.stations from to time (Notify t) s l refl)

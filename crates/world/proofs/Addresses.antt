@@ -89,7 +89,7 @@ module _ (top : TopologyValue) (w : Run) (some : 0 < top.shards) (inv : Inv top 
   to_shard from to time (Commit t commit stamp) s k e = known_shard to t (inl k.0)
   to_shard from to time (ReadNow number read) s k e = dc_shard top to some k.1
   to_shard from to time (ReadAt number bound read) s k e = dc_shard top to some k.1
-  to_shard from to time (ReplBegin t rows stamp cohorts dependencies) s k e = dc_shard top to some k.1
+  to_shard from to time (ReplBegin cohorts t rows stamp dependencies) s k e = dc_shard top to some k.1
   to_shard from to time (ReplPart t rows stamp coordinator) s k e = dc_shard top to some k.2
   to_shard from to time (Notify t) s k e =
       dc_shard top to some (subst (λ d. d < top.dcs) k.2 ((live.shards from).entries.kept_parts k.0.0 k.0.1).here)

@@ -165,7 +165,7 @@ module _ (top : TopologyValue) (w : Run) (inv : Inv top w) where
 
   body_within : (from to time : ℕ) (b : Body) → Says top w from to time b → IsWithin top (sizes_of w.submitted) b
   body_within from to time (Begin t rows cohorts dependencies) s = ballot_fits top w cohorts dependencies s.submission s.batch s.written.among s.cohorts s.dependencies
-  body_within from to time (ReplBegin t rows stamp cohorts dependencies) s =
+  body_within from to time (ReplBegin cohorts t rows stamp dependencies) s =
       ballot_fits top w cohorts dependencies s.submission s.batch s.written.among s.cohorts s.dependencies
   body_within from to time _ s = tt
 

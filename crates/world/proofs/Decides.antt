@@ -183,7 +183,7 @@ module _ (top : TopologyValue) (x : Run) (node n : ℕ) (a : ShardState) (b : Be
         record { submission = ballot.submission; batch = ballot.batch; written = ballot.written; here = k },
       )
   announce_go None e k u (inr m) =
-      let q = map_only (λ d. envelope node (shard_node top d (shard_of top node)) n (ReplBegin b.txn b.rows (stamp_for node n None) b.cohorts b.dependencies)) (other_dcs top node) u m in
+      let q = map_only (λ d. envelope node (shard_node top d (shard_of top node)) n (ReplBegin b.cohorts b.txn b.rows (stamp_for node n None) b.dependencies)) (other_dcs top node) u m in
       let s = stamp_go None e k in
       subst (λ z. EnvelopeSound top x z) (sym q.2) (replicated_sound q.0 (stamp_for node n None) s.0 s.1)
 

@@ -41,7 +41,7 @@ pub record AreWithin (top : TopologyValue) (s : Sizes) (a : ShardState) : Type 0
 -- and of a message
 abbrev pub IsWithin : TopologyValue → Sizes → Body → Type 0
 IsWithin top s (Begin t rows cohorts dependencies) = Fits top s cohorts dependencies
-IsWithin top s (ReplBegin t rows stamp cohorts dependencies) = Fits top s cohorts dependencies
+IsWithin top s (ReplBegin cohorts t rows stamp dependencies) = Fits top s cohorts dependencies
 IsWithin top s other = Unit {0}
 
 -- what a step leaves to do costs less than this and what waited
@@ -72,12 +72,12 @@ module _ (top : TopologyValue) (s : Sizes) where
       → cost_of_all top s (announcements top me n b o) ≤ 1 + top.dcs * cost_of_ballot top s.dependencies
   announced me n b (Some stamp) le = omega arith
   announced me n b None le =
-      let begins = map (λ d. envelope me (shard_node top d (shard_of top me)) n (ReplBegin b.txn b.rows (stamp_for me n None) b.cohorts b.dependencies)) (other_dcs top me) in
+      let begins = map (λ d. envelope me (shard_node top d (shard_of top me)) n (ReplBegin b.cohorts b.txn b.rows (stamp_for me n None) b.dependencies)) (other_dcs top me) in
       let split = cost_cons top s (envelope me b.txn.session n (Done b.txn n (stamp_for me n None))) begins in
       let fewer = mul-le-mul_right (cost_of_part top) le in
       let less : cost_of_ballot top (length b.dependencies) ≤ cost_of_ballot top s.dependencies = omega arith in
       let each =
-      cost_each top s (λ d. envelope me (shard_node top d (shard_of top me)) n (ReplBegin b.txn b.rows (stamp_for me n None) b.cohorts b.dependencies))
+      cost_each top s (λ d. envelope me (shard_node top d (shard_of top me)) n (ReplBegin b.cohorts b.txn b.rows (stamp_for me n None) b.dependencies))
       (cost_of_ballot top s.dependencies) (other_dcs top me) (λ d. less) in
       let all = mul-le-mul_right (cost_of_ballot top s.dependencies) (other_count top me) in
       omega arith

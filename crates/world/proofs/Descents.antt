@@ -243,7 +243,7 @@ module _ (top : TopologyValue) (s : Sizes) where
   handled_descends me n a within from (ReadNow number read) fits = inl (refl, low_one 8 (envelope me from n (PartNow number (map (row_now n a read) read.keys))) (omega arith), omega (arith, cost_cons top s (envelope me from n (PartNow number (map (row_now n a read) read.keys))) []))
   handled_descends me n a within from (ReadAt number time read) fits =
       read_at_descends me n a (is_waiting a from number) (nat_lt time a.low) from number time read (within.asked time read)
-  handled_descends me n a within from (ReplBegin t rows stamp cohorts dependencies) fits =
+  handled_descends me n a within from (ReplBegin cohorts t rows stamp dependencies) fits =
       repl_begin_descends me n a (is_known t a) (record { txn = t; rows = rows; stamp = stamp; cohorts = cohorts; dependencies = dependencies }) fits
   handled_descends me n a within from (ReplPart t rows stamp coordinator) fits =
       repl_part_descends me n a (is_known t a) (record { txn = t; rows = rows; stamp = stamp; coordinator = coordinator })

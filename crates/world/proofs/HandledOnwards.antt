@@ -136,7 +136,7 @@ module _ (top : TopologyValue) (me n : ℕ) (a : ShardState) where
   handled_onward from (Check t time) = check_on top me n a from t time (decision_of t a)
   handled_onward from (ReadNow number read) = quiet_onward a n
   handled_onward from (ReadAt number time read) = read_at_on top me n a from number time read (is_waiting a from number) (nat_lt time a.low)
-  handled_onward from (ReplBegin t rows stamp cohorts dependencies) =
+  handled_onward from (ReplBegin cohorts t rows stamp dependencies) =
       repl_begin_on (record { txn = t; rows = rows; stamp = stamp; cohorts = cohorts; dependencies = dependencies }) (is_known t a)
   handled_onward from (ReplPart t rows stamp coordinator) =
       repl_part_on top me n a (record { txn = t; rows = rows; stamp = stamp; coordinator = coordinator }) (is_known t a)

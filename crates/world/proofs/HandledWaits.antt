@@ -237,7 +237,7 @@ handled_wait top me n a from (NotBy t time) =
 handled_wait top me n a from (Check t time) = check_wait top me n from (OfCheck t time) a t time (decision_of t a)
 handled_wait top me n a from (ReadNow number read) = send_wait top me n from (OfRead number) a _
 handled_wait top me n a from (ReadAt number time read) = read_at_wait top me n from number time read a (is_waiting a from number) (nat_lt time a.low)
-handled_wait top me n a from (ReplBegin t rows stamp cohorts dependencies) =
+handled_wait top me n a from (ReplBegin cohorts t rows stamp dependencies) =
     repl_begin_wait top me n from (OfReplBegin t) a (record { txn = t; rows = rows; stamp = stamp; cohorts = cohorts; dependencies = dependencies }) (is_known t a)
 handled_wait top me n a from (ReplPart t rows stamp coordinator) =
     repl_part_wait top me n from (OfReplPart t) a (record { txn = t; rows = rows; stamp = stamp; coordinator = coordinator }) (is_known t a)

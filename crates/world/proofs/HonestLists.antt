@@ -30,7 +30,7 @@ normal_on top batch rows node e = subst IsNormal (sym e) (normal_part top.shards
 part_normal : (top : TopologyValue) (w : Run) (from node time : ℕ) (b : Body) → Says top w from node time b → IsNormal (part_in b)
 part_normal top w from node time (Begin t rows cohorts dependencies) h = normal_on top h.batch rows node h.rows
 part_normal top w from node time (Prepare t rows coordinator) h = normal_on top h.batch rows node h.rows
-part_normal top w from node time (ReplBegin t rows stamp cohorts dependencies) h = normal_on top h.batch rows node h.rows
+part_normal top w from node time (ReplBegin cohorts t rows stamp dependencies) h = normal_on top h.batch rows node h.rows
 part_normal top w from node time (ReplPart t rows stamp coordinator) h = normal_on top h.batch rows node h.rows
 part_normal top w from node time (Yes t) h = nothing_normal
 part_normal top w from node time (Commit t n s) h = nothing_normal

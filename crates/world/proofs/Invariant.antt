@@ -94,7 +94,7 @@ Says top w from to time (NotBy t bound) = Excluded w from t bound × IsLead top 
 Says top w from to time (Check t bound) = (bound ≤ time) × (dc_of top from ≡ dc_of top to) × IsLead top w (dc_of top from) to t
 Says top w from to time (ReadNow number read) = AskedNow top (w.sessions from) number to read
 Says top w from to time (ReadAt number bound read) = (bound ≤ time) × AskedAt (w.sessions from) number bound to read
-Says top w from to time (ReplBegin t rows stamp cohorts dependencies) =
+Says top w from to time (ReplBegin cohorts t rows stamp dependencies) =
     KeptBallotSound top w to time (record { txn = t; rows = rows; stamp = stamp; cohorts = cohorts; dependencies = dependencies })
 Says top w from to time (ReplPart t rows stamp coordinator) =
     KeptPartSound top w to (record { txn = t; rows = rows; stamp = stamp; coordinator = coordinator })

@@ -76,7 +76,7 @@ module _ (top : TopologyValue) (x : Run) (node n : ℕ) (some : 0 < top.shards) 
   copies_go None e q dc m =
       record {
         message = _;
-        among = announced None e _ (inr (map_among (λ d. envelope node (shard_node top d (shard_of top node)) n (ReplBegin b.txn b.rows (stamp_for node n None) b.cohorts b.dependencies)) (other_dcs top node) dc m));
+        among = announced None e _ (inr (map_among (λ d. envelope node (shard_node top d (shard_of top node)) n (ReplBegin b.cohorts b.txn b.rows (stamp_for node n None) b.dependencies)) (other_dcs top node) dc m));
         by = refl;
         for = refl;
         is = refl;
@@ -108,7 +108,7 @@ module _ (top : TopologyValue) (x : Run) (node n : ℕ) (some : 0 < top.shards) 
   announce_fine (Some s) q e m = absurd m
   announce_fine None q e (inl i) = subst (λ z. Fine top x z) (sym i) refl
   announce_fine None q e (inr m) =
-      let i = map_only (λ d. envelope node (shard_node top d (shard_of top node)) n (ReplBegin b.txn b.rows (stamp_for node n None) b.cohorts b.dependencies)) (other_dcs top node) e m in
+      let i = map_only (λ d. envelope node (shard_node top d (shard_of top node)) n (ReplBegin b.cohorts b.txn b.rows (stamp_for node n None) b.dependencies)) (other_dcs top node) e m in
       let p = other_dc top node i.0 i.1 in
       let at_dc = peer_dc top node i.0 some in
       subst (λ z. Fine top x z) (sym i.2) (

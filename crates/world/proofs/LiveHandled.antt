@@ -65,7 +65,7 @@ module _ (top : TopologyValue) (w x : Run) (node n : ℕ) (some : 0 < top.shards
       let r = read_left top w x node n some inv g here_live rounds from number read (le_trans k.0 (g.sessions from).count) here in (r.0, λ e. r.1)
   body_left from time (ReadAt number bound read) old says k here =
       let r = read_at_left top w x node n some inv g here_live rounds from number bound read (round_on from number bound g k.0) here in (r.0, λ e. r.1)
-  body_left from time (ReplBegin t rows stamp cohorts dependencies) old says k here =
+  body_left from time (ReplBegin cohorts t rows stamp dependencies) old says k here =
       let r : KeptBallot = record { txn = t; rows = rows; stamp = stamp; cohorts = cohorts; dependencies = dependencies } in
       let z = repl_begin_left top w x node n some was inv g here_live rounds r time old (away_on g k.0) k.1 (placed r time old) here in
       (z.0, λ e. z.1)

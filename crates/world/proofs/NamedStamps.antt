@@ -121,7 +121,7 @@ module _ (top : TopologyValue) (some : 0 < top.shards) (w : Run) (replayed : run
   named_met e m x (Commit t commit stamp) is s q = same_met x t stamp q (met_so w e.from t commit stamp s.0.decided)
   named_met e m x (At t commit stamp) is s q = same_met x t stamp q (met_so w e.from t commit stamp s.0.decided)
   named_met e m x (Done t commit stamp) is s q = same_met x t stamp q (met_so w e.from t commit stamp s.0.decided)
-  named_met e m x (ReplBegin t rows stamp cohorts dependencies) is s q =
+  named_met e m x (ReplBegin cohorts t rows stamp dependencies) is s q =
       let d = s.stamp.decided in
       same_met x t stamp q
       (record { node = _; decision = d.decision; among = d.among; txn = d.txn ∙ s.written.txn; stamp = d.stamp })

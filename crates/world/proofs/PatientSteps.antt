@@ -166,7 +166,7 @@ module _ (top : TopologyValue) (w : Run) (node n : ℕ) (some : 0 < top.shards) 
   handled_patient from (Check t time) = check_patient top node n (w.shards node) (inv.patient node) (decision_of t (w.shards node)) from t time
   handled_patient from (ReadNow number read) = inv.patient node
   handled_patient from (ReadAt number time read) = read_if_patient from number time read (is_waiting (w.shards node) from number) (nat_lt time (w.shards node).low)
-  handled_patient from (ReplBegin t rows stamp cohorts dependencies) = repl_begin_patient _ _ refl
+  handled_patient from (ReplBegin cohorts t rows stamp dependencies) = repl_begin_patient _ _ refl
   handled_patient from (ReplPart t rows stamp coordinator) = repl_part_patient _ (is_known t (w.shards node))
   handled_patient from (Notify t) = notify_patient from t _ refl
   handled_patient from (PrepareRemote t) = prepare_remote_patient t _ (is_some (prepared_part t (w.shards node))) refl

@@ -109,7 +109,7 @@ module _ (top : TopologyValue) (s : Sizes) (me n : ℕ) (a : SessionState) where
   heard_sinks from (Check t time) = silent 5 _ (omega arith)
   heard_sinks from (ReadNow number read) = silent 8 _ (omega arith)
   heard_sinks from (ReadAt number time read) = silent 6 _ (omega arith)
-  heard_sinks from (ReplBegin t rows stamp cohorts dependencies) = silent 4 _ (omega arith)
+  heard_sinks from (ReplBegin cohorts t rows stamp dependencies) = silent 4 _ (omega arith)
   heard_sinks from (ReplPart t rows stamp coordinator) = silent 3 _ (omega arith)
   heard_sinks from (Notify t) = silent 2 _ (omega arith)
   heard_sinks from (PrepareRemote t) = silent 1 2 (omega arith)

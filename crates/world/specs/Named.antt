@@ -12,7 +12,7 @@ abbrev pub stamp_named : Body → Option StampedTxn
 stamp_named (body.Commit t commit stamp) = Some (record { txn = t; stamp = stamp })
 stamp_named (body.At t commit stamp) = Some (record { txn = t; stamp = stamp })
 stamp_named (body.Done t commit stamp) = Some (record { txn = t; stamp = stamp })
-stamp_named (body.ReplBegin t rows stamp cohorts dependencies) = Some (record { txn = t; stamp = stamp })
+stamp_named (body.ReplBegin cohorts t rows stamp dependencies) = Some (record { txn = t; stamp = stamp })
 stamp_named (body.ReplPart t rows stamp coordinator) = Some (record { txn = t; stamp = stamp })
 stamp_named other = None
 

@@ -1,4 +1,4 @@
-use Rattle.std.proofs.Common.{◌≡◌, ℕ, length, take}
+use Rattle.std.proofs.Common.{◌≡◌, length, take}
 use Rattle.equality.proofs.lists.same_writer_list.Given as goal
 
 abbrev pub invariant-loop-place : goal.invariant-loop-place

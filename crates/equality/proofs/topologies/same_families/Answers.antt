@@ -1,4 +1,4 @@
-use Rattle.std.proofs.Common.{◌≡◌, refl, eqb-true, eq-eqb}
+use Rattle.std.proofs.Common.{refl, eqb-true, eq-eqb}
 use Rattle.std.proofs.lemmas.Slice.Eq.{slice_eq-Decides}
 use Rattle.equality.proofs.topologies.same_families.Goals as goal
 

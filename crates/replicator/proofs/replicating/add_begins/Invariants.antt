@@ -6,7 +6,7 @@ use Rattle.replicator.proofs.replicating.add_begins.Given as goal
 -- the envelopes so far, then those to the nodes that are left, are those of before and those to all
 abbrev pub invariant-loop-to : goal.invariant-loop-to
 invariant-loop-to l = record {
-  all : l.envelopes.items ++ map (λ n. envelope l.stamp.node n l.stamp.time (body.ReplBegin l.txn l.rows l.stamp l.cohorts l.dependencies)) l.to-iterator.rest.items
-      ≡ l.fn.envelopes.items ++ map (λ n. envelope l.stamp.node n l.stamp.time (body.ReplBegin l.txn l.rows l.stamp l.cohorts l.dependencies)) l.fn.nodes.items;
+  all : l.envelopes.items ++ map (λ n. envelope l.stamp.node n l.stamp.time (body.ReplBegin l.cohorts l.txn l.rows l.stamp l.dependencies)) l.to-iterator.rest.items
+      ≡ l.fn.envelopes.items ++ map (λ n. envelope l.stamp.node n l.stamp.time (body.ReplBegin l.cohorts l.txn l.rows l.stamp l.dependencies)) l.fn.nodes.items;
   stamp : l.stamp ≡ l.fn.stamp;
 }

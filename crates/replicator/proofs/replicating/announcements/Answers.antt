@@ -10,7 +10,7 @@ use Rattle.replicator.proofs.replicating.announcements.Goals as goal
 pub returns-clause-envelopes : goal.returns-clause-envelopes
 returns-clause-envelopes c = λ top me is.
     let stamp : StampValue = record { time = c.args.time; node = c.node-node.result } in
-    let begin : Body = body.ReplBegin c.args.txn c.args.rows.now stamp c.args.cohorts.now c.args.dependencies.now in
+    let begin : Body = body.ReplBegin c.args.cohorts.now c.args.txn c.args.rows.now stamp c.args.dependencies.now in
     let told : c.add_begins.new.envelopes.items ≡ c.push.new.self.items ++ map (λ n. envelope c.node-node.result n c.args.time begin) c.in_ok-nodes.nodes.items = search rules in
     let done : c.push.new.self.items ≡ envelope c.node-node.result c.args.txn.session c.args.time (body.Done c.args.txn c.args.time stamp) ∷ [] = search rules in
     let none : is_some c.args.stamp.now ≡ false = search rules in

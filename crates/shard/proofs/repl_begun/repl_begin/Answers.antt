@@ -1,5 +1,4 @@
-use Rattle.std.proofs.Common.{arith, rules, ap, sym, subst}
-use Rattle.std.proofs.lemmas.Grind.{common_steps}
+use Rattle.std.proofs.Common.{rules, ap, sym, subst}
 use Rattle.std.specs.Prelude.{is_some}
 use Rattle.logical_time.specs.Stamps.{TxnValue}
 use Rattle.store.specs.Keeps.{AreApart}
@@ -9,6 +8,7 @@ use Rattle.write_txn.specs.Voters.{voters_of}
 use Rattle.shard.specs.Kept.{IsStep}
 use Rattle.shard.specs.ReplBegun.{ballot_begun, IsBegun}
 use Rattle.shard.proofs.QuietSteps.{contrary, ballot_before}
+use Rattle.shard.proofs.ReplBegunSteps.{drops_ballot}
 use Rattle.messages.specs.Replication as machine
 use Rattle.shard.proofs.repl_begun.repl_begin.Goals as goal
 
@@ -28,4 +28,5 @@ returns-in-Err-clause-quiet c = λ top me a r e.
     contrary (is_some (state_of c.args.kept.now.transactions.ledger c.args.begun.txn)) (ballot_before top me c.args.clock c.args.kept.now a (ballot_begun c.args.begun) r e) (search rules)
 
 pub returns-then-knows-clause-step : goal.returns-then-knows-clause-step
-returns-then-knows-clause-step c = grind (arith, common_steps)
+returns-then-knows-clause-step c = λ top me a r apart.
+    drops_ballot top me c.args.clock c.args.kept.now a (ballot_begun c.args.begun) c.args.outbox.now.sent r (search rules)

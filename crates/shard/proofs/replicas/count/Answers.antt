@@ -1,10 +1,7 @@
-use Rattle.std.proofs.Common.{rules, ◌≡◌, sym, subst, ap}
-use Rattle.std.specs.Prelude.{OnOk, OnErr, IsOk}
-use Rattle.write_txn.specs.Ledger.{state_of}
+use Rattle.std.proofs.Common.{rules, ◌≡◌, subst}
+use Rattle.std.specs.Prelude.{OnErr}
 use Rattle.write_txn.specs.Transactions.{TransactionsValue}
-use Rattle.shard.specs.Kept.{Does, GoesOn}
-use Rattle.shard.specs.Ignored.{IfIgnored}
-use Rattle.shard.specs.Counting.{IsInTime, on_missing}
+use Rattle.shard.specs.Kept.{GoesOn}
 use Rattle.shard.proofs.CountsEarly.{counts_early}
 use Rattle.shard.proofs.replicas.count.Goals as goal
 

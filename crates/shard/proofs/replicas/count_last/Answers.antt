@@ -1,4 +1,4 @@
-use Rattle.std.proofs.Common.{rules, ◌∙◌, ◌++◌, ◌==◌, ◌&&◌, ap, refl, Bool, false, List, length, Some}
+use Rattle.std.proofs.Common.{rules, ◌∙◌, ◌++◌, ◌==◌, ◌&&◌, ap, refl, Bool, false, List, length}
 use Rattle.txn_state.specs.RemoteBallot.{missing_in}
 use Rattle.messages.specs.declared.envelope.Envelope.{Envelope}
 use Rattle.write_txn.specs.declared.open.Open.TheVariants as in_open
