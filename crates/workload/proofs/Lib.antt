@@ -1,4 +1,5 @@
 pub mod Lists
+pub mod FewDigits
 pub mod Wholes
 pub mod Streams
 pub mod Told

@@ -1,5 +1,5 @@
 //! Shapes of JSON values, and lists of them item by item.
-ghost use Rattle.std.specs.Prelude.{◌≡◌, ◌≤◌, Option, option_map, map, IfSome};
+ghost use Rattle.std.specs.Prelude.{◌≡◌, ◌≤◌, Option, Some, option_map, map, IfSome};
 ghost use Rattle.json.specs.Json as spec;
 ghost use Rattle.json.specs.Find.{get, at, as_object, as_array};
 ghost use Rattle.json.specs.Value.{value_view, items_view};
@@ -10,6 +10,9 @@ ghost use Rattle.workload.specs.Streams.{Reads};
 use json::{Reader, Value};
 use logical_time::Fault;
 use std::alloc::Global;
+
+/// The first number to which no digit is added one by one: ten times a smaller one, and a digit, fit into 64 bits.
+const MUCH: u64 = 1_000_000_000_000_000_000;
 
 /// A type whose values JSON values may stand for.
 pub trait Shaped: Drop + Sized {
@@ -125,12 +128,32 @@ pub fn member_as<T: Shaped>(alloc: Global, json: &Value<'_>, name: &str) -> Resu
     T::of_json(alloc, member(json, name)?)
 }
 
+/// The number that decimal digits tell, if they are not too many: most numbers of a script have few.
+fn few_digits(text: &[u8]) -> Option<u64>
+    ensures { IfSome result (λ n. shape.whole_text text.now ≡ Some n) }
+{
+    if text.is_empty() {
+        return None;
+    }
+    let mut number = 0;
+    for byte in text {
+        if !byte.is_ascii_digit() || number >= MUCH {
+            return None;
+        }
+        number = 10 * number + u64::from(*byte - b'0');
+    }
+    Some(number)
+}
+
 /// A whole number from 0 on. A number of JSON has no plus sign, which would be passed over.
 #[tactic(auto, using(crate::proofs::Wholes::whole_is, crate::proofs::Wholes::plus_is_none))]
 pub fn whole(json: &Value<'_>) -> Option<u64>
     ensures { result ≡ shape.whole_of (value_view json.now) }
 {
     let text = json.as_number()?;
+    if let Some(number) = few_digits(text.as_bytes()) {
+        return Some(number);
+    }
     if text.as_bytes().first() == Some(&b'+') {
         return None;
     }
