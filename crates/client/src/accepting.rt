@@ -11,7 +11,7 @@ ghost use Rattle.client.specs.State.{dependencies_of, state_of, topology_of};
 ghost use Rattle.client.specs.Represents.{IsRefusalOf, IsSpentOrMemory};
 
 use crate::current::Current;
-use crate::envelopes::{nodes, reads, writes};
+use crate::envelopes::{nodes, post_writes, reads};
 use crate::hearing::put;
 use crate::kept::Kept;
 use column_family::Batch;
@@ -56,18 +56,18 @@ fn moved(kept: &Kept) -> Result<Clock, Fault>
     Ok(clock)
 }
 
-/// Sends these envelopes, and puts the writers of the last read among the dependencies. All growths come first.
+/// Makes all the room that a submission needs which sends so many envelopes, and puts the writers of the last read among the
+/// dependencies.
 #[inline]
-fn settle(kept: &mut Kept, envelopes: Vec<Envelope>, outbox: &mut Outbox) -> Result<(), Fault>
+fn settle(kept: &mut Kept, sends: usize, outbox: &mut Outbox) -> Result<(), Fault>
     ensures state { OnOk result (kept.new ≡ record kept.old { dependencies = dependencies_of kept.old }) }
-    ensures sends { OnOk result (outbox.new.sent ≡ outbox.old.sent ++ envelopes.items) }
+    ensures room { OnOk result (sends ≤ outbox.new.room) }
+    ensures unsent { outbox.new.sent ≡ outbox.old.sent }
     ensures same { OnErr result (kept.new ≡ kept.old) }
-    ensures unsent { OnErr result (outbox.new.sent ≡ outbox.old.sent) }
     ensures memory { IfErr result (λ e. e ≡ Fault.Memory) }
 {
-    outbox.reserve(envelopes.len())?;
+    outbox.reserve(sends)?;
     kept.dependencies.completed_read(kept.added.as_slice())?;
-    outbox.post_all(envelopes);
     Ok(())
 }
 
@@ -118,16 +118,16 @@ fn submit_batch(kept: &mut Kept, batch: &Batch, outbox: &mut Outbox) -> Result<u
     };
     let writers = kept.dependencies.to_writers(kept.added.as_slice())?;
     let dependencies = Dependencies::from_writers(kept.alloc, writers)?;
-    let envelopes = writes(
-        kept.alloc,
+    settle(kept, plan.cohorts.len() + 1, outbox)?;
+    post_writes(
+        outbox,
         kept.home,
         kept.node,
         clock.now(),
         txn,
         dependencies,
         plan,
-    )?;
-    settle(kept, envelopes, outbox)?;
+    );
     Ok(accept(kept, clock, Current::Write(coordinator)))
 }
 
@@ -173,7 +173,8 @@ fn ask(
     let clock = moved(kept)?;
     let own = read.get().clone()?;
     let (asked, envelopes) = asks(kept, clock, read)?;
-    settle(kept, envelopes, outbox)?;
+    settle(kept, envelopes.len(), outbox)?;
+    outbox.post_all(envelopes);
     Ok((clock, own, asked))
 }
 

@@ -1,5 +1,5 @@
 //! The envelopes of submissions.
-ghost use Rattle.std.specs.Prelude.{◌≡◌, ◌++◌, true, map, IfOk, OnOk, OnErr, IfErr};
+ghost use Rattle.std.specs.Prelude.{◌≡◌, ◌≤◌, ◌+◌, ◌++◌, true, length, map, IfOk, OnOk, OnErr, IfErr};
 ghost use Rattle.std.specs.List.Sorted.{IsStrictlyIncreasing};
 ghost use Rattle.client.specs.Envelopes.{node_in, prepare_part, batch_envelopes, read_keys};
 
@@ -10,22 +10,22 @@ use planner::{BatchPlan, ShardKeys, ShardPart};
 use slice::{Keys, Read};
 use std::alloc::Global;
 
-/// Adds a Prepare for each part of a cohort.
-fn add_prepares(
-    envelopes: &mut Vec<Envelope>,
+/// Posts a Prepare for each part of a cohort. There is room for them. Takes no memory.
+fn post_prepares(
+    outbox: &mut Outbox,
     home: Home,
     node: Node,
     time: Time,
     txn: TxnId,
     coordinator: Shard,
     parts: Vec<ShardPart>,
-) -> Result<(), Fault>
-    ensures ok { OnOk result (envelopes.new.items ≡ envelopes.old.items ++ map (prepare_part home node time txn coordinator) parts.items) }
-    ensures memory { IfErr result (λ e. e ≡ Fault.Memory) }
+)
+    requires { length parts.items ≤ outbox.old.room }
+    ensures { outbox.new.sent ≡ outbox.old.sent ++ map (prepare_part home node time txn coordinator) parts.items }
 {
     for part in parts {
         let ShardPart { shard, batch } = part;
-        envelopes.push(Envelope {
+        let prepare = Envelope {
             from: node,
             to: home.node_of(shard),
             time,
@@ -34,9 +34,9 @@ fn add_prepares(
                 rows: batch,
                 coordinator,
             },
-        })?;
+        };
+        outbox.post(prepare).unwrap();
     }
-    Ok(())
 }
 
 /// The read, of these keys.
@@ -136,28 +136,28 @@ fn shards_of(parts: &[ShardPart]) -> Cohorts
     cohorts
 }
 
-/// A Begin for the coordinator and a Prepare for each cohort, whose shards ascend.
+/// Posts a Begin for the coordinator and a Prepare for each cohort, whose shards ascend. There is room for them. Takes no
+/// memory.
 #[inline]
-pub(crate) fn writes(
-    alloc: Global,
+pub(crate) fn post_writes(
+    outbox: &mut Outbox,
     home: Home,
     node: Node,
     time: Time,
     txn: TxnId,
     dependencies: Dependencies,
     plan: BatchPlan,
-) -> Result<Vec<Envelope>, Fault>
-    requires { IsStrictlyIncreasing (map (λ p. p.shard) plan.cohorts.items) }
-    ensures ok { IfOk result (λ envelopes. envelopes.items ≡ batch_envelopes home node time txn dependencies plan.coordinator plan.cohorts.items) }
-    ensures memory { IfErr result (λ e. e ≡ Fault.Memory) }
+)
+    requires ascend { IsStrictlyIncreasing (map (λ p. p.shard) plan.cohorts.items) }
+    requires room { length plan.cohorts.items + 1 ≤ outbox.old.room }
+    ensures { outbox.new.sent ≡ outbox.old.sent ++ batch_envelopes home node time txn dependencies plan.coordinator plan.cohorts.items }
 {
     let others = shards_of(plan.cohorts.as_slice());
     let BatchPlan {
         coordinator: ShardPart { shard, batch },
         cohorts,
     } = plan;
-    let mut envelopes = Vec::with_capacity(alloc, cohorts.len().saturating_add(1))?;
-    envelopes.push(Envelope {
+    let begin = Envelope {
         from: node,
         to: home.node_of(shard),
         time,
@@ -167,7 +167,7 @@ pub(crate) fn writes(
             cohorts: others,
             dependencies,
         },
-    })?;
-    add_prepares(&mut envelopes, home, node, time, txn, shard, cohorts)?;
-    Ok(envelopes)
+    };
+    outbox.post(begin).unwrap();
+    post_prepares(outbox, home, node, time, txn, shard, cohorts);
 }

@@ -1,5 +1,5 @@
 //! Envelopes within a data centre.
-ghost use Rattle.std.specs.Prelude.{◌≡◌, ℕ, map, IfOk, IfErr};
+ghost use Rattle.std.specs.Prelude.{◌≡◌, ◌≤◌, ◌+◌, ◌++◌, ℕ, length, map, IfOk, IfErr};
 ghost use Rattle.messages.specs.declared.body.Body.TheVariants as body;
 ghost use Rattle.messages.specs.Topology.{TopologyValue, dc_of, shard_node};
 ghost use Rattle.messages.specs.Words.{envelope};
@@ -7,8 +7,8 @@ ghost use Rattle.messages.specs.Place.{IsPlace};
 ghost use Rattle.messages.specs.Shard.{KeptBallot};
 ghost use Rattle.messages.specs.Replication as machine;
 
-use logical_time::{Fault, Node, Shard, Time, TxnId};
-use messages::{Body, Cohorts, Dependencies, Envelope, Place};
+use logical_time::{Fault, Node, Shard, Time, TxnId, Writer};
+use messages::{Body, Cohorts, Envelope, Outbox, Place};
 use std::alloc::Global;
 
 /// A cohort's vote for a transaction whose part it has prepared: to the coordinator.
@@ -56,28 +56,25 @@ pub fn prepare_remotes(
     Ok(envelopes)
 }
 
-/// A DepCheck for each dependency of a transaction, in their order: to its coordinator in this data centre. Refused with
-/// `Memory` alone.
-pub fn dep_checks(
-    alloc: Global,
+/// Posts a DepCheck for each dependency of a transaction, in their order: to its coordinator in this data centre. There is
+/// room for them. Takes no memory.
+pub fn post_dep_checks(
     place: Place,
     time: Time,
     txn: TxnId,
-    dependencies: &Dependencies,
-) -> Result<Vec<Envelope>, Fault>
-    ensures envelopes { (top : TopologyValue) (me : ℕ) (r : KeptBallot) → IsPlace top me place → r.txn ≡ txn → r.dependencies ≡ dependencies.now → IfOk result (λ envelopes. envelopes.items ≡ machine.dep_checks top me time r) }
-    ensures memory { IfErr result (λ e. e ≡ Fault.Memory) }
+    dependencies: &[Writer],
+    outbox: &mut Outbox,
+)
+    requires { length dependencies.now ≤ outbox.old.room }
+    ensures sent { (top : TopologyValue) (me : ℕ) (r : KeptBallot) → IsPlace top me place → r.txn ≡ txn → r.dependencies ≡ dependencies.now → outbox.new.sent ≡ outbox.old.sent ++ machine.dep_checks top me time r }
+    ensures room { outbox.old.room ≤ outbox.new.room + length dependencies.now }
 {
-    let envelopes: Vec<Envelope> = dependencies
-        .as_slice()
-        .iter()
-        .map(|writer| {
-            let body = Body::DepCheck {
-                dependency: writer.txn(),
-                waiter: txn,
-            };
-            place.envelope_near(time, writer.shard(), body)
-        })
-        .collect(alloc)?;
-    Ok(envelopes)
+    for writer in dependencies {
+        let body = Body::DepCheck {
+            dependency: writer.txn(),
+            waiter: txn,
+        };
+        let check = place.envelope_near(time, writer.shard(), body);
+        outbox.post(check).unwrap();
+    }
 }

@@ -1,5 +1,5 @@
 //! The ballot of another data centre's write as it comes to its coordinator: ReplBegin.
-ghost use Rattle.std.specs.Prelude.{◌≡◌, ◌++◌, ℕ, true, None, IsOk, IfOk, OnOk, OnErr, IfErr};
+ghost use Rattle.std.specs.Prelude.{◌≡◌, ℕ, true, None, IsOk, IfOk, OnOk, OnErr, IfErr};
 ghost use Rattle.logical_time.specs.Stamps.{TxnValue};
 ghost use Rattle.logical_time.specs.declared.fault.Fault.TheVariants as fault;
 ghost use Rattle.store.specs.Keeps.{AreApart};
@@ -9,7 +9,6 @@ ghost use Rattle.txn_state.specs.Answers.{is_unanswered, is_dependency};
 ghost use Rattle.messages.specs.Topology.{TopologyValue};
 ghost use Rattle.messages.specs.Place.{IsPlace};
 ghost use Rattle.messages.specs.Shard.{ShardState};
-ghost use Rattle.messages.specs.Known.{decision_of};
 ghost use Rattle.messages.specs.Replication as machine;
 ghost use Rattle.write_txn.specs.Ledger.{state_of};
 ghost use Rattle.write_txn.specs.Stands.{kept_ballot_of};
@@ -23,9 +22,9 @@ ghost use Rattle.shard.specs.ReplBegun.{ballot_begun, IsBegun};
 use crate::kept::Kept;
 use crate::replicas::{conclude, is_decided, told_by};
 use column_family::Batch;
-use logical_time::{Clock, Fault, Stamp, Time, TxnId, Writer};
-use messages::{Cohorts, Dependencies, Envelope, Outbox};
-use replicator::{dep_checks, near_nodes};
+use logical_time::{Clock, Fault, Stamp, TxnId, Writer};
+use messages::{Cohorts, Dependencies, Outbox};
+use replicator::{near_nodes, post_dep_checks};
 use txn_state::{Answers, RemoteBallot, Votes, WritePart};
 use write_txn::{Remote, Transactions};
 
@@ -106,26 +105,6 @@ fn taken_apart(remote: Remote) -> ReplBegun
     }
 }
 
-/// What a ballot sends that has just come, by whether nothing is missing: a DepCheck for each dependency, and what it sends
-/// where it becomes ready.
-fn told_at_once(
-    kept: &Kept,
-    time: Time,
-    remote: &Remote,
-    is_ready: bool,
-) -> Result<Vec<Envelope>, Fault>
-    ensures ok { (top : TopologyValue) (me : ℕ) (a : ShardState) → Represents top me kept.now a → decision_of (kept_ballot_of remote.now).txn a ≡ None
-        → AreApart (machine.ready_if is_ready top me time a (kept_ballot_of remote.now)).state.applied
-        → IfOk result (λ envelopes. envelopes.items ≡ machine.dep_checks top me time (kept_ballot_of remote.now) ++ (machine.ready_if is_ready top me time a (kept_ballot_of remote.now)).sends) }
-    ensures memory { IfErr result (λ e. e ≡ fault.Memory) }
-{
-    let txn = remote.ballot.writer().txn();
-    let mut envelopes = dep_checks(kept.alloc, kept.place, time, txn, &remote.dependencies)?;
-    let mut told = told_by(kept, time, remote, is_ready)?;
-    envelopes.append(&mut told)?;
-    Ok(envelopes)
-}
-
 /// Makes room in the store for a ballot's own part, if it is decided.
 fn make_room_if(
     transactions: &mut Transactions,
@@ -164,11 +143,15 @@ fn begin(
     let txn = remote.ballot.writer().txn();
     let stamp = remote.ballot.stamp();
     let is_ready = remote.ballot.missing() == 0;
-    let envelopes = match told_at_once(kept, time, &remote, is_ready) {
-        Ok(envelopes) => envelopes,
+    let Ok(dependencies) = remote.dependencies.clone() else {
+        return Err((Fault::Memory, remote));
+    };
+    let told = match told_by(kept, time, &remote, is_ready) {
+        Ok(told) => told,
         Err(fault) => return Err((fault, remote)),
     };
-    match outbox.reserve(envelopes.len()) {
+    let checks = dependencies.as_slice();
+    match outbox.reserve(checks.len() + told.len()) {
         Ok(()) => {}
         Err(fault) => return Err((fault, remote)),
     }
@@ -178,7 +161,8 @@ fn begin(
         Err(fault) => return Err((fault, remote)),
     }
     let complete = kept.transactions.wait(remote, time)?;
-    conclude(kept, clock, txn, complete, stamp, envelopes, outbox);
+    post_dep_checks(kept.place, time, txn, checks, outbox);
+    conclude(kept, clock, txn, complete, stamp, told, outbox);
     Ok(())
 }
 
