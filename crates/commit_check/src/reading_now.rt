@@ -63,6 +63,25 @@ fn one_now(
     found_now(store, marks, clock, read, key)
 }
 
+// The rows of some keys.
+fn some_now(
+    alloc: Global,
+    store: &Store,
+    marks: &Marks,
+    clock: Time,
+    read: &Read,
+    keys: &[Key],
+) -> Result<Vec<RowNow>, Fault>
+    ensures ok { (a : ShardState) → Keeps store.now a.applied → AreMarksOf marks.now a → AreOnce (λ p. p.txn) a.prepared → IfOk result (λ rows. rows.items ≡ map (row_now clock a read.now) keys.now) }
+    ensures memory { IfErr result (λ e. e ≡ fault.Memory) }
+{
+    let mut rows = Vec::with_capacity(alloc, keys.len())?;
+    for key in keys {
+        rows.push(one_now(store, marks, clock, read, key)?)?;
+    }
+    Ok(rows)
+}
+
 /// What a shard with this store, these marks and this clock answers in the first round of a read: each asked row by
 /// its newest versions, in the order in which they are asked, repeats included. A row is valid from its earliest valid
 /// time to its latest, which is the clock or the least prepare time pending in the row (Eiger's LVT). Refused with
@@ -77,9 +96,12 @@ pub fn rows_now(
     ensures ok { (a : ShardState) → Keeps store.now a.applied → AreMarksOf marks.now a → AreOnce (λ p. p.txn) a.prepared → IfOk result (λ rows. rows ≡ map (row_now clock a read.now) read.now.keys) }
     ensures memory { IfErr result (λ e. e ≡ fault.Memory) }
 {
-    let mut rows = Vec::with_capacity(alloc, read.keys.as_slice().len())?;
-    for key in read.keys.as_slice() {
-        rows.push(one_now(store, marks, clock, read, key)?)?;
+    let keys = read.keys.as_slice();
+    // mostly it is asked for one
+    if keys.len() == 1 {
+        let row = one_now(store, marks, clock, read, &keys[0])?;
+        return Ok(RowsNow::one(alloc, row)?);
     }
+    let rows = some_now(alloc, store, marks, clock, read, keys)?;
     Ok(RowsNow::from_vec(alloc, rows)?)
 }

@@ -32,6 +32,19 @@ impl Model for Writers {
     ghost view = { λ list. kept_in list.kept };
 }
 
+/// A list that is kept may have room for so many more.
+const SPARE: usize = 4;
+
+/// The list without much room for more, since it is kept as long as the answer that it came with.
+fn trimmed(mut writers: Vec<Writer>) -> Vec<Writer>
+    ensures { result.items ≡ writers.items }
+{
+    if writers.capacity() - writers.len() > SPARE {
+        writers.shrink_to_fit();
+    }
+    writers
+}
+
 impl Writers {
     /// These writers.
     pub fn from_vec(writers: Vec<Writer>) -> Writers
@@ -59,9 +72,7 @@ impl Writers {
     {
         writers.sort()?;
         writers.dedup();
-        // a list is kept as long as the answer that it came with
-        writers.shrink_to_fit();
-        Ok(Writers::from_vec(writers))
+        Ok(Writers::from_vec(trimmed(writers)))
     }
 
     /// The writers.

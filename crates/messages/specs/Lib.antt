@@ -10,6 +10,7 @@ pub mod Words
 pub mod Shard
 pub mod Known
 pub mod Rows
+pub mod RowsNow
 pub mod Reads
 pub mod Commits
 pub mod Replication

@@ -1,11 +1,12 @@
 //! What shards answer in the first round of a read.
-ghost use Rattle.std.specs.Prelude.{◌≡◌, IfOk};
+ghost use Rattle.std.specs.Prelude.{◌≡◌, ◌∷◌, [], IfOk};
 
 use column_family::Key;
 use logical_time::{Time, Writers};
 use slice::Columns;
 use std::alloc::{AllocError, Global};
 use std::marker::Model;
+use std::slice::from_ref;
 use std::sync::Arc;
 
 /// An asked row by its newest versions.
@@ -23,19 +24,29 @@ pub struct RowNow {
     pub lvt: Time,
 }
 
+/// Where rows are kept.
+#[derive(Drop, Clone)]
+enum Listed {
+    /// One: mostly a shard is asked for one.
+    One(Arc<RowNow>),
+    /// None, or more.
+    Many(Arc<Vec<RowNow>>),
+}
+
 /// The asked rows of one shard by their newest versions. Copies share them.
 #[derive(Drop, Clone)]
 pub struct RowsNow {
-    rows: Arc<Vec<RowNow>>,
+    listed: Listed,
 }
 
 impl Model for RowsNow {
     ghost use Rattle.std.specs.Prelude.{List};
     ghost use Rattle.messages.specs.declared.rows_now.RowNow.{RowNow};
+    ghost use Rattle.messages.specs.RowsNow.{listed_in};
 
     ghost Value = { List RowNow };
 
-    ghost view = { λ list. list.rows.value.items };
+    ghost view = { λ list. listed_in list.listed };
 }
 
 impl RowsNow {
@@ -44,7 +55,21 @@ impl RowsNow {
         ensures { IfOk result (λ list. list ≡ rows.items) }
     {
         match Arc::new(alloc, rows) {
-            Ok(rows) => Ok(RowsNow { rows }),
+            Ok(rows) => Ok(RowsNow {
+                listed: Listed::Many(rows),
+            }),
+            Err(_) => Err(AllocError),
+        }
+    }
+
+    /// This row alone, for which no list is made. Fails by memory alone.
+    pub fn one(alloc: Global, row: RowNow) -> Result<RowsNow, AllocError>
+        ensures { IfOk result (λ list. list ≡ row ∷ []) }
+    {
+        match Arc::new(alloc, row) {
+            Ok(row) => Ok(RowsNow {
+                listed: Listed::One(row),
+            }),
             Err(_) => Err(AllocError),
         }
     }
@@ -53,6 +78,9 @@ impl RowsNow {
     pub fn as_slice(&self) -> &[RowNow]
         ensures { result.now ≡ self.now }
     {
-        self.rows.as_slice()
+        match &self.listed {
+            Listed::One(row) => from_ref(row.as_ref()),
+            Listed::Many(rows) => rows.as_slice(),
+        }
     }
 }

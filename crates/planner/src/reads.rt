@@ -1,5 +1,5 @@
 //! The cut of a read by shards.
-ghost use Rattle.std.specs.Prelude.{◌≡◌, length, map, IfOk, IfErr};
+ghost use Rattle.std.specs.Prelude.{◌≡◌, ◌∷◌, [], length, map, IfOk, IfErr, IfSome};
 ghost use Rattle.planner.specs.Checks.{read_fault, IsRefusedForOrMemory};
 ghost use Rattle.planner.specs.Plan as plans;
 ghost use Rattle.planner.specs.Homes.{kept_of};
@@ -43,9 +43,27 @@ fn homes_of(alloc: Global, keys: &[Key], shards: Shards) -> Result<Vec<Shard>, F
     Ok(homes)
 }
 
-/// Of the keys, with the shard of each, those of a shard. There is room for these alone, since they are kept as long as
-/// the message that brings them.
-fn keys_of(alloc: Global, keys: &[Key], homes: &[Shard], shard: Shard) -> Result<Vec<Key>, Fault>
+/// Of the keys, with the shard of each, the only one of a shard, if it has one and no other.
+fn only_of<'k>(keys: &'k [Key], homes: &[Shard], shard: Shard) -> Option<&'k Key>
+    requires { length homes.now ≡ length keys.now }
+    ensures { IfSome result (λ key. kept_of shard homes.now keys.now ≡ key.now ∷ []) }
+{
+    let mut only = None;
+    for place in 0..homes.len() {
+        let home = homes[place];
+        if home == shard {
+            if only.is_some() {
+                return None;
+            }
+            only = Some(&keys[place]);
+        }
+    }
+    only
+}
+
+/// Of the keys, with the shard of each, all of a shard. There is room for these alone, since they are kept as long as the
+/// message that brings them.
+fn all_of(alloc: Global, keys: &[Key], homes: &[Shard], shard: Shard) -> Result<Vec<Key>, Fault>
     requires { length homes.now ≡ length keys.now }
     ensures exact { IfOk result (λ own. own.items ≡ kept_of shard homes.now keys.now) }
     ensures memory { IfErr result (λ e. e ≡ Fault.Memory) }
@@ -57,6 +75,18 @@ fn keys_of(alloc: Global, keys: &[Key], homes: &[Shard], shard: Shard) -> Result
         }
     }
     Ok(own)
+}
+
+/// Of the keys, with the shard of each, those of a shard: mostly it has one.
+fn keys_of(alloc: Global, keys: &[Key], homes: &[Shard], shard: Shard) -> Result<Keys, Fault>
+    requires { length homes.now ≡ length keys.now }
+    ensures exact { IfOk result (λ own. own ≡ kept_of shard homes.now keys.now) }
+    ensures memory { IfErr result (λ e. e ≡ Fault.Memory) }
+{
+    match only_of(keys, homes, shard) {
+        Some(key) => Ok(Keys::one(key.clone()?)),
+        None => Ok(Keys::from_vec(alloc, all_of(alloc, keys, homes, shard)?)?),
+    }
 }
 
 /// The keys of each shard that has some of those that a read lists, ascending by shard.
@@ -71,11 +101,8 @@ fn cut(alloc: Global, keys: &[Key], shards: Shards) -> Result<ReadPlan, Fault>
     let mut asked = Vec::new(alloc);
     for shard in shards.all() {
         if is_home(homes, shard) {
-            let own = keys_of(alloc, once, homes, shard)?;
-            asked.push(ShardKeys {
-                shard,
-                keys: Keys::from_vec(alloc, own)?,
-            })?;
+            let keys = keys_of(alloc, once, homes, shard)?;
+            asked.push(ShardKeys { shard, keys })?;
         }
     }
     Ok(ReadPlan { asked })

@@ -6,31 +6,57 @@ use crate::predicate::Predicate;
 use column_family::{Family, Key, Row};
 use std::alloc::{AllocError, AllocFailed, Global};
 use std::marker::Model;
+use std::slice::from_ref;
 use std::sync::Arc;
 
-/// Keys as a request lists them, repeats included. Copies share them.
+/// Where keys are kept.
+#[derive(Drop, Clone)]
+enum Listed {
+    /// One in the handle: mostly a shard is asked for one.
+    One(Key),
+    /// None, or more.
+    Many(Arc<Vec<Key>>),
+}
+
+/// Keys as a request lists them, repeats included. One alone takes no memory, and copies share more.
 #[derive(Drop, Clone)]
 pub struct Keys {
-    keys: Arc<Vec<Key>>,
+    listed: Listed,
 }
 
 impl Model for Keys {
     ghost use Rattle.std.specs.Prelude.{List, ℕ};
+    ghost use Rattle.slice.specs.Keys.{listed_in};
 
     ghost Value = { List (List ℕ) };
 
-    ghost view = { λ list. list.keys.value.items };
+    ghost view = { λ list. listed_in list.listed };
 }
 
 impl Keys {
     /// These keys. Fails by memory alone.
-    #[inline(always)]
-    pub fn from_vec(alloc: Global, keys: Vec<Key>) -> Result<Keys, AllocError>
+    pub fn from_vec(alloc: Global, mut keys: Vec<Key>) -> Result<Keys, AllocError>
         ensures { IfOk result (λ list. list ≡ keys.items) }
     {
+        if keys.len() == 1 {
+            if let Some(key) = keys.pop() {
+                return Ok(Keys::one(key));
+            }
+        }
         match Arc::new(alloc, keys) {
-            Ok(keys) => Ok(Keys { keys }),
+            Ok(keys) => Ok(Keys {
+                listed: Listed::Many(keys),
+            }),
             Err(_) => Err(AllocError),
+        }
+    }
+
+    /// This key alone. Takes no memory.
+    pub fn one(key: Key) -> Keys
+        ensures { result ≡ key ∷ [] }
+    {
+        Keys {
+            listed: Listed::One(key),
         }
     }
 
@@ -38,7 +64,10 @@ impl Keys {
     pub fn as_slice(&self) -> &[Key]
         ensures { result.now ≡ self.now }
     {
-        self.keys.as_slice()
+        match &self.listed {
+            Listed::One(key) => from_ref(key),
+            Listed::Many(keys) => keys.as_slice(),
+        }
     }
 }
 

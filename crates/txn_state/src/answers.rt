@@ -1,9 +1,10 @@
 //! Answers to dependency checks that count once.
-ghost use Rattle.std.specs.Prelude.{◌≡◌, ◌==◌, ◌<◌, ◌^◌, length, IfOk, IfErr};
+ghost use Rattle.std.specs.Prelude.{◌≡◌, ◌==◌, ◌<◌, ◌^◌, true, length, get_or, IfOk, IfErr};
 ghost use Rattle.logical_time.specs.declared.fault.Fault.TheVariants as fault;
 ghost use Rattle.std.specs.List.{list_all};
 ghost use Rattle.std.specs.List.Sorted.{IsStrictlySortedBy};
 ghost use Rattle.std.specs.Ordering.{is_eq};
+ghost use Rattle.std.specs.declared.cmp.Ordering.TheVariants.{Equal};
 ghost use Rattle.logical_time.specs.Stamps.{TxnValue, txn_cmp};
 ghost use Rattle.txn_state.specs.Answers.{is_unanswered, is_dependency, answered};
 
@@ -47,13 +48,22 @@ fn are_all(missing: &[TxnId], txn: TxnId) -> bool
     missing.iter().all(|t| *t == txn)
 }
 
+/// Whether the transaction is the first: mostly answers come in the order in which they were asked for.
+fn is_first(missing: &[TxnId], txn: TxnId) -> bool
+    ensures { result ≡ true → (0 < length missing.now) × (txn_cmp (get_or missing.now 0 txn) txn ≡ Equal) }
+{
+    !missing.is_empty() && missing[0] == txn
+}
+
 /// Takes the transaction out.
 fn take_out(missing: &mut Vec<TxnId>, txn: TxnId)
     requires { IsStrictlySortedBy txn_cmp missing.old.items }
     ensures ordered { IsStrictlySortedBy txn_cmp missing.new.items }
     ensures rest { missing.new.items ≡ answered missing.old.items txn }
 {
-    if let Ok(place) = missing.binary_search(&txn) {
+    if is_first(missing, txn) {
+        let _first = missing.remove(0);
+    } else if let Ok(place) = missing.binary_search(&txn) {
         let _answered = missing.remove(place);
     }
 }

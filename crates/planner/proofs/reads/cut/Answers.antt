@@ -8,11 +8,11 @@ use Rattle.planner.proofs.reads.cut.Goals as goal
 pub keys_of-requires : goal.keys_of-requires
 keys_of-requires c = ap length (c.as_slice-homes.ensures.value ∙ c.in_ok-placed.ensures.exact) ∙ length-map c.as_slice-once.result.now (shard_of c.args.shards)
 
-pub loop-shard-preserved-in_ok-push : goal.loop-shard-preserved-in_ok-push
-loop-shard-preserved-in_ok-push c =
+pub loop-shard-preserved-in-Continue-branch-4 : goal.loop-shard-preserved-in-Continue-branch-4
+loop-shard-preserved-in-Continue-branch-4 c =
     let once = c.as_slice-once.ensures ∙ c.in_ok-listed.ensures.ok in
     let homes = c.as_slice-homes.ensures.value ∙ c.in_ok-placed.ensures.exact in
-    let keys = kept_keys c.args.shards c.in-Some.shard c.args.keys.now c.as_slice-once.result.now c.in_ok-own.own.items c.as_slice-homes.result.now once homes c.in_ok-own.ensures.exact in
+    let keys = kept_keys c.args.shards c.in-Some.shard c.args.keys.now c.as_slice-once.result.now c.in_ok-keys.keys c.as_slice-homes.result.now once homes c.in_ok-keys.ensures.exact in
     let some = home_asked c.args.shards c.in-Some.shard c.args.keys.now c.as_slice-once.result.now c.as_slice-homes.result.now once homes in
     grind (arith, common_steps, keys, some)
 

@@ -7,11 +7,11 @@ pub returns-clause-same : goal.returns-clause-same
 returns-clause-same c =
     let is = dedup_is same_writer _ _ c.dedup.ensures.filtered in
     λ w. (
-      (λ has. Contains-permutation _ _ w (IsPermutation-sym _ _ c.in_ok-sort.ensures.permutation) (only_kept _ w (rw (c.from_vec.ensures, c.shrink_to_fit.ensures.items, is) at has))),
-      (λ has. rw (c.from_vec.ensures, c.shrink_to_fit.ensures.items, is) (kept_once _ w (Contains-permutation _ _ w c.in_ok-sort.ensures.permutation has))),
+      (λ has. Contains-permutation _ _ w (IsPermutation-sym _ _ c.in_ok-sort.ensures.permutation) (only_kept _ w (rw (c.from_vec.ensures, c.trimmed.ensures, is) at has))),
+      (λ has. rw (c.from_vec.ensures, c.trimmed.ensures, is) (kept_once _ w (Contains-permutation _ _ w c.in_ok-sort.ensures.permutation has))),
     )
 
 pub returns-clause-sorted : goal.returns-clause-sorted
 returns-clause-sorted c =
     let is = dedup_is same_writer _ _ c.dedup.ensures.filtered in
-    rw (c.from_vec.ensures, c.shrink_to_fit.ensures.items, is) (strictly_sorted _ c.in_ok-sort.ensures.sorted)
+    rw (c.from_vec.ensures, c.trimmed.ensures, is) (strictly_sorted _ c.in_ok-sort.ensures.sorted)

@@ -1,7 +1,7 @@
 use Rattle.std.proofs.Common.{ℕ, List, arith}
 use Rattle.std.proofs.lemmas.Grind.{common_steps}
 use Rattle.planner.proofs.Kept.{kept_yes, kept_no}
-use Rattle.planner.proofs.reads.keys_of.Goals as goal
+use Rattle.planner.proofs.reads.all_of.Goals as goal
 
 pub loop-place-preserved : goal.loop-place-preserved
 loop-place-preserved c =

@@ -1,6 +1,6 @@
 use Rattle.std.proofs.Common.{◌≡◌, ◌++◌, drop}
 use Rattle.planner.specs.Homes.{kept_of}
-use Rattle.planner.proofs.reads.keys_of.Given as goal
+use Rattle.planner.proofs.reads.all_of.Given as goal
 
 -- the keys so far, then those that are left, are those of all
 abbrev pub invariant-loop-place : goal.invariant-loop-place
