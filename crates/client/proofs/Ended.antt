@@ -1,5 +1,6 @@
 -- A first round that ends with a second one had its last answer added.
-use Rattle.std.proofs.Common.{◌≡◌, ◌∙◌, ℕ, Bool, true, false, ap, List, [], ◌∷◌, ◌++◌}
+use Rattle.std.proofs.Common.{◌≡◌, ◌∙◌, ◌<◌, ℕ, Bool, true, false, ap, List, [], ◌∷◌, ◌++◌, length, arith}
+use Rattle.std.proofs.lemmas.List.{length-append}
 use Rattle.messages.specs.declared.rows_now.RowNow.{RowNow}
 use Rattle.messages.specs.Session.{HeardNow}
 use Rattle.messages.specs.Rounds as rounds
@@ -48,6 +49,13 @@ ended f from rows s e = ended_if (rounds.is_missing f.asked f.heard from) f from
 pub ended_heard : (f : First) (from : ℕ) (rows : List RowNow) (s : Second) → in_first.Second s ≡ taken.first_taken f from rows
     → s.first ≡ f.heard ++ record { from = from; rows = rows } ∷ []
 ended_heard f from rows s e = (ended f from rows s e).first
+
+one_more : {X : Type 0} (xs : List X) (x : X) → 0 < length (xs ++ x ∷ [])
+one_more xs x = rw (length-append xs (x ∷ [])) (omega arith)
+
+-- so it heard one at least
+pub ended_some : (f : First) (from : ℕ) (rows : List RowNow) (s : Second) → in_first.Second s ≡ taken.first_taken f from rows → 0 < length s.first
+ended_some f from rows s e = rw (ended_heard f from rows s e) (one_more f.heard (record { from = from; rows = rows }))
 
 abbrev pub back_at : Second → ℕ → List HeardNow → First
 back_at s floor heard = record { read = s.read; floor = floor; asked = s.asked; heard = heard }

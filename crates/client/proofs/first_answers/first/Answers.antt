@@ -3,7 +3,7 @@ use Rattle.std.specs.Prelude.{OnErr}
 use Rattle.std.proofs.lemmas.Grind.{common_steps}
 use Rattle.read_txn.specs.States.{First as FirstState}
 use Rattle.read_txn.specs.Taken.{first_taken}
-use Rattle.client.proofs.Ended.{back_at, ended_back, ended_heard}
+use Rattle.client.proofs.Ended.{back_at, ended_back, ended_heard, ended_some}
 use Rattle.read_txn.specs.declared.first_round.FirstTaken.TheVariants as in_first
 use Rattle.client.specs.declared.current.Current.TheVariants as current
 use Rattle.client.proofs.first_answers.first.Goals as goal
@@ -76,4 +76,14 @@ pub returns-in-Ok-Second-clause-unsent : goal.returns-in-Ok-Second-clause-unsent
 returns-in-Ok-Second-clause-unsent c = grind (arith, common_steps)
 
 pub open_second-requires-clause-heard : goal.open_second-requires-clause-heard
-open_second-requires-clause-heard c = grind (arith, common_steps)
+open_second-requires-clause-heard c =
+    let s = c.in-Ok-Second.round in
+    let taken : in_first.Second s ≡ first_taken c.args.round c.args.from c.args.rows = search rules in
+    ended_some c.args.round c.args.from c.args.rows s taken
+
+pub returns-in-Ok-Second-clause-back : goal.returns-in-Ok-Second-clause-back
+returns-in-Ok-Second-clause-back c =
+    let f = c.args.round in
+    let s = c.in-Ok-Second.round in
+    let taken : in_first.Second s ≡ first_taken f c.args.from c.args.rows = search rules in
+    c.open_second.ensures.back f.heard (record { from = c.args.from; rows = c.args.rows }) (ended_heard f c.args.from c.args.rows s taken)
