@@ -15,6 +15,7 @@ mod schedules;
 mod scripts;
 mod sessions;
 mod showing;
+mod spent_clocks;
 mod steps;
 mod stores;
 mod tables;
@@ -36,6 +37,7 @@ fn tell_steps(rt: &HostRuntime) -> Result<(), Fault> {
     sessions::tell(rt)?;
     worlds::tell(rt)?;
     parts::tell(rt)?;
+    spent_clocks::tell(rt)?;
     schedules::tell(rt)
 }
 

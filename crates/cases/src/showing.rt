@@ -124,7 +124,11 @@ fn add_told(seen: &mut String, body: &Body) -> Result<(), Fault> {
 }
 
 /// Adds a message with its number.
-fn add_message(seen: &mut String, place: usize, envelope: &Envelope) -> Result<(), Fault> {
+pub(crate) fn add_message(
+    seen: &mut String,
+    place: usize,
+    envelope: &Envelope,
+) -> Result<(), Fault> {
     let (from, to) = (envelope.from.get(), envelope.to.get());
     let (time, kind) = (envelope.time.get(), kind(&envelope.body));
     add_space(seen)?;
