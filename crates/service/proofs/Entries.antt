@@ -20,6 +20,7 @@ use Rattle.world.proofs.Facts.{txn_of}
 use Rattle.world.proofs.Grown.{runs_only_grow}
 use Rattle.world.proofs.Laws.{entries_are_of_submissions}
 use Rattle.world.proofs.Opened.{opens}
+use Rattle.world.proofs.Homes.{every_home}
 use Rattle.world.proofs.Runs.{every_run, run_after}
 use Rattle.service.specs.Port.{IsEndOf}
 use Rattle.service.proofs.Homes.{has_home}
@@ -106,6 +107,6 @@ module _ (top : TopologyValue) (some : 0 < top.shards) where
   own_home events session number c here is =
       let of = entries_are_of_submissions top events some c is.listed in
       let at : c.home ≡ unwrap_or (home_of top session) 0 =
-      sym of.home ∙ ((every_run top events some).submitted.home of.submission (contains_among of.submission (run top events).submitted of.submitted)
+      sym of.home ∙ ((every_home top events).submitted of.submission (contains_among of.submission (run top events).submitted of.submitted)
       ∙ ap (λ n. unwrap_or (home_of top n) 0) (of.session ∙ is.node)) in
       has_home top session here ∙ ap Some (sym at)

@@ -1,30 +1,23 @@
 -- A session's event leaves an operation open as it was, or ends it with an outcome; an accepted operation is open. So a machine
 -- waits as its session does.
-use Rattle.std.proofs.Common.{◌≡◌, ◌∙◌, ℕ, Bool, true, false, ◌&&◌, List, [], ◌∷◌, ◌++◌, Option, Some, None, Ok, ◌⊎◌, inl, inr, refl, sym, ap, subst}
-use Rattle.std.specs.Prelude.{◌==◌, not, IsSome}
+use Rattle.std.proofs.Common.{◌≡◌, ◌∙◌, ℕ, Bool, true, false, Option, Some, None, Ok, ◌⊎◌, inl, inr, refl, sym, ap, subst}
+use Rattle.std.specs.Prelude.{not, IsSome}
 use Rattle.logical_time.specs.declared.fault.Fault.{Fault}
-use Rattle.logical_time.specs.Stamps.{StampValue, TxnValue}
-use Rattle.slice.specs.declared.read.Read.{Read}
-use Rattle.messages.specs.declared.rows_now.RowNow.{RowNow}
-use Rattle.messages.specs.declared.rows_at.AtTime.{AtTime}
-use Rattle.messages.specs.declared.rows_at.AtTime.TheVariants as at
 use Rattle.messages.specs.declared.outcome.Outcome.{Outcome}
 use Rattle.messages.specs.declared.op.Op.{Op}
 use Rattle.messages.specs.declared.op.Op.TheVariants as op
 use Rattle.messages.specs.declared.envelope.Envelope.{Envelope}
 use Rattle.messages.specs.declared.body.Body.{Body}
-use Rattle.messages.specs.declared.body.Body.TheVariants.{Begin, Prepare, Yes, Commit, At, NotBy, Check, Read as ReadNow, ReadAt, ReplBegin, ReplPart, Notify, PrepareRemote, DepCheck, DepOk, Done, PartNow, PartAt}
 use Rattle.messages.specs.Topology.{TopologyValue}
-use Rattle.messages.specs.Words.{is_same_txn}
 use Rattle.messages.specs.Clock.{ticked, on_clock}
-use Rattle.messages.specs.Session.{SessionState, SessionStep, Open, Idle, Writing, FirstRound, SecondRound, HeardNow, HeardAt, is_idle}
+use Rattle.messages.specs.Session.{SessionState, SessionStep, is_idle}
 use Rattle.messages.specs.Submitting.{begun, submit_fault, submit_if, session_submit}
-use Rattle.messages.specs.Rounds.{asked_nodes, is_missing, all_heard, effective_time, late_nodes, is_missing_at, all_heard_at}
-use Rattle.messages.specs.SessionEvents.{done_if, done_in, second_if, heard_if, heard_now, part_now_if, part_now_in, heard_at_if, taken_at, part_at_if, part_at_in, heard, session_handle}
+use Rattle.messages.specs.SessionEvents.{heard, session_handle}
 use Rattle.messages.specs.Actors.{ActorState, OfShard, OfSession}
 use Rattle.client.specs.declared.kept.Kept.{Kept as SessionKept}
 use Rattle.client.specs.Current.{open_of}
 use Rattle.client.specs.State.{state_of, finished_of}
+use Rattle.world.proofs.HeardCases.{heard_kinds}
 use Rattle.threaded.specs.declared.actor.Actor.{Actor}
 use Rattle.threaded.specs.declared.actor.Actor.TheVariants as actor
 use Rattle.threaded.specs.Machines.{is_free, WaitsAsOpen, has_none_open, Stands}
@@ -35,81 +28,14 @@ use Rattle.threaded.specs.Machines.{is_free, WaitsAsOpen, has_none_open, Stands}
 abbrev pub Goes : SessionState → SessionState → Type 0
 Goes a b = ((b.untaken ≡ None) × (is_idle b.current ≡ is_idle a.current)) ⊎ (IsSome b.untaken × (is_idle b.current ≡ true))
 
-done_goes : (o : Open) (me n : ℕ) (a : SessionState) (t : TxnValue) (commit : ℕ) (stamp : StampValue) → a.untaken ≡ None
-    → Goes a (done_in o me n a t commit stamp).state
-done_goes (Writing coordinator) me n a t commit stamp none = by (is_same_txn t (record { session = me; number = a.count }))
-  where
-    by : (b : Bool) → Goes a (done_if b n a coordinator t commit stamp).state
-    by true = inr (refl, refl)
-    by false = inl (none, refl)
-done_goes Idle me n a t commit stamp none = inl (none, refl)
-done_goes (FirstRound read hs) me n a t commit stamp none = inl (none, refl)
-done_goes (SecondRound read time fs hs) me n a t commit stamp none = inl (none, refl)
-
-second_goes : (nodes : List ℕ) (me n : ℕ) (a : SessionState) (read : Read) (time : ℕ) (hs : List HeardNow) → a.untaken ≡ None → is_idle a.current ≡ false
-    → Goes a (second_if nodes me n a read time hs).state
-second_goes [] me n a read time hs none waits = inr (refl, refl)
-second_goes (s ∷ ss) me n a read time hs none waits = inl (none, sym waits)
-
-heard_now_goes : (top : TopologyValue) (me n : ℕ) (a : SessionState) (read : Read) (hs : List HeardNow) → a.untaken ≡ None → is_idle a.current ≡ false
-    → Goes a (heard_now top me n a read hs).state
-heard_now_goes top me n a read hs none waits = by (all_heard (asked_nodes top a read) hs)
-  where
-    by : (b : Bool) → Goes a (heard_if b top me n a read hs).state
-    by true = second_goes (late_nodes (asked_nodes top a read) (effective_time a.floor hs) hs) me n a read (effective_time a.floor hs) hs none waits
-    by false = inl (none, sym waits)
-
-part_now_goes : (o : Open) (top : TopologyValue) (me n : ℕ) (a : SessionState) (from m : ℕ) (rows : List RowNow) → a.untaken ≡ None → a.current ≡ o
-    → Goes a (part_now_in o top me n a from m rows).state
-part_now_goes (FirstRound read hs) top me n a from m rows none is = by ((m == a.count) && is_missing (asked_nodes top a read) hs from)
-  where
-    by : (b : Bool) → Goes a (part_now_if b top me n a read hs from rows).state
-    by true = heard_now_goes top me n a read (hs ++ record { from = from; rows = rows } ∷ []) none (ap is_idle is)
-    by false = inl (none, refl)
-part_now_goes Idle top me n a from m rows none is = inl (none, refl)
-part_now_goes (Writing coordinator) top me n a from m rows none is = inl (none, refl)
-part_now_goes (SecondRound read time fs hs) top me n a from m rows none is = inl (none, refl)
-
-taken_goes : (answer : AtTime) (top : TopologyValue) (n : ℕ) (a : SessionState) (read : Read) (time : ℕ) (fs : List HeardNow) (hs : List HeardAt) (from : ℕ)
-    → a.untaken ≡ None → is_idle a.current ≡ false → Goes a (taken_at answer top n a read time fs hs from).state
-taken_goes at.Collected top n a read time fs hs from none waits = inr (refl, refl)
-taken_goes (at.Rows rows) top n a read time fs hs from none waits =
-    by (all_heard_at (asked_nodes top a read) time fs (hs ++ record { from = from; rows = rows } ∷ []))
-  where
-    by : (b : Bool) → Goes a (heard_at_if b n a read time fs (hs ++ record { from = from; rows = rows } ∷ [])).state
-    by true = inr (refl, refl)
-    by false = inl (none, sym waits)
-
-part_at_goes : (o : Open) (top : TopologyValue) (n : ℕ) (a : SessionState) (from m : ℕ) (answer : AtTime) → a.untaken ≡ None → a.current ≡ o
-    → Goes a (part_at_in o top n a from m answer).state
-part_at_goes (SecondRound read time fs hs) top n a from m answer none is = by ((m == a.count) && is_missing_at (asked_nodes top a read) time fs hs from)
-  where
-    by : (b : Bool) → Goes a (part_at_if b top n a read time fs hs from answer).state
-    by true = taken_goes answer top n a read time fs hs from none (ap is_idle is)
-    by false = inl (none, refl)
-part_at_goes Idle top n a from m answer none is = inl (none, refl)
-part_at_goes (Writing coordinator) top n a from m answer none is = inl (none, refl)
-part_at_goes (FirstRound read hs) top n a from m answer none is = inl (none, refl)
-
 heard_goes : (top : TopologyValue) (me n : ℕ) (a : SessionState) (from : ℕ) (b : Body) → a.untaken ≡ None → Goes a (heard top me n a from b).state
-heard_goes top me n a from (Done t commit stamp) none = done_goes a.current me n a t commit stamp none
-heard_goes top me n a from (PartNow m rows) none = part_now_goes a.current top me n a from m rows none refl
-heard_goes top me n a from (PartAt m time answer) none = part_at_goes a.current top n a from m answer none refl
-heard_goes top me n a from (Begin t rows cohorts dependencies) none = inl (none, refl)
-heard_goes top me n a from (Prepare t rows coordinator) none = inl (none, refl)
-heard_goes top me n a from (Yes t) none = inl (none, refl)
-heard_goes top me n a from (Commit t commit stamp) none = inl (none, refl)
-heard_goes top me n a from (At t commit stamp) none = inl (none, refl)
-heard_goes top me n a from (NotBy t time) none = inl (none, refl)
-heard_goes top me n a from (Check t time) none = inl (none, refl)
-heard_goes top me n a from (ReadNow m read) none = inl (none, refl)
-heard_goes top me n a from (ReadAt m time read) none = inl (none, refl)
-heard_goes top me n a from (ReplBegin cohorts t rows stamp dependencies) none = inl (none, refl)
-heard_goes top me n a from (ReplPart t rows stamp coordinator) none = inl (none, refl)
-heard_goes top me n a from (Notify t) none = inl (none, refl)
-heard_goes top me n a from (PrepareRemote t) none = inl (none, refl)
-heard_goes top me n a from (DepCheck dependency waiter) none = inl (none, refl)
-heard_goes top me n a from (DepOk dependency waiter commit) none = inl (none, refl)
+heard_goes top me n a from b none =
+    heard_kinds top me n a from b (λ st. Goes a st.state)
+    (record {
+      still = inl (none, refl);
+      goes_on = λ o sends busy open_still. inl (none, open_still ∙ sym busy);
+      over = λ floor dependencies o busy. inr (refl, refl);
+    })
 
 -- what is done on a clock, where there is one
 on_clock_is : {X : Type 0} (P : X → Type 0) (o : Option ℕ) (f : ℕ → X) (s : X) → ((n : ℕ) → P (f n)) → on_clock o f ≡ Ok s → P s

@@ -16,7 +16,7 @@ use Rattle.world.specs.Journals.{finished_as, ended_at, IsRunOf}
 use Rattle.world.specs.Threads.{op_numbered}
 use Rattle.world.proofs.Among.{Among, among_contains, contains_among, filter_only}
 use Rattle.world.proofs.Invariant.{home}
-use Rattle.world.proofs.Runs.{every_run}
+use Rattle.world.proofs.Homes.{every_home}
 use Rattle.world.proofs.Laws.{entries_are_of_submissions}
 use Rattle.world.proofs.Journaled.{operation_there}
 use Rattle.threaded.specs.Machines.{as_finished}
@@ -84,7 +84,7 @@ module _ (top : TopologyValue) (seats : List SeatValue) (events : List RunEvent)
       let session : b.session ≡ node = of.session ∙ mine in
       record {
         node_is = mine;
-        home_is = sym of.home ∙ (every_run top events some).submitted.home b (contains_among b w.submitted of.submitted) ∙ ap (home top) session;
+        home_is = sym of.home ∙ (every_home top events).submitted b (contains_among b w.submitted of.submitted) ∙ ap (home top) session;
         op_is =
             ap (λ o. op_numbered (journal_at o) c.number) (sym found)
             ∙ ap (op_numbered (journal_of seats node)) (sym of.number)

@@ -9,7 +9,7 @@ use Rattle.world.specs.Run.{Run}
 use Rattle.world.proofs.Among.{Among}
 use Rattle.world.proofs.Growth.{ShardGrows, Grows}
 use Rattle.world.proofs.Facts.{IsDone, DecidedOnce, PreparedBefore, PreparedSound, BallotSound, KeptBallotSound, KeptPartSound, DecisionSound, AppliedSound, WaitSound}
-use Rattle.world.proofs.Invariant.{EnvelopeSound}
+use Rattle.world.proofs.Invariant.{MayWait, EnvelopeSound}
 
 -- each entry of the step's state is old or sound in the run, and each envelope that it sends is sound there
 pub record Fresh (top : TopologyValue) (x : Run) (node : ℕ) (a : ShardState) (st : ShardStep) : Type 0 where
@@ -24,7 +24,7 @@ pub record Fresh (top : TopologyValue) (x : Run) (node : ℕ) (a : ShardState) (
   pub kept_parts : (k : KeptPart) → Among k st.state.kept_parts → Among k a.kept_parts ⊎ KeptPartSound top x node k
   pub kept_ballots : (r : KeptBallot) → Among r st.state.kept_ballots → Among r a.kept_ballots ⊎ KeptBallotSound top x node (x.shards node).clock r
   pub met : (m : Met) → Among m st.state.met → Among m a.met ⊎ IsDone top x (dc_of top node) m.dependency (x.shards node).clock
-  pub askers : (k : Asker) → Among k st.state.askers → Among k a.askers ⊎ (dc_of top k.from ≡ dc_of top node)
+  pub askers : (k : Asker) → Among k st.state.askers → Among k a.askers ⊎ MayWait top x node k.waiter k.from
   pub waiting : (y : WaitingRead) → Among y st.state.waiting → Among y a.waiting ⊎ WaitSound top x node y
   pub sends : (e : Envelope) → Among e st.sends → EnvelopeSound top x e
 

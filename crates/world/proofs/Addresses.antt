@@ -16,7 +16,7 @@ use Rattle.world.proofs.Among.{Among, get_among, all_among}
 use Rattle.world.proofs.Invariant.{home, Says, Inv}
 use Rattle.world.proofs.Near.{shard_below}
 use Rattle.world.proofs.About.{kind_of}
-use Rattle.world.proofs.Underway.{Known, AtOrigin, SaysLive, Live}
+use Rattle.world.proofs.Underway.{of_ballot, of_moving, no_move, Known, AtOrigin, SaysLive, Live}
 use Rattle.world.proofs.LiveHeard.{is_for_shard}
 use Rattle.world.proofs.Stations.{Stations}
 
@@ -95,7 +95,8 @@ module _ (top : TopologyValue) (w : Run) (some : 0 < top.shards) (inv : Inv top 
       dc_shard top to some (subst (λ d. d < top.dcs) k.2 ((live.shards from).entries.kept_parts k.0.0 k.0.1).here)
   to_shard from to time (PrepareRemote t) s k e = dc_shard top to some ((live.shards to).entries.kept_parts k.0.0 k.0.1).here
   to_shard from to time (DepCheck dependency waiter) s k e = dc_shard top to some k.1
-  to_shard from to time (DepOk dependency waiter commit) s k e = dc_shard top to some ((live.shards to).entries.kept_ballots k.ballot k.among).here
+  to_shard from to time (DepOk dependency waiter commit) s (of_ballot k) e = dc_shard top to some ((live.shards to).entries.kept_ballots k.ballot k.among).here
+  to_shard from to time (DepOk dependency waiter commit) s (of_moving b m is own moves k n q) e = absurd (no_move (dc_of top from) b.op moves)
   to_shard from to time _ s k e = absurd (false≢true e)
 
   -- a session that submitted is told

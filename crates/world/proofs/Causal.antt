@@ -10,6 +10,7 @@ use Rattle.messages.specs.Topology.{TopologyValue}
 use Rattle.messages.specs.Session.{is_idle}
 use Rattle.world.specs.Run.{Run, Submission, Completed}
 use Rattle.world.specs.Committed.{time_of, IsNotBelow}
+use Rattle.world.specs.Promises.{Fits}
 use Rattle.world.proofs.Among.{Among}
 use Rattle.world.proofs.Facts.{txn_of}
 use Rattle.world.proofs.Invariant.{AnsweredFrom}
@@ -37,10 +38,7 @@ EndCausal (op.Batch batch) (outcome.Wrote commit stamp) top w c = LaterCovered w
 EndCausal (op.Read read) (outcome.Read time answer) top w c =
     (rows : List RowAt) × AnsweredFrom top w c.home read time rows
     × ((k : WriterValue) → Among k (writers_in rows) → LaterCovered w c.node c.number k.txn)
-EndCausal (op.Batch batch) (outcome.Read time answer) top w c = Unit {0}
-EndCausal (op.Batch batch) outcome.Collected top w c = Unit {0}
-EndCausal (op.Read read) (outcome.Wrote commit stamp) top w c = Unit {0}
-EndCausal (op.Read read) outcome.Collected top w c = Unit {0}
+EndCausal o r top w c = Unit {0}
 
 -- no two of these are of one operation
 abbrev pub EndedOnce : List Completed → Type 0
@@ -52,15 +50,27 @@ abbrev pub NamedOnce : List Submission → Type 0
 NamedOnce [] = Unit {0}
 NamedOnce (b ∷ bs) = ((c : Submission) → Among c bs → txn_of c ≡ txn_of b → ⊥) × NamedOnce bs
 
+-- all that its session ended from the one entry to the other, it ended in the home of the first
+abbrev pub HomeBetween : Run → Completed → Completed → Type 0
+HomeBetween w c e = (d : Completed) → Among d w.transcript → d.node ≡ c.node → c.number ≤ d.number → d.number ≤ e.number → d.home ≡ c.home
+
+-- its session is still in the home of the entry, and ended in it all since
+abbrev pub HomeSince : Run → Completed → Type 0
+HomeSince w c = ((w.sessions c.node).home ≡ c.home) × ((d : Completed) → Among d w.transcript → d.node ≡ c.node → c.number ≤ d.number → d.home ≡ c.home)
+
 pub record Causal (top : TopologyValue) (w : Run) : Type 0 where
+  pub fits : (c : Completed) → Among c w.transcript → Fits c.op c.outcome
   pub ended : (c : Completed) → Among c w.transcript → EndCausal c.op c.outcome top w c
-  -- the floor is above all times so far
-  pub floor : (c : Completed) → Among c w.transcript → time_of c.outcome ≤ (w.sessions c.node).floor
-  -- a session's times never fall
-  pub ordered : (c e : Completed) → Among c w.transcript → Among e w.transcript → c.node ≡ e.node → c.number < e.number → IsNotBelow e.outcome (time_of c.outcome)
+  -- the floor is above all times so far in this home
+  pub floor : (c : Completed) → Among c w.transcript → HomeSince w c → time_of c.outcome ≤ (w.sessions c.node).floor
+  -- a session's times never fall while it stays in one home
+  pub ordered : (c e : Completed) → Among c w.transcript → Among e w.transcript → c.node ≡ e.node → c.number < e.number → HomeBetween w c e
+      → IsNotBelow e.outcome (time_of c.outcome)
   -- what ended is no longer open
   pub number : (c : Completed) → Among c w.transcript → c.number ≤ (w.sessions c.node).count
   pub closed : (c : Completed) → Among c w.transcript → is_idle (w.sessions c.node).current ≡ false → c.number < (w.sessions c.node).count
+  -- the clock is above all times so far
+  pub early : (c : Completed) → Among c w.transcript → time_of c.outcome ≤ (w.sessions c.node).clock
   -- what is submitted later has a greater time
   pub begun : (b : Submission) (c : Completed) → Among b w.submitted → Among c w.transcript → c.node ≡ b.session → c.number < b.number → time_of c.outcome ≤ b.time
   -- each operation ends once

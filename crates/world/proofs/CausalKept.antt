@@ -1,5 +1,5 @@
 -- Each event keeps causal order: a shard's step, a session's step, and a submission.
-use Rattle.std.proofs.Common.{◌≡◌, ℕ, ◌+◌, ◌<◌, ◌≤◌, Bool, true, false, cond, List, [], ◌∷◌, ◌++◌, Option, Some, None, Ok, ◌⊎◌, inl, inr, refl, sym, ap, ◌∙◌, subst, arith, eqb-true, le_refl, le_trans}
+use Rattle.std.proofs.Common.{◌≡◌, ℕ, ◌+◌, ◌<◌, ◌≤◌, Bool, true, false, cond, List, [], ◌∷◌, ◌++◌, Option, Some, None, Ok, ◌⊎◌, inl, inr, refl, sym, ap, ◌∙◌, subst, arith, eqb-true, le_refl, le_trans, le_of_lt}
 use Rattle.std.specs.Prelude.{◌==◌, option_map}
 use Rattle.std.proofs.lemmas.Bool.{false≢true}
 use Rattle.logical_time.specs.Stamps.{TxnValue, WriterValue}
@@ -19,14 +19,16 @@ use Rattle.world.specs.Run.{Run, Event, Submission, Completed, submission_of, co
 use Rattle.messages.proofs.WritersInOrder.{writers_stay}
 use Rattle.world.specs.Committed.{time_of, IsNotBelow}
 use Rattle.world.proofs.Among.{Among, among_contains, append_first, append_second, last_or_old, contains_among, find_some, same_txn}
+use Rattle.world.specs.Promises.{Fits}
+use Rattle.world.proofs.EndCases.{end_cases}
 use Rattle.world.proofs.Growth.{ShardGrows, Grows}
 use Rattle.world.proofs.Facts.{txn_of, lead}
 use Rattle.world.proofs.Invariant.{IsOpen, AnsweredFrom, EndSound, Inv}
 use Rattle.world.proofs.LastingAll.{from_grows}
 use Rattle.world.proofs.ShardSteps.{actor_same, shard_run_grows}
 use Rattle.world.proofs.SessionSteps.{Stays, EndLeaves, Ends, SessionAble, session_run_grows}
-use Rattle.world.proofs.Transcripts.{ended_or_old, nothing_ended, ended_as_told}
-use Rattle.world.proofs.Causal.{txn_ended, Covered, direct, via, LaterCovered, writers_in, EndCausal, EndedOnce, NamedOnce, Causal}
+use Rattle.world.proofs.Transcripts.{ended_or_old, old_stays, ended_is_last, nothing_ended, ended_as_told}
+use Rattle.world.proofs.Causal.{txn_ended, Covered, direct, via, LaterCovered, writers_in, EndCausal, EndedOnce, NamedOnce, HomeBetween, HomeSince, Causal}
 
 -- ## What is covered stays so
 
@@ -39,13 +41,14 @@ covered_more deps more f (direct l k m e) = direct more k (f k m) e
 covered_more deps more f (via l k b m i e c) = via more k b (f k m) i e c
 
 end_grows : (o : Op) (e : Outcome) (top : TopologyValue) {w x : Run} (c : Completed) → Grows top w x → ((t : TxnValue) → LaterCovered w c.node c.number t → LaterCovered x c.node c.number t)
-    → EndCausal o e top w c → EndCausal o e top x c
-end_grows (op.Batch batch) (outcome.Wrote commit stamp) top c g f k = f (txn_ended c) k
-end_grows (op.Batch batch) (outcome.Read time answer) top c g f k = tt
-end_grows (op.Batch batch) outcome.Collected top c g f k = tt
-end_grows (op.Read read) (outcome.Wrote commit stamp) top c g f k = tt
-end_grows (op.Read read) (outcome.Read time answer) top c g f k = (k.0, from_grows g k.1, λ u m. f u.txn (k.2 u m))
-end_grows (op.Read read) outcome.Collected top c g f k = tt
+    → Fits o e → EndCausal o e top w c → EndCausal o e top x c
+end_grows o e top {w} {x} c g f =
+    end_cases (λ o e. EndCausal o e top w c → EndCausal o e top x c)
+    (record {
+      wrote = λ batch commit stamp k. f (txn_ended c) k;
+      answered = λ read time answer k. (k.0, from_grows g k.1, λ u m. f u.txn (k.2 u m));
+      given_up = λ read k. k;
+    }) o e
 
 -- ## A shard's step
 
@@ -53,15 +56,17 @@ pub shard_causal : (top : TopologyValue) (w : Run) (node : ℕ) (st : ShardStep)
 shard_causal top w node st ev g k =
     let x = after_shard (Ok st) w ev node in
     record {
+      fits = k.fits;
       ended = λ c m. end_grows c.op c.outcome top c (shard_run_grows top w node st ev g)
           (λ t l. record {
             submitted = λ b i e lt. covered_grows {w = w} {x = x} b.dependencies (λ b i. i) (l.submitted b i e lt);
             next = covered_grows {w = w} {x = x} (w.sessions c.node).dependencies (λ b i. i) l.next;
-          }) (k.ended c m);
+          }) (k.fits c m) (k.ended c m);
       floor = k.floor;
       ordered = k.ordered;
       number = k.number;
       closed = k.closed;
+      early = k.early;
       begun = k.begun;
       once = k.once;
       named = k.named;
@@ -127,7 +132,7 @@ module _ (top : TopologyValue) (w : Run) (node : ℕ) (st : SessionStep) (ev : E
   -- what its next operation depends on covers what it covered
   step_covers : (c : Completed) → Among c w.transcript → c.node ≡ node → (t : TxnValue) → LaterCovered w c.node c.number t → Stays (w.sessions node) st.state ⊎ Ends top w node st.state → Covered w t st.state.dependencies
   step_covers c m is t l (inl s) = subst (λ d. Covered w t d) (ap (λ i. (w.sessions i).dependencies) is ∙ sym s.dependencies) l.next
-  step_covers c m is t l (inr e) = go e.what e.came refl e.leaves
+  step_covers c m is t l (inr e) = go e.what e.came e.fits e.leaves
     where
       old : Covered w t (w.sessions node).dependencies
       old = subst (λ i. Covered w t (w.sessions i).dependencies) is l.next
@@ -135,21 +140,22 @@ module _ (top : TopologyValue) (w : Run) (node : ℕ) (st : SessionStep) (ev : E
       before : c.number < (w.sessions node).count
       before = subst (λ i. c.number < (w.sessions i).count) is (k.closed c m (ap (λ i. is_idle (w.sessions i).current) is ∙ e.busy))
 
-      go : (o : Op) (out : Outcome) → e.what ≡ o → EndLeaves o out top w node st.state.floor st.state.dependencies → Covered w t st.state.dependencies
-      go (op.Batch batch) (outcome.Wrote commit stamp) q v =
-          let s = e.opened in
-          let own : WriterValue = record { txn = record { session = node; number = (w.sessions node).count }; shard = v.1.0 } in
-          let number = s.number in
-          let lt = before in
-          subst (λ d. Covered w t d) (sym v.1.1)
-          (via (own ∷ []) own s.submission (inl refl) s.among (λ j. record { session = s.session j; number = s.number j })
-          (l.submitted s.submission s.among (s.session ∙ sym is) (omega arith)))
-      go (op.Read read) (outcome.Read time answer) q v =
-          subst (λ d. Covered w t d) (sym v.1.2) (covered_more (w.sessions node).dependencies (with_writers (w.sessions node).dependencies v.1.0) (old_writers v.1.0 (w.sessions node).dependencies) old)
-      go (op.Read read) outcome.Collected q v = subst (λ d. Covered w t d) (sym v) old
-      go (op.Batch batch) (outcome.Read time answer) q v = absurd v
-      go (op.Batch batch) outcome.Collected q v = absurd v
-      go (op.Read read) (outcome.Wrote commit stamp) q v = absurd v
+      go : (o : Op) (out : Outcome) → Fits o out → EndLeaves o out top w node st.state.floor st.state.dependencies → Covered w t st.state.dependencies
+      go =
+          end_cases (λ o out. EndLeaves o out top w node st.state.floor st.state.dependencies → Covered w t st.state.dependencies)
+          (record {
+            wrote = λ batch commit stamp v.
+                let s = e.opened in
+                let own : WriterValue = record { txn = record { session = node; number = (w.sessions node).count }; shard = v.1.0 } in
+                let number = s.number in
+                let lt = before in
+                subst (λ d. Covered w t d) (sym v.1.1)
+                (via (own ∷ []) own s.submission (inl refl) s.among (λ j. record { session = s.session j; number = s.number j })
+                (l.submitted s.submission s.among (s.session ∙ sym is) (omega arith)));
+            answered = λ read time answer v.
+                subst (λ d. Covered w t d) (sym v.1.2) (covered_more (w.sessions node).dependencies (with_writers (w.sessions node).dependencies v.1.0) (old_writers v.1.0 (w.sessions node).dependencies) old);
+            given_up = λ read v. subst (λ d. Covered w t d) (sym v) old;
+          })
 
   same_submitted : (b : Submission) → Among b w.submitted → Among b x.submitted
   same_submitted b m = m
@@ -199,42 +205,65 @@ module _ (top : TopologyValue) (w : Run) (node : ℕ) (st : SessionStep) (ev : E
 
   ended_new : (c : Completed) (e : Ends top w node st.state) → IsNew w node e.what e.came c → EndCausal c.op c.outcome top x c
   ended_new c e n =
-      subst (λ o. EndCausal o c.outcome top x c) (sym n.op) (subst (λ r. EndCausal e.what r top x c) (sym n.outcome) (go e.what e.came e.leaves))
+      subst (λ o. EndCausal o c.outcome top x c) (sym n.op) (subst (λ r. EndCausal e.what r top x c) (sym n.outcome) (go e.what e.came e.fits e.leaves))
     where
-      go : (o : Op) (r : Outcome) → EndLeaves o r top w node st.state.floor st.state.dependencies → EndCausal o r top x c
-      go (op.Batch batch) (outcome.Wrote commit stamp) v =
-          let own : WriterValue = record { txn = record { session = node; number = (w.sessions node).count }; shard = v.1.0 } in
-          new_later c e n (txn_ended c) (subst (λ d. Covered w (txn_ended c) d) (sym v.1.1) (direct (own ∷ []) own (inl refl) (λ j. record { session = sym n.node_is j; number = sym n.number j })))
-      go (op.Read read) (outcome.Read time answer) v = (
-        v.1.0,
-        subst (λ d. AnsweredFrom top x d read time v.1.0) (sym n.home) (from_grows grows v.1.1),
-        λ u m. new_later c e n u.txn (subst (λ d. Covered w u.txn d) (sym v.1.2) (direct (with_writers (w.sessions node).dependencies v.1.0) u (new_writers v.1.0 (w.sessions node).dependencies u m) refl)),
-      )
-      go (op.Read read) outcome.Collected v = tt
-      go (op.Batch batch) (outcome.Read time answer) v = absurd v
-      go (op.Batch batch) outcome.Collected v = absurd v
-      go (op.Read read) (outcome.Wrote commit stamp) v = absurd v
+      go : (o : Op) (r : Outcome) → Fits o r → EndLeaves o r top w node st.state.floor st.state.dependencies → EndCausal o r top x c
+      go =
+          end_cases (λ o r. EndLeaves o r top w node st.state.floor st.state.dependencies → EndCausal o r top x c)
+          (record {
+            wrote = λ batch commit stamp v.
+                let own : WriterValue = record { txn = record { session = node; number = (w.sessions node).count }; shard = v.1.0 } in
+                new_later c e n (txn_ended c) (subst (λ d. Covered w (txn_ended c) d) (sym v.1.1) (direct (own ∷ []) own (inl refl) (λ j. record { session = sym n.node_is j; number = sym n.number j })));
+            answered = λ read time answer v. (
+              v.1.0,
+              subst (λ d. AnsweredFrom top x d read time v.1.0) (sym n.home) (from_grows grows v.1.1),
+              λ u m. new_later c e n u.txn (subst (λ d. Covered w u.txn d) (sym v.1.2) (direct (with_writers (w.sessions node).dependencies v.1.0) u (new_writers v.1.0 (w.sessions node).dependencies u m) refl)),
+            );
+            given_up = λ read v. tt;
+          })
+
+  fits_go : (c : Completed) → Among c w.transcript ⊎ (added ≡ Some c) → Fits c.op c.outcome
+  fits_go c (inl m) = k.fits c m
+  fits_go c (inr m) = let e = added_new c m in subst (λ o. Fits o c.outcome) (sym e.1.op) (subst (λ r. Fits e.0.what r) (sym e.1.outcome) e.0.fits)
 
   ended_go : (c : Completed) → Among c w.transcript ⊎ (added ≡ Some c) → EndCausal c.op c.outcome top x c
-  ended_go c (inl m) = end_grows c.op c.outcome top c grows (later_kept c m) (k.ended c m)
+  ended_go c (inl m) = end_grows c.op c.outcome top c grows (later_kept c m) (k.fits c m) (k.ended c m)
   ended_go c (inr m) = let e = added_new c m in ended_new c e.0 e.1
 
   -- ## Times
 
-  time_new : (o : Op) (r : Outcome) (floor : ℕ) (d : List WriterValue) → EndLeaves o r top w node floor d → time_of r ≤ floor
-  time_new (op.Batch batch) (outcome.Wrote commit stamp) floor d v = v.0
-  time_new (op.Read read) (outcome.Read time answer) floor d v = let q = v.0 in omega arith
-  time_new (op.Read read) outcome.Collected floor d v = omega arith
-  time_new (op.Batch batch) (outcome.Read time answer) floor d v = absurd v
-  time_new (op.Batch batch) outcome.Collected floor d v = absurd v
-  time_new (op.Read read) (outcome.Wrote commit stamp) floor d v = absurd v
+  time_new : (o : Op) (r : Outcome) → Fits o r → EndLeaves o r top w node st.state.floor st.state.dependencies → time_of r ≤ st.state.floor
+  time_new =
+      end_cases (λ o r. EndLeaves o r top w node st.state.floor st.state.dependencies → time_of r ≤ st.state.floor)
+      (record { wrote = λ batch commit stamp v. v.0; answered = λ read time answer v. let q = v.0 in omega arith; given_up = λ read v. omega arith })
 
-  floor_go : (c : Completed) → Among c w.transcript ⊎ (added ≡ Some c) → time_of c.outcome ≤ (x.sessions c.node).floor
-  floor_go c (inl m) = le_trans (k.floor c m) (grows.sessions c.node).floor
-  floor_go c (inr m) =
+  -- its home stays
+  homes_go : (i : ℕ) (b : Bool) → (i == node) ≡ b → Stays (w.sessions node) st.state ⊎ Ends top w node st.state
+      → (cond b (session_taken st.state) (w.sessions i)).home ≡ (w.sessions i).home
+  homes_go i true e (inl s) = s.home ∙ ap (λ j. (w.sessions j).home) (sym (eqb-true i node e))
+  homes_go i true e (inr s) = s.home ∙ ap (λ j. (w.sessions j).home) (sym (eqb-true i node e))
+  homes_go i false e turn = refl
+
+  still_there : (d : Completed) → Among d w.transcript → Among d x.transcript
+  still_there d m = old_stays d w.transcript added m
+
+  home_before : (c : Completed) → HomeSince x c → HomeSince w c
+  home_before c h = (sym (homes_go c.node (c.node == node) refl able.turn) ∙ h.0, λ d m. h.1 d (still_there d m))
+
+  floor_go : (c : Completed) → Among c w.transcript ⊎ (added ≡ Some c) → HomeSince x c → time_of c.outcome ≤ (x.sessions c.node).floor
+  floor_go c (inl m) h = le_trans (k.floor c m (home_before c h)) (grows.sessions c.node).floor
+  floor_go c (inr m) h =
       let e = added_new c m in
-      let le = time_new e.0.what e.0.came st.state.floor st.state.dependencies e.0.leaves in
+      let le = time_new e.0.what e.0.came e.0.fits e.0.leaves in
       subst (λ z. time_of c.outcome ≤ z.floor) (sym (state_at c e.1.node_is)) (subst (λ r. time_of r ≤ st.state.floor) (sym e.1.outcome) le)
+
+  early_go : (c : Completed) → Among c w.transcript ⊎ (added ≡ Some c) → time_of c.outcome ≤ (x.sessions c.node).clock
+  early_go c (inl m) = le_trans (k.early c m) (grows.sessions c.node).clock
+  early_go c (inr m) =
+      let e = added_new c m in
+      let le = time_new e.0.what e.0.came e.0.fits e.0.leaves in
+      subst (λ z. time_of c.outcome ≤ z.clock) (sym (state_at c e.1.node_is))
+      (subst (λ r. time_of r ≤ st.state.clock) (sym e.1.outcome) (le_trans le able.session.floor))
 
   number_go : (c : Completed) → Among c w.transcript ⊎ (added ≡ Some c) → c.number ≤ (x.sessions c.node).count
   number_go c (inl m) = le_trans (k.number c m) (grows.sessions c.node).count
@@ -248,45 +277,57 @@ module _ (top : TopologyValue) (w : Run) (node : ℕ) (st : SessionStep) (ev : E
   old_number : (c : Completed) → Among c w.transcript → Ends top w node st.state → c.node ≡ node → c.number < (w.sessions node).count
   old_number c m e q = subst (λ i. c.number < (w.sessions i).count) q (k.closed c m (ap (λ i. is_idle (w.sessions i).current) q ∙ e.busy))
 
-  above_go : (c : Completed) → Among c w.transcript → (e : Ends top w node st.state) → (d : Completed) → added ≡ Some d → IsNew w node e.what e.came d → c.node ≡ node → (r : Outcome) → d.outcome ≡ r → e.came ≡ r
-      → (o : Op) → e.what ≡ o → EndLeaves o r top w node st.state.floor st.state.dependencies → IsNotBelow r (time_of c.outcome)
-  above_go c m e d n is q (outcome.Read time answer) p s (op.Read read) t v =
-      let le = k.floor c m in
-      let f = ap (λ i. (w.sessions i).floor) q in
-      let up = e.floor in
-      let same = v.0 in
-      omega arith
-  above_go c m e d n is q outcome.Collected p s o t v = tt
-  above_go c m e d n is q (outcome.Wrote commit stamp) p s (op.Batch batch) t v =
-      let done : EndSound (op.Batch batch) (outcome.Wrote commit stamp) top w d.home (txn_ended d) =
-      subst (λ z. EndSound z (outcome.Wrote commit stamp) top w d.home (txn_ended d)) (is.op ∙ t)
-      (subst (λ z. EndSound d.op z top w d.home (txn_ended d)) p (able.completed d n).came) in
-      let s = (inv.shards (lead top d.home batch)).decided done.decision done.among in
-      let o = e.opened in
-      let same : s.submission ≡ o.submission =
-      inv.submitted.one s.submission o.submission s.written.among o.among (s.written.txn ∙ done.txn ∙ λ j. record { session = (is.node_is ∙ sym o.session) j; number = (is.number ∙ sym o.number) j }) in
-      let lt = old_number c m e q in
-      let number = o.number in
-      let early = k.begun o.submission c o.among m (q ∙ sym o.session) (omega arith) in
-      let late = s.begun in
-      let time = ap (λ z. z.time) same in
-      let commits = done.commit in
-      omega arith
-  above_go c m e d n is q (outcome.Read time answer) p s (op.Batch batch) t v = absurd v
-  above_go c m e d n is q (outcome.Wrote commit stamp) p s (op.Read read) t v = absurd v
+  above_go : (c : Completed) → Among c w.transcript → (e : Ends top w node st.state) → (d : Completed) → added ≡ Some d → IsNew w node e.what e.came d → c.node ≡ node → HomeSince w c
+      → (o : Op) (r : Outcome) → Fits o r → e.what ≡ o → d.outcome ≡ r → EndLeaves o r top w node st.state.floor st.state.dependencies → IsNotBelow r (time_of c.outcome)
+  above_go c m e d n is q home =
+      end_cases (λ o r. e.what ≡ o → d.outcome ≡ r → EndLeaves o r top w node st.state.floor st.state.dependencies → IsNotBelow r (time_of c.outcome))
+      (record {
+        wrote = λ batch commit stamp t p v.
+            let done : EndSound (op.Batch batch) (outcome.Wrote commit stamp) top w d.home (txn_ended d) =
+            subst (λ z. EndSound z (outcome.Wrote commit stamp) top w d.home (txn_ended d)) (is.op ∙ t)
+            (subst (λ z. EndSound d.op z top w d.home (txn_ended d)) p (able.completed d n).came) in
+            let s = (inv.shards (lead top d.home batch)).decided done.decision done.among in
+            let o = e.opened in
+            let same : s.submission ≡ o.submission =
+            inv.submitted.one s.submission o.submission s.written.among o.among (s.written.txn ∙ done.txn ∙ λ j. record { session = (is.node_is ∙ sym o.session) j; number = (is.number ∙ sym o.number) j }) in
+            let lt = old_number c m e q in
+            let number = o.number in
+            let early = k.begun o.submission c o.among m (q ∙ sym o.session) (omega arith) in
+            let late = s.begun in
+            let time = ap (λ z. z.time) same in
+            let commits = done.commit in
+            omega arith;
+        answered = λ read time answer t p v.
+            let le = k.floor c m home in
+            let f = ap (λ i. (w.sessions i).floor) q in
+            let up = e.floor in
+            let same = v.0 in
+            omega arith;
+        given_up = λ read t p v. tt;
+      })
 
-  ordered_go : (c d : Completed) → Among c w.transcript ⊎ (added ≡ Some c) → Among d w.transcript ⊎ (added ≡ Some d) → c.node ≡ d.node → c.number < d.number → IsNotBelow d.outcome (time_of c.outcome)
-  ordered_go c d (inl m) (inl n) q lt = k.ordered c d m n q lt
-  ordered_go c d (inl m) (inr n) q lt =
+  new_there : (d : Completed) → added ≡ Some d → Among d x.transcript
+  new_there d n = ended_is_last d w.transcript added n
+
+  ordered_go : (c d : Completed) → Among c w.transcript ⊎ (added ≡ Some c) → Among d w.transcript ⊎ (added ≡ Some d) → c.node ≡ d.node → c.number < d.number → HomeBetween x c d
+      → IsNotBelow d.outcome (time_of c.outcome)
+  ordered_go c d (inl m) (inl n) q lt h = k.ordered c d m n q lt (λ e i. h e (still_there e i))
+  ordered_go c d (inl m) (inr n) q lt h =
       let e = added_new d n in
-      above_go c m e.0 d n e.1 (q ∙ e.1.node_is) d.outcome refl (sym e.1.outcome) e.0.what refl (subst (λ r. EndLeaves e.0.what r top w node st.state.floor st.state.dependencies) (sym e.1.outcome) e.0.leaves)
-  ordered_go c d (inr m) (inl n) q lt =
+      let here : c.node ≡ node = q ∙ e.1.node_is in
+      let number = e.1.number in
+      let home : HomeSince w c = (
+        ap (λ i. (w.sessions i).home) here ∙ sym e.1.home ∙ h d (new_there d n) (sym q) (le_of_lt lt) (le_refl d.number),
+        λ f i p le. let less = old_number f i e.0 (p ∙ here) in h f (still_there f i) p le (omega arith),
+      ) in
+      subst (λ r. IsNotBelow r (time_of c.outcome)) (sym e.1.outcome) (above_go c m e.0 d n e.1 here home e.0.what e.0.came e.0.fits refl e.1.outcome e.0.leaves)
+  ordered_go c d (inr m) (inl n) q lt h =
       let e = added_new c m in
       let number = e.1.number in
       let le = k.number d n in
       let same = ap (λ i. (w.sessions i).count) (sym q ∙ e.1.node_is) in
       absurd (omega arith)
-  ordered_go c d (inr m) (inr n) q lt =
+  ordered_go c d (inr m) (inr n) q lt h =
       let e = added_new c m in
       let f = added_new d n in
       let a = e.1.number in
@@ -350,11 +391,13 @@ module _ (top : TopologyValue) (w : Run) (node : ℕ) (st : SessionStep) (ev : E
   pub session_causal : Causal top x
   session_causal =
       record {
+        fits = λ c m. fits_go c (ended_or_old c w.transcript added m);
         ended = λ c m. ended_go c (ended_or_old c w.transcript added m);
-        floor = λ c m. floor_go c (ended_or_old c w.transcript added m);
-        ordered = λ c d m n q lt. ordered_go c d (ended_or_old c w.transcript added m) (ended_or_old d w.transcript added n) q lt;
+        floor = λ c m h. floor_go c (ended_or_old c w.transcript added m) h;
+        ordered = λ c d m n q lt h. ordered_go c d (ended_or_old c w.transcript added m) (ended_or_old d w.transcript added n) q lt h;
         number = λ c m. number_go c (ended_or_old c w.transcript added m);
         closed = λ c m busy. closed_go c (ended_or_old c w.transcript added m) busy;
+        early = λ c m. early_go c (ended_or_old c w.transcript added m);
         begun = λ b c i m q lt. begun_go b c i (ended_or_old c w.transcript added m) q lt;
         once = once_go added refl;
         named = k.named;
@@ -419,9 +462,8 @@ module _ (top : TopologyValue) (w : Run) (node n : ℕ) (o : Op) (inv : Inv top 
   begun_then : (b : Submission) (c : Completed) → Among b w.submitted ⊎ (b ≡ its) → Among c w.transcript → c.node ≡ b.session → c.number < b.number → time_of c.outcome ≤ b.time
   begun_then b c (inl i) m q less = k.begun b c i m q less
   begun_then b c (inr p) m q less =
-      let le = k.floor c m in
-      let floor = (inv.sessions node).floor in
-      let at = ap (λ j. (w.sessions j).floor) (q ∙ ap (λ z. z.session) p) in
+      let le = k.early c m in
+      let at = ap (λ j. (w.sessions j).clock) (q ∙ ap (λ z. z.session) p) in
       let time = ap (λ z. z.time) p in
       omega arith
 
@@ -441,11 +483,15 @@ module _ (top : TopologyValue) (w : Run) (node n : ℕ) (o : Op) (inv : Inv top 
   pub submission_causal : Grows top w then → Causal top then
   submission_causal g =
       record {
-        ended = λ c m. end_grows c.op c.outcome top c g (still_covered c m) (k.ended c m);
-        floor = λ c m. subst (λ f. time_of c.outcome ≤ f) (sym (state_go (λ s. s.floor) refl c.node (c.node == node) refl)) (k.floor c m);
+        fits = k.fits;
+        ended = λ c m. end_grows c.op c.outcome top c g (still_covered c m) (k.fits c m) (k.ended c m);
+        floor = λ c m h.
+            subst (λ f. time_of c.outcome ≤ f) (sym (state_go (λ s. s.floor) refl c.node (c.node == node) refl))
+            (k.floor c m (sym (state_go (λ s. s.home) refl c.node (c.node == node) refl) ∙ h.0, h.1));
         ordered = k.ordered;
         number = λ c m. le_trans (k.number c m) (count_go c.node (c.node == node) refl);
         closed = λ c m busy. closed_then c m (c.node == node) refl busy;
+        early = λ c m. le_trans (k.early c m) (g.sessions c.node).clock;
         begun = λ b c i m q less. begun_then b c (last_or_old b its w.submitted i) m q less;
         once = k.once;
         named = named_after w.submitted (λ b m. m) k.named;

@@ -94,11 +94,13 @@ module _ (top : TopologyValue) (w : Run) (some : 0 < top.shards) (inv : Inv top 
 opening_causal : (top : TopologyValue) → Causal top (opening top)
 opening_causal top =
     record {
+      fits = λ c m. absurd m;
       ended = λ c m. absurd m;
-      floor = λ c m. absurd m;
+      floor = λ c m h. absurd m;
       ordered = λ c d m. absurd m;
       number = λ c m. absurd m;
       closed = λ c m. absurd m;
+      early = λ c m. absurd m;
       begun = λ b c m. absurd m;
       once = tt;
       named = tt;

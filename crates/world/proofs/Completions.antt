@@ -73,14 +73,14 @@ module _ (top : TopologyValue) (me n : ℕ) (a : SessionState) (from : ℕ) (m :
   finishes =
       heard_cases top me n a from m (λ (st : SessionStep). Finishes st.state.untaken)
       (record {
-        still = none;
-        wrote = λ coordinator t commit stamp is. this (outcome.Wrote commit stamp) tt;
-        kept = λ read hs rows k. none;
-        second = λ read hs rows nodes k all. none;
-        ends = λ read hs rows taken k all. this (outcome.Read _ _) (inl (record { read = read; heard = hs; rows = rows; answer = k; all = all }));
-        kept_at = λ read time first hs gs rows k. none;
+        still = λ ignored. none;
+        wrote = λ coordinator t commit stamp k. this (outcome.Wrote commit stamp) tt;
+        kept = λ read hs rows k some. none;
+        second = λ read hs rows k all s ss e. none;
+        ends = λ read hs rows k all e. this (outcome.Read _ _) (inl (record { read = read; heard = hs; rows = rows; answer = k; all = all }));
+        kept_at = λ read time first hs rows k some. none;
         ends_at =
-            λ read time first hs rows taken k.
+            λ read time first hs rows k all.
             this (outcome.Read time _) (inr (record { read = read; time = time; first = first; heard = hs; rows = rows; answer = k }));
         gives_up =
             λ read time first hs k. this outcome.Collected (record { read = read; time = time; first = first; heard = hs; answer = k });

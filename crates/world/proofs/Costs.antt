@@ -1,6 +1,8 @@
 -- The ranks and the costs of lists of messages.
 use Rattle.std.proofs.Common.{◌≡◌, ℕ, ◌+◌, ◌*◌, ◌<◌, ◌≤◌, List, [], ◌∷◌, ◌++◌, map, length, inl, inr, sym, subst, arith}
 use Rattle.std.proofs.lemmas.List.Sums.{sum_by-cons, sum_by-append}
+use Rattle.messages.specs.declared.body.Body.{Body}
+use Rattle.messages.specs.declared.body.Body.TheVariants.{Begin, Prepare, Yes, Commit, At, NotBy, Check, Read, ReadAt, ReplBegin, ReplPart, Notify, PrepareRemote, DepCheck, DepOk, Done, PartNow, PartAt}
 use Rattle.messages.specs.declared.envelope.Envelope.{Envelope}
 use Rattle.messages.specs.Topology.{TopologyValue}
 use Rattle.world.specs.Drains.{rank, Sizes, cost, cost_of_all}
@@ -26,6 +28,26 @@ pub low_both : (r : ℕ) (xs ys : List Envelope) → Low r xs → Low r ys → L
 low_both r xs ys f g u m = elim (among_append u xs ys m) [ inl o ↦ f u o | inr o ↦ g u o ]
 
 -- ## Costs
+
+pub cost_some : (top : TopologyValue) (s : Sizes) (b : Body) → 0 < cost top s b
+cost_some top s (Read number read) = omega arith
+cost_some top s (PartNow number rows) = omega arith
+cost_some top s (ReadAt number time read) = omega arith
+cost_some top s (Check txn time) = omega arith
+cost_some top s (At txn commit stamp) = omega arith
+cost_some top s (Commit txn commit stamp) = omega arith
+cost_some top s (ReplBegin cohorts txn rows stamp dependencies) = omega arith
+cost_some top s (ReplPart txn rows stamp coordinator) = omega arith
+cost_some top s (DepCheck dependency waiter) = omega arith
+cost_some top s (Notify txn) = omega arith
+cost_some top s (DepOk dependency waiter commit) = omega arith
+cost_some top s (PrepareRemote txn) = omega arith
+cost_some top s (Prepare txn rows coordinator) = omega arith
+cost_some top s (NotBy txn time) = omega arith
+cost_some top s (Begin txn rows cohorts dependencies) = omega arith
+cost_some top s (Yes txn) = omega arith
+cost_some top s (Done txn commit stamp) = omega arith
+cost_some top s (PartAt number time answer) = omega arith
 
 module _ (top : TopologyValue) (s : Sizes) where
   pub cost_each : {X : Type 0} (f : X → Envelope) (m : ℕ) (xs : List X) → ((x : X) → cost top s (f x).body ≤ m) → cost_of_all top s (map f xs) ≤ length xs * m

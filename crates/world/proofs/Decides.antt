@@ -1,5 +1,5 @@
 -- A coordinator decides.
-use Rattle.std.proofs.Common.{◌≡◌, ℕ, ◌+◌, ◌<◌, ◌≤◌, true, [], ◌∷◌, ◌++◌, Option, Some, None, ◌⊎◌, inl, inr, refl, sym, ap, ap₂, ◌∙◌, subst, subst₂, arith, le_refl, le_of_lt}
+use Rattle.std.proofs.Common.{◌≡◌, ℕ, ◌<◌, ◌≤◌, true, [], ◌∷◌, ◌++◌, Option, Some, None, ◌⊎◌, inl, inr, refl, sym, ap, ap₂, ◌∙◌, subst, subst₂, arith, le_refl, le_of_lt}
 use Rattle.std.specs.Prelude.{filter}
 use Rattle.logical_time.specs.Stamps.{StampValue}
 use Rattle.column_family.specs.Normal.{IsNormal}
@@ -16,8 +16,8 @@ use Rattle.messages.specs.Commits.{applied_part, commits, stamp_for, announcemen
 use Rattle.world.specs.Run.{Run}
 use Rattle.world.proofs.Among.{Among, among_append, append_first, among_last, last_or_old, filter_only, map_only}
 use Rattle.world.proofs.Growth.{NewDecision, ShardGrows}
-use Rattle.world.proofs.Facts.{near, lead, IsDecided, IsStamp, IsDone, DecidedOnce, PreparedBefore, StampFits, BallotSound, KeptBallotSound, DecisionSound, AppliedSound, Sees, WaitSound}
-use Rattle.world.proofs.Invariant.{EnvelopeSound, Inv}
+use Rattle.world.proofs.Facts.{near, lead, IsDecided, IsStamp, DecidedOnce, PreparedBefore, StampFits, BallotSound, KeptBallotSound, DecisionSound, AppliedSound, Sees, WaitSound}
+use Rattle.world.proofs.Invariant.{MayWait, EnvelopeSound, Inv}
 use Rattle.world.proofs.Able.{Fresh, Able}
 use Rattle.world.proofs.Lasting.{before_grows, ballot_grows}
 use Rattle.world.proofs.LastingAll.{shard_grows}
@@ -64,7 +64,7 @@ module _ (top : TopologyValue) (x : Run) (node n : ℕ) (a : ShardState) (b : Be
     (votes : (c : ℕ) → Among c b.cohorts → PreparedBefore x (near top node c) b.txn n)
     (applied : (d : Decision) → Among d a.decided → Sees a.applied d.txn)
     (waiting : (y : WaitingRead) → Among y a.waiting → WaitSound top x node y)
-    (askers : (k : Asker) → Among k a.askers → dc_of top k.from ≡ dc_of top node) where
+    (askers : (k : Asker) → Among k a.askers → MayWait top x node k.waiter k.from) where
   clock : n ≤ (x.shards node).clock
   clock = subst (λ z. n ≤ z.clock) (sym at) (le_refl n)
 
@@ -76,9 +76,6 @@ module _ (top : TopologyValue) (x : Run) (node n : ℕ) (a : ShardState) (b : Be
 
   is_decided : IsDecided x node b.txn n (stamp_for node n b.stamp)
   is_decided = record { decision = decision node n b; among = among_decided; txn = refl; commit = refl; stamp = refl }
-
-  is_done : IsDone top x (dc_of top node) b.txn (n + 1)
-  is_done = record { node = node; here = refl; decision = decision node n b; among = among_decided; txn = refl; commit = omega arith }
 
   -- the origin's own stamp, or the one that came
   stamp_go : (o : Option StampValue) → b.stamp ≡ o → StampFits top x node n ballot.submission ballot.batch o → IsStamp top x ballot.submission ballot.batch (stamp_for node n o) × ((stamp_for node n o).time ≤ n)
@@ -191,7 +188,7 @@ module _ (top : TopologyValue) (x : Run) (node n : ℕ) (a : ShardState) (b : Be
   dep_ok_go e m =
       let q = map_only (λ k. envelope node k.from n (DepOk b.txn k.waiter n)) (filter (λ k. is_same_txn k.dependency b.txn) a.askers) e m in
       let p = filter_only (λ k. is_same_txn k.dependency b.txn) a.askers q.0 q.1 in
-      subst (λ z. EnvelopeSound top x z) (sym q.2) (subst (λ d. IsDone top x d b.txn (n + 1)) (sym (askers q.0 p.0)) is_done)
+      subst (λ z. EnvelopeSound top x z) (sym q.2) ((stamp_for node n b.stamp, record { decided = is_decided; time = le_refl n }), askers q.0 p.0)
 
   sends_go : (e : Envelope) → Among e (decide top node n a b).sends → EnvelopeSound top x e
   sends_go e m =
@@ -258,5 +255,5 @@ decide_able top w node n a b some inv lt like k none votes =
           (λ c m. before_grows gr (le_refl n) (votes c m))
           (λ d m. subst (λ l. Sees l d.txn) (sym like.applied) (old.decided d (subst (λ l. Among d l) like.decided m)).applied)
           (λ y m. kept.waiting y (subst (λ l. Among y l) like.waiting m))
-          (λ u m. old.askers u (subst (λ l. Among u l) like.askers m));
+          (λ u m. kept.askers u (subst (λ l. Among u l) like.askers m));
     }

@@ -5,8 +5,6 @@ use Rattle.std.specs.List.{list_any}
 use Rattle.std.proofs.lemmas.Bool.{false≢true}
 use Rattle.std.proofs.lemmas.List.{length-append}
 use Rattle.std.proofs.lemmas.List.Sums.{sum_by-cons}
-use Rattle.messages.specs.declared.body.Body.{Body}
-use Rattle.messages.specs.declared.body.Body.TheVariants.{Begin, Prepare, Yes, Commit, At, NotBy, Check, Read, ReadAt, ReplBegin, ReplPart, Notify, PrepareRemote, DepCheck, DepOk, Done, PartNow, PartAt}
 use Rattle.messages.specs.declared.envelope.Envelope.{Envelope}
 use Rattle.messages.specs.Topology.{TopologyValue, is_topology, is_shard}
 use Rattle.world.specs.Run.{Run, Event, Deliver, opening, step, run}
@@ -23,29 +21,10 @@ use Rattle.world.proofs.Unhandled.{finds_unhandled}
 use Rattle.world.proofs.Laws.{quiet_means_done}
 use Rattle.world.proofs.Addresses.{stands}
 use Rattle.world.proofs.EventCounts.{clocks_count_events}
+use Rattle.world.proofs.Costs.{cost_some}
 use Rattle.world.proofs.Deliveries.{price, Nearer, IsSpent, past_range, delivered, decisions_are_capped}
 
 -- ## What the messages cost that weren't handled
-
-cost_some : (top : TopologyValue) (s : Sizes) (b : Body) → 0 < cost top s b
-cost_some top s (Read number read) = omega arith
-cost_some top s (PartNow number rows) = omega arith
-cost_some top s (ReadAt number time read) = omega arith
-cost_some top s (Check txn time) = omega arith
-cost_some top s (At txn commit stamp) = omega arith
-cost_some top s (Commit txn commit stamp) = omega arith
-cost_some top s (ReplBegin cohorts txn rows stamp dependencies) = omega arith
-cost_some top s (ReplPart txn rows stamp coordinator) = omega arith
-cost_some top s (DepCheck dependency waiter) = omega arith
-cost_some top s (Notify txn) = omega arith
-cost_some top s (DepOk dependency waiter commit) = omega arith
-cost_some top s (PrepareRemote txn) = omega arith
-cost_some top s (Prepare txn rows coordinator) = omega arith
-cost_some top s (NotBy txn time) = omega arith
-cost_some top s (Begin txn rows cohorts dependencies) = omega arith
-cost_some top s (Yes txn) = omega arith
-cost_some top s (Done txn commit stamp) = omega arith
-cost_some top s (PartAt number time answer) = omega arith
 
 module _ (top : TopologyValue) (s : Sizes) where
   no_more_than_all : (hs : List ℕ) (i : ℕ) (es : List Envelope) → cost_of_unhandled top s hs i es ≤ cost_of_all top s es

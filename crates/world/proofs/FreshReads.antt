@@ -36,6 +36,8 @@ use Rattle.world.specs.Collected.{WasSent}
 use Rattle.world.specs.Fresh.{IsKept, WasApplied, IsNoOlder, IsFreshFor, IsFresh}
 use Rattle.messages.proofs.Numbering.{dc_of_shard}
 use Rattle.world.proofs.Near.{listed_below}
+use Rattle.world.specs.Promises.{Fits}
+use Rattle.world.proofs.EndCases.{end_cases}
 use Rattle.world.proofs.Among.{Among, contains_among, any_true, filter_only, map_only, map_among}
 use Rattle.world.proofs.Growth.{FirstAsked, AskedNow, Grows}
 use Rattle.world.proofs.Facts.{part_on}
@@ -216,17 +218,19 @@ module _ (top : TopologyValue) (some : 0 < top.shards) (every : (events : List E
           newer = cover.newer;
         }))
 
-  fresh_for : (w : Run) → run top w.events ≡ w → Inv top w → (c : Completed) → Among c w.transcript → (o : Op) (end : Outcome) → c.op ≡ o
+  fresh_for : (w : Run) → run top w.events ≡ w → Inv top w → (c : Completed) → Among c w.transcript → (o : Op) (end : Outcome) → Fits o end → c.op ≡ o
       → c.outcome ≡ end → IsFreshFor o end top w c
-  fresh_for w replayed inv c m (op.Read read) (outcome.Read time answered) is came =
-      λ k e x key name kept was has asked touched. shows w replayed inv c m k e kept x was read time answered is came key name has asked touched
-  fresh_for w replayed inv c m (op.Read read) (outcome.Wrote commit stamp) is came = tt
-  fresh_for w replayed inv c m (op.Read read) outcome.Collected is came = tt
-  fresh_for w replayed inv c m (op.Batch batch) (outcome.Read time answered) is came = tt
-  fresh_for w replayed inv c m (op.Batch batch) (outcome.Wrote commit stamp) is came = tt
-  fresh_for w replayed inv c m (op.Batch batch) outcome.Collected is came = tt
+  fresh_for w replayed inv c m o end =
+      end_cases (λ o end. c.op ≡ o → c.outcome ≡ end → IsFreshFor o end top w c)
+      (record {
+        wrote = λ batch commit stamp is came. tt;
+        answered = λ read time answered is came k e x key name kept was has asked touched.
+            shows w replayed inv c m k e kept x was read time answered is came key name has asked touched;
+        given_up = λ read is came. tt;
+      }) o end
 
   -- whatever a run completed is fresh
   pub completed_fresh : (events : List Event) (c : Completed) → Contains (run top events).transcript c → IsFresh top (run top events) c
   completed_fresh events c has =
-      fresh_for (run top events) (runs_replayed top events) (every events) c (contains_among c (run top events).transcript has) c.op c.outcome refl refl
+      fresh_for (run top events) (runs_replayed top events) (every events) c (contains_among c (run top events).transcript has) c.op c.outcome
+      ((every events).transcript c (contains_among c (run top events).transcript has)).fits refl refl

@@ -60,7 +60,6 @@ pub record AskedAt (a : SessionState) (m time node : ℕ) (asked : Read) : Type 
 pub record SessionGrows (top : TopologyValue) (a b : SessionState) : Type 0 where
   pub clock : a.clock ≤ b.clock
   pub count : a.count ≤ b.count
-  pub home : b.home ≡ a.home
   pub floor : a.floor ≤ b.floor
   pub asked_now : (number node : ℕ) (asked : Read) → AskedNow top a number node asked → AskedNow top b number node asked
   pub asked_at : (number time node : ℕ) (asked : Read) → AskedAt a number time node asked → AskedAt b number time node asked

@@ -7,7 +7,7 @@ use Rattle.messages.specs.ShardEvents.{handled, collected}
 use Rattle.world.specs.Run.{Run, Event, after_shard}
 use Rattle.world.proofs.Invariant.{Says, Inv}
 use Rattle.world.proofs.Able.{Able}
-use Rattle.world.proofs.Lasting.{done_grows, kept_ballot_grows}
+use Rattle.world.proofs.Lasting.{kept_ballot_grows}
 use Rattle.world.proofs.ShardSteps.{shard_step_kept}
 use Rattle.world.proofs.Ables.{same_run, quiet_able}
 use Rattle.world.proofs.Writes.{begin_able, prepared_able, yes_able}
@@ -36,7 +36,7 @@ handle_able top w node n from time (ReplPart t rows stamp coordinator) some inv 
 handle_able top w node n from time (Notify t) some inv lt late k = notify_able top w node n some inv lt from t
 handle_able top w node n from time (PrepareRemote t) some inv lt late k = prepare_remote_able top w node n t some inv lt
 handle_able top w node n from time (DepCheck dependency waiter) some inv lt late k = dep_check_able top w node n _ inv lt k
-handle_able top w node n from time (DepOk dependency waiter commit) some inv lt late k = dep_ok_able top w node n some inv lt dependency waiter (done_grows (same_run top w) (next_below time n late) k)
+handle_able top w node n from time (DepOk dependency waiter commit) some inv lt late k = dep_ok_able top w node n some inv lt from time dependency waiter commit late k.0 k.1
 handle_able top w node n from time (Done t commit stamp) some inv lt late k = quiet_able top w node n (w.shards node) lt (inv.shards node).once (inv.shards node).apart
 handle_able top w node n from time (PartNow number rows) some inv lt late k = quiet_able top w node n (w.shards node) lt (inv.shards node).once (inv.shards node).apart
 handle_able top w node n from time (PartAt number bound answer) some inv lt late k = quiet_able top w node n (w.shards node) lt (inv.shards node).once (inv.shards node).apart

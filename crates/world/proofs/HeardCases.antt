@@ -1,20 +1,33 @@
--- What a message makes of a session, case by case: only its clock moves, an answer is kept, or the operation ends.
-use Rattle.std.proofs.Common.{◌≡◌, subst, refl, ℕ, Bool, true, false, ◌&&◌, List, [], ◌∷◌, ◌++◌, map, eqb-true}
+-- What a message makes of a session, case by case: only its clock moves, an answer is kept, or the operation ends. Each case
+-- comes with all that was tested on the way to it.
+use Rattle.std.proofs.Common.{◌≡◌, refl, sym, ap, ◌∙◌, subst, eq-eqb, ℕ, Bool, true, false, ◌&&◌, List, [], ◌∷◌, ◌++◌, map, eqb-true}
 use Rattle.std.specs.Prelude.{◌==◌}
-use Rattle.std.proofs.lemmas.Bool.{and_parts}
-use Rattle.logical_time.specs.Stamps.{StampValue, TxnValue}
+use Rattle.std.proofs.lemmas.Bool.{false≢true, and_parts, and_from}
+use Rattle.logical_time.specs.Stamps.{StampValue, TxnValue, WriterValue}
 use Rattle.slice.specs.declared.read.Read.{Read}
 use Rattle.messages.specs.declared.rows_now.RowNow.{RowNow}
 use Rattle.messages.specs.declared.rows_at.RowAt.{RowAt}
 use Rattle.messages.specs.declared.rows_at.AtTime.{AtTime}
 use Rattle.messages.specs.declared.rows_at.AtTime.TheVariants as at
+use Rattle.messages.specs.declared.outcome.Outcome.{Outcome}
 use Rattle.messages.specs.declared.body.Body.{Body}
 use Rattle.messages.specs.declared.body.Body.TheVariants.{Begin, Prepare, Yes, Commit, At, NotBy, Check, Read as ReadNow, ReadAt, ReplBegin, ReplPart, Notify, PrepareRemote, DepCheck, DepOk, Done, PartNow, PartAt}
+use Rattle.messages.specs.declared.envelope.Envelope.{Envelope}
 use Rattle.messages.specs.Topology.{TopologyValue}
 use Rattle.messages.specs.Words.{is_same_txn}
-use Rattle.messages.specs.Session.{SessionState, SessionStep, Open, Idle, Writing, FirstRound, SecondRound, HeardNow, HeardAt, calm}
-use Rattle.messages.specs.Rounds.{asked_nodes, is_missing, all_heard, effective_time, late_nodes, is_missing_at, all_heard_at}
-use Rattle.messages.specs.SessionEvents.{answered, given_up, written, done_if, done_in, read_at_of, second_if, heard_if, heard_now, part_now_if, part_now_in, heard_at_if, taken_at, part_at_if, part_at_in, heard}
+use Rattle.messages.specs.Session.{SessionState, SessionStep, Open, Idle, Writing, FirstRound, SecondRound, HeardNow, HeardAt, calm, is_idle}
+use Rattle.messages.specs.Rounds.{asked_nodes, is_missing, all_heard, effective_time, late_nodes, is_missing_at, all_heard_at, rows_taken}
+use Rattle.messages.specs.SessionEvents.{ended, answered, given_up, written, done_if, done_in, read_at_of, second_if, heard_if, heard_now, part_now_if, part_now_in, heard_at_if, taken_at, part_at_if, part_at_in, heard}
+use Rattle.world.proofs.Among.{same_txn, same_txn_self}
+use Rattle.world.proofs.Underway.{FirstHas}
+
+-- ## What comes
+
+-- the message tells the end of the open write
+pub record WriteAnswer (me : ℕ) (a : SessionState) (m : Body) (coordinator : ℕ) (t : TxnValue) (commit : ℕ) (stamp : StampValue) : Type 0 where
+  pub current : a.current ≡ Writing coordinator
+  pub body : m ≡ Done t commit stamp
+  pub own : t ≡ record { session = me; number = a.count }
 
 -- the message is the first answer of this shard to the open read in its first round
 pub record FirstAnswer (top : TopologyValue) (a : SessionState) (from : ℕ) (m : Body) (read : Read) (hs : List HeardNow) (rows : List RowNow) : Type 0 where
@@ -29,68 +42,110 @@ pub record SecondAnswer (top : TopologyValue) (a : SessionState) (from : ℕ) (m
   pub body : m ≡ PartAt a.count bound answer
   pub missing : is_missing_at (asked_nodes top a read) time first hs from ≡ true
 
+-- the open read, if it is in its second round, awaits no answer of this shard
+abbrev pub AwaitsNone : TopologyValue → SessionState → Open → ℕ → Type 0
+AwaitsNone top a (SecondRound read time first heard) node = is_missing_at (asked_nodes top a read) time first heard node ≡ false
+AwaitsNone top a Idle node = Unit {0}
+AwaitsNone top a (Writing coordinator) node = Unit {0}
+AwaitsNone top a (FirstRound read heard) node = Unit {0}
+
+-- no write of this number is open
+abbrev pub IsNotWritten : ℕ → SessionState → Open → TxnValue → Type 0
+IsNotWritten me a (Writing coordinator) t = t ≡ record { session = me; number = a.count } → ⊥
+IsNotWritten me a Idle t = Unit {0}
+IsNotWritten me a (FirstRound read heard) t = Unit {0}
+IsNotWritten me a (SecondRound read time first heard) t = Unit {0}
+
+-- the message is none that the session waits for
+abbrev pub Ignored : TopologyValue → ℕ → SessionState → ℕ → Body → Type 0
+Ignored top me a from (Done t commit stamp) = IsNotWritten me a a.current t
+Ignored top me a from (PartNow number rows) = number ≡ a.count → FirstHas top a a.current from
+Ignored top me a from (PartAt number bound answer) = number ≡ a.count → AwaitsNone top a a.current from
+Ignored top me a from other = Unit {0}
+
+-- what was heard, and these rows of this shard
+abbrev pub with_rows_now : List HeardNow → ℕ → List RowNow → List HeardNow
+with_rows_now hs from rows = hs ++ record { from = from; rows = rows } ∷ []
+
+abbrev pub with_rows_at : List HeardAt → ℕ → List RowAt → List HeardAt
+with_rows_at hs from rows = hs ++ record { from = from; rows = rows } ∷ []
+
+-- ## What is made of it
+
+-- the operation stays open, as this, and these are sent
+abbrev pub opened_as : ℕ → SessionState → Open → List Envelope → SessionStep
+opened_as n a o sends = record { state = record a { clock = n; current = o }; sends = sends }
+
 -- What holds of each thing that a message may make of a session holds of what it makes.
 pub record HeardCases (top : TopologyValue) (me n : ℕ) (a : SessionState) (from : ℕ) (m : Body) (P : SessionStep → Type 0) : Type 0 where
-  pub still : P (calm n a)
-  pub wrote : (coordinator : ℕ) (t : TxnValue) (commit : ℕ) (stamp : StampValue) → a.current ≡ Writing coordinator → P (written n a coordinator t commit stamp)
+  pub still : Ignored top me a from m → P (calm n a)
+  pub wrote : (coordinator : ℕ) (t : TxnValue) (commit : ℕ) (stamp : StampValue) → WriteAnswer me a m coordinator t commit stamp
+      → P (written n a coordinator t commit stamp)
   -- a first answer is kept, and others are awaited
   pub kept : (read : Read) (hs : List HeardNow) (rows : List RowNow) → FirstAnswer top a from m read hs rows
-      → P (record { state = record a { clock = n; current = FirstRound read (hs ++ record { from = from; rows = rows } ∷ []) }; sends = [] })
+      → all_heard (asked_nodes top a read) (with_rows_now hs from rows) ≡ false
+      → P (opened_as n a (FirstRound read (with_rows_now hs from rows)) [])
   -- it was the last: the second round begins
-  pub second : (read : Read) (hs : List HeardNow) (rows : List RowNow) (nodes : List ℕ) → FirstAnswer top a from m read hs rows
-      → all_heard (asked_nodes top a read) (hs ++ record { from = from; rows = rows } ∷ []) ≡ true
-      → P (record {
-        state =
-            record a {
-              clock = n;
-              current = SecondRound read (effective_time a.floor (hs ++ record { from = from; rows = rows } ∷ [])) (hs ++ record { from = from; rows = rows } ∷ []) [];
-            };
-        sends = map (read_at_of me n a read (effective_time a.floor (hs ++ record { from = from; rows = rows } ∷ [])) (hs ++ record { from = from; rows = rows } ∷ [])) nodes;
-      })
+  pub second : (read : Read) (hs : List HeardNow) (rows : List RowNow) → FirstAnswer top a from m read hs rows
+      → all_heard (asked_nodes top a read) (with_rows_now hs from rows) ≡ true
+      → (s : ℕ) (ss : List ℕ) → late_nodes (asked_nodes top a read) (effective_time a.floor (with_rows_now hs from rows)) (with_rows_now hs from rows) ≡ s ∷ ss
+      → P (opened_as n a (SecondRound read (effective_time a.floor (with_rows_now hs from rows)) (with_rows_now hs from rows) [])
+      (map (read_at_of me n a read (effective_time a.floor (with_rows_now hs from rows)) (with_rows_now hs from rows)) (s ∷ ss)))
   -- or the read completes
-  pub ends : (read : Read) (hs : List HeardNow) (rows : List RowNow) (taken : List RowAt) → FirstAnswer top a from m read hs rows
-      → all_heard (asked_nodes top a read) (hs ++ record { from = from; rows = rows } ∷ []) ≡ true
-      → P (answered n a read (effective_time a.floor (hs ++ record { from = from; rows = rows } ∷ [])) taken)
+  pub ends : (read : Read) (hs : List HeardNow) (rows : List RowNow) → FirstAnswer top a from m read hs rows
+      → all_heard (asked_nodes top a read) (with_rows_now hs from rows) ≡ true
+      → late_nodes (asked_nodes top a read) (effective_time a.floor (with_rows_now hs from rows)) (with_rows_now hs from rows) ≡ []
+      → P (answered n a read (effective_time a.floor (with_rows_now hs from rows))
+      (rows_taken (effective_time a.floor (with_rows_now hs from rows)) (with_rows_now hs from rows) []))
   -- an answer of the second round is kept, and others are awaited
-  pub kept_at : (read : Read) (time : ℕ) (first : List HeardNow) (hs gs : List HeardAt) (rows : List RowAt)
-      → SecondAnswer top a from m read time first hs (at.Rows rows) → P (record { state = record a { clock = n; current = SecondRound read time first gs }; sends = [] })
+  pub kept_at : (read : Read) (time : ℕ) (first : List HeardNow) (hs : List HeardAt) (rows : List RowAt)
+      → SecondAnswer top a from m read time first hs (at.Rows rows) → all_heard_at (asked_nodes top a read) time first (with_rows_at hs from rows) ≡ false
+      → P (opened_as n a (SecondRound read time first (with_rows_at hs from rows)) [])
   -- or the read completes
-  pub ends_at : (read : Read) (time : ℕ) (first : List HeardNow) (hs : List HeardAt) (rows taken : List RowAt)
-      → SecondAnswer top a from m read time first hs (at.Rows rows) → P (answered n a read time taken)
+  pub ends_at : (read : Read) (time : ℕ) (first : List HeardNow) (hs : List HeardAt) (rows : List RowAt)
+      → SecondAnswer top a from m read time first hs (at.Rows rows) → all_heard_at (asked_nodes top a read) time first (with_rows_at hs from rows) ≡ true
+      → P (answered n a read time (rows_taken time first (with_rows_at hs from rows)))
   pub gives_up : (read : Read) (time : ℕ) (first : List HeardNow) (hs : List HeardAt) → SecondAnswer top a from m read time first hs at.Collected
       → P (given_up n a)
 
 module _ (top : TopologyValue) (me n : ℕ) (a : SessionState) (from : ℕ) (m : Body) (P : SessionStep → Type 0) (c : HeardCases top me n a from m P) where
-  done_cases : (o : Open) → a.current ≡ o → (t : TxnValue) (commit : ℕ) (stamp : StampValue) → P (done_in o me n a t commit stamp)
-  done_cases (Writing coordinator) is t commit stamp = by (is_same_txn t (record { session = me; number = a.count }))
-    where
-      by : (b : Bool) → P (done_if b n a coordinator t commit stamp)
-      by true = c.wrote coordinator t commit stamp is
-      by false = c.still
-  done_cases Idle is t commit stamp = c.still
-  done_cases (FirstRound read hs) is t commit stamp = c.still
-  done_cases (SecondRound read time first hs) is t commit stamp = c.still
+  because : {z : Body} → m ≡ z → Ignored top me a from z → Ignored top me a from m
+  because is k = subst (Ignored top me a from) (sym is) k
 
-  second_cases : (nodes : List ℕ) (read : Read) (hs : List HeardNow) (rows : List RowNow) → FirstAnswer top a from m read hs rows
-      → all_heard (asked_nodes top a read) (hs ++ record { from = from; rows = rows } ∷ []) ≡ true
-      → P (second_if nodes me n a read (effective_time a.floor (hs ++ record { from = from; rows = rows } ∷ [])) (hs ++ record { from = from; rows = rows } ∷ []))
-  second_cases [] read hs rows k all = c.ends read hs rows _ k all
-  second_cases (s ∷ ss) read hs rows k all = c.second read hs rows (s ∷ ss) k all
+  -- one of two tests fails, so if the first holds the second doesn't
+  if_first : (number : ℕ) (b : Bool) → ((number == a.count) && b) ≡ false → number ≡ a.count → b ≡ false
+  if_first number true e q = absurd (false≢true (sym e ∙ and_from (number == a.count) true (eq-eqb number a.count q) refl))
+  if_first number false e q = refl
+
+  done_cases : (o : Open) → a.current ≡ o → (t : TxnValue) (commit : ℕ) (stamp : StampValue) → m ≡ Done t commit stamp → P (done_in o me n a t commit stamp)
+  done_cases (Writing coordinator) is t commit stamp body = by (is_same_txn t (record { session = me; number = a.count })) refl
+    where
+      by : (b : Bool) → is_same_txn t (record { session = me; number = a.count }) ≡ b → P (done_if b n a coordinator t commit stamp)
+      by true e =
+          c.wrote coordinator t commit stamp
+          (record { current = is; body = body; own = same_txn t (record { session = me; number = a.count }) e })
+      by false e =
+          c.still
+          (because body (subst (λ o. IsNotWritten me a o t) (sym is)
+          (λ q. false≢true (sym e ∙ ap (λ z. is_same_txn z (record { session = me; number = a.count })) q ∙ same_txn_self (record { session = me; number = a.count })))))
+  done_cases Idle is t commit stamp body = c.still (because body (subst (λ o. IsNotWritten me a o t) (sym is) tt))
+  done_cases (FirstRound read hs) is t commit stamp body = c.still (because body (subst (λ o. IsNotWritten me a o t) (sym is) tt))
+  done_cases (SecondRound read time first hs) is t commit stamp body = c.still (because body (subst (λ o. IsNotWritten me a o t) (sym is) tt))
+
+  second_cases : (late : List ℕ) (read : Read) (hs : List HeardNow) (rows : List RowNow) → FirstAnswer top a from m read hs rows
+      → all_heard (asked_nodes top a read) (with_rows_now hs from rows) ≡ true
+      → late_nodes (asked_nodes top a read) (effective_time a.floor (with_rows_now hs from rows)) (with_rows_now hs from rows) ≡ late
+      → P (second_if late me n a read (effective_time a.floor (with_rows_now hs from rows)) (with_rows_now hs from rows))
+  second_cases [] read hs rows k all e = c.ends read hs rows k all e
+  second_cases (s ∷ ss) read hs rows k all e = c.second read hs rows k all s ss e
 
   first_cases : (read : Read) (hs : List HeardNow) (rows : List RowNow) → FirstAnswer top a from m read hs rows
-      → P (heard_now top me n a read (hs ++ record { from = from; rows = rows } ∷ []))
-  first_cases read hs rows k = by (all_heard (asked_nodes top a read) gs) refl
+      → P (heard_now top me n a read (with_rows_now hs from rows))
+  first_cases read hs rows k = by (all_heard (asked_nodes top a read) (with_rows_now hs from rows)) refl
     where
-      gs : List HeardNow
-      gs = hs ++ record { from = from; rows = rows } ∷ []
-
-      by : (b : Bool) → all_heard (asked_nodes top a read) (hs ++ record { from = from; rows = rows } ∷ []) ≡ b
-          → P (heard_if b top me n a read (hs ++ record { from = from; rows = rows } ∷ []))
-      by true all =
-          second_cases
-          (late_nodes (asked_nodes top a read) (effective_time a.floor (hs ++ record { from = from; rows = rows } ∷ [])) (hs ++ record { from = from; rows = rows } ∷ []))
-          read hs rows k all
-      by false all = c.kept read hs rows k
+      by : (b : Bool) → all_heard (asked_nodes top a read) (with_rows_now hs from rows) ≡ b → P (heard_if b top me n a read (with_rows_now hs from rows))
+      by true all = second_cases (late_nodes (asked_nodes top a read) (effective_time a.floor (with_rows_now hs from rows)) (with_rows_now hs from rows)) read hs rows k all refl
+      by false all = c.kept read hs rows k all
 
   part_now_cases : (o : Open) → a.current ≡ o → (number : ℕ) (rows : List RowNow) → m ≡ PartNow number rows → P (part_now_in o top me n a from number rows)
   part_now_cases (FirstRound read hs) is number rows body = by ((number == a.count) && is_missing (asked_nodes top a read) hs from) refl
@@ -100,20 +155,21 @@ module _ (top : TopologyValue) (me n : ℕ) (a : SessionState) (from : ℕ) (m :
           let p = and_parts (number == a.count) (is_missing (asked_nodes top a read) hs from) e in
           first_cases read hs rows
           (record { current = is; body = subst (λ z. m ≡ PartNow z rows) (eqb-true number a.count p.0) body; missing = p.1 })
-      by false e = c.still
-  part_now_cases Idle is number rows body = c.still
-  part_now_cases (Writing coordinator) is number rows body = c.still
-  part_now_cases (SecondRound read time first hs) is number rows body = c.still
+      by false e =
+          c.still (because body (λ q. subst (λ o. FirstHas top a o from) (sym is) (if_first number (is_missing (asked_nodes top a read) hs from) e q)))
+  part_now_cases Idle is number rows body = c.still (because body (λ q. subst (λ o. FirstHas top a o from) (sym is) tt))
+  part_now_cases (Writing coordinator) is number rows body = c.still (because body (λ q. subst (λ o. FirstHas top a o from) (sym is) tt))
+  part_now_cases (SecondRound read time first hs) is number rows body = c.still (because body (λ q. subst (λ o. FirstHas top a o from) (sym is) tt))
 
   taken_cases : (answer : AtTime) (read : Read) (time : ℕ) (first : List HeardNow) (hs : List HeardAt)
       → SecondAnswer top a from m read time first hs answer → P (taken_at answer top n a read time first hs from)
   taken_cases at.Collected read time first hs k = c.gives_up read time first hs k
-  taken_cases (at.Rows rows) read time first hs k =
-      by (all_heard_at (asked_nodes top a read) time first (hs ++ record { from = from; rows = rows } ∷ []))
+  taken_cases (at.Rows rows) read time first hs k = by (all_heard_at (asked_nodes top a read) time first (with_rows_at hs from rows)) refl
     where
-      by : (b : Bool) → P (heard_at_if b n a read time first (hs ++ record { from = from; rows = rows } ∷ []))
-      by true = c.ends_at read time first hs rows _ k
-      by false = c.kept_at read time first hs _ rows k
+      by : (b : Bool) → all_heard_at (asked_nodes top a read) time first (with_rows_at hs from rows) ≡ b
+          → P (heard_at_if b n a read time first (with_rows_at hs from rows))
+      by true all = c.ends_at read time first hs rows k all
+      by false all = c.kept_at read time first hs rows k all
 
   part_at_cases : (o : Open) → a.current ≡ o → (number bound : ℕ) (answer : AtTime) → m ≡ PartAt number bound answer → P (part_at_in o top n a from number answer)
   part_at_cases (SecondRound read time first hs) is number bound answer body =
@@ -130,29 +186,54 @@ module _ (top : TopologyValue) (me n : ℕ) (a : SessionState) (from : ℕ) (m :
             body = subst (λ z. m ≡ PartAt z bound answer) (eqb-true number a.count p.0) body;
             missing = p.1;
           })
-      by false e = c.still
-  part_at_cases Idle is number bound answer body = c.still
-  part_at_cases (Writing coordinator) is number bound answer body = c.still
-  part_at_cases (FirstRound read hs) is number bound answer body = c.still
+      by false e =
+          c.still
+          (because body (λ q. subst (λ o. AwaitsNone top a o from) (sym is) (if_first number (is_missing_at (asked_nodes top a read) time first hs from) e q)))
+  part_at_cases Idle is number bound answer body = c.still (because body (λ q. subst (λ o. AwaitsNone top a o from) (sym is) tt))
+  part_at_cases (Writing coordinator) is number bound answer body = c.still (because body (λ q. subst (λ o. AwaitsNone top a o from) (sym is) tt))
+  part_at_cases (FirstRound read hs) is number bound answer body = c.still (because body (λ q. subst (λ o. AwaitsNone top a o from) (sym is) tt))
 
 pub heard_cases : (top : TopologyValue) (me n : ℕ) (a : SessionState) (from : ℕ) (m : Body) (P : SessionStep → Type 0) → HeardCases top me n a from m P
     → P (heard top me n a from m)
-heard_cases top me n a from (Done t commit stamp) P c = done_cases top me n a from (Done t commit stamp) P c a.current refl t commit stamp
+heard_cases top me n a from (Done t commit stamp) P c = done_cases top me n a from (Done t commit stamp) P c a.current refl t commit stamp refl
 heard_cases top me n a from (PartNow number rows) P c = part_now_cases top me n a from (PartNow number rows) P c a.current refl number rows refl
 heard_cases top me n a from (PartAt number time answer) P c =
     part_at_cases top me n a from (PartAt number time answer) P c a.current refl number time answer refl
-heard_cases top me n a from (Begin t rows cohorts dependencies) P c = c.still
-heard_cases top me n a from (Prepare t rows coordinator) P c = c.still
-heard_cases top me n a from (Yes t) P c = c.still
-heard_cases top me n a from (Commit t commit stamp) P c = c.still
-heard_cases top me n a from (At t commit stamp) P c = c.still
-heard_cases top me n a from (NotBy t time) P c = c.still
-heard_cases top me n a from (Check t time) P c = c.still
-heard_cases top me n a from (ReadNow number read) P c = c.still
-heard_cases top me n a from (ReadAt number time read) P c = c.still
-heard_cases top me n a from (ReplBegin cohorts t rows stamp dependencies) P c = c.still
-heard_cases top me n a from (ReplPart t rows stamp coordinator) P c = c.still
-heard_cases top me n a from (Notify t) P c = c.still
-heard_cases top me n a from (PrepareRemote t) P c = c.still
-heard_cases top me n a from (DepCheck dependency waiter) P c = c.still
-heard_cases top me n a from (DepOk dependency waiter commit) P c = c.still
+heard_cases top me n a from (Begin t rows cohorts dependencies) P c = c.still tt
+heard_cases top me n a from (Prepare t rows coordinator) P c = c.still tt
+heard_cases top me n a from (Yes t) P c = c.still tt
+heard_cases top me n a from (Commit t commit stamp) P c = c.still tt
+heard_cases top me n a from (At t commit stamp) P c = c.still tt
+heard_cases top me n a from (NotBy t time) P c = c.still tt
+heard_cases top me n a from (Check t time) P c = c.still tt
+heard_cases top me n a from (ReadNow number read) P c = c.still tt
+heard_cases top me n a from (ReadAt number time read) P c = c.still tt
+heard_cases top me n a from (ReplBegin cohorts t rows stamp dependencies) P c = c.still tt
+heard_cases top me n a from (ReplPart t rows stamp coordinator) P c = c.still tt
+heard_cases top me n a from (Notify t) P c = c.still tt
+heard_cases top me n a from (PrepareRemote t) P c = c.still tt
+heard_cases top me n a from (DepCheck dependency waiter) P c = c.still tt
+heard_cases top me n a from (DepOk dependency waiter commit) P c = c.still tt
+
+-- ## The same in three kinds
+
+-- only the clock moves, the operation is open in another way, or it ended
+pub record HeardKinds (n : ℕ) (a : SessionState) (P : SessionStep → Type 0) : Type 0 where
+  pub still : P (calm n a)
+  pub goes_on : (o : Open) (sends : List Envelope) → is_idle a.current ≡ false → is_idle o ≡ false → P (opened_as n a o sends)
+  pub over : (floor : ℕ) (dependencies : List WriterValue) (o : Outcome) → is_idle a.current ≡ false → P (ended n a floor dependencies o)
+
+pub heard_kinds : (top : TopologyValue) (me n : ℕ) (a : SessionState) (from : ℕ) (m : Body) (P : SessionStep → Type 0) → HeardKinds n a P
+    → P (heard top me n a from m)
+heard_kinds top me n a from m P c =
+    heard_cases top me n a from m P
+    (record {
+      still = λ ignored. c.still;
+      wrote = λ coordinator t commit stamp k. c.over _ _ _ (ap is_idle k.current);
+      kept = λ read hs rows k some. c.goes_on _ _ (ap is_idle k.current) refl;
+      second = λ read hs rows k all s ss e. c.goes_on _ _ (ap is_idle k.current) refl;
+      ends = λ read hs rows k all e. c.over _ _ _ (ap is_idle k.current);
+      kept_at = λ read time first hs rows k some. c.goes_on _ _ (ap is_idle k.current) refl;
+      ends_at = λ read time first hs rows k all. c.over _ _ _ (ap is_idle k.current);
+      gives_up = λ read time first hs k. c.over _ _ _ (ap is_idle k.current);
+    })

@@ -2,25 +2,23 @@
 -- valid time of any row that was heard.
 use Rattle.std.proofs.Common.{◌≡◌, ◌∙◌, ℕ, ◌≤◌, ap, refl, sym, subst, arith, Bool, true, false, ◌&&◌, List, [], ◌∷◌, ◌++◌, Option, Some, None, eq-eqb}
 use Rattle.std.specs.Prelude.{◌==◌}
-use Rattle.logical_time.specs.Stamps.{StampValue, TxnValue, WriterValue}
+use Rattle.logical_time.specs.Stamps.{WriterValue}
 use Rattle.planner.proofs.Members.{contains_flat}
 use Rattle.slice.specs.declared.read.Read.{Read}
 use Rattle.messages.specs.declared.rows_now.RowNow.{RowNow}
-use Rattle.messages.specs.declared.rows_at.AtTime.{AtTime}
-use Rattle.messages.specs.declared.rows_at.AtTime.TheVariants as at
 use Rattle.messages.specs.declared.op.Op.{Op}
 use Rattle.messages.specs.declared.op.Op.TheVariants as op
 use Rattle.messages.specs.declared.outcome.Outcome.{Outcome}
 use Rattle.messages.specs.declared.outcome.Outcome.TheVariants as outcome
 use Rattle.messages.specs.declared.body.Body.{Body}
-use Rattle.messages.specs.declared.body.Body.TheVariants.{Begin, Prepare, Yes, Commit, At, NotBy, Check, Read as ReadNow, ReadAt, ReplBegin, ReplPart, Notify, PrepareRemote, DepCheck, DepOk, Done, PartNow, PartAt}
+use Rattle.messages.specs.declared.body.Body.TheVariants.{PartNow}
 use Rattle.messages.specs.Topology.{TopologyValue}
-use Rattle.messages.specs.Words.{is_same_txn}
-use Rattle.messages.specs.Session.{SessionState, Open, Idle, Writing, FirstRound, SecondRound, HeardNow, HeardAt, Finished, calm}
+use Rattle.messages.specs.Session.{SessionState, Open, Idle, Writing, FirstRound, SecondRound, HeardNow, Finished, calm}
 use Rattle.messages.specs.Submitting.{begun}
-use Rattle.messages.specs.Rounds.{asked_nodes, is_missing, all_heard, effective_time, late_nodes, is_missing_at, all_heard_at}
-use Rattle.messages.specs.SessionEvents.{ended, done_if, done_in, second_if, heard_if, heard_now, part_now_if, part_now_in, heard_at_if, taken_at, part_at_if, part_at_in, heard, session_taken}
+use Rattle.messages.specs.Rounds.{asked_nodes, is_missing, all_heard, effective_time, late_nodes}
+use Rattle.messages.specs.SessionEvents.{ended, second_if, heard_if, heard_now, part_now_if, part_now_in, heard, session_taken}
 use Rattle.messages.proofs.Greatest.{effective_above_each}
+use Rattle.world.proofs.HeardCases.{FirstAnswer, with_rows_now, heard_cases}
 use Rattle.world.proofs.Among.{Among, append_first, among_last, among_contains}
 
 -- the time isn't below the earliest valid time of any row that was heard
@@ -84,19 +82,6 @@ still_ended n a floor deps o number h le k =
           subst (λ (z : Finished). EndsTimely z.outcome h) same (k (sym q ∙ ap (λ (z : Finished). z.number) (sym same)));
     }
 
--- ## Done
-
-done_still : (o : Open) (me n : ℕ) (a : SessionState) (t : TxnValue) (commit : ℕ) (stamp : StampValue) (number : ℕ) (h : HeardNow) → Heard a number h
-    → StillHeard a (done_in o me n a t commit stamp).state number h
-done_still (Writing coordinator) me n a t commit stamp number h k = by (is_same_txn t (record { session = me; number = a.count }))
-  where
-    by : (b : Bool) → StillHeard a (done_if b n a coordinator t commit stamp).state number h
-    by true = still_ended n a _ _ (outcome.Wrote commit stamp) number h k.count (λ q. tt)
-    by false = still_calm n a number h k
-done_still Idle me n a t commit stamp number h k = still_calm n a number h k
-done_still (FirstRound read heard) me n a t commit stamp number h k = still_calm n a number h k
-done_still (SecondRound read time first heard) me n a t commit stamp number h k = still_calm n a number h k
-
 -- ## PartNow
 
 -- the effective time is timely for all that was heard
@@ -120,18 +105,6 @@ heard_still top me n a read hs number h none le k = by (all_heard (asked_nodes t
         (λ q. timely a.floor hs h (k q))
     by false = still_open n a (FirstRound read hs) number h none le k
 
-part_now_still : (o : Open) (top : TopologyValue) (me n : ℕ) (a : SessionState) (from m : ℕ) (rows : List RowNow) (number : ℕ) (h : HeardNow)
-    → Heard a number h
-    → (number ≡ a.count → HasHeard o h) → StillHeard a (part_now_in o top me n a from m rows).state number h
-part_now_still (FirstRound read hs) top me n a from m rows number h k old = by ((m == a.count) && is_missing (asked_nodes top a read) hs from)
-  where
-    by : (b : Bool) → StillHeard a (part_now_if b top me n a read hs from rows).state number h
-    by true = heard_still top me n a read (hs ++ record { from = from; rows = rows } ∷ []) number h k.taken k.count (λ q. append_first h hs _ (old q))
-    by false = still_calm n a number h k
-part_now_still Idle top me n a from m rows number h k old = still_calm n a number h k
-part_now_still (Writing coordinator) top me n a from m rows number h k old = still_calm n a number h k
-part_now_still (SecondRound read time first hs) top me n a from m rows number h k old = still_calm n a number h k
-
 -- what is kept now has been heard
 pub part_now_heard : (top : TopologyValue) (me n : ℕ) (a : SessionState) (from number : ℕ) (rows : List RowNow) (read : Read) (hs : List HeardNow)
     → a.untaken ≡ None → a.count ≡ number
@@ -145,55 +118,30 @@ part_now_heard top me n a from number rows read hs none count current missing =
     (subst (λ b. StillHeard a (part_now_if b top me n a read hs from rows).state number h) (sym test)
     (heard_still top me n a read (hs ++ h ∷ []) number h none (omega arith) (λ q. among_last h hs)))
 
--- ## PartAt
-
-taken_still : (answer : AtTime) (top : TopologyValue) (n : ℕ) (a : SessionState) (read : Read) (time : ℕ) (first : List HeardNow) (hs : List HeardAt)
-    (from number : ℕ) (h : HeardNow) → a.untaken ≡ None → number ≤ a.count
-    → (number ≡ a.count → IsTimely h time) → StillHeard a (taken_at answer top n a read time first hs from).state number h
-taken_still at.Collected top n a read time first hs from number h none le k = still_ended n a _ _ outcome.Collected number h le (λ q. tt)
-taken_still (at.Rows rows) top n a read time first hs from number h none le k =
-    by (all_heard_at (asked_nodes top a read) time first (hs ++ record { from = from; rows = rows } ∷ []))
-  where
-    by : (b : Bool) → StillHeard a (heard_at_if b n a read time first (hs ++ record { from = from; rows = rows } ∷ [])).state number h
-    by true = still_ended n a _ _ (outcome.Read time _) number h le k
-    by false = still_open n a (SecondRound read time first (hs ++ record { from = from; rows = rows } ∷ [])) number h none le k
-
-part_at_still : (o : Open) (top : TopologyValue) (n : ℕ) (a : SessionState) (from m : ℕ) (answer : AtTime) (number : ℕ) (h : HeardNow)
-    → Heard a number h
-    → (number ≡ a.count → HasHeard o h) → StillHeard a (part_at_in o top n a from m answer).state number h
-part_at_still (SecondRound read time first hs) top n a from m answer number h k old =
-    by ((m == a.count) && is_missing_at (asked_nodes top a read) time first hs from)
-  where
-    by : (b : Bool) → StillHeard a (part_at_if b top n a read time first hs from answer).state number h
-    by true = taken_still answer top n a read time first hs from number h k.taken k.count old
-    by false = still_calm n a number h k
-part_at_still Idle top n a from m answer number h k old = still_calm n a number h k
-part_at_still (Writing coordinator) top n a from m answer number h k old = still_calm n a number h k
-part_at_still (FirstRound read hs) top n a from m answer number h k old = still_calm n a number h k
-
 -- ## Events
 
 -- whatever comes to the session
 pub message_still : (top : TopologyValue) (me n : ℕ) (a : SessionState) (from : ℕ) (b : Body) (number : ℕ) (h : HeardNow) → Heard a number h
     → StillHeard a (heard top me n a from b).state number h
-message_still top me n a from (Done t commit stamp) number h k = done_still a.current me n a t commit stamp number h k
-message_still top me n a from (PartNow m rows) number h k = part_now_still a.current top me n a from m rows number h k k.current
-message_still top me n a from (PartAt m time answer) number h k = part_at_still a.current top n a from m answer number h k k.current
-message_still top me n a from (Begin t rows cohorts dependencies) number h k = still_calm n a number h k
-message_still top me n a from (Prepare t rows coordinator) number h k = still_calm n a number h k
-message_still top me n a from (Yes t) number h k = still_calm n a number h k
-message_still top me n a from (Commit t commit stamp) number h k = still_calm n a number h k
-message_still top me n a from (At t commit stamp) number h k = still_calm n a number h k
-message_still top me n a from (NotBy t time) number h k = still_calm n a number h k
-message_still top me n a from (Check t time) number h k = still_calm n a number h k
-message_still top me n a from (ReadNow m read) number h k = still_calm n a number h k
-message_still top me n a from (ReadAt m time read) number h k = still_calm n a number h k
-message_still top me n a from (ReplBegin cohorts t rows stamp dependencies) number h k = still_calm n a number h k
-message_still top me n a from (ReplPart t rows stamp coordinator) number h k = still_calm n a number h k
-message_still top me n a from (Notify t) number h k = still_calm n a number h k
-message_still top me n a from (PrepareRemote t) number h k = still_calm n a number h k
-message_still top me n a from (DepCheck dependency waiter) number h k = still_calm n a number h k
-message_still top me n a from (DepOk dependency waiter commit) number h k = still_calm n a number h k
+message_still top me n a from b number h k =
+    heard_cases top me n a from b (λ st. StillHeard a st.state number h)
+    (record {
+      still = λ ignored. still_calm n a number h k;
+      wrote = λ coordinator t commit stamp e. still_ended n a _ _ (outcome.Wrote commit stamp) number h k.count (λ q. tt);
+      kept = λ read hs rows e some. still_open n a (FirstRound read (with_rows_now hs from rows)) number h k.taken k.count (λ q. in_first read hs rows e q);
+      second =
+          λ read hs rows e all s ss o. still_open n a (SecondRound read _ _ []) number h k.taken k.count (λ q. timely a.floor _ h (in_first read hs rows e q));
+      ends = λ read hs rows e all o. still_ended n a _ _ (outcome.Read _ _) number h k.count (λ q. timely a.floor _ h (in_first read hs rows e q));
+      kept_at = λ read time first hs rows e some. still_open n a (SecondRound read time first _) number h k.taken k.count (λ q. open_so e.current q);
+      ends_at = λ read time first hs rows e all. still_ended n a _ _ (outcome.Read time _) number h k.count (λ q. open_so e.current q);
+      gives_up = λ read time first hs e. still_ended n a _ _ outcome.Collected number h k.count (λ q. tt);
+    })
+  where
+    open_so : {o : Open} → a.current ≡ o → number ≡ a.count → HasHeard o h
+    open_so is q = subst (λ z. HasHeard z h) is (k.current q)
+
+    in_first : (read : Read) (hs : List HeardNow) (rows : List RowNow) → FirstAnswer top a from b read hs rows → number ≡ a.count → Among h (with_rows_now hs from rows)
+    in_first read hs rows e q = append_first h hs (record { from = from; rows = rows } ∷ []) (open_so {o = FirstRound read hs} e.current q)
 
 -- what the session submits is its next operation
 pub begun_still : (top : TopologyValue) (me n : ℕ) (a : SessionState) (o : Op) (number : ℕ) (h : HeardNow) → Heard a number h

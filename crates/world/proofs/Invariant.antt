@@ -27,6 +27,7 @@ use Rattle.messages.specs.Session.{SessionState, Open, Idle, Writing, FirstRound
 use Rattle.messages.specs.Submitting.{share_of, plan_fault}
 use Rattle.messages.specs.Rounds.{asked_nodes, all_heard, effective_time, late_keys, late_nodes, answer_of}
 use Rattle.world.specs.Run.{Run, Submission, Completed}
+use Rattle.world.specs.Promises.{Fits}
 use Rattle.world.proofs.Among.{Among}
 use Rattle.world.proofs.Growth.{AskedNow, AskedAt}
 use Rattle.world.proofs.Facts.{txn_of, IsWritten, lead, part_on, IsDecided, IsDone, DecidedOnce, PreparedBefore, PreparedSound, BallotSound, KeptBallotSound, KeptPartSound, DecisionSound, AppliedSound, Excluded, WaitSound, RowAtSound, AnswersNow, AnswersAt}
@@ -66,6 +67,20 @@ pub record TellsDecision (w : Run) (from n : ℕ) (t : TxnValue) (commit : ℕ) 
   pub decided : IsDecided w from t commit stamp
   pub time : commit ≤ n
 
+-- the sender decided it with this commit time, not above this time
+abbrev pub TellsCommit : Run → ℕ → ℕ → TxnValue → ℕ → Type 0
+TellsCommit w from n t commit = (stamp : StampValue) × TellsDecision w from n t commit stamp
+
+-- the operation moves its session to this data centre; none does yet
+abbrev pub MovesTo : ℕ → Op → Type 0
+MovesTo dc (op.Batch batch) = ⊥
+MovesTo dc (op.Read read) = ⊥
+
+-- who waits for a decision of the shard: a shard of its data centre, or the session whose move to there the waiter is
+pub data MayWait (top : TopologyValue) (w : Run) (node : ℕ) (waiter : TxnValue) (from : ℕ) : Type 0 where
+  of_shard : dc_of top from ≡ dc_of top node → MayWait top w node waiter from
+  of_move : (b : Submission) → Among b w.submitted → txn_of b ≡ waiter → b.session ≡ from → MovesTo (dc_of top node) b.op → MayWait top w node waiter from
+
 -- rows that answer what a session asked in its first round
 pub record TellsNow (top : TopologyValue) (w : Run) (from to time number : ℕ) (rows : List RowNow) : Type 0 where
   pub read : Read
@@ -100,8 +115,8 @@ Says top w from to time (ReplPart t rows stamp coordinator) =
     KeptPartSound top w to (record { txn = t; rows = rows; stamp = stamp; coordinator = coordinator })
 Says top w from to time (Notify t) = Unit {0}
 Says top w from to time (PrepareRemote t) = Unit {0}
-Says top w from to time (DepCheck dependency waiter) = dc_of top from ≡ dc_of top to
-Says top w from to time (DepOk dependency waiter commit) = IsDone top w (dc_of top to) dependency (time + 1)
+Says top w from to time (DepCheck dependency waiter) = MayWait top w to waiter from
+Says top w from to time (DepOk dependency waiter commit) = TellsCommit w from time dependency commit × MayWait top w from waiter to
 Says top w from to time (Done t commit stamp) = TellsDecision w from time t commit stamp × IsAtHome top w from t
 Says top w from to time (PartNow number rows) = TellsNow top w from to time number rows
 Says top w from to time (PartAt number bound answer) = TellsThen answer top w from to number bound
@@ -123,7 +138,7 @@ pub record ShardSound (top : TopologyValue) (w : Run) (node : ℕ) (a : ShardSta
   pub kept_parts : (k : KeptPart) → Among k a.kept_parts → KeptPartSound top w node k
   pub kept_ballots : (r : KeptBallot) → Among r a.kept_ballots → KeptBallotSound top w node (w.shards node).clock r
   pub met : (m : Met) → Among m a.met → IsDone top w (dc_of top node) m.dependency (w.shards node).clock
-  pub askers : (k : Asker) → Among k a.askers → dc_of top k.from ≡ dc_of top node
+  pub askers : (k : Asker) → Among k a.askers → MayWait top w node k.waiter k.from
   pub waiting : (y : WaitingRead) → Among y a.waiting → WaitSound top w node y
 
 -- none of these is of the transaction
@@ -164,10 +179,12 @@ pub record WritingSound (top : TopologyValue) (w : Run) (node : ℕ) (a : Sessio
 
 pub record FirstSound (top : TopologyValue) (w : Run) (node : ℕ) (a : SessionState) (read : Read) (hs : List HeardNow) : Type 0 where
   pub opened : IsOpen w node a.count a.home (op.Read read)
+  pub depends : opened.submission.dependencies ≡ a.dependencies
   pub heard : (h : HeardNow) → Among h hs → HeardNowSound top w a read h
 
 pub record SecondSound (top : TopologyValue) (w : Run) (node : ℕ) (a : SessionState) (read : Read) (n : ℕ) (fs : List HeardNow) (hs : List HeardAt) : Type 0 where
   pub opened : IsOpen w node a.count a.home (op.Read read)
+  pub depends : opened.submission.dependencies ≡ a.dependencies
   pub first : (h : HeardNow) → Among h fs → HeardNowSound top w a read h
   pub all : all_heard (asked_nodes top a read) fs ≡ true
   pub time : n ≡ effective_time a.floor fs
@@ -181,7 +198,6 @@ OpenSound top w node a (FirstRound read heard) = FirstSound top w node a read he
 OpenSound top w node a (SecondRound read time first heard) = SecondSound top w node a read time first heard
 
 pub record SessionSound (top : TopologyValue) (w : Run) (node : ℕ) (a : SessionState) : Type 0 where
-  pub home : a.home ≡ home top node
   pub floor : a.floor ≤ a.clock
   pub current : OpenSound top w node a a.current
   pub dependencies : (k : WriterValue) → Among k a.dependencies → IsDone top w a.home k.txn (a.floor + 1)
@@ -194,7 +210,6 @@ pub record SessionSound (top : TopologyValue) (w : Run) (node : ℕ) (a : Sessio
 
 pub record SubmittedSound (top : TopologyValue) (w : Run) : Type 0 where
   pub accepted : (b : Submission) → Among b w.submitted → plan_fault top b.op ≡ None
-  pub home : (b : Submission) → Among b w.submitted → b.home ≡ home top b.session
   pub number : (b : Submission) → Among b w.submitted → b.number ≤ (w.sessions b.session).count
   pub one : (b c : Submission) → Among b w.submitted → Among c w.submitted → txn_of b ≡ txn_of c → b ≡ c
   -- each write depends on transactions of shards that there are
@@ -206,22 +221,28 @@ pub record AnsweredFrom (top : TopologyValue) (w : Run) (dc : ℕ) (read : Read)
   pub given : (key : List ℕ) → Among key read.keys → Among key (map (λ r. r.key) rows)
   pub right : (r : RowAt) → Among r rows → RowAtSound top w (shard_node top dc (shard_of_key top.shards r.key)) time read r
 
-pub record AnsweredSound (top : TopologyValue) (w : Run) (dc : ℕ) (read : Read) (time : ℕ) (shown : List AnsweredRow) : Type 0 where
+-- what the operation depends on is decided in this data centre below this time
+pub record DependsOnDone (top : TopologyValue) (w : Run) (dc : ℕ) (t : TxnValue) (n : ℕ) : Type 0 where
+  pub submission : Submission
+  pub among : Among submission w.submitted
+  pub txn : txn_of submission ≡ t
+  pub done : (k : WriterValue) → Among k submission.dependencies → IsDone top w dc k.txn n
+
+pub record AnsweredSound (top : TopologyValue) (w : Run) (dc : ℕ) (t : TxnValue) (read : Read) (time : ℕ) (shown : List AnsweredRow) : Type 0 where
   pub rows : List RowAt
   pub answer : shown ≡ answer_of read rows
   pub from : AnsweredFrom top w dc read time rows
+  pub depends : DependsOnDone top w dc t (time + 1)
 
 -- what came of an operation, by what was submitted
 abbrev pub EndSound : Op → Outcome → TopologyValue → Run → ℕ → TxnValue → Type 0
 EndSound (op.Batch batch) (outcome.Wrote commit stamp) top w dc t = IsDecided w (lead top dc batch) t commit stamp
-EndSound (op.Batch batch) (outcome.Read time answer) top w dc t = ⊥
-EndSound (op.Batch batch) outcome.Collected top w dc t = ⊥
-EndSound (op.Read read) (outcome.Wrote commit stamp) top w dc t = ⊥
-EndSound (op.Read read) (outcome.Read time answer) top w dc t = AnsweredSound top w dc read time answer
-EndSound (op.Read read) outcome.Collected top w dc t = Unit {0}
+EndSound (op.Read read) (outcome.Read time answer) top w dc t = AnsweredSound top w dc t read time answer
+EndSound o r top w dc t = Unit {0}
 
 pub record CompletedSound (top : TopologyValue) (w : Run) (c : Completed) : Type 0 where
   pub opened : IsOpen w c.node c.number c.home c.op
+  pub fits : Fits c.op c.outcome
   pub came : EndSound c.op c.outcome top w c.home (record { session = c.node; number = c.number })
 
 -- ## Runs

@@ -135,13 +135,13 @@ module _ (top : TopologyValue) (w : Run) (replayed : run top w.events ≡ w) (x 
     hears =
         heard_cases top e.to n a e.from e.body (λ (st : SessionStep). HeardIsKept top v e.to st.state)
         (record {
-          still = λ h m. stays a.current refl h m;
-          wrote = λ coordinator t commit stamp q h m. absurd m;
-          kept = λ read hs rows k h m. with_now read hs rows k h m;
-          second = λ read hs rows nodes k whole h m. with_now read hs rows k h m;
-          ends = λ read hs rows taken k whole h m. absurd m;
-          kept_at = λ read time first hs gs rows k h m. stays (SecondRound read time first hs) k.current h m;
-          ends_at = λ read time first hs rows taken k h m. absurd m;
+          still = λ ignored h m. stays a.current refl h m;
+          wrote = λ coordinator t commit stamp k h m. absurd m;
+          kept = λ read hs rows k some h m. with_now read hs rows k h m;
+          second = λ read hs rows k whole s ss q h m. with_now read hs rows k h m;
+          ends = λ read hs rows k whole q h m. absurd m;
+          kept_at = λ read time first hs rows k some h m. stays (SecondRound read time first hs) k.current h m;
+          ends_at = λ read time first hs rows k whole h m. absurd m;
           gives_up = λ read time first hs k h m. absurd m;
         })
 

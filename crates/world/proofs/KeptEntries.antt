@@ -19,6 +19,8 @@ use Rattle.messages.proofs.Numbering.{dc_of_shard}
 use Rattle.world.specs.Run.{Run, Submission}
 use Rattle.world.specs.Histories.{decisions_in, committed_of, history_of, IsHistory}
 use Rattle.world.specs.Entries.{IsKeptIn, IsOf, IsHomeStamp, StampsAgree, WritesAreTold}
+use Rattle.world.specs.Promises.{Fits}
+use Rattle.world.proofs.EndCases.{end_cases}
 use Rattle.world.proofs.Among.{Among, contains_among}
 use Rattle.world.proofs.Growth.{Grows}
 use Rattle.world.proofs.Facts.{IsWritten, IsDecided, lead}
@@ -88,18 +90,19 @@ stamps_agree top w inv = record {
 -- ## Completed writes
 
 -- what ended with a commit time and a stamp is a batch, decided so at its session's home
-ended_so : (top : TopologyValue) (w : Run) (dc : ℕ) (t : TxnValue) (o : Op) (e : Outcome) (n : ℕ) (s : StampValue) → EndSound o e top w dc t
+ended_so : (top : TopologyValue) (w : Run) (dc : ℕ) (t : TxnValue) (o : Op) (e : Outcome) (n : ℕ) (s : StampValue) → Fits o e → EndSound o e top w dc t
     → e ≡ outcome.Wrote n s
     → (batch : List Change) × (o ≡ op.Batch batch) × IsDecided w (lead top dc batch) t n s
-ended_so top w dc t (op.Batch batch) (outcome.Wrote m r) n s d e =
-    let times : m ≡ n = cc in
-    let stamps : r ≡ s = cc in
-    (batch, refl, record { decision = d.decision; among = d.among; txn = d.txn; commit = d.commit ∙ times; stamp = d.stamp ∙ stamps })
-ended_so top w dc t (op.Batch batch) (outcome.Read m r) n s d e = absurd d
-ended_so top w dc t (op.Batch batch) outcome.Collected n s d e = absurd d
-ended_so top w dc t (op.Read read) (outcome.Wrote m r) n s d e = absurd d
-ended_so top w dc t (op.Read read) (outcome.Read m r) n s d e = absurd (cc)
-ended_so top w dc t (op.Read read) outcome.Collected n s d e = absurd (cc)
+ended_so top w dc t o e n s =
+    end_cases (λ o e. EndSound o e top w dc t → e ≡ outcome.Wrote n s → (batch : List Change) × (o ≡ op.Batch batch) × IsDecided w (lead top dc batch) t n s)
+    (record {
+      wrote = λ batch m r d e.
+          let times : m ≡ n = cc in
+          let stamps : r ≡ s = cc in
+          (batch, refl, record { decision = d.decision; among = d.among; txn = d.txn; commit = d.commit ∙ times; stamp = d.stamp ∙ stamps });
+      answered = λ read m r d e. absurd (cc);
+      given_up = λ read d e. absurd (cc);
+    }) o e
 
 decided_entry : (top : TopologyValue) (w : Run) (dc : ℕ) (t : TxnValue) (b : Submission) (batch : List Change) (n : ℕ) (s : StampValue)
     → 0 < top.shards → Inv top w
@@ -123,7 +126,7 @@ pub writes_are_told : (top : TopologyValue) (w : Run) → 0 < top.shards → Inv
 writes_are_told top w some inv c n s has e =
     let t : TxnValue = record { session = c.node; number = c.number } in
     let p = inv.transcript c (contains_among c w.transcript has) in
-    let r = ended_so top w c.home t c.op c.outcome n s p.came e in
+    let r = ended_so top w c.home t c.op c.outcome n s p.fits p.came e in
     let there = decided_entry top w c.home t p.opened.submission r.0 n s some inv (named w c.node c.number c.home c.op r.0 p.opened r.1) r.2 in
     record {
       batch = r.0;

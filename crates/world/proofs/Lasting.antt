@@ -1,5 +1,5 @@
 -- Each fact that holds goes on holding as the run grows.
-use Rattle.std.proofs.Common.{◌≡◌, ℕ, ◌<◌, ◌≤◌, true, List, Option, Some, None, ◌⊎◌, inl, inr, refl, sym, arith, le_refl, le_trans, lt_of_lt_of_le}
+use Rattle.std.proofs.Common.{◌≡◌, ℕ, ◌<◌, ◌≤◌, true, List, Option, Some, None, ◌⊎◌, inl, inr, sym, arith, le_refl, le_trans, lt_of_lt_of_le}
 use Rattle.logical_time.specs.Stamps.{StampValue, TxnValue}
 use Rattle.column_family.specs.declared.batch.Change.{Change}
 use Rattle.column_family.specs.declared.batch.Row.{Row}
@@ -32,7 +32,6 @@ same_session_grows top a =
     record {
       clock = le_refl a.clock;
       count = le_refl a.count;
-      home = refl;
       floor = le_refl a.floor;
       asked_now = λ number node asked k. k;
       asked_at = λ number time node asked k. k;

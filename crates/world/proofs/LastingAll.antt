@@ -6,16 +6,16 @@ use Rattle.messages.specs.declared.rows_at.RowAt.{RowAt}
 use Rattle.messages.specs.declared.rows_at.AtTime.{AtTime}
 use Rattle.messages.specs.declared.rows_at.AtTime.TheVariants as at
 use Rattle.messages.specs.declared.op.Op.{Op}
-use Rattle.messages.specs.declared.op.Op.TheVariants as op
 use Rattle.messages.specs.declared.outcome.Outcome.{Outcome}
-use Rattle.messages.specs.declared.outcome.Outcome.TheVariants as outcome
 use Rattle.messages.specs.declared.body.Body.{Body}
 use Rattle.messages.specs.declared.body.Body.TheVariants.{Begin, Prepare, Yes, Commit, At, NotBy, Check, Read as ReadNow, ReadAt, ReplBegin, ReplPart, Notify, PrepareRemote, DepCheck, DepOk, Done, PartNow, PartAt}
 use Rattle.messages.specs.Topology.{TopologyValue}
 use Rattle.messages.specs.Session.{SessionState, Open, Idle, Writing, FirstRound, SecondRound, HeardNow, HeardAt}
 use Rattle.world.specs.Run.{Run, Completed}
+use Rattle.world.specs.Promises.{Fits}
+use Rattle.world.proofs.EndCases.{end_cases}
 use Rattle.world.proofs.Growth.{Grows}
-use Rattle.world.proofs.Invariant.{IsAtHome, IsLead, TellsDecision, TellsThen, Says, ShardSound, IsOpen, HeardNowSound, HeardAtSound, OpenSound, SessionSound, AnsweredFrom, EndSound, CompletedSound}
+use Rattle.world.proofs.Invariant.{IsAtHome, IsLead, TellsDecision, MayWait, of_shard, of_move, TellsThen, Says, ShardSound, IsOpen, HeardNowSound, HeardAtSound, OpenSound, SessionSound, AnsweredFrom, DependsOnDone, EndSound, CompletedSound}
 use Rattle.world.proofs.Lasting.{written_grows, decided_grows, done_grows, before_grows, prepared_grows, ballot_grows, kept_ballot_grows, kept_part_grows, decision_grows, applied_grows, excluded_grows, row_at_grows, answers_now_grow, answers_at_grow, wait_grows}
 
 pub lead_grows : {top : TopologyValue} {w x : Run} {dc node : ℕ} {t : TxnValue} → Grows top w x → IsLead top w dc node t → IsLead top x dc node t
@@ -24,8 +24,12 @@ lead_grows g k = record { submission = k.submission; batch = k.batch; written = 
 at_home_grows : {top : TopologyValue} {w x : Run} {node : ℕ} {t : TxnValue} → Grows top w x → IsAtHome top w node t → IsAtHome top x node t
 at_home_grows g k = record { submission = k.submission; batch = k.batch; written = written_grows g k.written; here = k.here }
 
-tells_grows : {top : TopologyValue} {w x : Run} {from n commit : ℕ} {t : TxnValue} {s : StampValue} → Grows top w x → TellsDecision w from n t commit s → TellsDecision x from n t commit s
+pub tells_grows : {top : TopologyValue} {w x : Run} {from n commit : ℕ} {t : TxnValue} {s : StampValue} → Grows top w x → TellsDecision w from n t commit s → TellsDecision x from n t commit s
 tells_grows g k = record { decided = decided_grows g k.decided; time = k.time }
+
+pub may_wait_grows : {top : TopologyValue} {w x : Run} {node from : ℕ} {t : TxnValue} → Grows top w x → MayWait top w node t from → MayWait top x node t from
+may_wait_grows g (of_shard e) = of_shard e
+may_wait_grows g (of_move b m is own to) = of_move b (g.submitted b m) is own to
 
 then_grows : (answer : AtTime) (top : TopologyValue) {w x : Run} (from to number bound : ℕ) → Grows top w x → TellsThen answer top w from to number bound → TellsThen answer top x from to number bound
 then_grows at.Collected top from to number bound g k = tt
@@ -55,8 +59,8 @@ says_grows top from to n g (ReplBegin cohorts t rows stamp dependencies) k = kep
 says_grows top from to n g (ReplPart t rows stamp coordinator) k = kept_part_grows g k
 says_grows top from to n g (Notify t) k = k
 says_grows top from to n g (PrepareRemote t) k = k
-says_grows top from to n g (DepCheck dependency waiter) k = k
-says_grows top from to n g (DepOk dependency waiter commit) k = done_grows g (le_refl _) k
+says_grows top from to n g (DepCheck dependency waiter) k = may_wait_grows g k
+says_grows top from to n g (DepOk dependency waiter commit) k = ((k.0.0, tells_grows g k.0.1), may_wait_grows g k.1)
 says_grows top from to n g (Done t commit stamp) k = (tells_grows g k.0, at_home_grows g k.1)
 says_grows top from to n g (PartNow number rows) k =
     record { read = k.read; asked = (g.sessions to).asked_now number from k.read k.asked; answers = answers_now_grow g (le_refl _) k.answers }
@@ -76,7 +80,7 @@ shard_grows {node = node} g k =
       kept_parts = λ p m. kept_part_grows g (k.kept_parts p m);
       kept_ballots = λ r m. kept_ballot_grows g (g.shards node).clock (k.kept_ballots r m);
       met = λ u m. done_grows g (g.shards node).clock (k.met u m);
-      askers = k.askers;
+      askers = λ u m. may_wait_grows g (k.askers u m);
       waiting = λ y m. wait_grows g (k.waiting y m);
     }
 
@@ -98,12 +102,14 @@ heard_at_grows : {top : TopologyValue} {w x : Run} {a : SessionState} {read : Re
 heard_at_grows g k = record { asked = k.asked; answers = answers_at_grow g k.answers }
 
 pub open_grows : (top : TopologyValue) {w x : Run} (node : ℕ) (a : SessionState) → Grows top w x → (o : Open) → OpenSound top w node a o → OpenSound top x node a o
+unfolding open_is_grows
 open_grows top node a g Idle k = tt
 open_grows top node a g (Writing coordinator) k = record { batch = k.batch; opened = open_is_grows g k.opened; coordinator = k.coordinator }
-open_grows top node a g (FirstRound read heard) k = record { opened = open_is_grows g k.opened; heard = λ h m. heard_now_grows g (k.heard h m) }
+open_grows top node a g (FirstRound read heard) k = record { opened = open_is_grows g k.opened; depends = k.depends; heard = λ h m. heard_now_grows g (k.heard h m) }
 open_grows top node a g (SecondRound read time first heard) k =
     record {
       opened = open_is_grows g k.opened;
+      depends = k.depends;
       first = λ h m. heard_now_grows g (k.first h m);
       all = k.all;
       time = k.time;
@@ -114,7 +120,6 @@ open_grows top node a g (SecondRound read time first heard) k =
 pub session_grows : {top : TopologyValue} {w x : Run} {node : ℕ} {a : SessionState} → Grows top w x → SessionSound top w node a → SessionSound top x node a
 session_grows {top = top} {node = node} {a = a} g k =
     record {
-      home = k.home;
       floor = k.floor;
       current = open_grows top node a g a.current k.current;
       dependencies = λ u m. done_grows g (le_refl _) (k.dependencies u m);
@@ -125,14 +130,23 @@ session_grows {top = top} {node = node} {a = a} g k =
 pub from_grows : {top : TopologyValue} {w x : Run} {dc time : ℕ} {read : Read} {rows : List RowAt} → Grows top w x → AnsweredFrom top w dc read time rows → AnsweredFrom top x dc read time rows
 from_grows g k = record { given = k.given; right = λ r m. row_at_grows g (k.right r m) }
 
-pub end_grows : (o : Op) (e : Outcome) (top : TopologyValue) {w x : Run} (dc : ℕ) (t : TxnValue) → Grows top w x → EndSound o e top w dc t → EndSound o e top x dc t
-end_grows (op.Batch batch) (outcome.Wrote commit stamp) top dc t g k = decided_grows g k
-end_grows (op.Batch batch) (outcome.Read time answer) top dc t g k = k
-end_grows (op.Batch batch) outcome.Collected top dc t g k = k
-end_grows (op.Read read) (outcome.Wrote commit stamp) top dc t g k = k
-end_grows (op.Read read) (outcome.Read time answer) top dc t g k = record { rows = k.rows; answer = k.answer; from = from_grows g k.from }
-end_grows (op.Read read) outcome.Collected top dc t g k = k
+depends_grow : {top : TopologyValue} {w x : Run} {dc n : ℕ} {t : TxnValue} → Grows top w x → DependsOnDone top w dc t n → DependsOnDone top x dc t n
+depends_grow g k =
+    record { submission = k.submission; among = g.submitted k.submission k.among; txn = k.txn; done = λ u m. done_grows g (le_refl _) (k.done u m) }
+
+end_grows : {top : TopologyValue} {w x : Run} (o : Op) (e : Outcome) (dc : ℕ) (t : TxnValue) → Grows top w x → Fits o e → EndSound o e top w dc t → EndSound o e top x dc t
+end_grows {top} {w} {x} o e dc t g =
+    end_cases (λ o e. EndSound o e top w dc t → EndSound o e top x dc t)
+    (record {
+      wrote = λ batch commit stamp k. decided_grows g k;
+      answered = λ read time answer k. record { rows = k.rows; answer = k.answer; from = from_grows g k.from; depends = depends_grow g k.depends };
+      given_up = λ read k. k;
+    }) o e
 
 pub completed_grows : {top : TopologyValue} {w x : Run} {c : Completed} → Grows top w x → CompletedSound top w c → CompletedSound top x c
 completed_grows {top = top} {c = c} g k =
-    record { opened = open_is_grows g k.opened; came = end_grows c.op c.outcome top c.home (record { session = c.node; number = c.number }) g k.came }
+    record {
+      opened = open_is_grows g k.opened;
+      fits = k.fits;
+      came = end_grows c.op c.outcome c.home (record { session = c.node; number = c.number }) g k.fits k.came;
+    }

@@ -6,10 +6,6 @@ use Rattle.logical_time.specs.Stamps.{StampValue, TxnValue, WriterValue, is_olde
 use Rattle.column_family.specs.History.{History}
 use Rattle.slice.specs.declared.read.Read.{Read}
 use Rattle.messages.specs.declared.rows_at.RowAt.{RowAt}
-use Rattle.messages.specs.declared.op.Op.{Op}
-use Rattle.messages.specs.declared.op.Op.TheVariants as op
-use Rattle.messages.specs.declared.outcome.Outcome.{Outcome}
-use Rattle.messages.specs.declared.outcome.Outcome.TheVariants as outcome
 use Rattle.messages.specs.Actors.{finished_in}
 use Rattle.messages.specs.Topology.{TopologyValue, is_topology, dc_of, shard_of, shard_node}
 use Rattle.messages.proofs.Numbering.{shard_again}
@@ -21,11 +17,11 @@ use Rattle.world.specs.Entries.{named_by, StampsAgree, WritesAreTold, TellsDecid
 use Rattle.world.specs.Quiet.{IsQuiet}
 use Rattle.world.specs.Settled.{Settled}
 use Rattle.world.specs.Each.{EachShardIsRight}
-use Rattle.world.specs.Promises.{number_of, LaterCommitsAreAbove, Fits, EntriesAreOfSubmissions, OutcomesAreListed, ReadsShowOneTable, AnswersStay, ReadsShowTheirPast, ReadsAreFresh, StampsFollowCauses, TimesNeverFall, SessionsStayAtHome, OperationsEndOnce, HistoriesGrow, HandledIsHonest}
+use Rattle.world.specs.Promises.{number_of, LaterCommitsAreAbove, EntriesAreOfSubmissions, OutcomesAreListed, ReadsShowOneTable, AnswersStay, ReadsShowTheirPast, ReadsAreFresh, StampsFollowCauses, TimesNeverFall, SessionsStayAtHome, OperationsEndOnce, HistoriesGrow, HandledIsHonest}
 use Rattle.world.proofs.Among.{Among, among_contains, contains_among, append_first}
 use Rattle.world.proofs.Growth.{Grows}
 use Rattle.world.proofs.Facts.{lead, IsDone}
-use Rattle.world.proofs.Invariant.{home as home_at, AnsweredFrom, EndSound, Inv}
+use Rattle.world.proofs.Invariant.{home as home_at, AnsweredFrom, Inv}
 use Rattle.world.proofs.Near.{shard_below}
 use Rattle.world.proofs.DecidedIn.{in_decisions, decided_in}
 use Rattle.world.proofs.ReadTables.{answered, one_table}
@@ -37,6 +33,7 @@ use Rattle.world.proofs.Causal.{EndedOnce, NamedOnce, writers_in}
 use Rattle.world.proofs.CausalKept.{new_writers}
 use Rattle.world.proofs.CausalRuns.{every_causal}
 use Rattle.world.proofs.Pasts.{past_reached}
+use Rattle.world.proofs.Homes.{every_home, entry_home}
 use Rattle.world.proofs.Grown.{runs_only_grow}
 use Rattle.world.proofs.Runs.{every_run, run_grows, run_after}
 use Rattle.world.proofs.KeptEntries.{history_kept, stamps_agree, writes_are_told}
@@ -106,16 +103,13 @@ pub times_never_fall : (top : TopologyValue) (events : List Event) → 0 < top.s
 times_never_fall top events some c e hc he node number stays =
     let w = run top events in
     (every_causal top events some).ordered c e (contains_among c w.transcript hc) (contains_among e w.transcript he) node number
+    (λ d m. stays d (among_contains d w.transcript m))
 
 pub sessions_stay_at_home : (top : TopologyValue) (events : List Event) → 0 < top.shards → SessionsStayAtHome (run top events)
-sessions_stay_at_home top events some c e hc he node = of_session c hc ∙ ap (home_at top) node ∙ sym (of_session e he)
+sessions_stay_at_home top events some c e hc he node = at c hc ∙ ap (home_at top) node ∙ sym (at e he)
   where
-    of_session : (d : Completed) → Contains (run top events).transcript d → d.home ≡ home_at top d.node
-    of_session d has =
-        let w = run top events in
-        let inv = every_run top events some in
-        let opened = (inv.transcript d (contains_among d w.transcript has)).opened in
-        sym opened.home ∙ inv.submitted.home opened.submission opened.among ∙ ap (home_at top) opened.session
+    at : (d : Completed) → Contains (run top events).transcript d → d.home ≡ home_at top d.node
+    at d has = entry_home top (run top events) (every_run top events some) (every_home top events) d (contains_among d (run top events).transcript has)
 
 ended_apart : (cs : List Completed) → EndedOnce cs → AllPairs (λ c e. number_of c ≢ number_of e) cs
 ended_apart [] k = no_pairs (λ c e. number_of c ≢ number_of e)
@@ -123,14 +117,6 @@ ended_apart (c ∷ cs) k = more_pairs (λ c e. number_of c ≢ number_of e) c cs
 
 pub operations_end_once : (top : TopologyValue) (events : List Event) → 0 < top.shards → OperationsEndOnce (run top events)
 operations_end_once top events some = ended_apart (run top events).transcript (every_causal top events some).once
-
-fits_go : (o : Op) (r : Outcome) (top : TopologyValue) (w : Run) (dc : ℕ) (t : TxnValue) → EndSound o r top w dc t → Fits o r
-fits_go (op.Batch batch) (outcome.Wrote commit stamp) top w dc t k = tt
-fits_go (op.Batch batch) (outcome.Read time answer) top w dc t k = absurd k
-fits_go (op.Batch batch) outcome.Collected top w dc t k = absurd k
-fits_go (op.Read read) (outcome.Wrote commit stamp) top w dc t k = absurd k
-fits_go (op.Read read) (outcome.Read time answer) top w dc t k = tt
-fits_go (op.Read read) outcome.Collected top w dc t k = tt
 
 pub entries_are_of_submissions : (top : TopologyValue) (events : List Event) → 0 < top.shards → EntriesAreOfSubmissions (run top events)
 entries_are_of_submissions top events some c has =
@@ -143,7 +129,7 @@ entries_are_of_submissions top events some c has =
       number = k.opened.number;
       home = k.opened.home;
       op = k.opened.op;
-      fits = fits_go c.op c.outcome top w c.home (record { session = c.node; number = c.number }) k.came;
+      fits = k.fits;
     }
 
 -- ## Journals

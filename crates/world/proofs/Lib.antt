@@ -11,6 +11,7 @@ mod RefutedDrains
 mod WorkedFreshness
 pub mod Among
 pub mod Growth
+pub mod EndCases
 pub mod Facts
 pub mod Invariant
 pub mod Lasting
@@ -19,6 +20,7 @@ pub mod Able
 pub mod ShardSteps
 pub mod Transcripts
 pub mod Causal
+pub mod Homes
 pub mod Pasts
 pub mod About
 pub mod Underway

@@ -17,7 +17,7 @@ use Rattle.world.proofs.Invariant.{Inv}
 use Rattle.world.proofs.Near.{peer_dc}
 use Rattle.world.proofs.StampsApart.{batch_one}
 use Rattle.world.proofs.About.{OfCommit, OfReplBegin, OfDepOk, OfDone, Sent}
-use Rattle.world.proofs.Underway.{HasDecision, Known, Awaits, vote_of, met_of, Away, DecisionLive, Entries, EarlyCounted}
+use Rattle.world.proofs.Underway.{HasDecision, Known, WaitsFor, vote_of, met_of, Away, DecisionLive, Entries, EarlyCounted}
 use Rattle.world.proofs.LivePlaces.{same_at, other_dc, away_home, cohort_aside}
 use Rattle.world.proofs.LiveSteps.{Here, Fine, Left, Rounds, let_go_sends, BallotAt, some_none}
 
@@ -120,7 +120,7 @@ module _ (top : TopologyValue) (x : Run) (node n : ℕ) (some : 0 < top.shards) 
   told_fine e m =
       let q = map_only (λ k. envelope node k.from n (DepOk b.txn k.waiter n)) (filter (λ k. is_same_txn k.dependency b.txn) a.askers) e m in
       let p = filter_only (λ k. is_same_txn k.dependency b.txn) a.askers q.0 q.1 in
-      subst (λ z. Fine top x z) (sym q.2) (subst (λ t. Awaits (x.shards q.0.from) q.0.waiter t) (same_txn q.0.dependency b.txn p.1) (entries.askers q.0 p.0).awaits)
+      subst (λ z. Fine top x z) (sym q.2) (subst (λ t. WaitsFor top x (dc_of top node) q.0.from q.0.waiter t) (same_txn q.0.dependency b.txn p.1) (entries.askers q.0 p.0).awaits)
 
   decide_fine : (e : Envelope) → Among e (decide top node n a b).sends → Fine top x e
   decide_fine e m =

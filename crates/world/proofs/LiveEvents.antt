@@ -26,6 +26,7 @@ use Rattle.world.proofs.HandledWaits.{handled_wait, collected_wait}
 use Rattle.world.proofs.LiveHandled.{is_for_session, handled_left, collected_left}
 use Rattle.world.proofs.LiveHeard.{is_for_shard, heard_left}
 use Rattle.world.proofs.Stations.{Stations, step_stations, opening_stations}
+use Rattle.world.proofs.Homes.{Homes, step_homes, opening_homes}
 use Rattle.world.proofs.Addresses.{Stands, stands, shard_no_session, to_shard, done_session}
 use Rattle.world.proofs.SteppedLive.{Delivers, shard_onward, shard_here, shard_step_live, session_comes, session_step_live}
 use Rattle.world.proofs.SubmittedLive.{begun_live}
@@ -35,9 +36,9 @@ delivers_it : (top : TopologyValue) (w x : Run) (j : ℕ) (e : Envelope) → sli
     → Delivers top w x (Deliver j)
 delivers_it top w x j e is a i q = let same : j ≡ i = cc in (e, subst (λ z. slice_get w.sent z ≡ Some e) same is, a)
 
-module _ (top : TopologyValue) (ok : Stands top) (w : Run) (inv : Inv top w) (live : Live top w) (stations : Stations top w) where
+module _ (top : TopologyValue) (ok : Stands top) (w : Run) (inv : Inv top w) (live : Live top w) (stations : Stations top w) (homes : Homes top w) where
   homed : (node : ℕ) → (w.sessions node).home < top.dcs
-  homed node = subst (λ d. d < top.dcs) (sym (inv.sessions node).home) (ok.home node)
+  homed node = subst (λ d. d < top.dcs) (sym (homes.sessions node)) (ok.home node)
 
   -- ## A message comes
 
@@ -197,10 +198,11 @@ opening_live top =
     }
 
 continued_live : (top : TopologyValue) → Stands top → (events : List Event) (w : Run) → Inv top w → Live top w → Stations top w
-    → Live top (continued top w events)
-continued_live top ok [] w inv live stations = live
-continued_live top ok (x ∷ xs) w inv live stations =
-    continued_live top ok xs (step top w x) (step_kept top w x ok.some inv) (step_live top ok w inv live stations x) (step_stations top w stations x)
+    → Homes top w → Live top (continued top w events)
+continued_live top ok [] w inv live stations homes = live
+continued_live top ok (x ∷ xs) w inv live stations homes =
+    continued_live top ok xs (step top w x) (step_kept top w x ok.some inv) (step_live top ok w inv live stations homes x) (step_stations top w stations x)
+    (step_homes top w homes x)
 
 pub run_live : (top : TopologyValue) (events : List Event) → is_topology top.dcs top.shards top.homes ≡ true → Live top (run top events)
-run_live top events e = continued_live top (stands top e) events (opening top) (opening_holds top) (opening_live top) (opening_stations top)
+run_live top events e = continued_live top (stands top e) events (opening top) (opening_holds top) (opening_live top) (opening_stations top) (opening_homes top)

@@ -11,7 +11,7 @@ use Rattle.world.specs.Run.{Run, Submission}
 use Rattle.world.proofs.Among.{Among}
 use Rattle.world.proofs.Facts.{IsWritten, near, Sees}
 use Rattle.world.proofs.About.{Kind, OfBegin, OfPrepare, OfYes, OfCommit, OfAt, OfNotBy, OfCheck, OfRead, OfReadAt, OfReplBegin, OfReplPart, OfNotify, OfPrepareRemote, OfDepCheck, OfDepOk, OfDone, OfPartNow, OfPartAt, Sent}
-use Rattle.world.proofs.Underway.{HasPrepared, HasBallot, HasDecision, HasKeptPart, HasKeptBallot, Known, Awaits, Aside, Away, AtOrigin, Leads, Placed, ShardOnward, Round, SessionOnward, Onward, RoleLive, PreparedLive, BallotLive, AppliedLive, Entries, ShardLive, SaysLive, HasEnded, Acted, SubmissionLive, OpenLive}
+use Rattle.world.proofs.Underway.{HasPrepared, HasBallot, HasDecision, HasKeptPart, HasKeptBallot, Known, Awaits, WaitsFor, of_ballot, of_moving, Aside, Away, AtOrigin, Leads, Placed, ShardOnward, Round, SessionOnward, Onward, RoleLive, PreparedLive, BallotLive, AppliedLive, Entries, ShardLive, SaysLive, HasEnded, Acted, SubmissionLive, OpenLive}
 
 -- ## Messages
 
@@ -44,6 +44,11 @@ known_on g (inr k) = inr (decision_on g k)
 
 pub awaits_on : {a b : ShardState} {waiter dependency : TxnValue} → ShardOnward a b → Awaits a waiter dependency → Awaits b waiter dependency
 awaits_on g k = record { ballot = k.ballot; among = g.kept_ballots k.ballot k.among; txn = k.txn; writer = k.writer; named = k.named; is = k.is }
+
+pub waits_for_on : {top : TopologyValue} {w x : Run} {dc from : ℕ} {waiter dependency : TxnValue} → Onward top w x → WaitsFor top w dc from waiter dependency
+    → WaitsFor top x dc from waiter dependency
+waits_for_on {from = from} g (of_ballot k) = of_ballot (awaits_on (g.shards from) k)
+waits_for_on g (of_moving b m is own to k n q) = of_moving b (g.submitted b m) is own to k n q
 
 pub sees_on : {a b : ShardState} {t : TxnValue} → ShardOnward a b → Sees a.applied t → Sees b.applied t
 sees_on g k = (k.0, g.applied k.0 k.1, k.2)
@@ -108,7 +113,7 @@ entries_on {top = top} {node = node} g k =
             copies = λ e dc i. sent_on g (q.copies e dc i);
           };
       applied = λ v m. applied_live_on node v g (k.applied v m);
-      askers = λ u m. let q = k.askers u m in record { leads = leads_on g q.leads; here = q.here; awaits = awaits_on (g.shards u.from) q.awaits };
+      askers = λ u m. let q = k.askers u m in record { leads = leads_on g q.leads; here = q.here; awaits = waits_for_on g q.awaits };
       told = λ u d m i e. sent_on g (k.told u d m i e);
     }
 
@@ -147,8 +152,8 @@ says_on top from to g (OfReplBegin t) k = (away_on g k.0, k.1)
 says_on top from to g (OfReplPart t) k = (aside_on g k.0, away_on g k.1, k.2)
 says_on top from to g (OfNotify t) k = (kept_part_on (g.shards from) k.0, leads_on g k.1, k.2)
 says_on top from to g (OfPrepareRemote t) k = (kept_part_on (g.shards to) k.0, known_on (g.shards from) k.1, leads_on g k.2, k.3)
-says_on top from to g (OfDepCheck dependency waiter) k = (leads_on g k.0, k.1, awaits_on (g.shards from) k.2)
-says_on top from to g (OfDepOk dependency waiter) k = awaits_on (g.shards to) k
+says_on top from to g (OfDepCheck dependency waiter) k = (leads_on g k.0, k.1, waits_for_on g k.2)
+says_on top from to g (OfDepOk dependency waiter) k = waits_for_on g k
 says_on top from to g (OfDone t) k = k
 says_on top from to g (OfPartNow number) k = le_trans k (g.sessions to).count
 says_on top from to g (OfPartAt number time) k = round_on to number time g k

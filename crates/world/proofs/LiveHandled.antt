@@ -5,7 +5,7 @@ use Rattle.logical_time.specs.Stamps.{WriterValue}
 use Rattle.messages.specs.declared.body.Body.{Body}
 use Rattle.messages.specs.declared.body.Body.TheVariants.{Begin, Prepare, Yes, Commit, At, NotBy, Check, Read as ReadNow, ReadAt, ReplBegin, ReplPart, Notify, PrepareRemote, DepCheck, DepOk, Done, PartNow, PartAt}
 use Rattle.messages.specs.declared.envelope.Envelope.{Envelope}
-use Rattle.messages.specs.Topology.{TopologyValue}
+use Rattle.messages.specs.Topology.{TopologyValue, dc_of}
 use Rattle.messages.specs.Shard.{KeptBallot}
 use Rattle.messages.specs.ShardEvents.{handled, collected}
 use Rattle.world.specs.Run.{Run}
@@ -14,7 +14,7 @@ use Rattle.world.proofs.Facts.{KeptBallotSound}
 use Rattle.world.proofs.Invariant.{Says, Inv}
 use Rattle.world.proofs.About.{Kind, OfDone, OfPartNow, OfPartAt, kind_of}
 use Rattle.world.proofs.Underway.{Placed, Onward, ShardLive, SaysLive, Acted, Live}
-use Rattle.world.proofs.LiveGrow.{known_on, kept_part_on, awaits_on, aside_on, away_on, origin_on, leads_on, placed_on, round_on, shard_on}
+use Rattle.world.proofs.LiveGrow.{known_on, kept_part_on, waits_for_on, aside_on, away_on, origin_on, leads_on, placed_on, round_on, shard_on}
 use Rattle.world.proofs.LiveSteps.{Here, Left, clock_live, quiet_left, Rounds, ballot_at}
 use Rattle.world.proofs.LiveVotes.{begin_left, prepared_left}
 use Rattle.world.proofs.LiveYes.{yes_left}
@@ -78,10 +78,10 @@ module _ (top : TopologyValue) (w x : Run) (node n : ℕ) (some : 0 < top.shards
       let z = prepare_remote_left top w x node n some was inv g here_live rounds from t k.0 (known_on (g.shards from) k.1) (leads_on g k.2) k.3 here in
       (z.0, λ e. z.1)
   body_left from time (DepCheck dependency waiter) old says k here =
-      let z = dep_check_left top w x node n some was inv g here_live rounds (record { dependency = dependency; waiter = waiter; from = from }) (leads_on g k.0) k.1 (awaits_on (g.shards from) k.2) here in
+      let z = dep_check_left top w x node n some was inv g here_live rounds (record { dependency = dependency; waiter = waiter; from = from }) (leads_on g k.0) k.1 (waits_for_on g k.2) here in
       (z.0, λ e. z.1)
   body_left from time (DepOk dependency waiter commit) old says k here =
-      let z = dep_ok_left top w x node n some was inv g here_live rounds dependency waiter k here in (z.0, λ e. z.1)
+      let z = dep_ok_left top w x node n some was inv g here_live rounds (dc_of top from) dependency waiter k here in (z.0, λ e. z.1)
   body_left from time (Done t commit stamp) old says k here = (quiet_left n (shard_on g (live.shards node)), λ e. absurd (false≢true (sym e)))
   body_left from time (PartNow number rows) old says k here = (quiet_left n (shard_on g (live.shards node)), λ e. absurd (false≢true (sym e)))
   body_left from time (PartAt number bound answer) old says k here = (quiet_left n (shard_on g (live.shards node)), λ e. absurd (false≢true (sym e)))

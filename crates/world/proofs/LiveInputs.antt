@@ -16,7 +16,7 @@ use Rattle.world.proofs.Ables.{absent}
 use Rattle.world.proofs.ReadyKept.{awaited_unready, unmet_unready}
 use Rattle.world.proofs.StampsApart.{written_at, submitted_one, batch_one}
 use Rattle.world.proofs.About.{OfNotify}
-use Rattle.world.proofs.Underway.{NoticeLive, HasPrepared, HasKeptPart, HasKeptBallot, Known, Awaits, vote_of, met_of, Leads, Onward, Entries, ShardLive, Acted}
+use Rattle.world.proofs.Underway.{NoticeLive, HasPrepared, HasKeptPart, HasKeptBallot, Known, Awaits, WaitsFor, of_ballot, of_moving, no_move, vote_of, met_of, Leads, Onward, Entries, ShardLive, Acted}
 use Rattle.world.proofs.LiveGrow.{prepared_on, decision_on, shard_on}
 use Rattle.world.proofs.HandledOnwards.{ready_on}
 use Rattle.world.proofs.LivePlaces.{not_and, same_at, vote_from, met_from, known_cases, lead_beside, among_cohorts}
@@ -184,6 +184,7 @@ module _ (top : TopologyValue) (w x : Run) (node n : ℕ) (some : 0 < top.shards
       let p = find_some (λ r. is_same_txn r.txn waiter) (w.shards node).kept_ballots r e in
       met_go waiter dependency k r p.0 (same_txn r.txn waiter p.1) _ refl here
 
-  pub dep_ok_left : (dependency waiter : TxnValue) → Awaits (w.shards node) waiter dependency → Here x node (on_dep_ok top node n (w.shards node) dependency waiter)
+  pub dep_ok_left : (dc : ℕ) (dependency waiter : TxnValue) → WaitsFor top w dc node waiter dependency → Here x node (on_dep_ok top node n (w.shards node) dependency waiter)
       → Left top x node (on_dep_ok top node n (w.shards node) dependency waiter) × Among (met_of waiter dependency) (x.shards node).met
-  dep_ok_left dependency waiter k here = dep_ok_go waiter dependency k _ refl here
+  dep_ok_left dc dependency waiter (of_ballot k) here = dep_ok_go waiter dependency k _ refl here
+  dep_ok_left dc dependency waiter (of_moving b m is own to k n q) here = absurd (no_move dc b.op to)

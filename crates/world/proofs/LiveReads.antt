@@ -1,101 +1,97 @@
--- What an answer of a first or a second round leaves under way.
-use Rattle.std.proofs.Common.{◌≡◌, ℕ, ◌<◌, ◌≤◌, Bool, true, false, ◌&&◌, List, [], ◌∷◌, ◌++◌, map, None, inl, refl, sym, ap, ◌∙◌, subst, eqb-true, eq-eqb, le_refl}
-use Rattle.std.specs.Prelude.{◌==◌}
-use Rattle.std.specs.List.{list_all}
-use Rattle.std.proofs.lemmas.Bool.{false≢true, and_parts, and_from}
-use Rattle.logical_time.specs.Stamps.{WriterValue}
+-- What a message leaves of a session under way, and what it answers is no longer missed.
+use Rattle.std.proofs.Common.{◌≡◌, ℕ, ◌<◌, ◌≤◌, max, true, false, List, [], ◌∷◌, map, None, ◌⊎◌, inl, inr, refl, sym, ap, ◌∙◌, subst, le_refl}
+use Rattle.logical_time.specs.Stamps.{StampValue, TxnValue, WriterValue}
 use Rattle.slice.specs.declared.read.Read.{Read}
 use Rattle.planner.specs.Plan.{shards_asked}
 use Rattle.messages.specs.declared.rows_now.RowNow.{RowNow}
-use Rattle.messages.specs.declared.rows_at.AtTime.{AtTime}
+use Rattle.messages.specs.declared.rows_at.RowAt.{RowAt}
 use Rattle.messages.specs.declared.rows_at.AtTime.TheVariants as at
 use Rattle.messages.specs.declared.op.Op.TheVariants as op
+use Rattle.messages.specs.declared.outcome.Outcome.TheVariants as outcome
+use Rattle.messages.specs.declared.body.Body.{Body}
+use Rattle.messages.specs.declared.body.Body.TheVariants.{Done, PartNow, PartAt}
 use Rattle.messages.specs.declared.envelope.Envelope.{Envelope}
 use Rattle.messages.specs.Topology.{TopologyValue, dc_of}
-use Rattle.messages.specs.Session.{SessionStep, Open, Idle, Writing, FirstRound, SecondRound, HeardNow, HeardAt, calm}
+use Rattle.messages.specs.Session.{SessionState, SessionStep, Open, Idle, Writing, FirstRound, SecondRound, HeardNow, HeardAt, calm, is_idle}
 use Rattle.messages.specs.Submitting.{home_node}
-use Rattle.messages.specs.Rounds.{asked_nodes, is_missing, all_heard, effective_time, late_nodes, is_late, was_heard_at, is_missing_at, all_heard_at, rows_taken}
-use Rattle.messages.specs.SessionEvents.{read_at_of, second_if, heard_if, part_now_if, part_now_in, heard_at_if, taken_at, part_at_if, part_at_in}
+use Rattle.messages.specs.Rounds.{asked_nodes, all_heard, effective_time, late_nodes, is_late, all_heard_at, rows_taken}
+use Rattle.messages.specs.SessionEvents.{answered, given_up, written, read_at_of, heard}
 use Rattle.messages.proofs.Numbering.{dc_of_shard}
 use Rattle.world.specs.Run.{Run}
 use Rattle.world.proofs.Among.{Among, filter_only, map_only, map_among}
-use Rattle.world.proofs.Invariant.{TellsNow, TellsThen, IsOpen, HeardNowSound, HeardAtSound, SecondSound, OpenSound, Inv}
-use Rattle.world.proofs.Asking.{missing_asked, missing_late, asked_below}
-use Rattle.world.proofs.TakenRows.{taken_answers}
-use Rattle.world.proofs.SessionsKept.{more_heard, first_later, more_heard_at}
+use Rattle.world.proofs.Invariant.{Says, WritingSound, OpenSound, Inv}
+use Rattle.world.proofs.Asking.{missing_late, asked_below}
+use Rattle.world.proofs.HeardCases.{WriteAnswer, FirstAnswer, SecondAnswer, AwaitsNone, IsNotWritten, Ignored, with_rows_now, with_rows_at, opened_as, heard_cases}
+use Rattle.world.proofs.SessionEnds.{open_txn}
+use Rattle.world.proofs.SessionsKept.{first_is_open, first_answers, second_is_open, second_answers}
 use Rattle.world.proofs.About.{kind_of}
 use Rattle.world.proofs.Underway.{Placed, FirstHas, SecondIs, Round, SecondHas, SaysLive, OpenLive}
 use Rattle.world.proofs.LiveGrow.{sent_in}
-use Rattle.world.proofs.OpenReads.{missing_some, missing_before, heard_after, heard_now_has, missing_at_some, late_missing, missing_at_before, heard_at_after, heard_at_has}
-use Rattle.world.proofs.LiveSessions.{Comes, Went, waits_onward, waits_went, calm_went, answered_went, given_up_went}
+use Rattle.world.proofs.OpenReads.{missing_some, missing_before, heard_after, heard_now_has, missing_at_some, late_missing, missing_at_before, heard_at_after, heard_at_has, first_home, second_home}
+use Rattle.world.proofs.LiveSessions.{Comes, Went, waits_onward, waits_went, calm_went, ended_went, answered_went, given_up_went}
+
+-- a read is open
+abbrev pub IsReading : Open → Type 0
+IsReading Idle = ⊥
+IsReading (Writing coordinator) = ⊥
+IsReading (FirstRound read heard) = Unit {0}
+IsReading (SecondRound read time first heard) = Unit {0}
 
 module _ (top : TopologyValue) (w x : Run) (node n : ℕ) (some : 0 < top.shards) (inv : Inv top w) (le : (w.sessions node).clock ≤ n)
     (homed : (w.sessions node).home < top.dcs)
     (placed : (k : WriterValue) → Among k (w.sessions node).dependencies → Placed top w k)
-    (live : OpenLive top w node (w.sessions node) (w.sessions node).current) where
-  -- the step is right, and the first round no longer misses this shard
-  abbrev Heard : SessionStep → ℕ → ℕ → Type 0
-  Heard st number from = Went top w x node st × (number ≡ (w.sessions node).count → FirstHas top st.state st.state.current from)
+    (live : OpenLive top w node (w.sessions node) (w.sessions node).current)
+    (from sent : ℕ) (b : Body) (early : sent ≤ n) (says : Says top w from node sent b) where
+  abbrev a : SessionState
+  a = w.sessions node
 
-  -- the same of the second
-  abbrev HeardThen : SessionStep → ℕ → ℕ → Type 0
-  HeardThen st number from = Went top w x node st × (number ≡ (w.sessions node).count → SecondHas top st.state st.state.current from)
+  open_live : {o : Open} → a.current ≡ o → OpenLive top w node a o
+  open_live is = subst (λ z. OpenLive top w node a z) is live
 
-  calm_heard : (o : Open) → (w.sessions node).current ≡ o → (number from : ℕ) → Comes w x node (calm n (w.sessions node))
-      → (number ≡ (w.sessions node).count → FirstHas top (record (w.sessions node) { clock = n }) o from)
-      → Heard (calm n (w.sessions node)) number from
-  calm_heard o e number from c f =
-      (calm_went top w x node n some inv placed live c, λ q. subst (λ z. FirstHas top (record (w.sessions node) { clock = n }) z from) (sym e) (f q))
+  -- ## The first round
 
-  calm_heard_then : (o : Open) → (w.sessions node).current ≡ o → (number from : ℕ) → Comes w x node (calm n (w.sessions node))
-      → (number ≡ (w.sessions node).count → SecondHas top (record (w.sessions node) { clock = n }) o from)
-      → HeardThen (calm n (w.sessions node)) number from
-  calm_heard_then o e number from c f =
-      (calm_went top w x node n some inv placed live c, λ q. subst (λ z. SecondHas top (record (w.sessions node) { clock = n }) z from) (sym e) (f q))
-
-  -- ## PartNow
-
-  module _ (read : Read) (old : List HeardNow) (current : (w.sessions node).current ≡ FirstRound read old)
-      (opened : IsOpen w node (w.sessions node).count (w.sessions node).home (op.Read read)) (number from : ℕ)
-      (h : HeardNow) (is : h.from ≡ from)
-      (sound : (o : Open) (g : HeardNow) → Among g (old ++ h ∷ []) → HeardNowSound top w (record (w.sessions node) { clock = n; current = o; untaken = None }) read g) where
+  module _ (read : Read) (old : List HeardNow) (rows : List RowNow) (k : FirstAnswer top a from b read old rows) where
     abbrev asked : List ℕ
-    asked = asked_nodes top (w.sessions node) read
+    asked = asked_nodes top a read
 
     abbrev hs : List HeardNow
-    hs = old ++ h ∷ []
+    hs = with_rows_now old from rows
 
     abbrev time : ℕ
-    time = effective_time (w.sessions node).floor hs
+    time = effective_time a.floor hs
+
+    kept_went : all_heard asked hs ≡ false → Comes w x node (opened_as n a (FirstRound read hs) [])
+        → Went top w x node (opened_as n a (FirstRound read hs) [])
+    kept_went more c =
+        let o = FirstRound read hs in
+        let h : HeardNow = record { from = from; rows = rows } in
+        let l : OpenLive top w node a (FirstRound read old) = open_live {o = FirstRound read old} k.current in
+        let on = waits_onward top w x node n some inv placed live o
+        (λ m f. heard_after asked old h m (subst (λ z. FirstHas top a z m) k.current f)) (λ t f. absurd (subst (λ z. SecondIs z t) k.current f))
+        (λ m f. absurd (subst (λ z. SecondHas top a z m) k.current f)) in
+        let open_it : OpenLive top x node (record a { clock = n; current = o; untaken = None }) o =
+        record { some = missing_some asked hs more; asked = λ m i. sent_in c.sent (l.asked m (missing_before asked old h m i)) } in
+        waits_went top w x node n some inv placed live o [] c on (λ e m. absurd m) open_it (λ busy. refl)
 
     -- the second round's messages
     asked_at : (m : ℕ) → Among m (late_nodes asked time hs) → dc_of top m < top.dcs
     asked_at m i =
-        let q = map_only (home_node top (w.sessions node)) (shards_asked top.shards read.keys) m (filter_only (is_late time hs) asked m i).0 in
-        subst (λ d. d < top.dcs) (sym (ap (dc_of top) q.2 ∙ dc_of_shard top (w.sessions node).home q.0 (asked_below top.shards read.keys q.0 q.1))) homed
+        let q = map_only (home_node top a) (shards_asked top.shards read.keys) m (filter_only (is_late time hs) asked m i).0 in
+        subst (λ d. d < top.dcs) (sym (ap (dc_of top) q.2 ∙ dc_of_shard top a.home q.0 (asked_below top.shards read.keys q.0 q.1))) homed
 
-    second_went : (late : List ℕ) → late_nodes asked time hs ≡ late → all_heard asked hs ≡ true
-        → Comes w x node (second_if late node n (w.sessions node) read time hs)
-        → Heard (second_if late node n (w.sessions node) read time hs) number from
-    second_went [] e all c =
-        let a = w.sessions node in (
-          answered_went top w x node n some inv placed live read time (rows_taken time hs []) opened
-              (taken_answers top w (record a { clock = n; current = Idle; untaken = None }) read hs some (sound Idle) time [] refl (λ g m. absurd m) all
-              (ap (list_all (was_heard_at [])) e)) c,
-          λ q. tt,
-        )
-    second_went (s ∷ ss) e all c =
-        let a = w.sessions node in
+    second_went : (s : ℕ) (ss : List ℕ) → late_nodes asked time hs ≡ s ∷ ss
+        → Comes w x node (opened_as n a (SecondRound read time hs []) (map (read_at_of node n a read time hs) (s ∷ ss)))
+        → Went top w x node (opened_as n a (SecondRound read time hs []) (map (read_at_of node n a read time hs) (s ∷ ss)))
+    second_went s ss e c =
         let o = SecondRound read time hs [] in
         let sends = map (read_at_of node n a read time hs) (s ∷ ss) in
-        let on = waits_onward top w x node n some inv placed live o (λ m k. tt) (λ t k. absurd (subst (λ z. SecondIs z t) current k))
-        (λ m k. absurd (subst (λ z. SecondHas top a z m) current k)) in
+        let on = waits_onward top w x node n some inv placed live o (λ m f. tt) (λ t f. absurd (subst (λ z. SecondIs z t) k.current f))
+        (λ m f. absurd (subst (λ z. SecondHas top a z m) k.current f)) in
         let fine : (u : Envelope) → Among u sends → SaysLive top x u.from u.to (kind_of u.body) =
         λ u m. let q = map_only (read_at_of node n a read time hs) (s ∷ ss) u m in
         subst (λ z. SaysLive top x z.from z.to (kind_of z.body)) (sym q.2) (
           subst (λ z. Round z a.count time) (sym c.state) (record { number = le_refl a.count; round = λ r. refl }),
-          asked_at q.0
-              (subst (λ l. Among q.0 l) (sym e) q.1),
+          asked_at q.0 (subst (λ l. Among q.0 l) (sym e) q.1),
         ) in
         let open_it : OpenLive top x node (record a { clock = n; current = o; untaken = None }) o =
         record {
@@ -104,134 +100,128 @@ module _ (top : TopologyValue) (w x : Run) (node n : ℕ) (some : 0 < top.shards
               let j = subst (λ l. Among m l) e (missing_late asked time hs [] m i) in
               record {
                 message = read_at_of node n a read time hs m;
-                among = c.news _
-                    (map_among (read_at_of node n a read time hs) (s ∷ ss) m j);
+                among = c.news _ (map_among (read_at_of node n a read time hs) (s ∷ ss) m j);
                 by = refl;
                 for = refl;
                 is = refl;
               };
         } in
-        (waits_went top w x node n some inv placed live o sends c on fine open_it (λ b. refl), λ q. tt)
+        waits_went top w x node n some inv placed live o sends c on fine open_it (λ busy. refl)
 
-    heard_went : (b : Bool) → all_heard asked hs ≡ b → Comes w x node (heard_if b top node n (w.sessions node) read hs)
-        → Heard (heard_if b top node n (w.sessions node) read hs) number from
-    heard_went true all c = second_went (late_nodes asked time hs) refl all c
-    heard_went false all c =
-        let a = w.sessions node in
-        let o = FirstRound read hs in
-        let k : OpenLive top w node a (FirstRound read old) = subst (λ z. OpenLive top w node a z) current live in
+  -- ## The second round
+
+  module _ (read : Read) (time : ℕ) (first : List HeardNow) (old : List HeardAt) (rows : List RowAt)
+      (k : SecondAnswer top a from b read time first old (at.Rows rows)) where
+    kept_at_went : all_heard_at (asked_nodes top a read) time first (with_rows_at old from rows) ≡ false
+        → Comes w x node (opened_as n a (SecondRound read time first (with_rows_at old from rows)) [])
+        → Went top w x node (opened_as n a (SecondRound read time first (with_rows_at old from rows)) [])
+    kept_at_went more c =
+        let asked = asked_nodes top a read in
+        let h : HeardAt = record { from = from; rows = rows } in
+        let o = SecondRound read time first (with_rows_at old from rows) in
+        let l : OpenLive top w node a (SecondRound read time first old) = open_live {o = SecondRound read time first old} k.current in
         let on = waits_onward top w x node n some inv placed live o
-        (λ m f. heard_after asked old h m (subst (λ z. FirstHas top a z m) current f)) (λ t f. absurd (subst (λ z. SecondIs z t) current f))
-        (λ m f. absurd (subst (λ z. SecondHas top a z m) current f)) in
-        let open_it : OpenLive top x node (record a { clock = n; current = o; untaken = None }) o =
-        record { some = missing_some asked hs all; asked = λ m i. sent_in c.sent (k.asked m (missing_before asked old h m i)) } in
-        (waits_went top w x node n some inv placed live o [] c on (λ e m. absurd m) open_it (λ b. refl), λ q. heard_now_has asked old h from is)
-
-  now_if_went : (read : Read) (old : List HeardNow) → (w.sessions node).current ≡ FirstRound read old
-      → OpenSound top w node (w.sessions node) (FirstRound read old) → (from number sent : ℕ) (rows : List RowNow) → sent ≤ n
-      → TellsNow top w from node sent number rows
-      → (b : Bool) → ((number == (w.sessions node).count) && is_missing (asked_nodes top (w.sessions node) read) old from) ≡ b
-      → Comes w x node (part_now_if b top node n (w.sessions node) read old from rows)
-      → Heard (part_now_if b top node n (w.sessions node) read old from rows) number from
-  now_if_went read old current k from number sent rows early tells false e c =
-      let a = w.sessions node in
-      let asked = asked_nodes top a read in
-      calm_heard (FirstRound read old) current number from c (λ q. no_more (is_missing asked old from) refl q)
-    where
-      no_more : (b : Bool) → is_missing (asked_nodes top (w.sessions node) read) old from ≡ b → number ≡ (w.sessions node).count
-          → is_missing (asked_nodes top (w.sessions node) read) old from ≡ false
-      no_more false m q = m
-      no_more true m q = absurd (false≢true (sym e ∙ and_from (number == (w.sessions node).count)
-          (is_missing (asked_nodes top (w.sessions node) read) old from) (eq-eqb number (w.sessions node).count q) m))
-  now_if_went read old current k from number sent rows early tells true e c =
-      let a = w.sessions node in
-      let asked = asked_nodes top a read in
-      let p = and_parts (number == a.count) (is_missing asked old from) e in
-      let h : HeardNow = record { from = from; rows = rows } in
-      heard_went read old current k.opened number from h refl
-      (more_heard top w node n some inv le read old current k.opened from number sent rows early k.heard tells (eqb-true number a.count p.0)
-      (missing_asked asked old from p.1))
-      (all_heard asked (old ++ h ∷ [])) refl c
-
-  pub part_now_went : (o : Open) → (w.sessions node).current ≡ o → OpenSound top w node (w.sessions node) o
-      → (from number sent : ℕ) (rows : List RowNow) → sent ≤ n → TellsNow top w from node sent number rows
-      → Comes w x node (part_now_in o top node n (w.sessions node) from number rows)
-      → Heard (part_now_in o top node n (w.sessions node) from number rows) number from
-  part_now_went Idle e k from number sent rows early tells c = calm_heard Idle e number from c (λ q. tt)
-  part_now_went (Writing coordinator) e k from number sent rows early tells c = calm_heard (Writing coordinator) e number from c (λ q. tt)
-  part_now_went (SecondRound read time first heard) e k from number sent rows early tells c = calm_heard
-      (SecondRound read time first heard) e number from c (λ q. tt)
-  part_now_went (FirstRound read old) e k from number sent rows early tells c = now_if_went read old e k from number sent rows early tells _ refl c
-
-  -- ## PartAt
-
-  module _ (read : Read) (time : ℕ) (first : List HeardNow) (old : List HeardAt)
-      (current : (w.sessions node).current ≡ SecondRound read time first old) (k : SecondSound top w node (w.sessions node) read time first old)
-      (number from : ℕ) where
-    abbrev asked_first : List ℕ
-    asked_first = asked_nodes top (w.sessions node) read
-
-    heard_at_went : (h : HeardAt) → h.from ≡ from
-        → ((o : Open) (g : HeardAt) → Among g (old ++ h ∷ []) → HeardAtSound top w (record (w.sessions node) { clock = n; current = o; untaken = None }) read time first g)
-        → (b : Bool) → all_heard_at asked_first time first (old ++ h ∷ []) ≡ b
-        → Comes w x node (heard_at_if b n (w.sessions node) read time first (old ++ h ∷ []))
-        → HeardThen (heard_at_if b n (w.sessions node) read time first (old ++ h ∷ [])) number from
-    heard_at_went h is sound true all c =
-        let a = w.sessions node in
-        let hs = old ++ h ∷ [] in (
-          answered_went top w x node n some inv placed live read time (rows_taken time first hs) k.opened
-              (taken_answers top w (record a { clock = n; current = Idle; untaken = None }) read first some
-              (first_later top w node n some inv le read time first old current k Idle) time hs k.time (sound Idle) k.all all) c,
-          λ q. tt,
-        )
-    heard_at_went h is sound false all c =
-        let a = w.sessions node in
-        let o = SecondRound read time first (old ++ h ∷ []) in
-        let l : OpenLive top w node a (SecondRound read time first old) = subst (λ z. OpenLive top w node a z) current live in
-        let on = waits_onward top w x node n some inv placed live o
-        (λ m f. tt) (λ t f. subst (λ z. SecondIs z t) current f) (λ m f. heard_at_after asked_first time first old h m
-        (subst (λ z. SecondHas top a z m) current f)) in
+        (λ m f. tt) (λ t f. subst (λ z. SecondIs z t) k.current f) (λ m f. heard_at_after asked time first old h m (subst (λ z. SecondHas top a z m) k.current f)) in
         let open_it : OpenLive top x node (record a { clock = n; current = o; untaken = None }) o =
         record {
-          some = missing_at_some asked_first time first (old ++ h ∷ []) all;
-          asked = λ m i. sent_in c.sent
-              (l.asked m (missing_at_before asked_first time first old h m i));
+          some = missing_at_some asked time first (with_rows_at old from rows) more;
+          asked = λ m i. sent_in c.sent (l.asked m (missing_at_before asked time first old h m i));
         } in
-        (waits_went top w x node n some inv placed live o [] c on (λ e m. absurd m) open_it (λ b. refl), λ q. heard_at_has asked_first time first old h from is)
+        waits_went top w x node n some inv placed live o [] c on (λ e m. absurd m) open_it (λ busy. refl)
 
-    taken_went : (answer : AtTime) (bound : ℕ) → TellsThen answer top w from node number bound → number ≡ (w.sessions node).count
-        → Among from (late_nodes asked_first time first)
-        → Comes w x node (taken_at answer top n (w.sessions node) read time first old from)
-        → HeardThen (taken_at answer top n (w.sessions node) read time first old from) number from
-    taken_went at.Collected bound tells is asked c = (given_up_went top w x node n some inv placed live read k.opened c, λ q. tt)
-    taken_went (at.Rows rows) bound tells is asked c =
-        let h : HeardAt = record { from = from; rows = rows } in
-        heard_at_went h refl (more_heard_at top w node n some inv le read time first old current k from number bound rows tells is asked)
-        (all_heard_at asked_first time first (old ++ h ∷ [])) refl c
+  -- ## Every message
 
-    at_if_went : (answer : AtTime) (bound : ℕ) → TellsThen answer top w from node number bound → (b : Bool)
-        → ((number == (w.sessions node).count) && is_missing_at asked_first time first old from) ≡ b
-        → Comes w x node (part_at_if b top n (w.sessions node) read time first old from answer)
-        → HeardThen (part_at_if b top n (w.sessions node) read time first old from answer) number from
-    at_if_went answer bound tells false e c =
-        calm_heard_then (SecondRound read time first old) current number from c (λ q. no_more (is_missing_at asked_first time first old from) refl q)
-      where
-        no_more : (b : Bool) → is_missing_at asked_first time first old from ≡ b → number ≡ (w.sessions node).count
-            → is_missing_at asked_first time first old from ≡ false
-        no_more false m q = m
-        no_more true m q = absurd (false≢true (sym e ∙ and_from (number == (w.sessions node).count) (is_missing_at asked_first time first old from)
-            (eq-eqb number (w.sessions node).count q) m))
-    at_if_went answer bound tells true e c =
-        let p = and_parts (number == (w.sessions node).count) (is_missing_at asked_first time first old from) e in
-        taken_went answer bound tells (eqb-true number (w.sessions node).count p.0) (missing_late asked_first time first old from p.1) c
+  wrote_went : (coordinator : ℕ) (t : TxnValue) (commit : ℕ) (stamp : StampValue) → WriteAnswer node a b coordinator t commit stamp
+      → Comes w x node (written n a coordinator t commit stamp) → Went top w x node (written n a coordinator t commit stamp)
+  wrote_went coordinator t commit stamp k c =
+      let s : WritingSound top w node a coordinator = subst (λ o. OpenSound top w node a o) k.current (inv.sessions node).current in
+      let this : WriterValue = record { txn = t; shard = coordinator } in
+      let is : Placed top x this =
+      record {
+        submission = s.opened.submission;
+        batch = s.batch;
+        written = record { among = c.submitted s.opened.submission s.opened.among; txn = open_txn s.opened ∙ sym k.own; op = s.opened.op };
+        coordinator = s.coordinator;
+      } in
+      ended_went top w x node n some inv placed live (max a.floor commit) (this ∷ []) (outcome.Wrote commit stamp) a.home (op.Batch s.batch) s.opened
+      (λ d m. elim (m) [ inl z ↦ subst (λ y. Placed top x y) (sym z) is | inr z ↦ absurd z ]) c
 
-  -- the read that it answers is in its second round, if it is still open
-  pub part_at_went : (o : Open) → (w.sessions node).current ≡ o → OpenSound top w node (w.sessions node) o → (from number bound : ℕ) (answer : AtTime)
-      → TellsThen answer top w from node number bound → Round (w.sessions node) number bound
-      → Comes w x node (part_at_in o top n (w.sessions node) from number answer)
-      → HeardThen (part_at_in o top n (w.sessions node) from number answer) number from
-  part_at_went Idle e k from number bound answer tells r c = calm_heard_then Idle e number from c (λ q. tt)
-  part_at_went (Writing coordinator) e k from number bound answer tells r c = calm_heard_then (Writing coordinator) e number from c (λ q. tt)
-  part_at_went (FirstRound read heard) e k from number bound answer tells r c = calm_heard_then (FirstRound read heard) e number from c
-      (λ q. subst (λ z. SecondIs z bound) e (r.round q))
-  part_at_went (SecondRound read time first old) e k from number bound answer tells r c = at_if_went read time first old e k number from answer bound tells _ refl c
+  pub heard_went : Comes w x node (heard top node n a from b) → Went top w x node (heard top node n a from b)
+  heard_went =
+      heard_cases top node n a from b (λ st. Comes w x node st → Went top w x node st)
+      (record {
+        still = λ ignored c. calm_went top w x node n some inv placed live c;
+        wrote = wrote_went;
+        kept = λ read hs rows k more c. kept_went read hs rows k more c;
+        second = λ read hs rows k all s ss e c. second_went read hs rows k s ss e c;
+        ends =
+            λ read hs rows k all none c.
+            answered_went top w x node n some inv placed live read _ _ (first_is_open top w node n some inv le from sent b early says read hs rows k)
+            (first_answers top w node n some inv le from sent b early says read hs rows k all none) c;
+        kept_at = λ read time first hs rows k more c. kept_at_went read time first hs rows k more c;
+        ends_at =
+            λ read time first hs rows k all c.
+            answered_went top w x node n some inv placed live read time _ (second_is_open top w node n some inv le from sent b early says read time first hs k.current)
+            (second_answers top w node n some inv le from sent b early says read time first hs k.current rows k all) c;
+        gives_up =
+            λ read time first hs k c.
+            given_up_went top w x node n some inv placed live read (second_is_open top w node n some inv le from sent b early says read time first hs k.current) c;
+      })
+
+-- ## What is no longer missed
+
+-- an operation that is a write ended, or an answer isn't missed
+abbrev pub Left : TopologyValue → SessionState → ℕ → ℕ → Body → SessionStep → Type 0
+Left top a me from (Done t commit stamp) st = t ≡ record { session = me; number = a.count } → (is_idle a.current ≡ true) ⊎ IsReading a.current ⊎ (is_idle st.state.current ≡ true)
+Left top a me from (PartNow number rows) st = number ≡ a.count → FirstHas top st.state st.state.current from
+Left top a me from (PartAt number bound answer) st = (number ≡ a.count → SecondIs a.current bound) → number ≡ a.count → SecondHas top st.state st.state.current from
+Left top a me from other st = Unit {0}
+
+module _ (top : TopologyValue) (me n : ℕ) (a : SessionState) (from : ℕ) where
+  unwritten : (o : Open) (t : TxnValue) → IsNotWritten me a o t → t ≡ record { session = me; number = a.count } → (is_idle o ≡ true) ⊎ IsReading o
+  unwritten Idle t k q = inl refl
+  unwritten (Writing coordinator) t k q = absurd (k q)
+  unwritten (FirstRound read got) t k q = inr tt
+  unwritten (SecondRound read late first got) t k q = inr tt
+
+  unawaited : (o : Open) (bound : ℕ) → AwaitsNone top a o from → SecondIs o bound → SecondHas top a o from
+  unawaited Idle bound k is = tt
+  unawaited (Writing coordinator) bound k is = tt
+  unawaited (FirstRound read got) bound k is = is
+  unawaited (SecondRound read late first got) bound k is = k
+
+  ignored_left : (b : Body) → Ignored top me a from b → Left top a me from b (calm n a)
+  ignored_left (Done t commit stamp) k = λ q. elim (unwritten a.current t k q) [ inl i ↦ inl i | inr r ↦ inr (inl r) ]
+  ignored_left (PartNow number rows) k = λ q. first_home top a (record a { clock = n }) refl a.current from (k q)
+  ignored_left (PartAt number bound answer) k = λ r q. second_home top a (record a { clock = n }) refl a.current from (unawaited a.current bound (k q) (r q))
+  ignored_left _ k = tt
+
+  pub heard_leaves : (b : Body) → Left top a me from b (heard top me n a from b)
+  heard_leaves b =
+      heard_cases top me n a from b (Left top a me from b)
+      (record {
+        still = ignored_left b;
+        wrote = λ coordinator t commit stamp k. subst (λ m. Left top a me from m (written n a coordinator t commit stamp)) (sym k.body) (λ q. inr (inr refl));
+        kept =
+            λ read hs rows k more.
+            subst (λ m. Left top a me from m (opened_as n a (FirstRound read (with_rows_now hs from rows)) [])) (sym k.body)
+            (λ q. heard_now_has (asked_nodes top a read) hs (record { from = from; rows = rows }) from refl);
+        second =
+            λ read hs rows k all s ss e.
+            let gs = with_rows_now hs from rows in
+            let time = effective_time a.floor gs in
+            subst (λ m. Left top a me from m (opened_as n a (SecondRound read time gs []) (map (read_at_of me n a read time gs) (s ∷ ss)))) (sym k.body) (λ q. tt);
+        ends =
+            λ read hs rows k all none.
+            let gs = with_rows_now hs from rows in
+            let time = effective_time a.floor gs in
+            subst (λ m. Left top a me from m (answered n a read time (rows_taken time gs []))) (sym k.body) (λ q. tt);
+        kept_at =
+            λ read time first hs rows k more.
+            subst (λ m. Left top a me from m (opened_as n a (SecondRound read time first (with_rows_at hs from rows)) [])) (sym k.body)
+            (λ r q. heard_at_has (asked_nodes top a read) time first hs (record { from = from; rows = rows }) from refl);
+        ends_at =
+            λ read time first hs rows k all.
+            subst (λ m. Left top a me from m (answered n a read time (rows_taken time first (with_rows_at hs from rows)))) (sym k.body) (λ r q. tt);
+        gives_up = λ read time first hs k. subst (λ m. Left top a me from m (given_up n a)) (sym k.body) (λ r q. tt);
+      })

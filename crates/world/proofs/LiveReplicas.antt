@@ -18,7 +18,7 @@ use Rattle.world.proofs.Ables.{absent, unbegun}
 use Rattle.world.proofs.Near.{near_dc, coordinator_below}
 use Rattle.world.proofs.StampsApart.{written_at, batch_one}
 use Rattle.world.proofs.About.{OfDepCheck}
-use Rattle.world.proofs.Underway.{HasPrepared, HasKeptPart, HasKeptBallot, Known, Awaits, Away, Leads, Placed, Onward, KeptPartLive, KeptBallotLive, AskerLive, Entries, ShardLive, Acted}
+use Rattle.world.proofs.Underway.{HasPrepared, HasKeptPart, HasKeptBallot, Known, WaitsFor, of_ballot, Away, Leads, Placed, Onward, KeptPartLive, KeptBallotLive, AskerLive, Entries, ShardLive, Acted}
 use Rattle.world.proofs.LiveGrow.{written_on, prepared_on, decision_on, kept_part_on, kept_ballot_on, shard_on}
 use Rattle.world.proofs.HandledOnwards.{ready_on}
 use Rattle.world.proofs.LivePlaces.{known_cases, prepared_found, near_leads}
@@ -85,7 +85,7 @@ module _ (top : TopologyValue) (w x : Run) (node n : ℕ) (some : 0 < top.shards
                 subst (λ z. Fine top x z) (sym q.2) (
                   near_leads top x some inv.submitted node q.0.shard q.0.txn p.submission p.batch p.written p.coordinator below,
                   subst (λ z. z < top.dcs) (sym (near_dc top node q.0.shard below)) dc,
-                  record { ballot = r; among = kept; txn = refl; writer = q.0; named = q.1; is = refl },
+                  of_ballot (record { ballot = r; among = kept; txn = refl; writer = q.0; named = q.1; is = refl }),
                 )
             | inr i ↦ left.sends u i
           ];
@@ -188,7 +188,7 @@ module _ (top : TopologyValue) (w x : Run) (node n : ℕ) (some : 0 < top.shards
 
   -- ## DepCheck
 
-  remember_go : (k : Asker) → Leads top x node k.dependency → dc_of top node < top.dcs → Awaits (x.shards k.from) k.waiter k.dependency → decision_of k.dependency (w.shards node) ≡ None
+  remember_go : (k : Asker) → Leads top x node k.dependency → dc_of top node < top.dcs → WaitsFor top x (dc_of top node) k.from k.waiter k.dependency → decision_of k.dependency (w.shards node) ≡ None
       → (asked : Bool) → is_asker (w.shards node).askers k.dependency k.waiter k.from ≡ asked → Here x node (remember_if asked n (w.shards node) k)
       → Left top x node (remember_if asked n (w.shards node) k) × Acted top x k.from node (OfDepCheck k.dependency k.waiter)
   unfolding kx
@@ -229,13 +229,13 @@ module _ (top : TopologyValue) (w x : Run) (node n : ℕ) (some : 0 < top.shards
         inr (subst (λ z. (y : Asker) × Among y z.askers × (y.dependency ≡ k.dependency) × (y.waiter ≡ k.waiter) × (y.from ≡ k.from)) (sym here.state) (k, among_last k (w.shards node).askers, refl, refl, refl)),
       )
 
-  dep_check_go : (k : Asker) → Leads top x node k.dependency → dc_of top node < top.dcs → Awaits (x.shards k.from) k.waiter k.dependency
+  dep_check_go : (k : Asker) → Leads top x node k.dependency → dc_of top node < top.dcs → WaitsFor top x (dc_of top node) k.from k.waiter k.dependency
       → (o : Option Decision) → decision_of k.dependency (w.shards node) ≡ o → Here x node (dep_check_for o node n (w.shards node) k)
       → Left top x node (dep_check_for o node n (w.shards node) k) × Acted top x k.from node (OfDepCheck k.dependency k.waiter)
   unfolding kx
   dep_check_go k leads dc awaits (Some d) e here = (answer_left n _ awaits kx, inl (record { message = _; among = here.sent _ (inl refl); by = refl; for = refl; is = refl }))
   dep_check_go k leads dc awaits None e here = remember_go k leads dc awaits e _ refl here
 
-  pub dep_check_left : (k : Asker) → Leads top x node k.dependency → dc_of top node < top.dcs → Awaits (x.shards k.from) k.waiter k.dependency → Here x node (on_dep_check node n (w.shards node) k)
+  pub dep_check_left : (k : Asker) → Leads top x node k.dependency → dc_of top node < top.dcs → WaitsFor top x (dc_of top node) k.from k.waiter k.dependency → Here x node (on_dep_check node n (w.shards node) k)
       → Left top x node (on_dep_check node n (w.shards node) k) × Acted top x k.from node (OfDepCheck k.dependency k.waiter)
   dep_check_left k leads dc awaits here = dep_check_go k leads dc awaits _ refl here

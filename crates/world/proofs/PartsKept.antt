@@ -1,5 +1,5 @@
 -- ReplPart, PrepareRemote and DepCheck keep all.
-use Rattle.std.proofs.Common.{◌≡◌, ◌∙◌, ℕ, ◌<◌, Bool, true, false, Option, Some, None, inl, inr, refl, sym, ap, subst, arith, le_of_lt}
+use Rattle.std.proofs.Common.{◌≡◌, ◌∙◌, ℕ, ◌<◌, Bool, true, false, Option, Some, None, inl, inr, refl, sym, subst, arith, le_of_lt}
 use Rattle.std.specs.Prelude.{is_some}
 use Rattle.logical_time.specs.Stamps.{TxnValue}
 use Rattle.planner.specs.Plan.{cohorts_of}
@@ -10,12 +10,13 @@ use Rattle.messages.specs.Known.{decision_of, prepared_part, kept_part, is_known
 use Rattle.messages.specs.Replication.{repl_part_if, on_repl_part, prepare_remote_for, on_prepare_remote, remember_if, dep_check_for, on_dep_check}
 use Rattle.world.specs.Run.{Run}
 use Rattle.world.proofs.Among.{Among, last_or_old, find_some, same_txn}
-use Rattle.world.proofs.Facts.{IsDone, KeptPartSound, KeptBallotSound}
-use Rattle.world.proofs.Invariant.{EnvelopeSound, Inv}
+use Rattle.world.proofs.Facts.{KeptPartSound, KeptBallotSound}
+use Rattle.world.proofs.Invariant.{TellsDecision, MayWait, EnvelopeSound, Inv}
 use Rattle.world.proofs.Able.{Able}
 use Rattle.world.proofs.Near.{lead_number, cohort_other}
 use Rattle.world.proofs.StampsApart.{written_at, batch_one}
-use Rattle.world.proofs.Lasting.{kept_part_grows, done_grows}
+use Rattle.world.proofs.Lasting.{kept_part_grows}
+use Rattle.world.proofs.LastingAll.{tells_grows, may_wait_grows}
 use Rattle.world.proofs.Ables.{absent, not_found, sends_able, quiet_able, prepare_able}
 
 -- ## ReplPart
@@ -82,7 +83,7 @@ prepare_remote_able top w node n t some inv lt = prepare_remote_go top w node n 
 
 -- ## DepCheck
 
-remember_go : (top : TopologyValue) (w : Run) (node n : ℕ) (k : Asker) → Inv top w → (w.shards node).clock < n → dc_of top k.from ≡ dc_of top node → (b : Bool) → Able top w node (w.shards node) (remember_if b n (w.shards node) k)
+remember_go : (top : TopologyValue) (w : Run) (node n : ℕ) (k : Asker) → Inv top w → (w.shards node).clock < n → MayWait top w node k.waiter k.from → (b : Bool) → Able top w node (w.shards node) (remember_if b n (w.shards node) k)
 remember_go top w node n k inv lt here true = quiet_able top w node n (w.shards node) lt (inv.shards node).once (inv.shards node).apart
 remember_go top w node n k inv lt here false =
     let a = w.shards node in
@@ -100,22 +101,25 @@ remember_go top w node n k inv lt here false =
         kept_parts = λ e m. inl m;
         kept_ballots = λ e m. inl m;
         met = λ e m. inl m;
-        askers = λ e m. elim (last_or_old e k a.askers m) [ inl o ↦ inl o | inr q ↦ inr (ap (λ (z : Asker). dc_of top z.from) q ∙ here) ];
+        askers = λ e m. elim (last_or_old e k a.askers m) [ inl o ↦ inl o | inr q ↦ inr (subst (λ (z : Asker). MayWait top x node z.waiter z.from) (sym q) (may_wait_grows gr here)) ];
         waiting = λ e m. inl m;
         sends = λ e m. absurd m;
       };
     }
 
-dep_check_go : (top : TopologyValue) (w : Run) (node n : ℕ) (k : Asker) → Inv top w → (w.shards node).clock < n → dc_of top k.from ≡ dc_of top node
+dep_check_go : (top : TopologyValue) (w : Run) (node n : ℕ) (k : Asker) → Inv top w → (w.shards node).clock < n → MayWait top w node k.waiter k.from
     → (o : Option Decision) → decision_of k.dependency (w.shards node) ≡ o → Able top w node (w.shards node) (dep_check_for o node n (w.shards node) k)
 dep_check_go top w node n k inv lt here None e = remember_go top w node n k inv lt here (is_asker (w.shards node).askers k.dependency k.waiter k.from)
 dep_check_go top w node n k inv lt here (Some d) e =
     let f = find_some (λ d. is_same_txn d.txn k.dependency) (w.shards node).decided d e in
     let le = ((inv.shards node).decided d f.0).commit in
-    let done : IsDone top w (dc_of top k.from) k.dependency n =
-    record { node = node; here = sym here; decision = d; among = f.0; txn = same_txn d.txn k.dependency f.1; commit = omega arith } in
+    let told : TellsDecision w node n k.dependency d.commit d.stamp =
+    record {
+      decided = record { decision = d; among = f.0; txn = same_txn d.txn k.dependency f.1; commit = refl; stamp = refl };
+      time = omega arith;
+    } in
     sends_able top w node n (w.shards node) _ lt (inv.shards node).once (inv.shards node).apart
-    (λ x gr at e m. elim m [ inl q ↦ subst (λ z. EnvelopeSound top x z) (sym q) (done_grows gr (le_of_lt (omega arith)) done) | inr o ↦ absurd o ])
+    (λ x gr at e m. elim m [ inl q ↦ subst (λ z. EnvelopeSound top x z) (sym q) ((d.stamp, tells_grows gr told), may_wait_grows gr here) | inr o ↦ absurd o ])
 
-pub dep_check_able : (top : TopologyValue) (w : Run) (node n : ℕ) (k : Asker) → Inv top w → (w.shards node).clock < n → dc_of top k.from ≡ dc_of top node → Able top w node (w.shards node) (on_dep_check node n (w.shards node) k)
+pub dep_check_able : (top : TopologyValue) (w : Run) (node n : ℕ) (k : Asker) → Inv top w → (w.shards node).clock < n → MayWait top w node k.waiter k.from → Able top w node (w.shards node) (on_dep_check node n (w.shards node) k)
 dep_check_able top w node n k inv lt here = dep_check_go top w node n k inv lt here _ refl

@@ -1,5 +1,5 @@
 -- What is before an operation is committed before it: the past of a read stands in its table.
-use Rattle.std.proofs.Common.{◌≡◌, ℕ, ◌+◌, ◌<◌, true, List, [], ◌∷◌, Some, None, Option, ◌⊎◌, inl, inr, refl, sym, ap, ◌∙◌, subst, arith}
+use Rattle.std.proofs.Common.{◌≡◌, ℕ, ◌+◌, ◌<◌, List, [], ◌∷◌, Some, None, Option, ◌⊎◌, inl, inr, refl, sym, ap, ◌∙◌, subst, arith}
 use Rattle.std.specs.Prelude.{option_and_then}
 use Rattle.logical_time.specs.Stamps.{TxnValue, WriterValue}
 use Rattle.column_family.specs.declared.batch.Change.{Change}
@@ -14,14 +14,15 @@ use Rattle.messages.specs.Topology.{TopologyValue, dc_of}
 use Rattle.messages.specs.Words.{is_same_txn}
 use Rattle.messages.specs.Shard.{Decision}
 use Rattle.world.specs.Run.{Run, Submission, Completed, submission_of}
-use Rattle.world.specs.Committed.{time_of, IsNotBelow}
+use Rattle.world.specs.Committed.{time_of}
 use Rattle.world.specs.Histories.{batch_in}
-use Rattle.world.specs.Before.{IsSubmitted, IsWrite, completes, IsCompleted, ReadRestsOn, EndRestsOn, RestsOn, IsJustBefore, IsBeforeOver, Past}
+use Rattle.world.specs.Before.{IsSubmitted, IsWrite, IsCompleted, ReadRestsOn, EndRestsOn, RestsOn, IsJustBefore, IsBeforeOver, Past}
+use Rattle.world.specs.Promises.{Fits}
+use Rattle.world.proofs.EndCases.{end_cases}
 use Rattle.world.proofs.Among.{Among, contains_among, find_some, same_txn}
-use Rattle.world.proofs.Facts.{txn_of, IsWritten, IsDone, lead}
-use Rattle.world.proofs.Invariant.{home, AnsweredFrom, EndSound, Inv}
+use Rattle.world.proofs.Facts.{txn_of, IsWritten, IsDone}
+use Rattle.world.proofs.Invariant.{AnsweredFrom, DependsOnDone, EndSound, Inv}
 use Rattle.world.proofs.Lasting.{done_later}
-use Rattle.world.proofs.Near.{lead_dc}
 use Rattle.world.proofs.Causal.{txn_ended, Covered, direct, via, LaterCovered, writers_in, EndCausal, Causal}
 
 -- the submission of a write, of its batch
@@ -41,6 +42,13 @@ written_at w t k = go (submission_of w.submitted t) refl k.1
 module _ (top : TopologyValue) (w : Run) (some : 0 < top.shards) (inv : Inv top w) (causal : Causal top w)
     (rests : (dc time : ℕ) (read : Read) (rows : List RowAt) → AnsweredFrom top w dc read time rows → (u : TxnValue) → ReadRestsOn top w dc read time u → (k : WriterValue) × Among k (writers_in rows) × (k.txn ≡ u))
     (committed : (dc time : ℕ) (read : Read) (rows : List RowAt) → AnsweredFrom top w dc read time rows → (k : WriterValue) → Among k (writers_in rows) → IsDone top w dc k.txn (time + 1)) where
+  -- ## What reaches an operation
+
+  -- the transaction is committed before the operation: below each commit time of a write, not above a read's time
+  pub record Reached (u v : TxnValue) : Type 0 where
+    pub write : (node : ℕ) (d : Decision) → Among d (w.shards node).decided → d.txn ≡ v → IsDone top w (dc_of top node) u d.commit
+    pub read : (c : Completed) → Among c w.transcript → txn_ended c ≡ v → (r : Read) (time : ℕ) (answer : List AnsweredRow) → c.op ≡ op.Read r → c.outcome ≡ outcome.Read time answer → IsDone top w c.home u (time + 1)
+
   -- what dependencies cover is committed where they are, before them
   covered_done : (t : TxnValue) (deps : List WriterValue) (dc n : ℕ) → ((k : WriterValue) → Among k deps → IsDone top w dc k.txn n) → Covered w t deps → IsDone top w dc t n
   covered_done t deps dc n f (direct l k m q) = subst (λ z. IsDone top w dc z n) q (f k m)
@@ -61,12 +69,30 @@ module _ (top : TopologyValue) (w : Run) (some : 0 < top.shards) (inv : Inv top 
       covered_done t s.submission.dependencies (dc_of top node) d.commit s.done
       (k.submitted s.submission s.written.among (ap (λ z. z.session) e ∙ es) (omega arith))
 
-  -- ## What reaches an operation
+  read_go : (e : Completed) (o : Op) (out : Outcome) → EndSound o out top w e.home (txn_ended e) → (read : Read) (time : ℕ) (answer : List AnsweredRow)
+      → o ≡ op.Read read → out ≡ outcome.Read time answer → DependsOnDone top w e.home (txn_ended e) (time + 1)
+  read_go e o out k read time answer p q =
+      let s : EndSound (op.Read read) (outcome.Read time answer) top w e.home (txn_ended e) =
+      subst (λ z. EndSound (op.Read read) z top w e.home (txn_ended e)) q (subst (λ z. EndSound z out top w e.home (txn_ended e)) p k) in
+      s.depends
 
-  -- the transaction is committed before the operation: below each commit time of a write, not above a read's time
-  pub record Reached (u v : TxnValue) : Type 0 where
-    pub write : (node : ℕ) (d : Decision) → Among d (w.shards node).decided → d.txn ≡ v → IsDone top w (dc_of top node) u d.commit
-    pub read : (c : Completed) → Among c w.transcript → txn_ended c ≡ v → (r : Read) (time : ℕ) (answer : List AnsweredRow) → c.op ≡ op.Read r → c.outcome ≡ outcome.Read time answer → IsDone top w c.home u (time + 1)
+  later_read : (session m : ℕ) (t : TxnValue) → LaterCovered w session m t → (e : Completed) → Among e w.transcript → e.node ≡ session → m < e.number
+      → (read : Read) (time : ℕ) (answer : List AnsweredRow) → e.op ≡ op.Read read → e.outcome ≡ outcome.Read time answer → IsDone top w e.home t (time + 1)
+  later_read session m t k e among es lt read time answer o a =
+      let d = read_go e e.op e.outcome (inv.transcript e among).came read time answer o a in
+      let number : d.submission.number ≡ e.number = ap (λ z. z.number) d.txn in
+      covered_done t d.submission.dependencies e.home (time + 1) d.done
+      (k.submitted d.submission d.among (ap (λ z. z.session) d.txn ∙ es) (omega arith))
+
+  -- what covers the transaction reaches it from all that the session submits later
+  later_reached : (session m : ℕ) (t : TxnValue) → LaterCovered w session m t → (y : TxnValue) → session ≡ y.session → m < y.number → Reached t y
+  later_reached session m t k y es lt =
+      record {
+        write = λ x d i p. later_write session m t k y (sym es) lt x d i p;
+        read = λ f i p r time answer o a.
+            let number : f.number ≡ y.number = ap (λ z. z.number) p in
+            later_read session m t k f i (ap (λ z. z.session) p ∙ sym es) (omega arith) r time answer o a;
+      }
 
   -- the transaction is the operation or is committed before it, and is committed before all that its session submits after
   -- completing it
@@ -74,73 +100,34 @@ module _ (top : TopologyValue) (w : Run) (some : 0 < top.shards) (inv : Inv top 
     pub here : (z ≡ u) ⊎ Reached u z
     pub later : IsCompleted w z → (y : TxnValue) → IsSubmitted w y → z.session ≡ y.session → z.number < y.number → Reached u y
 
-  home_at : (c : Completed) → Among c w.transcript → c.home ≡ home top c.node
-  home_at c m =
-      let o = (inv.transcript c m).opened in
-      sym o.home ∙ inv.submitted.home o.submission o.among ∙ ap (home top) o.session
-
-  same_home : (c e : Completed) → Among c w.transcript → Among e w.transcript → c.node ≡ e.node → c.home ≡ e.home
-  same_home c e m n q = home_at c m ∙ ap (home top) q ∙ sym (home_at e n)
-
-  -- a read that the session completes later has a greater time
-  later_read : (c e : Completed) → Among c w.transcript → Among e w.transcript → c.node ≡ e.node → c.number < e.number → (n : ℕ) → time_of c.outcome ≡ n → (u : TxnValue) → IsDone top w c.home u (n + 1)
-      → (time : ℕ) (answer : List AnsweredRow) → e.outcome ≡ outcome.Read time answer → IsDone top w e.home u (time + 1)
-  later_read c e m k node number n q u done time answer o =
-      let le = subst (λ z. IsNotBelow z (time_of c.outcome)) o (causal.ordered c e m k node number) in
-      subst (λ z. IsDone top w z u (time + 1)) (same_home c e m k node) (done_later (omega arith) done)
-
   -- ## A write that its session completed
 
-  pub record WriteEnd (c : Completed) : Type 0 where
-    pub commit : ℕ
-    pub time : time_of c.outcome ≡ commit
-    pub done : IsDone top w c.home (txn_ended c) (commit + 1)
-    pub later : LaterCovered w c.node c.number (txn_ended c)
+  write_go : (c : Completed) (b : Submission) (batch : List Change) → b.op ≡ op.Batch batch → b.op ≡ c.op → (o : Op) (e : Outcome) → Fits o e → c.op ≡ o
+      → EndCausal o e top w c → LaterCovered w c.node c.number (txn_ended c)
+  write_go c b batch is same o e =
+      end_cases (λ o e. c.op ≡ o → EndCausal o e top w c → LaterCovered w c.node c.number (txn_ended c))
+      (record {
+        wrote = λ other commit stamp p l. l;
+        answered = λ read time answer p l. let z : op.Batch batch ≡ op.Read read = sym is ∙ same ∙ p in absurd (cc);
+        given_up = λ read p l. let z : op.Batch batch ≡ op.Read read = sym is ∙ same ∙ p in absurd (cc);
+      }) o e
 
-  write_go : (c : Completed) (b : Submission) (batch : List Change) → b.op ≡ op.Batch batch → b.op ≡ c.op → (o : Op) (e : Outcome) → c.op ≡ o → c.outcome ≡ e
-      → EndSound o e top w c.home (txn_ended c) → EndCausal o e top w c → completes e ≡ true → WriteEnd c
-  write_go c b batch is same (op.Batch other) (outcome.Wrote commit stamp) p q k l t =
-      record {
-        commit = commit;
-        time = ap time_of q;
-        done =
-            record {
-              node = lead top c.home other;
-              here = lead_dc top c.home other some;
-              decision = k.decision;
-              among = k.among;
-              txn = k.txn;
-              commit = let z = k.commit in omega arith;
-            };
-        later = l;
-      }
-  write_go c b batch is same (op.Batch other) (outcome.Read time answer) p q k l t = absurd k
-  write_go c b batch is same (op.Batch other) outcome.Collected p q k l t = absurd k
-  write_go c b batch is same (op.Read read) e p q k l t = let z : op.Batch batch ≡ op.Read read = sym is ∙ same ∙ p in absurd (cc)
-
-  write_end : (c : Completed) → Among c w.transcript → (b : Submission) (batch : List Change) → IsWritten w (txn_ended c) b batch → completes c.outcome ≡ true → WriteEnd c
-  write_end c m b batch k t =
+  write_end : (c : Completed) → Among c w.transcript → (b : Submission) (batch : List Change) → IsWritten w (txn_ended c) b batch
+      → LaterCovered w c.node c.number (txn_ended c)
+  write_end c m b batch k =
       let s = inv.transcript c m in
       let o = s.opened in
       let same : b ≡ o.submission = inv.submitted.one b o.submission k.among o.among (k.txn ∙ λ i. record { session = sym o.session i; number = sym o.number i }) in
-      write_go c b batch k.op (ap (λ z. z.op) same ∙ o.op) c.op c.outcome refl refl s.came (causal.ended c m) t
+      write_go c b batch k.op (ap (λ z. z.op) same ∙ o.op) c.op c.outcome s.fits refl (causal.ended c m)
 
   own_carries : (u : TxnValue) → IsWrite w u → Carries u u
   own_carries u k = record { here = inl refl; later = λ done y sub es lt. go (written_at w u k) done y es lt }
     where
       go : (b : Submission) × (batch : List Change) × IsWritten w u b batch → IsCompleted w u → (y : TxnValue) → u.session ≡ y.session → u.number < y.number → Reached u y
       go (b, batch, k) (c, (m, q), t) y es lt =
-          let among = contains_among c w.transcript m in
-          let e = write_end c among b batch (record { among = k.among; txn = k.txn ∙ sym q; op = k.op }) t in
-          let node : c.node ≡ u.session = ap (λ z. z.session) q in
+          let later = write_end c (contains_among c w.transcript m) b batch (record { among = k.among; txn = k.txn ∙ sym q; op = k.op }) in
           let number : c.number ≡ u.number = ap (λ z. z.number) q in
-          record {
-            write = λ x d i p. subst (λ z. IsDone top w (dc_of top x) z d.commit) q (later_write c.node c.number (txn_ended c) e.later y (sym (node ∙ es)) (omega arith) x d i p);
-            read = λ f i p r time answer o a.
-                let f_node : f.node ≡ y.session = ap (λ z. z.session) p in
-                let f_number : f.number ≡ y.number = ap (λ z. z.number) p in
-                later_read c f among i (node ∙ es ∙ sym f_node) (omega arith) e.commit e.time u (subst (λ z. IsDone top w c.home z (e.commit + 1)) q e.done) time answer a;
-          }
+          subst (λ z. Reached z y) q (later_reached c.node c.number (txn_ended c) later y (ap (λ z. z.session) q ∙ es) (omega arith))
 
   -- ## A read that rests on a transaction
 
@@ -152,23 +139,26 @@ module _ (top : TopologyValue) (w : Run) (some : 0 < top.shards) (inv : Inv top 
     pub done : IsDone top w c.home z (time + 1)
     pub later : LaterCovered w c.node c.number z
 
-  rests_go : (c : Completed) (z : TxnValue) (o : Op) (e : Outcome) → c.op ≡ o → c.outcome ≡ e → EndRestsOn o e top w c.home z → EndCausal o e top w c → ReadEnd c z
-  rests_go c z (op.Read read) (outcome.Read time answer) p q r k =
-      let n = rests c.home time read k.0 k.1 z r in
-      record {
-        time = time;
-        is = ap time_of q;
-        read = read;
-        op = p;
-        done = subst (λ v. IsDone top w c.home v (time + 1)) n.2 (committed c.home time read k.0 k.1 n.0 n.1);
-        later = subst (λ v. LaterCovered w c.node c.number v) n.2 (k.2 n.0 n.1);
-      }
-  rests_go c z (op.Read read) (outcome.Wrote commit stamp) p q r k = absurd r
-  rests_go c z (op.Read read) outcome.Collected p q r k = absurd r
-  rests_go c z (op.Batch batch) e p q r k = absurd r
+  rests_go : (c : Completed) (z : TxnValue) (o : Op) (e : Outcome) → Fits o e → c.op ≡ o → c.outcome ≡ e → EndRestsOn o e top w c.home z → EndCausal o e top w c → ReadEnd c z
+  rests_go c z o e =
+      end_cases (λ o e. c.op ≡ o → c.outcome ≡ e → EndRestsOn o e top w c.home z → EndCausal o e top w c → ReadEnd c z)
+      (record {
+        wrote = λ batch commit stamp p q r k. absurd r;
+        answered = λ read time answer p q r k.
+            let n = rests c.home time read k.0 k.1 z r in
+            record {
+              time = time;
+              is = ap time_of q;
+              read = read;
+              op = p;
+              done = subst (λ v. IsDone top w c.home v (time + 1)) n.2 (committed c.home time read k.0 k.1 n.0 n.1);
+              later = subst (λ v. LaterCovered w c.node c.number v) n.2 (k.2 n.0 n.1);
+            };
+        given_up = λ read p q r k. absurd r;
+      }) o e
 
   read_end : (c : Completed) → Among c w.transcript → (z : TxnValue) → EndRestsOn c.op c.outcome top w c.home z → ReadEnd c z
-  read_end c m z r = rests_go c z c.op c.outcome refl refl r (causal.ended c m)
+  read_end c m z r = rests_go c z c.op c.outcome (causal.fits c m) refl refl r (causal.ended c m)
 
   -- where what carries the transaction is decided or done, so is the transaction
   through : (u z : TxnValue) → Carries u z → (dc n : ℕ) → IsDone top w dc z n → IsDone top w dc u n
@@ -203,17 +193,12 @@ module _ (top : TopologyValue) (w : Run) (some : 0 < top.shards) (inv : Inv top 
 
   rests_later : (u z y : TxnValue) → Carries u z → RestsOn top w y z → (v : TxnValue) → y.session ≡ v.session → y.number < v.number → Reached u v
   rests_later u z y k (c, (m, q), r) v es lt =
-      let among = contains_among c w.transcript m in
-      let e = read_end c among z r in
-      let node : c.node ≡ y.session = ap (λ v. v.session) q in
+      let e = read_end c (contains_among c w.transcript m) z r in
       let number : c.number ≡ y.number = ap (λ v. v.number) q in
-      let done : IsDone top w c.home u (e.time + 1) = through u z k c.home (e.time + 1) e.done in
+      let reached = later_reached c.node c.number z e.later v (ap (λ v. v.session) q ∙ es) (omega arith) in
       record {
-        write = λ x d i p. through u z k (dc_of top x) d.commit (later_write c.node c.number z e.later v (sym (node ∙ es)) (omega arith) x d i p);
-        read = λ f i p r time answer o a.
-            let f_node : f.node ≡ v.session = ap (λ v. v.session) p in
-            let f_number : f.number ≡ v.number = ap (λ v. v.number) p in
-            later_read c f among i (node ∙ es ∙ sym f_node) (omega arith) e.time e.is u done time answer a;
+        write = λ x d i p. through u z k (dc_of top x) d.commit (reached.write x d i p);
+        read = λ f i p r time answer o a. through u z k f.home (time + 1) (reached.read f i p r time answer o a);
       }
 
   -- ## Chains

@@ -35,12 +35,12 @@ node_of top dc key = shard_node top dc (shard_of_key top.shards key)
 
 -- what a completed read was answered from
 answered_so : (o : Op) (end : Outcome) (top : TopologyValue) (w : Run) (dc : ℕ) (read : Read) (time : ℕ) (answer : List AnsweredRow) → (t : _)
-    → o ≡ op.Read read → end ≡ outcome.Read time answer → EndSound o end top w dc t → AnsweredSound top w dc read time answer
+    → o ≡ op.Read read → end ≡ outcome.Read time answer → EndSound o end top w dc t → AnsweredSound top w dc t read time answer
 answered_so o end top w dc read time answer t is came sound =
     subst (λ e. EndSound (op.Read read) e top w dc t) came (subst (λ p. EndSound p end top w dc t) is sound)
 
 pub answered : (top : TopologyValue) (w : Run) → Inv top w → (c : Completed) (read : Read) (time : ℕ) (answer : List AnsweredRow)
-    → Contains w.transcript c → c.op ≡ op.Read read → c.outcome ≡ outcome.Read time answer → AnsweredSound top w c.home read time answer
+    → Contains w.transcript c → c.op ≡ op.Read read → c.outcome ≡ outcome.Read time answer → AnsweredSound top w c.home (record { session = c.node; number = c.number }) read time answer
 answered top w inv c read time answer has is came =
     answered_so c.op c.outcome top w c.home read time answer (record { session = c.node; number = c.number }) is came
     (inv.transcript c (contains_among c w.transcript has)).came

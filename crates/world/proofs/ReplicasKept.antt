@@ -1,5 +1,5 @@
 -- ReplBegin, Notify and DepOk keep all.
-use Rattle.std.proofs.Common.{◌≡◌, ℕ, ◌<◌, ◌≤◌, Bool, true, false, Option, Some, None, inl, inr, refl, sym, subst, le_of_lt}
+use Rattle.std.proofs.Common.{◌≡◌, ℕ, ◌<◌, ◌≤◌, Bool, true, false, Option, Some, None, inl, inr, refl, sym, ap, ◌∙◌, subst, le_of_lt, arith}
 use Rattle.logical_time.specs.Stamps.{TxnValue}
 use Rattle.messages.specs.declared.body.Body.TheVariants.{DepCheck}
 use Rattle.messages.specs.declared.envelope.Envelope.{Envelope}
@@ -11,7 +11,7 @@ use Rattle.messages.specs.Replication.{ready, dep_checks, with_ballot, repl_begi
 use Rattle.world.specs.Run.{Run}
 use Rattle.world.proofs.Among.{Among, last_or_old, find_some, map_only, same_txn}
 use Rattle.world.proofs.Facts.{IsDone, KeptBallotSound}
-use Rattle.world.proofs.Invariant.{EnvelopeSound, Inv}
+use Rattle.world.proofs.Invariant.{TellsCommit, MovesTo, MayWait, of_shard, of_move, EnvelopeSound, Inv}
 use Rattle.world.proofs.Able.{Fresh, Able}
 use Rattle.world.proofs.Lasting.{done_grows, kept_ballot_grows}
 use Rattle.world.proofs.Near.{near_dc}
@@ -32,7 +32,7 @@ module _ (top : TopologyValue) (w : Run) (node n : ℕ) (some : 0 < top.shards) 
   check_sound x r k e m =
       let q = map_only (λ u. envelope node (shard_node top (dc_of top node) u.shard) n (DepCheck u.txn r.txn)) r.dependencies e m in
       let placed = inv.submitted.placed k.submission q.0 k.written.among (subst (λ l. Among q.0 l) k.dependencies q.1) in
-      subst (λ z. EnvelopeSound top x z) (sym q.2) (sym (near_dc top node q.0.shard placed))
+      subst (λ z. EnvelopeSound top x z) (sym q.2) (of_shard (sym (near_dc top node q.0.shard placed)))
 
   repl_begin_go : (r : KeptBallot) → KeptBallotSound top w node n r → (known : Bool) → is_known r.txn (w.shards node) ≡ known → Able top w node (w.shards node) (repl_begin_if known top node n (w.shards node) r)
   repl_begin_go r k true e = quiet_able top w node n (w.shards node) lt (inv.shards node).once (inv.shards node).apart
@@ -151,9 +151,35 @@ module _ (top : TopologyValue) (w : Run) (node n : ℕ) (some : 0 < top.shards) 
       (λ i m. elim (last_or_old i u a.met m) [ inl o ↦ old_met i o | inr q ↦ subst (λ z. IsDone top w (dc_of top node) z.dependency n) (sym q) k ])
       r (old_ballot r m) (inv.patient node r m (unmet_unready top node a r dependency e)))
 
-  dep_ok_go : (dependency waiter : TxnValue) → IsDone top w (dc_of top node) dependency n → (o : Option KeptBallot) → kept_ballot waiter (w.shards node) ≡ o → Able top w node (w.shards node) (dep_ok_for o top node n (w.shards node) dependency)
-  dep_ok_go dependency waiter k None e = quiet_able top w node n (w.shards node) lt (inv.shards node).once (inv.shards node).apart
-  dep_ok_go dependency waiter k (Some r) e = met_go r dependency (find_some (λ b. is_same_txn b.txn waiter) (w.shards node).kept_ballots r e).0 k _ refl
+  -- what a kept ballot waits for is decided in its data centre
+  waits_here : (from : ℕ) (t : TxnValue) → MayWait top w from t node → (r : KeptBallot) → KeptBallotSound top w node n r → r.txn ≡ t → dc_of top from ≡ dc_of top node
+  waits_here from t (of_shard e) r k q = sym e
+  waits_here from t (of_move b m is own to) r k q =
+      let same : b ≡ k.submission = inv.submitted.one b k.submission m k.written.among (is ∙ sym (k.written.txn ∙ q)) in
+      absurd (subst (MovesTo (dc_of top from)) (ap (λ z. z.op) same ∙ k.written.op) to)
 
-  pub dep_ok_able : (dependency waiter : TxnValue) → IsDone top w (dc_of top node) dependency n → Able top w node (w.shards node) (on_dep_ok top node n (w.shards node) dependency waiter)
-  dep_ok_able dependency waiter k = dep_ok_go dependency waiter k _ refl
+  told_done : (from time : ℕ) (dependency waiter : TxnValue) (commit : ℕ) → time < n → TellsCommit w from time dependency commit → MayWait top w from waiter node
+      → (r : KeptBallot) → Among r (w.shards node).kept_ballots → r.txn ≡ waiter → IsDone top w (dc_of top node) dependency n
+  told_done from time dependency waiter commit late k may r m q =
+      let d = k.1.decided in
+      let le = k.1.time in
+      let same = d.commit in
+      record {
+        node = from;
+        here = waits_here from waiter may r (old_ballot r m) q;
+        decision = d.decision;
+        among = d.among;
+        txn = d.txn;
+        commit = omega arith;
+      }
+
+  dep_ok_go : (dependency waiter : TxnValue) → ((r : KeptBallot) → Among r (w.shards node).kept_ballots → r.txn ≡ waiter → IsDone top w (dc_of top node) dependency n)
+      → (o : Option KeptBallot) → kept_ballot waiter (w.shards node) ≡ o → Able top w node (w.shards node) (dep_ok_for o top node n (w.shards node) dependency)
+  dep_ok_go dependency waiter k None e = quiet_able top w node n (w.shards node) lt (inv.shards node).once (inv.shards node).apart
+  dep_ok_go dependency waiter k (Some r) e =
+      let f = find_some (λ b. is_same_txn b.txn waiter) (w.shards node).kept_ballots r e in
+      met_go r dependency f.0 (k r f.0 (same_txn r.txn waiter f.1)) _ refl
+
+  pub dep_ok_able : (from time : ℕ) (dependency waiter : TxnValue) (commit : ℕ) → time < n → TellsCommit w from time dependency commit → MayWait top w from waiter node
+      → Able top w node (w.shards node) (on_dep_ok top node n (w.shards node) dependency waiter)
+  dep_ok_able from time dependency waiter commit late k may = dep_ok_go dependency waiter (told_done from time dependency waiter commit late k may) _ refl

@@ -22,7 +22,8 @@ use Rattle.world.specs.Holds.{AreShards, AreStations, Sits, IsOpOf, IsRunning, e
 use Rattle.world.specs.Steps.{DidSession}
 use Rattle.world.proofs.Among.{find_some, same_txn}
 use Rattle.world.proofs.Invariant.{Inv, home}
-use Rattle.world.proofs.HeardCases.{heard_cases}
+use Rattle.world.proofs.Homes.{Homes}
+use Rattle.world.proofs.HeardCases.{heard_kinds}
 use Rattle.world.proofs.ShardSteps.{actor_same}
 
 -- ## Lists
@@ -127,34 +128,29 @@ ends_now a n floor dependencies o busy =
 
 hears : (top : TopologyValue) (me n : ℕ) (a : SessionState) (from : ℕ) (m : Body) → a.untaken ≡ None → Hears a (heard top me n a from m)
 hears top me n a from m taken =
-    heard_cases top me n a from m (Hears a)
+    heard_kinds top me n a from m (Hears a)
     (record {
       still = record { count = refl; open_before = λ e. e; still = λ e. taken; ended = none_ended a taken };
-      wrote = λ coordinator t commit stamp is. ends_now a n _ _ _ (ap is_idle is);
-      kept = λ read hs rows k. keeps_on a n _ _ taken (ap is_idle k.current);
-      second = λ read hs rows nodes k all. keeps_on a n _ _ taken (ap is_idle k.current);
-      ends = λ read hs rows rests k all. ends_now a n _ _ _ (ap is_idle k.current);
-      kept_at = λ read time first hs gs rows k. keeps_on a n _ _ taken (ap is_idle k.current);
-      ends_at = λ read time first hs rows rests k. ends_now a n _ _ _ (ap is_idle k.current);
-      gives_up = λ read time first hs k. ends_now a n _ _ _ (ap is_idle k.current);
+      goes_on = λ o sends busy open_still. keeps_on a n o sends taken busy;
+      over = λ floor dependencies o busy. ends_now a n floor dependencies o busy;
     })
 
 -- ## A session's step
 
 -- what is told of what ended is the same by the operation that is kept and by the submissions
-told_alike : (top : TopologyValue) (w : Run) (node : ℕ) (o : Option Op) (untaken : Option Finished) → Inv top w
+told_alike : (top : TopologyValue) (w : Run) (node : ℕ) (o : Option Op) (untaken : Option Finished) → Homes top w
     → ((f : Finished) → untaken ≡ Some f → (f.number ≡ (w.sessions node).count) × (is_idle (w.sessions node).current ≡ false))
     → (is_idle (w.sessions node).current ≡ false → IsOpOf w node o)
     → option_and_then (completed_of w.submitted node) untaken ≡ ended_as node (home top node) o untaken
-told_alike top w node o None inv ended kept = refl
-told_alike top w node o (Some f) inv ended kept =
+told_alike top w node o None homes ended kept = refl
+told_alike top w node o (Some f) homes ended kept =
     let p = ended f refl in
     let k = kept p.1 in
     let found : submission_of w.submitted (record { session = node; number = f.number }) ≡ Some k.submission =
     ap (λ m. submission_of w.submitted (record { session = node; number = m })) p.0 ∙ k.found in
     let is = find_some (λ (s : Submission). is_same_txn (record { session = s.session; number = s.number }) (record { session = node; number = (w.sessions node).count })) w.submitted k.submission k.found in
     let of : k.submission.session ≡ node = ap (λ (t : TxnValue). t.session) (same_txn (record { session = k.submission.session; number = k.submission.number }) (record { session = node; number = (w.sessions node).count }) is.1) in
-    let at : k.submission.home ≡ home top node = inv.submitted.home k.submission is.0 ∙ ap (home top) of in
+    let at : k.submission.home ≡ home top node = homes.submitted k.submission is.0 ∙ ap (home top) of in
     ap (option_map (λ (s : Submission). record { node = node; number = f.number; home = s.home; op = s.op; outcome = f.outcome })) found
     ∙ ap (λ h. Some (record { node = node; number = f.number; home = h; op = k.submission.op; outcome = f.outcome })) at
     ∙ sym (ap (option_map (λ (op : Op). record { node = node; number = f.number; home = home top node; op = op; outcome = f.outcome })) k.op)
@@ -163,12 +159,12 @@ not_finished : (o : Option Op) (untaken : Option Finished) → untaken ≡ None 
 not_finished o None e = refl
 not_finished o (Some f) e = absurd (cc)
 
-pub after_session_step : (top : TopologyValue) (w : Run) (x : Event) (i node n from : ℕ) (m : Body) (a b : Actors) (s t : Station) → Inv top w → IsRunning top w a → node ≡ shard_count top + i
+pub after_session_step : (top : TopologyValue) (w : Run) (x : Event) (i node n from : ℕ) (m : Body) (a b : Actors) (s t : Station) → Inv top w → Homes top w → IsRunning top w a → node ≡ shard_count top + i
     → slice_get a.stations.items i ≡ Some s → i < length a.stations.items → b.stations.items ≡ slice_set a.stations.items i t
     → DidSession top (heard top node n (w.sessions node) from m) s t a.network.sent b.network.sent a.transcript.items b.transcript.items
     → b.topology ≡ a.topology → b.shards.items ≡ a.shards.items
     → IsRunning top (after_session (Ok (heard top node n (w.sessions node) from m)) w x node) b
-after_session_step top w x i node n from m a b s t inv r is at lt set did topology shards =
+after_session_step top w x i node n from m a b s t inv homes r is at lt set did topology shards =
     record {
       topology = topology ∙ r.topology;
       sound = r.sound;
@@ -179,7 +175,7 @@ after_session_step top w x i node n from m a b s t inv r is at lt set did topolo
       sent = ap (λ l. l ++ st.sends) r.sent ∙ sym did.sends;
       transcript =
           ap (λ l. with_ended l (ended_by w.submitted node st)) r.transcript
-          ∙ ap (with_ended a.transcript.items) (told_alike top w node s.op st.state.untaken inv k.ended old.op)
+          ∙ ap (with_ended a.transcript.items) (told_alike top w node s.op st.state.untaken homes k.ended old.op)
           ∙ ap (λ z. with_ended a.transcript.items (ended_as z (home top node) s.op st.state.untaken)) (sym old.node)
           ∙ ap (λ z. with_ended a.transcript.items (ended_as s.node z s.op st.state.untaken)) (sym old.home)
           ∙ sym did.ended;

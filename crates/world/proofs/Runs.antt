@@ -1,5 +1,5 @@
 -- All holds of every run, and a run grows with each event.
-use Rattle.std.proofs.Common.{◌≡◌, ◌<◌, List, [], ◌∷◌, ◌++◌, refl, ◌∙◌, le_refl, le_trans}
+use Rattle.std.proofs.Common.{◌≡◌, ◌<◌, List, [], ◌∷◌, ◌++◌, refl, le_refl, le_trans}
 use Rattle.messages.specs.Topology.{TopologyValue}
 use Rattle.messages.specs.Session.{SessionState}
 use Rattle.world.specs.Run.{Run, Event, opening, step, continued, run}
@@ -30,7 +30,6 @@ opening_holds top =
       patient = λ node r m. absurd m;
       sessions = λ node.
           record {
-            home = refl;
             floor = le_refl _;
             current = tt;
             dependencies = λ k m. absurd m;
@@ -41,7 +40,6 @@ opening_holds top =
       submitted =
           record {
             accepted = λ b m. absurd m;
-            home = λ b m. absurd m;
             number = λ b m. absurd m;
             one = λ b c m. absurd m;
             placed = λ b k m. absurd m;
@@ -54,7 +52,6 @@ then_session_grows f g =
     record {
       clock = le_trans f.clock g.clock;
       count = le_trans f.count g.count;
-      home = g.home ∙ f.home;
       floor = le_trans f.floor g.floor;
       asked_now = λ number node asked k. g.asked_now number node asked (f.asked_now number node asked k);
       asked_at = λ number time node asked k. g.asked_at number time node asked (f.asked_at number time node asked k);

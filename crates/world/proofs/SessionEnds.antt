@@ -11,6 +11,7 @@ use Rattle.messages.specs.Words.{is_same_txn}
 use Rattle.messages.specs.Session.{SessionState, Open, Idle, Writing, FirstRound, SecondRound, HeardNow, HeardAt, calm, is_idle}
 use Rattle.messages.specs.SessionEvents.{ended}
 use Rattle.world.specs.Run.{Run, Submission, Completed, submission_of, completed_of}
+use Rattle.world.specs.Promises.{Fits}
 use Rattle.world.proofs.Among.{Among, find_some, same_txn}
 use Rattle.world.proofs.Growth.{FirstAsked, SecondAsked, Grows}
 use Rattle.world.proofs.Facts.{txn_of, IsDone}
@@ -27,21 +28,22 @@ open_txn k = ap₂ (λ s n. record { session = s; number = n }) k.session k.numb
 
 -- what ended is the operation that was open
 open_completed : (top : TopologyValue) (w : Run) (node m dc : ℕ) (o : Op) (out : Outcome) → SubmittedSound top w → IsOpen w node m dc o
-    → EndSound o out top w dc (record { session = node; number = m })
+    → Fits o out → EndSound o out top w dc (record { session = node; number = m })
     → (s : Submission) → Among s w.submitted → txn_of s ≡ record { session = node; number = m } → CompletedSound top w (record { node = node; number = m; home = s.home; op = s.op; outcome = out })
-open_completed top w node m dc o out k b came s i e =
+open_completed top w node m dc o out k b fits came s i e =
     let same : s ≡ b.submission = k.one s b.submission i b.among (e ∙ sym (open_txn b)) in
     record {
       opened = record { submission = s; among = i; session = ap (λ t. t.session) e; number = ap (λ t. t.number) e; home = refl; op = refl };
+      fits = subst (λ z. Fits z out) (sym (ap (λ z. z.op) same ∙ b.op)) fits;
       came =
           subst (λ z. EndSound z out top w s.home (record { session = node; number = m })) (sym (ap (λ z. z.op) same ∙ b.op))
           (subst (λ z. EndSound o out top w z (record { session = node; number = m })) (sym (ap (λ z. z.home) same ∙ b.home)) came);
     }
 
 found_completed : (top : TopologyValue) (w : Run) (node m dc : ℕ) (o : Op) (out : Outcome) → SubmittedSound top w → IsOpen w node m dc o
-    → EndSound o out top w dc (record { session = node; number = m })
+    → Fits o out → EndSound o out top w dc (record { session = node; number = m })
     → (c : Completed) → completed_of w.submitted node (record { number = m; outcome = out }) ≡ Some c → CompletedSound top w c
-found_completed top w node m dc o out k b came c e = go (submission_of w.submitted t) refl e
+found_completed top w node m dc o out k b fits came c e = go (submission_of w.submitted t) refl e
   where
     t : TxnValue
     t = record { session = node; number = m }
@@ -54,7 +56,7 @@ found_completed top w node m dc o out k b came c e = go (submission_of w.submitt
     go (Some s) q r =
         let same : ended_as s ≡ c = cc in
         let i = find_some (λ s. is_same_txn (record { session = s.session; number = s.number }) t) w.submitted s q in
-        subst (λ z. CompletedSound top w z) same (open_completed top w node m dc o out k b came s i.0 (same_txn (txn_of s) t i.1))
+        subst (λ z. CompletedSound top w z) same (open_completed top w node m dc o out k b fits came s i.0 (same_txn (txn_of s) t i.1))
 
 module _ (top : TopologyValue) (w : Run) (node n : ℕ) (inv : Inv top w) (le : (w.sessions node).clock ≤ n) where
   -- the session before the message
@@ -67,33 +69,34 @@ module _ (top : TopologyValue) (w : Run) (node n : ℕ) (inv : Inv top w) (le : 
 
   -- the operation ends
   pub ended_able : (floor : ℕ) (dependencies : List WriterValue) (out : Outcome) (o : Op) → a.floor ≤ floor → floor ≤ n → IsOpen w node a.count a.home o
-      → EndSound o out top w a.home (record { session = node; number = a.count })
+      → Fits o out → EndSound o out top w a.home (record { session = node; number = a.count })
       → ((k : WriterValue) → Among k dependencies → IsDone top w a.home k.txn (floor + 1))
       → ((k : WriterValue) → Among k dependencies → k.shard < top.shards) → is_idle a.current ≡ false → EndLeaves o out top w node floor dependencies
       → SessionAble top w node (ended n a floor dependencies out)
-  ended_able floor dependencies out o above below b came done placed busy leaves =
+  ended_able floor dependencies out o above below b fits came done placed busy leaves =
       record {
         grows =
             record {
               clock = le;
               count = le_refl a.count;
-              home = refl;
               floor = above;
               asked_now = λ number m asked k. record { number = k.number; round = λ q. tt };
               asked_at = λ number time m asked k. record { number = k.number; round = λ q. tt };
             };
-        session = record { home = (inv.sessions node).home; floor = below; current = tt; dependencies = done; placed = placed; taken = refl };
-        completed = found_completed top w node a.count a.home o out inv.submitted b came;
+        session = record { floor = below; current = tt; dependencies = done; placed = placed; taken = refl };
+        completed = found_completed top w node a.count a.home o out inv.submitted b fits came;
         sends = λ x g at e m. absurd m;
         turn =
             inr
             (record {
               what = o;
               came = out;
+              fits = fits;
               opened = b;
               busy = busy;
               idle = refl;
               count = refl;
+              home = refl;
               floor = above;
               untaken = refl;
               leaves = leaves;
@@ -111,13 +114,11 @@ module _ (top : TopologyValue) (w : Run) (node n : ℕ) (inv : Inv top w) (le : 
             record {
               clock = le;
               count = le_refl a.count;
-              home = refl;
               floor = le_refl a.floor;
               asked_now = λ number m asked k. record { number = k.number; round = λ q. asked_first m asked (k.round q) };
               asked_at = λ number time m asked k. record { number = k.number; round = λ q. asked_second time m asked (k.round q) };
             };
         session = record {
-          home = (inv.sessions node).home;
           floor = le_trans (inv.sessions node).floor le;
           current = sound;
           dependencies = (inv.sessions node).dependencies;
@@ -126,7 +127,7 @@ module _ (top : TopologyValue) (w : Run) (node n : ℕ) (inv : Inv top w) (le : 
         };
         completed = λ c e. absurd (nothing_ended w.submitted node (record { state = record a { clock = n; current = o }; sends = sends }) c (inv.sessions node).taken e);
         sends = send;
-        turn = inl (record { count = refl; floor = refl; dependencies = refl; untaken = (inv.sessions node).taken; idle = idle });
+        turn = inl (record { count = refl; home = refl; floor = refl; dependencies = refl; untaken = (inv.sessions node).taken; idle = idle });
       }
 
   -- ## What was heard stays so as the clock moves
@@ -141,10 +142,11 @@ module _ (top : TopologyValue) (w : Run) (node n : ℕ) (inv : Inv top w) (le : 
   open_later : (now o : Open) → OpenSound top w node a o → OpenSound top w node (later now) o
   open_later now Idle k = tt
   open_later now (Writing coordinator) k = record { batch = k.batch; opened = k.opened; coordinator = k.coordinator }
-  open_later now (FirstRound read heard) k = record { opened = k.opened; heard = λ h m. heard_now_later now read h (k.heard h m) }
+  open_later now (FirstRound read heard) k = record { opened = k.opened; depends = k.depends; heard = λ h m. heard_now_later now read h (k.heard h m) }
   open_later now (SecondRound read time first heard) k =
       record {
         opened = k.opened;
+        depends = k.depends;
         first = λ h m. heard_now_later now read h (k.first h m);
         all = k.all;
         time = k.time;

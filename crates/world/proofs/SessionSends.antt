@@ -1,5 +1,5 @@
 -- What a session sends: at a submission Begin, Prepare or Read, at a message ReadAt, and all of it from its node.
-use Rattle.std.proofs.Common.{◌≡◌, sym, refl, subst, ℕ, ◌+◌, List, [], map, inl, inr}
+use Rattle.std.proofs.Common.{◌≡◌, sym, refl, subst, ℕ, ◌+◌, List, ◌∷◌, [], map, inl, inr}
 use Rattle.planner.specs.Plan.{cohorts_of, shards_asked}
 use Rattle.messages.specs.declared.op.Op.{Op}
 use Rattle.messages.specs.declared.op.Op.TheVariants as op
@@ -38,13 +38,13 @@ pub heard_sends : (top : TopologyValue) (me n : ℕ) (a : SessionState) (from : 
 heard_sends top me n a from m =
     heard_cases top me n a from m (λ (st : SessionStep). AreOfSession me st.sends)
     (record {
-      still = nothing me;
-      wrote = λ coordinator t commit stamp is. nothing me;
-      kept = λ read hs rows k. nothing me;
-      second = λ read hs rows nodes k all. mapped me (read_at_of me n a read _ _) nodes (λ node. (refl, tt));
-      ends = λ read hs rows taken k all. nothing me;
-      kept_at = λ read time first hs gs rows k. nothing me;
-      ends_at = λ read time first hs rows taken k. nothing me;
+      still = λ ignored. nothing me;
+      wrote = λ coordinator t commit stamp k. nothing me;
+      kept = λ read hs rows k some. nothing me;
+      second = λ read hs rows k all s ss e. mapped me (read_at_of me n a read _ _) (s ∷ ss) (λ node. (refl, tt));
+      ends = λ read hs rows k all e. nothing me;
+      kept_at = λ read time first hs rows k some. nothing me;
+      ends_at = λ read time first hs rows k all. nothing me;
       gives_up = λ read time first hs k. nothing me;
     })
 

@@ -13,6 +13,7 @@ use Rattle.messages.specs.Topology.{TopologyValue}
 use Rattle.messages.specs.Session.{SessionState, SessionStep, is_idle}
 use Rattle.messages.specs.SessionEvents.{session_taken}
 use Rattle.world.specs.Run.{Run, Event, Completed, with_actor, ended_by, after_session}
+use Rattle.world.specs.Promises.{Fits}
 use Rattle.world.proofs.Among.{Among, among_append}
 use Rattle.world.proofs.Growth.{SessionGrows, Grows}
 use Rattle.world.proofs.Invariant.{EnvelopeSound, IsOpen, SessionSound, AnsweredFrom, CompletedSound, Inv}
@@ -24,6 +25,7 @@ use Rattle.world.proofs.Transcripts.{old_stays, ended_or_old}
 -- the step leaves open what is open, tells nothing, and what the session depends on is as it was
 pub record Stays (a b : SessionState) : Type 0 where
   pub count : b.count ≡ a.count
+  pub home : b.home ≡ a.home
   pub floor : b.floor ≡ a.floor
   pub dependencies : b.dependencies ≡ a.dependencies
   pub untaken : b.untaken ≡ None
@@ -36,18 +38,18 @@ EndLeaves (op.Batch batch) (outcome.Wrote commit stamp) top w node floor depende
 EndLeaves (op.Read read) (outcome.Read time answer) top w node floor dependencies =
     (time ≡ floor) × ((rows : List RowAt) × AnsweredFrom top w (w.sessions node).home read time rows × (dependencies ≡ with_writers (w.sessions node).dependencies rows))
 EndLeaves (op.Read read) outcome.Collected top w node floor dependencies = dependencies ≡ (w.sessions node).dependencies
-EndLeaves (op.Batch batch) (outcome.Read time answer) top w node floor dependencies = ⊥
-EndLeaves (op.Batch batch) outcome.Collected top w node floor dependencies = ⊥
-EndLeaves (op.Read read) (outcome.Wrote commit stamp) top w node floor dependencies = ⊥
+EndLeaves o r top w node floor dependencies = Unit {0}
 
 -- the step ends the open operation
 pub record Ends (top : TopologyValue) (w : Run) (node : ℕ) (b : SessionState) : Type 0 where
   pub what : Op
   pub came : Outcome
+  pub fits : Fits what came
   pub opened : IsOpen w node (w.sessions node).count (w.sessions node).home what
   pub busy : is_idle (w.sessions node).current ≡ false
   pub idle : is_idle b.current ≡ true
   pub count : b.count ≡ (w.sessions node).count
+  pub home : b.home ≡ (w.sessions node).home
   pub floor : (w.sessions node).floor ≤ b.floor
   pub untaken : b.untaken ≡ Some (record { number = (w.sessions node).count; outcome = came })
   pub leaves : EndLeaves what came top w node b.floor b.dependencies
@@ -101,7 +103,6 @@ session_step_kept top w node st ev inv k =
       ];
       submitted = record {
         accepted = inv.submitted.accepted;
-        home = inv.submitted.home;
         number = λ b m. le_trans (inv.submitted.number b m) (gr.sessions b.session).count;
         one = inv.submitted.one;
         placed = inv.submitted.placed;

@@ -1,31 +1,28 @@
 -- Each message that a session hears keeps all.
-use Rattle.std.proofs.Common.{◌≡◌, ℕ, ◌+◌, ◌<◌, ◌≤◌, max, Bool, true, false, ◌&&◌, List, [], ◌∷◌, ◌++◌, map, ◌⊎◌, None, inl, inr, refl, sym, ap, ap₂, ◌∙◌, subst, arith, eqb-true, le_refl, le_trans}
-use Rattle.std.specs.Prelude.{◌==◌}
+use Rattle.std.proofs.Common.{◌≡◌, ℕ, ◌+◌, ◌<◌, ◌≤◌, max, true, false, List, [], ◌∷◌, map, ◌⊎◌, None, inl, inr, refl, sym, ap, ap₂, ◌∙◌, subst, arith, le_refl, le_trans}
 use Rattle.std.specs.List.{list_all}
-use Rattle.std.proofs.lemmas.Bool.{and_parts}
 use Rattle.logical_time.specs.Stamps.{StampValue, TxnValue, WriterValue}
 use Rattle.slice.specs.declared.read.Read.{Read}
 use Rattle.messages.specs.declared.rows_now.RowNow.{RowNow}
 use Rattle.messages.specs.declared.rows_at.RowAt.{RowAt}
-use Rattle.messages.specs.declared.rows_at.AtTime.{AtTime}
 use Rattle.messages.specs.declared.rows_at.AtTime.TheVariants as at
 use Rattle.messages.specs.declared.op.Op.TheVariants as op
 use Rattle.messages.specs.declared.outcome.Outcome.TheVariants as outcome
 use Rattle.messages.specs.declared.body.Body.{Body}
-use Rattle.messages.specs.declared.body.Body.TheVariants.{Done, PartNow, PartAt}
+use Rattle.messages.specs.declared.body.Body.TheVariants.{Done}
 use Rattle.messages.specs.Topology.{TopologyValue, dc_of, shard_of}
-use Rattle.messages.specs.Words.{is_same_txn}
 use Rattle.messages.specs.Session.{SessionState, Open, Idle, Writing, FirstRound, SecondRound, HeardNow, HeardAt, is_idle}
 use Rattle.messages.specs.Submitting.{share_of}
-use Rattle.messages.specs.Rounds.{asked_nodes, is_missing, all_heard, effective_time, late_keys, late_nodes, was_heard_at, is_missing_at, all_heard_at, rows_taken, answer_of, with_writers}
-use Rattle.messages.specs.SessionEvents.{answered, written, done_if, done_in, read_at_of, second_if, heard_if, part_now_if, part_now_in, heard_at_if, taken_at, part_at_if, part_at_in, heard}
+use Rattle.messages.specs.Rounds.{asked_nodes, all_heard, effective_time, late_keys, late_nodes, was_heard_at, all_heard_at, rows_taken, answer_of, with_writers}
+use Rattle.messages.specs.SessionEvents.{answered, given_up, written, read_at_of, heard}
 use Rattle.messages.proofs.Greatest.{effective_above_floor}
 use Rattle.world.specs.Run.{Run}
-use Rattle.world.proofs.Among.{Among, last_or_old, map_only, same_txn}
+use Rattle.world.proofs.Among.{Among, last_or_old, map_only}
 use Rattle.world.proofs.Growth.{FirstAsked, SecondAsked, AskedAt}
 use Rattle.world.proofs.Facts.{IsWritten, lead, IsDecided, IsDone, DecisionSound, AnswersNow, AnswersAt}
-use Rattle.world.proofs.Invariant.{home, IsAtHome, TellsNow, TellsAt, TellsThen, Says, EnvelopeSound, IsOpen, HeardNowSound, HeardAtSound, WritingSound, SecondSound, OpenSound, AnsweredFrom, Inv}
-use Rattle.world.proofs.Lasting.{answers_now_grow}
+use Rattle.world.proofs.Invariant.{IsAtHome, TellsNow, TellsAt, Says, EnvelopeSound, IsOpen, HeardNowSound, HeardAtSound, WritingSound, FirstSound, SecondSound, OpenSound, AnsweredFrom, Inv}
+use Rattle.world.proofs.Lasting.{done_grows, answers_now_grow}
+use Rattle.world.proofs.HeardCases.{WriteAnswer, FirstAnswer, SecondAnswer, with_rows_now, with_rows_at, opened_as, heard_cases}
 use Rattle.world.proofs.SessionSteps.{SessionAble}
 use Rattle.world.proofs.SessionEnds.{open_txn, ended_able, waits_able, calm_able, heard_now_later, heard_at_later}
 use Rattle.world.proofs.Asking.{missing_asked, missing_late}
@@ -46,12 +43,12 @@ module _ (top : TopologyValue) (w : Run) (node n : ℕ) (some : 0 < top.shards) 
 
   -- ## Done
 
-  -- a session is still at home where it submitted the open write
-  still_home : (from : ℕ) (t : TxnValue) → IsAtHome top w from t → t ≡ record { session = node; number = a.count } → dc_of top from ≡ a.home
-  still_home from t k is =
-      let at : k.submission.home ≡ home top k.submission.session = inv.submitted.home k.submission k.written.among in
-      let own : k.submission.session ≡ node = ap (λ z. z.session) (k.written.txn ∙ is) in
-      k.here ∙ (at ∙ (ap (home top) own ∙ sym (inv.sessions node).home))
+  -- a session is at home where it submitted the open write
+  still_home : (c from : ℕ) (t : TxnValue) → WritingSound top w node a c → IsAtHome top w from t → t ≡ record { session = node; number = a.count } → dc_of top from ≡ a.home
+  still_home c from t k here is =
+      let same : here.submission ≡ k.opened.submission =
+      inv.submitted.one here.submission k.opened.submission here.written.among k.opened.among (here.written.txn ∙ is ∙ sym (open_txn k.opened)) in
+      here.here ∙ ap (λ b. b.home) same ∙ k.opened.home
 
   -- the shard that decided the open write is its coordinator at the session's home
   decided_lead : (c from : ℕ) (t : TxnValue) (commit : ℕ) (stamp : StampValue) (k : WritingSound top w node a c) → IsDecided w from t commit stamp
@@ -60,7 +57,7 @@ module _ (top : TopologyValue) (w : Run) (node n : ℕ) (some : 0 < top.shards) 
   decided_lead c from t commit stamp k d here is =
       let s : DecisionSound top w from d.decision = (inv.shards from).decided d.decision d.among in
       let opened : IsWritten w (record { session = node; number = a.count }) k.opened.submission k.batch = record { among = k.opened.among; txn = open_txn k.opened; op = k.opened.op } in
-      s.here ∙ ap₂ (λ dc b. lead top dc b) (still_home from t here is) (batch_one inv.submitted (written_at (d.txn ∙ is) s.written) opened)
+      s.here ∙ ap₂ (λ dc b. lead top dc b) (still_home c from t k here is) (batch_one inv.submitted (written_at (d.txn ∙ is) s.written) opened)
 
   written_able : (c from : ℕ) (t : TxnValue) (commit : ℕ) (stamp : StampValue) → a.current ≡ Writing c → WritingSound top w node a c → commit ≤ n → IsDecided w from t commit stamp
       → IsAtHome top w from t
@@ -71,13 +68,13 @@ module _ (top : TopologyValue) (w : Run) (node n : ℕ) (some : 0 < top.shards) 
       let done : IsDone top w a.home t (max a.floor commit + 1) =
       record {
         node = from;
-        here = still_home from t here is;
+        here = still_home c from t k here is;
         decision = d.decision;
         among = d.among;
         txn = d.txn;
         commit = omega arith;
       } in
-      ended_able top w node n inv le (max a.floor commit) (record { txn = t; shard = c } ∷ []) (outcome.Wrote commit stamp) (op.Batch k.batch) (omega arith) (omega arith) k.opened
+      ended_able top w node n inv le (max a.floor commit) (record { txn = t; shard = c } ∷ []) (outcome.Wrote commit stamp) (op.Batch k.batch) (omega arith) (omega arith) k.opened tt
       (subst (λ m. IsDecided w m (record { session = node; number = a.count }) commit stamp) (decided_lead c from t commit stamp k d here is)
       (subst (λ u. IsDecided w from u commit stamp) is d))
       (λ u m. elim m [ inl q ↦ subst (λ z. IsDone top w a.home z.txn (max a.floor commit + 1)) (sym q) done | inr o ↦ absurd o ])
@@ -88,173 +85,188 @@ module _ (top : TopologyValue) (w : Run) (node n : ℕ) (some : 0 < top.shards) 
       (ap is_idle current)
       (omega arith, (c, ap (λ (u : TxnValue). let z : WriterValue = record { txn = u; shard = c } in z ∷ []) is))
 
-  done_go : (o : Open) → a.current ≡ o → OpenSound top w node a o → (from : ℕ) (t : TxnValue) (commit : ℕ) (stamp : StampValue) → commit ≤ n → IsDecided w from t commit stamp
-      → IsAtHome top w from t
-      → SessionAble top w node (done_in o node n a t commit stamp)
-  done_go Idle current k from t commit stamp early d here = calm_able top w node n inv le
-  done_go (FirstRound read heard) current k from t commit stamp early d here = calm_able top w node n inv le
-  done_go (SecondRound read time first heard) current k from t commit stamp early d here = calm_able top w node n inv le
-  done_go (Writing c) current k from t commit stamp early d here = go (is_same_txn t u) refl
-    where
-      u : TxnValue
-      u = record { session = node; number = a.count }
-
-      go : (b : Bool) → is_same_txn t u ≡ b → SessionAble top w node (done_if b n a c t commit stamp)
-      go true e = written_able c from t commit stamp current k early d here (same_txn t u e)
-      go false e = calm_able top w node n inv le
-
   -- ## The end of a read
 
-  answered_able : (read : Read) (time : ℕ) (rows : List RowAt) → a.floor ≤ time → time ≤ n → IsOpen w node a.count a.home (op.Read read)
-      → AnsweredFrom top w a.home read time rows → is_idle a.current ≡ false → SessionAble top w node (answered n a read time rows)
-  answered_able read time rows above below opened from busy =
-      ended_able top w node n inv le time (with_writers a.dependencies rows) (outcome.Read time (answer_of read rows)) (op.Read read) above below opened
-      (record { rows = rows; answer = refl; from = from })
+  answered_able : (read : Read) (time : ℕ) (rows : List RowAt) → a.floor ≤ time → time ≤ n → (k : IsOpen w node a.count a.home (op.Read read))
+      → k.submission.dependencies ≡ a.dependencies → AnsweredFrom top w a.home read time rows → is_idle a.current ≡ false
+      → SessionAble top w node (answered n a read time rows)
+  answered_able read time rows above below opened depends from busy =
+      ended_able top w node n inv le time (with_writers a.dependencies rows) (outcome.Read time (answer_of read rows)) (op.Read read) above below opened tt
+      (record {
+        rows = rows;
+        answer = refl;
+        from = from;
+        depends =
+            record {
+              submission = opened.submission;
+              among = opened.among;
+              txn = open_txn opened;
+              done = λ k m.
+                  done_grows (same_run top w) (omega arith) ((inv.sessions node).dependencies k (subst (λ ds. Among k ds) depends m));
+            };
+      })
       (writers_done top w some inv a.home a.floor time read rows a.dependencies from above (inv.sessions node).dependencies)
       (writers_placed top w some inv a.home time read rows a.dependencies from (inv.sessions node).placed)
       busy (refl, (rows, from, refl))
 
-  -- ## PartNow
+  -- ## A message
 
-  module _ (read : Read) (old : List HeardNow) (current : a.current ≡ FirstRound read old) (opened : IsOpen w node a.count a.home (op.Read read)) where
-    module _ (hs : List HeardNow) (sound : (o : Open) (h : HeardNow) → Among h hs → HeardNowSound top w (later o) read h) where
+  module _ (from sent : ℕ) (b : Body) (early : sent ≤ n) (says : Says top w from node sent b) where
+    -- what is known of the open operation
+    open_so : {o : Open} → a.current ≡ o → OpenSound top w node a o
+    open_so is = subst (λ o. OpenSound top w node a o) is (inv.sessions node).current
+
+    -- ## The first round
+
+    module _ (read : Read) (old : List HeardNow) (rows : List RowNow) (answer : FirstAnswer top a from b read old rows) where
+      abbrev hs : List HeardNow
+      hs = with_rows_now old from rows
+
+      first : FirstSound top w node a read old
+      first = open_so {o = FirstRound read old} answer.current
+
+      pub first_is_open : IsOpen w node a.count a.home (op.Read read)
+      first_is_open = first.opened
+
+      -- the answers that were kept before, and this one
+      pub heard_first : (o : Open) (h : HeardNow) → Among h hs → HeardNowSound top w (later o) read h
+      heard_first o h m = by (last_or_old h (record { from = from; rows = rows }) old m)
+        where
+          tells : TellsNow top w from node sent a.count rows
+          tells = subst (Says top w from node sent) answer.body says
+
+          share : tells.read ≡ share_of top read (shard_of top from)
+          share = subst (λ z. FirstAsked top z from tells.read) answer.current (tells.asked.round refl)
+
+          new : HeardNowSound top w (later o) read (record { from = from; rows = rows })
+          new =
+              record {
+                asked = missing_asked (asked_nodes top a read) old from answer.missing;
+                answers = subst (λ z. AnswersNow top w from n z rows) share (answers_now_grow (same_run top w) early tells.answers);
+              }
+
+          by : Among h old ⊎ (h ≡ record { from = from; rows = rows }) → HeardNowSound top w (later o) read h
+          by (inl i) = heard_now_later top w node n inv le o read h (first.heard h i)
+          by (inr e) = subst (λ z. HeardNowSound top w (later o) read z) (sym e) new
+
       effective_early : effective_time a.floor hs ≤ n
-      effective_early = effective_by_clock top w (later Idle) read hs some (sound Idle) (le_trans (inv.sessions node).floor le)
+      effective_early = effective_by_clock top w (later Idle) read hs some (heard_first Idle) (le_trans (inv.sessions node).floor le)
 
-      second_go : all_heard (asked_nodes top a read) hs ≡ true → (late : List ℕ) → late_nodes (asked_nodes top a read) (effective_time a.floor hs) hs ≡ late
-          → SessionAble top w node (second_if late node n a read (effective_time a.floor hs) hs)
-      second_go all [] e =
-          let time = effective_time a.floor hs in
-          answered_able read time (rows_taken time hs []) (effective_above_floor a.floor hs) effective_early opened
-          (taken_answers top w (later Idle) read hs some (sound Idle) time [] refl (λ h m. absurd m) all (ap (list_all (was_heard_at [])) e)) (ap is_idle current)
-      second_go all (s ∷ ss) e =
+      pub first_answers : all_heard (asked_nodes top a read) hs ≡ true → late_nodes (asked_nodes top a read) (effective_time a.floor hs) hs ≡ []
+          → AnsweredFrom top w a.home read (effective_time a.floor hs) (rows_taken (effective_time a.floor hs) hs [])
+      first_answers all none =
+          taken_answers top w (later Idle) read hs some (heard_first Idle) (effective_time a.floor hs) [] refl (λ h m. absurd m) all
+          (ap (list_all (was_heard_at [])) none)
+
+      kept_able : SessionAble top w node (opened_as n a (FirstRound read hs) [])
+      kept_able =
+          waits_able top w node n inv le (FirstRound read hs) [] (λ m asked q. subst (λ z. FirstAsked top z m asked) answer.current q)
+          (λ t m asked q. absurd (subst (λ z. SecondAsked z t m asked) answer.current q))
+          (record { opened = first.opened; depends = first.depends; heard = heard_first (FirstRound read hs) }) (λ x g is env m. absurd m)
+          (sym (ap is_idle answer.current))
+
+      second_able : all_heard (asked_nodes top a read) hs ≡ true → (late : List ℕ)
+          → SessionAble top w node (opened_as n a (SecondRound read (effective_time a.floor hs) hs []) (map (read_at_of node n a read (effective_time a.floor hs) hs) late))
+      second_able all late =
           let time = effective_time a.floor hs in
           let o = SecondRound read time hs [] in
-          waits_able top w node n inv le o (map (read_at_of node n a read time hs) (s ∷ ss)) (λ m asked k. tt)
-          (λ t m asked k. absurd (subst (λ z. SecondAsked z t m asked) current k))
-          (record { opened = opened; first = sound o; all = all; time = refl; clock = effective_early; heard = λ h m. absurd m })
+          waits_able top w node n inv le o (map (read_at_of node n a read time hs) late) (λ m asked q. tt)
+          (λ t m asked q. absurd (subst (λ z. SecondAsked z t m asked) answer.current q))
+          (record { opened = first.opened; depends = first.depends; first = heard_first o; all = all; time = refl; clock = effective_early; heard = λ h m. absurd m })
           (λ x g is env m.
-          let q = map_only (read_at_of node n a read time hs) (s ∷ ss) env m in
+          let q = map_only (read_at_of node n a read time hs) late env m in
           subst (λ z. EnvelopeSound top x z) (sym q.2)
           (effective_early, subst (λ z. AskedAt z a.count time q.0 (record read { keys = late_keys time hs q.0 })) (sym is) (record { number = le_refl a.count; round = λ r. (refl, refl) })))
-          (sym (ap is_idle current))
+          (sym (ap is_idle answer.current))
 
-      heard_now_go : (b : Bool) → all_heard (asked_nodes top a read) hs ≡ b → SessionAble top w node (heard_if b top node n a read hs)
-      heard_now_go true all = second_go all (late_nodes (asked_nodes top a read) (effective_time a.floor hs) hs) refl
-      heard_now_go false all =
-          waits_able top w node n inv le (FirstRound read hs) [] (λ m asked k. subst (λ z. FirstAsked top z m asked) current k)
-          (λ t m asked k. absurd (subst (λ z. SecondAsked z t m asked) current k)) (record { opened = opened; heard = sound (FirstRound read hs) }) (λ x g is env m. absurd m) (sym (ap is_idle current))
+      ends_able : all_heard (asked_nodes top a read) hs ≡ true → late_nodes (asked_nodes top a read) (effective_time a.floor hs) hs ≡ []
+          → SessionAble top w node (answered n a read (effective_time a.floor hs) (rows_taken (effective_time a.floor hs) hs []))
+      ends_able all none =
+          answered_able read (effective_time a.floor hs) (rows_taken (effective_time a.floor hs) hs []) (effective_above_floor a.floor hs) effective_early
+          first.opened first.depends (first_answers all none) (ap is_idle answer.current)
 
-    -- the answers that were kept before, and this one
-    pub more_heard : (from number time : ℕ) (rows : List RowNow) → time ≤ n → ((h : HeardNow) → Among h old → HeardNowSound top w a read h)
-        → TellsNow top w from node time number rows
-        → number ≡ a.count → Among from (asked_nodes top a read)
-        → (o : Open) (h : HeardNow) → Among h (old ++ record { from = from; rows = rows } ∷ []) → HeardNowSound top w (later o) read h
-    more_heard from number time rows early k tells is asked o h m = by (last_or_old h (record { from = from; rows = rows }) old m)
-      where
-        share : tells.read ≡ share_of top read (shard_of top from)
-        share = subst (λ z. FirstAsked top z from tells.read) current (tells.asked.round is)
+    -- ## The second round
 
-        new : HeardNowSound top w (later o) read (record { from = from; rows = rows })
-        new =
-            record {
-              asked = asked;
-              answers = subst (λ z. AnswersNow top w from n z rows) share (answers_now_grow (same_run top w) early tells.answers);
-            }
+    module _ (read : Read) (time : ℕ) (first : List HeardNow) (old : List HeardAt) (is_open : a.current ≡ SecondRound read time first old) where
+      second : SecondSound top w node a read time first old
+      second = open_so {o = SecondRound read time first old} is_open
 
-        by : Among h old ⊎ (h ≡ record { from = from; rows = rows }) → HeardNowSound top w (later o) read h
-        by (inl i) = heard_now_later top w node n inv le o read h (k h i)
-        by (inr e) = subst (λ z. HeardNowSound top w (later o) read z) (sym e) new
+      pub second_is_open : IsOpen w node a.count a.home (op.Read read)
+      second_is_open = second.opened
 
-    first_go : ((h : HeardNow) → Among h old → HeardNowSound top w a read h) → (from number time : ℕ) (rows : List RowNow) → time ≤ n
-        → TellsNow top w from node time number rows
-        → (b : Bool) → ((number == a.count) && is_missing (asked_nodes top a read) old from) ≡ b
-        → SessionAble top w node (part_now_if b top node n a read old from rows)
-    first_go k from number time rows early tells false e = calm_able top w node n inv le
-    first_go k from number time rows early tells true e =
-        let asked = asked_nodes top a read in
-        let p = and_parts (number == a.count) (is_missing asked old from) e in
-        let hs = old ++ record { from = from; rows = rows } ∷ [] in
-        heard_now_go hs (more_heard from number time rows early k tells (eqb-true number a.count p.0) (missing_asked asked old from p.1)) (all_heard asked hs) refl
+      first_later : (o : Open) (h : HeardNow) → Among h first → HeardNowSound top w (later o) read h
+      first_later o h m = heard_now_later top w node n inv le o read h (second.first h m)
 
-  part_now_go : (o : Open) → a.current ≡ o → OpenSound top w node a o → (from number time : ℕ) (rows : List RowNow) → time ≤ n
-      → TellsNow top w from node time number rows
-      → SessionAble top w node (part_now_in o top node n a from number rows)
-  part_now_go Idle e k from number time rows early tells = calm_able top w node n inv le
-  part_now_go (Writing c) e k from number time rows early tells = calm_able top w node n inv le
-  part_now_go (SecondRound read effective first heard) e k from number time rows early tells = calm_able top w node n inv le
-  part_now_go (FirstRound read old) e k from number time rows early tells = first_go read old e k.opened k.heard from number time rows early tells _ refl
+      module _ (rows : List RowAt) (answer : SecondAnswer top a from b read time first old (at.Rows rows)) where
+        abbrev gs : List HeardAt
+        gs = with_rows_at old from rows
 
-  -- ## PartAt
+        -- the answers that were kept before, and this one
+        heard_second : (o : Open) (h : HeardAt) → Among h gs → HeardAtSound top w (later o) read time first h
+        heard_second o h m = by (last_or_old h (record { from = from; rows = rows }) old m)
+          where
+            tells : TellsAt top w from node a.count answer.bound rows
+            tells = subst (Says top w from node sent) answer.body says
 
-  module _ (read : Read) (time : ℕ) (first : List HeardNow) (old : List HeardAt) (current : a.current ≡ SecondRound read time first old) (k : SecondSound top w node a read time first old) where
-    pub first_later : (o : Open) (h : HeardNow) → Among h first → HeardNowSound top w (later o) read h
-    first_later o h m = heard_now_later top w node n inv le o read h (k.first h m)
+            share : (time ≡ answer.bound) × (tells.read ≡ record read { keys = late_keys time first from })
+            share = subst (λ z. SecondAsked z answer.bound from tells.read) answer.current (tells.asked.round refl)
 
-    above : a.floor ≤ time
-    above = subst (λ t. a.floor ≤ t) (sym k.time) (effective_above_floor a.floor first)
+            new : HeardAtSound top w (later o) read time first (record { from = from; rows = rows })
+            new =
+                record {
+                  asked = missing_late (asked_nodes top a read) time first old from answer.missing;
+                  answers =
+                      subst (λ z. AnswersAt top w from time z rows) share.1 (subst (λ z. AnswersAt top w from z tells.read rows) (sym share.0) tells.answers);
+                }
 
-    heard_at_go : (hs : List HeardAt) → ((o : Open) (h : HeardAt) → Among h hs → HeardAtSound top w (later o) read time first h)
-        → (b : Bool) → all_heard_at (asked_nodes top a read) time first hs ≡ b → SessionAble top w node (heard_at_if b n a read time first hs)
-    heard_at_go hs sound true all =
-        answered_able read time (rows_taken time first hs) above (le_trans k.clock le) k.opened
-        (taken_answers top w (later Idle) read first some (first_later Idle) time hs k.time (sound Idle) k.all all) (ap is_idle current)
-    heard_at_go hs sound false all =
-        let o = SecondRound read time first hs in
-        waits_able top w node n inv le o [] (λ m asked q. tt) (λ t m asked q. subst (λ z. SecondAsked z t m asked) current q)
-        (record { opened = k.opened; first = first_later o; all = k.all; time = k.time; clock = le_trans k.clock le; heard = sound o }) (λ x g is env m. absurd m) (sym (ap is_idle current))
+            by : Among h old ⊎ (h ≡ record { from = from; rows = rows }) → HeardAtSound top w (later o) read time first h
+            by (inl i) = heard_at_later top w node n inv le o read time first h (second.heard h i)
+            by (inr e) = subst (λ z. HeardAtSound top w (later o) read time first z) (sym e) new
 
-    -- the answers that were kept before, and this one
-    pub more_heard_at : (from number bound : ℕ) (rows : List RowAt) → TellsAt top w from node number bound rows → number ≡ a.count
-        → Among from (late_nodes (asked_nodes top a read) time first)
-        → (o : Open) (h : HeardAt) → Among h (old ++ record { from = from; rows = rows } ∷ []) → HeardAtSound top w (later o) read time first h
-    more_heard_at from number bound rows tells is asked o h m = by (last_or_old h (record { from = from; rows = rows }) old m)
-      where
-        share : (time ≡ bound) × (tells.read ≡ record read { keys = late_keys time first from })
-        share = subst (λ z. SecondAsked z bound from tells.read) current (tells.asked.round is)
+        pub second_answers : all_heard_at (asked_nodes top a read) time first gs ≡ true → AnsweredFrom top w a.home read time (rows_taken time first gs)
+        second_answers all = taken_answers top w (later Idle) read first some (first_later Idle) time gs second.time (heard_second Idle) second.all all
 
-        new : HeardAtSound top w (later o) read time first (record { from = from; rows = rows })
-        new =
-            record {
-              asked = asked;
-              answers =
-                  subst (λ z. AnswersAt top w from time z rows) share.1 (subst (λ z. AnswersAt top w from z tells.read rows) (sym share.0) tells.answers);
-            }
+        kept_at_able : SessionAble top w node (opened_as n a (SecondRound read time first gs) [])
+        kept_at_able =
+            let o = SecondRound read time first gs in
+            waits_able top w node n inv le o [] (λ m asked q. tt) (λ t m asked q. subst (λ z. SecondAsked z t m asked) is_open q)
+            (record {
+              opened = second.opened;
+              depends = second.depends;
+              first = first_later o;
+              all = second.all;
+              time = second.time;
+              clock = le_trans second.clock le;
+              heard = heard_second o;
+            }) (λ x g is env m. absurd m) (sym (ap is_idle is_open))
 
-        by : Among h old ⊎ (h ≡ record { from = from; rows = rows }) → HeardAtSound top w (later o) read time first h
-        by (inl i) = heard_at_later top w node n inv le o read time first h (k.heard h i)
-        by (inr e) = subst (λ z. HeardAtSound top w (later o) read time first z) (sym e) new
+        ends_at_able : all_heard_at (asked_nodes top a read) time first gs ≡ true → SessionAble top w node (answered n a read time (rows_taken time first gs))
+        ends_at_able all =
+            answered_able read time (rows_taken time first gs) (subst (λ t. a.floor ≤ t) (sym second.time) (effective_above_floor a.floor first))
+            (le_trans second.clock le) second.opened second.depends (second_answers all) (ap is_idle is_open)
 
-    taken_go : (answer : AtTime) (from number bound : ℕ) → TellsThen answer top w from node number bound → number ≡ a.count
-        → Among from (late_nodes (asked_nodes top a read) time first)
-        → SessionAble top w node (taken_at answer top n a read time first old from)
-    taken_go at.Collected from number bound tells is asked =
-        ended_able top w node n inv le a.floor a.dependencies outcome.Collected (op.Read read) (le_refl a.floor)
-        (le_trans (inv.sessions node).floor le) k.opened tt (inv.sessions node).dependencies (inv.sessions node).placed (ap is_idle current) refl
-    taken_go (at.Rows rows) from number bound tells is asked =
-        let hs = old ++ record { from = from; rows = rows } ∷ [] in
-        heard_at_go hs (more_heard_at from number bound rows tells is asked) (all_heard_at (asked_nodes top a read) time first hs) refl
+      gives_up_able : SessionAble top w node (given_up n a)
+      gives_up_able =
+          ended_able top w node n inv le a.floor a.dependencies outcome.Collected (op.Read read) (le_refl a.floor)
+          (le_trans (inv.sessions node).floor le) second.opened tt tt (inv.sessions node).dependencies (inv.sessions node).placed (ap is_idle is_open) refl
 
-    second_round_go : (from number bound : ℕ) (answer : AtTime) → TellsThen answer top w from node number bound → (b : Bool)
-        → ((number == a.count) && is_missing_at (asked_nodes top a read) time first old from) ≡ b
-        → SessionAble top w node (part_at_if b top n a read time first old from answer)
-    second_round_go from number bound answer tells false e = calm_able top w node n inv le
-    second_round_go from number bound answer tells true e =
-        let asked = asked_nodes top a read in
-        let p = and_parts (number == a.count) (is_missing_at asked time first old from) e in
-        taken_go answer from number bound tells (eqb-true number a.count p.0) (missing_late asked time first old from p.1)
+    -- ## Every message
 
-  part_at_go : (o : Open) → a.current ≡ o → OpenSound top w node a o → (from number bound : ℕ) (answer : AtTime) → TellsThen answer top w from node number bound
-      → SessionAble top w node (part_at_in o top n a from number answer)
-  part_at_go Idle e k from number bound answer tells = calm_able top w node n inv le
-  part_at_go (Writing c) e k from number bound answer tells = calm_able top w node n inv le
-  part_at_go (FirstRound read old) e k from number bound answer tells = calm_able top w node n inv le
-  part_at_go (SecondRound read time first old) e k from number bound answer tells = second_round_go read time first old e k from number bound answer tells _ refl
+    wrote_able : (c : ℕ) (t : TxnValue) (commit : ℕ) (stamp : StampValue) → WriteAnswer node a b c t commit stamp → SessionAble top w node (written n a c t commit stamp)
+    wrote_able c t commit stamp k =
+        let tells : Says top w from node sent (Done t commit stamp) = subst (Says top w from node sent) k.body says in
+        written_able c from t commit stamp k.current (open_so {o = Writing c} k.current) (le_trans tells.0.time early) tells.0.decided tells.1 k.own
 
-  -- ## Every message
-
-  pub heard_able : (from time : ℕ) (b : Body) → time ≤ n → Says top w from node time b → SessionAble top w node (heard top node n a from b)
-  heard_able from time (Done t commit stamp) early k = done_go _ refl (inv.sessions node).current from t commit stamp (le_trans k.0.time early) k.0.decided k.1
-  heard_able from time (PartNow number rows) early k = part_now_go _ refl (inv.sessions node).current from number time rows early k
-  heard_able from time (PartAt number bound answer) early k = part_at_go _ refl (inv.sessions node).current from number bound answer k
-  heard_able from time _ early k = calm_able top w node n inv le
+    pub heard_able : SessionAble top w node (heard top node n a from b)
+    heard_able =
+        heard_cases top node n a from b (SessionAble top w node)
+        (record {
+          still = λ ignored. calm_able top w node n inv le;
+          wrote = wrote_able;
+          kept = λ read hs rows k more. kept_able read hs rows k;
+          second = λ read hs rows k all s ss e. second_able read hs rows k all (s ∷ ss);
+          ends = λ read hs rows k all none. ends_able read hs rows k all none;
+          kept_at = λ read time first hs rows k more. kept_at_able read time first hs k.current rows k;
+          ends_at = λ read time first hs rows k all. ends_at_able read time first hs k.current rows k all;
+          gives_up = λ read time first hs k. gives_up_able read time first hs k.current;
+        })

@@ -72,6 +72,6 @@ shard_step_kept top w node st ev inv k patient =
       patient = actor_patient top w.shards node st.state inv.patient patient;
       sessions = λ i. session_grows gr (inv.sessions i);
       sent = λ e m. elim (among_append e w.sent st.sends m) [ inl o ↦ says_grows top e.from e.to e.time gr e.body (inv.sent e o) | inr n ↦ f.sends e n ];
-      submitted = record { accepted = inv.submitted.accepted; home = inv.submitted.home; number = inv.submitted.number; one = inv.submitted.one; placed = inv.submitted.placed };
+      submitted = record { accepted = inv.submitted.accepted; number = inv.submitted.number; one = inv.submitted.one; placed = inv.submitted.placed };
       transcript = λ c m. completed_grows gr (inv.transcript c m);
     }

@@ -17,7 +17,7 @@ use Rattle.world.specs.Run.{Run, Submission, after_submission}
 use Rattle.world.proofs.Among.{Among, among_append, append_first, among_last, last_or_old, map_only}
 use Rattle.world.proofs.Growth.{AskedNow, SessionGrows, Grows}
 use Rattle.world.proofs.Facts.{txn_of, IsWritten, lead, IsDone}
-use Rattle.world.proofs.Invariant.{home, EnvelopeSound, IsOpen, OpenSound, SessionSound, SubmittedSound, Inv}
+use Rattle.world.proofs.Invariant.{EnvelopeSound, IsOpen, OpenSound, SessionSound, SubmittedSound, Inv}
 use Rattle.world.proofs.Lasting.{same_shard_grows, done_grows}
 use Rattle.world.proofs.LastingAll.{says_grows, shard_grows, session_grows, completed_grows}
 use Rattle.world.proofs.ShardSteps.{actor_same}
@@ -26,12 +26,11 @@ use Rattle.world.proofs.Near.{coordinator_below, cohort_below}
 use Rattle.world.proofs.Asking.{asked_below}
 
 -- what a session asked before is of an earlier number, so nothing that it opens now disagrees
-later_grows : (top : TopologyValue) (a b : SessionState) → a.clock ≤ b.clock → b.count ≡ a.count + 1 → b.home ≡ a.home → b.floor ≡ a.floor → SessionGrows top a b
-later_grows top a b clock count home floor =
+later_grows : (top : TopologyValue) (a b : SessionState) → a.clock ≤ b.clock → b.count ≡ a.count + 1 → b.floor ≡ a.floor → SessionGrows top a b
+later_grows top a b clock count floor =
     record {
       clock = clock;
       count = omega arith;
-      home = home;
       floor = omega arith;
       asked_now = λ number m asked k. record { number = let le = k.number in omega arith; round = λ q. absurd (let le = k.number in omega arith) };
       asked_at = λ number time m asked k. record { number = let le = k.number in omega arith; round = λ q. absurd (let le = k.number in omega arith) };
@@ -64,7 +63,7 @@ module _ (top : TopologyValue) (w : Run) (node n : ℕ) (o : Op) (inv : Inv top 
   submission_grows =
       record {
         shards = λ m. same_shard_grows (w.shards m);
-        sessions = session_actor_grows top w.sessions node opens.state (later_grows top (w.sessions node) opens.state (le_of_lt lt) refl refl refl);
+        sessions = session_actor_grows top w.sessions node opens.state (later_grows top (w.sessions node) opens.state (le_of_lt lt) refl refl);
         submitted = λ b m. append_first b w.submitted (sub ∷ []) m;
         transcript = λ c m. m;
       }
@@ -78,7 +77,6 @@ module _ (top : TopologyValue) (w : Run) (node n : ℕ) (o : Op) (inv : Inv top 
   session_sound : OpenSound top after node opens.state current → SessionSound top after node opens.state
   session_sound sound =
       record {
-        home = (inv.sessions node).home;
         floor = le_trans (inv.sessions node).floor (le_of_lt lt);
         current = sound;
         dependencies = λ k m. done_grows submission_grows (le_refl _) ((inv.sessions node).dependencies k m);
@@ -109,10 +107,6 @@ module _ (top : TopologyValue) (w : Run) (node n : ℕ) (o : Op) (inv : Inv top 
   submitted_sound accepted =
       record {
         accepted = λ b m. elim (last_or_old b sub w.submitted m) [ inl i ↦ inv.submitted.accepted b i | inr q ↦ ap (λ z. plan_fault top z.op) q ∙ accepted ];
-        home = λ b m. elim (last_or_old b sub w.submitted m) [
-          | inl i ↦ inv.submitted.home b i
-          | inr q ↦ ap (λ z. z.home) q ∙ (inv.sessions node).home ∙ sym (ap (λ z. home top z.session) q)
-        ];
         number = λ b m. number_go b (last_or_old b sub w.submitted m);
         one = λ b c i j e. one_go b c (last_or_old b sub w.submitted i) (last_or_old c sub w.submitted j) e;
         placed = λ b k m i. elim (last_or_old b sub w.submitted m) [
@@ -221,10 +215,11 @@ module _ (top : TopologyValue) (w : Run) (node n : ℕ) (read : Read) (inv : Inv
       subst (λ z. EnvelopeSound top asking z) (sym q.2) (read_sound q.0 q.1)
 
   read_kept : plan_fault top (op.Read read) ≡ None → Inv top asking
+  unfolding is_open
   read_kept accepted =
       let o = op.Read read in
       opens_kept top w node n o inv lt starts.state.current starts.sends accepted
-      (record { opened = is_open top w node n o inv lt starts.state.current starts.sends; heard = λ h m. absurd m }) read_sends
+      (record { opened = is_open top w node n o inv lt starts.state.current starts.sends; depends = refl; heard = λ h m. absurd m }) read_sends
 
 -- ## Every operation
 

@@ -13,7 +13,7 @@ use Rattle.world.specs.Journals.{finished_as, DoFit}
 use Rattle.world.specs.Threads.{op_numbered, JournalsShowOneTable, ThreadsKeepPromises}
 use Rattle.world.proofs.Among.{Among, among_contains, contains_among, map_only, filter_only}
 use Rattle.world.proofs.Invariant.{home}
-use Rattle.world.proofs.Runs.{every_run}
+use Rattle.world.proofs.Homes.{every_home}
 use Rattle.world.proofs.Addresses.{stands}
 use Rattle.world.proofs.Moves.{session_node_counts}
 use Rattle.world.proofs.Laws.{reads_show_one_table, reads_show_their_past, reads_are_fresh, entries_are_of_submissions}
@@ -43,7 +43,7 @@ show_one_table top journals ok fit node read time answer h here a all =
     sym (operation_there top journals events s.some found.1 b of.submitted) ∙ ap (λ z. op_numbered (journals z) b.number) session ∙ ap (op_numbered (journals node)) number ∙ a.op in
     let same : b.op ≡ op.Read read = cc in
     let at : c.0.home ≡ home top node =
-    sym of.home ∙ (every_run top events s.some).submitted.home b (contains_among b w.submitted of.submitted) ∙ ap (home top) session in
+    sym of.home ∙ (every_home top events).submitted b (contains_among b w.submitted of.submitted) ∙ ap (home top) session in
     reads_show_one_table top events s.some c.0 read time answer h
     (record { completed = is; op = sym of.op ∙ same; outcome = sym (ap (λ (z : Finished). z.outcome) c.2) })
     (subst (λ l. IsPermutation h l) (sym (told.history (home top node) (s.home node)) ∙ ap (λ d. history_of top w d) (sym at)) all)

@@ -5,6 +5,7 @@ use Rattle.logical_time.specs.Stamps.{TxnValue, WriterValue}
 use Rattle.column_family.specs.declared.batch.Change.{Change}
 use Rattle.store.specs.declared.part.Applied.{Applied}
 use Rattle.planner.specs.Plan.{coordinator_of, cohorts_of}
+use Rattle.messages.specs.declared.op.Op.{Op}
 use Rattle.messages.specs.declared.op.Op.TheVariants as op
 use Rattle.messages.specs.declared.envelope.Envelope.{Envelope}
 use Rattle.messages.specs.Topology.{TopologyValue, dc_of, shard_of, shard_node}
@@ -16,7 +17,7 @@ use Rattle.world.specs.Run.{Run, Submission, Completed}
 use Rattle.world.specs.Quiet.{handled}
 use Rattle.world.proofs.Among.{Among}
 use Rattle.world.proofs.Facts.{txn_of, IsWritten, near, lead, Sees}
-use Rattle.world.proofs.Invariant.{IsLead}
+use Rattle.world.proofs.Invariant.{IsLead, MovesTo}
 use Rattle.world.proofs.Causal.{txn_ended}
 use Rattle.world.proofs.About.{Kind, OfBegin, OfPrepare, OfYes, OfCommit, OfRead, OfReadAt, OfReplBegin, OfReplPart, OfNotify, OfPrepareRemote, OfDepCheck, OfDepOk, OfDone, OfPartNow, OfPartAt, kind_of, Sent}
 
@@ -49,6 +50,18 @@ pub record Awaits (a : ShardState) (waiter dependency : TxnValue) : Type 0 where
   pub writer : WriterValue
   pub named : Among writer ballot.dependencies
   pub is : writer.txn ≡ dependency
+
+-- who waits for the dependency in this data centre: a kept ballot of the waiter that names it, or the session whose move to
+-- there the waiter is, which depends on it
+pub data WaitsFor (top : TopologyValue) (w : Run) (dc from : ℕ) (waiter dependency : TxnValue) : Type 0 where
+  of_ballot : Awaits (w.shards from) waiter dependency → WaitsFor top w dc from waiter dependency
+  of_moving : (b : Submission) → Among b w.submitted → txn_of b ≡ waiter → b.session ≡ from → MovesTo dc b.op → (k : WriterValue) → Among k b.dependencies
+      → k.txn ≡ dependency → WaitsFor top w dc from waiter dependency
+
+-- today nobody moves
+pub no_move : (dc : ℕ) (o : Op) → MovesTo dc o → ⊥
+no_move dc (op.Batch batch) k = k
+no_move dc (op.Read read) k = k
 
 abbrev pub vote_of : TxnValue → ℕ → Vote
 vote_of t node = record { txn = t; node = node }
@@ -214,7 +227,7 @@ AppliedLive top w node v =
 pub record AskerLive (top : TopologyValue) (w : Run) (node : ℕ) (k : Asker) : Type 0 where
   pub leads : Leads top w node k.dependency
   pub here : dc_of top node < top.dcs
-  pub awaits : Awaits (w.shards k.from) k.waiter k.dependency
+  pub awaits : WaitsFor top w (dc_of top node) k.from k.waiter k.dependency
 
 -- a vote that came before Begin is for the coordinator, where the write was submitted
 abbrev pub EarlyLive : TopologyValue → Run → ℕ → Vote → Type 0
@@ -276,8 +289,8 @@ SaysLive top w from to (OfReplBegin t) = Away top w to t × (dc_of top to < top.
 SaysLive top w from to (OfReplPart t) = Aside top w to t × Away top w to t × (dc_of top to < top.dcs)
 SaysLive top w from to (OfNotify t) = HasKeptPart (w.shards from) t × Leads top w to t × (dc_of top from ≡ dc_of top to)
 SaysLive top w from to (OfPrepareRemote t) = HasKeptPart (w.shards to) t × Known (w.shards from) t × Leads top w from t × (dc_of top from ≡ dc_of top to)
-SaysLive top w from to (OfDepCheck dependency waiter) = Leads top w to dependency × (dc_of top to < top.dcs) × Awaits (w.shards from) waiter dependency
-SaysLive top w from to (OfDepOk dependency waiter) = Awaits (w.shards to) waiter dependency
+SaysLive top w from to (OfDepCheck dependency waiter) = Leads top w to dependency × (dc_of top to < top.dcs) × WaitsFor top w (dc_of top to) from waiter dependency
+SaysLive top w from to (OfDepOk dependency waiter) = WaitsFor top w (dc_of top from) to waiter dependency
 SaysLive top w from to (OfRead number) = (number ≤ (w.sessions from).count) × (dc_of top to < top.dcs)
 SaysLive top w from to (OfPartNow number) = number ≤ (w.sessions to).count
 SaysLive top w from to (OfReadAt number time) = Round (w.sessions from) number time × (dc_of top to < top.dcs)
