@@ -1,21 +1,19 @@
 -- The entry of a submitted operation is of this operation.
-use Rattle.std.proofs.Common.{◌≡◌, ◌∙◌, ℕ, ◌+◌, ◌<◌, Bool, true, false, List, [], ◌∷◌, ◌++◌, Option, Some, None, Result, Ok, Err, ◌⊎◌, inl, inr, refl, ap, sym, subst}
-use Rattle.std.specs.Prelude.{Contains, if◌then◌else◌}
-use Rattle.logical_time.specs.Stamps.{TxnValue}
+use Rattle.std.proofs.Common.{◌≡◌, ◌∙◌, ℕ, ◌+◌, ◌<◌, Bool, true, false, List, [], ◌∷◌, ◌++◌, Option, Some, None, Ok, refl, ap, sym, subst}
+use Rattle.std.specs.Prelude.{if◌then◌else◌}
 use Rattle.logical_time.specs.declared.fault.Fault.{Fault}
 use Rattle.messages.specs.declared.op.Op.{Op}
 use Rattle.std.specs.Option.{unwrap_or}
 use Rattle.messages.specs.Topology.{TopologyValue, is_session, home_of}
 use Rattle.messages.specs.Clock.{ticked, on_clock}
-use Rattle.messages.specs.Session.{SessionState, SessionStep, is_idle}
+use Rattle.messages.specs.Session.{SessionState}
 use Rattle.messages.specs.Submitting.{begun, submit_fault, submit_if as submitted_if, session_submit}
 use Rattle.world.specs.declared.run_event.RunEvent.{RunEvent as Event}
 use Rattle.world.specs.declared.run_event.RunEvent.TheVariants.{Submit}
 use Rattle.world.specs.declared.completed.Completed.{Completed}
 use Rattle.world.specs.Run.{Run, Submission, opening, after_submission, submit_if, step, run}
 use Rattle.world.specs.Refusals.{Refusal, Refused, NoSuchActor, refused_by, refusal_of}
-use Rattle.world.specs.Journals.{IsBeginning}
-use Rattle.world.proofs.Among.{Among, among_contains, contains_among, among_last, append_first}
+use Rattle.world.proofs.Among.{Among, contains_among, among_last, append_first}
 use Rattle.world.proofs.Facts.{txn_of}
 use Rattle.world.proofs.Grown.{runs_only_grow}
 use Rattle.world.proofs.Laws.{entries_are_of_submissions}

@@ -15,14 +15,14 @@ use Rattle.messages.specs.Known.{is_applied}
 use Rattle.messages.specs.Replication.{is_ready}
 use Rattle.messages.specs.Honest.{IsHonest, StampedTxn, stamps_met}
 use Rattle.shard.specs.Right.{IsAppliedAsDecided}
-use Rattle.shard.specs.Sound.{Seen, IsDecided, IsCohorts, IsLed, IsFollowed, Holds, Onward}
+use Rattle.shard.specs.Sound.{Seen, IsDecided, IsCohorts, IsLed, IsFollowed, Holds, Onward, IsBallot}
 use Rattle.shard.proofs.Lists.{any_has, any_none, same_if_equal, same_stamp, no_truth}
 use Rattle.shard.proofs.Grow.{grows_beside, with_prepared, grows_prepared, with_applied, IsLate, grows_applied, wait_grows}
 
 -- ## A part is prepared
 
 pub prepare_one : {top : TopologyValue} {me : ℕ} {last : ShardState} {es : Seen} (a : ShardState) (p : PreparedPart) → a.clock ≤ p.time → IsNormal p.rows
-    → (p.role ≡ Own) ⊎ (IsLed a p.txn → ⊥) → Holds top me last es a → Onward top me last es a (with_prepared a p)
+    → ((p.role ≡ Own) × IsBallot a p.txn) ⊎ ((p.role ≡ Own → ⊥) × (IsLed a p.txn → ⊥)) → Holds top me last es a → Onward top me last es a (with_prepared a p)
 prepare_one {es = es} a p late normal side h =
     let g = grows_prepared {es = es.envelopes} a p late in
     record {
@@ -32,14 +32,21 @@ prepare_one {es = es} a p late normal side h =
           | inl at ↦ elim (Contains-push_cases a.prepared p at.0 at.1) [
             | inl old ↦ h.sides t led (inl (at.0, old, at.2, at.3))
             | inr own ↦ elim side [
-              | inl is_own ↦ at.3 (ap (λ (z : PreparedPart). z.role) (sym own) ∙ is_own)
-              | inr unled ↦ unled (subst (IsLed a) (sym (ap (λ (z : PreparedPart). z.txn) own ∙ at.2)) led)
+              | inl ours ↦ at.3 (ap (λ (z : PreparedPart). z.role) (sym own) ∙ ours.0)
+              | inr theirs ↦ theirs.1 (subst (IsLed a) (sym (ap (λ (z : PreparedPart). z.txn) own ∙ at.2)) led)
             ]
           ]
           | inr part ↦ h.sides t led (inr part)
         ];
         one = h.one;
         readied = h.readied;
+        own = λ z has role. elim (Contains-push_cases a.prepared p z has) [
+          | inl old ↦ h.own z old role
+          | inr new ↦ elim side [
+            | inl ours ↦ subst (λ (y : PreparedPart). IsBallot a y.txn) new ours.1
+            | inr theirs ↦ absurd (theirs.0 (ap (λ (y : PreparedPart). y.role) new ∙ role))
+          ]
+        ];
         origin = λ x has. elim (h.origin x has) [
           | inl decided ↦ inl decided
           | inr at ↦ inr (at.0, Contains-append_left a.prepared (p ∷ []) at.0 at.1, at.2, at.3)
@@ -89,6 +96,7 @@ begin_one a b normal unfollowed ready h =
           ]
           | inr decided ↦ h.readied r has (inr decided)
         ];
+        own = λ p has role. (let at = h.own p has role in (at.0, Contains-append_left a.ballots (b ∷ []) at.0 at.1, at.2));
         origin = h.origin;
         prepared = h.prepared;
         ballots = λ z has. elim (Contains-push_cases a.ballots b z has) [
@@ -130,6 +138,7 @@ decide_one a d unfollowed ready h =
             | inr own ↦ ready r has (sym (ap (λ (z : Decision). z.txn) own ∙ at.2))
           ]
         ];
+        own = h.own;
         origin = λ x has. elim (h.origin x has) [
           | inl at ↦ inl (at.0, Contains-append_left a.decided (d ∷ []) at.0 at.1, at.2)
           | inr cohorts ↦ inr cohorts
@@ -173,6 +182,7 @@ apply_one {last = last} {es = es} a x honest normal met origin source new late h
         sides = h.sides;
         one = h.one;
         readied = h.readied;
+        own = h.own;
         origin = λ y has. elim (Contains-push_cases a.applied x y has) [
           | inl old ↦ h.origin y old
           | inr own ↦ subst (λ (z : Applied). IsDecided a z.part.writer.txn ⊎ IsCohorts a z.part.writer.txn) own origin

@@ -64,6 +64,7 @@ asked_so now now' at at' a f h =
       sides = h.sides;
       one = h.one;
       readied = h.readied;
+      own = h.own;
       origin = h.origin;
       prepared = h.prepared;
       ballots = h.ballots;

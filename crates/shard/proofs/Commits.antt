@@ -116,18 +116,18 @@ hold_able {top = top} {me = me} {last = last} {es = es} a n b counted sends lt n
     let p : PreparedPart = record { txn = b.txn; rows = b.rows; coordinator = shard_of top me; time = n; role = Own } in
     able_after (begin_one a b normal unfollowed ready h)
     (λ h1. able_after
-    (prepare_one (with_ballot a b) p (omega (arith, lt)) normal (inl refl) h1)
+    (prepare_one (with_ballot a b) p (omega (arith, lt)) normal (inl (refl, (b, Contains-push a.ballots b, refl))) h1)
     (λ h2. record {
       onward = aside (with_prepared (with_ballot a b) p) n a.low a.early (a.votes ++ counted) a.askers (omega (arith, lt)) (omega arith) h2;
       sends = plain _;
     }))
 
 pub prepare_part_able : {top : TopologyValue} {me : ℕ} {last : ShardState} {es : Seen} (a : ShardState) (n : ℕ) (t : TxnValue) (rows : List Change)
-    (coordinator : ℕ) (role : Role) → a.clock < n → IsNormal rows → (IsLed a t → ⊥) → Holds top me last es a
+    (coordinator : ℕ) (role : Role) → a.clock < n → IsNormal rows → (role ≡ Own → ⊥) → (IsLed a t → ⊥) → Holds top me last es a
     → Able top me last es a (prepare_part top me n a t rows coordinator role)
-prepare_part_able a n t rows coordinator role lt normal unled h =
+prepare_part_able a n t rows coordinator role lt normal theirs unled h =
     let p : PreparedPart = record { txn = t; rows = rows; coordinator = coordinator; time = n; role = role } in
-    able_after (prepare_one a p (omega (arith, lt)) normal (inr unled) h)
+    able_after (prepare_one a p (omega (arith, lt)) normal (inr (theirs, unled)) h)
     (λ h1. record {
       onward = aside (with_prepared a p) n a.low a.early a.votes a.askers (omega (arith, lt)) (omega arith) h1;
       sends = (tt, tt);
@@ -156,7 +156,7 @@ prepare_go : {top : TopologyValue} {me : ℕ} {last : ShardState} {es : Seen} (k
     → is_known t a ≡ known → a.clock < n → IsNormal rows → Holds top me last es a
     → Able top me last es a (prepare_if known top me n a t rows coordinator)
 prepare_go true a n t rows coordinator e lt normal h = quiet_able a n (omega (arith, lt)) h
-prepare_go false a n t rows coordinator e lt normal h = prepare_part_able a n t rows coordinator Cohort lt normal (unknown_unled t a e) h
+prepare_go false a n t rows coordinator e lt normal h = prepare_part_able a n t rows coordinator Cohort lt normal (λ q. absurd (cc)) (unknown_unled t a e) h
 
 pub prepare_able : {top : TopologyValue} {me : ℕ} {last : ShardState} {es : Seen} (a : ShardState) (n : ℕ) (t : TxnValue) (rows : List Change) (coordinator : ℕ)
     → a.clock < n → IsNormal rows → Holds top me last es a → Able top me last es a (on_prepare top me n a t rows coordinator)

@@ -110,7 +110,7 @@ late_above es a x new (inr (p, has, txn, rows, marked, told)) r time le s touche
     elim (s p has (ap (has_row r) rows ∙ touches)) [
       | inl is ↦ no_truth (is_applied p.txn a) is (ap (λ t. is_applied t a) txn ∙ new)
       | inr (inl above) ↦ omega (arith, above, marked)
-      | inr (inr (inl excluded)) ↦ (let lt = excluded told.0 told.1 told.2 in let same = told.3 in omega (arith, lt, same))
+      | inr (inr (inl excluded)) ↦ (let lt = excluded.above told.0 told.1 told.2 in let same = told.3 in omega (arith, lt, same))
       | inr (inr (inr none)) ↦ absurd (none_in_empty p.txn none)
     ]
 
@@ -170,23 +170,9 @@ body_grows es g to (body.PartAt number time (at_time.Rows rows)) s =
       keys = s.keys;
       each = λ r has. at_grows g (s.each r has);
     }
-body_grows es g to (body.PartAt number time at_time.Collected) s = (let low = g.low in omega (arith, s, low))
-body_grows es g to (body.Begin t rows cohorts dependencies) s = s
-body_grows es g to (body.Prepare t rows coordinator) s = s
-body_grows es g to (body.Yes t) s = s
-body_grows es g to (body.Commit t commit stamp) s = s
-body_grows es g to (body.At t commit stamp) s = s
-body_grows es g to (body.NotBy t time) s = s
-body_grows es g to (body.Check t time) s = s
-body_grows es g to (body.Read number read) s = s
-body_grows es g to (body.ReadAt number time read) s = s
-body_grows es g to (body.ReplBegin cohorts t rows stamp dependencies) s = s
-body_grows es g to (body.ReplPart t rows stamp coordinator) s = s
-body_grows es g to (body.Notify t) s = s
-body_grows es g to (body.PrepareRemote t) s = s
-body_grows es g to (body.DepCheck dependency waiter) s = s
-body_grows es g to (body.DepOk dependency waiter commit) s = s
-body_grows es g to (body.Done t commit stamp) s = s
+body_grows es g to (body.PartAt number time at_time.Collected) s =
+    record { low = (let before = s.low in let low = g.low in omega (arith, before, low)); read = s.read; asked = s.asked }
+body_grows es g to other s = tt
 
 pub wait_grows : {es : Seen} {a b : ShardState} {x : WaitingRead} → Grows es.envelopes a b → WaitSound es a x → WaitSound es b x
 wait_grows {x = x} g s =

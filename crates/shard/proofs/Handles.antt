@@ -26,7 +26,7 @@ use Rattle.shard.proofs.Commits.{begin_able, prepare_able}
 use Rattle.shard.proofs.Votes.{yes_able, commit_able, not_by_able, check_able}
 use Rattle.shard.proofs.ReadSteps.{read_able, read_at_able}
 use Rattle.shard.proofs.Remotes.{repl_begin_able, repl_part_able, notify_able, prepare_remote_able, dep_check_able, dep_ok_able}
-use Rattle.shard.proofs.Within.{within_then, within_itself, handled_within}
+use Rattle.shard.proofs.Within.{within_then, within_itself, handled_within, collected_within}
 
 -- ## An envelope is handled
 
@@ -120,7 +120,7 @@ event_within top me w (Collect time) = go (ticked w.state.clock w.state.clock)
   where
     go : (o : Option ℕ) → IsWithin w.state (after_step (on_clock o (λ n. collected n w.state time)) w (Collect time)).state
     go None = within_itself w.state
-    go (Some n) = record { prepared = λ p has. has; decided = λ d has. has }
+    go (Some n) = collected_within n w.state time
 
 events_stay : (r : Result ShardStep Fault) (w : ShardRun) (x : Event) → AreAmong (envelopes_handled w) (envelopes_handled (after_step r w x))
 events_stay (Err f) w x e has = has

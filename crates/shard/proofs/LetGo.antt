@@ -19,7 +19,7 @@ use Rattle.messages.specs.Rows.{row_at}
 use Rattle.messages.specs.Reads.{answer, at_time as rows_or_collected, part_at, without, lessened, is_nothing, is_free, let_go}
 use Rattle.shard.specs.Sound.{Seen, IsExcluded, IsSettled, RowAtSound, BodySound, AreSound, WaitSound, Holds, Onward, Able}
 use Rattle.shard.proofs.Lists.{each_joined, each_mapped, same_txn}
-use Rattle.shard.proofs.Shown.{right_shown}
+use Rattle.messages.proofs.RowParts.{row_at_shown}
 use Rattle.shard.proofs.Grow.{body_grows}
 use Rattle.shard.proofs.Updates.{onward_then, moved, now_waiting}
 
@@ -49,7 +49,7 @@ row_at_sound : (es : Seen) (a : ShardState) (x : WaitingRead) → WaitSound es a
 row_at_sound es a x s free key has =
     record {
       seen = a.applied;
-      right = right_shown x.time a x.read key;
+      right = row_at_shown x.time a x.read key;
       complete = record {
         later = [];
         split = sym (append-nil a.applied);
@@ -66,7 +66,7 @@ free_answer es a x s free = go (nat_lt x.time a.low) refl
   where
     go : (b : Bool) → nat_lt x.time a.low ≡ b
         → BodySound es a x.session (body.PartAt x.number x.time (if b then at_time.Collected else at_time.Rows (map (row_at x.time a x.read) x.read.keys)))
-    go true e = below x.time a.low e
+    go true e = record { low = below x.time a.low e; read = x.read; asked = s.asked }
     go false e = record {
       read = x.read;
       asked = s.asked;

@@ -32,7 +32,6 @@ pub mod RightSends
 pub mod Run
 pub mod Sending
 pub mod ShardSteps
-pub mod Shown
 pub mod Updates
 pub mod Votes
 pub mod Within

@@ -23,7 +23,7 @@ use Rattle.messages.proofs.Greatest.{mark_below_clock, mark_below_each}
 use Rattle.messages.proofs.WritersInOrder.{writers_stay}
 use Rattle.shard.specs.Sound.{Seen, IsExcluded, RowNowSound, BodySound, WaitSound, Holds, Able}
 use Rattle.shard.proofs.Lists.{any_has, both_hold, each_mapped}
-use Rattle.shard.proofs.Shown.{newest_shown}
+use Rattle.messages.proofs.RowParts.{row_now_shown}
 use Rattle.shard.proofs.Updates.{moved, now_waiting}
 use Rattle.shard.proofs.LetGo.{able_after, quiet_able, answer_able, free_answer}
 
@@ -38,7 +38,7 @@ pub row_sound : {top : TopologyValue} {me : ℕ} {last : ShardState} {es : Seen}
 row_sound {es = es} a n read key h =
     record {
       seen = a.applied;
-      newest = newest_shown n a read key;
+      newest = row_now_shown n a read key;
       complete = record {
         later = [];
         split = sym (append-nil a.applied);
@@ -134,7 +134,8 @@ read_at_go : {top : TopologyValue} {me : ℕ} {last : ShardState} {es : Seen} (w
     → Able top me last es a (read_at_if waits low top me n a e.from number time read)
 read_at_go true low a n number time read e f lt le wanted h = quiet_able a n (omega (arith, lt)) h
 read_at_go {me = me} false true a n number time read e f lt le wanted h =
-    answer_able a n (envelope me e.from n (body.PartAt number time at_time.Collected)) (omega (arith, lt)) (below time a.low f) h
+    answer_able a n (envelope me e.from n (body.PartAt number time at_time.Collected)) (omega (arith, lt))
+    (record { low = below time a.low f; read = read; asked = wanted refl }) h
 read_at_go false false a n number time read e f lt le wanted h = read_at_of_go (asked_below a time read) a n number time read e refl lt le (wanted refl) h
 
 pub read_at_able : {top : TopologyValue} {me : ℕ} {last : ShardState} {es : Seen} (a : ShardState) (n number time : ℕ) (read : Read) (e : Envelope)

@@ -132,7 +132,7 @@ prepare_remote_go None prepared a n t e lt h = quiet_able a n (omega (arith, lt)
 prepare_remote_go (Some k) true a n t e lt h = quiet_able a n (omega (arith, lt)) h
 prepare_remote_go (Some k) false a n t e lt h =
     let m = found (λ (z : KeptPart). is_same_txn z.txn t) a.kept_parts k e in
-    prepare_part_able a n k.txn k.rows k.coordinator Replica lt (h.kept_parts k m.0) (λ led. h.sides k.txn led (inr (k, m.0, refl))) h
+    prepare_part_able a n k.txn k.rows k.coordinator Replica lt (h.kept_parts k m.0) (λ q. absurd (cc)) (λ led. h.sides k.txn led (inr (k, m.0, refl))) h
 
 pub prepare_remote_able : {top : TopologyValue} {me : ℕ} {last : ShardState} {es : Seen} (a : ShardState) (n : ℕ) (t : TxnValue)
     → a.clock < n → Holds top me last es a → Able top me last es a (on_prepare_remote top me n a t)

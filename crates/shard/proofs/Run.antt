@@ -270,6 +270,7 @@ fresh_ran top me last es =
         ];
         one = λ r s has also same. absurd (none_in_empty r has);
         readied = λ r has begun. absurd (none_in_empty r has);
+        own = λ p has role. absurd (none_in_empty p has);
         origin = λ x has. absurd (none_in_empty x has);
         prepared = λ p has. absurd (none_in_empty p has);
         ballots = λ b has. absurd (none_in_empty b has);

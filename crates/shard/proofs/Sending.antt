@@ -55,8 +55,10 @@ pub record Answering (top : TopologyValue) (me n : ℕ) (a : ShardState) (from :
   pub repl_part : (dc : ℕ) (t : TxnValue) (rows : List Change) (commit : ℕ) (stamp : StampValue) (coordinator : ℕ) → IsTelling m t commit stamp
       → P (envelope me (shard_node top dc (shard_of top me)) n (body.ReplPart t rows stamp coordinator))
 
--- the step leaves the horizon, each envelope that it sends has the one property, each read that waits after it the other
-pub record Gives (before : ℕ) (P : Envelope → Type 0) (W : WaitingRead → Type 0) (st : ShardStep) : Type 0 where
+-- the step moves the clock to this and leaves the horizon; each envelope that it sends has the one property, each read that
+-- waits after it the other
+pub record Gives (n before : ℕ) (P : Envelope → Type 0) (W : WaitingRead → Type 0) (st : ShardStep) : Type 0 where
+  pub clock : st.state.clock ≡ n
   pub low : st.state.low ≡ before
   pub sends : AllByRecursion P st.sends
   pub waiting : (y : WaitingRead) → Contains st.state.waiting y → W y
@@ -67,12 +69,12 @@ module _ (top : TopologyValue) (me n : ℕ) (P : Envelope → Type 0) (W : Waiti
   abbrev Old : ShardState → Type 0
   Old a = (y : WaitingRead) → Contains a.waiting y → W y
 
-  calm : (a : ShardState) → Old a → Gives a.low P W (quiet n a)
-  calm a old = record { low = refl; sends = tt; waiting = old }
+  calm : (a : ShardState) → Old a → Gives n a.low P W (quiet n a)
+  calm a old = record { clock = refl; low = refl; sends = tt; waiting = old }
 
   -- one envelope is sent, and the clock moves
-  one : (a : ShardState) (e : Envelope) → Old a → P e → Gives a.low P W (record { state = record a { clock = n }; sends = e ∷ [] })
-  one a e old p = record { low = refl; sends = (p, tt); waiting = old }
+  one : (a : ShardState) (e : Envelope) → Old a → P e → Gives n a.low P W (record { state = record a { clock = n }; sends = e ∷ [] })
+  one a e old p = record { clock = refl; low = refl; sends = (p, tt); waiting = old }
 
   -- ## Reads are let go
 
@@ -87,10 +89,11 @@ module _ (top : TopologyValue) (me n : ℕ) (P : Envelope → Type 0) (W : Waiti
       go y false h = h
 
   let_go_gives : (a : ShardState) (t : TxnValue) (p : WaitingRead → Bool) (sends : List Envelope) → Old a → (let_go me n a t p sends).state ≡ last
-      → AllByRecursion P sends → Gives a.low P W (let_go me n a t p sends)
+      → AllByRecursion P sends → Gives n a.low P W (let_go me n a t p sends)
   let_go_gives a t p sends old is plain =
       let all = lessened t p a.waiting in
       record {
+        clock = refl;
         low = refl;
         sends =
             each_joined P sends (map (part_at me n a) (filter is_free all)) plain
@@ -110,7 +113,7 @@ module _ (top : TopologyValue) (me n : ℕ) (P : Envelope → Type 0) (W : Waiti
   )
   announced b (Some stamp) = tt
 
-  decide_gives : (a : ShardState) (b : BegunBallot) → Old a → (decide top me n a b).state ≡ last → Gives a.low P W (decide top me n a b)
+  decide_gives : (a : ShardState) (b : BegunBallot) → Old a → (decide top me n a b).state ≡ last → Gives n a.low P W (decide top me n a b)
   decide_gives a b old is =
       let stamp = stamp_for me n b.stamp in
       let_go_gives
@@ -131,33 +134,33 @@ module _ (top : TopologyValue) (me n : ℕ) (P : Envelope → Type 0) (W : Waiti
   -- ## Begin, Prepare, Yes
 
   begin_gives : (known voted : Bool) (a : ShardState) (b : BegunBallot) → Old a → (begin_if known voted top me n a b).state ≡ last
-      → Gives a.low P W (begin_if known voted top me n a b)
+      → Gives n a.low P W (begin_if known voted top me n a b)
   begin_gives true voted a b old is = calm a old
   begin_gives false true a b old is = decide_gives a b old is
-  begin_gives false false a b old is = record { low = refl; sends = tt; waiting = old }
+  begin_gives false false a b old is = record { clock = refl; low = refl; sends = tt; waiting = old }
 
-  prepare_gives : (known : Bool) (a : ShardState) (t : TxnValue) (rows : List Change) (c : ℕ) → Old a → Gives a.low P W (prepare_if known top me n a t rows c)
+  prepare_gives : (known : Bool) (a : ShardState) (t : TxnValue) (rows : List Change) (c : ℕ) → Old a → Gives n a.low P W (prepare_if known top me n a t rows c)
   prepare_gives true a t rows c old = calm a old
-  prepare_gives false a t rows c old = record { low = refl; sends = (k.yes c t, tt); waiting = old }
+  prepare_gives false a t rows c old = record { clock = refl; low = refl; sends = (k.yes c t, tt); waiting = old }
 
   counted_gives : (every : Bool) (a : ShardState) (b : BegunBallot) → Old a → (counted_if every top me n a b).state ≡ last
-      → Gives a.low P W (counted_if every top me n a b)
+      → Gives n a.low P W (counted_if every top me n a b)
   counted_gives true a b old is = decide_gives a b old is
   counted_gives false a b old is = calm a old
 
   vote_gives : (awaited : Bool) (a : ShardState) (b : BegunBallot) (node : ℕ) → Old a → (vote_if awaited top me n a b node).state ≡ last
-      → Gives a.low P W (vote_if awaited top me n a b node)
+      → Gives n a.low P W (vote_if awaited top me n a b node)
   vote_gives false a b node old is = calm a old
   vote_gives true a b node old is =
       counted_gives (all_voted top me b.cohorts (with_vote a b.txn node).votes b.txn) (with_vote a b.txn node) b old is
 
-  early_gives : (known held : Bool) (a : ShardState) (t : TxnValue) (node : ℕ) → Old a → Gives a.low P W (early_if known held n a t node)
+  early_gives : (known held : Bool) (a : ShardState) (t : TxnValue) (node : ℕ) → Old a → Gives n a.low P W (early_if known held n a t node)
   early_gives true held a t node old = calm a old
   early_gives false true a t node old = calm a old
-  early_gives false false a t node old = record { low = refl; sends = tt; waiting = old }
+  early_gives false false a t node old = record { clock = refl; low = refl; sends = tt; waiting = old }
 
   yes_gives : (o : Option BegunBallot) (a : ShardState) (t : TxnValue) (node : ℕ) → Old a → (yes_for o top me n a t node).state ≡ last
-      → Gives a.low P W (yes_for o top me n a t node)
+      → Gives n a.low P W (yes_for o top me n a t node)
   yes_gives (Some b) a t node old is = vote_gives (is_awaited top me b.cohorts a.votes t node) a b node old is
   yes_gives None a t node old is = early_gives (is_known t a) (has_vote a.early t node) a t node old
 
@@ -177,14 +180,14 @@ module _ (top : TopologyValue) (me n : ℕ) (P : Envelope → Type 0) (W : Waiti
 
   apply_gives : (a : ShardState) (p : PreparedPart) (commit : ℕ) (stamp : StampValue) → Old a → Copied p.txn stamp
       → (apply_part top me n a p commit stamp).state ≡ last
-      → Gives a.low P W (apply_part top me n a p commit stamp)
+      → Gives n a.low P W (apply_part top me n a p commit stamp)
   apply_gives a p commit stamp old copied is =
       let_go_gives (record a { applied = a.applied ++ applied_part p.txn p.coordinator p.rows commit stamp ∷ [] }) p.txn (λ x. true)
       (repl_parts p.role top me n p stamp) old is (copies p.role p stamp copied)
 
   commit_gives : (role : Role) (applied : Bool) (a : ShardState) (p : PreparedPart) (commit : ℕ) (stamp : StampValue) → Old a → Copied p.txn stamp
       → (commit_if role applied top me n a p commit stamp).state ≡ last
-      → Gives a.low P W (commit_if role applied top me n a p commit stamp)
+      → Gives n a.low P W (commit_if role applied top me n a p commit stamp)
   commit_gives Own applied a p commit stamp old copied is = calm a old
   commit_gives Cohort true a p commit stamp old copied is = calm a old
   commit_gives Cohort false a p commit stamp old copied is = apply_gives a p commit stamp old copied is
@@ -193,7 +196,7 @@ module _ (top : TopologyValue) (me n : ℕ) (P : Envelope → Type 0) (W : Waiti
 
   committed_gives : (o : Option PreparedPart) (a : ShardState) (t : TxnValue) (commit : ℕ) (stamp : StampValue) → prepared_part t a ≡ o → Old a
       → Copied t stamp → (commit_for o top me n a commit stamp).state ≡ last
-      → Gives a.low P W (commit_for o top me n a commit stamp)
+      → Gives n a.low P W (commit_for o top me n a commit stamp)
   committed_gives None a t commit stamp there old copied is = calm a old
   committed_gives (Some p) a t commit stamp there old copied is =
       let own : p.txn ≡ t = same_txn p.txn t (found (λ (x : PreparedPart). is_same_txn x.txn t) a.prepared p there).1 in
@@ -201,7 +204,7 @@ module _ (top : TopologyValue) (me n : ℕ) (P : Envelope → Type 0) (W : Waiti
 
   check_gives : (o : Option Decision) (a : ShardState) (from : ℕ) (t : TxnValue) (time : ℕ) → Old a
       → ((commit : ℕ) (stamp : StampValue) → P (envelope me from n (body.At t commit stamp))) → P (envelope me from n (body.NotBy t time))
-      → Gives a.low P W (check_for o me n a from t time)
+      → Gives n a.low P W (check_for o me n a from t time)
   check_gives (Some d) a from t time old at not_by = one a (envelope me from n (body.At t d.commit d.stamp)) old (at d.commit d.stamp)
   check_gives None a from t time old at not_by = one a (envelope me from n (body.NotBy t time)) old not_by
 
@@ -209,12 +212,13 @@ module _ (top : TopologyValue) (me n : ℕ) (P : Envelope → Type 0) (W : Waiti
 
   asked_gives : (ws : List WriterValue) (a : ShardState) (from number time : ℕ) (read : Read) → Old a
       → ((left : List WriterValue) → W (waiting_read from number time read left)) → (read_at_of ws top me n a from number time read).state ≡ last
-      → Gives a.low P W (read_at_of ws top me n a from number time read)
+      → Gives n a.low P W (read_at_of ws top me n a from number time read)
   asked_gives [] a from number time read old new is =
       let x = waiting_read from number time read [] in
       one a (part_at me n a x) old (subst (λ (z : ShardState). P (part_at me n z x)) (sym is) (answers x (new [])))
   asked_gives (w ∷ ws) a from number time read old new is =
       record {
+        clock = refl;
         low = refl;
         sends = each_mapped P (check_of top me n time) (w ∷ ws) (λ z has. k.check z.shard z.txn time);
         waiting = λ y has. elim (Contains-push_cases a.waiting (waiting_read from number time read (w ∷ ws)) y has) [
@@ -226,7 +230,7 @@ module _ (top : TopologyValue) (me n : ℕ) (P : Envelope → Type 0) (W : Waiti
   read_at_gives : (waits low : Bool) (a : ShardState) (from number time : ℕ) (read : Read) → nat_lt time a.low ≡ low → Old a
       → (waits ≡ false → (left : List WriterValue) → W (waiting_read from number time read left))
       → (read_at_if waits low top me n a from number time read).state ≡ last
-      → Gives a.low P W (read_at_if waits low top me n a from number time read)
+      → Gives n a.low P W (read_at_if waits low top me n a from number time read)
   read_at_gives true low a from number time read below old new is = calm a old
   read_at_gives false true a from number time read below old new is =
       let x = waiting_read from number time read [] in
@@ -239,10 +243,11 @@ module _ (top : TopologyValue) (me n : ℕ) (P : Envelope → Type 0) (W : Waiti
   -- ## Replication
 
   remote_gives : (cohorts : List ℕ) (a : ShardState) (r : KeptBallot) → Old a → (remote_prepare cohorts top me n a r).state ≡ last
-      → Gives a.low P W (remote_prepare cohorts top me n a r)
+      → Gives n a.low P W (remote_prepare cohorts top me n a r)
   remote_gives [] a r old is = decide_gives a (ballot_of r) old is
   remote_gives (c ∷ cs) a r old is =
       record {
+        clock = refl;
         low = refl;
         sends =
             each_mapped P (λ s. envelope me (shard_node top (dc_of top me) s) n (body.PrepareRemote r.txn)) (c ∷ cs)
@@ -251,16 +256,17 @@ module _ (top : TopologyValue) (me n : ℕ) (P : Envelope → Type 0) (W : Waiti
       }
 
   ready_gives : (every : Bool) (a : ShardState) (r : KeptBallot) → Old a → (ready_if every top me n a r).state ≡ last
-      → Gives a.low P W (ready_if every top me n a r)
+      → Gives n a.low P W (ready_if every top me n a r)
   ready_gives true a r old is = remote_gives r.cohorts a r old is
   ready_gives false a r old is = calm a old
 
   repl_begin_gives : (known : Bool) (a : ShardState) (r : KeptBallot) → Old a → (repl_begin_if known top me n a r).state ≡ last
-      → Gives a.low P W (repl_begin_if known top me n a r)
+      → Gives n a.low P W (repl_begin_if known top me n a r)
   repl_begin_gives true a r old is = calm a old
   repl_begin_gives false a r old is =
       let g = ready_gives (is_ready top me (with_ballot a r) r) (with_ballot a r) r old is in
       record {
+        clock = g.clock;
         low = g.low;
         sends =
             each_joined P (dep_checks top me n r) (ready top me n (with_ballot a r) r).sends
@@ -270,54 +276,54 @@ module _ (top : TopologyValue) (me n : ℕ) (P : Envelope → Type 0) (W : Waiti
         waiting = g.waiting;
       }
 
-  repl_part_gives : (known : Bool) (a : ShardState) (p : KeptPart) → Old a → Gives a.low P W (repl_part_if known top me n a p)
+  repl_part_gives : (known : Bool) (a : ShardState) (p : KeptPart) → Old a → Gives n a.low P W (repl_part_if known top me n a p)
   repl_part_gives true a p old = calm a old
-  repl_part_gives false a p old = record { low = refl; sends = (k.notify p.coordinator p.txn, tt); waiting = old }
+  repl_part_gives false a p old = record { clock = refl; low = refl; sends = (k.notify p.coordinator p.txn, tt); waiting = old }
 
   notice_gives : (awaited : Bool) (a : ShardState) (r : KeptBallot) (node : ℕ) → Old a → (notice_if awaited top me n a r node).state ≡ last
-      → Gives a.low P W (notice_if awaited top me n a r node)
+      → Gives n a.low P W (notice_if awaited top me n a r node)
   notice_gives false a r node old is = calm a old
   notice_gives true a r node old is =
       ready_gives (is_ready top me (with_notice a r.txn node) r) (with_notice a r.txn node) r old is
 
-  early_notice_gives : (known held : Bool) (a : ShardState) (t : TxnValue) (node : ℕ) → Old a → Gives a.low P W (early_notice_if known held n a t node)
+  early_notice_gives : (known held : Bool) (a : ShardState) (t : TxnValue) (node : ℕ) → Old a → Gives n a.low P W (early_notice_if known held n a t node)
   early_notice_gives true held a t node old = calm a old
   early_notice_gives false true a t node old = calm a old
-  early_notice_gives false false a t node old = record { low = refl; sends = tt; waiting = old }
+  early_notice_gives false false a t node old = record { clock = refl; low = refl; sends = tt; waiting = old }
 
   notify_gives : (o : Option KeptBallot) (a : ShardState) (t : TxnValue) (node : ℕ) → Old a → (notify_for o top me n a t node).state ≡ last
-      → Gives a.low P W (notify_for o top me n a t node)
+      → Gives n a.low P W (notify_for o top me n a t node)
   notify_gives (Some r) a t node old is = notice_gives (is_awaited top me r.cohorts a.notices t node) a r node old is
   notify_gives None a t node old is = early_notice_gives (is_known t a) (has_vote a.notices t node) a t node old
 
-  prepare_remote_gives : (o : Option KeptPart) (prepared : Bool) (a : ShardState) → Old a → Gives a.low P W (prepare_remote_for o prepared top me n a)
+  prepare_remote_gives : (o : Option KeptPart) (prepared : Bool) (a : ShardState) → Old a → Gives n a.low P W (prepare_remote_for o prepared top me n a)
   prepare_remote_gives None prepared a old = calm a old
   prepare_remote_gives (Some p) true a old = calm a old
-  prepare_remote_gives (Some p) false a old = record { low = refl; sends = (k.yes p.coordinator p.txn, tt); waiting = old }
+  prepare_remote_gives (Some p) false a old = record { clock = refl; low = refl; sends = (k.yes p.coordinator p.txn, tt); waiting = old }
 
-  remember_gives : (known : Bool) (a : ShardState) (x : Asker) → Old a → Gives a.low P W (remember_if known n a x)
+  remember_gives : (known : Bool) (a : ShardState) (x : Asker) → Old a → Gives n a.low P W (remember_if known n a x)
   remember_gives true a x old = calm a old
-  remember_gives false a x old = record { low = refl; sends = tt; waiting = old }
+  remember_gives false a x old = record { clock = refl; low = refl; sends = tt; waiting = old }
 
-  dep_check_gives : (o : Option Decision) (a : ShardState) (x : Asker) → Old a → Gives a.low P W (dep_check_for o me n a x)
+  dep_check_gives : (o : Option Decision) (a : ShardState) (x : Asker) → Old a → Gives n a.low P W (dep_check_for o me n a x)
   dep_check_gives (Some d) a x old =
       one a (envelope me x.from n (body.DepOk x.dependency x.waiter d.commit)) old (k.dep_ok x.from x.dependency x.waiter d.commit)
   dep_check_gives None a x old = remember_gives (is_asker a.askers x.dependency x.waiter x.from) a x old
 
   met_gives : (unmet : Bool) (a : ShardState) (r : KeptBallot) (t : TxnValue) → Old a → (met_if unmet top me n a r t).state ≡ last
-      → Gives a.low P W (met_if unmet top me n a r t)
+      → Gives n a.low P W (met_if unmet top me n a r t)
   met_gives false a r t old is = calm a old
   met_gives true a r t old is = ready_gives (is_ready top me (with_met a r.txn t) r) (with_met a r.txn t) r old is
 
   dep_ok_gives : (o : Option KeptBallot) (a : ShardState) (t : TxnValue) → Old a → (dep_ok_for o top me n a t).state ≡ last
-      → Gives a.low P W (dep_ok_for o top me n a t)
+      → Gives n a.low P W (dep_ok_for o top me n a t)
   dep_ok_gives None a t old is = calm a old
   dep_ok_gives (Some r) a t old is = met_gives (is_unmet a.met r t) a r t old is
 
   -- ## Every message
 
   by_body : (a : ShardState) (from : ℕ) (m : Body) → (handled top me n a from m).state ≡ last → Answering top me n a from m P W
-      → Gives a.low P W (handled top me n a from m)
+      → Gives n a.low P W (handled top me n a from m)
   by_body a from (body.Begin t rows cohorts dependencies) is c =
       begin_gives (is_known t a) (all_voted top me cohorts a.early t) a
       (record { txn = t; rows = rows; cohorts = cohorts; dependencies = dependencies; stamp = None }) c.old is
@@ -350,6 +356,6 @@ module _ (top : TopologyValue) (me n : ℕ) (P : Envelope → Type 0) (W : Waiti
 
 -- what each message gives
 pub handled_gives : (top : TopologyValue) (me n : ℕ) (a : ShardState) (from : ℕ) (m : Body) (P : Envelope → Type 0) (W : WaitingRead → Type 0)
-    → Answering top me n a from m P W → Gives a.low P W (handled top me n a from m)
+    → Answering top me n a from m P W → Gives n a.low P W (handled top me n a from m)
 handled_gives top me n a from m P W c =
     by_body top me n P W c.plain c.less (handled top me n a from m).state c.answers a from m refl c

@@ -1,5 +1,5 @@
 -- What a shard does at its events is the machine's step.
-use Rattle.std.proofs.Common.{◌≡◌, ◌∙◌, sym, ap, subst, refl, ℕ, ◌+◌, ◌^◌, ◌<◌, ◌≤◌, max, Bool, true, false, nat_lt, List, [], ◌∷◌, ◌++◌, Option, Some, None, Result, Ok, Err, arith}
+use Rattle.std.proofs.Common.{◌≡◌, ◌∙◌, sym, ap, subst, refl, ℕ, ◌+◌, ◌^◌, ◌<◌, max, Bool, true, false, nat_lt, List, [], ◌∷◌, ◌++◌, Option, Some, None, Result, Ok, Err, arith}
 use Rattle.std.specs.Prelude.{if◌then◌else◌, OnOk, IfErr}
 use Rattle.std.proofs.lemmas.Bool.Decides.{nat_tests}
 use Rattle.logical_time.specs.declared.fault.Fault.{Fault}
@@ -60,14 +60,6 @@ ticks clock time lt = go (nat_lt (max clock time + 1) (2 ^ 48)) (grind (arith, n
     go : (b : Bool) → b ≡ true → (if b then Some (max clock time + 1) else None) ≡ Some (max clock time + 1)
     go true h = refl
     go false h = absurd (cc)
-
--- one that would leave it doesn't
-stops : (clock time : ℕ) → 2 ^ 48 ≤ max clock time + 1 → ticked clock time ≡ None
-stops clock time le = go (nat_lt (max clock time + 1) (2 ^ 48)) (grind (arith, nat_tests))
-  where
-    go : (b : Bool) → b ≡ false → (if b then Some (max clock time + 1) else None) ≡ None
-    go true h = absurd (cc)
-    go false h = refl
 
 -- ## Results
 

@@ -30,6 +30,7 @@ aside a n low early votes askers clock lower h =
         sides = h.sides;
         one = h.one;
         readied = h.readied;
+        own = h.own;
         origin = h.origin;
         prepared = h.prepared;
         ballots = h.ballots;
@@ -77,6 +78,7 @@ more_known {top = top} {me = me} a notices met votes answers h =
         sides = h.sides;
         one = h.one;
         readied = λ r has begun. ready_more top me a notices met r votes answers (h.readied r has begun);
+        own = h.own;
         origin = h.origin;
         prepared = h.prepared;
         ballots = h.ballots;
@@ -118,6 +120,7 @@ keep_part a k normal unled h =
         ];
         one = h.one;
         readied = h.readied;
+        own = h.own;
         origin = h.origin;
         prepared = h.prepared;
         ballots = h.ballots;
@@ -168,6 +171,7 @@ keep_ballot a r normal unfollowed unled h =
             | inr decided ↦ unled (subst (IsLed a) same (inr (inl decided)))
           ]))
         ];
+        own = h.own;
         origin = h.origin;
         prepared = h.prepared;
         ballots = h.ballots;
@@ -195,6 +199,7 @@ now_waiting a ws sound h =
         sides = h.sides;
         one = h.one;
         readied = h.readied;
+        own = h.own;
         origin = h.origin;
         prepared = h.prepared;
         ballots = h.ballots;

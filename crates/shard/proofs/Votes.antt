@@ -131,10 +131,16 @@ pub not_by_able : {top : TopologyValue} {me : ℕ} {last : ShardState} {es : See
     → Able top me last es a (on_not_by me n a t time)
 not_by_able a n from t time e honest lt has is h =
     let_go_able a n t (λ x. nat_le x.time time) [] (omega (arith, lt))
-    (λ x waits below. inr (λ told in_it same.
+    (λ x waits below.
     let le = at_most x.time time below in
-    let above = honest.excluded told e time in_it has (is ∙ ap (λ u. body.NotBy u time) (sym same)) in
-    omega (arith, le, above)))
+    inr (record {
+      told = e;
+      among = has;
+      bound = time;
+      body = is;
+      bounded = le;
+      above = λ told in_it same. (let above = honest.excluded told e time in_it has (is ∙ ap (λ u. body.NotBy u time) (sym same)) in omega (arith, le, above));
+    }))
     (λ b. tt) h
 
 check_go : {top : TopologyValue} {me : ℕ} {last : ShardState} {es : Seen} (o : Option Decision) (a : ShardState) (n from : ℕ) (t : TxnValue) (time : ℕ)

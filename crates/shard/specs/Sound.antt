@@ -16,7 +16,7 @@ use Rattle.messages.specs.declared.body.Body.{Body}
 use Rattle.messages.specs.declared.body.Body.TheVariants as body
 use Rattle.messages.specs.declared.envelope.Envelope.{Envelope}
 use Rattle.messages.specs.Topology.{TopologyValue}
-use Rattle.messages.specs.Shard.{ShardState, ShardStep, Own, PreparedPart, BegunBallot, Decision, KeptPart, KeptBallot, WaitingRead}
+use Rattle.messages.specs.Shard.{ShardState, ShardStep, Own, PreparedPart, BegunBallot, Vote, Decision, KeptPart, KeptBallot, Met, Asker, WaitingRead}
 use Rattle.messages.specs.Known.{is_applied}
 use Rattle.slice.specs.Rows.{row_of}
 use Rattle.messages.specs.Rows.{touches_row}
@@ -26,9 +26,14 @@ use Rattle.shard.specs.Right.{part_now, part_then, IsAppliedAsDecided}
 
 -- ## What is complete
 
--- whatever these envelopes tell of the transaction, it commits above the time
-abbrev pub IsExcluded : List Envelope → TxnValue → ℕ → Type 0
-IsExcluded es t time = (x : Told) → Contains (all_told es) x → x.txn ≡ t → time < x.commit
+-- a NotBy among these envelopes excludes the transaction at the time: whatever they tell of it, it commits above
+pub record IsExcluded (es : List Envelope) (t : TxnValue) (time : ℕ) : Type 0 where
+  pub told : Envelope
+  pub among : Contains es told
+  pub bound : ℕ
+  pub body : told.body ≡ body.NotBy t bound
+  pub bounded : time ≤ bound
+  pub above : (x : Told) → Contains (all_told es) x → x.txn ≡ t → time < x.commit
 
 -- Each part that is prepared in the row is applied, or marked at or after the time, or excluded at it, or one of these
 -- transactions.
@@ -89,11 +94,17 @@ pub record AtSound (es : Seen) (a : ShardState) (to number time : ℕ) (rows : L
   pub keys : map (λ r. r.key) rows ≡ read.keys
   pub each : (r : RowAt) → Contains rows r → RowAtSound es.envelopes a read time r
 
+-- a read that it asked is given up: its time is below the horizon
+pub record GivenUpSound (es : Seen) (a : ShardState) (to number time : ℕ) : Type 0 where
+  pub low : time < a.low
+  pub read : Read
+  pub asked : es.asks_at to number time read
+
 -- what is sent to this node is sound: of other kinds than answers nothing is said
 abbrev pub BodySound : Seen → ShardState → ℕ → Body → Type 0
 BodySound es a to (body.PartNow number rows) = NowSound es a to number rows
 BodySound es a to (body.PartAt number time (at_time.Rows rows)) = AtSound es a to number time rows
-BodySound es a to (body.PartAt number time at_time.Collected) = time < a.low
+BodySound es a to (body.PartAt number time at_time.Collected) = GivenUpSound es a to number time
 BodySound es a to other = ⊤
 
 -- each of these is sound
@@ -136,14 +147,15 @@ IsLed a t = IsBallot a t ⊎ IsDecided a t ⊎ IsKeptBallot a t
 abbrev pub IsFollowed : ShardState → TxnValue → Type 0
 IsFollowed a t = IsCohorts a t ⊎ IsKeptPart a t
 
--- Where this is the last state and these are all handled envelopes: no transaction is led and followed, each has one kept
--- ballot, and one that is begun or decided has all notices and answers; what is applied was decided here or is a
--- cohort's part; all parts are in normal form; parts that are applied have stamps that were met, no two the same, and are applied as they were decided; and
--- the waiting reads are sound.
+-- Where this is the last state and each handled envelope is among these: no transaction is led and followed, each has one
+-- kept ballot, and one that is begun or decided has all notices and answers; a coordinator's own part is of a ballot that
+-- was begun; what is applied was decided here or is a cohort's part; all parts are in normal form; parts that are applied
+-- have stamps that were met, no two the same, and are applied as they were decided; and the waiting reads are sound.
 pub record Holds (top : TopologyValue) (me : ℕ) (last : ShardState) (es : Seen) (a : ShardState) : Type 0 where
   pub sides : (t : TxnValue) → IsLed a t → IsFollowed a t → ⊥
   pub one : (r s : KeptBallot) → Contains a.kept_ballots r → Contains a.kept_ballots s → r.txn ≡ s.txn → r ≡ s
   pub readied : (r : KeptBallot) → Contains a.kept_ballots r → IsBallot a r.txn ⊎ IsDecided a r.txn → is_ready top me a r ≡ true
+  pub own : (p : PreparedPart) → Contains a.prepared p → p.role ≡ Own → IsBallot a p.txn
   pub origin : (x : Applied) → Contains a.applied x → IsDecided a x.part.writer.txn ⊎ IsCohorts a x.part.writer.txn
   pub prepared : (p : PreparedPart) → Contains a.prepared p → IsNormal p.rows
   pub ballots : (b : BegunBallot) → Contains a.ballots b → IsNormal b.rows
@@ -164,7 +176,16 @@ pub record Able (top : TopologyValue) (me : ℕ) (last : ShardState) (es : Seen)
   pub onward : Onward top me last es a step.state
   pub sends : AreSound es step.state step.sends
 
--- what is prepared and decided in the one state is so in the other
+-- what is kept in the one state is kept in the other
 pub record IsWithin (a b : ShardState) : Type 0 where
-  pub prepared : (p : PreparedPart) → Contains a.prepared p → Contains b.prepared p
-  pub decided : (d : Decision) → Contains a.decided d → Contains b.decided d
+  pub prepared : (y : PreparedPart) → Contains a.prepared y → Contains b.prepared y
+  pub ballots : (y : BegunBallot) → Contains a.ballots y → Contains b.ballots y
+  pub early : (y : Vote) → Contains a.early y → Contains b.early y
+  pub votes : (y : Vote) → Contains a.votes y → Contains b.votes y
+  pub decided : (y : Decision) → Contains a.decided y → Contains b.decided y
+  pub applied : (y : Applied) → Contains a.applied y → Contains b.applied y
+  pub kept_parts : (y : KeptPart) → Contains a.kept_parts y → Contains b.kept_parts y
+  pub kept_ballots : (y : KeptBallot) → Contains a.kept_ballots y → Contains b.kept_ballots y
+  pub notices : (y : Vote) → Contains a.notices y → Contains b.notices y
+  pub met : (y : Met) → Contains a.met y → Contains b.met y
+  pub askers : (y : Asker) → Contains a.askers y → Contains b.askers y

@@ -9,6 +9,7 @@ use Rattle.world.specs.Run.{run}
 use Rattle.world.specs.Journals.{actor_in, journal_in, held_in}
 use Rattle.world.proofs.Runs.{every_run}
 use Rattle.world.proofs.OwnJournals.{run_journals}
+use Rattle.world.proofs.Answers.{parts_apart}
 use Rattle.threaded.specs.Machines.{HasPartsApart, StaysApart}
 use Rattle.threaded.proofs.Lists.{begins_or_whole}
 
@@ -17,7 +18,7 @@ pub run_apart : (top : TopologyValue) (events : List Event) (node : ℕ) → 0 <
 run_apart top events node some = by (is_shard top node)
   where
     by : (b : Bool) → HasPartsApart (if b then OfShard ((run top events).shards node) else OfSession ((run top events).sessions node))
-    by true = ((every_run top events some).shards node).apart
+    by true = parts_apart top (run top events) (every_run top events some) node
     by false = tt
 
 -- one event more of a run leaves them apart

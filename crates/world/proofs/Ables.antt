@@ -1,20 +1,20 @@
 -- Steps that many messages lead to, and what a shard that doesn't know a transaction tells.
-use Rattle.std.proofs.Common.{◌≡◌, ℕ, ◌+◌, ◌<◌, ◌≤◌, Bool, true, false, ◌||◌, List, [], ◌∷◌, ◌++◌, Option, Some, None, ◌⊎◌, inl, inr, refl, sym, ap, ◌∙◌, subst, arith, le_refl, le_trans, le_of_lt, lt_of_le_of_lt}
+use Rattle.std.proofs.Common.{◌≡◌, ℕ, ◌+◌, ◌<◌, ◌≤◌, Bool, true, false, ◌||◌, List, [], ◌∷◌, ◌++◌, Option, Some, None, ◌⊎◌, inl, inr, refl, sym, ap, ◌∙◌, subst, arith, le_refl, le_trans, le_of_lt, lt_of_le_of_lt, map}
 use Rattle.std.specs.Prelude.{find, is_some}
 use Rattle.std.specs.List.{list_any}
 use Rattle.std.proofs.lemmas.Bool.{false≢true}
 use Rattle.logical_time.specs.Stamps.{TxnValue}
 use Rattle.column_family.specs.declared.batch.Change.{Change}
-use Rattle.store.specs.Keeps.{AreApart}
 use Rattle.planner.specs.Plan.{coordinator_of}
 use Rattle.messages.specs.declared.envelope.Envelope.{Envelope}
 use Rattle.messages.specs.Topology.{TopologyValue, dc_of, shard_of}
 use Rattle.messages.specs.Words.{is_same_txn}
-use Rattle.messages.specs.Shard.{ShardState, ShardStep, Role, Own, Cohort, PreparedPart, BegunBallot, Vote, Decision, KeptPart, KeptBallot, quiet}
+use Rattle.messages.specs.Shard.{ShardState, ShardStep, Role, Own, Cohort, PreparedPart, BegunBallot, Vote, Decision, quiet, WaitingRead}
 use Rattle.messages.specs.Known.{decision_of, prepared_part, kept_part, kept_ballot, is_known}
 use Rattle.messages.specs.Commits.{hold, prepare_part}
+use Rattle.messages.specs.Reads.{part_at, let_go}
 use Rattle.world.specs.Run.{Run, Submission}
-use Rattle.world.proofs.Among.{Among, among_append, append_first, among_last, last_or_old, any_false, find_none, same_txn_self}
+use Rattle.world.proofs.Among.{Among, among_append, append_first, among_last, last_or_old, any_false, find_none, same_txn_self, map_only}
 use Rattle.world.proofs.Growth.{NewPrepared, NewDecision, ShardGrows, Grows}
 use Rattle.world.proofs.Facts.{IsWritten, part_on, DecidedOnce, PreparedBefore, RoleFits, PreparedSound, BallotSound}
 use Rattle.world.proofs.Invariant.{EnvelopeSound}
@@ -60,12 +60,10 @@ then_fresh top x node a b st f g =
       decided = λ e m. elim (g.decided e m) [ inl o ↦ f.decided e o | inr n ↦ inr n ];
       once = g.once;
       applied = λ e m. elim (g.applied e m) [ inl o ↦ f.applied e o | inr n ↦ inr n ];
-      apart = g.apart;
       kept_parts = λ e m. elim (g.kept_parts e m) [ inl o ↦ f.kept_parts e o | inr n ↦ inr n ];
       kept_ballots = λ e m. elim (g.kept_ballots e m) [ inl o ↦ f.kept_ballots e o | inr n ↦ inr n ];
       met = λ e m. elim (g.met e m) [ inl o ↦ f.met e o | inr n ↦ inr n ];
       askers = λ e m. elim (g.askers e m) [ inl o ↦ f.askers e o | inr n ↦ inr n ];
-      waiting = λ e m. elim (g.waiting e m) [ inl o ↦ f.waiting e o | inr n ↦ inr n ];
       sends = g.sends;
     }
 
@@ -85,10 +83,9 @@ pub record Alike (a b : ShardState) : Type 0 where
   pub decided : b.decided ≡ a.decided
   pub applied : b.applied ≡ a.applied
   pub askers : b.askers ≡ a.askers
-  pub waiting : b.waiting ≡ a.waiting
 
 pub alike_self : (a : ShardState) → Alike a a
-alike_self a = record { clock = refl; prepared = refl; decided = refl; applied = refl; askers = refl; waiting = refl }
+alike_self a = record { clock = refl; prepared = refl; decided = refl; applied = refl; askers = refl }
 
 pub alike_grows : (a b : ShardState) → Alike a b → ShardGrows a b
 alike_grows a b k =
@@ -139,12 +136,6 @@ unbegun t a e = absent (λ b. b.txn) t a.ballots (unknown t a e).0
 pub unprepared : (t : TxnValue) (a : ShardState) → is_known t a ≡ false → (p : PreparedPart) → Among p a.prepared → p.txn ≡ t → ⊥
 unprepared t a e = absent (λ p. p.txn) t a.prepared (not_found (λ p. is_same_txn p.txn t) a.prepared (unknown t a e).1)
 
-pub unkept_part : (t : TxnValue) (a : ShardState) → is_known t a ≡ false → (k : KeptPart) → Among k a.kept_parts → k.txn ≡ t → ⊥
-unkept_part t a e = absent (λ k. k.txn) t a.kept_parts (not_found (λ k. is_same_txn k.txn t) a.kept_parts (unknown t a e).2)
-
-pub unkept_ballot : (t : TxnValue) (a : ShardState) → is_known t a ≡ false → (r : KeptBallot) → Among r a.kept_ballots → r.txn ≡ t → ⊥
-unkept_ballot t a e = absent (λ r. r.txn) t a.kept_ballots (not_found (λ r. is_same_txn r.txn t) a.kept_ballots (unknown t a e).3)
-
 -- no decision is found, so there is none
 pub undecided_at : (t : TxnValue) (a : ShardState) → is_some (decision_of t a) ≡ false → (d : Decision) → Among d a.decided → d.txn ≡ t → ⊥
 undecided_at t a e = absent (λ d. d.txn) t a.decided (not_found (λ d. is_same_txn d.txn t) a.decided e)
@@ -154,15 +145,16 @@ undecided t a e = undecided_at t a (unknown t a e).4
 
 -- ## Nothing but the clock, and envelopes
 
-pub clock_grows : (n : ℕ) (a : ShardState) → a.clock ≤ n → ShardGrows a (record a { clock = n })
-clock_grows n a le = record { clock = le; prepared = λ p m. m; prepared_new = λ p m. inl m; decided = λ d m. m; decided_new = λ d m. inl m; applied = λ v m. m }
+pub clock_grows : (n : ℕ) (a : ShardState) (low : ℕ) (ws : List WaitingRead) → a.clock ≤ n → ShardGrows a (record a { clock = n; low = low; waiting = ws })
+clock_grows n a low ws le = record { clock = le; prepared = λ p m. m; prepared_new = λ p m. inl m; decided = λ d m. m; decided_new = λ d m. inl m; applied = λ v m. m }
 
-pub sends_able : (top : TopologyValue) (w : Run) (node n : ℕ) (a : ShardState) (sends : List Envelope) → a.clock < n → DecidedOnce a.decided → AreApart a.applied
-    → ((x : Run) → Grows top w x → x.shards node ≡ record a { clock = n } → (e : Envelope) → Among e sends → EnvelopeSound top x e)
-    → Able top w node a (record { state = record a { clock = n }; sends = sends })
-sends_able top w node n a sends lt once apart f =
+-- other reads may wait, and the horizon may be another
+pub waits_able : (top : TopologyValue) (w : Run) (node n : ℕ) (a : ShardState) (low : ℕ) (ws : List WaitingRead) (sends : List Envelope) → a.clock < n → DecidedOnce a.decided
+    → ((x : Run) → Grows top w x → x.shards node ≡ record a { clock = n; low = low; waiting = ws } → (e : Envelope) → Among e sends → EnvelopeSound top x e)
+    → Able top w node a (record { state = record a { clock = n; low = low; waiting = ws }; sends = sends })
+waits_able top w node n a low ws sends lt once f =
     record {
-      grows = clock_grows n a (le_of_lt lt);
+      grows = clock_grows n a low ws (le_of_lt lt);
       fresh = λ x gr at.
           record {
             prepared = λ e m. inl m;
@@ -172,18 +164,38 @@ sends_able top w node n a sends lt once apart f =
             decided = λ e m. inl m;
             once = once;
             applied = λ e m. inl m;
-            apart = apart;
             kept_parts = λ e m. inl m;
             kept_ballots = λ e m. inl m;
             met = λ e m. inl m;
             askers = λ e m. inl m;
-            waiting = λ e m. inl m;
             sends = f x gr at;
           };
     }
 
-pub quiet_able : (top : TopologyValue) (w : Run) (node n : ℕ) (a : ShardState) → a.clock < n → DecidedOnce a.decided → AreApart a.applied → Able top w node a (quiet n a)
-quiet_able top w node n a lt once apart = sends_able top w node n a [] lt once apart (λ x gr at e m. absurd m)
+pub sends_able : (top : TopologyValue) (w : Run) (node n : ℕ) (a : ShardState) (sends : List Envelope) → a.clock < n → DecidedOnce a.decided
+    → ((x : Run) → Grows top w x → x.shards node ≡ record a { clock = n } → (e : Envelope) → Among e sends → EnvelopeSound top x e)
+    → Able top w node a (record { state = record a { clock = n }; sends = sends })
+sends_able top w node n a sends lt once f = waits_able top w node n a a.low a.waiting sends lt once f
+
+-- what reads are told is right by what is known of their shard: nothing is to be said of it here
+pub told_sound : (top : TopologyValue) (x : Run) (node n : ℕ) (a : ShardState) (ys : List WaitingRead) (e : Envelope) → Among e (map (part_at node n a) ys)
+    → EnvelopeSound top x e
+told_sound top x node n a ys e m = let q = map_only (part_at node n a) ys e m in subst (λ z. EnvelopeSound top x z) (sym q.2) tt
+
+-- reads are let go
+pub let_go_able : (top : TopologyValue) (w : Run) (node n : ℕ) (a : ShardState) (t : TxnValue) (p : WaitingRead → Bool) (sends : List Envelope) → a.clock < n
+    → DecidedOnce a.decided
+    → ((x : Run) → Grows top w x → x.shards node ≡ (let_go node n a t p sends).state → (e : Envelope) → Among e sends → EnvelopeSound top x e)
+    → Able top w node a (let_go node n a t p sends)
+let_go_able top w node n a t p sends lt once f =
+    waits_able top w node n a _ _ _ lt once
+    (λ x gr at e m. elim (among_append e sends _ m) [
+      | inl o ↦ f x gr at e o
+      | inr o ↦ told_sound top x node n a _ e o
+    ])
+
+pub quiet_able : (top : TopologyValue) (w : Run) (node n : ℕ) (a : ShardState) → a.clock < n → DecidedOnce a.decided → Able top w node a (quiet n a)
+quiet_able top w node n a lt once = sends_able top w node n a [] lt once (λ x gr at e m. absurd m)
 
 -- ## A new mark
 
@@ -196,11 +208,11 @@ prepared_one ps p none g m q = elim (last_or_old g p ps m) [ inl o ↦ absurd (n
 
 -- A cohort's part is prepared, marked with the clock, and voted for
 pub prepare_able : (top : TopologyValue) (w : Run) (node n : ℕ) (a : ShardState) (t : TxnValue) (rows : List Change) (c : ℕ) (role : Role) (b : Submission) (batch : List Change)
-    → a.clock < n → DecidedOnce a.decided → AreApart a.applied
+    → a.clock < n → DecidedOnce a.decided
     → ((p : PreparedPart) → Among p a.prepared → p.txn ≡ t → ⊥) → ((d : Decision) → Among d a.decided → d.txn ≡ t → ⊥)
     → IsWritten w t b batch → c ≡ coordinator_of top.shards batch → rows ≡ part_on top batch node → RoleFits role top batch node → (role ≡ Cohort → dc_of top node ≡ b.home)
     → Able top w node a (prepare_part top node n a t rows c role)
-prepare_able top w node n a t rows c role b batch lt once apart none never written coord r fits origin =
+prepare_able top w node n a t rows c role b batch lt once none never written coord r fits origin =
     let p : PreparedPart = record { txn = t; rows = rows; coordinator = c; time = n; role = role } in
     record {
       grows = record {
@@ -235,12 +247,10 @@ prepare_able top w node n a t rows c role b batch lt once apart none never writt
             decided = λ e m. inl m;
             once = once;
             applied = λ e m. inl m;
-            apart = apart;
             kept_parts = λ e m. inl m;
             kept_ballots = λ e m. inl m;
             met = λ e m. inl m;
             askers = λ e m. inl m;
-            waiting = λ e m. inl m;
             sends = λ e m. elim m [ inl q ↦ subst (λ z. EnvelopeSound top x z) (sym q) voted | inr o ↦ absurd o ];
           };
     }
@@ -252,12 +262,12 @@ own_cohort e = cc
 
 -- the coordinator keeps the ballot and its own part, marked with the clock
 pub hold_able : (top : TopologyValue) (w : Run) (node n : ℕ) (a : ShardState) (b : BegunBallot) (counted : List Vote) (sends : List Envelope)
-    → 0 < top.shards → a.clock < n → DecidedOnce a.decided → AreApart a.applied
+    → 0 < top.shards → a.clock < n → DecidedOnce a.decided
     → ((p : PreparedPart) → Among p a.prepared → p.txn ≡ b.txn → ⊥) → ((d : Decision) → Among d a.decided → d.txn ≡ b.txn → ⊥)
     → BallotSound top w node n b → ((v : Vote) → Among v counted → PreparedBefore w v.node v.txn n)
     → ((x : Run) → Grows top w x → x.shards node ≡ (hold top node n a b counted sends).state → (e : Envelope) → Among e sends → EnvelopeSound top x e)
     → Able top w node a (hold top node n a b counted sends)
-hold_able top w node n a b counted sends some lt once apart none never k voted f =
+hold_able top w node n a b counted sends some lt once none never k voted f =
     let p : PreparedPart = record { txn = b.txn; rows = b.rows; coordinator = shard_of top node; time = n; role = Own } in
     record {
       grows = record {
@@ -293,12 +303,10 @@ hold_able top w node n a b counted sends some lt once apart none never k voted f
             decided = λ e m. inl m;
             once = once;
             applied = λ e m. inl m;
-            apart = apart;
             kept_parts = λ e m. inl m;
             kept_ballots = λ e m. inl m;
             met = λ e m. inl m;
             askers = λ e m. inl m;
-            waiting = λ e m. inl m;
             sends = f x gr at;
           };
     }

@@ -62,7 +62,7 @@ module _ (top : TopologyValue) (w : Run) (k : Addressed top w) where
     reader : (b : Body) → f.body ≡ b → Fits top f.from f.to b
     reader b is = subst (Fits top f.from f.to) is (k.sent f m)
 
-    given : Gives (w.shards f.to).low (λ z. Fits top z.from z.to z.body) (λ y. is_session top y.session ≡ true) (handled top f.to n (w.shards f.to) f.from f.body)
+    given : Gives n (w.shards f.to).low (λ z. Fits top z.from z.to z.body) (λ y. is_session top y.session ≡ true) (handled top f.to n (w.shards f.to) f.from f.body)
     given =
         handled_gives top f.to n (w.shards f.to) f.from f.body (λ z. Fits top z.from z.to z.body) (λ y. is_session top y.session ≡ true)
         (record {

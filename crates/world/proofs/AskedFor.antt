@@ -2,7 +2,6 @@
 use Rattle.std.proofs.Common.{◌≡◌, ◌∙◌, ℕ, zero, suc, ◌+◌, ◌*◌, ◌<◌, ◌≤◌, List, [], ◌∷◌, ◌++◌, map, length, slice_get, take, take_all, Option, Some, None, Result, Ok, Err, refl, sym, ap, subst, arith}
 use Rattle.std.specs.Prelude.{IfOk, filter_map, option_to_list, option_map, option_and_then}
 use Rattle.std.specs.List.{cons_option}
-use Rattle.std.proofs.Math.Nat.{mul-le-mul_right}
 use Rattle.logical_time.specs.declared.fault.Fault.{Fault}
 use Rattle.logical_time.specs.Stamps.{TxnValue, StampValue}
 use Rattle.column_family.specs.declared.batch.Change.{Change}
@@ -110,15 +109,6 @@ listed v a l dc home xs ws (Ok h) holds is at shards writes asked =
     let q = asked a.topology w.shards (ap (λ (z : HomeValue). z.shards) (sym at)) (subst (AreShards a.topology w.shards) (sym shards) holds.running.shards) in
     let p = q ∙ ap (λ (z : HomeValue). filter_map (entry_at a.topology w.shards z.dc) ws) at ∙ ap (filter_map (entry_at a.topology w.shards dc)) writes in
     subst (λ (z : WorldValue). IsHistory z.top (run_of z) dc h) is (asked_is_history a l dc h holds p)
-
-pub room_for : (a : Actors) (l : Log) (dc n shards : ℕ) → Holds a.topology a l → shards ≡ a.topology.shards → dc < a.topology.dcs → n ≡ length a.shards.items → dc * shards + shards ≤ n
-room_for a l dc n shards holds e lt len =
-    let some : (dc + 1) * a.topology.shards ≤ a.topology.dcs * a.topology.shards = mul-le-mul_right a.topology.shards (omega arith) in
-    let count = holds.running.shards.len in
-    within dc a.topology.shards n (a.topology.dcs * a.topology.shards) shards e some (len ∙ count)
-  where
-    within : (d s n c t : ℕ) → t ≡ s → (d + 1) * s ≤ c → n ≡ c → d * t + t ≤ n
-    within d s n c t e le is = subst (λ z. d * z + z ≤ n) (sym e) (omega arith)
 
 pub all_asked : {X : Type 0} (xs : List X) (k : ℕ) → length xs ≤ k → take k xs ≡ xs
 all_asked xs k le = take_all k xs le

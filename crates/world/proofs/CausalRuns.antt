@@ -10,7 +10,7 @@ use Rattle.messages.specs.SessionEvents.{heard, session_handle}
 use Rattle.messages.specs.ShardEvents.{handled, shard_handle, collected}
 use Rattle.world.specs.Run.{Run, Event, Submit, Deliver, Collect, after_shard, after_session, after_submission, submit_if, deliver_if, deliver_for, collect_if, step}
 use Rattle.world.proofs.Among.{Among, get_among}
-use Rattle.world.proofs.Invariant.{EnvelopeSound, Inv}
+use Rattle.world.proofs.Invariant.{Inv}
 use Rattle.world.proofs.HandlesKept.{handle_able, collect_able}
 use Rattle.world.proofs.SessionsKept.{heard_able}
 use Rattle.world.proofs.Submissions.{begun_grows}
@@ -21,38 +21,39 @@ use Rattle.messages.specs.declared.op.Op.TheVariants as op
 use Rattle.messages.specs.declared.body.Body.TheVariants as body
 use Rattle.messages.specs.Words.{envelope}
 use Rattle.world.specs.Run.{opening, continued, run}
-use Rattle.world.proofs.Events.{ticked_above}
+use Rattle.shard.proofs.Handles.{ticked_above}
 use Rattle.world.proofs.Runs.{opening_holds, step_kept}
 use Rattle.world.proofs.Causal.{Causal}
 use Rattle.world.proofs.CausalKept.{shard_causal, session_causal, submission_causal}
+use Rattle.world.proofs.Answers.{hears}
 
 module _ (top : TopologyValue) (w : Run) (some : 0 < top.shards) (inv : Inv top w) (k : Causal top w) where
-  shard_hears : (e : Envelope) (x : Event) → EnvelopeSound top w e → Causal top (after_shard (shard_handle top e.to (w.shards e.to) e) w x e.to)
-  shard_hears e x says = go (ticked (w.shards e.to).clock e.time) refl
+  shard_hears : (e : Envelope) (x : Event) → Among e w.sent → Causal top (after_shard (shard_handle top e.to (w.shards e.to) e) w x e.to)
+  shard_hears e x m = go (ticked (w.shards e.to).clock e.time) refl
     where
       go : (o : Option ℕ) → ticked (w.shards e.to).clock e.time ≡ o → Causal top (after_shard (on_clock o (λ n. handled top e.to n (w.shards e.to) e.from e.body)) w x e.to)
       go None q = k
       go (Some n) q =
           let above = ticked_above (w.shards e.to).clock e.time n q in
-          shard_causal top w e.to (handled top e.to n (w.shards e.to) e.from e.body) x (handle_able top w e.to n e.from e.time e.body some inv above.0 above.1 says).grows k
+          shard_causal top w e.to (handled top e.to n (w.shards e.to) e.from e.body) x (handle_able top w e.to n e.from e.time e.body some inv above.0 above.1 (inv.sent e m)).grows k
 
-  session_hears : (e : Envelope) (x : Event) → EnvelopeSound top w e → Causal top (after_session (session_handle top e.to (w.sessions e.to) e) w x e.to)
-  session_hears e x says = go (ticked (w.sessions e.to).clock e.time) refl
+  session_hears : (e : Envelope) (x : Event) → Among e w.sent → Causal top (after_session (session_handle top e.to (w.sessions e.to) e) w x e.to)
+  session_hears e x m = go (ticked (w.sessions e.to).clock e.time) refl
     where
       go : (o : Option ℕ) → ticked (w.sessions e.to).clock e.time ≡ o → Causal top (after_session (on_clock o (λ n. heard top e.to n (w.sessions e.to) e.from e.body)) w x e.to)
       go None q = k
       go (Some n) q =
           let above = ticked_above (w.sessions e.to).clock e.time n q in
-          session_causal top w e.to (heard top e.to n (w.sessions e.to) e.from e.body) x inv (heard_able top w e.to n some inv (le_of_lt above.0) e.from e.time e.body (le_of_lt above.1) says) k
+          session_causal top w e.to (heard top e.to n (w.sessions e.to) e.from e.body) x inv (heard_able top w e.to n some inv (le_of_lt above.0) e.from e.time e.body (le_of_lt above.1) (hears top w inv e m)) k
 
-  deliver_go : (shard session : Bool) (e : Envelope) (x : Event) → EnvelopeSound top w e → Causal top (deliver_if shard session top w x e)
-  deliver_go true session e x says = shard_hears e x says
-  deliver_go false true e x says = session_hears e x says
-  deliver_go false false e x says = k
+  deliver_go : (shard session : Bool) (e : Envelope) (x : Event) → Among e w.sent → Causal top (deliver_if shard session top w x e)
+  deliver_go true session e x m = shard_hears e x m
+  deliver_go false true e x m = session_hears e x m
+  deliver_go false false e x m = k
 
   message_go : (o : Option Envelope) (x : Event) → ((e : Envelope) → o ≡ Some e → Among e w.sent) → Causal top (deliver_for o top w x)
   message_go None x m = k
-  message_go (Some e) x m = deliver_go (is_shard top e.to) (is_session top e.to) e x (inv.sent e (m e refl))
+  message_go (Some e) x m = deliver_go (is_shard top e.to) (is_session top e.to) e x (m e refl)
 
   collect_go : (b : Bool) (node time : ℕ) → Causal top (collect_if b w node time)
   collect_go false node time = k

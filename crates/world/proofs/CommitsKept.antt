@@ -1,13 +1,10 @@
 -- Commit, At, NotBy and Check keep all.
-use Rattle.std.proofs.Common.{◌≡◌, ℕ, ◌<◌, ◌≤◌, Bool, true, false, [], ◌∷◌, ◌++◌, Option, Some, None, inl, inr, refl, sym, ap, ◌∙◌, subst, subst₂, leb-true, le_refl, le_trans, le_of_lt, lt_of_le_of_lt}
+use Rattle.std.proofs.Common.{◌≡◌, ℕ, ◌<◌, ◌≤◌, Bool, true, false, [], ◌∷◌, ◌++◌, Option, Some, None, inl, inr, refl, sym, ap, ◌∙◌, subst, le_refl, le_trans, le_of_lt, lt_of_le_of_lt}
 use Rattle.std.specs.Prelude.{nat_le}
 use Rattle.logical_time.specs.Stamps.{StampValue, TxnValue}
-use Rattle.column_family.specs.Normal.{IsNormal}
 use Rattle.store.specs.declared.part.Applied.{Applied}
-use Rattle.store.specs.Keeps.{IsNewStamp, AreApart}
-use Rattle.store.proofs.Apart.{apart_more}
 use Rattle.planner.specs.Plan.{cohorts_of}
-use Rattle.messages.specs.declared.body.Body.TheVariants.{Commit, At, NotBy, Check, ReplPart}
+use Rattle.messages.specs.declared.body.Body.TheVariants.{Commit, At, Check, ReplPart}
 use Rattle.messages.specs.declared.envelope.Envelope.{Envelope}
 use Rattle.messages.specs.Topology.{TopologyValue, dc_of, shard_of, shard_node}
 use Rattle.messages.specs.Words.{is_same_txn, envelope, other_dcs}
@@ -16,17 +13,16 @@ use Rattle.messages.specs.Known.{decision_of, prepared_part, is_applied}
 use Rattle.messages.specs.Reads.{let_go}
 use Rattle.messages.specs.Commits.{applied_part, repl_parts, apply_part, commit_if, commit_for, on_commit, on_not_by, check_for, on_check}
 use Rattle.world.specs.Run.{Run}
-use Rattle.world.proofs.Among.{Among, append_first, among_last, last_or_old, find_some, find_none, map_only, same_txn}
+use Rattle.world.proofs.Among.{Among, append_first, last_or_old, find_some, find_none, map_only, same_txn}
 use Rattle.world.proofs.Growth.{ShardGrows, Grows}
-use Rattle.world.proofs.Facts.{near, lead, IsDecided, IsStamp, RoleFits, PreparedSound, KeptPartSound, AppliedSound, Excluded}
+use Rattle.world.proofs.Facts.{near, lead, IsDecided, RoleFits, PreparedSound, KeptPartSound, AppliedSound}
 use Rattle.world.proofs.Invariant.{IsLead, Says, EnvelopeSound, Inv}
 use Rattle.world.proofs.Able.{Able}
-use Rattle.world.proofs.Lasting.{same_shard_grows, written_grows, decided_grows, excluded_grows}
+use Rattle.world.proofs.Lasting.{written_grows, decided_grows}
 use Rattle.world.proofs.LastingAll.{lead_grows}
-use Rattle.world.proofs.Near.{normal_on, peer_number, peer_part}
-use Rattle.world.proofs.Ables.{added, absent, quiet_able, sends_able}
-use Rattle.world.proofs.LetGo.{let_go_able}
-use Rattle.world.proofs.StampsApart.{written_at, batch_one, stamp_is_new}
+use Rattle.world.proofs.Near.{peer_number, peer_part}
+use Rattle.world.proofs.Ables.{added, absent, quiet_able, sends_able, let_go_able}
+use Rattle.world.proofs.OneBatch.{written_at, batch_one}
 
 -- ## A part is applied
 
@@ -70,15 +66,11 @@ apply_able top w node n from commit stamp p some inv lt le k here m never =
     let coord : from ≡ near top node p.coordinator =
     ds.here ∙ ap (λ d. lead top d ds.batch) here ∙ ap (lead top (dc_of top node)) one ∙ sym (ap (shard_node top (dc_of top node)) ps.coordinator) in
     let kc : IsDecided w (near top node p.coordinator) p.txn commit stamp = subst (λ c. IsDecided w c p.txn commit stamp) coord k in
-    let is : IsStamp top w ds.submission ds.batch stamp = subst (λ s. IsStamp top w ds.submission ds.batch s) k.stamp ds.stamp in
     let v = part p commit stamp in
     let b = with_part a v in
     let sends = repl_parts p.role top node n p stamp in
     let g : ShardGrows a b =
     record { clock = le_refl a.clock; prepared = λ e m. m; prepared_new = λ e m. inl m; decided = λ d m. m; decided_new = λ d m. inl m; applied = λ u m. append_first u a.applied (v ∷ []) m } in
-    let new : IsNewStamp stamp a.applied =
-    stamp_is_new top w node ds.submission ds.batch stamp inv is (λ u i q. absent (λ u. u.part.writer.txn) p.txn a.applied never u i (q ∙ ds.written.txn ∙ k.txn)) in
-    let apart : AreApart b.applied = apart_more a.applied v (subst IsNormal (sym ps.rows) (normal_on top ps.batch node)) new (inv.shards node).apart in
     added top w node a b (let_go node n b p.txn (λ y. true) sends) g
     (λ x gr late. record {
       prepared = λ e m. inl m;
@@ -93,16 +85,13 @@ apply_able top w node n from commit stamp p some inv lt le k here m never =
             inr (subst (λ z. AppliedSound top x node z) (sym q)
             (record { submission = ps.submission; batch = ps.batch; written = written_grows gr ps.written; coordinator = ps.coordinator; rows = ps.rows; decided = decided_grows gr kc; early = le_trans le late }))
       ];
-      apart = apart;
       kept_parts = λ e m. inl m;
       kept_ballots = λ e m. inl m;
       met = λ e m. inl m;
       askers = λ e m. inl m;
-      waiting = λ e m. inl m;
       sends = λ e m. absurd m;
     })
-    (let_go_able top w node n b p.txn (λ y. true) sends inv lt g refl refl apart
-    (λ x gr at y h i q z. inl (v, subst (λ s. Among v s.applied) (sym at) (among_last v a.applied), sym q))
+    (let_go_able top w node n b p.txn (λ y. true) sends lt (inv.shards node).once
     (λ x gr at e i. repl_go top w x node n p stamp ps some gr p.role ps.role e i))
 
 -- ## Commit and At
@@ -110,16 +99,16 @@ apply_able top w node n from commit stamp p some inv lt le k here m never =
 commit_if_able : (top : TopologyValue) (w : Run) (node n from : ℕ) (commit : ℕ) (stamp : StampValue) (p : PreparedPart) → 0 < top.shards → Inv top w → (w.shards node).clock < n → commit ≤ n
     → IsDecided w from p.txn commit stamp → dc_of top from ≡ dc_of top node → Among p (w.shards node).prepared
     → (r : Role) (applied : Bool) → is_applied p.txn (w.shards node) ≡ applied → Able top w node (w.shards node) (commit_if r applied top node n (w.shards node) p commit stamp)
-commit_if_able top w node n from commit stamp p some inv lt le k here m Own applied e = quiet_able top w node n (w.shards node) lt (inv.shards node).once (inv.shards node).apart
-commit_if_able top w node n from commit stamp p some inv lt le k here m Cohort true e = quiet_able top w node n (w.shards node) lt (inv.shards node).once (inv.shards node).apart
+commit_if_able top w node n from commit stamp p some inv lt le k here m Own applied e = quiet_able top w node n (w.shards node) lt (inv.shards node).once
+commit_if_able top w node n from commit stamp p some inv lt le k here m Cohort true e = quiet_able top w node n (w.shards node) lt (inv.shards node).once
 commit_if_able top w node n from commit stamp p some inv lt le k here m Cohort false e = apply_able top w node n from commit stamp p some inv lt le k here m e
-commit_if_able top w node n from commit stamp p some inv lt le k here m Replica true e = quiet_able top w node n (w.shards node) lt (inv.shards node).once (inv.shards node).apart
+commit_if_able top w node n from commit stamp p some inv lt le k here m Replica true e = quiet_able top w node n (w.shards node) lt (inv.shards node).once
 commit_if_able top w node n from commit stamp p some inv lt le k here m Replica false e = apply_able top w node n from commit stamp p some inv lt le k here m e
 
 commit_go : (top : TopologyValue) (w : Run) (node n from : ℕ) (t : TxnValue) (commit : ℕ) (stamp : StampValue) → 0 < top.shards → Inv top w → (w.shards node).clock < n → commit ≤ n
     → IsDecided w from t commit stamp → dc_of top from ≡ dc_of top node
     → (o : Option PreparedPart) → prepared_part t (w.shards node) ≡ o → Able top w node (w.shards node) (commit_for o top node n (w.shards node) commit stamp)
-commit_go top w node n from t commit stamp some inv lt le k here None e = quiet_able top w node n (w.shards node) lt (inv.shards node).once (inv.shards node).apart
+commit_go top w node n from t commit stamp some inv lt le k here None e = quiet_able top w node n (w.shards node) lt (inv.shards node).once
 commit_go top w node n from t commit stamp some inv lt le k here (Some p) e =
     let f = find_some (λ p. is_same_txn p.txn t) (w.shards node).prepared p e in
     commit_if_able top w node n from commit stamp p some inv lt le (subst (λ u. IsDecided w from u commit stamp) (sym (same_txn p.txn t f.1)) k) here f.0 p.role _ refl
@@ -136,20 +125,10 @@ at_able top w node n from time t commit stamp some inv lt late k = commit_go top
 
 -- ## NotBy
 
-pub excluded_below : {w : Run} {node : ℕ} {t : TxnValue} {n m : ℕ} → m ≤ n → Excluded w node t n → Excluded w node t m
-excluded_below le k = record { clock = le_trans le k.clock; above = λ d i e. lt_of_le_of_lt le (k.above d i e) }
-
-pub not_by_able : (top : TopologyValue) (w : Run) (node n from time : ℕ) (t : TxnValue) (bound : ℕ)
-    → 0 < top.shards → Inv top w → (w.shards node).clock < n → time < n → Says top w from node time (NotBy t bound)
+pub not_by_able : (top : TopologyValue) (w : Run) (node n : ℕ) (t : TxnValue) (bound : ℕ) → Inv top w → (w.shards node).clock < n
     → Able top w node (w.shards node) (on_not_by node n (w.shards node) t bound)
-not_by_able top w node n from time t bound some inv lt late k =
-    let_go_able top w node n (w.shards node) t (λ y. nat_le y.time bound) [] inv lt (same_shard_grows (w.shards node)) refl refl (inv.shards node).apart
-    (λ x gr at y p m q e.
-    let ps = (inv.shards node).prepared p (subst (λ z. Among p z.prepared) at m) in
-    let one : k.1.batch ≡ ps.batch = batch_one inv.submitted (written_at (sym q) k.1.written) ps.written in
-    let c : from ≡ near top node p.coordinator = k.1.here ∙ ap (lead top (dc_of top node)) one ∙ sym (ap (shard_node top (dc_of top node)) ps.coordinator) in
-    inr (subst₂ (λ u s. Excluded x s u y.time) (sym q) c (excluded_grows gr (excluded_below (leb-true y.time bound e) k.0))))
-    (λ x gr at e m. absurd m)
+not_by_able top w node n t bound inv lt =
+    let_go_able top w node n (w.shards node) t (λ y. nat_le y.time bound) [] lt (inv.shards node).once (λ x gr at e m. absurd m)
 
 -- ## Check
 
@@ -157,7 +136,7 @@ check_go : (top : TopologyValue) (w : Run) (node n from time : ℕ) (t : TxnValu
     → dc_of top from ≡ dc_of top node → IsLead top w (dc_of top from) node t
     → (o : Option Decision) → decision_of t (w.shards node) ≡ o → Able top w node (w.shards node) (check_for o node n (w.shards node) from t bound)
 check_go top w node n from time t bound inv lt le here k None e =
-    sends_able top w node n (w.shards node) _ lt (inv.shards node).once (inv.shards node).apart
+    sends_able top w node n (w.shards node) _ lt (inv.shards node).once
     (λ x gr at i m. elim m [
       | inl q ↦ subst (λ z. EnvelopeSound top x z) (sym q) (
         record {
@@ -171,7 +150,7 @@ check_go top w node n from time t bound inv lt le here k None e =
 check_go top w node n from time t bound inv lt le here k (Some d) e =
     let p = find_some (λ d. is_same_txn d.txn t) (w.shards node).decided d e in
     let dec : IsDecided w node t d.commit d.stamp = record { decision = d; among = p.0; txn = same_txn d.txn t p.1; commit = refl; stamp = refl } in
-    sends_able top w node n (w.shards node) _ lt (inv.shards node).once (inv.shards node).apart
+    sends_able top w node n (w.shards node) _ lt (inv.shards node).once
     (λ x gr at i m. elim m [
       | inl q ↦
           subst (λ z. EnvelopeSound top x z) (sym q)

@@ -1,30 +1,26 @@
 -- A coordinator decides.
-use Rattle.std.proofs.Common.{◌≡◌, ℕ, ◌<◌, ◌≤◌, true, [], ◌∷◌, ◌++◌, Option, Some, None, ◌⊎◌, inl, inr, refl, sym, ap, ap₂, ◌∙◌, subst, subst₂, arith, le_refl, le_of_lt}
+use Rattle.std.proofs.Common.{◌≡◌, ℕ, ◌<◌, ◌≤◌, [], ◌∷◌, ◌++◌, Option, Some, None, ◌⊎◌, inl, inr, refl, sym, ap, ap₂, ◌∙◌, subst, subst₂, arith, le_refl, le_of_lt}
 use Rattle.std.specs.Prelude.{filter}
 use Rattle.logical_time.specs.Stamps.{StampValue}
-use Rattle.column_family.specs.Normal.{IsNormal}
 use Rattle.store.specs.declared.part.Applied.{Applied}
-use Rattle.store.specs.Keeps.{IsNewStamp, AreApart}
-use Rattle.store.proofs.Apart.{apart_more}
 use Rattle.planner.specs.Plan.{coordinator_of}
 use Rattle.messages.specs.declared.body.Body.TheVariants.{Commit, ReplBegin, DepOk}
 use Rattle.messages.specs.declared.envelope.Envelope.{Envelope}
 use Rattle.messages.specs.Topology.{TopologyValue, dc_of, shard_of, shard_node}
 use Rattle.messages.specs.Words.{is_same_txn, envelope, other_dcs}
-use Rattle.messages.specs.Shard.{ShardState, BegunBallot, KeptBallot, Decision, Asker, WaitingRead}
+use Rattle.messages.specs.Shard.{ShardState, BegunBallot, KeptBallot, Decision, Asker}
 use Rattle.messages.specs.Commits.{applied_part, commits, stamp_for, announcements, dep_oks, decide}
 use Rattle.world.specs.Run.{Run}
 use Rattle.world.proofs.Among.{Among, among_append, append_first, among_last, last_or_old, filter_only, map_only}
 use Rattle.world.proofs.Growth.{NewDecision, ShardGrows}
-use Rattle.world.proofs.Facts.{near, lead, IsDecided, IsStamp, DecidedOnce, PreparedBefore, StampFits, BallotSound, KeptBallotSound, DecisionSound, AppliedSound, Sees, WaitSound}
+use Rattle.world.proofs.Facts.{near, lead, IsDecided, IsStamp, DecidedOnce, PreparedBefore, StampFits, BallotSound, KeptBallotSound, DecisionSound, AppliedSound}
 use Rattle.world.proofs.Invariant.{MayWait, EnvelopeSound, Inv}
 use Rattle.world.proofs.Able.{Fresh, Able}
 use Rattle.world.proofs.Lasting.{before_grows, ballot_grows}
-use Rattle.world.proofs.LastingAll.{shard_grows}
-use Rattle.world.proofs.Near.{cohort_below, near_dc, lead_number, peer_dc, peer_part, normal_on}
-use Rattle.world.proofs.Ables.{Alike}
-use Rattle.world.proofs.LetGo.{Frees, waits_kept, answers_sound}
-use Rattle.world.proofs.StampsApart.{stamp_is_new, own_stamp_is_new, applied_is_decided, once_more}
+use Rattle.world.proofs.LastingAll.{may_wait_grows}
+use Rattle.world.proofs.Near.{cohort_below, near_dc, lead_number, peer_dc, peer_part}
+use Rattle.world.proofs.Ables.{Alike, told_sound}
+use Rattle.world.proofs.OneBatch.{once_more}
 
 -- what is decided anew
 abbrev decision : ℕ → ℕ → BegunBallot → Decision
@@ -58,12 +54,8 @@ module _ (top : TopologyValue) (x : Run) (node n : ℕ) (a : ShardState) (b : Be
     (early : (d : Decision) → Among d a.decided → d.commit < n)
     (none : (d : Decision) → Among d a.decided → d.txn ≡ b.txn → ⊥)
     (once : DecidedOnce a.decided)
-    (apart : AreApart a.applied)
-    (new : IsNewStamp (stamp_for node n b.stamp) a.applied)
     (ballot : BallotSound top x node n b)
     (votes : (c : ℕ) → Among c b.cohorts → PreparedBefore x (near top node c) b.txn n)
-    (applied : (d : Decision) → Among d a.decided → Sees a.applied d.txn)
-    (waiting : (y : WaitingRead) → Among y a.waiting → WaitSound top x node y)
     (askers : (k : Asker) → Among k a.askers → MayWait top x node k.waiter k.from) where
   clock : n ≤ (x.shards node).clock
   clock = subst (λ z. n ≤ z.clock) (sym at) (le_refl n)
@@ -127,25 +119,6 @@ module _ (top : TopologyValue) (x : Run) (node n : ℕ) (a : ShardState) (b : Be
         early = clock;
       }
 
-  sees_new : Sees (a.applied ++ part top node n b ∷ []) b.txn
-  sees_new = (part top node n b, among_last (part top node n b) a.applied, refl)
-
-  all_go : (d : Decision) → Among d (a.decided ++ decision node n b ∷ []) → Sees (a.applied ++ part top node n b ∷ []) d.txn
-  all_go d m =
-      elim (last_or_old d (decision node n b) a.decided m) [
-        | inl o ↦ (let v = applied d o in (v.0, append_first v.0 a.applied (part top node n b ∷ []) v.1, v.2))
-        | inr q ↦ subst (λ t. Sees (a.applied ++ part top node n b ∷ []) t) (sym (ap (λ z. z.txn) q)) sees_new
-      ]
-
-  all_applied : (d : Decision) → Among d (x.shards node).decided → Sees (x.shards node).applied d.txn
-  all_applied d m = subst (λ z. Sees z.applied d.txn) (sym at) (all_go d (subst (λ z. Among d z.decided) at m))
-
-  all_apart : AreApart (a.applied ++ part top node n b ∷ [])
-  all_apart = apart_more a.applied (part top node n b) (subst IsNormal (sym ballot.rows) (normal_on top ballot.batch node)) new apart
-
-  frees : Frees top x node b.txn (λ y. true)
-  frees y g m q e = inl (subst (λ t. Sees (x.shards node).applied t) (sym q) (part top node n b, among_applied, refl))
-
   -- ## What it sends
 
   commit_go : (e : Envelope) → Among e (commits top node n b.txn (stamp_for node n b.stamp) b.cohorts) → EnvelopeSound top x e
@@ -200,9 +173,7 @@ module _ (top : TopologyValue) (x : Run) (node n : ℕ) (a : ShardState) (b : Be
           | inl d ↦ elim (among_append e cs ns d) [ inl c ↦ commit_go e c | inr k ↦ announce_go b.stamp refl ballot.stamp e k ]
           | inr k ↦ dep_ok_go e k
         ]
-        | inr r ↦
-            answers_sound top x node n (record a { decided = a.decided ++ decision node n b ∷ []; applied = a.applied ++ part top node n b ∷ [] }) b.txn (λ y. true) a.waiting
-            (ap (λ z. z.applied) at) all_apart all_applied waiting frees e r
+        | inr r ↦ told_sound top x node n (record a { decided = a.decided ++ decision node n b ∷ []; applied = a.applied ++ part top node n b ∷ [] }) _ e r
       ]
 
   pub decide_fresh : Fresh top x node a (decide top node n a b)
@@ -215,23 +186,12 @@ module _ (top : TopologyValue) (x : Run) (node n : ℕ) (a : ShardState) (b : Be
         decided = λ d m. elim (last_or_old d (decision node n b) a.decided m) [ inl o ↦ inl o | inr q ↦ inr (subst (λ z. DecisionSound top x node z) (sym q) decision_sound) ];
         once = once_more a.decided (decision node n b) once none;
         applied = λ v m. elim (last_or_old v (part top node n b) a.applied m) [ inl o ↦ inl o | inr q ↦ inr (subst (λ z. AppliedSound top x node z) (sym q) part_sound) ];
-        apart = all_apart;
         kept_parts = λ e m. inl m;
         kept_ballots = λ e m. inl m;
         met = λ e m. inl m;
         askers = λ e m. inl m;
-        waiting = λ y m. inr (waits_kept top x node b.txn (λ y. true) a.waiting waiting frees y m);
         sends = sends_go;
       }
-
--- the stamp of a decision is new on its shard
-new_go : (top : TopologyValue) (w : Run) (node n : ℕ) (b : BegunBallot) → Inv top w → (w.shards node).clock < n → (k : BallotSound top w node n b)
-    → ((d : Decision) → Among d (w.shards node).decided → d.txn ≡ b.txn → ⊥)
-    → (o : Option StampValue) → StampFits top w node n k.submission k.batch o → IsNewStamp (stamp_for node n o) (w.shards node).applied
-new_go top w node n b inv lt k none None fits = own_stamp_is_new top w node n inv lt
-new_go top w node n b inv lt k none (Some s) fits =
-    stamp_is_new top w node k.submission k.batch s inv fits.0
-    (λ v m e. let d = applied_is_decided top w node b.txn k.submission k.batch inv k.written k.here v m (e ∙ k.written.txn) in none d.0 d.1 d.2)
 
 -- A coordinator decides, at a shard that differs in kept inputs alone
 pub decide_able : (top : TopologyValue) (w : Run) (node n : ℕ) (a : ShardState) (b : BegunBallot) → 0 < top.shards → Inv top w → (w.shards node).clock < n → Alike (w.shards node) a
@@ -244,16 +204,11 @@ decide_able top w node n a b some inv lt like k none votes =
     record {
       grows = decide_grows top node n a b (subst (λ c. c < n) (sym like.clock) lt) never;
       fresh = λ x gr at.
-          let kept = shard_grows gr old in
           decide_fresh top x node n a b some at
           (λ d m. let le = (old.decided d (subst (λ l. Among d l) like.decided m)).commit in omega arith)
           never
           (subst DecidedOnce (sym like.decided) old.once)
-          (subst AreApart (sym like.applied) old.apart)
-          (subst (λ l. IsNewStamp (stamp_for node n b.stamp) l) (sym like.applied) (new_go top w node n b inv lt k none b.stamp k.stamp))
           (ballot_grows gr (le_refl n) k)
           (λ c m. before_grows gr (le_refl n) (votes c m))
-          (λ d m. subst (λ l. Sees l d.txn) (sym like.applied) (old.decided d (subst (λ l. Among d l) like.decided m)).applied)
-          (λ y m. kept.waiting y (subst (λ l. Among y l) like.waiting m))
-          (λ u m. kept.askers u (subst (λ l. Among u l) like.askers m));
+          (λ u m. may_wait_grows gr (old.askers u (subst (λ l. Among u l) like.askers m)));
     }

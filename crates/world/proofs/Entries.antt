@@ -1,6 +1,6 @@
 -- The entries of a history are those of the decisions of its data centre, one for each.
 use Rattle.std.proofs.Common.{◌≡◌, ◌∙◌, ℕ, zero, suc, ◌+◌, ◌<◌, ◌≤◌, Bool, List, [], ◌∷◌, Option, Some, None, refl, sym, ap, arith}
-use Rattle.std.specs.Prelude.{◌≢◌, AllPairs, Contains, flat_map, option_map, option_and_then}
+use Rattle.std.specs.Prelude.{◌≢◌, Contains, flat_map, option_map, option_and_then}
 use Rattle.std.specs.List.{range_with_len}
 use Rattle.std.proofs.lemmas.List.FromFn.{length-range_with_len, get_or-range_with_len}
 use Rattle.logical_time.specs.Stamps.{TxnValue}
@@ -16,10 +16,10 @@ use Rattle.world.specs.Run.{Run, Submission, submission_of}
 use Rattle.world.specs.Histories.{batch_in, batch_submitted, decisions_in, committed_of}
 use Rattle.world.specs.Entries.{AreOnce, IsEntryOf}
 use Rattle.world.proofs.Among.{Among, among_contains, contains_among, find_some, find_none, any_false, same_txn, same_txn_self}
-use Rattle.world.proofs.Pairs.{no_pairs, more_pairs, append_pairs, among_pairs}
+use Rattle.world.proofs.Pairs.{no_pairs, more_pairs, append_pairs}
 use Rattle.world.proofs.Facts.{txn_of, IsWritten, DecidedOnce}
 use Rattle.world.proofs.Invariant.{Inv, SubmittedSound}
-use Rattle.world.proofs.Decisions.{one_lead, sound}
+use Rattle.world.proofs.Decisions.{one_lead}
 
 -- ## The decisions of a data centre
 
@@ -75,13 +75,6 @@ once_from top w dc a (suc n) inv le =
 -- no transaction is decided twice in a data centre
 pub decided_once : (top : TopologyValue) (w : Run) (dc : ℕ) → Inv top w → AreOnce (decisions_in top w dc)
 decided_once top w dc inv = once_from top w dc 0 top.shards inv (omega arith)
-
--- nor does a shard decide twice at one time
-pub commits_once : (top : TopologyValue) (w : Run) (node : ℕ) → Inv top w → AllPairs (λ d e. d.commit ≢ e.commit) (w.shards node).decided
-commits_once top w node inv =
-    among_pairs (λ d e. d.txn ≢ e.txn) (λ d e. d.commit ≢ e.commit) (w.shards node).decided
-    (λ d e m k n same. n (ap (λ (z : Decision). z.txn) ((sound top w node e inv k).one_time d m same)))
-    (once_pairs (w.shards node).decided (inv.shards node).once)
 
 -- ## Batches as submitted
 

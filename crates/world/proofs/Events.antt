@@ -1,6 +1,5 @@
 -- Each event keeps all, and the run grows by it.
-use Rattle.std.proofs.Common.{◌≡◌, ℕ, ◌+◌, ◌<◌, max, Bool, true, false, cond, Option, Some, None, refl, arith, le_of_lt, slice_get}
-use Rattle.std.specs.Prelude.{nat_lt, ◌^◌}
+use Rattle.std.proofs.Common.{◌≡◌, ℕ, ◌<◌, Bool, true, false, Option, Some, None, refl, le_of_lt, slice_get}
 use Rattle.logical_time.specs.declared.fault.Fault.{Fault}
 use Rattle.messages.specs.declared.op.Op.{Op}
 use Rattle.messages.specs.declared.envelope.Envelope.{Envelope}
@@ -10,16 +9,19 @@ use Rattle.messages.specs.Session.{is_idle}
 use Rattle.messages.specs.Submitting.{begun, busy_or, plan_fault, submit_fault, submit_if as session_submit_if}
 use Rattle.messages.specs.SessionEvents.{heard, session_handle}
 use Rattle.messages.specs.ShardEvents.{handled, shard_handle, collected}
+use Rattle.shard.proofs.Handles.{ticked_above}
 use Rattle.world.specs.Run.{Run, Event, Submit, Deliver, Collect, after_shard, after_session, after_submission, submit_if, deliver_if, deliver_for, collect_if, step}
 use Rattle.world.proofs.Among.{Among, get_among}
 use Rattle.world.proofs.Growth.{Grows}
-use Rattle.world.proofs.Invariant.{EnvelopeSound, Inv}
+use Rattle.world.proofs.Invariant.{Inv}
 use Rattle.world.proofs.ShardSteps.{shard_run_grows}
 use Rattle.world.proofs.HandlesKept.{handle_able, handle_kept, collect_able, collect_kept}
 use Rattle.world.proofs.SessionSteps.{session_run_grows, session_step_kept}
 use Rattle.world.proofs.Ables.{same_run}
 use Rattle.world.proofs.SessionsKept.{heard_able}
 use Rattle.world.proofs.Submissions.{begun_kept, begun_grows}
+use Rattle.world.proofs.SessionSends.{heard_sends}
+use Rattle.world.proofs.Answers.{hears}
 
 -- all holds of the run after it, and the run grew
 abbrev pub Kept : TopologyValue → Run → Run → Type 0
@@ -28,19 +30,11 @@ Kept top w x = Inv top x × Grows top w x
 same_kept : (top : TopologyValue) (w : Run) → Inv top w → Kept top w w
 same_kept top w inv = (inv, same_run top w)
 
--- the clock moves above what it showed and above the time of the message
-pub ticked_above : (c t n : ℕ) → ticked c t ≡ Some n → (c < n) × (t < n)
-ticked_above c t n e = go (nat_lt (max c t + 1) (2 ^ 48)) e
-  where
-    go : (b : Bool) → cond b (Some (max c t + 1)) None ≡ Some n → (c < n) × (t < n)
-    go true q = let is : max c t + 1 ≡ n = cc in (omega arith, omega arith)
-    go false q = absurd (cc)
-
 module _ (top : TopologyValue) (w : Run) (some : 0 < top.shards) (inv : Inv top w) where
   -- ## A message comes
 
-  shard_hears : (e : Envelope) (x : Event) → EnvelopeSound top w e → Kept top w (after_shard (shard_handle top e.to (w.shards e.to) e) w x e.to)
-  shard_hears e x says = go (ticked (w.shards e.to).clock e.time) refl
+  shard_hears : (e : Envelope) (x : Event) → Among e w.sent → Kept top w (after_shard (shard_handle top e.to (w.shards e.to) e) w x e.to)
+  shard_hears e x m = go (ticked (w.shards e.to).clock e.time) refl
     where
       go : (o : Option ℕ) → ticked (w.shards e.to).clock e.time ≡ o
           → Kept top w (after_shard (on_clock o (λ n. handled top e.to n (w.shards e.to) e.from e.body)) w x e.to)
@@ -48,12 +42,12 @@ module _ (top : TopologyValue) (w : Run) (some : 0 < top.shards) (inv : Inv top 
       go (Some n) q =
           let above = ticked_above (w.shards e.to).clock e.time n q in
           let st = handled top e.to n (w.shards e.to) e.from e.body in (
-            handle_kept top w e.to n e.from e.time e.body x some inv above.0 above.1 says,
-            shard_run_grows top w e.to st x (handle_able top w e.to n e.from e.time e.body some inv above.0 above.1 says).grows,
+            handle_kept top w e n x some inv m q,
+            shard_run_grows top w e.to st x (handle_able top w e.to n e.from e.time e.body some inv above.0 above.1 (inv.sent e m)).grows,
           )
 
-  session_hears : (e : Envelope) (x : Event) → EnvelopeSound top w e → Kept top w (after_session (session_handle top e.to (w.sessions e.to) e) w x e.to)
-  session_hears e x says = go (ticked (w.sessions e.to).clock e.time) refl
+  session_hears : (e : Envelope) (x : Event) → Among e w.sent → Kept top w (after_session (session_handle top e.to (w.sessions e.to) e) w x e.to)
+  session_hears e x m = go (ticked (w.sessions e.to).clock e.time) refl
     where
       go : (o : Option ℕ) → ticked (w.sessions e.to).clock e.time ≡ o
           → Kept top w (after_session (on_clock o (λ n. heard top e.to n (w.sessions e.to) e.from e.body)) w x e.to)
@@ -61,17 +55,17 @@ module _ (top : TopologyValue) (w : Run) (some : 0 < top.shards) (inv : Inv top 
       go (Some n) q =
           let above = ticked_above (w.sessions e.to).clock e.time n q in
           let st = heard top e.to n (w.sessions e.to) e.from e.body in
-          let able = heard_able top w e.to n some inv (le_of_lt above.0) e.from e.time e.body (le_of_lt above.1) says in
-          (session_step_kept top w e.to st x inv able, session_run_grows top w e.to st x able.grows)
+          let able = heard_able top w e.to n some inv (le_of_lt above.0) e.from e.time e.body (le_of_lt above.1) (hears top w inv e m) in
+          (session_step_kept top w e.to st x inv able (heard_sends top e.to n (w.sessions e.to) e.from e.body), session_run_grows top w e.to st x able.grows)
 
-  deliver_go : (shard session : Bool) (e : Envelope) (x : Event) → EnvelopeSound top w e → Kept top w (deliver_if shard session top w x e)
-  deliver_go true session e x says = shard_hears e x says
-  deliver_go false true e x says = session_hears e x says
-  deliver_go false false e x says = same_kept top w inv
+  deliver_go : (shard session : Bool) (e : Envelope) (x : Event) → Among e w.sent → Kept top w (deliver_if shard session top w x e)
+  deliver_go true session e x m = shard_hears e x m
+  deliver_go false true e x m = session_hears e x m
+  deliver_go false false e x m = same_kept top w inv
 
   message_go : (o : Option Envelope) (x : Event) → ((e : Envelope) → o ≡ Some e → Among e w.sent) → Kept top w (deliver_for o top w x)
   message_go None x m = same_kept top w inv
-  message_go (Some e) x m = deliver_go (is_shard top e.to) (is_session top e.to) e x (inv.sent e (m e refl))
+  message_go (Some e) x m = deliver_go (is_shard top e.to) (is_session top e.to) e x (m e refl)
 
   -- ## A collection
 
@@ -85,7 +79,7 @@ module _ (top : TopologyValue) (w : Run) (some : 0 < top.shards) (inv : Inv top 
       go (Some n) q =
           let above = ticked_above (w.shards node).clock (w.shards node).clock n q in
           let st = collected n (w.shards node) time in
-          (collect_kept top w node n time (Collect node time) inv above.0, shard_run_grows top w node st (Collect node time) (collect_able top w node n time inv above.0).grows)
+          (collect_kept top w node n time (Collect node time) inv q, shard_run_grows top w node st (Collect node time) (collect_able top w node n time inv above.0).grows)
 
   -- ## A submission
 

@@ -1,26 +1,25 @@
 -- What holds of each entry and each envelope of every run. Each fact speaks of what only grows, so it is kept once it
 -- holds.
-use Rattle.std.specs.Prelude.{◌≡◌, ℕ, ◌<◌, ◌≤◌, true, List, [], ◌∷◌, map, Option, Some, None, ◌⊎◌}
+use Rattle.std.specs.Prelude.{◌≡◌, ℕ, ◌<◌, ◌≤◌, true, List, [], ◌∷◌, map, Option, Some, None, ◌⊎◌, false}
 use Rattle.logical_time.specs.Stamps.{StampValue, TxnValue, WriterValue}
 use Rattle.column_family.specs.declared.batch.Change.{Change}
 use Rattle.column_family.specs.declared.batch.Row.{Row}
 use Rattle.column_family.specs.Places.{normal_of}
 use Rattle.slice.specs.declared.read.Read.{Read}
 use Rattle.store.specs.declared.part.Applied.{Applied}
-use Rattle.store.specs.Part.{IsRightPart, IsNewestPart}
+use Rattle.store.specs.Part.{IsRightPart, IsNewestPart, has_row}
 use Rattle.store.specs.Keeps.{AreApart}
 use Rattle.planner.specs.Plan.{part_for, coordinator_of, cohorts_of}
 use Rattle.messages.specs.declared.rows_now.RowNow.{RowNow}
 use Rattle.messages.specs.declared.rows_at.RowAt.{RowAt}
 use Rattle.messages.specs.declared.op.Op.TheVariants as op
 use Rattle.messages.specs.Topology.{TopologyValue, dc_of, shard_of, shard_node}
-use Rattle.messages.specs.Shard.{Role, Own, Cohort, Replica, PreparedPart, BegunBallot, Decision, KeptPart, KeptBallot, WaitingRead}
+use Rattle.messages.specs.Shard.{Role, Own, Cohort, Replica, PreparedPart, BegunBallot, Decision, KeptPart, KeptBallot}
 use Rattle.slice.specs.Rows.{row_of}
 use Rattle.messages.specs.Rows.{touches_row}
 use Rattle.shard.specs.Right.{part_now, part_then}
 use Rattle.world.specs.Run.{Run, Submission}
 use Rattle.world.proofs.Among.{Among}
-use Rattle.world.proofs.Growth.{AskedAt}
 
 -- ## Submissions and decisions
 
@@ -171,6 +170,13 @@ pub record Excluded (w : Run) (node : ℕ) (t : TxnValue) (time : ℕ) : Type 0 
   pub clock : time ≤ (w.shards node).clock
   pub above : (d : Decision) → Among d (w.shards node).decided → d.txn ≡ t → time < d.commit
 
+-- the transaction was submitted with nothing on this row of the shard
+pub record Misses (top : TopologyValue) (w : Run) (node : ℕ) (r : Row) (t : TxnValue) : Type 0 where
+  pub submission : Submission
+  pub batch : List Change
+  pub written : IsWritten w t submission batch
+  pub misses : has_row r (part_on top batch node) ≡ false
+
 abbrev pub Sees : List Applied → TxnValue → Type 0
 Sees seen t = (v : Applied) × Among v seen × (v.part.writer.txn ≡ t)
 
@@ -181,7 +187,7 @@ pub record Complete (top : TopologyValue) (w : Run) (node : ℕ) (r : Row) (time
   pub applied : (v : Applied) → Among v seen → Among v (w.shards node).applied
   pub prepared : (p : PreparedPart) → Among p (w.shards node).prepared → touches_row r p ≡ true
       → Sees seen p.txn ⊎ (time ≤ p.time) ⊎ Excluded w (near top node p.coordinator) p.txn time
-  pub decided : (d : Decision) → Among d (w.shards node).decided → Sees seen d.txn ⊎ (time < d.commit)
+  pub decided : (d : Decision) → Among d (w.shards node).decided → Sees seen d.txn ⊎ (time < d.commit) ⊎ Misses top w node r d.txn
 
 -- a row of a first round shows the newest of what was complete at its latest valid time
 pub record RowNowSound (top : TopologyValue) (w : Run) (node time : ℕ) (read : Read) (r : RowNow) : Type 0 where
@@ -195,13 +201,6 @@ pub record RowAtSound (top : TopologyValue) (w : Run) (node time : ℕ) (read : 
   pub seen : List Applied
   pub shown : IsRightPart seen (row_of read r.key) read.predicate time (part_then r)
   pub complete : Complete top w node (row_of read r.key) time seen
-
--- what a waiting read still waits for
-pub record WaitSound (top : TopologyValue) (w : Run) (node : ℕ) (y : WaitingRead) : Type 0 where
-  pub clock : y.time ≤ (w.shards node).clock
-  pub asked : AskedAt (w.sessions y.session) y.number y.time node y.read
-  pub left : (p : PreparedPart) (key : List ℕ) → Among p (w.shards node).prepared → Among key y.read.keys → touches_row (row_of y.read key) p ≡ true
-      → Sees (w.shards node).applied p.txn ⊎ (y.time ≤ p.time) ⊎ Excluded w (near top node p.coordinator) p.txn y.time ⊎ Among p.txn y.left
 
 -- rows that answer a read's keys, in its order
 pub record AnswersNow (top : TopologyValue) (w : Run) (node time : ℕ) (asked : Read) (given : List RowNow) : Type 0 where

@@ -49,6 +49,7 @@ use Rattle.world.proofs.HeardRuns.{kept_heard}
 use Rattle.world.proofs.Sendings.{sent_then, sent_first}
 use Rattle.world.proofs.NowSent.{is_now, IsNowSent, now_sent_at}
 use Rattle.world.proofs.FreshShown.{covered, shown}
+use Rattle.world.proofs.Answers.{parts_apart}
 
 -- ## Rows and shards
 
@@ -205,7 +206,7 @@ module _ (top : TopologyValue) (some : 0 < top.shards) (every : (events : List E
         subst (λ (z : Read). evt_of (parts_of (then.shards e.from).applied) (row_of z key) z.predicate ≤ time) same
         (row_timely key (subst (λ (z : Read). Contains z.keys key) (sym same) has) on time answered came) in
         let cover =
-        covered (then.shards e.from).applied (row_of read key) read.predicate name time x (sound.shards e.from).apart evt asked had touched in
+        covered (then.shards e.from).applied (row_of read key) read.predicate name time x (parts_apart top then sound e.from) evt asked had touched in
         let whole = to_end was.before (was.event ∷ was.after) was.sending in
         subst (λ dc. IsNoOlder top w dc time (at (row_of read key) name) x) here
         (shown top w inv some e.from (row_of read key) name on time x

@@ -1,11 +1,10 @@
--- What a shard handled in a run is honest.
-use Rattle.std.proofs.Common.{◌≡◌, ℕ, ◌<◌, ◌≤◌, List, [], sym, subst, arith}
+-- What was sent to a shard in a run is honest, and so is what it handled.
+use Rattle.std.proofs.Common.{◌≡◌, ℕ, ◌<◌, List, [], sym, subst, arith}
 use Rattle.std.specs.Prelude.{Contains}
 use Rattle.column_family.specs.declared.batch.Change.{Change}
 use Rattle.column_family.specs.Normal.{IsNormal}
 use Rattle.column_family.specs.Places.{normal_of}
 use Rattle.column_family.proofs.Order.{normal_form}
-use Rattle.slice.specs.declared.read.Read.{Read}
 use Rattle.planner.proofs.Parts.{normal_part}
 use Rattle.messages.specs.declared.body.Body.{Body}
 use Rattle.messages.specs.declared.body.Body.TheVariants.{Begin, Prepare, Yes, Commit, At, NotBy, Check, Read as ReadNow, ReadAt, ReplBegin, ReplPart, Notify, PrepareRemote, DepCheck, DepOk, Done, PartNow, PartAt}
@@ -17,7 +16,7 @@ use Rattle.world.specs.Met.{envelopes_to}
 use Rattle.world.proofs.Among.{contains_among}
 use Rattle.world.proofs.Facts.{part_on}
 use Rattle.world.proofs.Invariant.{Inv, Says}
-use Rattle.world.proofs.Told.{said, told_true, told_commit, told_stamp, told_above, told_excluded, stamp_met, met_apart}
+use Rattle.world.proofs.Told.{said, told_true, told_commit, told_stamp, told_above, told_excluded, stamp_met, met_apart, WereSent, IsTrue, handled_were_sent}
 
 -- ## Parts in normal form
 
@@ -49,25 +48,30 @@ part_normal top w from node time (PartAt number bound rows) h = nothing_normal
 
 -- ## All of it
 
-excluded_above : (top : TopologyValue) (w : Run) (node : ℕ) (x : Told) (e : Envelope) (time : ℕ) → Inv top w
-    → Contains (all_told (envelopes_to w node)) x → Contains (envelopes_to w node) e → e.body ≡ NotBy x.txn time → time < x.commit
-excluded_above top w node x e time inv told has body =
-    let h = subst (Says top w e.from node e.time) body (said top w node e inv has) in
-    told_excluded top w e.from node time x inv (told_true top w node x inv told) h.0 h.1
+module _ (top : TopologyValue) (w : Run) (node : ℕ) (inv : Inv top w) (es : List Envelope) (sent : WereSent w node es) where
+  it_says : (e : Envelope) → Contains es e → Says top w e.from node e.time e.body
+  it_says e has = said top w node es sent e inv has
 
-early_read : (top : TopologyValue) (w : Run) (node : ℕ) (e : Envelope) (number time : ℕ) (read : Read) → Inv top w → Contains (envelopes_to w node) e
-    → e.body ≡ ReadAt number time read → time ≤ e.time
-early_read top w node e number time read inv has body = (subst (Says top w e.from node e.time) body (said top w node e inv has)).0
+  is_true : (x : Told) → Contains (all_told es) x → IsTrue top w node x
+  is_true x has = told_true top w node es sent x inv has
+
+  excluded_above : (x : Told) (e : Envelope) (time : ℕ) → Contains (all_told es) x → Contains es e → e.body ≡ NotBy x.txn time → time < x.commit
+  excluded_above x e time told has body =
+      let h = subst (Says top w e.from node e.time) body (it_says e has) in told_excluded top w e.from node time x inv (is_true x told) h.0 h.1
+
+  -- what was sent to a shard in a run is honest
+  pub sent_honest : IsHonest (w.shards node) es
+  sent_honest = record {
+    commit = λ x y m n same. told_commit top w node x y inv (is_true x m) (is_true y n) same;
+    stamp = λ x y m n same. told_stamp top w node x y inv (is_true x m) (is_true y n) same;
+    prepared = λ x p m k same. told_above top w node p x inv (contains_among p (w.shards node).prepared k) (is_true x m) same;
+    told = λ x m. (is_true x m).time;
+    excluded = excluded_above;
+    stamps = λ y z m k same. met_apart top w y z inv (stamp_met top w node es sent y inv m) (stamp_met top w node es sent z inv k) same;
+    read = λ e number time r m body. (subst (Says top w e.from node e.time) body (it_says e m)).0;
+    parts = λ e m. part_normal top w e.from node e.time e.body (it_says e m);
+  }
 
 -- the envelopes that a shard handled in a run are honest
 pub handled_honest : (top : TopologyValue) (w : Run) (node : ℕ) → Inv top w → IsHonest (w.shards node) (envelopes_to w node)
-handled_honest top w node inv = record {
-  commit = λ x y m n same. told_commit top w node x y inv (told_true top w node x inv m) (told_true top w node y inv n) same;
-  stamp = λ x y m n same. told_stamp top w node x y inv (told_true top w node x inv m) (told_true top w node y inv n) same;
-  prepared = λ x p m k same. told_above top w node p x inv (contains_among p (w.shards node).prepared k) (told_true top w node x inv m) same;
-  told = λ x m. (told_true top w node x inv m).time;
-  excluded = λ x e time m k body. excluded_above top w node x e time inv m k body;
-  stamps = λ y z m k same. met_apart top w y z inv (stamp_met top w node y inv m) (stamp_met top w node z inv k) same;
-  read = λ e number time r m body. early_read top w node e number time r inv m body;
-  parts = λ e m. part_normal top w e.from node e.time e.body (said top w node e inv m);
-}
+handled_honest top w node inv = sent_honest top w node inv (envelopes_to w node) (handled_were_sent w node)

@@ -2,44 +2,14 @@
 use Rattle.std.proofs.Common.{◌≡◌, ◌∙◌, ℕ, max, ap, sym, refl, Bool, true, false, cond, List, [], ◌∷◌, ◌++◌, map, arith, eq-eqb, eqb-true}
 use Rattle.std.specs.Prelude.{◌==◌}
 use Rattle.store.specs.Part.{greatest_of}
-use Rattle.messages.specs.declared.body.Body.{Body}
 use Rattle.messages.specs.Topology.{TopologyValue}
 use Rattle.messages.specs.Shard.{ShardState}
-use Rattle.messages.specs.ShardEvents.{handled}
-use Rattle.shard.proofs.Sending.{handled_gives}
 use Rattle.world.specs.Run.{Run, Event, Submit, Collect, opening, step, continued, run}
 use Rattle.world.specs.Met.{time_collected, horizon}
 use Rattle.world.specs.Collected.{HorizonsAreOfCollections}
 use Rattle.world.proofs.EventCases.{event_cases}
 use Rattle.world.proofs.HeardRuns.{changed_actor}
-
--- no message moves a shard's horizon
-pub handled_low : (top : TopologyValue) (me n : ℕ) (a : ShardState) (from : ℕ) (m : Body) → (handled top me n a from m).state.low ≡ a.low
-handled_low top me n a from m =
-    let given = handled_gives top me n a from m (λ e. Unit {0}) (λ y. Unit {0})
-    (record {
-      plain =
-          record {
-            yes = λ s t. tt;
-            commit = λ s t stamp. tt;
-            done = λ t stamp. tt;
-            repl_begin = λ dc t rows stamp cohorts dependencies. tt;
-            notify = λ s t. tt;
-            prepare_remote = λ s t. tt;
-            dep_check = λ s dependency waiter. tt;
-            dep_ok = λ to dependency waiter commit. tt;
-            check = λ s t time. tt;
-          };
-      less = λ y left h. tt;
-      old = λ y has. tt;
-      asked = λ number time read left is new. tt;
-      answers = λ y h. tt;
-      now = λ number read is. tt;
-      at = λ t time commit stamp is. tt;
-      not_by = λ t time is. tt;
-      repl_part = λ dc t rows commit stamp coordinator told. tt;
-    }) in
-    given.low
+use Rattle.world.proofs.OwnSends.{handled_low}
 
 greatest_push : (f : Event → ℕ) (xs : List Event) (x : Event) → greatest_of (map f (xs ++ x ∷ [])) ≡ max (greatest_of (map f xs)) (f x)
 greatest_push f [] x = omega arith

@@ -1,12 +1,11 @@
 -- What holds of every run: of each envelope, each shard, each session, and each completed operation.
-use Rattle.std.specs.Prelude.{◌≡◌, ℕ, ◌+◌, ◌<◌, ◌≤◌, true, false, List, map, None}
+use Rattle.std.specs.Prelude.{◌≡◌, ℕ, ◌+◌, ◌<◌, ◌≤◌, true, List, map, None, Contains}
 use Rattle.std.specs.Option.{unwrap_or}
 use Rattle.logical_time.specs.Stamps.{StampValue, TxnValue, WriterValue}
 use Rattle.column_family.specs.declared.batch.Change.{Change}
 use Rattle.slice.specs.declared.read.Read.{Read}
 use Rattle.slice.specs.declared.read.AnsweredRow.{AnsweredRow}
 use Rattle.store.specs.declared.part.Applied.{Applied}
-use Rattle.store.specs.Keeps.{AreApart}
 use Rattle.planner.specs.Partition.{shard_of as shard_of_key}
 use Rattle.planner.specs.Plan.{coordinator_of, cohorts_of}
 use Rattle.messages.specs.declared.rows_now.RowNow.{RowNow}
@@ -20,17 +19,18 @@ use Rattle.messages.specs.declared.outcome.Outcome.TheVariants as outcome
 use Rattle.messages.specs.declared.body.Body.{Body}
 use Rattle.messages.specs.declared.body.Body.TheVariants.{Begin, Prepare, Yes, Commit, At, NotBy, Check, Read as ReadNow, ReadAt, ReplBegin, ReplPart, Notify, PrepareRemote, DepCheck, DepOk, Done, PartNow, PartAt}
 use Rattle.messages.specs.declared.envelope.Envelope.{Envelope}
+use Rattle.messages.specs.declared.event.Event.{Event as ActorEvent}
 use Rattle.messages.specs.Topology.{TopologyValue, dc_of, shard_of, shard_node, home_of}
-use Rattle.messages.specs.Shard.{ShardState, PreparedPart, BegunBallot, Vote, Decision, KeptPart, KeptBallot, Met, Asker, WaitingRead}
-use Rattle.messages.specs.Replication.{is_ready}
+use Rattle.messages.specs.Shard.{ShardState, PreparedPart, BegunBallot, Vote, Decision, KeptPart, KeptBallot, Met, Asker}
 use Rattle.messages.specs.Session.{SessionState, Open, Idle, Writing, FirstRound, SecondRound, HeardNow, HeardAt}
 use Rattle.messages.specs.Submitting.{share_of, plan_fault}
 use Rattle.messages.specs.Rounds.{asked_nodes, all_heard, effective_time, late_keys, late_nodes, answer_of}
+use Rattle.shard.specs.Events.{shard_run, envelopes_handled}
 use Rattle.world.specs.Run.{Run, Submission, Completed}
 use Rattle.world.specs.Promises.{Fits}
 use Rattle.world.proofs.Among.{Among}
 use Rattle.world.proofs.Growth.{AskedNow, AskedAt}
-use Rattle.world.proofs.Facts.{txn_of, IsWritten, lead, part_on, IsDecided, IsDone, DecidedOnce, PreparedBefore, PreparedSound, BallotSound, KeptBallotSound, KeptPartSound, DecisionSound, AppliedSound, Excluded, WaitSound, RowAtSound, AnswersNow, AnswersAt}
+use Rattle.world.proofs.Facts.{txn_of, IsWritten, lead, part_on, IsDecided, IsDone, DecidedOnce, PreparedBefore, PreparedSound, BallotSound, KeptBallotSound, KeptPartSound, DecisionSound, AppliedSound, Excluded, RowAtSound, AnswersNow, AnswersAt}
 
 -- the home of the session with this node
 abbrev pub home : TopologyValue → ℕ → ℕ
@@ -93,11 +93,17 @@ pub record TellsAt (top : TopologyValue) (w : Run) (from to number bound : ℕ) 
   pub asked : AskedAt (w.sessions to) number bound from read
   pub answers : AnswersAt top w from bound read rows
 
+-- it gave up what a session asked in its second round: the time is below its horizon
+pub record TellsCollected (w : Run) (from to number bound : ℕ) : Type 0 where
+  pub low : bound < (w.shards from).low
+  pub read : Read
+  pub asked : AskedAt (w.sessions to) number bound from read
+
 abbrev pub TellsThen : AtTime → TopologyValue → Run → ℕ → ℕ → ℕ → ℕ → Type 0
-TellsThen at.Collected top w from to number bound = Unit {0}
+TellsThen at.Collected top w from to number bound = TellsCollected w from to number bound
 TellsThen (at.Rows rows) top w from to number bound = TellsAt top w from to number bound rows
 
--- what each body says, from this sender to this receiver, in an envelope of this time
+-- what each body says by itself, from this sender to this receiver, in an envelope of this time
 abbrev pub Says : TopologyValue → Run → ℕ → ℕ → ℕ → Body → Type 0
 Says top w from to time (Begin t rows cohorts dependencies) =
     BallotSound top w to time (record { txn = t; rows = rows; cohorts = cohorts; dependencies = dependencies; stamp = None })
@@ -118,8 +124,14 @@ Says top w from to time (PrepareRemote t) = Unit {0}
 Says top w from to time (DepCheck dependency waiter) = MayWait top w to waiter from
 Says top w from to time (DepOk dependency waiter commit) = TellsCommit w from time dependency commit × MayWait top w from waiter to
 Says top w from to time (Done t commit stamp) = TellsDecision w from time t commit stamp × IsAtHome top w from t
-Says top w from to time (PartNow number rows) = TellsNow top w from to time number rows
-Says top w from to time (PartAt number bound answer) = TellsThen answer top w from to number bound
+Says top w from to time (PartNow number rows) = (r : RowNow) → Among r rows → r.evt ≤ time
+Says top w from to time (PartAt number bound answer) = Unit {0}
+
+-- and what a session hears of it: answers are right besides, which follows from what holds of their shard
+abbrev pub Hears : TopologyValue → Run → ℕ → ℕ → ℕ → Body → Type 0
+Hears top w from to time (PartNow number rows) = TellsNow top w from to time number rows
+Hears top w from to time (PartAt number bound answer) = TellsThen answer top w from to number bound
+Hears top w from to time other = Says top w from to time other
 
 abbrev pub EnvelopeSound : TopologyValue → Run → Envelope → Type 0
 EnvelopeSound top w e = Says top w e.from e.to e.time e.body
@@ -134,12 +146,10 @@ pub record ShardSound (top : TopologyValue) (w : Run) (node : ℕ) (a : ShardSta
   pub decided : (d : Decision) → Among d a.decided → DecisionSound top w node d
   pub once : DecidedOnce a.decided
   pub applied : (v : Applied) → Among v a.applied → AppliedSound top w node v
-  pub apart : AreApart a.applied
   pub kept_parts : (k : KeptPart) → Among k a.kept_parts → KeptPartSound top w node k
   pub kept_ballots : (r : KeptBallot) → Among r a.kept_ballots → KeptBallotSound top w node (w.shards node).clock r
   pub met : (m : Met) → Among m a.met → IsDone top w (dc_of top node) m.dependency (w.shards node).clock
   pub askers : (k : Asker) → Among k a.askers → MayWait top w node k.waiter k.from
-  pub waiting : (y : WaitingRead) → Among y a.waiting → WaitSound top w node y
 
 -- none of these is of the transaction
 pub record Untouched (ballots : List BegunBallot) (prepared : List PreparedPart) (decided : List Decision) (t : TxnValue) : Type 0 where
@@ -147,9 +157,19 @@ pub record Untouched (ballots : List BegunBallot) (prepared : List PreparedPart)
   pub unprepared : (p : PreparedPart) → Among p prepared → p.txn ≡ t → ⊥
   pub undecided : (d : Decision) → Among d decided → d.txn ≡ t → ⊥
 
--- of a kept ballot that misses a notice or an answer nothing is held or decided
-abbrev pub IsPatient : TopologyValue → ℕ → ShardState → Type 0
-IsPatient top node a = (r : KeptBallot) → Among r a.kept_ballots → is_ready top node a r ≡ false → Untouched a.ballots a.prepared a.decided r.txn
+-- a body that answers a read
+abbrev pub IsAnswer : Body → Type 0
+IsAnswer (PartNow number rows) = Unit {0}
+IsAnswer (PartAt number bound answer) = Unit {0}
+IsAnswer other = ⊥
+
+-- The shard with this node is what events make of a shard: what it handled was sent to it, and what was sent of its answers
+-- it sent.
+pub record Played (top : TopologyValue) (w : Run) (node : ℕ) : Type 0 where
+  pub events : List ActorEvent
+  pub state : (shard_run top node events).state ≡ w.shards node
+  pub handled : (e : Envelope) → Contains (envelopes_handled (shard_run top node events)) e → Among e w.sent × (e.to ≡ node)
+  pub answers : (e : Envelope) → Among e w.sent → e.from ≡ node → IsAnswer e.body → Contains (shard_run top node events).sent e
 
 -- ## Sessions
 
@@ -249,7 +269,7 @@ pub record CompletedSound (top : TopologyValue) (w : Run) (c : Completed) : Type
 
 pub record Inv (top : TopologyValue) (w : Run) : Type 0 where
   pub shards : (node : ℕ) → ShardSound top w node (w.shards node)
-  pub patient : (node : ℕ) → IsPatient top node (w.shards node)
+  pub played : (node : ℕ) → Played top w node
   pub sessions : (node : ℕ) → SessionSound top w node (w.sessions node)
   pub sent : (e : Envelope) → Among e w.sent → EnvelopeSound top w e
   pub submitted : SubmittedSound top w

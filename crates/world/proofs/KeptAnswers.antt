@@ -79,11 +79,6 @@ HeardIsKept top w node a = (h : HeardNow) → Among h (first_heard a.current) �
 abbrev pub AllKept : TopologyValue → Run → Type 0
 AllKept top w = (node : ℕ) → HeardIsKept top w node (w.sessions node)
 
-has_step : (top : TopologyValue) (w : Run) (x : Event) (session number shard : ℕ) → HasKept top w session number shard
-    → HasKept top (step top w x) session number shard
-has_step top w x session number shard h =
-    record { k = h.k; e = h.e; kept = kept_step top w x session number h.k h.e h.kept; from = h.from }
-
 module _ (top : TopologyValue) (w : Run) (replayed : run top w.events ≡ w) (x : Event) (all : AllKept top w) where
   later : (v : Run) (more : List Envelope) (y : Event) → v.events ≡ w.events ++ y ∷ [] → v.sent ≡ w.sent ++ more → (session number shard : ℕ)
       → HasKept top w session number shard → HasKept top v session number shard

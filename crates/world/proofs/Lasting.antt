@@ -1,5 +1,5 @@
 -- Each fact that holds goes on holding as the run grows.
-use Rattle.std.proofs.Common.{◌≡◌, ℕ, ◌<◌, ◌≤◌, true, List, Option, Some, None, ◌⊎◌, inl, inr, sym, arith, le_refl, le_trans, lt_of_lt_of_le}
+use Rattle.std.proofs.Common.{◌≡◌, ℕ, ◌<◌, ◌≤◌, true, List, Option, Some, None, ◌⊎◌, inl, inr, sym, arith, le_refl, le_trans, lt_of_lt_of_le, lt_of_le_of_lt}
 use Rattle.logical_time.specs.Stamps.{StampValue, TxnValue}
 use Rattle.column_family.specs.declared.batch.Change.{Change}
 use Rattle.column_family.specs.declared.batch.Row.{Row}
@@ -8,13 +8,13 @@ use Rattle.store.specs.declared.part.Applied.{Applied}
 use Rattle.messages.specs.declared.rows_now.RowNow.{RowNow}
 use Rattle.messages.specs.declared.rows_at.RowAt.{RowAt}
 use Rattle.messages.specs.Topology.{TopologyValue}
-use Rattle.messages.specs.Shard.{ShardState, PreparedPart, BegunBallot, Decision, KeptPart, KeptBallot, WaitingRead}
+use Rattle.messages.specs.Shard.{ShardState, PreparedPart, BegunBallot, Decision, KeptPart, KeptBallot}
 use Rattle.messages.specs.Session.{SessionState}
 use Rattle.messages.specs.Rows.{touches_row}
 use Rattle.world.specs.Run.{Run, Submission}
 use Rattle.world.proofs.Among.{Among}
 use Rattle.world.proofs.Growth.{NewPrepared, NewDecision, ShardGrows, SessionGrows, Grows}
-use Rattle.world.proofs.Facts.{IsWritten, near, IsDecided, IsStamp, IsDone, PreparedBefore, PreparedSound, StampFits, BallotSound, KeptBallotSound, KeptPartSound, DecisionSound, AppliedSound, Excluded, Sees, Complete, RowNowSound, RowAtSound, WaitSound, AnswersNow, AnswersAt}
+use Rattle.world.proofs.Facts.{IsWritten, near, IsDecided, IsStamp, IsDone, PreparedBefore, PreparedSound, StampFits, BallotSound, KeptBallotSound, KeptPartSound, DecisionSound, AppliedSound, Excluded, Sees, Complete, RowNowSound, RowAtSound, AnswersNow, AnswersAt, Misses}
 
 pub same_shard_grows : (a : ShardState) → ShardGrows a a
 same_shard_grows a =
@@ -182,13 +182,23 @@ pub excluded_grows : {top : TopologyValue} {w x : Run} {node : ℕ} {t : TxnValu
 excluded_grows {node = node} g k =
     record { clock = le_trans k.clock (g.shards node).clock; above = λ d m e. excluded_above k d ((g.shards node).decided_new d m) e }
 
+-- what is above a time is above each earlier one
+pub excluded_below : {w : Run} {node : ℕ} {t : TxnValue} {n m : ℕ} → m ≤ n → Excluded w node t n → Excluded w node t m
+excluded_below le k = record { clock = le_trans le k.clock; above = λ d i e. lt_of_le_of_lt le (k.above d i e) }
+
 prepared_cases : {top : TopologyValue} {w x : Run} {node n : ℕ} {r : Row} {seen : List Applied} → Grows top w x → Complete top w node r n seen → (p : PreparedPart) → Among p (w.shards node).prepared ⊎ NewPrepared (w.shards node) p → touches_row r p ≡ true → Sees seen p.txn ⊎ (n ≤ p.time) ⊎ Excluded x (near top node p.coordinator) p.txn n
 prepared_cases g k p (inr new) e = inr (inl (let le = k.clock in let lt = new.above in omega arith))
 prepared_cases g k p (inl old) e = elim (k.prepared p old e) [ inl s ↦ inl s | inr (inl le) ↦ inr (inl le) | inr (inr ex) ↦ inr (inr (excluded_grows g ex)) ]
 
-decided_cases : {top : TopologyValue} {w : Run} {node n : ℕ} {r : Row} {seen : List Applied} → Complete top w node r n seen → (d : Decision) → Among d (w.shards node).decided ⊎ NewDecision (w.shards node) d → Sees seen d.txn ⊎ (n < d.commit)
-decided_cases k d (inl old) = k.decided d old
-decided_cases k d (inr new) = inr (let le = k.clock in let lt = new.above in omega arith)
+decided_cases : {top : TopologyValue} {w x : Run} {node n : ℕ} {r : Row} {seen : List Applied} → Grows top w x → Complete top w node r n seen → (d : Decision)
+    → Among d (w.shards node).decided ⊎ NewDecision (w.shards node) d → Sees seen d.txn ⊎ (n < d.commit) ⊎ Misses top x node r d.txn
+decided_cases g k d (inl old) =
+    elim (k.decided d old) [
+      | inl s ↦ inl s
+      | inr (inl lt) ↦ inr (inl lt)
+      | inr (inr m) ↦ inr (inr (record { submission = m.submission; batch = m.batch; written = written_grows g m.written; misses = m.misses }))
+    ]
+decided_cases g k d (inr new) = inr (inl (let le = k.clock in let lt = new.above in omega arith))
 
 pub complete_grows : {top : TopologyValue} {w x : Run} {node n : ℕ} {r : Row} {seen : List Applied} → Grows top w x → Complete top w node r n seen → Complete top x node r n seen
 complete_grows {node = node} g k =
@@ -197,7 +207,7 @@ complete_grows {node = node} g k =
       apart = k.apart;
       applied = λ v m. (g.shards node).applied v (k.applied v m);
       prepared = λ p m e. prepared_cases g k p ((g.shards node).prepared_new p m) e;
-      decided = λ d m. decided_cases k d ((g.shards node).decided_new d m);
+      decided = λ d m. decided_cases g k d ((g.shards node).decided_new d m);
     }
 
 pub row_now_grows : {top : TopologyValue} {w x : Run} {node n m : ℕ} {read : Read} {r : RowNow} → Grows top w x → n ≤ m → RowNowSound top w node n read r → RowNowSound top x node m read r
@@ -211,23 +221,3 @@ answers_now_grow g le k = record { keys = k.keys; rows = λ r m. row_now_grows g
 
 pub answers_at_grow : {top : TopologyValue} {w x : Run} {node n : ℕ} {read : Read} {rows : List RowAt} → Grows top w x → AnswersAt top w node n read rows → AnswersAt top x node n read rows
 answers_at_grow g k = record { keys = k.keys; rows = λ r m. row_at_grows g (k.rows r m) }
-
-wait_left : {top : TopologyValue} {w x : Run} {node : ℕ} (y : WaitingRead) → Grows top w x → y.time ≤ (w.shards node).clock → (p : PreparedPart) → Among p (w.shards node).prepared ⊎ NewPrepared (w.shards node) p
-    → (Among p (w.shards node).prepared → Sees (w.shards node).applied p.txn ⊎ (y.time ≤ p.time) ⊎ Excluded w (near top node p.coordinator) p.txn y.time ⊎ Among p.txn y.left)
-    → Sees (x.shards node).applied p.txn ⊎ (y.time ≤ p.time) ⊎ Excluded x (near top node p.coordinator) p.txn y.time ⊎ Among p.txn y.left
-wait_left y g le p (inr new) f = inr (inl (let lt = new.above in omega arith))
-wait_left {node = node} y g le p (inl old) f =
-    elim (f old) [
-      | inl v ↦ inl (v.0, (g.shards node).applied v.0 v.1, v.2)
-      | inr (inl q) ↦ inr (inl q)
-      | inr (inr (inl q)) ↦ inr (inr (inl (excluded_grows g q)))
-      | inr (inr (inr q)) ↦ inr (inr (inr q))
-    ]
-
-pub wait_grows : {top : TopologyValue} {w x : Run} {node : ℕ} {y : WaitingRead} → Grows top w x → WaitSound top w node y → WaitSound top x node y
-wait_grows {node = node} {y = y} g k =
-    record {
-      clock = le_trans k.clock (g.shards node).clock;
-      asked = (g.sessions y.session).asked_at y.number y.time node y.read k.asked;
-      left = λ p key m i e. wait_left y g k.clock p ((g.shards node).prepared_new p m) (λ old. k.left p key old i e);
-    }

@@ -3,8 +3,6 @@ use Rattle.std.proofs.Common.{ℕ, List, le_refl}
 use Rattle.logical_time.specs.Stamps.{StampValue, TxnValue}
 use Rattle.slice.specs.declared.read.Read.{Read}
 use Rattle.messages.specs.declared.rows_at.RowAt.{RowAt}
-use Rattle.messages.specs.declared.rows_at.AtTime.{AtTime}
-use Rattle.messages.specs.declared.rows_at.AtTime.TheVariants as at
 use Rattle.messages.specs.declared.op.Op.{Op}
 use Rattle.messages.specs.declared.outcome.Outcome.{Outcome}
 use Rattle.messages.specs.declared.body.Body.{Body}
@@ -15,8 +13,8 @@ use Rattle.world.specs.Run.{Run, Completed}
 use Rattle.world.specs.Promises.{Fits}
 use Rattle.world.proofs.EndCases.{end_cases}
 use Rattle.world.proofs.Growth.{Grows}
-use Rattle.world.proofs.Invariant.{IsAtHome, IsLead, TellsDecision, MayWait, of_shard, of_move, TellsThen, Says, ShardSound, IsOpen, HeardNowSound, HeardAtSound, OpenSound, SessionSound, AnsweredFrom, DependsOnDone, EndSound, CompletedSound}
-use Rattle.world.proofs.Lasting.{written_grows, decided_grows, done_grows, before_grows, prepared_grows, ballot_grows, kept_ballot_grows, kept_part_grows, decision_grows, applied_grows, excluded_grows, row_at_grows, answers_now_grow, answers_at_grow, wait_grows}
+use Rattle.world.proofs.Invariant.{IsAtHome, IsLead, TellsDecision, MayWait, of_shard, of_move, Says, ShardSound, IsOpen, HeardNowSound, HeardAtSound, OpenSound, SessionSound, AnsweredFrom, DependsOnDone, EndSound, CompletedSound}
+use Rattle.world.proofs.Lasting.{written_grows, decided_grows, done_grows, before_grows, prepared_grows, ballot_grows, kept_ballot_grows, kept_part_grows, decision_grows, applied_grows, excluded_grows, row_at_grows, answers_now_grow, answers_at_grow}
 
 pub lead_grows : {top : TopologyValue} {w x : Run} {dc node : ℕ} {t : TxnValue} → Grows top w x → IsLead top w dc node t → IsLead top x dc node t
 lead_grows g k = record { submission = k.submission; batch = k.batch; written = written_grows g k.written; here = k.here }
@@ -30,11 +28,6 @@ tells_grows g k = record { decided = decided_grows g k.decided; time = k.time }
 pub may_wait_grows : {top : TopologyValue} {w x : Run} {node from : ℕ} {t : TxnValue} → Grows top w x → MayWait top w node t from → MayWait top x node t from
 may_wait_grows g (of_shard e) = of_shard e
 may_wait_grows g (of_move b m is own to) = of_move b (g.submitted b m) is own to
-
-then_grows : (answer : AtTime) (top : TopologyValue) {w x : Run} (from to number bound : ℕ) → Grows top w x → TellsThen answer top w from to number bound → TellsThen answer top x from to number bound
-then_grows at.Collected top from to number bound g k = tt
-then_grows (at.Rows rows) top from to number bound g k =
-    record { read = k.read; asked = (g.sessions to).asked_at number bound from k.read k.asked; answers = answers_at_grow g k.answers }
 
 pub says_grows : (top : TopologyValue) {w x : Run} (from to n : ℕ) → Grows top w x → (b : Body) → Says top w from to n b → Says top x from to n b
 says_grows top from to n g (Begin t rows cohorts dependencies) k = ballot_grows g (le_refl _) k
@@ -62,9 +55,8 @@ says_grows top from to n g (PrepareRemote t) k = k
 says_grows top from to n g (DepCheck dependency waiter) k = may_wait_grows g k
 says_grows top from to n g (DepOk dependency waiter commit) k = ((k.0.0, tells_grows g k.0.1), may_wait_grows g k.1)
 says_grows top from to n g (Done t commit stamp) k = (tells_grows g k.0, at_home_grows g k.1)
-says_grows top from to n g (PartNow number rows) k =
-    record { read = k.read; asked = (g.sessions to).asked_now number from k.read k.asked; answers = answers_now_grow g (le_refl _) k.answers }
-says_grows top from to n g (PartAt number bound answer) k = then_grows answer top from to number bound g k
+says_grows top from to n g (PartNow number rows) k = k
+says_grows top from to n g (PartAt number bound answer) k = k
 
 pub shard_grows : {top : TopologyValue} {w x : Run} {node : ℕ} → Grows top w x → ShardSound top w node (w.shards node) → ShardSound top x node (w.shards node)
 shard_grows {node = node} g k =
@@ -76,12 +68,10 @@ shard_grows {node = node} g k =
       decided = λ d m. decision_grows g m (k.decided d m);
       once = k.once;
       applied = λ v m. applied_grows g (k.applied v m);
-      apart = k.apart;
       kept_parts = λ p m. kept_part_grows g (k.kept_parts p m);
       kept_ballots = λ r m. kept_ballot_grows g (g.shards node).clock (k.kept_ballots r m);
       met = λ u m. done_grows g (g.shards node).clock (k.met u m);
       askers = λ u m. may_wait_grows g (k.askers u m);
-      waiting = λ y m. wait_grows g (k.waiting y m);
     }
 
 pub open_is_grows : {top : TopologyValue} {w x : Run} {node m dc : ℕ} {o : Op} → Grows top w x → IsOpen w node m dc o → IsOpen x node m dc o

@@ -17,6 +17,7 @@ pub mod Invariant
 pub mod Lasting
 pub mod LastingAll
 pub mod Able
+pub mod Playing
 pub mod ShardSteps
 pub mod Transcripts
 pub mod Causal
@@ -25,8 +26,6 @@ pub mod Pasts
 pub mod About
 pub mod Underway
 pub mod LiveGrow
-pub mod Onwards
-pub mod HandledOnwards
 pub mod LivePlaces
 pub mod LiveSteps
 pub mod LiveDecides
@@ -53,19 +52,15 @@ pub mod TakenRows
 pub mod WritersDone
 pub mod SessionEnds
 pub mod SessionsKept
-pub mod RowTimes
 pub mod AskedMarks
 pub mod Near
 pub mod Ables
 pub mod PartsKept
-pub mod LetGo
 pub mod ReadsKept
-pub mod Patience
-pub mod StampsApart
+pub mod OneBatch
 pub mod Decides
 pub mod ReadyKept
 pub mod ReplicasKept
-pub mod PatientSteps
 pub mod Writes
 pub mod CommitsKept
 pub mod Submissions
@@ -76,6 +71,7 @@ pub mod Histories
 pub mod KeptEntries
 pub mod Told
 pub mod HonestLists
+pub mod Answers
 pub mod HandlesKept
 pub mod Events
 pub mod Runs

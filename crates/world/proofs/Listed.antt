@@ -20,13 +20,14 @@ use Rattle.world.specs.Run.{Run, Event, Submission, Completed, completed_of, wit
 use Rattle.world.specs.Journals.{actor_in, finished_as}
 use Rattle.world.proofs.Among.{Among}
 use Rattle.world.proofs.Facts.{txn_of}
-use Rattle.world.proofs.Invariant.{Says, Inv}
-use Rattle.world.proofs.Events.{ticked_above}
+use Rattle.world.proofs.Invariant.{Inv, Hears}
+use Rattle.shard.proofs.Handles.{ticked_above}
 use Rattle.world.proofs.SessionSteps.{Stays, Ends, SessionAble}
 use Rattle.world.proofs.SessionsKept.{heard_able}
 use Rattle.world.proofs.Entries.{submission_found}
 use Rattle.world.proofs.Transcripts.{submission_tells_nothing}
 use Rattle.world.proofs.Moves.{SubmittedBy, Moves, shard_took, session_took}
+use Rattle.world.proofs.Answers.{hears}
 
 -- ## Optional elements
 
@@ -89,7 +90,7 @@ submission_finishes_none top n (OfSession a) o s q = go (submit_fault top a o) q
     go None h = by (ticked a.clock a.clock) h
 
 module _ (top : TopologyValue) (w : Run) (n : ℕ) (some : 0 < top.shards) (inv : Inv top w) where
-  heard_is_found : (e : Envelope) → Says top w e.from n e.time e.body → (t : Option ℕ) → ticked (w.sessions n).clock e.time ≡ t → (s : ActorStep)
+  heard_is_found : (e : Envelope) → Hears top w e.from n e.time e.body → (t : Option ℕ) → ticked (w.sessions n).clock e.time ≡ t → (s : ActorStep)
       → of_session (on_clock t (λ k. heard top n k (w.sessions n) e.from e.body)) ≡ Some s → (f : Finished) → s.finishes ≡ Some f → Found w.submitted n f
   heard_is_found e says None q s h f finishes = absurd (cc)
   heard_is_found e says (Some k) q s h f finishes =
@@ -99,7 +100,7 @@ module _ (top : TopologyValue) (w : Run) (n : ℕ) (some : 0 < top.shards) (inv 
       told_is_found top w n st inv (heard_able top w n k some inv (le_of_lt above.0) e.from e.time e.body (le_of_lt above.1) says) f
       (ap (λ (z : ActorStep). z.finishes) is ∙ finishes)
 
-  handled_is_found : (e : Envelope) → Says top w e.from n e.time e.body → (a : ActorState) → actor_in top w n ≡ a → (s : ActorStep) → actor_step top n a (Handle e) ≡ Some s
+  handled_is_found : (e : Envelope) → Hears top w e.from n e.time e.body → (a : ActorState) → actor_in top w n ≡ a → (s : ActorStep) → actor_step top n a (Handle e) ≡ Some s
       → (f : Finished) → s.finishes ≡ Some f → Found w.submitted n f
   handled_is_found e says (OfShard a) is s q f finishes = let none = shard_finishes_none (shard_handle top n a e) s q in absurd (cc)
   handled_is_found e says (OfSession a) is s q f finishes =
@@ -125,7 +126,7 @@ module _ (top : TopologyValue) (w v : Run) (ev : Event) (n : ℕ) (x : ActorEven
   found_by (CollectHere time) is takes same g q = let none = collection_finishes_none top n (actor_in top w n) time s takes in absurd (cc)
   found_by (Handle e) is takes same g q =
       let r = f.received e is in
-      let says = subst (λ z. Says top w e.from z e.time e.body) r.0 (inv.sent e r.1) in
+      let says = subst (λ z. Hears top w e.from z e.time e.body) r.0 (hears top w inv e r.1) in
       subst (λ l. Found l n g) (sym same) (handled_is_found top w n some inv e says (actor_in top w n) refl s takes g q)
 
   pub step_is_listed : IsListed w v n s

@@ -20,8 +20,8 @@ use Rattle.world.proofs.Facts.{near, RoleFits, PreparedSound, Sees}
 use Rattle.world.proofs.Invariant.{Inv}
 use Rattle.world.proofs.Ables.{absent}
 use Rattle.world.proofs.Near.{cohort_other, peer_dc, peer_number}
-use Rattle.world.proofs.RowTimes.{applied_sees}
-use Rattle.world.proofs.StampsApart.{written_at, batch_one}
+use Rattle.world.proofs.OneBatch.{applied_sees}
+use Rattle.world.proofs.OneBatch.{written_at, batch_one}
 use Rattle.world.proofs.About.{OfReplPart, OfReadAt, OfPartNow, OfPartAt, Sent}
 use Rattle.world.proofs.Underway.{HasPrepared, HasKeptPart, Aside, Away, Onward, HasWait, Round, RoleLive, AppliedLive, ShardLive, Acted}
 use Rattle.world.proofs.LiveGrow.{sees_on, shard_on}

@@ -15,7 +15,7 @@ use Rattle.world.proofs.Among.{Among, among_append, append_first, append_second,
 use Rattle.world.proofs.Facts.{near}
 use Rattle.world.proofs.Invariant.{Inv}
 use Rattle.world.proofs.Near.{peer_dc}
-use Rattle.world.proofs.StampsApart.{batch_one}
+use Rattle.world.proofs.OneBatch.{batch_one}
 use Rattle.world.proofs.About.{OfCommit, OfReplBegin, OfDepOk, OfDone, Sent}
 use Rattle.world.proofs.Underway.{HasDecision, Known, WaitsFor, vote_of, met_of, Away, DecisionLive, Entries, EarlyCounted}
 use Rattle.world.proofs.LivePlaces.{same_at, other_dc, away_home, cohort_aside}

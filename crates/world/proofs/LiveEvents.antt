@@ -16,12 +16,12 @@ use Rattle.world.specs.Run.{Run, Event, Submit, Deliver, Collect, opening, after
 use Rattle.world.proofs.Among.{Among, get_among}
 use Rattle.world.proofs.Invariant.{Says, Inv}
 use Rattle.world.proofs.HandlesKept.{handle_kept}
-use Rattle.world.proofs.Events.{ticked_above}
+use Rattle.shard.proofs.Handles.{ticked_above}
+use Rattle.shard.proofs.Within.{handled_within, collected_within}
 use Rattle.world.proofs.Runs.{opening_holds, step_kept}
 use Rattle.world.proofs.About.{OfRead, kind_of}
 use Rattle.world.proofs.Underway.{FirstHas, SecondHas, SaysLive, Acted, Live}
-use Rattle.world.proofs.LiveGrow.{acted_on}
-use Rattle.world.proofs.HandledOnwards.{handled_onward, collected_onward}
+use Rattle.world.proofs.LiveGrow.{acted_on, onward_of}
 use Rattle.world.proofs.HandledWaits.{handled_wait, collected_wait}
 use Rattle.world.proofs.LiveHandled.{is_for_session, handled_left, collected_left}
 use Rattle.world.proofs.LiveHeard.{is_for_shard, heard_left}
@@ -30,6 +30,7 @@ use Rattle.world.proofs.Homes.{Homes, step_homes, opening_homes}
 use Rattle.world.proofs.Addresses.{Stands, stands, shard_no_session, to_shard, done_session}
 use Rattle.world.proofs.SteppedLive.{Delivers, shard_onward, shard_here, shard_step_live, session_comes, session_step_live}
 use Rattle.world.proofs.SubmittedLive.{begun_live}
+use Rattle.world.proofs.Answers.{hears}
 
 -- a delivery is of the message of its number
 delivers_it : (top : TopologyValue) (w x : Run) (j : ℕ) (e : Envelope) → slice_get w.sent j ≡ Some e → Acted top x e.from e.to (kind_of e.body)
@@ -66,10 +67,10 @@ module _ (top : TopologyValue) (ok : Stands top) (w : Run) (inv : Inv top w) (li
           let st = handled top e.to n (w.shards e.to) e.from e.body in
           let ev = Deliver j in
           let x = after_shard (Ok st) w ev e.to in
-          let on = handled_onward top e.to n (w.shards e.to) e.from e.body in
+          let on = onward_of (handled_within top e.to n (w.shards e.to) e.from e.body) in
           let ws = handled_wait top e.to n (w.shards e.to) e.from e.body in
           let g = shard_onward top w e.to e.from (kind_of e.body) st ev on ws in
-          let later = handle_kept top w e.to n e.from e.time e.body ev ok.some inv above.0 above.1 (inv.sent e m) in
+          let later = handle_kept top w e n ev ok.some inv m q in
           let l = handled_left top w x n ok.some inv later g live e m (shard_here top w e.to e.from (kind_of e.body) st ev on ws) in
           let acted = by (is_for_session (kind_of e.body)) refl x (λ f. l.1 f) (λ a. acted_on top e.from e.to g (kind_of e.body) a) m in
           shard_step_live top w e.to e.from (kind_of e.body) st ev on ws live (λ number time r. (subst (λ z. SaysLive top w e.from e.to z) r
@@ -103,7 +104,7 @@ module _ (top : TopologyValue) (ok : Stands top) (w : Run) (inv : Inv top w) (li
           let ev = Deliver j in
           let x = after_session (Ok st) w ev e.to in
           let r = heard_left top w x e.to n ok.some inv (le_of_lt above.0) (homed e.to) live e.from e.time e.body (no_shard _ refl)
-          (le_of_lt above.1) (inv.sent e m) (live.sent e m) (session_comes top w e.to st ev) in
+          (le_of_lt above.1) (hears top w inv e m) (live.sent e m) (session_comes top w e.to st ev) in
           session_step_live top w e.to st ev live r.0 stations.handled (delivers_it top w x j e found r.1)
 
   deliver_go : (shard session : Bool) (j : ℕ) (e : Envelope) → is_shard top e.to ≡ shard → slice_get w.sent j ≡ Some e
@@ -128,7 +129,7 @@ module _ (top : TopologyValue) (ok : Stands top) (w : Run) (inv : Inv top w) (li
           let st = collected n (w.shards node) time in
           let ev = Collect node time in
           let x = after_shard (Ok st) w ev node in
-          let on = collected_onward n (w.shards node) time in
+          let on = onward_of (collected_within n (w.shards node) time) in
           let ws = collected_wait node n 0 (OfRead 0) (w.shards node) time in
           let g = shard_onward top w node 0 (OfRead 0) st ev on ws in
           shard_step_live top w node 0 (OfRead 0) st ev on ws live (λ number bound r. absurd (cc))

@@ -8,10 +8,12 @@ use Rattle.messages.specs.Topology.{TopologyValue}
 use Rattle.messages.specs.Shard.{ShardState, Role, Own, Cohort, Replica, PreparedPart, BegunBallot}
 use Rattle.messages.specs.Session.{SessionState, Open, Idle, Writing, FirstRound, SecondRound}
 use Rattle.world.specs.Run.{Run, Submission}
-use Rattle.world.proofs.Among.{Among}
+use Rattle.world.proofs.Among.{Among, contains_among, among_contains}
 use Rattle.world.proofs.Facts.{IsWritten, near, Sees}
 use Rattle.world.proofs.About.{Kind, OfBegin, OfPrepare, OfYes, OfCommit, OfAt, OfNotBy, OfCheck, OfRead, OfReadAt, OfReplBegin, OfReplPart, OfNotify, OfPrepareRemote, OfDepCheck, OfDepOk, OfDone, OfPartNow, OfPartAt, Sent}
 use Rattle.world.proofs.Underway.{HasPrepared, HasBallot, HasDecision, HasKeptPart, HasKeptBallot, Known, Awaits, WaitsFor, of_ballot, of_moving, Aside, Away, AtOrigin, Leads, Placed, ShardOnward, Round, SessionOnward, Onward, RoleLive, PreparedLive, BallotLive, AppliedLive, Entries, ShardLive, SaysLive, HasEnded, Acted, SubmissionLive, OpenLive}
+use Rattle.shard.specs.Sound.{IsWithin}
+use Rattle.shard.proofs.Within.{within_itself}
 
 -- ## Messages
 
@@ -198,21 +200,24 @@ submission_on g k = record { home = k.home; begun = sent_on g k.begun; prepared 
 
 -- ## Onward of one actor that doesn't change
 
+-- what a shard keeps goes on
+pub onward_of : {a b : ShardState} → IsWithin a b → ShardOnward a b
+onward_of g = record {
+  prepared = λ y m. contains_among y _ (g.prepared y (among_contains y _ m));
+  ballots = λ y m. contains_among y _ (g.ballots y (among_contains y _ m));
+  early = λ y m. contains_among y _ (g.early y (among_contains y _ m));
+  votes = λ y m. contains_among y _ (g.votes y (among_contains y _ m));
+  decided = λ y m. contains_among y _ (g.decided y (among_contains y _ m));
+  applied = λ y m. contains_among y _ (g.applied y (among_contains y _ m));
+  kept_parts = λ y m. contains_among y _ (g.kept_parts y (among_contains y _ m));
+  kept_ballots = λ y m. contains_among y _ (g.kept_ballots y (among_contains y _ m));
+  notices = λ y m. contains_among y _ (g.notices y (among_contains y _ m));
+  met = λ y m. contains_among y _ (g.met y (among_contains y _ m));
+  askers = λ y m. contains_among y _ (g.askers y (among_contains y _ m));
+}
+
 pub same_shard_on : (a : ShardState) → ShardOnward a a
-same_shard_on a =
-    record {
-      prepared = λ y m. m;
-      ballots = λ y m. m;
-      early = λ y m. m;
-      votes = λ y m. m;
-      decided = λ y m. m;
-      applied = λ y m. m;
-      kept_parts = λ y m. m;
-      kept_ballots = λ y m. m;
-      notices = λ y m. m;
-      met = λ y m. m;
-      askers = λ y m. m;
-    }
+same_shard_on a = onward_of (within_itself a)
 
 pub same_session_on : (top : TopologyValue) (a : SessionState) → SessionOnward top a a
 same_session_on top a =

@@ -13,7 +13,7 @@ use Rattle.messages.specs.SessionEvents.{heard, session_taken}
 use Rattle.world.specs.Run.{Run, Submission}
 use Rattle.world.proofs.Among.{Among}
 use Rattle.world.proofs.Facts.{txn_of, IsWritten, IsDecided}
-use Rattle.world.proofs.Invariant.{Says, IsOpen, OpenSound, Inv}
+use Rattle.world.proofs.Invariant.{IsOpen, OpenSound, Inv, Hears}
 use Rattle.world.proofs.SessionEnds.{open_txn}
 use Rattle.world.proofs.About.{Kind, OfBegin, OfPrepare, OfYes, OfCommit, OfAt, OfNotBy, OfCheck, OfRead, OfReadAt, OfReplBegin, OfReplPart, OfNotify, OfPrepareRemote, OfDepCheck, OfDepOk, OfDone, OfPartNow, OfPartAt, kind_of}
 use Rattle.world.proofs.Underway.{Placed, NotMissing, NotAwaited, SaysLive, Acted, HasEnded, StillOpen, Live}
@@ -100,7 +100,7 @@ module _ (top : TopologyValue) (w x : Run) (node n : ℕ) (some : 0 < top.shards
   -- ## Every message
 
   -- what it was about, once its step is right
-  acted : (from sent : ℕ) (b : Body) → is_for_shard (kind_of b) ≡ false → Says top w from node sent b → SaysLive top w from node (kind_of b)
+  acted : (from sent : ℕ) (b : Body) → is_for_shard (kind_of b) ≡ false → Hears top w from node sent b → SaysLive top w from node (kind_of b)
       → Comes w x node (heard top node n (w.sessions node) from b) → Went top w x node (heard top node n (w.sessions node) from b)
       → Acted top x from node (kind_of b)
   acted from sent (At t commit stamp) e s k c went = tt
@@ -122,7 +122,7 @@ module _ (top : TopologyValue) (w x : Run) (node n : ℕ) (some : 0 < top.shards
       subst (λ z. NotAwaited top z number from) (sym c.state) has
   acted from sent _ e s k c went = absurd (false≢true (sym e))
 
-  pub heard_left : (from sent : ℕ) (b : Body) → is_for_shard (kind_of b) ≡ false → sent ≤ n → Says top w from node sent b
+  pub heard_left : (from sent : ℕ) (b : Body) → is_for_shard (kind_of b) ≡ false → sent ≤ n → Hears top w from node sent b
       → SaysLive top w from node (kind_of b)
       → Comes w x node (heard top node n (w.sessions node) from b)
       → Went top w x node (heard top node n (w.sessions node) from b) × Acted top x from node (kind_of b)

@@ -14,14 +14,15 @@ use Rattle.world.proofs.Facts.{near}
 use Rattle.world.proofs.Invariant.{Inv}
 use Rattle.world.proofs.Ables.{absent}
 use Rattle.world.proofs.ReadyKept.{awaited_unready, unmet_unready}
-use Rattle.world.proofs.StampsApart.{written_at, submitted_one, batch_one}
+use Rattle.world.proofs.OneBatch.{written_at, submitted_one, batch_one}
 use Rattle.world.proofs.About.{OfNotify}
 use Rattle.world.proofs.Underway.{NoticeLive, HasPrepared, HasKeptPart, HasKeptBallot, Known, Awaits, WaitsFor, of_ballot, of_moving, no_move, vote_of, met_of, Leads, Onward, Entries, ShardLive, Acted}
-use Rattle.world.proofs.LiveGrow.{prepared_on, decision_on, shard_on}
-use Rattle.world.proofs.HandledOnwards.{ready_on}
+use Rattle.world.proofs.LiveGrow.{prepared_on, decision_on, shard_on, onward_of}
 use Rattle.world.proofs.LivePlaces.{not_and, same_at, vote_from, met_from, known_cases, lead_beside, among_cohorts}
 use Rattle.world.proofs.LiveSteps.{Here, Left, quiet_left, Rounds}
 use Rattle.world.proofs.LiveReady.{ready_left}
+use Rattle.world.proofs.Answers.{unready_untouched}
+use Rattle.shard.proofs.Within.{ready_in}
 
 module _ (top : TopologyValue) (w x : Run) (node n : ℕ) (some : 0 < top.shards) (was : Inv top w) (inv : Inv top x) (g : Onward top w x)
     (live : ShardLive top w node (w.shards node)) (rounds : Rounds x (w.shards node).waiting) where
@@ -30,7 +31,7 @@ module _ (top : TopologyValue) (w x : Run) (node n : ℕ) (some : 0 < top.shards
 
   -- nobody voted for a ballot that misses something
   unvoted : (r : KeptBallot) → Among r (w.shards node).kept_ballots → is_ready top node (w.shards node) r ≡ false → (v : Vote) → Among v (w.shards node).votes → v.txn ≡ r.txn → ⊥
-  unvoted r m e v i q = let b = live.entries.votes v i in (was.patient node r m e).unbegun b.0 b.1 (b.2 ∙ q)
+  unvoted r m e v i q = let b = live.entries.votes v i in (unready_untouched top w was node r m e).unbegun b.0 b.1 (b.2 ∙ q)
 
   -- a kept part is on a cohort
   part_beside : (t : TxnValue) → Leads top x node t → HasKeptPart (w.shards node) t → ⊥
@@ -92,7 +93,7 @@ module _ (top : TopologyValue) (w x : Run) (node n : ℕ) (some : 0 < top.shards
             (λ u i ne f d. kx.ready u i (λ c j. old_notices r.txn u.txn from (near top node c) (w.shards node).notices ne (f c j)) d)
             (unvoted r m (awaited_unready top node (w.shards node) r t from q e)),
         subst (λ z. Among (vote_of t from) z.notices) (sym here.state)
-            ((ready_on top node n a r).notices (vote_of t from) (subst (λ z. Among (vote_of z from) a.notices) q (among_last (vote_of r.txn from) (w.shards node).notices))),
+            ((onward_of (ready_in top node n a r)).notices (vote_of t from) (subst (λ z. Among (vote_of z from) a.notices) q (among_last (vote_of r.txn from) (w.shards node).notices))),
       )
 
   early_notice_go : (t : TxnValue) (from : ℕ) → HasKeptPart (x.shards from) t → Leads top x node t → dc_of top from ≡ dc_of top node → ((r : KeptBallot) → Among r (w.shards node).kept_ballots → r.txn ≡ t → ⊥)
@@ -172,7 +173,7 @@ module _ (top : TopologyValue) (w x : Run) (node n : ℕ) (some : 0 < top.shards
             (λ z j. elim (last_or_old (met_of u.txn z.txn) (met_of r.txn dependency) (w.shards node).met (d z j)) [ inl o ↦ o | inr y ↦ absurd (ne (ap (λ (v : Met). v.waiter) y)) ]))
             (unvoted r m (unmet_unready top node (w.shards node) r dependency e)),
         subst (λ z. Among (met_of waiter dependency) z.met) (sym here.state)
-            ((ready_on top node n a r).met (met_of waiter dependency) (subst (λ z. Among (met_of z dependency) a.met) q (among_last (met_of r.txn dependency) (w.shards node).met))),
+            ((onward_of (ready_in top node n a r)).met (met_of waiter dependency) (subst (λ z. Among (met_of z dependency) a.met) q (among_last (met_of r.txn dependency) (w.shards node).met))),
       )
 
   dep_ok_go : (waiter dependency : TxnValue) → Awaits (w.shards node) waiter dependency → (o : Option KeptBallot) → kept_ballot waiter (w.shards node) ≡ o

@@ -16,7 +16,7 @@ use Rattle.world.proofs.Among.{Among, any_among, any_true, find_some, filter_onl
 use Rattle.world.proofs.Facts.{IsWritten, near, lead}
 use Rattle.world.proofs.Invariant.{SubmittedSound}
 use Rattle.world.proofs.Near.{listed_below, cohort_below, cohort_other, lead_number, near_dc}
-use Rattle.world.proofs.StampsApart.{submitted_one, batch_one}
+use Rattle.world.proofs.OneBatch.{submitted_one, batch_one}
 use Rattle.world.proofs.Underway.{HasPrepared, HasBallot, HasDecision, HasKeptPart, HasKeptBallot, vote_of, met_of, Aside, Away, AtOrigin, Leads}
 
 -- ## Tests

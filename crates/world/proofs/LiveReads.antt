@@ -19,7 +19,7 @@ use Rattle.messages.specs.SessionEvents.{answered, given_up, written, read_at_of
 use Rattle.messages.proofs.Numbering.{dc_of_shard}
 use Rattle.world.specs.Run.{Run}
 use Rattle.world.proofs.Among.{Among, filter_only, map_only, map_among}
-use Rattle.world.proofs.Invariant.{Says, WritingSound, OpenSound, Inv}
+use Rattle.world.proofs.Invariant.{Hears, WritingSound, OpenSound, Inv}
 use Rattle.world.proofs.Asking.{missing_late, asked_below}
 use Rattle.world.proofs.HeardCases.{WriteAnswer, FirstAnswer, SecondAnswer, AwaitsNone, IsNotWritten, Ignored, with_rows_now, with_rows_at, opened_as, heard_cases}
 use Rattle.world.proofs.SessionEnds.{open_txn}
@@ -41,7 +41,7 @@ module _ (top : TopologyValue) (w x : Run) (node n : ℕ) (some : 0 < top.shards
     (homed : (w.sessions node).home < top.dcs)
     (placed : (k : WriterValue) → Among k (w.sessions node).dependencies → Placed top w k)
     (live : OpenLive top w node (w.sessions node) (w.sessions node).current)
-    (from sent : ℕ) (b : Body) (early : sent ≤ n) (says : Says top w from node sent b) where
+    (from sent : ℕ) (b : Body) (early : sent ≤ n) (says : Hears top w from node sent b) where
   abbrev a : SessionState
   a = w.sessions node
 

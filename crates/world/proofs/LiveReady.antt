@@ -15,14 +15,15 @@ use Rattle.world.proofs.Among.{Among, among_append, all_among, map_only, map_amo
 use Rattle.world.proofs.Facts.{near, KeptBallotSound}
 use Rattle.world.proofs.Invariant.{Inv}
 use Rattle.world.proofs.Near.{near_dc, cohort_below}
-use Rattle.world.proofs.StampsApart.{written_at, submitted_one, batch_one}
+use Rattle.world.proofs.OneBatch.{written_at, submitted_one, batch_one}
 use Rattle.world.proofs.About.{OfPrepareRemote, Sent}
 use Rattle.world.proofs.Underway.{Known, vote_of, met_of, Away, Entries, EarlyCounted, Voted}
-use Rattle.world.proofs.HandledOnwards.{ready_on}
 use Rattle.world.proofs.LivePlaces.{txn_split, vote_from, all_voted_from, all_met_from}
 use Rattle.world.proofs.LiveSteps.{Here, Fine, Left, quiet_left, Rounds, BallotAt, kept_at, ballot_leads, some_none}
 use Rattle.world.proofs.LiveDecides.{decide_left}
 use Rattle.world.proofs.LiveHeld.{hold_left, hold_known}
+use Rattle.world.proofs.LiveGrow.{onward_of}
+use Rattle.shard.proofs.Within.{ready_in}
 
 -- At a shard with all its inputs stored
 module _ (top : TopologyValue) (x : Run) (node n : ℕ) (some : 0 < top.shards) (inv : Inv top x) (a : ShardState) (r : KeptBallot)
@@ -33,7 +34,7 @@ module _ (top : TopologyValue) (x : Run) (node n : ℕ) (some : 0 < top.shards) 
     → ((k : WriterValue) → Among k u.dependencies → Among (met_of u.txn k.txn) a.met) → Known a u.txn)
     (unvoted : (v : Vote) → Among v a.votes → v.txn ≡ r.txn → ⊥) where
   sound : (u : KeptBallot) → Among u a.kept_ballots → KeptBallotSound top x node (x.shards node).clock u
-  sound u m = (inv.shards node).kept_ballots u (subst (λ z. Among u z.kept_ballots) (sym here.state) ((ready_on top node n a r).kept_ballots u m))
+  sound u m = (inv.shards node).kept_ballots u (subst (λ z. Among u z.kept_ballots) (sym here.state) ((onward_of (ready_in top node n a r)).kept_ballots u m))
 
   kept_ballot_at : BallotAt top x node (ballot_of r)
   kept_ballot_at = kept_at (sound r kept)

@@ -16,16 +16,16 @@ use Rattle.world.proofs.Facts.{near, lead, KeptBallotSound, KeptPartSound}
 use Rattle.world.proofs.Invariant.{Inv}
 use Rattle.world.proofs.Ables.{absent, unbegun}
 use Rattle.world.proofs.Near.{near_dc, coordinator_below}
-use Rattle.world.proofs.StampsApart.{written_at, batch_one}
+use Rattle.world.proofs.OneBatch.{written_at, batch_one}
 use Rattle.world.proofs.About.{OfDepCheck}
 use Rattle.world.proofs.Underway.{HasPrepared, HasKeptPart, HasKeptBallot, Known, WaitsFor, of_ballot, Away, Leads, Placed, Onward, KeptPartLive, KeptBallotLive, AskerLive, Entries, ShardLive, Acted}
-use Rattle.world.proofs.LiveGrow.{written_on, prepared_on, decision_on, kept_part_on, kept_ballot_on, shard_on}
-use Rattle.world.proofs.HandledOnwards.{ready_on}
+use Rattle.world.proofs.LiveGrow.{written_on, prepared_on, decision_on, kept_part_on, kept_ballot_on, shard_on, onward_of}
 use Rattle.world.proofs.LivePlaces.{known_cases, prepared_found, near_leads}
 use Rattle.world.proofs.LiveSteps.{Here, Fine, Left, quiet_left, answer_left, Rounds}
 use Rattle.world.proofs.LiveHeld.{prepare_left}
 use Rattle.world.proofs.LiveReady.{ready_left}
 use Rattle.world.proofs.LiveInputs.{known_replica}
+use Rattle.shard.proofs.Within.{ready_in}
 
 module _ (top : TopologyValue) (w x : Run) (node n : ℕ) (some : 0 < top.shards) (was : Inv top w) (inv : Inv top x) (g : Onward top w x)
     (live : ShardLive top w node (w.shards node)) (rounds : Rounds x (w.shards node).waiting) where
@@ -55,7 +55,7 @@ module _ (top : TopologyValue) (w x : Run) (node n : ℕ) (some : 0 < top.shards
         here = dc;
         asked = λ d m. record { message = to d; among = here.sent (to d) (append_first (to d) (dep_checks top node n r) _ (map_among to r.dependencies d m)); by = refl; for = refl; is = refl };
       } in
-      let kept : Among r (x.shards node).kept_ballots = subst (λ z. Among r z.kept_ballots) (sym here.state) ((ready_on top node n a r).kept_ballots r (among_last r (w.shards node).kept_ballots)) in
+      let kept : Among r (x.shards node).kept_ballots = subst (λ z. Among r z.kept_ballots) (sym here.state) ((onward_of (ready_in top node n a r)).kept_ballots r (among_last r (w.shards node).kept_ballots)) in
       let o = kx.entries in
       let entries : Entries top x node a =
       record {

@@ -12,7 +12,7 @@ use Rattle.world.proofs.Among.{Among, append_first, among_last, last_or_old}
 use Rattle.world.proofs.Facts.{near, RoleFits}
 use Rattle.world.proofs.Invariant.{Inv}
 use Rattle.world.proofs.Ables.{unbegun, unprepared, undecided}
-use Rattle.world.proofs.StampsApart.{written_at, batch_one}
+use Rattle.world.proofs.OneBatch.{written_at, batch_one}
 use Rattle.world.proofs.About.{OfYes}
 use Rattle.world.proofs.Underway.{EarlyLive, HasBallot, HasDecision, Known, vote_of, Aside, Away, AtOrigin, Leads, Onward, RoleLive, Entries, EarlyCounted, ShardLive, Acted}
 use Rattle.world.proofs.LiveGrow.{decision_on, shard_on}

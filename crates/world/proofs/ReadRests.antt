@@ -29,7 +29,7 @@ use Rattle.world.proofs.Among.{Among, among_contains, contains_among}
 use Rattle.world.proofs.Facts.{RowAtSound}
 use Rattle.world.proofs.Invariant.{AnsweredFrom, Inv}
 use Rattle.world.proofs.DecidedIn.{DecidedIn, decided_in, stamp_decision, IsAppliedIn, applied_in}
-use Rattle.world.proofs.RowAlike.{AreAlike, alike_back, alike_rests}
+use Rattle.world.proofs.RowAlike.{AreAlike, alike_rests}
 use Rattle.world.proofs.ReadTables.{node_of, right_alike}
 
 -- ---- what a read of a row rests on is one of the parts
@@ -85,21 +85,6 @@ module _ (top : TopologyValue) (w : Run) (inv : Inv top w) (some : 0 < top.shard
         sym is.txn ∙ ap (λ (z : Decision). z.txn) same,
       )
 
-  -- and each of its writers wrote something that the read rests on
-  pub row_of_writer : (k : WriterValue) → Contains r.writers k
-      → (d : Decision) × Among d (decisions_in top w dc) × (d.txn ≡ k.txn) × RowRestsOn (up_to time (history_of top w dc)) (row_of read r.key) read.predicate d.stamp
-  row_of_writer k has =
-      let p = (sound.shown.writers k).0 has in
-      let a = p.0 in
-      let is = seen_here a p.1 in (
-        is.decision,
-        subst (λ z. Among is.decision (decisions_in top w z)) home_is is.among,
-        is.txn ∙ ap (λ (v : WriterValue). v.txn) p.2,
-        alike_rests (row_of read r.key) (parts_of (applied_by time sound.seen)) (up_to time (history_of top w dc)) read.predicate is.decision.stamp
-            (alike_back (row_of read r.key) (up_to time (history_of top w dc)) (parts_of (applied_by time sound.seen)) alike)
-            (subst (λ s. RowRestsOn (parts_of (applied_by time sound.seen)) (row_of read r.key) read.predicate s) (sym is.stamp) p.3),
-      )
-
 -- ---- the read
 -- each transaction that a completed read rests on is that of a writer of its rows
 pub rests_on_written : (top : TopologyValue) (w : Run) → Inv top w → 0 < top.shards → (dc time : ℕ) (read : Read) (rows : List RowAt)
@@ -111,11 +96,3 @@ rests_on_written top w inv some dc time read rows from u (d, key, has, txn, aske
     let k = writer_of_row top w inv some dc time read r (from.right r (contains_among r rows m.1)) d (contains_among d (decisions_in top w dc) has)
     (subst (λ z. RowRestsOn (up_to time (history_of top w dc)) (row_of read z) read.predicate d.stamp) (sym m.2) rests) in
     (k.0, contains_flat (λ (r : RowAt). r.writers) rows r k.0 m.1 k.1, k.2 ∙ txn)
-
--- and a read rests on the transaction of each writer of a row of an asked key
-pub written_is_rested_on : (top : TopologyValue) (w : Run) → Inv top w → 0 < top.shards → (dc time : ℕ) (read : Read) (rows : List RowAt)
-    → AnsweredFrom top w dc read time rows
-    → (r : RowAt) (k : WriterValue) → Contains rows r → Contains read.keys r.key → Contains r.writers k → ReadRestsOn top w dc read time k.txn
-written_is_rested_on top w inv some dc time read rows from r k has asked wrote =
-    let d = row_of_writer top w inv some dc time read r (from.right r (contains_among r rows has)) k wrote in
-    (d.0, r.key, among_contains d.0 (decisions_in top w dc) d.1, d.2, asked, d.3)

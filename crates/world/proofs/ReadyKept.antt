@@ -11,7 +11,6 @@ use Rattle.messages.specs.Words.{is_same_txn, envelope}
 use Rattle.messages.specs.Shard.{ShardState, ShardStep, KeptBallot, Met}
 use Rattle.messages.specs.Known.{has_vote, is_cohort, is_awaited, all_voted, is_met, all_met}
 use Rattle.messages.specs.Replication.{ballot_of, remote_prepare, is_ready, ready_if, ready, sent_before, is_unmet}
-use Rattle.store.specs.Keeps.{AreApart}
 use Rattle.world.specs.Run.{Run}
 use Rattle.world.proofs.Among.{Among, among_append, any_true, all_among, map_only, same_txn}
 use Rattle.world.proofs.Growth.{Grows}
@@ -37,12 +36,10 @@ before_able top w node a sends st f k =
             decided = g.decided;
             once = g.once;
             applied = g.applied;
-            apart = g.apart;
             kept_parts = g.kept_parts;
             kept_ballots = g.kept_ballots;
             met = g.met;
             askers = g.askers;
-            waiting = g.waiting;
             sends = λ e m. elim (among_append e sends st.sends m) [ inl o ↦ f x gr e o | inr o ↦ g.sends e o ];
           };
     }
@@ -54,9 +51,6 @@ module _ (top : TopologyValue) (w : Run) (node n : ℕ) (a : ShardState) (some :
     (met : (m : Met) → Among m a.met → IsDone top w (dc_of top node) m.dependency n) where
   once_here : DecidedOnce a.decided
   once_here = subst DecidedOnce (sym like.decided) (inv.shards node).once
-
-  apart_here : AreApart a.applied
-  apart_here = subst AreApart (sym like.applied) (inv.shards node).apart
 
   clock_here : a.clock < n
   clock_here = subst (λ c. c < n) (sym like.clock) lt
@@ -87,14 +81,14 @@ module _ (top : TopologyValue) (w : Run) (node n : ℕ) (a : ShardState) (some :
       → Able top w node a (remote_prepare cohorts top node n a r)
   remote_go r [] q k u = decide_able top w node n a (ballot_of r) some inv lt like k u.undecided (λ c m. absurd (subst (λ l. Among c l) q m))
   remote_go r (c ∷ cs) q k u =
-      hold_able top w node n a (ballot_of r) [] _ some clock_here once_here apart_here
+      hold_able top w node n a (ballot_of r) [] _ some clock_here once_here
       (λ p m. u.unprepared p (subst (λ l. Among p l) like.prepared m)) (λ d m. u.undecided d (subst (λ l. Among d l) like.decided m)) k (λ v m. absurd m)
       (λ x gr at e m.
       let p = map_only (λ s. envelope node (shard_node top (dc_of top node) s) n (PrepareRemote r.txn)) (c ∷ cs) e m in subst (λ z. EnvelopeSound top x z) (sym p.2) tt)
 
   ready_go : (r : KeptBallot) → KeptBallotSound top w node n r → Untouched (w.shards node).ballots (w.shards node).prepared (w.shards node).decided r.txn
       → (b : Bool) → is_ready top node a r ≡ b → Able top w node a (ready_if b top node n a r)
-  ready_go r k u false e = quiet_able top w node n a clock_here once_here apart_here
+  ready_go r k u false e = quiet_able top w node n a clock_here once_here
   ready_go r k u true e = remote_go r r.cohorts refl (ballot_ready r k (and_parts (all_voted top node r.cohorts a.notices r.txn) (all_met a.met r.txn r.dependencies) e).1) u
 
   pub ready_able : (r : KeptBallot) → KeptBallotSound top w node n r → Untouched (w.shards node).ballots (w.shards node).prepared (w.shards node).decided r.txn

@@ -17,6 +17,7 @@ use Rattle.world.proofs.Lasting.{done_grows, kept_ballot_grows}
 use Rattle.world.proofs.Near.{near_dc}
 use Rattle.world.proofs.Ables.{same_run, added, Alike, alike_grows, unbegun, unprepared, undecided, quiet_able, only}
 use Rattle.world.proofs.ReadyKept.{before_able, ready_able, ready_clock, awaited_unready, unmet_unready}
+use Rattle.world.proofs.Answers.{unready_untouched}
 
 module _ (top : TopologyValue) (w : Run) (node n : ℕ) (some : 0 < top.shards) (inv : Inv top w) (lt : (w.shards node).clock < n) where
   -- each answer that is kept is right at this clock
@@ -35,11 +36,11 @@ module _ (top : TopologyValue) (w : Run) (node n : ℕ) (some : 0 < top.shards) 
       subst (λ z. EnvelopeSound top x z) (sym q.2) (of_shard (sym (near_dc top node q.0.shard placed)))
 
   repl_begin_go : (r : KeptBallot) → KeptBallotSound top w node n r → (known : Bool) → is_known r.txn (w.shards node) ≡ known → Able top w node (w.shards node) (repl_begin_if known top node n (w.shards node) r)
-  repl_begin_go r k true e = quiet_able top w node n (w.shards node) lt (inv.shards node).once (inv.shards node).apart
+  repl_begin_go r k true e = quiet_able top w node n (w.shards node) lt (inv.shards node).once
   repl_begin_go r k false e =
       let a = w.shards node in
       let b = with_ballot a r in
-      let like : Alike a b = record { clock = refl; prepared = refl; decided = refl; applied = refl; askers = refl; waiting = refl } in
+      let like : Alike a b = record { clock = refl; prepared = refl; decided = refl; applied = refl; askers = refl } in
       before_able top w node a (dep_checks top node n r) (ready top node n b r) (λ x gr i m. check_sound x r k i m)
       (added top w node a b (ready top node n b r) (alike_grows a b like)
       (λ x gr le. record {
@@ -50,7 +51,6 @@ module _ (top : TopologyValue) (w : Run) (node n : ℕ) (some : 0 < top.shards) 
         decided = λ i m. inl m;
         once = (inv.shards node).once;
         applied = λ i m. inl m;
-        apart = (inv.shards node).apart;
         kept_parts = λ i m. inl m;
         kept_ballots = λ i m. elim (last_or_old i r a.kept_ballots m) [
           | inl o ↦ inl o
@@ -58,7 +58,6 @@ module _ (top : TopologyValue) (w : Run) (node n : ℕ) (some : 0 < top.shards) 
         ];
         met = λ i m. inl m;
         askers = λ i m. inl m;
-        waiting = λ i m. inl m;
         sends = λ i m. absurd m;
       })
       (ready_able top w node n b some inv lt like old_met r k
@@ -79,34 +78,32 @@ module _ (top : TopologyValue) (w : Run) (node n : ℕ) (some : 0 < top.shards) 
         decided = λ i m. inl m;
         once = (inv.shards node).once;
         applied = λ i m. inl m;
-        apart = (inv.shards node).apart;
         kept_parts = λ i m. inl m;
         kept_ballots = λ i m. inl m;
         met = λ i m. inl m;
         askers = λ i m. inl m;
-        waiting = λ i m. inl m;
         sends = λ i m. absurd m;
       }
 
   noticed : (t : TxnValue) (from : ℕ) → Alike (w.shards node) (with_notice (w.shards node) t from)
-  noticed t from = record { clock = refl; prepared = refl; decided = refl; applied = refl; askers = refl; waiting = refl }
+  noticed t from = record { clock = refl; prepared = refl; decided = refl; applied = refl; askers = refl }
 
   notice_go : (r : KeptBallot) (t : TxnValue) (from : ℕ) → Among r (w.shards node).kept_ballots → r.txn ≡ t → (b : Bool) → is_awaited top node r.cohorts (w.shards node).notices t from ≡ b
       → Able top w node (w.shards node) (notice_if b top node n (w.shards node) r from)
-  notice_go r t from m q false e = quiet_able top w node n (w.shards node) lt (inv.shards node).once (inv.shards node).apart
+  notice_go r t from m q false e = quiet_able top w node n (w.shards node) lt (inv.shards node).once
   notice_go r t from m q true e =
       let a = w.shards node in
       let b = with_notice a r.txn from in
       added top w node a b (ready top node n b r) (alike_grows a b (noticed r.txn from)) (λ x gr le. notice_added x r.txn from)
-      (ready_able top w node n b some inv lt (noticed r.txn from) old_met r (old_ballot r m) (inv.patient node r m (awaited_unready top node a r t from q e)))
+      (ready_able top w node n b some inv lt (noticed r.txn from) old_met r (old_ballot r m) (unready_untouched top w inv node r m (awaited_unready top node a r t from q e)))
 
   early_go : (t : TxnValue) (from : ℕ) (known kept : Bool) → Able top w node (w.shards node) (early_notice_if known kept n (w.shards node) t from)
-  early_go t from true kept = quiet_able top w node n (w.shards node) lt (inv.shards node).once (inv.shards node).apart
-  early_go t from false true = quiet_able top w node n (w.shards node) lt (inv.shards node).once (inv.shards node).apart
+  early_go t from true kept = quiet_able top w node n (w.shards node) lt (inv.shards node).once
+  early_go t from false true = quiet_able top w node n (w.shards node) lt (inv.shards node).once
   early_go t from false false =
       let a = w.shards node in
       let b = with_notice a t from in
-      added top w node a b _ (alike_grows a b (noticed t from)) (λ x gr le. notice_added x t from) (quiet_able top w node n b lt (inv.shards node).once (inv.shards node).apart)
+      added top w node a b _ (alike_grows a b (noticed t from)) (λ x gr le. notice_added x t from) (quiet_able top w node n b lt (inv.shards node).once)
 
   notify_go : (from : ℕ) (t : TxnValue) (o : Option KeptBallot) → kept_ballot t (w.shards node) ≡ o → Able top w node (w.shards node) (notify_for o top node n (w.shards node) t from)
   notify_go from t None e = early_go t from (is_known t (w.shards node)) (has_vote (w.shards node).notices t from)
@@ -121,12 +118,12 @@ module _ (top : TopologyValue) (w : Run) (node n : ℕ) (some : 0 < top.shards) 
 
   met_go : (r : KeptBallot) (dependency : TxnValue) → Among r (w.shards node).kept_ballots → IsDone top w (dc_of top node) dependency n → (b : Bool) → is_unmet (w.shards node).met r dependency ≡ b
       → Able top w node (w.shards node) (met_if b top node n (w.shards node) r dependency)
-  met_go r dependency m k false e = quiet_able top w node n (w.shards node) lt (inv.shards node).once (inv.shards node).apart
+  met_go r dependency m k false e = quiet_able top w node n (w.shards node) lt (inv.shards node).once
   met_go r dependency m k true e =
       let a = w.shards node in
       let b = with_met a r.txn dependency in
       let u : Met = record { waiter = r.txn; dependency = dependency } in
-      let like : Alike a b = record { clock = refl; prepared = refl; decided = refl; applied = refl; askers = refl; waiting = refl } in
+      let like : Alike a b = record { clock = refl; prepared = refl; decided = refl; applied = refl; askers = refl } in
       added top w node a b (ready top node n b r) (alike_grows a b like)
       (λ x gr le. record {
         prepared = λ i m. inl m;
@@ -136,7 +133,6 @@ module _ (top : TopologyValue) (w : Run) (node n : ℕ) (some : 0 < top.shards) 
         decided = λ i m. inl m;
         once = (inv.shards node).once;
         applied = λ i m. inl m;
-        apart = (inv.shards node).apart;
         kept_parts = λ i m. inl m;
         kept_ballots = λ i m. inl m;
         met = λ i m. elim (last_or_old i u a.met m) [
@@ -144,12 +140,11 @@ module _ (top : TopologyValue) (w : Run) (node n : ℕ) (some : 0 < top.shards) 
           | inr q ↦ inr (subst (λ z. IsDone top x (dc_of top node) z.dependency (x.shards node).clock) (sym q) (done_grows gr (subst (λ c. c ≤ (x.shards node).clock) (ready_clock top node n b r) le) k))
         ];
         askers = λ i m. inl m;
-        waiting = λ i m. inl m;
         sends = λ i m. absurd m;
       })
       (ready_able top w node n b some inv lt like
       (λ i m. elim (last_or_old i u a.met m) [ inl o ↦ old_met i o | inr q ↦ subst (λ z. IsDone top w (dc_of top node) z.dependency n) (sym q) k ])
-      r (old_ballot r m) (inv.patient node r m (unmet_unready top node a r dependency e)))
+      r (old_ballot r m) (unready_untouched top w inv node r m (unmet_unready top node a r dependency e)))
 
   -- what a kept ballot waits for is decided in its data centre
   waits_here : (from : ℕ) (t : TxnValue) → MayWait top w from t node → (r : KeptBallot) → KeptBallotSound top w node n r → r.txn ≡ t → dc_of top from ≡ dc_of top node
@@ -175,7 +170,7 @@ module _ (top : TopologyValue) (w : Run) (node n : ℕ) (some : 0 < top.shards) 
 
   dep_ok_go : (dependency waiter : TxnValue) → ((r : KeptBallot) → Among r (w.shards node).kept_ballots → r.txn ≡ waiter → IsDone top w (dc_of top node) dependency n)
       → (o : Option KeptBallot) → kept_ballot waiter (w.shards node) ≡ o → Able top w node (w.shards node) (dep_ok_for o top node n (w.shards node) dependency)
-  dep_ok_go dependency waiter k None e = quiet_able top w node n (w.shards node) lt (inv.shards node).once (inv.shards node).apart
+  dep_ok_go dependency waiter k None e = quiet_able top w node n (w.shards node) lt (inv.shards node).once
   dep_ok_go dependency waiter k (Some r) e =
       let f = find_some (λ b. is_same_txn b.txn waiter) (w.shards node).kept_ballots r e in
       met_go r dependency f.0 (k r f.0 (same_txn r.txn waiter f.1)) _ refl

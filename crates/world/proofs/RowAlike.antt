@@ -1,6 +1,6 @@
 -- Two histories that make the same of a row: they show the same columns there, and a read rests on the same. A shard's
 -- complete parts and its data centre's history are such.
-use Rattle.std.proofs.Common.{◌≡◌, ℕ, ◌<◌, sym, ap, List}
+use Rattle.std.proofs.Common.{◌≡◌, ℕ, ◌<◌, ap, List}
 use Rattle.logical_time.specs.Stamps.{StampValue}
 use Rattle.column_family.specs.declared.batch.Row.{Row}
 use Rattle.column_family.specs.Location.{touches, is_row_deletion}
@@ -26,9 +26,6 @@ use Rattle.world.proofs.ShownOnRow.{shown_on_row}
 pub record AreAlike (r : Row) (h k : History) : Type 0 where
   pub newest : (n : List ℕ) → newest h (record { row = r; name = n }) ≡ newest k (record { row = r; name = n })
   pub deletion : newest_of (is_row_deletion r) h ≡ newest_of (is_row_deletion r) k
-
-pub alike_back : (r : Row) (h k : History) → AreAlike r h k → AreAlike r k h
-alike_back r h k is = record { newest = λ n. sym (is.newest n); deletion = sym is.deletion }
 
 pub alike_live : (r : Row) (h k : History) → AreAlike r h k → live_columns h r ≡ live_columns k r
 alike_live r h k is = live_columns_alike h k r (λ n. ap value_of (is.newest n))

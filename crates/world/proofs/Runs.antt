@@ -1,5 +1,6 @@
 -- All holds of every run, and a run grows with each event.
 use Rattle.std.proofs.Common.{◌≡◌, ◌<◌, List, [], ◌∷◌, ◌++◌, refl, le_refl, le_trans}
+use Rattle.store.proofs.Lists.{none_in_empty}
 use Rattle.messages.specs.Topology.{TopologyValue}
 use Rattle.messages.specs.Session.{SessionState}
 use Rattle.world.specs.Run.{Run, Event, opening, step, continued, run}
@@ -20,14 +21,12 @@ opening_holds top =
             decided = λ d m. absurd m;
             once = tt;
             applied = λ v m. absurd m;
-            apart = tt;
             kept_parts = λ k m. absurd m;
             kept_ballots = λ r m. absurd m;
             met = λ u m. absurd m;
             askers = λ k m. absurd m;
-            waiting = λ y m. absurd m;
           };
-      patient = λ node r m. absurd m;
+      played = λ node. record { events = []; state = refl; handled = λ e has. absurd (none_in_empty e has); answers = λ e m from is. absurd m };
       sessions = λ node.
           record {
             floor = le_refl _;

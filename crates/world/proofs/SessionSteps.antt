@@ -21,6 +21,8 @@ use Rattle.world.proofs.Lasting.{same_shard_grows, same_session_grows}
 use Rattle.world.proofs.LastingAll.{says_grows, shard_grows, session_grows, completed_grows}
 use Rattle.world.proofs.ShardSteps.{actor_same}
 use Rattle.world.proofs.Transcripts.{old_stays, ended_or_old}
+use Rattle.world.proofs.SessionSends.{AreOfSession}
+use Rattle.world.proofs.Playing.{session_played}
 
 -- the step leaves open what is open, tells nothing, and what the session depends on is as it was
 pub record Stays (a b : SessionState) : Type 0 where
@@ -89,13 +91,13 @@ session_run_grows top w node st ev g =
     }
 
 pub session_step_kept : (top : TopologyValue) (w : Run) (node : ℕ) (st : SessionStep) (ev : Event) → Inv top w → SessionAble top w node st
-    → Inv top (after_session (Ok st) w ev node)
-session_step_kept top w node st ev inv k =
+    → AreOfSession node st.sends → Inv top (after_session (Ok st) w ev node)
+session_step_kept top w node st ev inv k of =
     let x = after_session (Ok st) w ev node in
     let gr = session_run_grows top w node st ev k.grows in
     record {
       shards = λ m. shard_grows gr (inv.shards m);
-      patient = inv.patient;
+      played = session_played top w x node st.sends (λ m. refl) refl of inv.played;
       sessions = session_actor_sound top x w.sessions node (session_taken st.state) (λ m. session_grows gr (inv.sessions m)) (session_grows gr k.session);
       sent = λ e m. elim (among_append e w.sent st.sends m) [
         | inl o ↦ says_grows top e.from e.to e.time gr e.body (inv.sent e o)

@@ -20,14 +20,14 @@ use Rattle.world.specs.Run.{Run}
 use Rattle.world.proofs.Among.{Among, last_or_old, map_only}
 use Rattle.world.proofs.Growth.{FirstAsked, SecondAsked, AskedAt}
 use Rattle.world.proofs.Facts.{IsWritten, lead, IsDecided, IsDone, DecisionSound, AnswersNow, AnswersAt}
-use Rattle.world.proofs.Invariant.{IsAtHome, TellsNow, TellsAt, Says, EnvelopeSound, IsOpen, HeardNowSound, HeardAtSound, WritingSound, FirstSound, SecondSound, OpenSound, AnsweredFrom, Inv}
+use Rattle.world.proofs.Invariant.{IsAtHome, TellsNow, TellsAt, EnvelopeSound, IsOpen, HeardNowSound, HeardAtSound, WritingSound, FirstSound, SecondSound, OpenSound, AnsweredFrom, Inv, Hears}
 use Rattle.world.proofs.Lasting.{done_grows, answers_now_grow}
 use Rattle.world.proofs.HeardCases.{WriteAnswer, FirstAnswer, SecondAnswer, with_rows_now, with_rows_at, opened_as, heard_cases}
 use Rattle.world.proofs.SessionSteps.{SessionAble}
 use Rattle.world.proofs.SessionEnds.{open_txn, ended_able, waits_able, calm_able, heard_now_later, heard_at_later}
 use Rattle.world.proofs.Asking.{missing_asked, missing_late}
 use Rattle.world.proofs.Near.{coordinator_below}
-use Rattle.world.proofs.StampsApart.{written_at, batch_one}
+use Rattle.world.proofs.OneBatch.{written_at, batch_one}
 use Rattle.world.proofs.Ables.{same_run}
 use Rattle.world.proofs.TakenRows.{effective_by_clock, taken_answers}
 use Rattle.world.proofs.WritersDone.{writers_done, writers_placed}
@@ -111,7 +111,7 @@ module _ (top : TopologyValue) (w : Run) (node n : ℕ) (some : 0 < top.shards) 
 
   -- ## A message
 
-  module _ (from sent : ℕ) (b : Body) (early : sent ≤ n) (says : Says top w from node sent b) where
+  module _ (from sent : ℕ) (b : Body) (early : sent ≤ n) (says : Hears top w from node sent b) where
     -- what is known of the open operation
     open_so : {o : Open} → a.current ≡ o → OpenSound top w node a o
     open_so is = subst (λ o. OpenSound top w node a o) is (inv.sessions node).current
@@ -133,7 +133,7 @@ module _ (top : TopologyValue) (w : Run) (node n : ℕ) (some : 0 < top.shards) 
       heard_first o h m = by (last_or_old h (record { from = from; rows = rows }) old m)
         where
           tells : TellsNow top w from node sent a.count rows
-          tells = subst (Says top w from node sent) answer.body says
+          tells = subst (Hears top w from node sent) answer.body says
 
           share : tells.read ≡ share_of top read (shard_of top from)
           share = subst (λ z. FirstAsked top z from tells.read) answer.current (tells.asked.round refl)
@@ -206,7 +206,7 @@ module _ (top : TopologyValue) (w : Run) (node n : ℕ) (some : 0 < top.shards) 
         heard_second o h m = by (last_or_old h (record { from = from; rows = rows }) old m)
           where
             tells : TellsAt top w from node a.count answer.bound rows
-            tells = subst (Says top w from node sent) answer.body says
+            tells = subst (Hears top w from node sent) answer.body says
 
             share : (time ≡ answer.bound) × (tells.read ≡ record read { keys = late_keys time first from })
             share = subst (λ z. SecondAsked z answer.bound from tells.read) answer.current (tells.asked.round refl)
@@ -254,7 +254,7 @@ module _ (top : TopologyValue) (w : Run) (node n : ℕ) (some : 0 < top.shards) 
 
     wrote_able : (c : ℕ) (t : TxnValue) (commit : ℕ) (stamp : StampValue) → WriteAnswer node a b c t commit stamp → SessionAble top w node (written n a c t commit stamp)
     wrote_able c t commit stamp k =
-        let tells : Says top w from node sent (Done t commit stamp) = subst (Says top w from node sent) k.body says in
+        let tells : Hears top w from node sent (Done t commit stamp) = subst (Hears top w from node sent) k.body says in
         written_able c from t commit stamp k.current (open_so {o = Writing c} k.current) (le_trans tells.0.time early) tells.0.decided tells.1 k.own
 
     pub heard_able : SessionAble top w node (heard top node n a from b)

@@ -16,7 +16,7 @@ use Rattle.world.specs.Quiet.{IsQuiet}
 use Rattle.world.proofs.Among.{Among, contains_among, filter_among}
 use Rattle.world.proofs.Facts.{txn_of, IsWritten, near, lead, RoleFits}
 use Rattle.world.proofs.Invariant.{Inv}
-use Rattle.world.proofs.StampsApart.{written_at, submitted_one, batch_one}
+use Rattle.world.proofs.OneBatch.{written_at, submitted_one, batch_one}
 use Rattle.world.proofs.Near.{coordinator_below, cohort_below, cohort_other, lead_dc, lead_number}
 use Rattle.world.proofs.About.{OfReplBegin, OfReplPart, OfNotify, OfDepCheck, OfDepOk, Sent}
 use Rattle.world.proofs.Underway.{HasDecision, HasKeptPart, HasKeptBallot, Known, vote_of, met_of, RoleLive, Live}

@@ -17,7 +17,7 @@ use Rattle.world.specs.Settled.{IsCommittedIn, AreEqualTables}
 use Rattle.world.proofs.Among.{Among, among_contains, contains_among, filter_only, filter_among}
 use Rattle.world.proofs.Facts.{IsWritten, lead, IsStamp}
 use Rattle.world.proofs.Invariant.{Inv}
-use Rattle.world.proofs.StampsApart.{written_at, submitted_one, batch_one}
+use Rattle.world.proofs.OneBatch.{written_at, submitted_one, batch_one}
 use Rattle.world.proofs.DecidedIn.{decided_in, entry, entry_among, entry_is, one_each}
 use Rattle.world.proofs.SameNewest.{OneEach, IsNewest, neither_older, newest_none, newest_some}
 

@@ -20,7 +20,7 @@ use Rattle.world.proofs.Causal.{txn_ended, Causal}
 use Rattle.world.proofs.DecidedIn.{decided_in, in_decisions}
 use Rattle.world.proofs.Entries.{batch_found}
 use Rattle.world.proofs.Histories.{entry_there}
-use Rattle.world.proofs.StampsApart.{written_at, submitted_one, batch_one}
+use Rattle.world.proofs.OneBatch.{written_at, submitted_one, batch_one}
 use Rattle.world.proofs.Near.{coordinator_below, lead_dc}
 use Rattle.world.proofs.About.{OfRead, OfReadAt, OfPartNow, OfPartAt, OfDone}
 use Rattle.world.proofs.Underway.{FirstHas, SecondHas, SecondIs, OpenLive, HasEnded, StillOpen, Live}

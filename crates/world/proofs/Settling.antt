@@ -11,7 +11,7 @@ use Rattle.world.specs.Quiet.{IsQuiet}
 use Rattle.world.proofs.Among.{Among, contains_among}
 use Rattle.world.proofs.Facts.{txn_of, IsWritten, near, lead, RoleFits, StampFits, Sees}
 use Rattle.world.proofs.Invariant.{Inv}
-use Rattle.world.proofs.StampsApart.{written_at, submitted_one, batch_one}
+use Rattle.world.proofs.OneBatch.{written_at, submitted_one, batch_one}
 use Rattle.world.proofs.Near.{cohort_below, cohort_other, near_dc, lead_dc, lead_number}
 use Rattle.world.proofs.About.{Kind, OfBegin, OfPrepare, OfYes, OfCommit, OfPrepareRemote, kind_of, Sent}
 use Rattle.world.proofs.Underway.{HasDecision, Known, vote_of, Leads, RoleLive, Acted, Live}

@@ -6,7 +6,7 @@ use Rattle.messages.specs.Shard.{ShardState, ShardStep}
 use Rattle.world.specs.Run.{Run, Event, with_actor, after_shard}
 use Rattle.world.proofs.Among.{among_append}
 use Rattle.world.proofs.Growth.{ShardGrows, Grows}
-use Rattle.world.proofs.Invariant.{ShardSound, IsPatient, Inv}
+use Rattle.world.proofs.Invariant.{Played, ShardSound, Inv}
 use Rattle.world.proofs.Able.{Fresh, Able}
 use Rattle.world.proofs.Lasting.{same_shard_grows, same_session_grows}
 use Rattle.world.proofs.LastingAll.{says_grows, shard_grows, session_grows, completed_grows}
@@ -40,12 +40,10 @@ fresh_sound k f =
       decided = λ d m. elim (f.decided d m) [ inl o ↦ k.decided d o | inr n ↦ n ];
       once = f.once;
       applied = λ v m. elim (f.applied v m) [ inl o ↦ k.applied v o | inr n ↦ n ];
-      apart = f.apart;
       kept_parts = λ p m. elim (f.kept_parts p m) [ inl o ↦ k.kept_parts p o | inr n ↦ n ];
       kept_ballots = λ r m. elim (f.kept_ballots r m) [ inl o ↦ k.kept_ballots r o | inr n ↦ n ];
       met = λ u m. elim (f.met u m) [ inl o ↦ k.met u o | inr n ↦ n ];
       askers = λ u m. elim (f.askers u m) [ inl o ↦ k.askers u o | inr n ↦ n ];
-      waiting = λ y m. elim (f.waiting y m) [ inl o ↦ k.waiting y o | inr n ↦ n ];
     }
 
 actor_sound : (top : TopologyValue) (x : Run) (f : ℕ → ShardState) (node : ℕ) (b : ShardState) → ((m : ℕ) → ShardSound top x m (f m)) → ShardSound top x node b → (m : ℕ) → ShardSound top x m (with_actor f node b m)
@@ -55,21 +53,15 @@ actor_sound top x f node b k new m = go (m == node) refl
     go true e = subst (λ n. ShardSound top x n b) (sym (eqb-true m node e)) new
     go false e = k m
 
-actor_patient : (top : TopologyValue) (f : ℕ → ShardState) (node : ℕ) (b : ShardState) → ((m : ℕ) → IsPatient top m (f m)) → IsPatient top node b → (m : ℕ) → IsPatient top m (with_actor f node b m)
-actor_patient top f node b k new m = go (m == node) refl
-  where
-    go : (t : Bool) → (m == node) ≡ t → IsPatient top m (cond t b (f m))
-    go true e = subst (λ n. IsPatient top n b) (sym (eqb-true m node e)) new
-    go false e = k m
-
-pub shard_step_kept : (top : TopologyValue) (w : Run) (node : ℕ) (st : ShardStep) (ev : Event) → Inv top w → Able top w node (w.shards node) st → IsPatient top node st.state → Inv top (after_shard (Ok st) w ev node)
-shard_step_kept top w node st ev inv k patient =
+pub shard_step_kept : (top : TopologyValue) (w : Run) (node : ℕ) (st : ShardStep) (ev : Event) → Inv top w → Able top w node (w.shards node) st → ((m : ℕ) → Played top (after_shard (Ok st) w ev node) m)
+    → Inv top (after_shard (Ok st) w ev node)
+shard_step_kept top w node st ev inv k played =
     let x = after_shard (Ok st) w ev node in
     let gr = shard_run_grows top w node st ev k.grows in
     let f = k.fresh x gr (actor_same w.shards node st.state) in
     record {
       shards = actor_sound top x w.shards node st.state (λ m. shard_grows gr (inv.shards m)) (fresh_sound (shard_grows gr (inv.shards node)) f);
-      patient = actor_patient top w.shards node st.state inv.patient patient;
+      played = played;
       sessions = λ i. session_grows gr (inv.sessions i);
       sent = λ e m. elim (among_append e w.sent st.sends m) [ inl o ↦ says_grows top e.from e.to e.time gr e.body (inv.sent e o) | inr n ↦ f.sends e n ];
       submitted = record { accepted = inv.submitted.accepted; number = inv.submitted.number; one = inv.submitted.one; placed = inv.submitted.placed };

@@ -1,7 +1,8 @@
 -- Where a shard's parts are complete for a row up to a time, they make of the row what the history of the shard's data
 -- centre makes of it.
-use Rattle.std.proofs.Common.{◌≡◌, ◌∙◌, ℕ, ◌<◌, ◌≤◌, sym, ap, subst, Bool, true, nat_le, List, Some, inl, inr, arith, leb-true}
+use Rattle.std.proofs.Common.{◌≡◌, ◌∙◌, ℕ, ◌<◌, ◌≤◌, sym, ap, subst, Bool, true, nat_le, List, Some, inl, inr, arith, leb-true, refl}
 use Rattle.std.proofs.lemmas.List.Sorted.{Contains-permutation, IsPermutation-sym}
+use Rattle.std.proofs.lemmas.Bool.{false≢true}
 use Rattle.column_family.specs.declared.batch.Row.{Row}
 use Rattle.column_family.specs.declared.batch.Change.{Change}
 use Rattle.column_family.specs.declared.batch.Committed.{Committed}
@@ -22,7 +23,7 @@ use Rattle.world.proofs.Among.{Among, among_contains, contains_among, filter_onl
 use Rattle.world.proofs.Facts.{near, part_on, PreparedBefore, Sees, Complete}
 use Rattle.world.proofs.Invariant.{Inv}
 use Rattle.world.proofs.SameNewest.{HasEach, OneEach, same_newest}
-use Rattle.world.proofs.RowTests.{IsRowTest, last_in_part, has_row, leads_or_follows}
+use Rattle.world.proofs.RowTests.{IsRowTest, last_in_part, has_row as holds_row, leads_or_follows}
 use Rattle.world.proofs.DecidedIn.{DecidedIn, one_batch, one_decision, on_lead, IsAppliedIn, applied_in, entry, entry_among, entry_is, one_each}
 
 -- ---- a history in any order
@@ -76,7 +77,7 @@ module _ (top : TopologyValue) (w : Run) (inv : Inv top w) (some : 0 < top.shard
       let sound = (inv.shards node).prepared p before.among in
       let batch = one_batch top w inv.submitted before.txn sound.written is.sound.written in
       let rows : p.rows ≡ part_on top is.sound.batch node = sound.rows ∙ ap (λ (b : List Change). part_on top b node) batch in
-      let touches : touches_row row p ≡ true = has_row row q test p.rows m (ap (last_of q) rows ∙ part_last is.sound.batch ∙ e) in
+      let touches : touches_row row p ≡ true = holds_row row q test p.rows m (ap (last_of q) rows ∙ part_last is.sound.batch ∙ e) in
       let coordinator : near top node p.coordinator ≡ is.node =
       ap (near top node) (sound.coordinator ∙ ap (coordinator_of top.shards) batch) ∙ sym (on_lead top w (dc_of top node) d is) in
       elim (complete.prepared p before.among touches) [
@@ -96,7 +97,11 @@ module _ (top : TopologyValue) (w : Run) (inv : Inv top w) (some : 0 < top.shard
             let same : is.node ≡ node = on_lead top w (dc_of top node) d is ∙ ap (shard_node top (dc_of top node)) (sym leads) ∙ shard_again top node in
             elim (complete.decided d (subst (λ n. Among d (w.shards n).decided) same is.among)) [
               | inl sees ↦ sees
-              | inr lt ↦ absurd (omega arith)
+              | inr (inl lt) ↦ absurd (omega arith)
+              | inr (inr none) ↦
+                  let batch = one_batch top w inv.submitted refl none.written is.sound.written in
+                  let rows = ap (λ (b : List Change). part_on top b node) batch in
+                  absurd (false≢true (sym none.misses ∙ holds_row row q test (part_on top none.batch node) m (ap (last_of q) rows ∙ part_last is.sound.batch ∙ e)))
             ]
         | inr follows ↦
             let at : near top is.node (shard_of top node) ≡ node = ap (λ (dc : ℕ). shard_node top dc (shard_of top node)) is.here ∙ shard_again top node in

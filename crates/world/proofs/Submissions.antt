@@ -24,6 +24,8 @@ use Rattle.world.proofs.ShardSteps.{actor_same}
 use Rattle.world.proofs.SessionSteps.{session_actor_grows, session_actor_sound}
 use Rattle.world.proofs.Near.{coordinator_below, cohort_below}
 use Rattle.world.proofs.Asking.{asked_below}
+use Rattle.world.proofs.SessionSends.{AreOfSession, begun_sends}
+use Rattle.world.proofs.Playing.{session_played}
 
 -- what a session asked before is of an earlier number, so nothing that it opens now disagrees
 later_grows : (top : TopologyValue) (a b : SessionState) → a.clock ≤ b.clock → b.count ≡ a.count + 1 → b.floor ≡ a.floor → SessionGrows top a b
@@ -115,12 +117,12 @@ module _ (top : TopologyValue) (w : Run) (node n : ℕ) (o : Op) (inv : Inv top 
         ];
       }
 
-  opens_kept : plan_fault top o ≡ None → OpenSound top after node opens.state current → ((e : Envelope) → Among e sends → EnvelopeSound top after e) → Inv top after
-  opens_kept accepted sound send =
+  opens_kept : plan_fault top o ≡ None → OpenSound top after node opens.state current → ((e : Envelope) → Among e sends → EnvelopeSound top after e) → AreOfSession node sends → Inv top after
+  opens_kept accepted sound send of =
       let gr = submission_grows in
       record {
         shards = λ m. shard_grows gr (inv.shards m);
-        patient = inv.patient;
+        played = session_played top w after node sends (λ m. refl) refl of inv.played;
         sessions = session_actor_sound top after w.sessions node opens.state (λ m. session_grows gr (inv.sessions m)) (session_sound sound);
         sent = λ e m. elim (among_append e w.sent sends m) [ inl i ↦ says_grows top e.from e.to e.time gr e.body (inv.sent e i) | inr i ↦ send e i ];
         submitted = submitted_sound accepted;
@@ -191,7 +193,7 @@ module _ (top : TopologyValue) (w : Run) (node n : ℕ) (batch : List Change) (s
   write_kept accepted =
       let o = op.Batch batch in
       opens_kept top w node n o inv lt began.state.current began.sends accepted
-      (record { batch = batch; opened = is_open top w node n o inv lt began.state.current began.sends; coordinator = refl }) write_sends
+      (record { batch = batch; opened = is_open top w node n o inv lt began.state.current began.sends; coordinator = refl }) write_sends (begun_sends top node n (w.sessions node) o)
 
 -- ## A read
 
@@ -219,7 +221,7 @@ module _ (top : TopologyValue) (w : Run) (node n : ℕ) (read : Read) (inv : Inv
   read_kept accepted =
       let o = op.Read read in
       opens_kept top w node n o inv lt starts.state.current starts.sends accepted
-      (record { opened = is_open top w node n o inv lt starts.state.current starts.sends; depends = refl; heard = λ h m. absurd m }) read_sends
+      (record { opened = is_open top w node n o inv lt starts.state.current starts.sends; depends = refl; heard = λ h m. absurd m }) read_sends (begun_sends top node n (w.sessions node) o)
 
 -- ## Every operation
 

@@ -21,8 +21,8 @@ use Rattle.world.proofs.Among.{Among, among_append, append_first, append_second,
 use Rattle.shard.specs.Right.{part_now}
 use Rattle.world.proofs.Facts.{Complete, RowNowSound, RowAtSound}
 use Rattle.world.proofs.Invariant.{HeardNowSound, HeardAtSound, AnsweredFrom}
-use Rattle.world.proofs.CommitsKept.{excluded_below}
 use Rattle.world.proofs.Asking.{flat_only, flat_among, key_asked, key_shared, shared_lies, heard_from, heard_late}
+use Rattle.world.proofs.Lasting.{excluded_below}
 
 -- what is complete at a time is complete at each earlier one
 pub complete_below : {top : TopologyValue} {w : Run} {node n m : ℕ} {r : Row} {seen : List Applied} → m ≤ n → Complete top w node r n seen
@@ -33,7 +33,7 @@ complete_below le k =
       apart = k.apart;
       applied = k.applied;
       prepared = λ p i e. elim (k.prepared p i e) [ inl v ↦ inl v | inr (inl q) ↦ inr (inl (le_trans le q)) | inr (inr q) ↦ inr (inr (excluded_below le q)) ];
-      decided = λ d i. elim (k.decided d i) [ inl v ↦ inl v | inr q ↦ inr (lt_of_le_of_lt le q) ];
+      decided = λ d i. elim (k.decided d i) [ inl v ↦ inl v | inr (inl q) ↦ inr (inl (lt_of_le_of_lt le q)) | inr (inr q) ↦ inr (inr q) ];
     }
 
 -- a row of a first round whose interval has the time is right at it

@@ -18,14 +18,15 @@ use Rattle.world.specs.declared.actors.Actors.{Actors}
 use Rattle.world.specs.declared.station.Station.{Station}
 use Rattle.world.specs.Run.{Run, Event, Deliver, Collect, after_shard, after_session, deliver_if, deliver_for, collect_if, step, run}
 use Rattle.world.specs.Refusals.{Refusal, Refused, NoSuchActor, refused_by, refusal_of, refusal_of_message}
-use Rattle.world.specs.Holds.{AreShards, AreStations, Sits, IsRunning, HasTaken}
+use Rattle.world.specs.Holds.{AreShards, AreStations, IsRunning, HasTaken}
 use Rattle.world.specs.World.{IsRefusedAs}
 use Rattle.world.specs.Steps.{StaysApart, DidShard, DidSessionOf}
 use Rattle.world.proofs.ShardSteps.{actor_same}
 use Rattle.world.proofs.Runs.{every_run, step_kept}
 use Rattle.world.proofs.Addresses.{stands}
 use Rattle.world.proofs.Homes.{every_home}
-use Rattle.world.proofs.Running.{length_set, by_place, after_shard_step, after_session_step}
+use Rattle.world.proofs.Running.{after_shard_step, after_session_step}
+use Rattle.world.proofs.Answers.{parts_apart}
 
 -- ## What the definitions make of a message to an actor
 
@@ -75,7 +76,7 @@ module _ (top : TopologyValue) (events : List Event) where
       let some = (stands top is.sound).some in
       let inv = step_kept top (run top events) x some (every_run top events some) in
       let apart : AreApart s.state.applied =
-      subst (λ (z : ShardState). AreApart z.applied) (ap (λ (v : Run). v.shards node) steps ∙ actor_same (run top events).shards node s.state) (inv.shards node).apart in
+      subst (λ (z : ShardState). AreApart z.applied) (ap (λ (v : Run). v.shards node) steps ∙ actor_same (run top events).shards node s.state) (parts_apart top (step top (run top events) x) inv node) in
       let d = did apart in
       record {
         allowed = refuses;
@@ -213,25 +214,6 @@ station_refuses top events k i e a s f is sent to at lt refused =
     let kind = session_at top e.to i n.0 (subst (λ z. i < z) is.stations.len lt) in
     refused_session top events (refusal_of top w (Deliver k)) (session_handle top e.to (w.sessions e.to) e) f (session_refusal top w k e there kind.0 kind.1)
     (subst (λ z. session.IsRefusalOf (session_handle top z (w.sessions e.to) e) f) n.1 (refused top (w.sessions e.to) n.2))
-
-pub stations_still : (top : TopologyValue) (events : List Event) (a b : Actors) (i : ℕ) (s : Station) → IsRunning top (run top events) a
-    → slice_get a.stations.items i ≡ Some s → i < length a.stations.items → b.stations.items ≡ slice_set a.stations.items i s
-    → b.topology ≡ a.topology → b.shards.items ≡ a.shards.items → b.network.sent ≡ a.network.sent → b.transcript.items ≡ a.transcript.items
-    → IsRunning top (run top events) b
-stations_still top events a b i s is at lt set topology shards sent told =
-    record {
-      topology = topology ∙ is.topology;
-      sound = is.sound;
-      shards = subst (AreShards top (run top events).shards) (sym shards) is.shards;
-      stations =
-          subst (AreStations (run top events) top) (sym set)
-          (record {
-            len = length_set a.stations.items i s ∙ is.stations.len;
-            each = by_place a.stations.items i s (λ j k. Sits (run top events) top (shard_count top + j) k) lt (is.stations.each i s at) (λ j y apart there. is.stations.each j y there);
-          });
-      sent = is.sent ∙ sym sent;
-      transcript = is.transcript ∙ sym told;
-    }
 
 -- a shard's node and its place are one number
 pub below_named : (node place n : ℕ) → place ≡ node → node < n → place < n

@@ -1,6 +1,6 @@
 -- What a shard is told of a transaction: one decision, by the transaction's coordinator in its data centre.
 use Rattle.std.proofs.Common.{◌≡◌, ◌∙◌, ℕ, ◌==◌, ◌<◌, ◌≤◌, List, map, Some, inl, inr, refl, sym, ap, subst, slice_get, eqb-true}
-use Rattle.std.specs.Prelude.{Contains, filter_map}
+use Rattle.std.specs.Prelude.{Contains, filter_map, filter}
 use Rattle.logical_time.specs.Stamps.{StampValue, TxnValue}
 use Rattle.column_family.specs.declared.batch.Change.{Change}
 use Rattle.planner.specs.Plan.{coordinator_of, cohorts_of}
@@ -22,15 +22,27 @@ use Rattle.world.proofs.Decisions.{same_batch, sound, one_decision, own_stamp}
 
 -- ## What the envelopes to a shard say
 
-sent_to : (w : Run) (node : ℕ) (e : Envelope) → Contains (envelopes_to w node) e → Among e w.sent × (e.to ≡ node)
-sent_to w node e has =
+-- each of these envelopes was sent to this node
+abbrev pub WereSent : Run → ℕ → List Envelope → Type 0
+WereSent w node es = (e : Envelope) → Contains es e → Among e w.sent × (e.to ≡ node)
+
+-- all that was sent to it
+abbrev pub sent_to : Run → ℕ → List Envelope
+sent_to w node = filter (λ e. e.to == node) w.sent
+
+pub all_were_sent : (w : Run) (node : ℕ) → WereSent w node (sent_to w node)
+all_were_sent w node e has = let r = kept_only (λ e. e.to == node) w.sent e has in (contains_among e w.sent r.0, eqb-true e.to node r.1)
+
+-- what it handled
+pub handled_were_sent : (w : Run) (node : ℕ) → WereSent w node (envelopes_to w node)
+handled_were_sent w node e has =
     let r = kept_only (λ e. e.to == node) (filter_map (λ k. slice_get w.sent k) (handled w)) e has in
     let s = given_only (λ k. slice_get w.sent k) (handled w) e r.0 in
     (get_among w.sent s.0 e s.2, eqb-true e.to node r.1)
 
-pub said : (top : TopologyValue) (w : Run) (node : ℕ) (e : Envelope) → Inv top w → Contains (envelopes_to w node) e
+pub said : (top : TopologyValue) (w : Run) (node : ℕ) (es : List Envelope) → WereSent w node es → (e : Envelope) → Inv top w → Contains es e
     → Says top w e.from node e.time e.body
-said top w node e inv has = let r = sent_to w node e has in subst (λ z. Says top w e.from z e.time e.body) r.1 (inv.sent e r.0)
+said top w node es sent e inv has = let r = sent e has in subst (λ z. Says top w e.from z e.time e.body) r.1 (inv.sent e r.0)
 
 -- a shard of this one's data centre decided what is told, not above the time of the envelope
 pub record IsTrue (top : TopologyValue) (w : Run) (node : ℕ) (x : Told) : Type 0 where
@@ -67,10 +79,11 @@ says_true top w from node time (Done t commit stamp) x h e = absurd (cc)
 says_true top w from node time (PartNow number rows) x h e = absurd (cc)
 says_true top w from node time (PartAt number bound rows) x h e = absurd (cc)
 
-pub told_true : (top : TopologyValue) (w : Run) (node : ℕ) (x : Told) → Inv top w → Contains (all_told (envelopes_to w node)) x → IsTrue top w node x
-told_true top w node x inv has =
-    let r = given_only (λ e. told_in e.time e.body) (envelopes_to w node) x has in
-    says_true top w r.0.from node r.0.time r.0.body x (said top w node r.0 inv r.1) r.2
+pub told_true : (top : TopologyValue) (w : Run) (node : ℕ) (es : List Envelope) → WereSent w node es → (x : Told) → Inv top w → Contains (all_told es) x
+    → IsTrue top w node x
+told_true top w node es sent x inv has =
+    let r = given_only (λ e. told_in e.time e.body) es x has in
+    says_true top w r.0.from node r.0.time r.0.body x (said top w node es sent r.0 inv r.1) r.2
 
 -- ## What is told agrees
 
@@ -156,16 +169,13 @@ pub record IsMet (w : Run) (z : StampedTxn) : Type 0 where
   pub txn : decision.txn ≡ z.txn
   pub stamp : decision.stamp ≡ z.stamp
 
-pub stamp_met : (top : TopologyValue) (w : Run) (node : ℕ) (z : StampedTxn) → Inv top w
-    → Contains (stamps_met (w.shards node) (envelopes_to w node)) z → IsMet w z
-stamp_met top w node z inv has = elim (among_append z (map told_stamped (all_told es)) (map decided_stamped (w.shards node).decided) (contains_among z (stamps_met (w.shards node) es) has)) [
-  | inl m ↦ (let r = map_only told_stamped (all_told es) z m in let q = told_true top w node r.0 inv (among_contains r.0 (all_told es) r.1) in by_told r.0 r.2 q)
+pub stamp_met : (top : TopologyValue) (w : Run) (node : ℕ) (es : List Envelope) → WereSent w node es → (z : StampedTxn) → Inv top w
+    → Contains (stamps_met (w.shards node) es) z → IsMet w z
+stamp_met top w node es sent z inv has = elim (among_append z (map told_stamped (all_told es)) (map decided_stamped (w.shards node).decided) (contains_among z (stamps_met (w.shards node) es) has)) [
+  | inl m ↦ (let r = map_only told_stamped (all_told es) z m in let q = told_true top w node es sent r.0 inv (among_contains r.0 (all_told es) r.1) in by_told r.0 r.2 q)
   | inr m ↦ (let r = map_only decided_stamped (w.shards node).decided z m in by_itself r.0 r.1 r.2)
 ]
   where
-    es : List Envelope
-    es = envelopes_to w node
-
     told_stamped : Told → StampedTxn
     told_stamped x = record { txn = x.txn; stamp = x.stamp }
 

@@ -36,12 +36,12 @@ vote_prepared top w node n t votes cohorts k e c m =
 begin_go : (top : TopologyValue) (w : Run) (node n : ℕ) (b : BegunBallot) → 0 < top.shards → Inv top w → (w.shards node).clock < n → BallotSound top w node n b
     → (known voted : Bool) → is_known b.txn (w.shards node) ≡ known → all_voted top node b.cohorts (w.shards node).early b.txn ≡ voted
     → Able top w node (w.shards node) (begin_if known voted top node n (w.shards node) b)
-begin_go top w node n b some inv lt k true voted e f = quiet_able top w node n (w.shards node) lt (inv.shards node).once (inv.shards node).apart
+begin_go top w node n b some inv lt k true voted e f = quiet_able top w node n (w.shards node) lt (inv.shards node).once
 begin_go top w node n b some inv lt k false true e f =
     decide_able top w node n (w.shards node) b some inv lt (alike_self (w.shards node)) k (undecided b.txn (w.shards node) e)
     (vote_prepared top w node n b.txn (w.shards node).early b.cohorts (λ v m. before_grows (same_run top w) (le_of_lt lt) ((inv.shards node).early v m)) f)
 begin_go top w node n b some inv lt k false false e f =
-    hold_able top w node n (w.shards node) b (filter (λ v. is_same_txn v.txn b.txn) (w.shards node).early) [] some lt (inv.shards node).once (inv.shards node).apart
+    hold_able top w node n (w.shards node) b (filter (λ v. is_same_txn v.txn b.txn) (w.shards node).early) [] some lt (inv.shards node).once
     (unprepared b.txn (w.shards node) e) (undecided b.txn (w.shards node) e) k
     (λ v m. before_grows (same_run top w) (le_of_lt lt) ((inv.shards node).early v (filter_only (λ v. is_same_txn v.txn b.txn) (w.shards node).early v m).0))
     (λ x gr at e m. absurd m)
@@ -57,9 +57,9 @@ begin_able top w node n from time t rows cohorts dependencies some inv lt late k
 
 prepare_go : (top : TopologyValue) (w : Run) (node n : ℕ) (t : TxnValue) (rows : List Change) (c : ℕ) → Inv top w → (w.shards node).clock < n → PrepareSound top w node t rows c
     → (known : Bool) → is_known t (w.shards node) ≡ known → Able top w node (w.shards node) (prepare_if known top node n (w.shards node) t rows c)
-prepare_go top w node n t rows c inv lt k true e = quiet_able top w node n (w.shards node) lt (inv.shards node).once (inv.shards node).apart
+prepare_go top w node n t rows c inv lt k true e = quiet_able top w node n (w.shards node) lt (inv.shards node).once
 prepare_go top w node n t rows c inv lt k false e =
-    prepare_able top w node n (w.shards node) t rows c Cohort k.submission k.batch lt (inv.shards node).once (inv.shards node).apart
+    prepare_able top w node n (w.shards node) t rows c Cohort k.submission k.batch lt (inv.shards node).once
     (unprepared t (w.shards node) e) (undecided t (w.shards node) e) k.written k.coordinator k.rows k.cohort (λ q. k.origin)
 
 pub prepared_able : (top : TopologyValue) (w : Run) (node n from time : ℕ) (t : TxnValue) (rows : List Change) (c : ℕ)
@@ -72,13 +72,13 @@ prepared_able top w node n from time t rows c some inv lt late k = prepare_go to
 -- a vote is kept until the transaction is begun
 early_able : (top : TopologyValue) (w : Run) (node n from : ℕ) (t : TxnValue) → Inv top w → (w.shards node).clock < n → PreparedBefore w from t n
     → (known kept : Bool) → Able top w node (w.shards node) (early_if known kept n (w.shards node) t from)
-early_able top w node n from t inv lt k true kept = quiet_able top w node n (w.shards node) lt (inv.shards node).once (inv.shards node).apart
-early_able top w node n from t inv lt k false true = quiet_able top w node n (w.shards node) lt (inv.shards node).once (inv.shards node).apart
+early_able top w node n from t inv lt k true kept = quiet_able top w node n (w.shards node) lt (inv.shards node).once
+early_able top w node n from t inv lt k false true = quiet_able top w node n (w.shards node) lt (inv.shards node).once
 early_able top w node n from t inv lt k false false =
     let a = w.shards node in
     let v : Vote = record { txn = t; node = from } in
     let b : ShardState = record a { early = a.early ++ v ∷ [] } in
-    added top w node a b (quiet n b) (alike_grows a b (record { clock = refl; prepared = refl; decided = refl; applied = refl; askers = refl; waiting = refl }))
+    added top w node a b (quiet n b) (alike_grows a b (record { clock = refl; prepared = refl; decided = refl; applied = refl; askers = refl }))
     (λ x gr le. record {
       prepared = λ e m. inl m;
       ballots = λ e m. inl m;
@@ -87,15 +87,13 @@ early_able top w node n from t inv lt k false false =
       decided = λ e m. inl m;
       once = (inv.shards node).once;
       applied = λ e m. inl m;
-      apart = (inv.shards node).apart;
       kept_parts = λ e m. inl m;
       kept_ballots = λ e m. inl m;
       met = λ e m. inl m;
       askers = λ e m. inl m;
-      waiting = λ e m. inl m;
       sends = λ e m. absurd m;
     })
-    (quiet_able top w node n b lt (inv.shards node).once (inv.shards node).apart)
+    (quiet_able top w node n b lt (inv.shards node).once)
 
 -- a vote is counted, and the last one decides
 counted_able : (top : TopologyValue) (w : Run) (node n from : ℕ) (b : BegunBallot) → 0 < top.shards → Inv top w → (w.shards node).clock < n → PreparedBefore w from b.txn n
@@ -103,11 +101,11 @@ counted_able : (top : TopologyValue) (w : Run) (node n from : ℕ) (b : BegunBal
     → (voted : Bool) → all_voted top node b.cohorts (with_vote (w.shards node) b.txn from).votes b.txn ≡ voted
     → Able top w node (with_vote (w.shards node) b.txn from) (counted_if voted top node n (with_vote (w.shards node) b.txn from) b)
 unfolding ballot_grows
-counted_able top w node n from b some inv lt k m never false e = quiet_able top w node n (with_vote (w.shards node) b.txn from) lt (inv.shards node).once (inv.shards node).apart
+counted_able top w node n from b some inv lt k m never false e = quiet_able top w node n (with_vote (w.shards node) b.txn from) lt (inv.shards node).once
 counted_able top w node n from b some inv lt k m never true e =
     let a = w.shards node in
     let v : Vote = record { txn = b.txn; node = from } in
-    decide_able top w node n (with_vote a b.txn from) b some inv lt (record { clock = refl; prepared = refl; decided = refl; applied = refl; askers = refl; waiting = refl })
+    decide_able top w node n (with_vote a b.txn from) b some inv lt (record { clock = refl; prepared = refl; decided = refl; applied = refl; askers = refl })
     (ballot_grows (same_run top w) (le_of_lt lt) ((inv.shards node).ballots b m))
     (undecided_at b.txn a never)
     (vote_prepared top w node n b.txn (with_vote a b.txn from).votes b.cohorts
@@ -123,13 +121,13 @@ counted_clock top node n a b false = refl
 vote_go : (top : TopologyValue) (w : Run) (node n from : ℕ) (b : BegunBallot) → 0 < top.shards → Inv top w → (w.shards node).clock < n → PreparedBefore w from b.txn n
     → Among b (w.shards node).ballots → is_some (decision_of b.txn (w.shards node)) ≡ false
     → (awaited : Bool) → Able top w node (w.shards node) (vote_if awaited top node n (w.shards node) b from)
-vote_go top w node n from b some inv lt k m never false = quiet_able top w node n (w.shards node) lt (inv.shards node).once (inv.shards node).apart
+vote_go top w node n from b some inv lt k m never false = quiet_able top w node n (w.shards node) lt (inv.shards node).once
 vote_go top w node n from b some inv lt k m never true =
     let a = w.shards node in
     let v : Vote = record { txn = b.txn; node = from } in
     let c = with_vote a b.txn from in
     let voted = all_voted top node b.cohorts c.votes b.txn in
-    added top w node a c (counted_if voted top node n c b) (alike_grows a c (record { clock = refl; prepared = refl; decided = refl; applied = refl; askers = refl; waiting = refl }))
+    added top w node a c (counted_if voted top node n c b) (alike_grows a c (record { clock = refl; prepared = refl; decided = refl; applied = refl; askers = refl }))
     (λ x gr le. record {
       prepared = λ e m. inl m;
       ballots = λ e m. inl m;
@@ -142,12 +140,10 @@ vote_go top w node n from b some inv lt k m never true =
       decided = λ e m. inl m;
       once = (inv.shards node).once;
       applied = λ e m. inl m;
-      apart = (inv.shards node).apart;
       kept_parts = λ e m. inl m;
       kept_ballots = λ e m. inl m;
       met = λ e m. inl m;
       askers = λ e m. inl m;
-      waiting = λ e m. inl m;
       sends = λ e m. absurd m;
     })
     (counted_able top w node n from b some inv lt k m never voted refl)
