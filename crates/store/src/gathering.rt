@@ -13,7 +13,7 @@ ghost use Rattle.store.specs.Kept.{name_cmp};
 ghost use Rattle.store.specs.Sight as sight;
 ghost use Rattle.store.specs.Sight.{HaveSameWriters, NamedVersion, named};
 
-use crate::kept_chain::KeptChain;
+use crate::boxed_chain::BoxedChain;
 use crate::part::Part;
 use crate::reading::{evt_of_deletion, is_covered, live_column};
 use crate::sight::{Moment, Seen, seen_column, seen_named};
@@ -119,7 +119,7 @@ impl Gathered {
     // Gathers what the column of this name gives, if a version of it is seen.
     fn add_named(
         &mut self,
-        columns: &BTreeMap<Name, KeptChain>,
+        columns: &BTreeMap<Name, BoxedChain>,
         name: &Name,
         moment: &Moment,
         deletion: Option<&Version>,
@@ -217,7 +217,7 @@ pub(crate) fn asks_for_few(predicate: &Predicate, columns: usize) -> bool
 /// Gathers the columns with these names.
 pub(crate) fn gather_named(
     alloc: Global,
-    columns: &BTreeMap<Name, KeptChain>,
+    columns: &BTreeMap<Name, BoxedChain>,
     names: &[Name],
     moment: &Moment,
     deletion: Option<&Version>,
@@ -237,7 +237,7 @@ pub(crate) fn gather_named(
 /// Gathers the columns with these two names.
 pub(crate) fn gather_two(
     alloc: Global,
-    columns: &BTreeMap<Name, KeptChain>,
+    columns: &BTreeMap<Name, BoxedChain>,
     first: &Name,
     second: &Name,
     moment: &Moment,
@@ -255,7 +255,7 @@ pub(crate) fn gather_two(
 /// Gathers all columns.
 pub(crate) fn gather_all(
     alloc: Global,
-    columns: &BTreeMap<Name, KeptChain>,
+    columns: &BTreeMap<Name, BoxedChain>,
     moment: &Moment,
     deletion: Option<&Version>,
 ) -> Result<Gathered, Fault>

@@ -3,9 +3,9 @@
 //! Nothing here knows of votes, messages or sessions.
 #![tactic(auto)]
 
+mod boxed_chain;
 mod crowded;
 mod gathering;
-mod kept_chain;
 mod merging;
 mod origin;
 mod part;

@@ -15,7 +15,7 @@ ghost use Rattle.store.specs.Sight.{evt_or_0};
 ghost use Rattle.store.specs.Kept as kept;
 ghost use Rattle.store.specs.Kept.{Place, chain_of, collected_held, collected_row, column_held, is_of_place, name_cmp, nothing_held, put_all, written};
 
-use crate::kept_chain::KeptChain;
+use crate::boxed_chain::BoxedChain;
 use crate::origin::Origin;
 use column_family::{Change, Mutation, Name, Row, Value};
 use logical_time::{Fault, Time};
@@ -27,9 +27,9 @@ use versions::{Chain, Version, What};
 /// The chains of a row: one for each of its columns, and one for its deletions.
 #[derive(Drop)]
 pub(crate) struct RowChains {
-    pub(crate) columns: BTreeMap<Name, KeptChain>,
+    pub(crate) columns: BTreeMap<Name, BoxedChain>,
     // made with the first deletion
-    deletions: Option<KeptChain>,
+    deletions: Option<BoxedChain>,
     // the greatest EVT of the newest versions of the columns, where it is known
     latest: Option<Time>,
 }
@@ -90,7 +90,7 @@ fn latest_after(latest: Option<Time>, before: Time, after: Time) -> Option<Time>
 // where it is known.
 #[inline(always)]
 fn put_column(
-    columns: &mut BTreeMap<Name, KeptChain>,
+    columns: &mut BTreeMap<Name, BoxedChain>,
     latest: &mut Option<Time>,
     name: &Name,
     version: Version,
@@ -115,7 +115,7 @@ fn put_column(
 // Gives a row a column with room for one version.
 fn add_column(
     alloc: Global,
-    columns: &mut BTreeMap<Name, KeptChain>,
+    columns: &mut BTreeMap<Name, BoxedChain>,
     name: &Name,
 ) -> Result<(), Fault>
     requires { lookup (λ k. is_eq (name_cmp name.now k)) columns.old.entries ≡ None }
@@ -124,7 +124,7 @@ fn add_column(
     ensures ok { OnOk result (0 < (column_held columns.new.entries name.now).room) }
     ensures memory { IfErr result (λ e. e ≡ fault.Memory) }
 {
-    let chain = KeptChain::new(alloc)?;
+    let chain = BoxedChain::new(alloc)?;
     columns.insert(name.clone()?, chain)?;
     Ok(())
 }
@@ -133,7 +133,7 @@ fn add_column(
 #[inline(always)]
 fn reserve_column(
     alloc: Global,
-    columns: &mut BTreeMap<Name, KeptChain>,
+    columns: &mut BTreeMap<Name, BoxedChain>,
     name: &Name,
 ) -> Result<(), Fault>
     ensures versions { (n : List ℕ) → (column_held columns.new.entries n).versions ≡ (column_held columns.old.entries n).versions }
@@ -149,7 +149,7 @@ fn reserve_column(
 }
 
 // Drops what can't be seen from the time on of each column.
-fn collect_columns(columns: &mut BTreeMap<Name, KeptChain>, time: Time)
+fn collect_columns(columns: &mut BTreeMap<Name, BoxedChain>, time: Time)
     ensures { columns.new.entries ≡ map (λ e. (e.0, collected_held time e.1)) columns.old.entries }
 {
     columns.retain(|_, chain| {
@@ -159,7 +159,7 @@ fn collect_columns(columns: &mut BTreeMap<Name, KeptChain>, time: Time)
 }
 
 // Whether the chain of a column holds more than one version.
-fn is_crowded_in(columns: &BTreeMap<Name, KeptChain>) -> bool
+fn is_crowded_in(columns: &BTreeMap<Name, BoxedChain>) -> bool
     ensures { result ≡ list_any holds_more (map (λ e. e.1) columns.now.entries) }
 {
     columns.values().any(|chain| chain.as_chain().len() > 1)
@@ -167,7 +167,7 @@ fn is_crowded_in(columns: &BTreeMap<Name, KeptChain>) -> bool
 
 // Puts a version into the chain of the deletions, and answers whether that came to hold more than one.
 #[inline]
-fn put_deletion(deletions: &mut Option<KeptChain>, version: Version) -> bool
+fn put_deletion(deletions: &mut Option<BoxedChain>, version: Version) -> bool
     requires { (0 < (unwrap_or deletions.old nothing_held).room) ⊎ (has_stamp (unwrap_or deletions.old nothing_held).versions version.stamp ≡ true) }
     ensures versions { (unwrap_or deletions.new nothing_held).versions ≡ put_of (unwrap_or deletions.old nothing_held).versions version }
     ensures room { (unwrap_or deletions.old nothing_held).room ≤ (unwrap_or deletions.new nothing_held).room + 1 }
@@ -180,7 +180,7 @@ fn put_deletion(deletions: &mut Option<KeptChain>, version: Version) -> bool
 }
 
 // Makes room for one more deletion.
-fn reserve_deletion(alloc: Global, deletions: &mut Option<KeptChain>) -> Result<(), Fault>
+fn reserve_deletion(alloc: Global, deletions: &mut Option<BoxedChain>) -> Result<(), Fault>
     ensures versions { (unwrap_or deletions.new nothing_held).versions ≡ (unwrap_or deletions.old nothing_held).versions }
     ensures room { (unwrap_or deletions.old nothing_held).room ≤ (unwrap_or deletions.new nothing_held).room }
     ensures ok { OnOk result (0 < (unwrap_or deletions.new nothing_held).room) }
@@ -190,12 +190,12 @@ fn reserve_deletion(alloc: Global, deletions: &mut Option<KeptChain>) -> Result<
     if let Some(chain) = deletions {
         return chain.reserve();
     }
-    *deletions = Some(KeptChain::new(alloc)?);
+    *deletions = Some(BoxedChain::new(alloc)?);
     Ok(())
 }
 
 // Drops what can't be seen from the time on of the deletions.
-fn collect_deletions(deletions: &mut Option<KeptChain>, time: Time)
+fn collect_deletions(deletions: &mut Option<BoxedChain>, time: Time)
     ensures { unwrap_or deletions.new nothing_held ≡ collected_held time (unwrap_or deletions.old nothing_held) }
 {
     if let Some(chain) = deletions {

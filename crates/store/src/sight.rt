@@ -10,7 +10,7 @@ ghost use Rattle.store.specs.Kept.{name_cmp};
 ghost use Rattle.store.specs.Sight as sight;
 ghost use Rattle.store.specs.Sight.{AreSeen, named, sight_of};
 
-use crate::kept_chain::KeptChain;
+use crate::boxed_chain::BoxedChain;
 use crate::row::RowChains;
 use column_family::Name;
 use logical_time::{Fault, Time};
@@ -68,7 +68,7 @@ pub(crate) fn seen_column<'s>(name: &'s Name, chain: &'s Chain, moment: &Moment)
 /// The column of this name, if a version of it is seen.
 #[inline(always)]
 pub(crate) fn seen_named<'s>(
-    columns: &'s BTreeMap<Name, KeptChain>,
+    columns: &'s BTreeMap<Name, BoxedChain>,
     name: &Name,
     moment: &Moment,
 ) -> Option<Seen<'s>>
@@ -81,7 +81,7 @@ pub(crate) fn seen_named<'s>(
 // The columns with these names of which a version is seen, in name order.
 fn seen_among<'s>(
     alloc: Global,
-    columns: &'s BTreeMap<Name, KeptChain>,
+    columns: &'s BTreeMap<Name, BoxedChain>,
     names: &BTreeSet<Name>,
     moment: &Moment,
 ) -> Result<Vec<Seen<'s>>, AllocError>
@@ -99,7 +99,7 @@ fn seen_among<'s>(
 // The columns with these names of which a version is seen, in the order of the names.
 fn seen_listed<'s>(
     alloc: Global,
-    columns: &'s BTreeMap<Name, KeptChain>,
+    columns: &'s BTreeMap<Name, BoxedChain>,
     names: &[Name],
     moment: &Moment,
 ) -> Result<Vec<Seen<'s>>, AllocError>
@@ -119,7 +119,7 @@ fn seen_listed<'s>(
 // The columns with the names of a list of which a version is seen, in name order.
 fn seen_by_names<'s>(
     alloc: Global,
-    columns: &'s BTreeMap<Name, KeptChain>,
+    columns: &'s BTreeMap<Name, BoxedChain>,
     names: &[Name],
     moment: &Moment,
 ) -> Result<Vec<Seen<'s>>, Fault>
@@ -153,7 +153,7 @@ fn bound_of(end: &Name) -> Bound<&Name>
 }
 
 // How many columns a list has room for at first that holds those between these ends: all where both are open.
-fn most_between(columns: &BTreeMap<Name, KeptChain>, low: &Name, high: &Name) -> usize {
+fn most_between(columns: &BTreeMap<Name, BoxedChain>, low: &Name, high: &Name) -> usize {
     if low.as_slice().is_empty() && high.as_slice().is_empty() {
         columns.len()
     } else {
@@ -164,7 +164,7 @@ fn most_between(columns: &BTreeMap<Name, KeptChain>, low: &Name, high: &Name) ->
 // The columns between these ends of which a version is seen, in name order.
 fn seen_between<'s>(
     alloc: Global,
-    columns: &'s BTreeMap<Name, KeptChain>,
+    columns: &'s BTreeMap<Name, BoxedChain>,
     low: &Name,
     high: &Name,
     moment: &Moment,

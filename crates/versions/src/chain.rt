@@ -18,13 +18,14 @@ pub struct Chain {
 }
 
 impl Model for Chain {
-    ghost use Rattle.std.specs.Prelude.{◌-◌, ◌^◌, reverse, vec_len, vec_capacity};
+    ghost use Rattle.std.specs.Prelude.{◌-◌, ◌^◌, reverse};
+    ghost use Rattle.smallvec.specs.SmallVec.{small_vec_len};
     ghost use Rattle.versions.specs.Chain.{Held, IsFalling};
     ghost use Rattle.versions.specs.Ends.{AreEnded, versions_of};
 
     ghost Value = { Held };
 
-    ghost view = { λ c. record { versions = versions_of c.entries.items; room = vec_capacity c.entries - vec_len c.entries } };
+    ghost view = { λ c. record { versions = versions_of c.entries.items; room = c.entries.capacity - small_vec_len c.entries } };
 
     ghost invariant = { λ c. IsFalling (versions_of c.entries.items) × AreEnded (2 ^ 48) (reverse c.entries.items) };
 }

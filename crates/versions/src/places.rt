@@ -1,5 +1,6 @@
 //! The places of versions, by rising stamp.
-ghost use Rattle.std.specs.Prelude.{◌≡◌, ◌+◌, ◌<◌, ◌≤◌, ◌^◌, ℕ, is_some, is_ok, IsOk, OnOk, OnErr, IfErr, if◌then◌else◌, remove, reverse, take, drop, length, slice_get, vec_len, vec_capacity, ◌++◌, ◌∷◌};
+ghost use Rattle.std.specs.Prelude.{◌≡◌, ◌+◌, ◌≤◌, ◌^◌, ℕ, is_some, is_ok, IsOk, OnOk, OnErr, IfErr, if◌then◌else◌, remove, reverse, take, drop, length, slice_get, ◌++◌, ◌∷◌};
+ghost use Rattle.smallvec.specs.SmallVec.{small_vec_len, HasRoomFor};
 ghost use Rattle.versions.specs.Chain.{put_of, kept_from};
 ghost use Rattle.versions.specs.Ends.{AreEnded, IsIndexOf, LeadTo, versions_of};
 
@@ -7,10 +8,11 @@ use crate::entry::{END, Entry};
 use crate::times::least;
 use crate::version::Version;
 use logical_time::{Fault, Time};
+use smallvec::SmallVec;
 use std::cmp::Ordering;
 
-/// The entries of a chain, by rising stamp.
-pub(crate) type Entries = Vec<Entry>;
+/// The entries of a chain, by rising stamp. Four take no memory of their own.
+pub(crate) type Entries = SmallVec<Entry, 4>;
 
 // Where a version goes, or nowhere if its stamp is held. Looks at those of greater stamps alone.
 fn index_of(entries: &[Entry], version: &Version) -> Option<usize>
@@ -65,10 +67,10 @@ fn insert_at(entries: &mut Entries, i: usize, version: Version) -> Result<(), (F
     requires inside { i ≤ length entries.old.items }
     ensures ended { AreEnded (2 ^ 48) (reverse entries.new.items) }
     ensures ok { OnOk result (versions_of entries.new.items ≡ versions_of (drop i entries.old.items) ++ version ∷ versions_of (take i entries.old.items)) }
-    ensures len { OnOk result (vec_len entries.new ≡ vec_len entries.old + 1) }
-    ensures succeeds { vec_len entries.old < vec_capacity entries.old → IsOk result }
-    ensures capacity { vec_capacity entries.old ≤ vec_capacity entries.new }
-    ensures err { OnErr result (entries.new.items ≡ entries.old.items) }
+    ensures len { OnOk result (small_vec_len entries.new ≡ small_vec_len entries.old + 1) }
+    ensures succeeds { HasRoomFor entries.old 1 → IsOk result }
+    ensures capacity { entries.old.capacity ≤ entries.new.capacity }
+    ensures err { OnErr result (entries.new ≡ entries.old) }
     ensures back { IfErr result (λ e. e ≡ (Fault.Memory, version)) }
 {
     let end = end_below(entries.as_slice(), i);
@@ -87,11 +89,11 @@ pub(crate) fn put_in(entries: &mut Entries, version: Version) -> Result<(), (Fau
     requires { AreEnded (2 ^ 48) (reverse entries.old.items) }
     ensures ended { AreEnded (2 ^ 48) (reverse entries.new.items) }
     ensures ok { OnOk result (versions_of entries.new.items ≡ put_of (versions_of entries.old.items) version) }
-    ensures len { vec_len entries.new ≤ vec_len entries.old + (if is_ok result then 1 else 0) }
-    ensures capacity { vec_capacity entries.old ≤ vec_capacity entries.new }
-    ensures succeeds { vec_len entries.old < vec_capacity entries.old → IsOk result }
+    ensures len { small_vec_len entries.new ≤ small_vec_len entries.old + (if is_ok result then 1 else 0) }
+    ensures capacity { entries.old.capacity ≤ entries.new.capacity }
+    ensures succeeds { HasRoomFor entries.old 1 → IsOk result }
     ensures held { put_of (versions_of entries.old.items) version ≡ versions_of entries.old.items → IsOk result }
-    ensures err { OnErr result (entries.new.items ≡ entries.old.items) }
+    ensures err { OnErr result (entries.new ≡ entries.old) }
     ensures back { IfErr result (λ e. e ≡ (Fault.Memory, version)) }
 {
     match index_of(entries.as_slice(), &version) {
@@ -106,9 +108,9 @@ pub(crate) fn take_out(entries: &mut Entries, place: usize) -> Option<Version>
     ensures ended { AreEnded (2 ^ 48) (reverse entries.new.items) }
     ensures removed { result ≡ slice_get (versions_of entries.old.items) place }
     ensures left { versions_of entries.new.items ≡ remove (versions_of entries.old.items) place }
-    ensures length { vec_len entries.new + (if is_some result then 1 else 0) ≡ vec_len entries.old }
-    ensures fits { vec_len entries.old ≤ vec_capacity entries.old }
-    ensures capacity { vec_capacity entries.new ≡ vec_capacity entries.old }
+    ensures length { small_vec_len entries.new + (if is_some result then 1 else 0) ≡ small_vec_len entries.old }
+    ensures fits { small_vec_len entries.old ≤ entries.old.capacity }
+    ensures capacity { entries.new.capacity ≡ entries.old.capacity }
 {
     let count = entries.len();
     if place >= count {
@@ -125,9 +127,9 @@ pub(crate) fn keep_from(entries: &mut Entries, time: Time)
     requires { AreEnded (2 ^ 48) (reverse entries.old.items) }
     ensures ended { AreEnded (2 ^ 48) (reverse entries.new.items) }
     ensures kept { versions_of entries.new.items ≡ kept_from time (versions_of entries.old.items) }
-    ensures capacity { vec_capacity entries.new ≡ vec_capacity entries.old }
-    ensures fits { vec_len entries.old ≤ vec_capacity entries.old }
-    ensures fewer { vec_len entries.new ≤ vec_len entries.old }
+    ensures capacity { entries.new.capacity ≡ entries.old.capacity }
+    ensures fits { small_vec_len entries.old ≤ entries.old.capacity }
+    ensures fewer { small_vec_len entries.new ≤ small_vec_len entries.old }
 {
     if entries.len() < 2 {
         return;

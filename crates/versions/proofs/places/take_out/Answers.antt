@@ -1,6 +1,6 @@
-use Rattle.std.proofs.Common.{rules, ◌≡◌, ◌∙◌, ap, sym, subst, ◌+◌, ◌-◌, ◌^◌, List, length, take, drop, get_or, Some, arith}
+use Rattle.std.proofs.Common.{◌≡◌, ◌∙◌, ap, sym, subst, ◌+◌, ◌-◌, ◌^◌, List, length, take, drop, get_or, Some, arith}
 use Rattle.std.specs.Prelude.{reverse, remove}
-use Rattle.std.proofs.lemmas.List.{with_items_is}
+use Rattle.smallvec.proofs.SmallVecLemmas.{items-with_items}
 use Rattle.versions.specs.declared.entry.Entry.{Entry}
 use Rattle.versions.specs.Chain.{least}
 use Rattle.versions.specs.Ends.{AreEnded, LeadTo, versions_of}
@@ -13,13 +13,13 @@ returns-clause-ended c =
     let e = c.remove-removed.result in
     let es = c.args.entries.now.items in
     let i = c.len-count.result - 1 - c.args.place in
-    let count : c.len-count.result ≡ length es = search rules in
+    let count = c.len-count.ensures.value in
     let sum : i + c.args.place + 1 ≡ length es = omega (arith, count, c.if-place-count.false) in
     let is : c.as_mut_slice.result.now ≡ remove es i = c.as_mut_slice.ensures.value ∙ c.remove-removed.ensures.items in
-    let long : length c.mend.new.entries ≡ c.remove-removed.new.self.len = c.mend.ensures.length ∙ c.as_mut_slice.ensures.len in
+    let long : length c.mend.new.entries ≡ length c.remove-removed.new.self.items = c.mend.ensures.length ∙ ap length c.as_mut_slice.ensures.value in
     let own : e ≡ get_or es i e = c.remove-removed.ensures.value in
     let k = removed es i e (omega (arith, sum)) c.requires in
-    subst (λ (fs : List Entry). AreEnded (2 ^ 48) (reverse fs)) (sym (with_items_is c.remove-removed.new.self c.mend.new.entries long))
+    subst (λ (fs : List Entry). AreEnded (2 ^ 48) (reverse fs)) (sym (items-with_items c.remove-removed.new.self c.mend.new.entries long))
     (c.mend.ensures.ended (least (get_or es i e).end (get_or es i e).version.evt)
     (subst (λ (x : Entry). LeadTo (reverse (drop i c.as_mut_slice.result.now)) x.end) (sym own)
     (subst (λ (fs : List Entry). LeadTo (reverse (drop i fs)) (get_or es i e).end) (sym is) k.0))
@@ -30,7 +30,7 @@ returns-clause-removed c =
     let e = c.remove-removed.result in
     let es = c.args.entries.now.items in
     let i = c.len-count.result - 1 - c.args.place in
-    let count : c.len-count.result ≡ length es = search rules in
+    let count = c.len-count.ensures.value in
     let sum : i + c.args.place + 1 ≡ length es = omega (arith, count, c.if-place-count.false) in
     let own : e ≡ get_or es i e = c.remove-removed.ensures.value in
     sym (get_at_index es i c.args.place e sum ∙ ap (λ (x : Entry). Some x.version) (sym own))
@@ -40,10 +40,10 @@ returns-clause-left c =
     let e = c.remove-removed.result in
     let es = c.args.entries.now.items in
     let i = c.len-count.result - 1 - c.args.place in
-    let count : c.len-count.result ≡ length es = search rules in
+    let count = c.len-count.ensures.value in
     let sum : i + c.args.place + 1 ≡ length es = omega (arith, count, c.if-place-count.false) in
-    let long : length c.mend.new.entries ≡ c.remove-removed.new.self.len = c.mend.ensures.length ∙ c.as_mut_slice.ensures.len in
-    ap versions_of (with_items_is c.remove-removed.new.self c.mend.new.entries long)
+    let long : length c.mend.new.entries ≡ length c.remove-removed.new.self.items = c.mend.ensures.length ∙ ap length c.as_mut_slice.ensures.value in
+    ap versions_of (items-with_items c.remove-removed.new.self c.mend.new.entries long)
     ∙ c.mend.ensures.versions
     ∙ ap versions_of (c.as_mut_slice.ensures.value ∙ c.remove-removed.ensures.items)
     ∙ sym (remove_at_index es i c.args.place e sum)

@@ -1,4 +1,4 @@
-//! Chains as a row keeps them.
+//! Chains that stand by themselves in memory.
 ghost use Rattle.std.specs.Prelude.{◌≡◌, ◌+◌, ◌≤◌, ◌<◌, ◌⊎◌, [], true, IfOk, IfErr, OnOk, IsOk};
 ghost use Rattle.logical_time.specs.declared.fault.Fault.TheVariants as fault;
 ghost use Rattle.versions.specs.Chain.{put_of};
@@ -12,33 +12,33 @@ use std::marker::Model;
 use version_gc::collect;
 use versions::{Chain, Version};
 
-/// For how many versions a chain has room from the start: most columns of most rows get no more.
-const ROOM: usize = 4;
-
-/// A chain as a row keeps it.
+/// A chain that stands by itself in memory. It has room for four versions in it, which what leads to it needn't have.
 #[derive(Drop)]
-pub(crate) struct KeptChain {
-    chain: Chain,
+pub(crate) struct BoxedChain {
+    chain: Box<Chain>,
 }
 
-impl Model for KeptChain {
+impl Model for BoxedChain {
     ghost use Rattle.versions.specs.Chain.{Held};
 
     ghost Value = { Held };
 
-    ghost view = { λ k. k.chain };
+    ghost view = { λ b. b.chain.value };
 }
 
-impl KeptChain {
-    /// A chain without a version, with room for some.
-    pub(crate) fn new(alloc: Global) -> Result<KeptChain, Fault>
-        ensures versions { IfOk result (λ k. k.versions ≡ []) }
-        ensures room { IfOk result (λ k. 0 < k.room) }
+impl BoxedChain {
+    /// A chain without a version, with room for one.
+    pub(crate) fn new(alloc: Global) -> Result<BoxedChain, Fault>
+        ensures versions { IfOk result (λ b. b.versions ≡ []) }
+        ensures room { IfOk result (λ b. 0 < b.room) }
         ensures memory { IfErr result (λ e. e ≡ fault.Memory) }
     {
         let mut chain = Chain::new(alloc);
-        chain.reserve(ROOM)?;
-        Ok(KeptChain { chain })
+        chain.reserve(1)?;
+        match Box::new(alloc, chain) {
+            Ok(chain) => Ok(BoxedChain { chain }),
+            Err(_) => Err(Fault::Memory),
+        }
     }
 
     /// The chain.
@@ -46,7 +46,7 @@ impl KeptChain {
     pub(crate) fn as_chain(&self) -> &Chain
         ensures { result.now ≡ self.now }
     {
-        &self.chain
+        self.chain.as_ref()
     }
 
     /// Makes room for one more version.
