@@ -15,7 +15,6 @@ pub mod EvtBelow
 pub mod OneWriter
 pub mod Overtaken
 pub mod KeepsApplied
-pub mod HashedRows
 pub mod Lasting
 pub mod Latest
 pub mod Collected

@@ -1,9 +1,9 @@
 -- The rows that a collection has to look at are listed, and no other row has anything to collect.
-use Rattle.std.proofs.Common.{◌≡◌, ◌∙◌, refl, sym, ap, subst, ℕ, ◌≤◌, Bool, true, false, ◌&&◌, ◌||◌, List, [], ◌∷◌, map, length, Some, None, arith}
+use Rattle.std.proofs.Common.{◌≡◌, ◌∙◌, refl, sym, ap, subst, ℕ, ◌≤◌, Bool, true, false, ◌&&◌, ◌||◌, List, [], ◌∷◌, map, length, Option, Some, None, arith}
 use Rattle.std.proofs.lemmas.Bool.Decides.{nat_tests}
 use Rattle.std.proofs.lemmas.Cmp.{eq_by_cmp_equiv}
-use Rattle.std.specs.Prelude.{if◌then◌else◌, filter}
-use Rattle.std.specs.Map.{lookup}
+use Rattle.std.specs.Prelude.{if◌then◌else◌, filter, unwrap_or}
+use Rattle.std.specs.BTreeMap.{BTreeMap, get}
 use Rattle.std.specs.List.{list_any}
 use Rattle.std.specs.Ordering.{is_eq}
 use Rattle.column_family.specs.declared.batch.Row.{Row}
@@ -16,8 +16,7 @@ use Rattle.versions.specs.declared.version.Version.{Version}
 use Rattle.versions.specs.Chain.{Held, is_kept, kept_below, kept_from}
 use Rattle.store.specs.Kept.{Place, Chains, chain_of, chain_at, held_by, no_row, name_cmp, column_held, is_of_place, HaveKept}
 use Rattle.store.specs.Crowded.{Listed, holds_more, is_crowded, is_crowded_in, AreListed}
-use Rattle.store.proofs.HashedRows.{row_eq}
-use Rattle.store.proofs.Maps.{by_cases, no_row_found}
+use Rattle.store.proofs.Maps.{by_cases}
 
 -- ---- rows of which no chain holds more than one version
 one_at_most : (h : Held) → holds_more h ≡ false → length h.versions ≤ 1
@@ -40,8 +39,8 @@ row_short row few None = one_at_most row.deletions (or_false (list_any holds_mor
 row_short row few (Some n) = column_short row.columns n (or_false (list_any holds_more (map (λ e. e.1) row.columns)) (holds_more row.deletions) few).0
 
 -- a row of which nothing is held isn't crowded
-pub none_crowded : (es : List (Row × Chains)) (k : Row) → lookup (row_eq k) es ≡ None → is_crowded_in es k ≡ false
-none_crowded es k e = ap (λ (row : Chains). is_crowded row) (no_row_found es k e)
+pub none_crowded : (m : BTreeMap Row Chains) (k : Row) → get row_cmp m k ≡ None → is_crowded_in m.entries k ≡ false
+none_crowded m k e = ap (λ (o : Option Chains). is_crowded (unwrap_or o no_row)) e
 
 -- ---- a change lists its row, if it is crowded then
 pub listed_added : (l m : Listed) (olds news : List (Row × Chains)) (row : Row) (d : Mutation) (put : Row → Place → List Version)
@@ -118,13 +117,13 @@ collected_more t ls ns all left rest row is so_far step r p =
     ∙ so_far r p
 
 -- a row that isn't there has nothing to collect
-pub none_collected : (t : ℕ) (es : List (Row × Chains)) (k : Row) → lookup (row_eq k) es ≡ None
-    → (r : Row) (p : Place) → (chain_at es r p).versions ≡ if_collected (is_eq (row_cmp k r)) t (chain_at es r p).versions
-none_collected t es k none r p =
+pub none_collected : (t : ℕ) (m : BTreeMap Row Chains) (k : Row) → get row_cmp m k ≡ None
+    → (r : Row) (p : Place) → (chain_at m.entries r p).versions ≡ if_collected (is_eq (row_cmp k r)) t (chain_at m.entries r p).versions
+none_collected t m k none r p =
     by_cases (is_eq (row_cmp k r))
     (λ same.
-    let empty : (chain_at es r p).versions ≡ [] =
-    subst (λ (s : Row). (chain_at es s p).versions ≡ []) (same_row k r same) (ap (λ (row : Chains). (chain_of row p).versions) (no_row_found es k none) ∙ nothing p) in
+    let empty : (chain_at m.entries r p).versions ≡ [] =
+    subst (λ (s : Row). (chain_at m.entries s p).versions ≡ []) (same_row k r same) (ap (λ (o : Option Chains). (chain_of (unwrap_or o no_row) p).versions) none ∙ nothing p) in
     rw (same, empty) refl)
     (λ other. rw other refl)
   where

@@ -12,7 +12,7 @@ use crate::rows::{collect_row, collect_rows, is_crowded};
 use column_family::Row;
 use logical_time::{Fault, Time};
 use std::alloc::Global;
-use std::collections::{BTreeSet, HashMap};
+use std::collections::{BTreeMap, BTreeSet};
 use std::marker::Model;
 
 /// The rows of which a chain may hold more than one version. No other row has anything to collect.
@@ -62,7 +62,7 @@ impl Crowded {
 }
 
 // Collects each of these rows.
-fn collect_listed(rows: &mut HashMap<Row, RowChains>, listed: &BTreeSet<Row>, time: Time)
+fn collect_listed(rows: &mut BTreeMap<Row, RowChains>, listed: &BTreeSet<Row>, time: Time)
     ensures { (r : Row) (p : Place) → (chain_at rows.new.entries r p).versions ≡ (if is_listed listed.now.keys r then kept_from time (chain_at rows.old.entries r p).versions else (chain_at rows.old.entries r p).versions) }
 {
     for row in listed.iter() {
@@ -71,7 +71,7 @@ fn collect_listed(rows: &mut HashMap<Row, RowChains>, listed: &BTreeSet<Row>, ti
 }
 
 // Takes the rows from the list of which no chain holds more than one version any more.
-fn keep_crowded(listed: &mut BTreeSet<Row>, rows: &HashMap<Row, RowChains>)
+fn keep_crowded(listed: &mut BTreeSet<Row>, rows: &BTreeMap<Row, RowChains>)
     ensures { listed.new.keys ≡ filter (is_crowded_in rows.now.entries) listed.old.keys }
 {
     listed.retain(|row| is_crowded(rows, row));
@@ -79,7 +79,11 @@ fn keep_crowded(listed: &mut BTreeSet<Row>, rows: &HashMap<Row, RowChains>)
 
 /// Drops the versions that are the newest of their chain at no time from this one on. Linear in the rows that are
 /// listed, with their versions; in all rows where the list isn't whole.
-pub(crate) fn collect_crowded(rows: &mut HashMap<Row, RowChains>, crowded: &mut Crowded, time: Time)
+pub(crate) fn collect_crowded(
+    rows: &mut BTreeMap<Row, RowChains>,
+    crowded: &mut Crowded,
+    time: Time,
+)
     ensures kept { AreListed crowded.old rows.old.entries → HaveKept time rows.old.entries rows.new.entries }
     ensures listed { AreListed crowded.old rows.old.entries → AreListed crowded.new rows.new.entries }
 {

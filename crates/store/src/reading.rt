@@ -30,7 +30,7 @@ use column_family::{Name, Row};
 use logical_time::{Fault, Time, Writer, Writers};
 use slice::{Column, Columns, Predicate};
 use std::alloc::{AllocError, Global};
-use std::collections::HashMap;
+use std::collections::BTreeMap;
 use versions::Version;
 
 /// Whether the row's deletion is newer than a version of a column.
@@ -551,7 +551,7 @@ fn empty_part(alloc: Global, predicate: &Predicate, moment: &Moment) -> Part
 #[inline(always)]
 pub(crate) fn part_in(
     alloc: Global,
-    rows: &HashMap<Row, RowChains>,
+    rows: &BTreeMap<Row, RowChains>,
     row: &Row,
     predicate: &Predicate,
     moment: &Moment,
@@ -568,7 +568,7 @@ pub(crate) fn part_in(
 /// What is seen of one of the rows where these chains are laid over it.
 pub(crate) fn part_with<'s>(
     alloc: Global,
-    rows: &'s HashMap<Row, RowChains>,
+    rows: &'s BTreeMap<Row, RowChains>,
     over: &'s RowChains,
     row: &Row,
     predicate: &Predicate,

@@ -18,12 +18,12 @@ use crate::row::RowChains;
 use column_family::{Change, Mutation, Row};
 use logical_time::{Fault, Time};
 use std::alloc::Global;
-use std::collections::HashMap;
+use std::collections::BTreeMap;
 
 // Puts what a mutation of a row leaves into the chain of its place, and answers whether that came to hold more than one
 // version.
 fn put_mutation(
-    rows: &mut HashMap<Row, RowChains>,
+    rows: &mut BTreeMap<Row, RowChains>,
     row: &Row,
     mutation: Mutation,
     origin: &Origin,
@@ -42,7 +42,7 @@ fn put_mutation(
 // Puts what a change leaves into the chain of its place, and lists its row if that came to hold more than one version: a
 // row of which a chain held more before is listed.
 fn put_change(
-    rows: &mut HashMap<Row, RowChains>,
+    rows: &mut BTreeMap<Row, RowChains>,
     crowded: &mut Crowded,
     change: Change,
     origin: &Origin,
@@ -59,7 +59,7 @@ fn put_change(
 }
 
 // Gives the rows one more, with room for what its first change leaves.
-fn add_row(alloc: Global, rows: &mut HashMap<Row, RowChains>, change: &Change) -> Result<(), Fault>
+fn add_row(alloc: Global, rows: &mut BTreeMap<Row, RowChains>, change: &Change) -> Result<(), Fault>
     requires { lookup (λ k. is_eq (row_cmp change.now.row k)) rows.old.entries ≡ None }
     ensures versions { HaveSameVersions rows.old.entries rows.new.entries }
     ensures room { (r : Row) (p : Place) → (chain_at rows.old.entries r p).room ≤ (chain_at rows.new.entries r p).room }
@@ -85,7 +85,7 @@ fn leaves_version(mutation: &Mutation) -> bool
 // Makes room for what a change leaves.
 fn reserve_change(
     alloc: Global,
-    rows: &mut HashMap<Row, RowChains>,
+    rows: &mut BTreeMap<Row, RowChains>,
     change: &Change,
 ) -> Result<(), Fault>
     ensures versions { HaveSameVersions rows.old.entries rows.new.entries }
@@ -106,7 +106,7 @@ fn reserve_change(
 /// Makes room for what these changes leave.
 pub(crate) fn reserve_changes(
     alloc: Global,
-    rows: &mut HashMap<Row, RowChains>,
+    rows: &mut BTreeMap<Row, RowChains>,
     changes: &[Change],
 ) -> Result<(), Fault>
     ensures versions { HaveSameVersions rows.old.entries rows.new.entries }
@@ -124,7 +124,7 @@ pub(crate) fn reserve_changes(
 /// Puts what these changes leave, for which there is room, into the chains of their places, and lists the rows that
 /// are crowded then.
 pub(crate) fn put_changes(
-    rows: &mut HashMap<Row, RowChains>,
+    rows: &mut BTreeMap<Row, RowChains>,
     crowded: &mut Crowded,
     changes: Vec<Change>,
     origin: &Origin,
@@ -139,7 +139,7 @@ pub(crate) fn put_changes(
 }
 
 /// Whether a chain of the row holds more than one version.
-pub(crate) fn is_crowded(rows: &HashMap<Row, RowChains>, row: &Row) -> bool
+pub(crate) fn is_crowded(rows: &BTreeMap<Row, RowChains>, row: &Row) -> bool
     ensures { result ≡ is_crowded_in rows.now.entries row.now }
 {
     match rows.get(row) {
@@ -149,7 +149,7 @@ pub(crate) fn is_crowded(rows: &HashMap<Row, RowChains>, row: &Row) -> bool
 }
 
 /// Drops the versions of one row that are the newest of their chain at no time from this one on. Linear in these.
-pub(crate) fn collect_row(rows: &mut HashMap<Row, RowChains>, row: &Row, time: Time)
+pub(crate) fn collect_row(rows: &mut BTreeMap<Row, RowChains>, row: &Row, time: Time)
     ensures { (r : Row) (p : Place) → (chain_at rows.new.entries r p).versions ≡ (if is_eq (row_cmp row.now r) then kept_from time (chain_at rows.old.entries r p).versions else (chain_at rows.old.entries r p).versions) }
 {
     if let Some(held) = rows.get_mut(row) {
@@ -158,7 +158,7 @@ pub(crate) fn collect_row(rows: &mut HashMap<Row, RowChains>, row: &Row, time: T
 }
 
 /// Drops the versions that are the newest of their chain at no time from this one on. Linear in the versions.
-pub(crate) fn collect_rows(rows: &mut HashMap<Row, RowChains>, time: Time)
+pub(crate) fn collect_rows(rows: &mut BTreeMap<Row, RowChains>, time: Time)
     ensures { HaveKept time rows.old.entries rows.new.entries }
 {
     rows.retain(|_, row| {

@@ -22,13 +22,13 @@ use column_family::{Batch, Row};
 use logical_time::{Fault, Stamp, Time, Writer};
 use slice::Predicate;
 use std::alloc::Global;
-use std::collections::HashMap;
+use std::collections::BTreeMap;
 use std::marker::Model;
 use txn_state::Prepared;
 
 // Puts what a part leaves, for which there is room, and lists the rows that are crowded then.
 fn put_part(
-    rows: &mut HashMap<Row, RowChains>,
+    rows: &mut BTreeMap<Row, RowChains>,
     crowded: &mut Crowded,
     prepared: Prepared,
     commit: Time,
@@ -48,7 +48,8 @@ fn put_part(
 #[derive(Drop)]
 pub struct Store {
     alloc: Global,
-    rows: HashMap<Row, RowChains>,
+    // in order, since a hash of a fixed seed lets who chooses the keys pick such as collide
+    rows: BTreeMap<Row, RowChains>,
     // those of which a chain may hold more than one version
     crowded: Crowded,
     low: Time,
@@ -76,7 +77,7 @@ impl Store {
     {
         Store {
             alloc,
-            rows: HashMap::new(alloc),
+            rows: BTreeMap::new(alloc),
             crowded: Crowded::new(alloc),
             low: Time::zero(),
         }
@@ -150,7 +151,7 @@ impl Store {
 
     /// The slice of the row's newest versions, with what it rests on and its earliest valid time: it is right at
     /// every time from that one on, by everything that was ever applied. Takes as many steps as there are asked
-    /// columns, each found in the order of their logarithm. Refused with `Memory` alone.
+    /// columns, each found in the order of their logarithm, after the row in that of the rows. Refused with `Memory` alone.
     #[tactic(auto, using(crate::proofs::PartAt::part_now, crate::proofs::FromEvt::right_from_evt))]
     pub fn read_now(&self, row: &Row, predicate: &Predicate) -> Result<Part, Fault>
         ensures newest { (all : List Applied) → Keeps self.now all → IfOk result (IsNewestPart all row.now predicate.now) }

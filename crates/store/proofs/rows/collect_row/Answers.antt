@@ -4,19 +4,18 @@ use Rattle.store.specs.Kept.{Place, Chains, no_row, chain_of}
 use Rattle.store.proofs.Collected.{row_collected}
 use Rattle.store.proofs.Listed.{if_collected, none_collected}
 use Rattle.column_family.proofs.RowOrder.{same_row}
-use Rattle.store.proofs.HashedRows.{rows_updated}
-use Rattle.store.proofs.Maps.{step_each, found_row}
+use Rattle.store.proofs.Maps.{step_each, found}
 use Rattle.store.proofs.rows.collect_row.Goals as goal
 
 pub returns-in-Some : goal.returns-in-Some
 returns-in-Some c =
     let h = c.get_mut.follows.holds c.collect.new.self in
     let t = c.args.time in
-    let f = found_row c.args.rows.now.entries c.args.row.now c.in-Some.held.now (search rules) in
-    step_each row_cmp same_row no_row (λ b x y. (p : Place) → (chain_of y p).versions ≡ if_collected b t (chain_of x p).versions) c.args.rows.now.entries (c.get_mut.follows.lender c.collect.new.self).entries c.args.row.now c.collect.new.self (rows_updated c.args.rows.now.entries (c.get_mut.follows.lender c.collect.new.self).entries c.args.row.now c.collect.new.self (h.3 (search rules)).0)
+    let f = found row_cmp no_row c.args.rows.now c.args.row.now c.in-Some.held.now (search rules) in
+    step_each row_cmp same_row no_row (λ b x y. (p : Place) → (chain_of y p).versions ≡ if_collected b t (chain_of x p).versions) c.args.rows.now (c.get_mut.follows.lender c.collect.new.self) c.args.row.now c.collect.new.self (h.3 (search rules))
     (rw f (λ p. ap (λ (row : Chains). (chain_of row p).versions) c.collect.ensures ∙ row_collected t c.in-Some.held.now p)) (λ x p. refl)
 
 pub returns-in_default : goal.returns-in_default
 returns-in_default c =
     let same : c.get_mut.follows.lender-at-none ≡ c.args.rows.now = search rules in
-    rw same (none_collected c.args.time c.args.rows.now.entries c.args.row.now (search rules))
+    rw same (none_collected c.args.time c.args.rows.now c.args.row.now (search rules))
