@@ -33,7 +33,7 @@ impl Subject for Marks {
         match words {
             ["mark", key, marked, at] => self.mark(&row(alloc, key)?, txn(marked), time(at)),
             ["clear", marked, keys @ ..] => {
-                self.clear(batch(alloc, keys)?.as_slice(), txn(marked));
+                self.clear_rows(batch(alloc, keys)?.as_slice(), txn(marked));
                 Ok(())
             }
             ["least", key] => add_least(alloc, self, key, seen),

@@ -1,5 +1,5 @@
 -- What is marked after a step of a map.
-use Rattle.std.proofs.Common.{◌≡◌, ℕ, ap, sym, subst, refl, ◌∙◌, cond, Bool, true, false, [], Option, Some, None}
+use Rattle.std.proofs.Common.{◌≡◌, ℕ, ap, sym, subst, refl, cond, Bool, true, false, [], Option, Some, None}
 use Rattle.std.specs.Prelude.{unwrap_or, if◌then◌else◌, ◌&&◌}
 use Rattle.std.specs.Ordering.{is_eq}
 use Rattle.std.specs.Map.{lookup}
@@ -7,7 +7,6 @@ use Rattle.logical_time.specs.Stamps.{TxnValue, txn_cmp}
 use Rattle.column_family.specs.declared.batch.Row.{Row}
 use Rattle.column_family.specs.Places.{row_cmp}
 use Rattle.column_family.proofs.RowOrder.{same_row}
-use Rattle.column_family.proofs.HashedRows.{row_eq, found_by, rows_updated}
 use Rattle.pending.specs.Marks.{RowList, MarkList, time_in, time_at, marks_of, is_same_mark}
 
 -- by what a test answers
@@ -15,25 +14,25 @@ pub by_cases : {P : Type 0} (b : Bool) → (b ≡ true → P) → (b ≡ false �
 by_cases true f g = f refl
 by_cases false f g = g refl
 
--- a step of the rows' map, which finds a row by its bytes, writes this list at a row
+-- a step of the rows' map writes this list at a row
 abbrev pub Writes : MarkList → MarkList → Row → RowList → Type 0
-Writes ms ns k w = (q : Row) → lookup (row_eq q) ns ≡ cond (row_eq k q) (Some w) (lookup (row_eq q) ms)
+Writes ms ns k w = (q : Row) → lookup (λ j. is_eq (row_cmp q j)) ns ≡ cond (is_eq (row_cmp k q)) (Some w) (lookup (λ j. is_eq (row_cmp q j)) ms)
 
 -- after what is listed at a row is written, each list stands to what it was as the relation says: at the row, and elsewhere
 each_row : (P : Bool → RowList → RowList → Type 0) (ms ns : MarkList) (k : Row) (w : RowList) → Writes ms ns k w → P true (marks_of ms k) w → ((xs : RowList) → P false xs xs) → (q : Row) → P (is_eq (row_cmp k q)) (marks_of ms q) (marks_of ns q)
 each_row P ms ns k w u here there q =
-    subst (λ (o : Option RowList). P (is_eq (row_cmp k q)) (marks_of ms q) (unwrap_or o [])) (sym (rows_updated ms ns k (Some w) u q))
+    subst (λ (o : Option RowList). P (is_eq (row_cmp k q)) (marks_of ms q) (unwrap_or o [])) (sym (u q))
     (by_cases {P = P (is_eq (row_cmp k q)) (marks_of ms q) (unwrap_or (if is_eq (row_cmp k q) then Some w else lookup (λ j. is_eq (row_cmp q j)) ms) [])} (is_eq (row_cmp k q))
     (λ yes. rw yes (subst (λ (z : Row). P true (marks_of ms z) w) (same_row k q yes) here))
     (λ no. rw no (there (marks_of ms q))))
 
 -- what was found is what is listed
-pub found : (ms : MarkList) (k : Row) (xs : RowList) → lookup (row_eq k) ms ≡ Some xs → marks_of ms k ≡ xs
-found ms k xs e = ap (λ (o : Option RowList). unwrap_or o []) (sym (found_by ms k) ∙ e)
+pub found : (ms : MarkList) (k : Row) (xs : RowList) → lookup (λ j. is_eq (row_cmp k j)) ms ≡ Some xs → marks_of ms k ≡ xs
+found ms k xs e = ap (λ (o : Option RowList). unwrap_or o []) e
 
 -- where nothing was found nothing is listed
-pub not_found : (ms : MarkList) (k : Row) → lookup (row_eq k) ms ≡ None → marks_of ms k ≡ []
-not_found ms k e = ap (λ (o : Option RowList). unwrap_or o []) (sym (found_by ms k) ∙ e)
+pub not_found : (ms : MarkList) (k : Row) → lookup (λ j. is_eq (row_cmp k j)) ms ≡ None → marks_of ms k ≡ []
+not_found ms k e = ap (λ (o : Option RowList). unwrap_or o []) e
 
 -- after a transaction's mark in a row is written, each mark is the one that was written or what it was
 pub each_mark : (ms ns : MarkList) (k : Row) (w : RowList) (txn : TxnValue) (o : Option ℕ) → Writes ms ns k w → ((t : TxnValue) → time_in w t ≡ (if is_eq (txn_cmp txn t) then o else time_in (marks_of ms k) t)) → (r : Row) (t : TxnValue) → time_at ns r t ≡ (if is_same_mark k txn r t then o else time_at ms r t)

@@ -23,6 +23,10 @@ abbrev pub AreCleared : MarkList → MarkList → List Change → TxnValue → T
 AreCleared old new changes u =
     (r : Row) (t : TxnValue) → time_at new r t ≡ (if is_eq (txn_cmp u t) && touches changes r then None else time_at old r t)
 
+-- the transaction has no mark on any row; all other marks are as they were
+abbrev pub IsCleared : MarkList → MarkList → TxnValue → Type 0
+IsCleared old new u = (r : Row) (t : TxnValue) → time_at new r t ≡ (if is_eq (txn_cmp u t) then None else time_at old r t)
+
 -- the transaction has a mark below the bound on one of these rows
 abbrev pub IsMarkedBelow : MarkList → List Row → ℕ → TxnValue → Type 0
 IsMarkedBelow ms rows bound t = (r : Row) × Contains rows r × ((n : ℕ) × (time_at ms r t ≡ Some n) × (n < bound))

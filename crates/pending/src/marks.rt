@@ -5,14 +5,14 @@ ghost use Rattle.logical_time.specs.declared.fault.Fault.TheVariants as fault;
 ghost use Rattle.logical_time.specs.Stamps.{TxnValue, txn_cmp};
 ghost use Rattle.column_family.specs.declared.batch.Row.{Row};
 ghost use Rattle.pending.specs.Marks.{time_at, is_same_mark, IsLeast, IsBelow};
-ghost use Rattle.pending.specs.Marked.{touches, AreMarked, AreCleared, AreBelow};
+ghost use Rattle.pending.specs.Marked.{touches, AreMarked, AreCleared, IsCleared, AreBelow};
 
 use crate::row_marks::RowMarks;
-use crate::rows::{below_in, below_rows, clear_rows, is_first, least_in, mark_row};
+use crate::rows::{below_in, below_rows, clear_rows, clear_txn, is_first, least_in, mark_row};
 use column_family::{Change, Row};
 use logical_time::{Fault, Time, TxnId};
 use std::alloc::Global;
-use std::collections::HashMap;
+use std::collections::BTreeMap;
 use std::marker::Model;
 
 /// The marks of pending transactions on rows, each with its prepare time. A transaction has at most one
@@ -20,7 +20,8 @@ use std::marker::Model;
 #[derive(Drop)]
 pub struct Marks {
     alloc: Global,
-    rows: HashMap<Row, RowMarks>,
+    // in order, since a hash of a fixed seed lets who chooses the keys pick such as collide
+    rows: BTreeMap<Row, RowMarks>,
 }
 
 impl Model for Marks {
@@ -38,13 +39,13 @@ impl Marks {
     {
         Marks {
             alloc,
-            rows: HashMap::new(alloc),
+            rows: BTreeMap::new(alloc),
         }
     }
 
     /// Marks the row for the transaction with its prepare time. If the transaction has a mark on the row
     /// already, this time takes the place of the earlier one. Refused with `Memory`, and then every mark
-    /// stays. Constant on average, and logarithmic in the marks on the row.
+    /// stays. Logarithmic in the rows and in the marks on the row.
     pub fn mark(&mut self, row: &Row, txn: TxnId, time: Time) -> Result<(), Fault>
         ensures ok { OnOk result ((r : Row) (t : TxnValue) → time_at self.new r t ≡ (if is_same_mark row.now txn r t then Some time else time_at self.old r t)) }
         ensures err { OnErr result ((r : Row) (t : TxnValue) → time_at self.new r t ≡ time_at self.old r t) }
@@ -68,7 +69,7 @@ impl Marks {
         match self.mark(row, txn, time) {
             Ok(()) => Ok(()),
             Err(fault) => {
-                self.clear(changes, txn);
+                self.clear_rows(changes, txn);
                 Err(fault)
             }
         }
@@ -76,7 +77,7 @@ impl Marks {
 
     /// Marks each row that these changes touch for the transaction with its prepare time, in place of its marks
     /// there. Refused with `Memory`, and then the transaction has no mark on these rows, so that nothing has changed
-    /// for a transaction that had none. Linear in the changes on average, and logarithmic in the marks on each row.
+    /// for a transaction that had none. Logarithmic for each change in the rows and in the marks on its row.
     pub fn mark_all(&mut self, changes: &[Change], txn: TxnId, time: Time) -> Result<(), Fault>
         ensures ok { OnOk result (AreMarked self.old self.new changes.now txn time) }
         ensures err { OnErr result (AreCleared self.old self.new changes.now txn) }
@@ -92,17 +93,25 @@ impl Marks {
         Ok(())
     }
 
-    /// Takes away the marks of the transaction on the rows that these changes touch, and no other. Takes no memory. Linear
-    /// in the changes on average, and logarithmic in the marks on each row.
+    /// Takes away all marks of the transaction, whatever the rows, and no other. Takes no memory. Linear in the rows that
+    /// were ever marked, and logarithmic in the marks on each: `clear_rows` costs less where the rows are known.
+    pub fn clear(&mut self, txn: TxnId)
+        ensures { IsCleared self.old self.new txn }
+    {
+        clear_txn(&mut self.rows, txn);
+    }
+
+    /// Takes away the marks of the transaction on the rows that these changes touch, and no other. Takes no memory.
+    /// Logarithmic for each change in the rows and in the marks on its row.
     #[inline(always)]
-    pub fn clear(&mut self, changes: &[Change], txn: TxnId)
+    pub fn clear_rows(&mut self, changes: &[Change], txn: TxnId)
         ensures { AreCleared self.old self.new changes.now txn }
     {
         clear_rows(&mut self.rows, changes, txn);
     }
 
-    /// The least time of a mark on the row, or `None` where the row has no mark. Linear in the marks on the row, on
-    /// average.
+    /// The least time of a mark on the row, or `None` where the row has no mark. Logarithmic in the rows, and
+    /// linear in the marks on the row.
     pub fn least(&self, row: &Row) -> Option<Time>
         ensures { IsLeast (time_at self.now row.now) result }
     {
@@ -110,7 +119,7 @@ impl Marks {
     }
 
     /// The transactions with marks on the row strictly below the time, in the order of their numbers. Its
-    /// one error is `Memory`. Linear in the marks on the row, on average.
+    /// one error is `Memory`. Logarithmic in the rows, and linear in the marks on the row.
     pub fn below(&self, row: &Row, time: Time) -> Result<Vec<TxnId>, Fault>
         ensures ok { IfOk result (λ txns. IsBelow (time_at self.now row.now) time txns.items) }
         ensures memory { IfErr result (λ e. e ≡ fault.Memory) }
@@ -119,7 +128,8 @@ impl Marks {
     }
 
     /// The transactions with marks on one of these rows strictly below the time, each once, in the order of
-    /// their numbers. Its one error is `Memory`. On average in the order of k + m log m for k rows with m marks.
+    /// their numbers. Its one error is `Memory`. In the order of k log n + m log m for k rows with m marks
+    /// among n rows.
     pub fn below_rows(&self, rows: &[Row], time: Time) -> Result<Vec<TxnId>, Fault>
         ensures ok { IfOk result (λ txns. AreBelow self.now rows.now time txns.items) }
         ensures memory { IfErr result (λ e. e ≡ fault.Memory) }

@@ -7,18 +7,18 @@ ghost use Rattle.column_family.specs.declared.batch.Row.{Row};
 ghost use Rattle.std.specs.List.{Contains};
 ghost use Rattle.std.specs.List.Sorted.{IsStrictlySortedBy};
 ghost use Rattle.pending.specs.Marks.{time_at, marks_of, is_same_mark, IsLeast, IsBelow};
-ghost use Rattle.pending.specs.Marked.{touches, AreCleared, IsMarkedBelow, AreBelow};
+ghost use Rattle.pending.specs.Marked.{touches, AreCleared, IsCleared, IsMarkedBelow, AreBelow};
 
 use crate::row_marks::RowMarks;
 use column_family::{Change, Row};
 use logical_time::{Fault, Time, TxnId};
 use std::alloc::Global;
-use std::collections::HashMap;
+use std::collections::BTreeMap;
 
 /// Gives a row without a mark its first.
 fn add_row(
     alloc: Global,
-    rows: &mut HashMap<Row, RowMarks>,
+    rows: &mut BTreeMap<Row, RowMarks>,
     row: &Row,
     txn: TxnId,
     time: Time,
@@ -37,7 +37,7 @@ fn add_row(
 /// Gives a row a mark of the transaction, in place of its mark there if it has one.
 pub(crate) fn mark_row(
     alloc: Global,
-    rows: &mut HashMap<Row, RowMarks>,
+    rows: &mut BTreeMap<Row, RowMarks>,
     row: &Row,
     txn: TxnId,
     time: Time,
@@ -54,7 +54,7 @@ pub(crate) fn mark_row(
 
 /// Takes the mark of the transaction from a row, which stays, for the next one.
 #[inline]
-pub(crate) fn clear_row(rows: &mut HashMap<Row, RowMarks>, row: &Row, txn: TxnId)
+pub(crate) fn clear_row(rows: &mut BTreeMap<Row, RowMarks>, row: &Row, txn: TxnId)
     ensures { (r : Row) (t : TxnValue) → time_at rows.new.entries r t ≡ (if is_same_mark row.now txn r t then None else time_at rows.old.entries r t) }
 {
     if let Some(marks) = rows.get_mut(row) {
@@ -73,7 +73,7 @@ pub(crate) fn is_first(row: &Row, changes: &[Change]) -> bool
 }
 
 /// Takes away the marks of the transaction on the rows that these changes touch.
-pub(crate) fn clear_rows(rows: &mut HashMap<Row, RowMarks>, changes: &[Change], txn: TxnId)
+pub(crate) fn clear_rows(rows: &mut BTreeMap<Row, RowMarks>, changes: &[Change], txn: TxnId)
     ensures { AreCleared rows.old.entries rows.new.entries changes.now txn }
 {
     let mut rest = changes;
@@ -85,8 +85,18 @@ pub(crate) fn clear_rows(rows: &mut HashMap<Row, RowMarks>, changes: &[Change], 
     }
 }
 
+/// Takes away the marks of the transaction on all rows, which stay, for the next ones.
+pub(crate) fn clear_txn(rows: &mut BTreeMap<Row, RowMarks>, txn: TxnId)
+    ensures { IsCleared rows.old.entries rows.new.entries txn }
+{
+    rows.retain(|_, marks| {
+        marks.clear(txn);
+        true
+    });
+}
+
 /// The least time of a mark in the row.
-pub(crate) fn least_in(rows: &HashMap<Row, RowMarks>, row: &Row) -> Option<Time>
+pub(crate) fn least_in(rows: &BTreeMap<Row, RowMarks>, row: &Row) -> Option<Time>
     ensures { IsLeast (time_at rows.now.entries row.now) result }
 {
     match rows.get(row) {
@@ -98,7 +108,7 @@ pub(crate) fn least_in(rows: &HashMap<Row, RowMarks>, row: &Row) -> Option<Time>
 /// The transactions with marks in the row strictly below the time, in order.
 pub(crate) fn below_in(
     alloc: Global,
-    rows: &HashMap<Row, RowMarks>,
+    rows: &BTreeMap<Row, RowMarks>,
     row: &Row,
     time: Time,
 ) -> Result<Vec<TxnId>, Fault>
@@ -114,7 +124,7 @@ pub(crate) fn below_in(
 /// The transactions with marks in these rows strictly below the time, a row after the other.
 fn below_each(
     alloc: Global,
-    rows: &HashMap<Row, RowMarks>,
+    rows: &BTreeMap<Row, RowMarks>,
     asked: &[Row],
     time: Time,
 ) -> Result<Vec<TxnId>, Fault>
@@ -142,7 +152,7 @@ fn in_order(mut txns: Vec<TxnId>) -> Vec<TxnId>
 /// The transactions with marks in one of these rows strictly below the time, in order.
 pub(crate) fn below_rows(
     alloc: Global,
-    rows: &HashMap<Row, RowMarks>,
+    rows: &BTreeMap<Row, RowMarks>,
     asked: &[Row],
     time: Time,
 ) -> Result<Vec<TxnId>, Fault>

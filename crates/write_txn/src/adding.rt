@@ -74,7 +74,7 @@ fn add_marked(ledger: &mut Ledger, marks: &mut Marks, held: Open) -> Result<(), 
     match ledger.add(held) {
         Ok(()) => Ok(()),
         Err((fault, held)) => {
-            marks.clear(held.rows().as_slice(), txn);
+            marks.clear_rows(held.rows().as_slice(), txn);
             Err((fault, held))
         }
     }

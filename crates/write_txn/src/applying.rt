@@ -37,7 +37,7 @@ pub(crate) fn commit_part(
     ensures keeps { KeepsIf (part_in (state_of ledger.old txn)) commit stamp store.old store.new }
 {
     if let Some(prepared) = ledger.finish(txn) {
-        marks.clear(prepared.part().as_slice(), txn);
+        marks.clear_rows(prepared.part().as_slice(), txn);
         apply(store, prepared, commit, stamp);
     }
 }

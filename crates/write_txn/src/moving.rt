@@ -117,7 +117,7 @@ pub(crate) fn vote(
 {
     let complete = ledger.vote(txn, node, me, commit);
     if let Some(complete) = &complete {
-        marks.clear(complete.part().as_slice(), txn);
+        marks.clear_rows(complete.part().as_slice(), txn);
     }
     complete
 }

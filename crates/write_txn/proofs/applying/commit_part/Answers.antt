@@ -16,5 +16,5 @@ pub returns-in-Some-clause-marks : goal.returns-in-Some-clause-marks
 returns-in-Some-clause-marks c =
     let p = c.in-Some.prepared in
     let is : part_in (state_of c.args.ledger.now c.args.txn) ≡ Some p = search rules in
-    let cleared : AreCleared c.args.marks.now c.clear.new.self p.part.batch c.args.txn = search rules in
-    applied_marks c.args.marks.now c.clear.new.self c.args.ledger.now c.finish.new.self c.args.txn p c.requires.marks is cleared c.finish.ensures.applied
+    let cleared : AreCleared c.args.marks.now c.clear_rows.new.self p.part.batch c.args.txn = search rules in
+    applied_marks c.args.marks.now c.clear_rows.new.self c.args.ledger.now c.finish.new.self c.args.txn p c.requires.marks is cleared c.finish.ensures.applied

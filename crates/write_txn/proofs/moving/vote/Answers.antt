@@ -18,5 +18,5 @@ pub returns-in-Some-clause-marks : goal.returns-in-Some-clause-marks
 returns-in-Some-clause-marks c =
     let x = c.in-Some.complete in
     let is : completed_by c.args.node (state_of c.args.ledger.now c.args.txn) ≡ Some x = search rules in
-    let cleared : AreCleared c.args.marks.now c.clear.new.self x.own.part.batch c.args.txn = search rules in
-    voted_marks c.args.marks.now c.clear.new.self c.args.ledger.now c.vote-complete.new.self c.args.txn c.args.me c.args.commit c.args.node x c.requires is cleared c.vote-complete.ensures.voted
+    let cleared : AreCleared c.args.marks.now c.clear_rows.new.self x.own.part.batch c.args.txn = search rules in
+    voted_marks c.args.marks.now c.clear_rows.new.self c.args.ledger.now c.vote-complete.new.self c.args.txn c.args.me c.args.commit c.args.node x c.requires is cleared c.vote-complete.ensures.voted
