@@ -1,11 +1,10 @@
 //! The marks of each row.
-ghost use Rattle.std.specs.Prelude.{◌≡◌, [], if◌then◌else◌, ◌&&◌, true, IfOk, OnOk, OnErr, IfErr, Some, None};
-ghost use Rattle.std.specs.Ordering.{is_eq};
+ghost use Rattle.std.specs.Prelude.{◌≡◌, if◌then◌else◌, IfOk, OnOk, OnErr, IfErr, Some, None};
 ghost use Rattle.logical_time.specs.declared.fault.Fault.TheVariants as fault;
-ghost use Rattle.logical_time.specs.Stamps.{TxnValue, txn_cmp};
+ghost use Rattle.logical_time.specs.Stamps.{TxnValue};
 ghost use Rattle.column_family.specs.declared.batch.Row.{Row};
 ghost use Rattle.pending.specs.Marks.{time_at, is_same_mark, IsLeast, IsBelow};
-ghost use Rattle.pending.specs.Marked.{touches, AreMarked, AreCleared, IsCleared, AreBelow};
+ghost use Rattle.pending.specs.Marked.{AreMarked, AreCleared, IsCleared, AreBelow};
 
 use crate::row_marks::RowMarks;
 use crate::rows::{below_in, below_rows, clear_rows, clear_txn, is_first, least_in, mark_row};

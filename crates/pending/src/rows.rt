@@ -1,6 +1,5 @@
 //! The marks of each row.
-ghost use Rattle.std.specs.Prelude.{◌≡◌, if◌then◌else◌, [], ◌&&◌, IfOk, OnOk, OnErr, IfErr, Some, None, true, ◌↔◌};
-ghost use Rattle.std.specs.Ordering.{is_eq};
+ghost use Rattle.std.specs.Prelude.{◌≡◌, if◌then◌else◌, [], IfOk, OnOk, OnErr, IfErr, Some, None, true, ◌↔◌};
 ghost use Rattle.logical_time.specs.declared.fault.Fault.TheVariants as fault;
 ghost use Rattle.logical_time.specs.Stamps.{TxnValue, txn_cmp};
 ghost use Rattle.column_family.specs.declared.batch.Row.{Row};
