@@ -3,6 +3,5 @@ pub mod CohortBytes
 pub mod Greatest
 pub mod Numbering
 pub mod Places
-pub mod Rested
 pub mod RowParts
 pub mod WritersInOrder

@@ -12,7 +12,7 @@ use Rattle.planner.proofs.Members.{contains_map, map_contains}
 use Rattle.messages.specs.Shard.{ShardState}
 use Rattle.slice.specs.Rows.{row_of}
 use Rattle.messages.specs.Rows.{columns_of, is_rested_on, writers_of, row_now, row_at}
-use Rattle.messages.proofs.Rested.{tested_if_rested}
+use Rattle.slice.proofs.Rested.{tested_if_rested}
 use Rattle.messages.proofs.WritersInOrder.{writers_ascend, writers_stay}
 
 -- the parts that the read rests on

@@ -37,7 +37,6 @@ pub fn rounds_of_two_rows()
 
 /// The transactions whose writers a shard answers with a row are those that the read of the row rests on. Does nothing;
 /// its contract is the law.
-#[tactic(auto, using(crate::proofs::Rested::tested_if_rested))]
 pub fn writers_are_rested_on()
     ensures { (h : History) (r : Row) (p : Predicate) (s : StampValue) → (is_rested_on h r p s ≡ true) ↔ RowRestsOn h r p s }
 {}

@@ -1,6 +1,6 @@
 -- The rows of a batch's normal form are those of the batch, where nothing refuses it.
 use Rattle.std.proofs.Common.{◌≡◌, ◌∙◌, ℕ, ap, sym, refl, Bool, true, false, List, [], ◌∷◌, Option, Some, None}
-use Rattle.std.specs.Prelude.{if◌then◌else◌, ◌||◌, is_some, option_map}
+use Rattle.std.specs.Prelude.{◌||◌, is_some, option_map}
 use Rattle.std.specs.List.{list_any, AllByRecursion}
 use Rattle.std.specs.Option.{option_or}
 use Rattle.std.specs.Str.{bytes_eq}
@@ -17,22 +17,13 @@ use Rattle.column_family.specs.Places.{normal_of}
 use Rattle.column_family.proofs.Kept.{one_row}
 use Rattle.column_family.proofs.Options.{both_true}
 use Rattle.column_family.proofs.Order.{normal_form, normal_stands}
+use Rattle.slice.proofs.Changed.{some_last}
 use Rattle.planner.specs.Checks.{mutation_fault, change_fault, changes_fault, batch_fault}
 use Rattle.planner.specs.Plan.{is_on, is_touched}
 
 -- ---- what stands for a batch touches the same locations
-last_any : (p : Change → Bool) (cs : List Change) → is_some (last_of p cs) ≡ list_any p cs
-last_any p [] = refl
-last_any p (c ∷ cs) = go (p c) (last_of p cs) (list_any p cs) (last_any p cs)
-  where
-    go : (b : Bool) (o : Option Mutation) (t : Bool) → is_some o ≡ t → is_some (option_or o (if b then Some c.mutation else None)) ≡ (b || t)
-    go true None t e = refl
-    go true (Some m) t e = refl
-    go false None t e = e
-    go false (Some m) t e = e
-
 newest_any : (cs : List Change) (l : Location) → is_some (newest_at (committed cs (record { time = 0; node = 0 }) 0 ∷ []) 0 l) ≡ list_any (touches l) cs
-newest_any cs l = go (last_of (touches l) cs) (last_any (touches l) cs)
+newest_any cs l = go (last_of (touches l) cs) (some_last (touches l) cs)
   where
     go : (o : Option Mutation) → is_some o ≡ list_any (touches l) cs → is_some (newer_of (option_map (stamped (committed cs (record { time = 0; node = 0 }) 0)) o) None) ≡ list_any (touches l) cs
     go None e = e
@@ -117,12 +108,17 @@ accepted_effective schema (c ∷ cs) h =
     let m = neither _ _ (neither _ _ f.0).1 in
     (allowed_effective c.mutation m.1, accepted_effective schema cs f.1)
 
--- the normal form touches the same shards
+-- what the normal form of a batch touches, the batch does
+pub touched_if_kept : (batch : List Change) (shards s : ℕ) → is_touched shards (normal_of batch) s ≡ true → is_touched shards batch s ≡ true
+touched_if_kept batch shards s h =
+    on_kept shards s (normal_of batch) batch (recursion_from_All (λ (c : Change). IsEffective c.mutation) (normal_of batch) (normal_form batch).0)
+    (λ l g. sym (same_touched (normal_of batch) batch (normal_stands batch) l) ∙ g) h
+
+-- the normal form touches the same shards, where nothing refuses the batch
 pub same_shards : (schema : List (List ℕ)) (batch : List Change) (shards s : ℕ) → batch_fault schema batch ≡ None → is_touched shards (normal_of batch) s ≡ is_touched shards batch s
 same_shards schema batch shards s accepted =
     let stands = normal_stands batch in
-    let effective = recursion_from_All (λ (c : Change). IsEffective c.mutation) (normal_of batch) (normal_form batch).0 in
     let own = accepted_effective schema batch (neither _ _ (neither _ _ accepted).1).1 in
     both (is_touched shards (normal_of batch) s) (is_touched shards batch s)
-    (on_kept shards s (normal_of batch) batch effective (λ l h. sym (same_touched (normal_of batch) batch stands l) ∙ h))
+    (touched_if_kept batch shards s)
     (on_kept shards s batch (normal_of batch) own (λ l h. same_touched (normal_of batch) batch stands l ∙ h))

@@ -56,7 +56,7 @@ equal_if Less e = absurd (cc)
 equal_if Equal e = refl
 equal_if Greater e = absurd (cc)
 
-equal_names : (q n : List ℕ) → is_eq (slice_cmp nat_cmp q n) ≡ true → q ≡ n
+pub equal_names : (q n : List ℕ) → is_eq (slice_cmp nat_cmp q n) ≡ true → q ≡ n
 equal_names q n e = exact_bytes q n (equal_if (slice_cmp nat_cmp q n) e)
 
 given_one : (f : List ℕ → Option Column) (q n : List ℕ) (c : Column) (b : Bool) (rest : List Column) → is_eq (slice_cmp nat_cmp q n) ≡ b → f q ≡ Some c

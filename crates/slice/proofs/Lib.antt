@@ -1,7 +1,13 @@
+pub mod Lists
 pub mod NameOrder
 pub mod Selected
 pub mod FilterMap
 pub mod Asked
 pub mod Chosen
 pub mod LiveTable
+pub mod Changed
 pub mod Standing
+pub mod SameNewest
+pub mod RowTests
+pub mod RowAlike
+pub mod Rested

@@ -1,15 +1,17 @@
 -- What the read of a row rests on.
-use Rattle.std.specs.Prelude.{◌≡◌, ℕ, Bool, true, false, ◌&&◌, ◌||◌, nat_lt, if◌then◌else◌, ◌-◌, List, length, slice_get, Some, ◌⊎◌}
+use Rattle.std.specs.Prelude.{◌≡◌, ℕ, Bool, true, false, ◌&&◌, ◌||◌, nat_lt, if◌then◌else◌, ◌-◌, List, length, slice_get, Option, Some, None, ◌⊎◌}
+use Rattle.std.specs.List.{list_any}
 use Rattle.std.specs.Option.{option_map_or}
-use Rattle.logical_time.specs.Stamps.{StampValue}
+use Rattle.std.specs.Ordering.{is_eq}
+use Rattle.logical_time.specs.Stamps.{StampValue, stamp_cmp}
 use Rattle.column_family.specs.declared.batch.Row.{Row}
 use Rattle.column_family.specs.Location.{is_row_deletion}
-use Rattle.column_family.specs.History.{History, newest_of, stamp_of, RestsOn}
+use Rattle.column_family.specs.History.{History, newest, newest_of, stamp_of, RestsOn}
 use Rattle.slice.specs.declared.column.Column.{Column}
 use Rattle.slice.specs.declared.predicate.Predicate.{Predicate}
 use Rattle.slice.specs.declared.predicate.Predicate.TheVariants.{Names, Range}
 use Rattle.slice.specs.Slice.{name_le, is_asked, slice_of}
-use Rattle.slice.specs.Live.{live_columns}
+use Rattle.slice.specs.Live.{live_columns, columns_changed}
 
 -- whether a walk that returned these columns had come to the name by the last of them
 abbrev pub is_reached : Bool → List Column → List ℕ → Bool
@@ -33,3 +35,14 @@ abbrev pub RowRestsOn : History → Row → Predicate → StampValue → Type 0
 RowRestsOn h r p s =
     ((name : List ℕ) × (is_looked_at p (slice_of p (live_columns h r)) name ≡ true) × RestsOn h (record { row = r; name = name }) s)
     ⊎ (stamp_of (newest_of (is_row_deletion r) h) ≡ Some s)
+
+abbrev pub has_stamp : Option StampValue → StampValue → Bool
+has_stamp None s = false
+has_stamp (Some z) s = is_eq (stamp_cmp z s)
+
+-- the same as a test: the transaction's is the newest mutation of a column that the read looked at, or the newest
+-- deletion of the row
+abbrev pub is_rested_on : History → Row → Predicate → StampValue → Bool
+is_rested_on h r p s =
+    list_any (λ n. is_looked_at p (slice_of p (live_columns h r)) n && has_stamp (stamp_of (newest h (record { row = r; name = n }))) s) (columns_changed h r)
+    || has_stamp (stamp_of (newest_of (is_row_deletion r) h)) s

@@ -7,6 +7,7 @@ ghost use Rattle.column_family.specs.declared.batch.Change.{Change};
 ghost use Rattle.column_family.specs.declared.batch.Row.{Row};
 ghost use Rattle.slice.specs.declared.column.Column.{Column};
 ghost use Rattle.slice.specs.Live.{live_columns};
+ghost use Rattle.slice.specs.Parts.{HaveSameOf};
 ghost use Rattle.slice.specs.Rests.{RowRestsOn};
 ghost use Rattle.slice.specs.declared.predicate.Predicate.{Predicate};
 
@@ -25,4 +26,14 @@ pub fn live_columns_are_the_table()
 pub fn reads_rest_on_the_same()
     ensures { (kept given : List Change) → StandsFor kept given → (before after : History) (s : StampValue) (commit time : ℕ) (r : Row) (p : Predicate) (w : StampValue)
         → RowRestsOn (up_to time (before ++ committed kept s commit ∷ after)) r p w ↔ RowRestsOn (up_to time (before ++ committed given s commit ∷ after)) r p w }
+{}
+
+/// The parts of transactions make of a row what their whole batches make of it, where they have the same of the row: at
+/// each of its locations the same mutation is newest, the live columns are the same, and a read of the row rests on the
+/// same transactions, whatever it asks. Does nothing; its contract is the law.
+#[tactic(auto, using(crate::proofs::RowAlike::newest_alike, crate::proofs::RowAlike::live_alike))]
+pub fn parts_make_the_same_of_a_row()
+    ensures newest { (r : Row) (parts whole : History) → HaveSameOf r parts whole → (name : List ℕ) → newest parts (record { row = r; name = name }) ≡ newest whole (record { row = r; name = name }) }
+    ensures live { (r : Row) (parts whole : History) → HaveSameOf r parts whole → live_columns parts r ≡ live_columns whole r }
+    ensures rests { (r : Row) (parts whole : History) → HaveSameOf r parts whole → (p : Predicate) (s : StampValue) → RowRestsOn parts r p s ↔ RowRestsOn whole r p s }
 {}

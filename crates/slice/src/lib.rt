@@ -12,7 +12,7 @@ mod read;
 mod selecting;
 
 pub use column::{Column, Columns};
-pub use law::{live_columns_are_the_table, reads_rest_on_the_same};
+pub use law::{live_columns_are_the_table, parts_make_the_same_of_a_row, reads_rest_on_the_same};
 pub use live::{columns_changed, live_columns};
 pub use ordering::{are_in_order, set_of};
 pub use predicate::{Names, Predicate};

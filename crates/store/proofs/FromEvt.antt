@@ -22,12 +22,12 @@ use Rattle.store.specs.declared.part.Part.{Part}
 use Rattle.store.specs.Part.{history_of, applied_by, IsRestedOn, IsRightPart, IsNewestPart, commit_of, column_evt, evt_of}
 use Rattle.store.specs.Keeps.{AreApart}
 use Rattle.store.proofs.Lists.{none_in_empty, first_or_rest, kept_only, given_only}
-use Rattle.store.proofs.Changed.{among_if_changed}
+use Rattle.slice.proofs.Changed.{among_if_changed, own_name}
 use Rattle.store.proofs.Newer.{newest_by, history_by}
 use Rattle.store.proofs.Apart.{apart_by, one_part, newest_from}
 use Rattle.store.proofs.Touched.{newest_touch}
 use Rattle.store.proofs.Slices.{slice_alike, asked_some, live_keeps_names}
-use Rattle.store.proofs.View.{below_greatest, own_name}
+use Rattle.store.proofs.View.{below_greatest}
 
 -- ---- a column that is live is among those that are changed
 among_contained : (q : List ℕ) (ns : List (List ℕ)) → Contains ns q → is_among q ns ≡ true

@@ -33,7 +33,7 @@ use Rattle.store.proofs.Lists.{contains_first, contains_rest}
 use Rattle.store.proofs.Newer.{history_by}
 use Rattle.store.proofs.Apart.{new_stamp, apart_more}
 use Rattle.store.proofs.Touched.{Precedes, after_first, rest_in_order, in_row, none_last, each_weaker}
-use Rattle.store.proofs.View.{own_name}
+use Rattle.slice.proofs.Changed.{own_name}
 use Rattle.store.proofs.Overtaken.{newest_more}
 
 -- ---- a normal batch has at most one change at each place

@@ -2,7 +2,6 @@ pub mod Maps
 pub mod Places
 pub mod Changes
 pub mod Lists
-pub mod Changed
 pub mod Newer
 pub mod Apart
 pub mod Touched

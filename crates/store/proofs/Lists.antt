@@ -1,20 +1,8 @@
 -- What a list contains once it is filtered, or seen by a function.
-use Rattle.std.proofs.Common.{◌≡◌, ◌∙◌, sym, ap, subst, refl, zero, suc, Bool, true, false, ◌||◌, ◌⊎◌, inl, inr, cond, List, [], ◌∷◌, map, Option, Some, None, arith}
+use Rattle.std.proofs.Common.{◌≡◌, ◌∙◌, sym, ap, subst, refl, Bool, true, false, ◌||◌, inl, inr, cond, List, [], ◌∷◌, map, Option, Some, None}
 use Rattle.std.specs.Prelude.{filter, filter_map, Contains}
 use Rattle.std.specs.List.{cons_option, list_any, AllByRecursion}
-
-pub none_in_empty : {X : Type 0} (x : X) → Contains [] x → ⊥
-none_in_empty x (k, lt, e) = omega arith
-
-pub contains_first : {X : Type 0} (x : X) (xs : List X) → Contains (x ∷ xs) x
-contains_first x xs = (zero, omega arith, refl)
-
-pub contains_rest : {X : Type 0} (x z : X) (xs : List X) → Contains xs z → Contains (x ∷ xs) z
-contains_rest x z xs (k, lt, e) = (suc k, omega arith, e)
-
-pub first_or_rest : {X : Type 0} (x z : X) (xs : List X) → Contains (x ∷ xs) z → (x ≡ z) ⊎ Contains xs z
-first_or_rest x z xs (zero, lt, e) = inl e
-first_or_rest x z xs (suc k, lt, e) = inr (k, omega arith, e)
+pub use Rattle.slice.proofs.Lists.{none_in_empty, contains_first, contains_rest, first_or_rest}
 
 -- what passes the test stays
 pub kept : {X : Type 0} (q : X → Bool) (xs : List X) (x : X) → Contains xs x → q x ≡ true → Contains (filter q xs) x

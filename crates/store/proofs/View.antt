@@ -28,7 +28,7 @@ use Rattle.store.specs.Kept.{Place, is_at}
 use Rattle.store.specs.Keeps.{AreApart, mutation_of, stamped_of, IsFrom}
 use Rattle.store.specs.Sight.{Sight, NamedVersion, AreSeen, is_covered, live_of, evt_or_0, evt_of_sight, writer_of, writers_of, IsPartSeen}
 use Rattle.store.proofs.Lists.{none_in_empty, contains_first, contains_rest, first_or_rest, given, given_only}
-use Rattle.store.proofs.Changed.{among_if_changed}
+use Rattle.slice.proofs.Changed.{among_if_changed, own_name}
 use Rattle.store.proofs.Apart.{one_part}
 use Rattle.store.proofs.Touched.{newest_touch}
 use Rattle.store.proofs.Slices.{slice_alike, asked_some, live_keeps_names}
@@ -84,9 +84,6 @@ columns_seen f [] at_each = refl
 columns_seen f (s ∷ rest) at_each =
     ap (λ (o : Option Column). cons_option o (filter_map (live_of (f None)) rest)) (sym (ap (shown (f None) s.0) (at_each s (contains_first s rest))))
     ∙ ap (cons_option (shown (f None) s.0 (f (Some s.0)))) (columns_seen f rest (λ z has. at_each z (contains_rest s z rest has)))
-
-pub own_name : (q : List ℕ) → is_eq (slice_cmp nat_cmp q q) ≡ true
-own_name q = is_eq_named q q ∙ (bytes_eq-Decides q q).1 refl
 
 among_names : (q : List ℕ) (v : Version) (seen : List NamedVersion) → Contains seen (q, v) → is_among q (names_of seen) ≡ true
 among_names q v [] has = absurd (none_in_empty (q, v) has)

@@ -1,17 +1,16 @@
 -- What a store answers, by what was applied to it.
-use Rattle.std.specs.Prelude.{◌≡◌, ℕ, max, nat_le, if◌then◌else◌, Bool, List, [], ◌∷◌, map, filter, Option, Some, None, Contains, ◌↔◌}
-use Rattle.std.specs.List.{list_any}
+use Rattle.std.specs.Prelude.{◌≡◌, ℕ, max, nat_le, if◌then◌else◌, List, [], ◌∷◌, map, filter, Option, Some, None, Contains, ◌↔◌}
 use Rattle.std.specs.List.Sorted.{IsStrictlySortedBy}
 use Rattle.logical_time.specs.Stamps.{WriterValue, writer_cmp}
 use Rattle.column_family.specs.declared.batch.Row.{Row}
-use Rattle.column_family.specs.declared.batch.Change.{Change}
 use Rattle.column_family.specs.declared.batch.Committed.{Committed}
-use Rattle.column_family.specs.Location.{is_same_row, is_column_change, is_row_deletion}
+use Rattle.column_family.specs.Location.{is_column_change, is_row_deletion}
 use Rattle.column_family.specs.History.{History, Stamped, newest_of}
 use Rattle.slice.specs.declared.predicate.Predicate.{Predicate}
 use Rattle.slice.specs.Slice.{slice_of, is_asked}
 use Rattle.slice.specs.Live.{live_columns, columns_changed}
 use Rattle.slice.specs.Rests.{RowRestsOn}
+pub use Rattle.slice.specs.Parts.{has_row}
 use Rattle.store.specs.declared.part.Applied.{Applied}
 use Rattle.store.specs.declared.part.Part.{Part}
 
@@ -25,10 +24,6 @@ history_of applied = map committed_of applied
 -- what was applied with a commit time at or before a time
 abbrev pub applied_by : ℕ → List Applied → List Applied
 applied_by t applied = filter (λ a. nat_le a.commit t) applied
-
--- whether changes touch the row
-abbrev pub has_row : Row → List Change → Bool
-has_row r rows = list_any (λ c. is_same_row r c.row) rows
 
 -- the read of the row rests on something that this writer's transaction applied
 abbrev pub IsRestedOn : List Applied → Row → Predicate → WriterValue → Type 0

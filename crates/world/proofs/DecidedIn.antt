@@ -6,6 +6,7 @@ use Rattle.std.proofs.lemmas.Bool.{false≢true}
 use Rattle.logical_time.specs.Stamps.{StampValue, TxnValue}
 use Rattle.column_family.specs.declared.batch.Change.{Change}
 use Rattle.column_family.specs.declared.batch.Committed.{Committed}
+use Rattle.slice.specs.Parts.{AreStampedApart}
 use Rattle.store.specs.declared.part.Applied.{Applied}
 use Rattle.store.proofs.Lists.{given, given_only}
 use Rattle.planner.proofs.Members.{contains_flat, flat_contains, contains_below}
@@ -20,7 +21,6 @@ use Rattle.world.proofs.Near.{coordinator_below, listed_below}
 use Rattle.world.proofs.Among.{Among, among_contains, contains_among, find_some, find_none, any_false, same_txn, same_txn_self}
 use Rattle.world.proofs.Facts.{txn_of, IsWritten, lead, part_on, IsStamp, DecisionSound, AppliedSound}
 use Rattle.world.proofs.Invariant.{SubmittedSound, Inv}
-use Rattle.world.proofs.SameNewest.{OneEach}
 
 -- ---- a transaction has one submission, with one batch
 pub found : (top : TopologyValue) (w : Run) → SubmittedSound top w → (b : Submission) (t : TxnValue) → Among b w.submitted → txn_of b ≡ t
@@ -181,10 +181,10 @@ entry_is top w inv dc c m =
       commit = ap (λ (e : Committed). e.commit) whole;
     }
 
-pub one_each : (top : TopologyValue) (w : Run) → Inv top w → (dc : ℕ) → OneEach (history_of top w dc)
+pub one_each : (top : TopologyValue) (w : Run) → Inv top w → (dc : ℕ) → AreStampedApart (history_of top w dc)
 one_each top w inv dc c e mc me same =
-    let is = entry_is top w inv dc c mc in
-    let was = entry_is top w inv dc e me in
+    let is = entry_is top w inv dc c (contains_among c (history_of top w dc) mc) in
+    let was = entry_is top w inv dc e (contains_among e (history_of top w dc) me) in
     let one = stamp_decision top w inv dc is.decision was.decision is.decided was.decided (sym is.stamp ∙ same ∙ was.stamp) in
     let some : Some c ≡ Some e = sym is.made ∙ ap (committed_of w) one ∙ was.made in
     cc

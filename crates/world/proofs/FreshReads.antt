@@ -6,13 +6,14 @@ use Rattle.std.specs.List.{list_any, range_with_len}
 use Rattle.std.proofs.lemmas.Bool.{and_parts}
 use Rattle.column_family.specs.declared.batch.Row.{Row}
 use Rattle.column_family.specs.declared.batch.Change.{Change}
-use Rattle.column_family.specs.Location.{is_same_row, touches, touches_name}
+use Rattle.column_family.specs.Location.{is_same_row, touches}
 use Rattle.column_family.specs.Places.{normal_of}
 use Rattle.column_family.proofs.Kept.{one_row}
 use Rattle.slice.specs.declared.read.Read.{Read}
 use Rattle.slice.specs.declared.read.AnsweredRow.{AnsweredRow}
 use Rattle.slice.specs.Slice.{is_asked}
 use Rattle.slice.proofs.LiveTable.{at}
+use Rattle.slice.proofs.RowTests.{touched_row}
 use Rattle.store.specs.declared.part.Applied.{Applied}
 use Rattle.store.specs.Part.{history_of as parts_of, evt_of}
 use Rattle.slice.specs.Rows.{row_of}
@@ -58,9 +59,9 @@ row_here : (top : TopologyValue) (node : ℕ) (batch part : List Change) (row : 
     → list_any (touches (at row name)) part ≡ true
     → shard_of_key top.shards row.key ≡ shard_of top node
 row_here top node batch part row name is touched =
-    let c = any_true (touches (at row name)) part touched in
+    let c = any_true (λ (z : Change). is_same_row row z.row) part (touched_row (at row name) part touched) in
     let on = filter_only (λ (z : Change). is_on top.shards (shard_of top node) z.row.key) (normal_of batch) c.0 (subst (λ cs. Among c.0 cs) is c.1) in
-    let same : row ≡ c.0.row = one_row row c.0.row (and_parts (is_same_row row c.0.row) (touches_name c.0.mutation name) c.2).0 in
+    let same : row ≡ c.0.row = one_row row c.0.row c.2 in
     ap (λ (z : Row). shard_of_key top.shards z.key) same ∙ eqb-true (shard_of_key top.shards c.0.row.key) (shard_of top node) on.1
 
 -- an asked shard is one of the session's home

@@ -9,14 +9,17 @@ use Rattle.column_family.specs.declared.batch.Change.{Change}
 use Rattle.column_family.specs.declared.batch.Committed.{Committed}
 use Rattle.column_family.specs.declared.batch.Mutation.{Mutation}
 use Rattle.column_family.specs.Location.{Location, touches}
-use Rattle.column_family.specs.History.{History, Stamped, up_to, last_of, newest_of}
+use Rattle.column_family.specs.History.{up_to, last_of}
+use Rattle.column_family.specs.Places.{normal_of}
 use Rattle.slice.specs.declared.predicate.Predicate.{Predicate}
 use Rattle.slice.specs.Slice.{is_asked}
 use Rattle.slice.proofs.LiveTable.{at}
+use Rattle.slice.proofs.SameNewest.{newest_some, no_newer}
+use Rattle.slice.proofs.RowTests.{touches_test, last_alike}
 use Rattle.store.specs.declared.part.Applied.{Applied}
 use Rattle.store.specs.Part.{committed_of as part_entry, history_of as parts_of, applied_by, evt_of}
 use Rattle.store.specs.Keeps.{AreApart}
-use Rattle.store.proofs.Changed.{some_last}
+use Rattle.slice.proofs.Changed.{some_last}
 use Rattle.store.proofs.FromEvt.{touch_agrees}
 use Rattle.store.proofs.Newer.{not_older_trans}
 use Rattle.planner.specs.Partition.{shard_of as shard_of_key}
@@ -24,14 +27,14 @@ use Rattle.messages.specs.Topology.{TopologyValue, dc_of, shard_of}
 use Rattle.world.specs.Run.{Run}
 use Rattle.world.specs.Histories.{history_of}
 use Rattle.world.specs.Fresh.{IsNoOlder}
-use Rattle.world.proofs.Among.{Among, filter_only, filter_among, map_only, map_among}
+use Rattle.world.proofs.Among.{Among, among_contains, contains_among, filter_only, filter_among, map_only, map_among}
 use Rattle.world.proofs.Invariant.{Inv}
-use Rattle.world.proofs.SameNewest.{newest_none, newest_some}
-use Rattle.world.proofs.RowTests.{last_in_part, touches_test}
+use Rattle.world.proofs.Facts.{part_on}
+use Rattle.world.proofs.PartRows.{part_changes}
 use Rattle.world.proofs.DecidedIn.{applied_in, entry, entry_among}
 
 -- a batch with a change of the location has a last one there
-pub last_there : (q : Change → Bool) (cs : List Change) → list_any q cs ≡ true → (m : Mutation) × (last_of q cs ≡ Some m)
+last_there : (q : Change → Bool) (cs : List Change) → list_any q cs ≡ true → (m : Mutation) × (last_of q cs ≡ Some m)
 last_there q cs e = go (last_of q cs) refl
   where
     go : (o : Option Mutation) → last_of q cs ≡ o → (m : Mutation) × (last_of q cs ≡ Some m)
@@ -47,14 +50,6 @@ pub record IsCover (all : List Applied) (l : Location) (time : ℕ) (x : Applied
   pub last : last_of (touches l) part.part.batch ≡ Some mutation
   pub newer : is_older part.stamp x.stamp ≡ false
 
-newest_go : (q : Change → Bool) (h : History) (c : Committed) (m : Mutation) → Among c h → last_of q c.batch ≡ Some m
-    → (n : Stamped) × (newest_of q h ≡ Some n) × (is_older n.stamp c.stamp ≡ false)
-newest_go q h c m has e = go (newest_of q h) refl
-  where
-    go : (o : Option Stamped) → newest_of q h ≡ o → (n : Stamped) × (newest_of q h ≡ Some n) × (is_older n.stamp c.stamp ≡ false)
-    go None f = let none = sym e ∙ newest_none q h f c has in absurd (cc)
-    go (Some n) f = (n, f, (newest_some q h n f).top c m has e)
-
 -- what touches an asked location is covered by the time of the row's newest versions
 pub covered : (all : List Applied) (row : Row) (p : Predicate) (name : List ℕ) (time : ℕ) (x : Applied) → AreApart all
     → evt_of (parts_of all) row p ≤ time
@@ -62,9 +57,9 @@ pub covered : (all : List Applied) (row : Row) (p : Predicate) (name : List ℕ)
 covered all row p name time x apart le asked has touched =
     let q = touches (at row name) in
     let own = last_there q x.part.batch touched in
-    let n = newest_go q (parts_of all) (part_entry x) own.0 (map_among part_entry all x has) own.1 in
+    let n = no_newer q (parts_of all) (part_entry x) own.0 (among_contains (part_entry x) (parts_of all) (map_among part_entry all x has)) own.1 in
     let by = newest_some q (parts_of (applied_by time all)) n.0 (sym (touch_agrees all row p time apart le name asked) ∙ n.1) in
-    let r = map_only part_entry (applied_by time all) by.entry by.among in
+    let r = map_only part_entry (applied_by time all) by.entry (contains_among by.entry (parts_of (applied_by time all)) by.among) in
     let f = filter_only (λ (a : Applied). nat_le a.commit time) all r.0 r.1 in
     record {
       part = r.0;
@@ -90,6 +85,7 @@ shown top w inv some node row name here time x is =
     let entered = entry_among top w inv (dc_of top node) own.decision own.among own.decided in
     let has = filter_among (λ (c : Committed). nat_le c.commit time) (history_of top w (dc_of top node)) d entered low in
     let last : last_of q batch ≡ Some is.mutation =
-    sym (last_in_part top.shards (shard_of top node) row q (touches_test (at row name)) here batch) ∙ ap (last_of q) (sym own.batch) ∙ is.last in
-    let n = newest_go q (up_to time (history_of top w (dc_of top node))) d is.mutation has last in
+    sym (last_alike row q (touches_test (at row name)) (part_on top batch node) batch (part_changes top.shards (shard_of top node) row here (normal_of batch)))
+    ∙ ap (last_of q) (sym own.batch) ∙ is.last in
+    let n = no_newer q (up_to time (history_of top w (dc_of top node))) d is.mutation (among_contains d (up_to time (history_of top w (dc_of top node))) has) last in
     (n.0, n.1, not_older_trans n.0.stamp v.stamp x.stamp (ap (λ (s : StampValue). is_older n.0.stamp s) (sym own.stamp) ∙ n.2) is.newer)

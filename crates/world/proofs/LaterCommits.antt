@@ -11,6 +11,7 @@ use Rattle.planner.specs.Partition.{shard_of as shard_of_key}
 use Rattle.messages.specs.Topology.{TopologyValue, dc_of, shard_node}
 use Rattle.messages.specs.Shard.{Decision}
 use Rattle.slice.specs.Rows.{row_of}
+use Rattle.slice.proofs.RowTests.{touched_normal}
 use Rattle.messages.proofs.Numbering.{dc_of_shard, number_of_shard}
 use Rattle.world.specs.Run.{Run}
 use Rattle.world.specs.Histories.{batch_submitted, decisions_in}
@@ -20,10 +21,8 @@ use Rattle.world.proofs.Facts.{RowAtSound}
 use Rattle.world.proofs.Invariant.{AnsweredFrom, Inv}
 use Rattle.world.proofs.Lasting.{complete_grows}
 use Rattle.world.proofs.Near.{key_below}
-use Rattle.world.proofs.RowTests.{touches_test}
 use Rattle.world.proofs.DecidedIn.{DecidedIn, decided_in, applied_in, one_decision, written_batch}
 use Rattle.world.proofs.ShownOnRow.{sees_it}
-use Rattle.world.proofs.FreshShown.{last_there}
 
 module _ (top : TopologyValue) (some : 0 < top.shards) (w x : Run) (inv : Inv top w) (later : Inv top x) (g : Grows top w x) (dc time : ℕ) (read : Read) where
   abbrev node_for : List ℕ → ℕ
@@ -45,8 +44,8 @@ module _ (top : TopologyValue) (some : 0 < top.shards) (w x : Run) (inv : Inv to
       let same : Some its.sound.batch ≡ Some batch =
       sym (written_batch top x later.submitted its.sound.submission d.txn its.sound.batch its.sound.written) ∙ is in
       let batches : its.sound.batch ≡ batch = cc in
-      let last = last_there (touches l) its.sound.batch (ap (λ (z : List Change). list_any (touches l) z) batches ∙ hit) in
-      let seen = sees_it top x later some node (row_of read r.key) (sym number) time sound.seen (complete_grows g sound.complete) (touches l) (touches_test l) d its last.0 last.1 (leb-true d.commit time e) in
+      let touched = touched_normal l its.sound.batch (ap (λ (z : List Change). list_any (touches l) z) batches ∙ hit) in
+      let seen = sees_it top x later some node (row_of read r.key) (sym number) time sound.seen (complete_grows g sound.complete) d its touched (leb-true d.commit time e) in
       let old = applied_in top w inv some node seen.0 ((inv.shards node).applied seen.0 (sound.complete.applied seen.0 seen.1)) in
       let kept : DecidedIn top x (dc_of top node) old.decision =
       record {

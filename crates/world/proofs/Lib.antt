@@ -39,11 +39,9 @@ pub mod LiveReplicas
 pub mod LiveHandled
 pub mod LiveWaits
 pub mod HandledWaits
-pub mod SameNewest
-pub mod RowTests
+pub mod PartRows
 pub mod DecidedIn
 pub mod ShownOnRow
-pub mod RowAlike
 pub mod ReadTables
 pub mod ReadRests
 pub mod SessionSteps

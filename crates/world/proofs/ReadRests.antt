@@ -1,20 +1,20 @@
 -- What a completed read rests on is what the writers of its rows wrote.
-use Rattle.std.proofs.Common.{◌≡◌, ◌∙◌, ℕ, ◌<◌, sym, ap, subst, refl, Bool, nat_le, List, map, Option, Some, None, inl, inr}
+use Rattle.std.proofs.Common.{◌≡◌, ◌∙◌, ℕ, ◌<◌, sym, ap, subst, refl, nat_le, List, map}
 use Rattle.std.specs.Prelude.{Contains}
 use Rattle.std.specs.List.{flat_map}
 use Rattle.std.proofs.lemmas.List.Sorted.{IsPermutation-refl}
 use Rattle.logical_time.specs.Stamps.{StampValue, TxnValue, WriterValue}
 use Rattle.column_family.specs.declared.batch.Row.{Row}
-use Rattle.column_family.specs.declared.batch.Change.{Change}
-use Rattle.column_family.specs.Location.{Location, touches, is_row_deletion}
-use Rattle.column_family.specs.History.{Stamped, up_to, newest_of, stamp_of, RestsOn}
+use Rattle.column_family.specs.declared.batch.Committed.{Committed}
+use Rattle.column_family.specs.History.{up_to}
 use Rattle.slice.specs.declared.predicate.Predicate.{Predicate}
 use Rattle.slice.specs.declared.read.Read.{Read}
 use Rattle.slice.specs.Rests.{RowRestsOn}
+use Rattle.slice.specs.Parts.{HaveSameOf}
+use Rattle.slice.proofs.RowAlike.{rest_alike, rested_entry}
 use Rattle.store.specs.declared.part.Applied.{Applied}
-use Rattle.store.specs.Part.{history_of as parts_of, applied_by}
+use Rattle.store.specs.Part.{committed_of as part_entry, history_of as parts_of, applied_by}
 use Rattle.store.proofs.Lists.{kept_only}
-use Rattle.store.proofs.Apart.{newest_from}
 use Rattle.slice.specs.Rows.{row_of}
 use Rattle.planner.proofs.Members.{map_contains, contains_flat}
 use Rattle.messages.specs.declared.rows_at.RowAt.{RowAt}
@@ -29,34 +29,19 @@ use Rattle.world.proofs.Among.{Among, among_contains, contains_among}
 use Rattle.world.proofs.Facts.{RowAtSound}
 use Rattle.world.proofs.Invariant.{AnsweredFrom, Inv}
 use Rattle.world.proofs.DecidedIn.{DecidedIn, decided_in, stamp_decision, IsAppliedIn, applied_in}
-use Rattle.world.proofs.RowAlike.{AreAlike, alike_rests}
 use Rattle.world.proofs.ReadTables.{node_of, right_alike}
 
 -- ---- what a read of a row rests on is one of the parts
-of_stamp : (q : Change → Bool) (applied : List Applied) (s : StampValue) → stamp_of (newest_of q (parts_of applied)) ≡ Some s
-    → (a : Applied) × Contains applied a × (a.stamp ≡ s)
-of_stamp q applied s e = go (newest_of q (parts_of applied)) refl e
-  where
-    go : (o : Option Stamped) → newest_of q (parts_of applied) ≡ o → stamp_of o ≡ Some s → (a : Applied) × Contains applied a × (a.stamp ≡ s)
-    go None f g = absurd (cc)
-    go (Some x) f g =
-        let r = newest_from q applied x f in
-        let same : x.stamp ≡ s = cc in
-        (r.0, r.1, r.2 ∙ same)
-
-of_location : (applied : List Applied) (l : Location) (s : StampValue) → RestsOn (parts_of applied) l s
-    → (a : Applied) × Contains applied a × (a.stamp ≡ s)
-of_location applied l s (inl c) = of_stamp (touches l) applied s c.1
-of_location applied l s (inr d) = of_stamp (is_row_deletion l.row) applied s d
-
 rested_part : (applied : List Applied) (r : Row) (p : Predicate) (s : StampValue) → RowRestsOn (parts_of applied) r p s
     → (a : Applied) × Contains applied a × (a.stamp ≡ s)
-rested_part applied r p s (inl (name, looked, rests)) = of_location applied (record { row = r; name = name }) s rests
-rested_part applied r p s (inr gone) = of_stamp (is_row_deletion r) applied s gone
+rested_part applied r p s rests =
+    let c = rested_entry (parts_of applied) r p s rests in
+    let a = map_contains part_entry applied c.0 c.1 in
+    (a.0, a.1, ap (λ (d : Committed). d.stamp) a.2 ∙ c.2)
 
 -- ---- a row that a read was answered with
 module _ (top : TopologyValue) (w : Run) (inv : Inv top w) (some : 0 < top.shards) (dc time : ℕ) (read : Read) (r : RowAt) (sound : RowAtSound top w (node_of top dc r.key) time read r) where
-  alike : AreAlike (row_of read r.key) (up_to time (history_of top w dc)) (parts_of (applied_by time sound.seen))
+  alike : HaveSameOf (row_of read r.key) (parts_of (applied_by time sound.seen)) (up_to time (history_of top w dc))
   alike = right_alike top w inv some dc time read r sound (history_of top w dc) (IsPermutation-refl (history_of top w dc))
 
   seen_here : (a : Applied) → Contains (applied_by time sound.seen) a → IsAppliedIn top w (node_of top dc r.key) a
@@ -73,7 +58,7 @@ module _ (top : TopologyValue) (w : Run) (inv : Inv top w) (some : 0 < top.shard
       → RowRestsOn (up_to time (history_of top w dc)) (row_of read r.key) read.predicate d.stamp
       → (k : WriterValue) × Contains r.writers k × (k.txn ≡ d.txn)
   writer_of_row d has rests =
-      let here = alike_rests (row_of read r.key) (up_to time (history_of top w dc)) (parts_of (applied_by time sound.seen)) read.predicate d.stamp alike rests in
+      let here = (rest_alike (row_of read r.key) (parts_of (applied_by time sound.seen)) (up_to time (history_of top w dc)) alike read.predicate d.stamp).1 rests in
       let p = rested_part (applied_by time sound.seen) (row_of read r.key) read.predicate d.stamp here in
       let a = p.0 in
       let is = seen_here a p.1 in

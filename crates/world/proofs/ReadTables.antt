@@ -7,6 +7,8 @@ use Rattle.slice.specs.declared.read.Read.{Read}
 use Rattle.slice.specs.declared.read.AnsweredRow.{AnsweredRow}
 use Rattle.slice.specs.Slice.{slice_of}
 use Rattle.slice.specs.Live.{live_columns}
+use Rattle.slice.specs.Parts.{HaveSameOf}
+use Rattle.slice.proofs.RowAlike.{live_alike}
 use Rattle.store.specs.Part.{history_of as parts_of, applied_by}
 use Rattle.slice.specs.Rows.{row_of}
 use Rattle.table.specs.Meaning.{shown_row, meaning}
@@ -27,7 +29,7 @@ use Rattle.world.proofs.Near.{key_below}
 use Rattle.world.proofs.Among.{among_contains, contains_among}
 use Rattle.world.proofs.Facts.{RowAtSound}
 use Rattle.world.proofs.Invariant.{AnsweredFrom, AnsweredSound, EndSound, Inv}
-use Rattle.world.proofs.RowAlike.{AreAlike, alike_live, complete_alike}
+use Rattle.world.proofs.ShownOnRow.{same_of_row}
 
 -- the shard of a key in a data centre
 abbrev pub node_of : TopologyValue → ℕ → List ℕ → ℕ
@@ -45,13 +47,13 @@ answered top w inv c read time answer has is came =
     answered_so c.op c.outcome top w c.home read time answer (record { session = c.node; number = c.number }) is came
     (inv.transcript c (contains_among c w.transcript has)).came
 
--- what is right of a row, on the shard of its key, is what the history of the data centre makes of the row
+-- what is right of a row, on the shard of its key, has the same of the row as the history of the data centre
 pub right_alike : (top : TopologyValue) (w : Run) → Inv top w → 0 < top.shards
     → (dc time : ℕ) (read : Read) (r : RowAt) (sound : RowAtSound top w (node_of top dc r.key) time read r)
-    → (h : History) → IsHistory top w dc h → AreAlike (row_of read r.key) (up_to time h) (parts_of (applied_by time sound.seen))
+    → (h : History) → IsHistory top w dc h → HaveSameOf (row_of read r.key) (parts_of (applied_by time sound.seen)) (up_to time h)
 right_alike top w inv some dc time read r sound h is =
     let below = key_below top.shards r.key some in
-    complete_alike top w inv some (node_of top dc r.key) (row_of read r.key) (sym (number_of_shard top dc (shard_of_key top.shards r.key) below)) time sound.seen sound.complete h
+    same_of_row top w inv some (node_of top dc r.key) (row_of read r.key) (sym (number_of_shard top dc (shard_of_key top.shards r.key) below)) time sound.seen sound.complete h
     (subst (λ d. IsHistory top w d h) (sym (dc_of_shard top dc (shard_of_key top.shards r.key) below)) is)
 
 pub right_columns : (top : TopologyValue) (w : Run) → Inv top w → 0 < top.shards → (dc time : ℕ) (read : Read) (r : RowAt)
@@ -59,7 +61,7 @@ pub right_columns : (top : TopologyValue) (w : Run) → Inv top w → 0 < top.sh
     → (h : History) → IsHistory top w dc h → r.columns ≡ slice_of read.predicate (live_columns (up_to time h) (row_of read r.key))
 right_columns top w inv some dc time read r sound h is =
     sound.shown.columns
-    ∙ ap (slice_of read.predicate) (sym (alike_live (row_of read r.key) (up_to time h) (parts_of (applied_by time sound.seen)) (right_alike top w inv some dc time read r sound h is)))
+    ∙ ap (slice_of read.predicate) (live_alike (row_of read r.key) (parts_of (applied_by time sound.seen)) (up_to time h) (right_alike top w inv some dc time read r sound h is))
 
 -- the row of an answer
 abbrev pub answered_row : RowAt → AnsweredRow

@@ -1,6 +1,6 @@
 -- Data centres that committed the same batches have one table, at each time that isn't below the commit times of both.
 use Rattle.std.proofs.Common.{◌≡◌, ◌∙◌, ℕ, ◌≤◌, sym, ap, subst, refl, Bool, true, false, nat_le, List, Option, Some, None, arith}
-use Rattle.std.specs.Prelude.{option_map}
+use Rattle.std.specs.Prelude.{Contains, option_map}
 use Rattle.std.proofs.lemmas.Bool.Decides.{nat_tests}
 use Rattle.std.proofs.lemmas.List.Sorted.{Contains-permutation, IsPermutation-sym}
 use Rattle.logical_time.specs.Stamps.{StampValue, TxnValue, is_older}
@@ -9,25 +9,27 @@ use Rattle.column_family.specs.declared.batch.Committed.{Committed}
 use Rattle.column_family.specs.declared.batch.Mutation.{Mutation}
 use Rattle.column_family.specs.Location.{Location, touches}
 use Rattle.column_family.specs.History.{History, Stamped, up_to, last_of, newest_of}
+use Rattle.slice.specs.Parts.{AreStampedApart}
+use Rattle.slice.proofs.SameNewest.{IsNewest, neither_older, newest_none, newest_some}
+use Rattle.store.proofs.Lists.{kept, kept_only}
 use Rattle.messages.specs.Topology.{TopologyValue}
 use Rattle.messages.specs.Shard.{Decision}
 use Rattle.world.specs.Run.{Run, Submission}
 use Rattle.world.specs.Histories.{decisions_in, history_of, IsHistory}
 use Rattle.world.specs.Settled.{IsCommittedIn, AreEqualTables}
-use Rattle.world.proofs.Among.{Among, among_contains, contains_among, filter_only, filter_among}
+use Rattle.world.proofs.Among.{Among, among_contains, contains_among}
 use Rattle.world.proofs.Facts.{IsWritten, lead, IsStamp}
 use Rattle.world.proofs.Invariant.{Inv}
 use Rattle.world.proofs.OneBatch.{written_at, submitted_one, batch_one}
 use Rattle.world.proofs.DecidedIn.{decided_in, entry, entry_among, entry_is, one_each}
-use Rattle.world.proofs.SameNewest.{OneEach, IsNewest, neither_older, newest_none, newest_some}
 
 -- ## Two histories with the same batches and stamps
 
 -- each mutation of the first history stands in the second, with its stamp
 abbrev pub HasStamped : (Change → Bool) → History → History → Type 0
 HasStamped q h g =
-    (c : Committed) (m : Mutation) → Among c h → last_of q c.batch ≡ Some m
-    → (d : Committed) × Among d g × (d.stamp ≡ c.stamp) × (last_of q d.batch ≡ Some m)
+    (c : Committed) (m : Mutation) → Contains h c → last_of q c.batch ≡ Some m
+    → (d : Committed) × Contains g d × (d.stamp ≡ c.stamp) × (last_of q d.batch ≡ Some m)
 
 none_both : (q : Change → Bool) (h g : History) (x : Stamped) → HasStamped q h g → newest_of q g ≡ None → IsNewest q h x → ⊥
 none_both q h g x into e n =
@@ -36,7 +38,7 @@ none_both q h g x into e n =
     let some = d.3 in
     cc
 
-one_newest : (q : Change → Bool) (h g : History) (x y : Stamped) → HasStamped q h g → HasStamped q g h → OneEach h → IsNewest q h x → IsNewest q g y
+one_newest : (q : Change → Bool) (h g : History) (x y : Stamped) → HasStamped q h g → HasStamped q g h → AreStampedApart h → IsNewest q h x → IsNewest q g y
     → x.mutation ≡ y.mutation
 one_newest q h g x y into back one n k =
     let d = into n.entry x.mutation n.among n.mutation in
@@ -48,7 +50,7 @@ one_newest q h g x y into back one n k =
     let some : Some x.mutation ≡ Some y.mutation = sym n.mutation ∙ ap (λ (e : Committed). last_of q e.batch) same ∙ c.3 in
     cc
 
-same_mutation : (q : Change → Bool) (h g : History) → HasStamped q h g → HasStamped q g h → OneEach h
+same_mutation : (q : Change → Bool) (h g : History) → HasStamped q h g → HasStamped q g h → AreStampedApart h
     → option_map (λ (s : Stamped). s.mutation) (newest_of q h) ≡ option_map (λ (s : Stamped). s.mutation) (newest_of q g)
 same_mutation q h g into back one = go (newest_of q h) (newest_of q g) refl refl
   where
@@ -80,8 +82,8 @@ module _ (top : TopologyValue) (w : Run) (inv : Inv top w) (time : ℕ) (l : Loc
       → ((t : TxnValue) (b : Submission) (batch : List Change) → IsWritten w t b batch → IsCommittedIn top w other t)
       → ((c : Committed) → Among c g → c.commit ≤ time) → HasStamped (touches l) (up_to time h) (up_to time g)
   across dc other h g is was all early c m has e =
-      let f = filter_only (λ (a : Committed). nat_le a.commit time) h c has in
-      let k = entry_is top w inv dc c (contains_among c (history_of top w dc) (Contains-permutation h (history_of top w dc) c is (among_contains c h f.0))) in
+      let f = kept_only (λ (a : Committed). nat_le a.commit time) h c has in
+      let k = entry_is top w inv dc c (contains_among c (history_of top w dc) (Contains-permutation h (history_of top w dc) c is f.0)) in
       let from = k.decided.sound in
       let d = all k.decision.txn from.submission from.batch from.written in
       let there = contains_among d.0 (decisions_in top w other) d.1 in
@@ -97,15 +99,15 @@ module _ (top : TopologyValue) (w : Run) (inv : Inv top w) (time : ℕ) (l : Loc
       let le = early r in_g in
       let low : nat_le r.commit time ≡ true = grind (arith, nat_tests) in (
         r,
-        filter_among (λ (a : Committed). nat_le a.commit time) g r in_g low,
+        kept (λ (a : Committed). nat_le a.commit time) g r (among_contains r g in_g) low,
         stamp ∙ sym k.stamp,
         ap (last_of (touches l)) (batch ∙ sym k.batch) ∙ e,
       )
 
-  one_by : (dc : ℕ) (h : History) → IsHistory top w dc h → OneEach (up_to time h)
+  one_by : (dc : ℕ) (h : History) → IsHistory top w dc h → AreStampedApart (up_to time h)
   one_by dc h is c d mc md =
-      let from = λ (e : Committed) (m : Among e (up_to time h)). contains_among e (history_of top w dc)
-      (Contains-permutation h (history_of top w dc) e is (among_contains e h (filter_only (λ a. nat_le a.commit time) h e m).0)) in
+      let from = λ (e : Committed) (m : Contains (up_to time h) e).
+      Contains-permutation h (history_of top w dc) e is (kept_only (λ (a : Committed). nat_le a.commit time) h e m).0 in
       one_each top w inv dc c d (from c mc) (from d md)
 
 pub equal_tables : (top : TopologyValue) (w : Run) → Inv top w → (dc other : ℕ)

@@ -6,6 +6,7 @@ use Rattle.std.specs.Cmp.Lexicographic.{slice_cmp}
 use Rattle.std.specs.List.{list_any, cons_option}
 use Rattle.std.specs.Option.{option_map_or, option_or}
 use Rattle.std.proofs.lemmas.List.Folds.{list_any-append}
+use Rattle.std.proofs.lemmas.Slice.Eq.{bytes_eq-Decides}
 use Rattle.logical_time.specs.Stamps.{is_older}
 use Rattle.column_family.specs.declared.batch.Row.{Row}
 use Rattle.column_family.specs.declared.batch.Change.{Change}
@@ -18,6 +19,10 @@ use Rattle.slice.specs.Live.{columns_changed, column_changed, column_named}
 use Rattle.slice.proofs.Asked.{is_among}
 use Rattle.slice.proofs.LiveTable.{at}
 use Rattle.slice.proofs.Selected.{any_in_order, is_eq_named}
+
+-- a name is its own
+pub own_name : (q : List ℕ) → is_eq (slice_cmp nat_cmp q q) ≡ true
+own_name q = is_eq_named q q ∙ (bytes_eq-Decides q q).1 refl
 
 any_cons_option : {X : Type 0} (t : X → Bool) (o : Option X) (xs : List X) → list_any t (cons_option o xs) ≡ (option_map_or t o false || list_any t xs)
 any_cons_option t None xs = refl

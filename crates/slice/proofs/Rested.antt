@@ -12,13 +12,10 @@ use Rattle.column_family.specs.History.{History, newest, newest_of, stamp_of}
 use Rattle.slice.specs.declared.predicate.Predicate.{Predicate}
 use Rattle.slice.specs.Slice.{slice_of}
 use Rattle.slice.specs.Live.{live_columns, columns_changed}
-use Rattle.slice.specs.Rests.{is_looked_at, RowRestsOn}
-use Rattle.messages.specs.Rows.{has_stamp, is_rested_on}
-use Rattle.slice.proofs.Asked.{is_among}
+use Rattle.slice.specs.Rests.{is_looked_at, RowRestsOn, has_stamp, is_rested_on}
+use Rattle.slice.proofs.Asked.{is_among, equal_names}
 use Rattle.slice.proofs.LiveTable.{at as column_at}
-use Rattle.store.proofs.Changed.{among_if_changed}
-use Rattle.store.proofs.Maps.{same_name}
-use Rattle.store.proofs.View.{own_name}
+use Rattle.slice.proofs.Changed.{among_if_changed, own_name}
 
 either : (a b : Bool) → (a || b) ≡ true → (a ≡ true) ⊎ (b ≡ true)
 either true b e = inl refl
@@ -76,7 +73,7 @@ any_found f (n ∷ ns) e = go (f n) refl (any_found f ns) e
 any_listed : (f : List ℕ → Bool) (ns : List (List ℕ)) (q : List ℕ) → is_among q ns ≡ true → f q ≡ true → list_any f ns ≡ true
 any_listed f [] q named is = absurd (cc)
 any_listed f (n ∷ ns) q named is = elim (either (is_eq (slice_cmp nat_cmp q n)) (is_among q ns) named) [
-  | inl here ↦ or_first (f n) (list_any f ns) (ap f (sym (same_name q n here)) ∙ is)
+  | inl here ↦ or_first (f n) (list_any f ns) (ap f (sym (equal_names q n here)) ∙ is)
   | inr there ↦ or_second (f n) (list_any f ns) (any_listed f ns q there is)
 ]
 
