@@ -6,3 +6,4 @@ pub mod Members
 pub mod Parts
 pub mod Right
 pub mod Rows
+pub mod Requests
