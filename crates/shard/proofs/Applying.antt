@@ -112,6 +112,9 @@ applies_so top me n t p commit stamp k room ts waits a before after r is apart g
     apart_there : AreApart (apply_part top me n a p commit stamp).state.applied
     apart_there = subst (λ (s : ShardStep). AreApart s.state.applied) step_is apart
 
+    known : is_some (state_of k.transactions.ledger t) ≡ true
+    known = ap (λ (s : Option State). is_some s) is
+
     there : state_of room.ledger t ≡ Some (Holds (in_open.Part p))
     there = ap (λ (l : LedgerValue). state_of l t) same_ledger ∙ is
 
@@ -130,6 +133,8 @@ applies_so top me n t p commit stamp k room ts waits a before after r is apart g
       store = λ all keeps normal apart. kept_too.keeps all (grown.keeps all keeps) normal apart;
       early = λ u other. ap (λ (es : VoterList). voters_of es u) (early ∙ room_early);
       notices = λ u other. refl;
+      own_early = λ gone. ap (λ (es : VoterList). voters_of es t) (early ∙ room_early) ∙ gone known;
+      own_notices = λ gone. gone known;
       askers = λ u other. refl;
       own_askers = λ e. refl;
       waiting = let_go;

@@ -1,12 +1,11 @@
 -- Begin, as what is kept takes it.
-use Rattle.std.proofs.Common.{◌≡◌, ◌∙◌, sym, ap, subst, refl, ℕ, ◌<◌, Bool, true, false, if◌then◌else◌, List, [], ◌∷◌, ◌++◌, Some, None, map, length, append-nil, arith}
+use Rattle.std.proofs.Common.{◌≡◌, ◌∙◌, sym, ap, subst, refl, ℕ, ◌<◌, true, false, List, [], ◌∷◌, ◌++◌, Some, None, map, length, append-nil, arith}
 use Rattle.std.specs.Prelude.{filter, ◌==◌}
 use Rattle.std.specs.List.{list_all}
 use Rattle.std.proofs.lemmas.Bool.Decides.{nat_tests}
 use Rattle.logical_time.specs.Stamps.{TxnValue}
 use Rattle.column_family.proofs.Options.{by_cases}
-use Rattle.store.specs.Kept as in_store
-use Rattle.store.specs.Keeps.{Keeps, AreApart}
+use Rattle.store.specs.Keeps.{AreApart}
 use Rattle.txn_state.specs.Ballot.{CompleteValue}
 use Rattle.txn_state.specs.Votes.{VotesValue, votes_after}
 use Rattle.messages.specs.declared.envelope.Envelope.{Envelope}
@@ -19,7 +18,7 @@ use Rattle.messages.specs.Commits.{decide, hold, on_begin}
 use Rattle.messages.proofs.Places.{shard_at_place}
 use Rattle.write_txn.specs.declared.open.Open.TheVariants as in_open
 use Rattle.write_txn.specs.declared.open.Led.{Led}
-use Rattle.write_txn.specs.Ledger.{Holds, IsDecided, LedgerValue, state_of, Becomes}
+use Rattle.write_txn.specs.Ledger.{Holds, IsDecided, state_of, Becomes}
 use Rattle.write_txn.specs.Transactions.{TransactionsValue}
 use Rattle.write_txn.specs.Voters.{VoterList, voters_of}
 use Rattle.write_txn.specs.View.{view_of, near_nodes, left_of}
@@ -30,11 +29,11 @@ use Rattle.write_txn.proofs.Bodies.{begin_voted, begin_unvoted, early_nodes, unk
 use Rattle.shard.specs.declared.kept.Kept.{Kept}
 use Rattle.shard.specs.declared.begun.Begun.{Begun}
 use Rattle.shard.specs.Kept.{Represents, IsStep}
-use Rattle.shard.specs.Effects.{IsAfter}
+use Rattle.shard.specs.Effects.{IsWithout, IsAfter}
 use Rattle.shard.specs.Deciding.{node_at, told, IsSettled}
 use Rattle.shard.specs.Begun.{ballot_of, IsDecidedNow}
 use Rattle.shard.proofs.Standing.{moved}
-use Rattle.shard.proofs.InPlace.{with_transactions, stands_so}
+use Rattle.shard.proofs.InPlace.{with_both, after_forgetting, stands_so}
 use Rattle.shard.proofs.Decisions.{decides_so, settled_after}
 
 -- the ballot that is held of what a Begin says
@@ -56,15 +55,15 @@ some_missing ns h = grind (arith, nat_tests)
 
 -- ## A ballot is held
 
-pub holds_begun : (top : TopologyValue) (me n : ℕ) (k : Kept) (held ts : TransactionsValue) (a : ShardState) (b : Begun) (votes : VotesValue) (sent : List Envelope)
+pub holds_begun : (top : TopologyValue) (me n : ℕ) (k : Kept) (held ts : TransactionsValue) (ns : VoterList) (a : ShardState) (b : Begun) (votes : VotesValue) (sent : List Envelope)
     → Represents top me k a → AreApart (on_begin top me n a (ballot_of b)).state.applied → state_of k.transactions.ledger b.txn ≡ None
     → votes ≡ votes_after (near_nodes top me b.cohorts) (voters_of k.transactions.early b.txn) → 0 < length votes.missing
     → Becomes b.txn (Some (Holds (in_open.Led (led_of k n b votes)))) k.transactions.ledger held.ledger → held.store ≡ k.transactions.store → held.early ≡ k.transactions.early
-    → ts.ledger ≡ held.ledger → ts.store ≡ held.store → ((u : TxnValue) → voters_of ts.early u ≡ (if is_same_txn b.txn u then [] else voters_of held.early u))
-    → IsStep top me (on_begin top me n a (ballot_of b)) (with_transactions k ts n) sent sent
-holds_begun top me n k held ts a b votes sent r apart unknown votes_are missing becomes stays early same_ledger same_store forgotten =
-    subst (λ (s : ShardStep). IsStep top me s (with_transactions k ts n) sent sent) (sym step_is) (record {
-      state = moved top me n b.txn (Holds (in_open.Led led)) None k.waiting k (with_transactions k ts n) a (hold top me n a (ballot_of b) counted []).state r after_it moves refl r.waiting
+    → ts.ledger ≡ held.ledger → ts.store ≡ held.store → IsWithout b.txn held.early ts.early → IsWithout b.txn k.notices ns
+    → IsStep top me (on_begin top me n a (ballot_of b)) (with_both k ts ns n) sent sent
+holds_begun top me n k held ts ns a b votes sent r apart unknown votes_are missing becomes stays early same_ledger same_store forgotten notices =
+    subst (λ (s : ShardStep). IsStep top me s (with_both k ts ns n) sent sent) (sym step_is) (record {
+      state = moved top me n b.txn (Holds (in_open.Led led)) None k.waiting k (with_both k ts ns n) a (hold top me n a (ballot_of b) counted []).state r after_it moves refl r.waiting
           (subst (λ (s : ShardStep). AreApart s.state.applied) step_is apart);
       sends = sym (append-nil sent);
     })
@@ -92,19 +91,8 @@ holds_begun top me n k held ts a b votes sent r apart unknown votes_are missing 
         (ap (λ (v : VotesValue). v.cohorts) votes_are)
         (ap (λ (v : VotesValue). v.missing) votes_of_view ∙ ap (left_of (near_nodes top me b.cohorts)) (sym (early_nodes b.txn a.early))) left
 
-    after_it : IsAfter b.txn (Holds (in_open.Led led)) None n k.waiting k (with_transactions k ts n)
-    after_it = record {
-      place = refl;
-      clock = refl;
-      low = ap (λ (s : in_store.Kept). s.low) (same_store ∙ stays);
-      state = λ u. ap (λ (l : LedgerValue). state_of l u) same_ledger ∙ becomes u;
-      store = λ all keeps. subst (λ (s : in_store.Kept). Keeps s all) (sym (same_store ∙ stays)) keeps;
-      early = λ u other. forgotten u ∙ (ap (λ (x : Bool). if x then [] else voters_of held.early u) other ∙ ap (λ (es : VoterList). voters_of es u) early);
-      notices = λ u other. refl;
-      askers = λ u other. refl;
-      own_askers = λ e. refl;
-      waiting = refl;
-    }
+    after_it : IsAfter b.txn (Holds (in_open.Led led)) None n k.waiting k (with_both k ts ns n)
+    after_it = after_forgetting b.txn (Holds (in_open.Led led)) n k held ts ns becomes stays early same_ledger same_store forgotten notices
 
 -- ## It is decided at once
 

@@ -1,11 +1,13 @@
 -- The step of a notice or an answer that isn't the last missing thing of a ballot, or of none.
-use Rattle.std.proofs.Common.{◌≡◌, ◌∙◌, sym, ap, subst, refl, ℕ, Bool, false, List, [], Option, Some, None, append-nil}
+use Rattle.std.proofs.Common.{◌≡◌, ◌∙◌, sym, ap, subst, refl, ℕ, Bool, true, false, List, [], Option, Some, None, is_some, append-nil}
 use Rattle.std.specs.Prelude.{◌==◌, if◌then◌else◌}
 use Rattle.logical_time.specs.Stamps.{TxnValue}
+use Rattle.column_family.proofs.Options.{by_cases}
 use Rattle.store.specs.Keeps.{AreApart, Keeps}
 use Rattle.txn_state.specs.RemoteBallot.{missing_in}
 use Rattle.messages.specs.declared.envelope.Envelope.{Envelope}
 use Rattle.messages.specs.Topology.{TopologyValue}
+use Rattle.messages.specs.Words.{is_same_txn}
 use Rattle.messages.specs.Shard.{ShardState}
 use Rattle.write_txn.specs.declared.open.Missing.{Missing}
 use Rattle.write_txn.specs.declared.open.Open.TheVariants as in_open
@@ -14,12 +16,13 @@ use Rattle.write_txn.specs.Ledger.{State, Holds, IsApplied, IsDecided, LedgerVal
 use Rattle.write_txn.specs.Transactions.{TransactionsValue}
 use Rattle.write_txn.specs.Stands.{kept_ballot_of}
 use Rattle.write_txn.specs.Voters.{VoterList, voters_of}
-use Rattle.write_txn.proofs.Finds.{found_ballot}
+use Rattle.write_txn.proofs.Finds.{found_ballot, same_txn}
 use Rattle.write_txn.proofs.Txns.{by_txn}
 use Rattle.write_txn.proofs.Unready.{unready_state, none_complete}
 use Rattle.shard.specs.declared.kept.Kept.{Kept}
 use Rattle.shard.specs.Kept.{Represents, IsStep}
 use Rattle.shard.specs.Concluding.{IsUnderWay}
+use Rattle.shard.specs.Effects.{IsWithout}
 use Rattle.shard.specs.Counting.{IsInTime, on_missing}
 use Rattle.shard.proofs.InPlace.{stands_so}
 use Rattle.shard.proofs.NoticeSteps.{is_remote_open, missing_passes, missing_so}
@@ -31,6 +34,12 @@ same_states t l m becomes u =
     becomes u ∙ by_txn t u
     (λ is e. ap (λ (b : Bool). if b then state_of l t else state_of l u) e ∙ ap (state_of l) is)
     (λ e. ap (λ (b : Bool). if b then state_of l t else state_of l u) e)
+
+-- what has no voter of a transaction is as it is without it
+without : (t : TxnValue) (es : VoterList) → voters_of es t ≡ [] → IsWithout t es es
+without t es none u = by_cases (is_same_txn t u)
+    (λ yes. subst (λ (v : TxnValue). voters_of es v ≡ []) (same_txn t u yes) none ∙ sym (ap (λ (b : Bool). if b then [] else voters_of es u) yes))
+    (λ no. sym (ap (λ (b : Bool). if b then [] else voters_of es u) no))
 
 module _ (missing : Missing) (top : TopologyValue) (me n : ℕ) (t : TxnValue) (k : Kept) (ts : TransactionsValue) (a : ShardState) (before : List Envelope)
     (r : Represents top me k a) (in_time : IsInTime missing (state_of k.transactions.ledger t)) (apart : AreApart (on_missing missing top me n a t).state.applied)
@@ -63,9 +72,19 @@ module _ (missing : Missing) (top : TopologyValue) (me n : ℕ) (t : TxnValue) (
       → IsStep top me (on_missing missing top me n a t) (record k { transactions = ts; clock = n }) before before
   remote_counted b is more becomes =
       let h = stands_so top me k a t (Some (Holds (in_open.Remote b))) r is in
+      let known : is_some (state_of k.transactions.ledger t) ≡ true = ap (λ (o : Option State). is_some o) is in
       let s = state_with missing (state_of k.transactions.ledger t) in
       let waits : lacks_nothing s ≡ false = ap (λ (o : Option State). lacks_nothing (state_with missing o)) is ∙ more in
-      let under_way : IsUnderWay t n counted (record k { transactions = ts; clock = n }) = record { place = refl; clock = refl; transactions = refl; notices = λ u other. refl; askers = refl; waiting = refl } in
+      let under_way : IsUnderWay t n counted (record k { transactions = ts; clock = n }) = record {
+        place = refl;
+        clock = refl;
+        ledger = refl;
+        store = refl;
+        early = without t ts.early (ap (λ (vs : VoterList). voters_of vs t) early ∙ r.early_forgotten t known);
+        notices = without t k.notices (r.notices_forgotten t known);
+        askers = refl;
+        waiting = refl;
+      } in
       missing_so missing top me n n t b k k.transactions ts b.ballot.stamp false None (record k { transactions = ts; clock = n }) a before [] before
       refl (found_ballot a.kept_ballots t (kept_ballot_of b) h.0.kept_ballot) (ap open_in is) refl (sym more)
       r apart (record { low = refl; keeps = λ all keeps. keeps }) refl refl

@@ -21,6 +21,7 @@ use Rattle.write_txn.specs.Transactions.{TransactionsValue, GoesOnKeeping}
 use Rattle.write_txn.specs.Voters.{voters_of}
 use Rattle.write_txn.specs.View.{near_nodes}
 use Rattle.write_txn.specs.Moves.{Moves}
+use Rattle.write_txn.proofs.Finds.{own_txn}
 use Rattle.write_txn.proofs.Leading.{MayDecide, decides}
 use Rattle.shard.specs.declared.kept.Kept.{Kept}
 use Rattle.shard.specs.Kept.{Represents, IsStep}
@@ -88,6 +89,8 @@ settled_after t own n stamp k ts l becomes stores early s = record {
   store = λ all keeps normal apart. s.store.keeps all (stores.keeps all keeps) normal apart;
   early = λ u other. s.early u ∙ (ap (λ (b : Bool). if b then [] else voters_of ts.early u) other ∙ ap (λ es. voters_of es u) early);
   notices = λ u other. s.notices u ∙ ap (λ (b : Bool). if b then [] else voters_of k.notices u) other;
+  own_early = λ gone. s.early t ∙ ap (λ (b : Bool). if b then [] else voters_of ts.early t) (own_txn t);
+  own_notices = λ gone. s.notices t ∙ ap (λ (b : Bool). if b then [] else voters_of k.notices t) (own_txn t);
   askers = λ u other. s.askers u ∙ ap (λ (b : Bool). if b then [] else askers_of k.askers u) other;
   own_askers = λ e. absurd (cc);
   waiting = s.waiting;

@@ -1,5 +1,5 @@
 -- The steps of votes and notices for transactions of which nothing is known.
-use Rattle.std.proofs.Common.{◌≡◌, ◌∙◌, sym, ap, subst, refl, ℕ, Bool, true, false, if◌then◌else◌, List, [], ◌∷◌, ◌++◌, None, append-nil}
+use Rattle.std.proofs.Common.{◌≡◌, ◌∙◌, sym, ap, subst, refl, ℕ, Bool, true, false, if◌then◌else◌, List, [], ◌∷◌, ◌++◌, Option, None, is_some, append-nil}
 use Rattle.logical_time.specs.Stamps.{TxnValue}
 use Rattle.column_family.proofs.Options.{by_cases}
 use Rattle.store.specs.Kept as in_store
@@ -11,7 +11,7 @@ use Rattle.messages.specs.Words.{is_same_txn}
 use Rattle.messages.specs.Shard.{ShardState, ShardStep, Vote}
 use Rattle.messages.specs.Commits.{early_if, on_yes}
 use Rattle.messages.specs.Replication.{early_notice_if, on_notify}
-use Rattle.write_txn.specs.Ledger.{LedgerValue, state_of}
+use Rattle.write_txn.specs.Ledger.{LedgerValue, State, state_of}
 use Rattle.write_txn.specs.Voters.{VoterList, voters_of}
 use Rattle.write_txn.specs.View.{View, view_of, nodes_for}
 use Rattle.write_txn.specs.Stands.{Stands}
@@ -55,6 +55,12 @@ stays_unknown top me n t k ts ns a es os r unknown ledger store about own_early 
   notices = λ u e. by_cases (is_same_txn t u)
       (λ yes. subst (λ (v : TxnValue). voters_of ns v ≡ nodes_for os v) (same_txn t u yes) own_notices)
       (λ no. other_notices u no ∙ (r.notices u (before u e) ∙ ap (λ (v : View). v.notices) (sym (others u no))));
+  early_forgotten = λ u e. by_cases (is_same_txn t u)
+      (λ yes. absurd (not_known u yes e))
+      (λ no. other_early u no ∙ r.early_forgotten u (known_before u e));
+  notices_forgotten = λ u e. by_cases (is_same_txn t u)
+      (λ yes. absurd (not_known u yes e))
+      (λ no. other_notices u no ∙ r.notices_forgotten u (known_before u e));
   askers = r.askers;
   waiting = r.waiting;
   once = r.once;
@@ -66,6 +72,16 @@ stays_unknown top me n t k ts ns a es os r unknown ledger store about own_early 
 
     before : (u : TxnValue) → state_of ts.ledger u ≡ None → state_of k.transactions.ledger u ≡ None
     before u e = ap (λ (l : LedgerValue). state_of l u) (sym ledger) ∙ e
+
+    known_before : (u : TxnValue) → is_some (state_of ts.ledger u) ≡ true → is_some (state_of k.transactions.ledger u) ≡ true
+    known_before u e = ap (λ (l : LedgerValue). is_some (state_of l u)) (sym ledger) ∙ e
+
+    not_known : (u : TxnValue) → is_same_txn t u ≡ true → is_some (state_of ts.ledger u) ≡ true → ⊥
+    not_known u same e =
+        let known : is_some (state_of k.transactions.ledger t) ≡ true = subst (λ (v : TxnValue). is_some (state_of k.transactions.ledger v) ≡ true) (sym (same_txn t u same)) (known_before u e) in
+        let none : is_some (state_of k.transactions.ledger t) ≡ false = ap (λ (o : Option State). is_some o) unknown in
+        let f : false ≡ true = sym none ∙ known in
+        cc
 
     own : Stands top me t (view_of t (with_lists a n es os)) (state_of k.transactions.ledger t)
     own =

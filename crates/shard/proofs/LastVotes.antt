@@ -211,7 +211,7 @@ counts_so top me n node here t k ts a sent r apart known not_last becomes stays 
         let c = counts top me n a t l node (found_txn a.prepared t (own_part l) stands.prepared) stands left in
         let held = subst (λ (s : Option State). Becomes t s k.transactions.ledger ts.ledger) (ap (λ (x : Bool). Some (led_after l here n (voted_if x (record l.ballot { votes = counted l.ballot.votes node })))) left) b in
         subst (λ (s : ShardStep). IsStep top me s (with_transactions k ts n) sent sent) (sym c.1)
-        (step_in_place top me n t (Holds (in_open.Led (with_counted l node))) k ts a (quiet n c.0) sent sent r held stays early (clocked top me n t (Some (Holds (in_open.Led (with_counted l node)))) a c.0 c.2) refl c.3
+        (step_in_place top me n t (Holds (in_open.Led (with_counted l node))) k ts a (quiet n c.0) sent sent r (ap (λ (s : Option State). is_some s) is) held stays early (clocked top me n t (Some (Holds (in_open.Led (with_counted l node)))) a c.0 c.2) refl c.3
         (subst (λ (s : ShardStep). AreApart s.state.applied) c.1 apart) (sym (append-nil sent)))
 
     go : (o : Option State) → state_of k.transactions.ledger t ≡ o → is_some o ≡ true → is_some (completed_by node o) ≡ false → Becomes t (state_voted here n node o) k.transactions.ledger ts.ledger

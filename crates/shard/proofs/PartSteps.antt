@@ -17,45 +17,49 @@ use Rattle.write_txn.specs.declared.open.Open.TheVariants as in_open
 use Rattle.write_txn.specs.Ledger.{State, Holds, IsApplied, IsDecided, state_of, Becomes, open_in, state_prepared, replica_of}
 use Rattle.write_txn.specs.Stands.{kept_part_of}
 use Rattle.write_txn.specs.Transactions.{TransactionsValue, cohorts_part}
+use Rattle.write_txn.specs.Voters.{VoterList}
 use Rattle.write_txn.proofs.CohortSteps.{known_if, cohort_prepares}
 use Rattle.write_txn.proofs.Bodies.{prepare_unknown}
 use Rattle.write_txn.proofs.Replicas.{repl_part_unknown, part_is_kept, prepare_remote_kept, kept_is_prepared, is_kept, prepare_remote_ignored}
 use Rattle.shard.specs.declared.kept.Kept.{Kept}
 use Rattle.shard.specs.Kept.{Represents, IsStep}
+use Rattle.shard.specs.Effects.{IsWithout}
 use Rattle.shard.proofs.Standing.{is_quiet}
-use Rattle.shard.proofs.InPlace.{with_transactions, step_in_place, stands_so}
+use Rattle.shard.proofs.InPlace.{with_transactions, with_both, step_in_place, step_forgetting, stands_so}
 
 -- a part of an unknown transaction is prepared
-pub prepares : (top : TopologyValue) (me n : ℕ) (k : Kept) (ts : TransactionsValue) (a : ShardState) (p : WritePart) (before after : List Envelope)
+pub prepares : (top : TopologyValue) (me n : ℕ) (k : Kept) (held ts : TransactionsValue) (ns : VoterList) (a : ShardState) (p : WritePart) (before after : List Envelope)
     → Represents top me k a → AreApart (on_prepare top me n a p.writer.txn p.batch p.writer.shard).state.applied
     → state_of k.transactions.ledger p.writer.txn ≡ None
-    → Becomes p.writer.txn (Some (Holds (in_open.Part (cohorts_part p n)))) k.transactions.ledger ts.ledger → ts.store ≡ k.transactions.store → ts.early ≡ k.transactions.early
+    → Becomes p.writer.txn (Some (Holds (in_open.Part (cohorts_part p n)))) k.transactions.ledger held.ledger → held.store ≡ k.transactions.store → held.early ≡ k.transactions.early
+    → ts.ledger ≡ held.ledger → ts.store ≡ held.store → IsWithout p.writer.txn held.early ts.early → IsWithout p.writer.txn k.notices ns
     → after ≡ before ++ envelope me (shard_node top (dc_of top me) p.writer.shard) n (Yes p.writer.txn) ∷ []
-    → IsStep top me (on_prepare top me n a p.writer.txn p.batch p.writer.shard) (with_transactions k ts n) before after
-prepares top me n k ts a p before after r apart unknown becomes store early sends =
+    → IsStep top me (on_prepare top me n a p.writer.txn p.batch p.writer.shard) (with_both k ts ns n) before after
+prepares top me n k held ts ns a p before after r apart unknown becomes store early same_ledger same_store forgotten notices sends =
     let h = stands_so top me k a p.writer.txn None r unknown in
     let is = prepare_unknown top me n a p.writer.txn p.batch p.writer.shard h in
-    subst (λ (s : ShardStep). IsStep top me s (with_transactions k ts n) before after) (sym is)
-    (step_in_place top me n p.writer.txn (Holds (in_open.Part (cohorts_part p n))) k ts a (prepare_part top me n a p.writer.txn p.batch p.writer.shard Cohort) before after r becomes store early
+    subst (λ (s : ShardStep). IsStep top me s (with_both k ts ns n) before after) (sym is)
+    (step_forgetting top me n p.writer.txn (Holds (in_open.Part (cohorts_part p n))) k held ts ns a (prepare_part top me n a p.writer.txn p.batch p.writer.shard Cohort) before after r becomes store early same_ledger same_store forgotten notices
     (cohort_prepares top me n a (cohorts_part p n) h.unled h.prepared h.applied refl (λ x e. absurd (let f : Some x ≡ None = sym e ∙ h.kept_part in cc)))
     refl refl (subst (λ (s : ShardStep). AreApart s.state.applied) is apart) sends)
 
 -- ## Parts of other data centres' writes
 
 -- a part of an unknown transaction is kept
-pub keeps_part : (top : TopologyValue) (me n : ℕ) (k : Kept) (ts : TransactionsValue) (a : ShardState) (h : in_write.Kept) (before after : List Envelope)
+pub keeps_part : (top : TopologyValue) (me n : ℕ) (k : Kept) (held ts : TransactionsValue) (ns : VoterList) (a : ShardState) (h : in_write.Kept) (before after : List Envelope)
     → Represents top me k a → AreApart (on_repl_part top me n a (kept_part_of h)).state.applied
     → state_of k.transactions.ledger h.part.writer.txn ≡ None
-    → Becomes h.part.writer.txn (Some (Holds (in_open.Kept h))) k.transactions.ledger ts.ledger → ts.store ≡ k.transactions.store → ts.early ≡ k.transactions.early
+    → Becomes h.part.writer.txn (Some (Holds (in_open.Kept h))) k.transactions.ledger held.ledger → held.store ≡ k.transactions.store → held.early ≡ k.transactions.early
+    → ts.ledger ≡ held.ledger → ts.store ≡ held.store → IsWithout h.part.writer.txn held.early ts.early → IsWithout h.part.writer.txn k.notices ns
     → after ≡ before ++ envelope me (shard_node top (dc_of top me) h.part.writer.shard) n (Notify h.part.writer.txn) ∷ []
-    → IsStep top me (on_repl_part top me n a (kept_part_of h)) (with_transactions k ts n) before after
-keeps_part top me n k ts a h before after r apart unknown becomes store early sends =
+    → IsStep top me (on_repl_part top me n a (kept_part_of h)) (with_both k ts ns n) before after
+keeps_part top me n k held ts ns a h before after r apart unknown becomes store early same_ledger same_store forgotten notices sends =
     let u = stands_so top me k a h.part.writer.txn None r unknown in
     let is = repl_part_unknown top me n a (kept_part_of h) u in
-    subst (λ (s : ShardStep). IsStep top me s (with_transactions k ts n) before after) (sym is)
-    (step_in_place top me n h.part.writer.txn (Holds (in_open.Kept h)) k ts a
+    subst (λ (s : ShardStep). IsStep top me s (with_both k ts ns n) before after) (sym is)
+    (step_forgetting top me n h.part.writer.txn (Holds (in_open.Kept h)) k held ts ns a
     (answer n (record a { kept_parts = a.kept_parts ++ kept_part_of h ∷ [] }) (envelope me (shard_node top (dc_of top me) h.part.writer.shard) n (Notify h.part.writer.txn)))
-    before after r becomes store early (part_is_kept top me n a h u) refl refl (subst (λ (s : ShardStep). AreApart s.state.applied) is apart) sends)
+    before after r becomes store early same_ledger same_store forgotten notices (part_is_kept top me n a h u) refl refl (subst (λ (s : ShardStep). AreApart s.state.applied) is apart) sends)
 
 -- one of a known transaction is dropped
 pub drops_part : (top : TopologyValue) (me n : ℕ) (k : Kept) (a : ShardState) (h : in_write.Kept) (before : List Envelope)
@@ -83,7 +87,7 @@ replica_prepares top me n k ts a h before after r apart held becomes store early
     let u = stands_so top me k a h.part.writer.txn (Some (Holds (in_open.Kept h))) r known in
     let is = prepare_remote_kept top me n a h.part.writer.txn h u in
     subst (λ (s : ShardStep). IsStep top me s (with_transactions k ts n) before after) (sym is)
-    (step_in_place top me n h.part.writer.txn (Holds (in_open.Part (replica_of h n))) k ts a (prepare_part top me n a h.part.writer.txn h.part.batch h.part.writer.shard Replica) before after r
+    (step_in_place top me n h.part.writer.txn (Holds (in_open.Part (replica_of h n))) k ts a (prepare_part top me n a h.part.writer.txn h.part.batch h.part.writer.shard Replica) before after r (ap (λ (s : Option State). is_some s) known)
     (subst (λ (s : Option State). Becomes h.part.writer.txn (state_prepared n s) k.transactions.ledger ts.ledger) known becomes) store early
     (kept_is_prepared top me n a h u) refl refl (subst (λ (s : ShardStep). AreApart s.state.applied) is apart) sends)
 

@@ -1,5 +1,5 @@
 -- What a shard does at its events is the machine's step.
-use Rattle.std.proofs.Common.{◌≡◌, ◌∙◌, sym, ap, subst, refl, ℕ, ◌+◌, ◌^◌, ◌<◌, max, Bool, true, false, nat_lt, List, [], ◌∷◌, ◌++◌, Option, Some, None, Result, Ok, Err, arith}
+use Rattle.std.proofs.Common.{◌≡◌, ◌∙◌, sym, ap, subst, refl, ℕ, ◌+◌, ◌^◌, ◌<◌, max, Bool, true, false, nat_lt, List, [], ◌∷◌, ◌++◌, Option, Some, None, is_some, Result, Ok, Err, arith}
 use Rattle.std.specs.Prelude.{if◌then◌else◌, OnOk, IfErr}
 use Rattle.std.proofs.lemmas.Bool.Decides.{nat_tests}
 use Rattle.logical_time.specs.declared.fault.Fault.{Fault}
@@ -45,6 +45,8 @@ opens top me k place clock unknown keeps low early notices askers waiting = reco
   });
   early = λ t e. early t;
   notices = λ t e. notices t;
+  early_forgotten = λ t e. early t;
+  notices_forgotten = λ t e. notices t;
   askers = λ t e. askers t;
   waiting = sym waiting;
   once = tt;
@@ -104,6 +106,8 @@ collects_at n k l time place clock low keeps ledger early notices askers waiting
   stands = λ t. subst (λ x. Stands top me t (view_of t a) (state_of x t)) (sym ledger) (r.stands t);
   early = λ t e. ap (λ x. voters_of x t) early ∙ r.early t (ap (λ x. state_of x t) (sym ledger) ∙ e);
   notices = λ t e. ap (λ x. voters_of x t) notices ∙ r.notices t (ap (λ x. state_of x t) (sym ledger) ∙ e);
+  early_forgotten = λ t e. ap (λ x. voters_of x t) early ∙ r.early_forgotten t (ap (λ x. is_some (state_of x t)) (sym ledger) ∙ e);
+  notices_forgotten = λ t e. ap (λ x. voters_of x t) notices ∙ r.notices_forgotten t (ap (λ x. is_some (state_of x t)) (sym ledger) ∙ e);
   askers = λ t e. ap (λ x. askers_of x t) askers ∙ r.askers t e;
   waiting = r.waiting ∙ sym waiting;
   once = r.once;

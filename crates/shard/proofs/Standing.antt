@@ -1,5 +1,5 @@
 -- What is kept goes on standing for the machine, as events come.
-use Rattle.std.proofs.Common.{◌≡◌, ◌∙◌, sym, ap, subst, refl, ℕ, Bool, true, false, if◌then◌else◌, List, [], ◌∷◌, ◌++◌, Option, Some, None, option_map, ◌||◌, append-nil, arith}
+use Rattle.std.proofs.Common.{◌≡◌, ◌∙◌, sym, ap, subst, refl, ℕ, Bool, true, false, if◌then◌else◌, List, [], ◌∷◌, ◌++◌, Option, Some, None, is_some, option_map, ◌||◌, append-nil, arith}
 use Rattle.std.specs.Prelude.{filter, find}
 use Rattle.std.specs.List.{list_any}
 use Rattle.std.specs.Ordering.{is_eq}
@@ -19,6 +19,7 @@ use Rattle.messages.specs.Shard.{ShardState, ShardStep, WaitingRead, Decision, q
 use Rattle.messages.specs.Known.{decision_of}
 use Rattle.write_txn.specs.Ledger.{State, state_of, decided_in}
 use Rattle.write_txn.specs.View.{View, view_of}
+use Rattle.write_txn.specs.Voters.{voters_of}
 use Rattle.write_txn.specs.Stands.{Stands}
 use Rattle.write_txn.specs.Moves.{Moves}
 use Rattle.write_txn.proofs.Finds.{own_txn, same_txn}
@@ -39,6 +40,8 @@ spared k l i top me a r = record {
   stands = λ t. subst (Stands top me t (view_of t a)) (sym (i.states t)) (r.stands t);
   early = λ t e. i.early t ∙ r.early t (sym (i.states t) ∙ e);
   notices = λ t e. i.notices t ∙ r.notices t (sym (i.states t) ∙ e);
+  early_forgotten = λ t e. i.early t ∙ r.early_forgotten t (sym (ap (λ (o : Option State). is_some o) (i.states t)) ∙ e);
+  notices_forgotten = λ t e. i.notices t ∙ r.notices_forgotten t (sym (ap (λ (o : Option State). is_some o) (i.states t)) ∙ e);
   askers = λ t e. i.askers t ∙ r.askers t e;
   waiting = r.waiting ∙ sym i.waiting;
   once = r.once;
@@ -55,6 +58,8 @@ moves_on top me n k a r = record {
   stands = r.stands;
   early = r.early;
   notices = r.notices;
+  early_forgotten = r.early_forgotten;
+  notices_forgotten = r.notices_forgotten;
   askers = r.askers;
   waiting = r.waiting;
   once = r.once;
@@ -118,6 +123,12 @@ moved top me n t s x waits k l a b r i m clock waiting apart = record {
   notices = λ u e. by_cases (is_same_txn t u)
       (λ yes. absurd (let f : Some s ≡ None = sym (state_own u yes) ∙ e in cc))
       (λ no. i.notices u no ∙ (r.notices u (sym (state_other u no) ∙ e) ∙ ap (λ (v : View). v.notices) (sym (view_of_others t u a b no m.about))));
+  early_forgotten = λ u e. by_cases (is_same_txn t u)
+      (λ yes. subst (λ (v : TxnValue). voters_of l.transactions.early v ≡ []) (same_txn t u yes) (i.own_early (r.early_forgotten t)))
+      (λ no. i.early u no ∙ r.early_forgotten u (known_before u no e));
+  notices_forgotten = λ u e. by_cases (is_same_txn t u)
+      (λ yes. subst (λ (v : TxnValue). voters_of l.notices v ≡ []) (same_txn t u yes) (i.own_notices (r.notices_forgotten t)))
+      (λ no. i.notices u no ∙ r.notices_forgotten u (known_before u no e));
   askers = λ u e. by_cases (is_same_txn t u)
       (λ yes. let f = same_txn t u yes in subst (λ v. askers_of l.askers v ≡ filter (λ z. is_same_txn z.dependency v) b.askers) f (own_askers (subst (λ v. decision_of v b ≡ None) (sym f) e)))
       (λ no. i.askers u no ∙ (r.askers u (ap (λ (v : View). v.decision) (sym (view_of_others t u a b no m.about)) ∙ e) ∙ ap (filter (λ z. is_same_txn z.dependency u)) (sym m.askers)));
@@ -131,6 +142,9 @@ moved top me n t s x waits k l a b r i m clock waiting apart = record {
 
     state_other : (u : TxnValue) → is_same_txn t u ≡ false → state_of l.transactions.ledger u ≡ state_of k.transactions.ledger u
     state_other u e = i.state u ∙ ap (λ (b : Bool). if b then Some s else state_of k.transactions.ledger u) e
+
+    known_before : (u : TxnValue) → is_same_txn t u ≡ false → is_some (state_of l.transactions.ledger u) ≡ true → is_some (state_of k.transactions.ledger u) ≡ true
+    known_before u other e = sym (ap (λ (o : Option State). is_some o) (state_other u other)) ∙ e
 
     own_askers : decision_of t b ≡ None → askers_of l.askers t ≡ filter (λ z. is_same_txn z.dependency t) b.askers
     own_askers e =

@@ -6,7 +6,7 @@ use Rattle.txn_state.specs.Ballot.{CompleteValue}
 use Rattle.write_txn.specs.Ledger.{state_of, decided_in}
 use Rattle.shard.specs.declared.kept.Kept.{Kept}
 use Rattle.shard.specs.Deciding.{IsSettled}
-use Rattle.shard.specs.Effects.{OthersHaveSameVoters}
+use Rattle.shard.specs.Effects.{IsWithout}
 
 -- the transaction is decided with this commit time and this stamp, it has no cohorts, and there is room for its part
 pub record MaySettle (t : TxnValue) (commit : ℕ) (stamp : StampValue) (k : Kept) (c : CompleteValue) : Type 0 where
@@ -15,12 +15,14 @@ pub record MaySettle (t : TxnValue) (commit : ℕ) (stamp : StampValue) (k : Kep
   pub decided : decided_in (state_of k.transactions.ledger t) ≡ Some (commit, stamp)
   pub room : HasRoom k.transactions.store.rows c.own.part.batch
 
--- the transaction goes on being under way: of the others the notices that came early are kept, and the clock shows this
+-- the transaction goes on being under way: what came early of it is forgotten, and the clock shows this
 pub record IsUnderWay (t : TxnValue) (n : ℕ) (k l : Kept) : Type 0 where
   pub place : l.place ≡ k.place
   pub clock : l.clock ≡ n
-  pub transactions : l.transactions ≡ k.transactions
-  pub notices : OthersHaveSameVoters t k.notices l.notices
+  pub ledger : l.transactions.ledger ≡ k.transactions.ledger
+  pub store : l.transactions.store ≡ k.transactions.store
+  pub early : IsWithout t k.transactions.early l.transactions.early
+  pub notices : IsWithout t k.notices l.notices
   pub askers : l.askers ≡ k.askers
   pub waiting : l.waiting ≡ k.waiting
 

@@ -14,10 +14,10 @@ use Rattle.messages.specs.Reads.{part_at}
 use Rattle.commit_check.specs.declared.cause.Cause.TheVariants as cause
 use Rattle.commit_check.specs.Waiting.{freed, still}
 use Rattle.write_txn.specs.Transactions.{KeepsAlso}
-use Rattle.write_txn.specs.Voters.{voters_of}
 use Rattle.shard.specs.declared.kept.Kept.{Kept}
 use Rattle.shard.specs.declared.deciding.Deciding.{Deciding}
 use Rattle.shard.specs.Coming.{with_applied}
+use Rattle.shard.specs.Effects.{IsWithout}
 
 -- the node of the shard that stands at this place
 abbrev pub node_at : PlaceValue → ℕ
@@ -44,7 +44,7 @@ pub record IsSettled (t : TxnValue) (own : PreparedValue) (commit : ℕ) (stamp 
   pub clock : l.clock ≡ commit
   pub ledger : l.transactions.ledger ≡ k.transactions.ledger
   pub store : KeepsAlso own commit stamp k.transactions.store l.transactions.store
-  pub early : (u : TxnValue) → voters_of l.transactions.early u ≡ (if is_same_txn t u then [] else voters_of k.transactions.early u)
-  pub notices : (u : TxnValue) → voters_of l.notices u ≡ (if is_same_txn t u then [] else voters_of k.notices u)
+  pub early : IsWithout t k.transactions.early l.transactions.early
+  pub notices : IsWithout t k.notices l.notices
   pub askers : (u : TxnValue) → askers_of l.askers u ≡ (if is_same_txn t u then [] else askers_of k.askers u)
   pub waiting : l.waiting ≡ still t cause.Applied k.waiting

@@ -1,6 +1,6 @@
 -- When what the code of a shard keeps stands for a state of the machine, and when a call does the machine's step. The machine
 -- keeps everything for good; the code drops what it needs no more.
-use Rattle.std.specs.Prelude.{◌≡◌, ℕ, List, ◌++◌, Option, Some, None, Result, Ok, Err}
+use Rattle.std.specs.Prelude.{◌≡◌, ℕ, true, List, [], ◌++◌, Option, Some, None, is_some, Result, Ok, Err}
 use Rattle.logical_time.specs.Stamps.{TxnValue}
 use Rattle.logical_time.specs.declared.fault.Fault.{Fault}
 use Rattle.logical_time.specs.declared.fault.Fault.TheVariants.{ClockSpent, Memory}
@@ -11,11 +11,15 @@ use Rattle.messages.specs.Topology.{TopologyValue}
 use Rattle.messages.specs.Shard.{ShardState, ShardStep}
 use Rattle.messages.specs.Known.{AreOnce}
 use Rattle.messages.specs.Place.{IsPlace}
-use Rattle.write_txn.specs.Ledger.{state_of}
-use Rattle.write_txn.specs.Voters.{voters_of}
+use Rattle.write_txn.specs.Ledger.{LedgerValue, state_of}
+use Rattle.write_txn.specs.Voters.{VoterList, voters_of}
 use Rattle.write_txn.specs.View.{view_of}
 use Rattle.write_txn.specs.Stands.{Stands}
 use Rattle.shard.specs.declared.kept.Kept.{Kept}
+
+-- nothing is kept of a known transaction that came early
+abbrev pub AreForgotten : VoterList → LedgerValue → Type 0
+AreForgotten voters l = (t : TxnValue) → is_some (state_of l t) ≡ true → voters_of voters t ≡ []
 
 -- What is kept stands for this state of the shard with this node.
 pub record Represents (top : TopologyValue) (me : ℕ) (k : Kept) (a : ShardState) : Type 0 where
@@ -28,6 +32,9 @@ pub record Represents (top : TopologyValue) (me : ℕ) (k : Kept) (a : ShardStat
   -- of unknown transactions the early votes and notices are kept
   pub early : (t : TxnValue) → state_of k.transactions.ledger t ≡ None → voters_of k.transactions.early t ≡ (view_of t a).early
   pub notices : (t : TxnValue) → state_of k.transactions.ledger t ≡ None → voters_of k.notices t ≡ (view_of t a).notices
+  -- of known ones they are forgotten
+  pub early_forgotten : AreForgotten k.transactions.early k.transactions.ledger
+  pub notices_forgotten : AreForgotten k.notices k.transactions.ledger
   -- of undecided transactions those that asked for them
   pub askers : KeepsAskers k.askers a
   pub waiting : a.waiting ≡ k.waiting

@@ -103,6 +103,7 @@ fn hold(kept: &mut Kept, clock: Clock, begun: Begun, votes: Votes) -> Result<(),
         Err((fault, led)) => return Err((fault, begun_again(led))),
     }
     kept.transactions.forget_votes(txn);
+    kept.notices.forget(txn);
     kept.clock = clock;
     Ok(())
 }

@@ -42,6 +42,8 @@ pub(crate) fn prepare(
         Err(fault) => return Err((fault, part)),
     }
     kept.transactions.prepare(part, time)?;
+    kept.transactions.forget_votes(txn);
+    kept.notices.forget(txn);
     outbox
         .post(yes(kept.place, time, txn, writer.shard()))
         .unwrap();
@@ -76,6 +78,8 @@ pub(crate) fn repl_part(
         Err(fault) => return Err((fault, KeptPart { part, stamp })),
     }
     kept.transactions.keep(KeptPart { part, stamp })?;
+    kept.transactions.forget_votes(writer.txn());
+    kept.notices.forget(writer.txn());
     outbox
         .post(notify(kept.place, clock.now(), writer.txn(), writer.shard()))
         .unwrap();

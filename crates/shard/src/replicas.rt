@@ -100,6 +100,7 @@ pub(crate) fn conclude(
     match complete {
         Some(complete) => settle(kept, clock, txn, complete, stamp, envelopes, outbox),
         None => {
+            kept.transactions.forget_votes(txn);
             kept.notices.forget(txn);
             outbox.post_all(envelopes);
             kept.clock = clock;

@@ -7,7 +7,7 @@ use Rattle.shard.proofs.parts.prepare.Goals as goal
 
 pub returns-clause-step : goal.returns-clause-step
 returns-clause-step c = λ top me a r apart.
-    prepares top me c.args.clock c.args.kept.now c.prepare.new.self a c.args.part c.args.outbox.now.sent c.post.new.self.sent r apart (search rules) (search rules) c.prepare.ensures.store c.prepare.ensures.early (search rules)
+    prepares top me c.args.clock c.args.kept.now c.prepare.new.self c.forget_votes.new.self c.forget.new.self a c.args.part c.args.outbox.now.sent c.post.new.self.sent r apart (search rules) (search rules) c.prepare.ensures.store c.prepare.ensures.early c.forget_votes.ensures.ledger c.forget_votes.ensures.store (search rules) (search rules) (search rules)
 
 pub returns-in-Err-clause-quiet : goal.returns-in-Err-clause-quiet
 returns-in-Err-clause-quiet c = λ top me a r e.

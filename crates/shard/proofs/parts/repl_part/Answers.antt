@@ -11,7 +11,7 @@ returns-then-knows-clause-step c = λ top me a r apart. drops_part top me c.args
 
 pub returns-clause-step : goal.returns-clause-step
 returns-clause-step c = λ top me a r apart.
-    keeps_part top me c.args.clock c.args.kept.now c.keep.new.self a c.args.held c.args.outbox.now.sent c.post.new.self.sent r apart (search rules) (search rules) c.keep.ensures.store c.keep.ensures.early (search rules)
+    keeps_part top me c.args.clock c.args.kept.now c.keep.new.self c.forget_votes.new.self c.forget.new.self a c.args.held c.args.outbox.now.sent c.post.new.self.sent r apart (search rules) (search rules) c.keep.ensures.store c.keep.ensures.early c.forget_votes.ensures.ledger c.forget_votes.ensures.store (search rules) (search rules) (search rules)
 
 pub returns-in-Err-clause-quiet : goal.returns-in-Err-clause-quiet
 returns-in-Err-clause-quiet c = λ top me a r e.
