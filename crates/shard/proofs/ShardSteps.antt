@@ -1,6 +1,6 @@
 -- What a shard does at its events is the machine's step.
 use Rattle.std.proofs.Common.{◌≡◌, ◌∙◌, sym, ap, subst, refl, ℕ, ◌+◌, ◌^◌, ◌<◌, max, Bool, true, false, nat_lt, List, [], ◌∷◌, ◌++◌, Option, Some, None, is_some, Result, Ok, Err, arith}
-use Rattle.std.specs.Prelude.{if◌then◌else◌, OnOk, IfErr}
+use Rattle.std.specs.Prelude.{if◌then◌else◌, OnOk, OnErr, IfErr}
 use Rattle.std.proofs.lemmas.Bool.Decides.{nat_tests}
 use Rattle.logical_time.specs.declared.fault.Fault.{Fault}
 use Rattle.logical_time.specs.Stamps.{TxnValue}
@@ -68,6 +68,10 @@ ticks clock time lt = go (nat_lt (max clock time + 1) (2 ^ 48)) (grind (arith, n
 pub both_ok : {T E P Q R : Type 0} (o : Result T E) → (P → Q → R) → OnOk o P → OnOk o Q → OnOk o R
 both_ok (Ok x) f p q = f p q
 both_ok (Err e) f p q = tt
+
+pub on_err : {T E P Q : Type 0} (o : Result T E) → (P → Q) → OnErr o P → OnErr o Q
+on_err (Ok x) f p = tt
+on_err (Err e) f p = f p
 
 pub if_err : {T E : Type 0} {P Q : E → Type 0} (o : Result T E) → ((e : E) → P e → Q e) → IfErr o P → IfErr o Q
 if_err (Ok x) f h = h

@@ -9,7 +9,8 @@ ghost use Rattle.messages.specs.Shard.{ShardState};
 ghost use Rattle.messages.specs.Known.{decision_of};
 ghost use Rattle.messages.specs.Commits.{decide, on_begin};
 ghost use Rattle.write_txn.specs.Ledger.{state_of};
-ghost use Rattle.shard.specs.Kept.{Represents, Does, GoesOn};
+ghost use Rattle.shard.specs.Kept.{Represents, Does};
+ghost use Rattle.shard.specs.Effects.{IsSpared};
 ghost use Rattle.shard.specs.Ignored.{IfIgnored};
 ghost use Rattle.shard.specs.Deciding.{node_at, told};
 ghost use Rattle.shard.specs.Begun.{ballot_of, IsDecidedNow, AreVotes};
@@ -82,7 +83,7 @@ fn hold(kept: &mut Kept, clock: Clock, begun: Begun, votes: Votes) -> Result<(),
     requires votes { AreVotes kept.old begun votes }
     requires missing { 0 < length votes.missing }
     ensures step { OnOk result ((sent : List Envelope) → Does (λ top me a. on_begin top me clock a (ballot_of begun)) kept.old kept.new sent sent) }
-    ensures same { OnErr result (GoesOn kept.old kept.new) }
+    ensures same { OnErr result (IsSpared kept.old kept.new) }
     ensures memory { IfErr result (λ e. (e.0 ≡ fault.Memory) × (e.1 ≡ begun)) }
 {
     let Begun {
@@ -124,7 +125,7 @@ fn note_decision(
     ensures told { (top : TopologyValue) (me : ℕ) (a : ShardState) → Represents top me kept.old a → decision_of begun.now.txn a ≡ None
         → AreApart (decide top me clock a (ballot_of begun.now)).state.applied
         → IfOk result (λ envelopes. envelopes.items ≡ told top me clock a (ballot_of begun.now)) }
-    ensures same { OnErr result (GoesOn kept.old kept.new) }
+    ensures same { OnErr result (IsSpared kept.old kept.new) }
     ensures unsent { outbox.new.sent ≡ outbox.old.sent }
     ensures memory { IfErr result (λ e. e ≡ fault.Memory) }
 {
@@ -156,7 +157,7 @@ fn decide_now(
     requires votes { AreVotes kept.old begun votes }
     requires none { votes.missing ≡ [] }
     ensures step { OnOk result (Does (λ top me a. on_begin top me clock a (ballot_of begun)) kept.old kept.new outbox.old.sent outbox.new.sent) }
-    ensures same { OnErr result (GoesOn kept.old kept.new) }
+    ensures same { OnErr result (IsSpared kept.old kept.new) }
     ensures unsent { OnErr result (outbox.new.sent ≡ outbox.old.sent) }
     ensures memory { IfErr result (λ e. (e.0 ≡ fault.Memory) × (e.1 ≡ begun)) }
 {
@@ -186,7 +187,7 @@ pub(crate) fn begin(
     outbox: &mut Outbox,
 ) -> Result<(), (Fault, Begun)>
     ensures step { OnOk result (Does (λ top me a. on_begin top me clock a (ballot_of begun)) kept.old kept.new outbox.old.sent outbox.new.sent) }
-    ensures same { OnErr result (GoesOn kept.old kept.new) }
+    ensures same { OnErr result (IsSpared kept.old kept.new) }
     ensures unsent { OnErr result (outbox.new.sent ≡ outbox.old.sent) }
     // it takes no memory where only the clock moves
     ensures quiet { IfIgnored (λ top me a. on_begin top me clock a (ballot_of begun)) clock kept.old (IsOk result) }

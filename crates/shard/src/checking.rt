@@ -3,7 +3,8 @@ ghost use Rattle.std.specs.Prelude.{◌≡◌, IsOk, OnOk, OnErr, IfErr};
 ghost use Rattle.logical_time.specs.declared.fault.Fault.TheVariants as fault;
 ghost use Rattle.messages.specs.Commits.{on_check};
 ghost use Rattle.messages.specs.Replication.{on_dep_check};
-ghost use Rattle.shard.specs.Kept.{Does, GoesOn};
+ghost use Rattle.shard.specs.Kept.{Does};
+ghost use Rattle.shard.specs.Effects.{IsSpared};
 ghost use Rattle.shard.specs.Ignored.{IfIgnored};
 
 use crate::kept::Kept;
@@ -22,7 +23,7 @@ pub(crate) fn check(
     outbox: &mut Outbox,
 ) -> Result<(), Fault>
     ensures step { OnOk result (Does (λ top me a. on_check me clock a from txn time) kept.old kept.new outbox.old.sent outbox.new.sent) }
-    ensures same { OnErr result (GoesOn kept.old kept.new) }
+    ensures same { OnErr result (IsSpared kept.old kept.new) }
     ensures unsent { OnErr result (outbox.new.sent ≡ outbox.old.sent) }
     // it takes no memory where only the clock moves, which is nowhere: it always answers
     ensures quiet { IfIgnored (λ top me a. on_check me clock a from txn time) clock kept.old (IsOk result) }
@@ -55,7 +56,7 @@ pub(crate) fn dep_check(
     outbox: &mut Outbox,
 ) -> Result<(), Fault>
     ensures step { OnOk result (Does (λ top me a. on_dep_check me clock a (record { dependency = dependency; waiter = waiter; from = from })) kept.old kept.new outbox.old.sent outbox.new.sent) }
-    ensures same { OnErr result (GoesOn kept.old kept.new) }
+    ensures same { OnErr result (IsSpared kept.old kept.new) }
     ensures unsent { OnErr result (outbox.new.sent ≡ outbox.old.sent) }
     // it takes no memory where only the clock moves
     ensures quiet { IfIgnored (λ top me a. on_dep_check me clock a (record { dependency = dependency; waiter = waiter; from = from })) clock kept.old (IsOk result) }

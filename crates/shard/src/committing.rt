@@ -5,7 +5,8 @@ ghost use Rattle.store.specs.Keeps.{AreApart};
 ghost use Rattle.messages.specs.Topology.{TopologyValue};
 ghost use Rattle.messages.specs.Shard.{ShardState};
 ghost use Rattle.messages.specs.Commits.{apply_part, on_commit};
-ghost use Rattle.shard.specs.Kept.{Represents, Does, GoesOn};
+ghost use Rattle.shard.specs.Kept.{Represents, Does};
+ghost use Rattle.shard.specs.Effects.{IsSpared};
 ghost use Rattle.shard.specs.Ignored.{IfIgnored};
 
 use crate::coming::{Coming, answers_with};
@@ -61,7 +62,7 @@ pub(crate) fn commit(
     outbox: &mut Outbox,
 ) -> Result<(), Fault>
     ensures step { OnOk result (Does (λ top me a. on_commit top me clock a txn commit stamp) kept.old kept.new outbox.old.sent outbox.new.sent) }
-    ensures same { OnErr result (GoesOn kept.old kept.new) }
+    ensures same { OnErr result (IsSpared kept.old kept.new) }
     ensures unsent { OnErr result (outbox.new.sent ≡ outbox.old.sent) }
     // it takes no memory where only the clock moves
     ensures quiet { IfIgnored (λ top me a. on_commit top me clock a txn commit stamp) clock kept.old (IsOk result) }

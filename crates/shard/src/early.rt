@@ -9,7 +9,8 @@ ghost use Rattle.messages.specs.Commits.{on_yes};
 ghost use Rattle.messages.specs.Replication.{on_notify};
 ghost use Rattle.write_txn.specs.Ledger.{state_of};
 ghost use Rattle.write_txn.specs.Voters.{voters_of};
-ghost use Rattle.shard.specs.Kept.{Represents, IsStep, GoesOn};
+ghost use Rattle.shard.specs.Kept.{Represents, IsStep};
+ghost use Rattle.shard.specs.Effects.{IsSpared};
 
 use crate::kept::Kept;
 use logical_time::{Clock, Fault, Node, TxnId};
@@ -20,7 +21,7 @@ pub(crate) fn note_vote(kept: &mut Kept, clock: Clock, txn: TxnId, node: Node) -
         → IsStep top me (on_yes top me clock a node txn) kept.new sent sent) }
     // it takes no memory where it is there
     ensures early { is_among (voters_of kept.old.transactions.early txn) node ≡ true → IsOk result }
-    ensures same { OnErr result (GoesOn kept.old kept.new) }
+    ensures same { OnErr result (IsSpared kept.old kept.new) }
     ensures memory { IfErr result (λ e. e ≡ fault.Memory) }
 {
     kept.transactions.note_vote(txn, node)?;
@@ -40,7 +41,7 @@ pub(crate) fn note_notice(
         → IsStep top me (on_notify top me clock a node txn) kept.new sent sent) }
     // it takes no memory where it is there
     ensures early { is_among (voters_of kept.old.notices txn) node ≡ true → IsOk result }
-    ensures same { OnErr result (GoesOn kept.old kept.new) }
+    ensures same { OnErr result (IsSpared kept.old kept.new) }
     ensures memory { IfErr result (λ e. e ≡ fault.Memory) }
 {
     kept.notices.add(txn, node)?;

@@ -2,7 +2,8 @@
 ghost use Rattle.std.specs.Prelude.{◌≡◌, IsOk, OnOk, OnErr, IfErr};
 ghost use Rattle.logical_time.specs.declared.fault.Fault.TheVariants as fault;
 ghost use Rattle.messages.specs.Commits.{on_not_by};
-ghost use Rattle.shard.specs.Kept.{Does, GoesOn};
+ghost use Rattle.shard.specs.Kept.{Does};
+ghost use Rattle.shard.specs.Effects.{IsSpared};
 ghost use Rattle.shard.specs.Ignored.{IfIgnored};
 
 use crate::answers::answers_as_it_is;
@@ -21,7 +22,7 @@ pub(crate) fn not_by(
     outbox: &mut Outbox,
 ) -> Result<(), Fault>
     ensures step { OnOk result (Does (λ top me a. on_not_by me clock a txn time) kept.old kept.new outbox.old.sent outbox.new.sent) }
-    ensures same { OnErr result (GoesOn kept.old kept.new) }
+    ensures same { OnErr result (IsSpared kept.old kept.new) }
     ensures unsent { OnErr result (outbox.new.sent ≡ outbox.old.sent) }
     // it takes no memory where only the clock moves
     ensures quiet { IfIgnored (λ top me a. on_not_by me clock a txn time) clock kept.old (IsOk result) }

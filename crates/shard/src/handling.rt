@@ -8,7 +8,8 @@ ghost use Rattle.messages.specs.Shard.{ShardState};
 ghost use Rattle.messages.specs.ShardEvents.{handled};
 ghost use Rattle.shard.specs.Handled.{is_handed_over};
 ghost use Rattle.shard.specs.Ignored.{IfIgnored, IsIgnored};
-ghost use Rattle.shard.specs.Kept.{Represents, Does, GoesOn, IsSpentOrMemory};
+ghost use Rattle.shard.specs.Kept.{Represents, Does, IsSpentOrMemory};
+ghost use Rattle.shard.specs.Effects.{IsSpared};
 
 use crate::begun::{Begun, begin};
 use crate::checking::{check, dep_check};
@@ -34,7 +35,7 @@ use write_txn::Kept as KeptPart;
 fn hear(kept: &mut Kept, clock: Clock, from: Node, body: &Body, outbox: &mut Outbox) -> Result<(), Fault>
     requires { is_handed_over body.now ≡ false }
     ensures step { OnOk result (Does (λ top me a. handled top me clock a from body.now) kept.old kept.new outbox.old.sent outbox.new.sent) }
-    ensures same { OnErr result (GoesOn kept.old kept.new) }
+    ensures same { OnErr result (IsSpared kept.old kept.new) }
     ensures unsent { OnErr result (outbox.new.sent ≡ outbox.old.sent) }
     // it takes no memory where only the clock moves
     ensures quiet { IfIgnored (λ top me a. handled top me clock a from body.now) clock kept.old (IsOk result) }
@@ -62,7 +63,7 @@ fn hear(kept: &mut Kept, clock: Clock, from: Node, body: &Body, outbox: &mut Out
 #[rattlefmt::skip]
 fn act(kept: &mut Kept, clock: Clock, from: Node, body: Body, outbox: &mut Outbox) -> Result<(), (Fault, Body)>
     ensures step { OnOk result (Does (λ top me a. handled top me clock a from body) kept.old kept.new outbox.old.sent outbox.new.sent) }
-    ensures same { OnErr result (GoesOn kept.old kept.new) }
+    ensures same { OnErr result (IsSpared kept.old kept.new) }
     ensures unsent { OnErr result (outbox.new.sent ≡ outbox.old.sent) }
     // it takes no memory where only the clock moves
     ensures quiet { IfIgnored (λ top me a. handled top me clock a from body) clock kept.old (IsOk result) }
@@ -163,7 +164,7 @@ fn keep_at(kept: &mut Kept, clock: Clock, number: usize, outbox: &mut Outbox) ->
     requires handed { (e : Envelope) → slice_get outbox.old.sent number ≡ Some e → is_handed_over e.body ≡ true }
     ensures step { (e : Envelope) → slice_get outbox.old.sent number ≡ Some e
         → OnOk result (Does (λ top me a. handled top me clock a e.from e.body) kept.old kept.new outbox.old.sent outbox.new.sent) }
-    ensures same { OnErr result (GoesOn kept.old kept.new) }
+    ensures same { OnErr result (IsSpared kept.old kept.new) }
     ensures unsent { OnErr result (outbox.new.sent ≡ outbox.old.sent) }
     ensures memory { IfErr result (λ e. e ≡ fault.Memory) }
 {
@@ -201,7 +202,7 @@ fn act_at(kept: &mut Kept, clock: Clock, number: usize, outbox: &mut Outbox) -> 
     requires { number < length outbox.old.sent }
     ensures step { (e : Envelope) → slice_get outbox.old.sent number ≡ Some e
         → OnOk result (Does (λ top me a. handled top me clock a e.from e.body) kept.old kept.new outbox.old.sent outbox.new.sent) }
-    ensures same { OnErr result (GoesOn kept.old kept.new) }
+    ensures same { OnErr result (IsSpared kept.old kept.new) }
     ensures unsent { OnErr result (outbox.new.sent ≡ outbox.old.sent) }
     ensures memory { IfErr result (λ e. e ≡ fault.Memory) }
 {
@@ -236,7 +237,7 @@ pub(crate) fn hear_at(kept: &mut Kept, number: usize, outbox: &mut Outbox) -> Re
     ensures time { (e : Envelope) → slice_get outbox.old.sent number ≡ Some e → OnOk result (max kept.old.clock e.time + 1 < 2 ^ 48) }
     ensures step { (e : Envelope) → slice_get outbox.old.sent number ≡ Some e
         → OnOk result (Does (λ top me a. handled top me (max kept.old.clock e.time + 1) a e.from e.body) kept.old kept.new outbox.old.sent outbox.new.sent) }
-    ensures same { OnErr result (GoesOn kept.old kept.new) }
+    ensures same { OnErr result (IsSpared kept.old kept.new) }
     ensures unsent { OnErr result (outbox.new.sent ≡ outbox.old.sent) }
     ensures refused { (e : Envelope) → slice_get outbox.old.sent number ≡ Some e → IfErr result (λ f. IsSpentOrMemory (ticked kept.old.clock e.time) f) }
 {
@@ -257,7 +258,7 @@ pub(crate) fn handle(
 ) -> Result<(), Refused>
     ensures time { OnOk result (max kept.old.clock envelope.time + 1 < 2 ^ 48) }
     ensures step { OnOk result (Does (λ top me a. handled top me (max kept.old.clock envelope.time + 1) a envelope.from envelope.body) kept.old kept.new outbox.old.sent outbox.new.sent) }
-    ensures same { OnErr result (GoesOn kept.old kept.new) }
+    ensures same { OnErr result (IsSpared kept.old kept.new) }
     ensures unsent { OnErr result (outbox.new.sent ≡ outbox.old.sent) }
     ensures refused { IfErr result (λ r. IsSpentOrMemory (ticked kept.old.clock envelope.time) r.fault) }
     ensures ignored { (top : TopologyValue) (me : ℕ) (a : ShardState) → Represents top me kept.old a → IsIgnored top me a envelope → IfErr result (λ r. r.fault ≡ fault.ClockSpent) }

@@ -4,7 +4,8 @@ ghost use Rattle.logical_time.specs.declared.fault.Fault.TheVariants as fault;
 ghost use Rattle.messages.specs.Commits.{on_prepare};
 ghost use Rattle.messages.specs.Replication.{on_repl_part, on_prepare_remote};
 ghost use Rattle.write_txn.specs.Stands.{kept_part_of};
-ghost use Rattle.shard.specs.Kept.{Does, GoesOn};
+ghost use Rattle.shard.specs.Kept.{Does};
+ghost use Rattle.shard.specs.Effects.{IsSpared};
 ghost use Rattle.shard.specs.Ignored.{IfIgnored};
 
 use crate::kept::Kept;
@@ -23,7 +24,7 @@ pub(crate) fn prepare(
     outbox: &mut Outbox,
 ) -> Result<(), (Fault, WritePart)>
     ensures step { OnOk result (Does (λ top me a. on_prepare top me clock a part.writer.txn part.batch part.writer.shard) kept.old kept.new outbox.old.sent outbox.new.sent) }
-    ensures same { OnErr result (GoesOn kept.old kept.new) }
+    ensures same { OnErr result (IsSpared kept.old kept.new) }
     ensures unsent { OnErr result (outbox.new.sent ≡ outbox.old.sent) }
     // it takes no memory where only the clock moves
     ensures quiet { IfIgnored (λ top me a. on_prepare top me clock a part.writer.txn part.batch part.writer.shard) clock kept.old (IsOk result) }
@@ -60,7 +61,7 @@ pub(crate) fn repl_part(
     outbox: &mut Outbox,
 ) -> Result<(), (Fault, KeptPart)>
     ensures step { OnOk result (Does (λ top me a. on_repl_part top me clock a (kept_part_of held)) kept.old kept.new outbox.old.sent outbox.new.sent) }
-    ensures same { OnErr result (GoesOn kept.old kept.new) }
+    ensures same { OnErr result (IsSpared kept.old kept.new) }
     ensures unsent { OnErr result (outbox.new.sent ≡ outbox.old.sent) }
     // it takes no memory where only the clock moves
     ensures quiet { IfIgnored (λ top me a. on_repl_part top me clock a (kept_part_of held)) clock kept.old (IsOk result) }
@@ -96,7 +97,7 @@ pub(crate) fn prepare_remote(
     outbox: &mut Outbox,
 ) -> Result<(), Fault>
     ensures step { OnOk result (Does (λ top me a. on_prepare_remote top me clock a txn) kept.old kept.new outbox.old.sent outbox.new.sent) }
-    ensures same { OnErr result (GoesOn kept.old kept.new) }
+    ensures same { OnErr result (IsSpared kept.old kept.new) }
     ensures unsent { OnErr result (outbox.new.sent ≡ outbox.old.sent) }
     // it takes no memory where only the clock moves
     ensures quiet { IfIgnored (λ top me a. on_prepare_remote top me clock a txn) clock kept.old (IsOk result) }

@@ -6,7 +6,8 @@ ghost use Rattle.messages.specs.Place.{IsPlace};
 ghost use Rattle.messages.specs.Shard.{ShardState};
 ghost use Rattle.messages.specs.Reads.{answer, asked_below, check_of, on_read, on_read_at, part_at, waiting_read};
 ghost use Rattle.shard.specs.Ignored.{IfIgnored};
-ghost use Rattle.shard.specs.Kept.{Does, GoesOn, Represents};
+ghost use Rattle.shard.specs.Kept.{Does, Represents};
+ghost use Rattle.shard.specs.Effects.{IsSpared};
 
 use crate::below::writers_below;
 use crate::kept::Kept;
@@ -27,7 +28,7 @@ pub(crate) fn read(
     outbox: &mut Outbox,
 ) -> Result<(), Fault>
     ensures step { OnOk result (Does (λ top me a. on_read me clock a from number asked.now) kept.old kept.new outbox.old.sent outbox.new.sent) }
-    ensures same { OnErr result (GoesOn kept.old kept.new) }
+    ensures same { OnErr result (IsSpared kept.old kept.new) }
     ensures unsent { OnErr result (outbox.new.sent ≡ outbox.old.sent) }
     // it takes no memory where only the clock moves, which is nowhere: it always answers
     ensures quiet { IfIgnored (λ top me a. on_read me clock a from number asked.now) clock kept.old (IsOk result) }
@@ -66,7 +67,7 @@ fn answered(
     outbox: &mut Outbox,
 ) -> Result<(), Fault>
     ensures step { OnOk result (Does (λ top me a. answer clock a (part_at me clock a (waiting_read from number time asked.now []))) kept.old kept.new outbox.old.sent outbox.new.sent) }
-    ensures same { OnErr result (GoesOn kept.old kept.new) }
+    ensures same { OnErr result (IsSpared kept.old kept.new) }
     ensures unsent { OnErr result (outbox.new.sent ≡ outbox.old.sent) }
     ensures memory { IfErr result (λ e. e ≡ fault.Memory) }
 {
@@ -119,7 +120,7 @@ fn waits(
     outbox: &mut Outbox,
 ) -> Result<(), (Fault, Shared<Read>)>
     ensures step { OnOk result (Does (λ top me a. record { state = record a { clock = clock; waiting = a.waiting ++ waiting_read from number time asked writers.now ∷ [] }; sends = map (check_of top me clock time) writers.now }) kept.old kept.new outbox.old.sent outbox.new.sent) }
-    ensures same { OnErr result (GoesOn kept.old kept.new) }
+    ensures same { OnErr result (IsSpared kept.old kept.new) }
     ensures unsent { OnErr result (outbox.new.sent ≡ outbox.old.sent) }
     ensures memory { IfErr result (λ e. (e.0 ≡ fault.Memory) × (e.1 ≡ asked)) }
 {
@@ -172,7 +173,7 @@ pub(crate) fn read_at(
     outbox: &mut Outbox,
 ) -> Result<(), (Fault, Shared<Read>)>
     ensures step { OnOk result (Does (λ top me a. on_read_at top me clock a from number time asked) kept.old kept.new outbox.old.sent outbox.new.sent) }
-    ensures same { OnErr result (GoesOn kept.old kept.new) }
+    ensures same { OnErr result (IsSpared kept.old kept.new) }
     ensures unsent { OnErr result (outbox.new.sent ≡ outbox.old.sent) }
     // it takes no memory where only the clock moves
     ensures quiet { IfIgnored (λ top me a. on_read_at top me clock a from number time asked) clock kept.old (IsOk result) }

@@ -15,7 +15,8 @@ ghost use Rattle.write_txn.specs.Stands.{kept_ballot_of};
 ghost use Rattle.write_txn.specs.Transactions.{GoesOnKeeping};
 ghost use Rattle.write_txn.specs.View as view;
 ghost use Rattle.write_txn.specs.Voters.{voters_of};
-ghost use Rattle.shard.specs.Kept.{Represents, IsStep, Does, GoesOn};
+ghost use Rattle.shard.specs.Kept.{Represents, IsStep, Does};
+ghost use Rattle.shard.specs.Effects.{IsSpared};
 ghost use Rattle.shard.specs.Ignored.{IfIgnored};
 ghost use Rattle.shard.specs.ReplBegun.{ballot_begun, IsBegun};
 
@@ -135,7 +136,7 @@ fn begin(
     ensures step { OnOk result ((top : TopologyValue) (me : ℕ) (a : ShardState) → Represents top me kept.old a → IsBegun top me (voters_of kept.old.notices (kept_ballot_of remote).txn) remote
         → AreApart (machine.on_repl_begin top me clock a (kept_ballot_of remote)).state.applied
         → IsStep top me (machine.on_repl_begin top me clock a (kept_ballot_of remote)) kept.new outbox.old.sent outbox.new.sent) }
-    ensures same { OnErr result (GoesOn kept.old kept.new) }
+    ensures same { OnErr result (IsSpared kept.old kept.new) }
     ensures unsent { OnErr result (outbox.new.sent ≡ outbox.old.sent) }
     ensures memory { IfErr result (λ e. (e.0 ≡ fault.Memory) × (e.1 ≡ remote)) }
 {
@@ -176,7 +177,7 @@ pub(crate) fn repl_begin(
     outbox: &mut Outbox,
 ) -> Result<(), (Fault, ReplBegun)>
     ensures step { OnOk result (Does (λ top me a. machine.on_repl_begin top me clock a (ballot_begun begun)) kept.old kept.new outbox.old.sent outbox.new.sent) }
-    ensures same { OnErr result (GoesOn kept.old kept.new) }
+    ensures same { OnErr result (IsSpared kept.old kept.new) }
     ensures unsent { OnErr result (outbox.new.sent ≡ outbox.old.sent) }
     // it takes no memory where only the clock moves
     ensures quiet { IfIgnored (λ top me a. machine.on_repl_begin top me clock a (ballot_begun begun)) clock kept.old (IsOk result) }

@@ -12,7 +12,8 @@ ghost use Rattle.write_txn.specs.declared.open.Open.{Open};
 ghost use Rattle.write_txn.specs.Ledger.{state_of, open_in, part_of};
 ghost use Rattle.write_txn.specs.Stands.{kept_ballot_of};
 ghost use Rattle.write_txn.specs.Transactions.{GoesOnKeeping};
-ghost use Rattle.shard.specs.Kept.{Represents, Does, GoesOn};
+ghost use Rattle.shard.specs.Kept.{Represents, Does};
+ghost use Rattle.shard.specs.Effects.{IsSpared};
 ghost use Rattle.shard.specs.Ignored.{IfIgnored};
 ghost use Rattle.shard.specs.Concluding.{MaySettle, IsConcluded};
 ghost use Rattle.shard.specs.Counting.{IsInTime, on_missing};
@@ -81,8 +82,8 @@ fn make_room_if(transactions: &mut Transactions, is_decided: bool, txn: TxnId) -
     transactions.make_room_for(txn)
 }
 
-/// Concludes an event of a ballot: sends these envelopes, and settles the transaction where that decided it. There is room
-/// for all of it. Takes memory only as `Store::apply_in_room` does, and isn't refused for it.
+/// Concludes an event of a ballot: sends these envelopes, and settles the transaction where that decided it. What came early
+/// of it is forgotten. There is room for all. Takes memory only as `Store::apply_in_room` does, and isn't refused for it.
 pub(crate) fn conclude(
     kept: &mut Kept,
     clock: Clock,
@@ -118,7 +119,7 @@ fn count_last(
 ) -> Result<(), Fault>
     requires { IsInTime missing (state_of kept.old.transactions.ledger txn) }
     ensures step { OnOk result (Does (λ top me a. on_missing missing top me clock a txn) kept.old kept.new outbox.old.sent outbox.new.sent) }
-    ensures same { OnErr result (GoesOn kept.old kept.new) }
+    ensures same { OnErr result (IsSpared kept.old kept.new) }
     ensures unsent { OnErr result (outbox.new.sent ≡ outbox.old.sent) }
     // it takes no memory where only the clock moves
     ensures quiet { IfIgnored (λ top me a. on_missing missing top me clock a txn) clock kept.old (IsOk result) }
@@ -159,7 +160,7 @@ fn count(
 ) -> Result<(), Fault>
     requires { IsInTime missing (state_of kept.old.transactions.ledger txn) }
     ensures step { OnOk result (Does (λ top me a. on_missing missing top me clock a txn) kept.old kept.new outbox.old.sent outbox.new.sent) }
-    ensures same { OnErr result (GoesOn kept.old kept.new) }
+    ensures same { OnErr result (IsSpared kept.old kept.new) }
     ensures unsent { OnErr result (outbox.new.sent ≡ outbox.old.sent) }
     // it takes no memory where only the clock moves
     ensures quiet { IfIgnored (λ top me a. on_missing missing top me clock a txn) clock kept.old (IsOk result) }
@@ -183,7 +184,7 @@ pub(crate) fn notice(
     outbox: &mut Outbox,
 ) -> Result<(), Fault>
     ensures step { OnOk result (Does (λ top me a. on_notify top me clock a node txn) kept.old kept.new outbox.old.sent outbox.new.sent) }
-    ensures same { OnErr result (GoesOn kept.old kept.new) }
+    ensures same { OnErr result (IsSpared kept.old kept.new) }
     ensures unsent { OnErr result (outbox.new.sent ≡ outbox.old.sent) }
     // it takes no memory where only the clock moves
     ensures quiet { IfIgnored (λ top me a. on_notify top me clock a node txn) clock kept.old (IsOk result) }
@@ -205,7 +206,7 @@ pub(crate) fn dep_ok(
     outbox: &mut Outbox,
 ) -> Result<(), Fault>
     ensures step { OnOk result (Does (λ top me a. on_dep_ok top me clock a dependency waiter) kept.old kept.new outbox.old.sent outbox.new.sent) }
-    ensures same { OnErr result (GoesOn kept.old kept.new) }
+    ensures same { OnErr result (IsSpared kept.old kept.new) }
     ensures unsent { OnErr result (outbox.new.sent ≡ outbox.old.sent) }
     // it takes no memory where only the clock moves
     ensures quiet { IfIgnored (λ top me a. on_dep_ok top me clock a dependency waiter) clock kept.old (IsOk result) }

@@ -1,9 +1,10 @@
 //! Shards.
-ghost use Rattle.std.specs.Prelude.{◌≡◌, ◌<◌, ℕ, List, [], ◌∷◌, ◌++◌, length, slice_get, Some, Err, is_some, option_map, IfSome, IfOk, OnOk, IfErr, OnErr};
+ghost use Rattle.std.specs.Prelude.{◌≡◌, ◌<◌, ◌≤◌, ◌+◌, ◌^◌, ◌↔◌, max, ℕ, List, [], ◌∷◌, ◌++◌, length, slice_get, Some, Err, is_some, option_map, IfSome, IfOk, OnOk, IfErr, IsErrOf, OnErr};
 ghost use Rattle.logical_time.specs.declared.fault.Fault.TheVariants as fault;
 ghost use Rattle.messages.specs.declared.envelope.Envelope.{Envelope};
 ghost use Rattle.messages.specs.declared.event.Event.{Event};
 ghost use Rattle.messages.specs.declared.event.Event.TheVariants.{Handle, Collect};
+ghost use Rattle.messages.specs.Clock.{ticked};
 ghost use Rattle.messages.specs.Topology.{TopologyValue, is_shard};
 ghost use Rattle.messages.specs.Shard.{ShardState, Decision, new_shard};
 ghost use Rattle.messages.specs.ShardEvents.{shard_handle, shard_collect};
@@ -11,7 +12,8 @@ ghost use Rattle.messages.specs.Known.{decision_of};
 ghost use Rattle.messages.specs.Honest.{IsHonest};
 ghost use Rattle.shard.specs.Events.{shard_run, envelopes_handled};
 ghost use Rattle.shard.specs.Ignored.{IsIgnored};
-ghost use Rattle.shard.specs.Kept.{Represents, IsStepOf, IsRefusalOf, GoesOn};
+ghost use Rattle.shard.specs.Effects.{IsSpared};
+ghost use Rattle.shard.specs.Kept.{Represents, IsStepOf, IsRefusalOf, IsSpentOrMemory, GoesOn};
 ghost use Rattle.shard.specs.Right.{SendsRight};
 ghost use Rattle.shard.specs.Unfinished.{unfinished_of};
 
@@ -82,6 +84,11 @@ impl Shard {
         ensures same { OnErr result (GoesOn self.old self.new) }
         ensures unsent { OnErr result (outbox.new.sent ≡ outbox.old.sent) }
         ensures back { IfErr result (λ r. r.envelope ≡ envelope) }
+        // whatever came before, honest or not: it is taken only where its clock is a time; refused, it is for the clock
+        // where that is none, else for memory, and the shard is as it was, but for room
+        ensures time { OnOk result (max self.old.clock envelope.time + 1 < 2 ^ 48) }
+        ensures faults { IfErr result (λ r. IsSpentOrMemory (ticked self.old.clock envelope.time) r.fault) }
+        ensures spared { OnErr result (IsSpared self.old self.new) }
     {
         handling::handle(&mut self.kept, envelope, outbox)
     }
@@ -97,6 +104,10 @@ impl Shard {
             → IfErr result (λ f. IsRefusalOf (shard_handle top me a e) f) }
         ensures same { OnErr result (GoesOn self.old self.new) }
         ensures unsent { OnErr result (outbox.new.sent ≡ outbox.old.sent) }
+        // whatever came before, as of `handle`
+        ensures time { (e : Envelope) → slice_get outbox.old.sent number ≡ Some e → OnOk result (max self.old.clock e.time + 1 < 2 ^ 48) }
+        ensures faults { (e : Envelope) → slice_get outbox.old.sent number ≡ Some e → IfErr result (λ f. IsSpentOrMemory (ticked self.old.clock e.time) f) }
+        ensures spared { OnErr result (IsSpared self.old self.new) }
     {
         handling::hear_at(&mut self.kept, number, outbox)
     }
@@ -113,6 +124,8 @@ impl Shard {
             → OnOk result (Represents top me self.new (shard_run top me (before ++ Collect time ∷ [])).state) }
         ensures spent { IfErr result (λ e. e ≡ fault.ClockSpent) }
         ensures same { OnErr result (self.new ≡ self.old) }
+        // whatever came before: refused exactly where the clock would leave its range
+        ensures exactly { IsErrOf result fault.ClockSpent ↔ (2 ^ 48 ≤ self.old.clock + 1) }
     {
         let mut clock = self.kept.clock;
         let now = clock.now();

@@ -10,7 +10,8 @@ ghost use Rattle.write_txn.specs.declared.open.Open.TheVariants as in_open;
 ghost use Rattle.write_txn.specs.declared.open.Led.{Led};
 ghost use Rattle.write_txn.specs.Ledger.{state_of, Holds, completed_by};
 ghost use Rattle.write_txn.specs.Stands.{begun_of};
-ghost use Rattle.shard.specs.Kept.{Represents, Does, GoesOn};
+ghost use Rattle.shard.specs.Kept.{Represents, Does};
+ghost use Rattle.shard.specs.Effects.{IsSpared};
 ghost use Rattle.shard.specs.Ignored.{IfIgnored};
 ghost use Rattle.shard.specs.Deciding.{node_at, told};
 
@@ -94,7 +95,7 @@ fn decide_by(
 ) -> Result<(), Fault>
     requires { is_some (completed_by node (state_of kept.old.transactions.ledger txn)) ≡ true }
     ensures step { OnOk result (Does (λ top me a. on_yes top me clock a node txn) kept.old kept.new outbox.old.sent outbox.new.sent) }
-    ensures same { OnErr result (GoesOn kept.old kept.new) }
+    ensures same { OnErr result (IsSpared kept.old kept.new) }
     ensures unsent { OnErr result (outbox.new.sent ≡ outbox.old.sent) }
     ensures memory { IfErr result (λ e. e ≡ fault.Memory) }
 {
@@ -139,7 +140,7 @@ pub(crate) fn yes(
     outbox: &mut Outbox,
 ) -> Result<(), Fault>
     ensures step { OnOk result (Does (λ top me a. on_yes top me clock a node txn) kept.old kept.new outbox.old.sent outbox.new.sent) }
-    ensures same { OnErr result (GoesOn kept.old kept.new) }
+    ensures same { OnErr result (IsSpared kept.old kept.new) }
     ensures unsent { OnErr result (outbox.new.sent ≡ outbox.old.sent) }
     // it takes no memory where only the clock moves
     ensures quiet { IfIgnored (λ top me a. on_yes top me clock a node txn) clock kept.old (IsOk result) }

@@ -1,7 +1,7 @@
 use Rattle.std.proofs.Common.{rules, ◌≡◌, subst}
 use Rattle.std.specs.Prelude.{OnErr}
 use Rattle.write_txn.specs.Transactions.{TransactionsValue}
-use Rattle.shard.specs.Kept.{GoesOn}
+use Rattle.shard.specs.Effects.{IsSpared}
 use Rattle.shard.proofs.CountsEarly.{counts_early}
 use Rattle.shard.proofs.replicas.count.Goals as goal
 
@@ -13,4 +13,4 @@ returns-then-not-count_early-clause-step c = λ top me a r apart.
 pub returns-clause-same : goal.returns-clause-same
 returns-clause-same c =
     let same : c.count_early.new.self ≡ c.args.kept.now.transactions = c.count_early.ensures.same (search rules) in
-    subst (λ (ts : TransactionsValue). OnErr c.count_last.result (GoesOn (record c.args.kept.now { transactions = ts }) c.count_last.new.kept)) same c.count_last.ensures.same
+    subst (λ (ts : TransactionsValue). OnErr c.count_last.result (IsSpared (record c.args.kept.now { transactions = ts }) c.count_last.new.kept)) same c.count_last.ensures.same

@@ -1,10 +1,13 @@
-use Rattle.std.proofs.Common.{sym, subst}
-use Rattle.std.specs.Prelude.{OnErr}
+use Rattle.std.proofs.Common.{sym, subst, ◌+◌, ◌^◌, ◌<◌, max}
+use Rattle.std.specs.Prelude.{OnOk, OnErr, IfErr}
 use Rattle.shard.specs.declared.kept.Kept.{Kept}
 use Rattle.shard.specs.Events.{shard_run}
-use Rattle.shard.specs.Kept.{Represents, GoesOn}
+use Rattle.messages.specs.Clock.{ticked}
+use Rattle.shard.specs.Kept.{Represents, GoesOn, IsSpentOrMemory}
+use Rattle.shard.specs.Effects.{IsSpared}
+use Rattle.shard.proofs.Standing.{spared}
 use Rattle.shard.proofs.RightSends.{handles_right}
-use Rattle.shard.proofs.ShardSteps.{both_ok, if_err, handles, refuses}
+use Rattle.shard.proofs.ShardSteps.{both_ok, on_err, if_err, handles, refuses}
 use Rattle.shard.proofs.shard.Shard.handle.Goals as goal
 
 pub returns-clause-step : goal.returns-clause-step
@@ -42,4 +45,13 @@ returns-clause-leads c = λ top me before after r honest.
     c.handle.ensures.time c.handle.ensures.step
 
 pub returns-clause-same : goal.returns-clause-same
-returns-clause-same c = subst (λ (k : Kept). OnErr c.handle.result (GoesOn k c.handle.new.kept)) c.self.view_is c.handle.ensures.same
+returns-clause-same c = subst (λ (k : Kept). OnErr c.handle.result (GoesOn k c.handle.new.kept)) c.self.view_is (on_err c.handle.result (spared c.self.inside.kept c.handle.new.kept) c.handle.ensures.same)
+
+pub returns-clause-spared : goal.returns-clause-spared
+returns-clause-spared c = subst (λ (k : Kept). OnErr c.handle.result (IsSpared k c.handle.new.kept)) c.self.view_is c.handle.ensures.same
+
+pub returns-clause-time : goal.returns-clause-time
+returns-clause-time c = subst (λ (k : Kept). OnOk c.handle.result (max k.clock c.args.envelope.time + 1 < 2 ^ 48)) c.self.view_is c.handle.ensures.time
+
+pub returns-clause-faults : goal.returns-clause-faults
+returns-clause-faults c = subst (λ (k : Kept). IfErr c.handle.result (λ r. IsSpentOrMemory (ticked k.clock c.args.envelope.time) r.fault)) c.self.view_is c.handle.ensures.refused
