@@ -1,7 +1,9 @@
 //! Readers and writers that fail.
+ghost use Rattle.std.specs.Prelude.{[]};
+
 use crate::scripts::run;
 use crate::showing::text_of;
-use program::{Input, Output};
+use program::{Buffered, Input, Output};
 use std::io;
 use std::io::{Read, Write};
 use workload::{InWorld, perform};
@@ -62,6 +64,14 @@ impl Write for FailingOnce {
 
     fn flush(&mut self) -> io::Result<()> {
         self.call()
+    }
+}
+
+impl Buffered for FailingOnce {
+    ghost held = { λ _. [] };
+
+    fn hand_on(&mut self) -> io::Result<()> {
+        self.flush()
     }
 }
 

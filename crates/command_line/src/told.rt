@@ -2,8 +2,7 @@
 ghost use Rattle.std.specs.Prelude.{◌≡◌};
 ghost use Rattle.command_line.specs.Told.{Answers};
 
-use program::{Output, tell};
-use std::io::Write;
+use program::{Buffered, Output, tell};
 
 /// The answer to a command line that asks for no run.
 #[derive(Drop)]
@@ -17,7 +16,11 @@ pub enum Told {
 impl Told {
     /// Writes help to the output, and a reason to `errors`. Gives the exit status: 0 for help, 1 after the fault
     /// `WriteFailed` was told, 2 for a refused command line.
-    pub fn answer<W: Write, E: Write>(&self, output: &mut Output<W>, errors: &mut Output<E>) -> u8
+    pub fn answer<W: Buffered, E: Buffered>(
+        &self,
+        output: &mut Output<W>,
+        errors: &mut Output<E>,
+    ) -> u8
         ensures { Answers W.contents E.contents self.now result output.old output.new errors.old errors.new }
     {
         match self {

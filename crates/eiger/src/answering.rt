@@ -6,18 +6,18 @@ ghost use Rattle.eiger.specs.Answering.{IsDone, HasFailed, IsAnswer};
 use crate::serving::serve;
 use command_line::Asked;
 use logical_time::Fault;
-use program::{Input, Output, tell};
+use program::{Buffered, Input, Output, tell};
 use running::{Workers, perform_by_threads};
 use std::alloc::Global;
 use std::fs::File;
 use std::io;
-use std::io::{Read, Write};
+use std::io::Read;
 use std::sync::Wait;
 use std::thread::Threads;
 use workload::{InWorld, perform};
 
 // Runs the script in what was opened under this name.
-fn sim<R: Read + Drop, W: Write, E: Write>(
+fn sim<R: Read + Drop, W: Buffered, E: Buffered>(
     alloc: Global,
     name: String,
     opened: io::Result<R>,
@@ -32,7 +32,7 @@ fn sim<R: Read + Drop, W: Write, E: Write>(
 }
 
 // Runs the script in what was opened under this name by so many threads.
-fn run<T: Threads + Wait + Sync, R: Read + Drop, W: Write, E: Write>(
+fn run<T: Threads + Wait + Sync, R: Read + Drop, W: Buffered, E: Buffered>(
     threads: &T,
     alloc: Global,
     workers: u16,
@@ -54,7 +54,7 @@ fn run<T: Threads + Wait + Sync, R: Read + Drop, W: Write, E: Write>(
 
 /// Does what a command line asks for. Gives the exit status: 0; 1 after a fault was told; 2 for a command line that is
 /// refused.
-pub(crate) fn answer<T: Threads + Wait + Sync, W: Write, E: Write>(
+pub(crate) fn answer<T: Threads + Wait + Sync, W: Buffered, E: Buffered>(
     rt: &HostRuntime,
     threads: &T,
     asked: Result<Asked, Fault>,

@@ -5,15 +5,14 @@ ghost use Rattle.eiger.specs.Answering.{IsDone, HasFailed};
 use command_line::Serving;
 use logical_time::Fault;
 use messages::Topology;
-use program::{Output, tell};
+use program::{Buffered, Output, tell};
 use service::serve_connections;
 use std::alloc::Global;
-use std::io::Write;
 use std::net::TcpListener;
 use world::World;
 
 // Says that it listens.
-fn tell_port<W: Write>(alloc: Global, port: u16, output: &mut Output<W>) -> Result<(), Fault> {
+fn tell_port<W: Buffered>(alloc: Global, port: u16, output: &mut Output<W>) -> Result<(), Fault> {
     let line = format!(in alloc; "listening {port}\n")?;
     output.write_all(line.as_bytes())
 }
@@ -28,7 +27,7 @@ fn serve_all(alloc: Global, listener: &TcpListener, topology: &Topology) -> Resu
 }
 
 // Listens, says so, and serves.
-fn listen<W: Write>(
+fn listen<W: Buffered>(
     rt: &HostRuntime,
     serving: &Serving,
     output: &mut Output<W>,
@@ -43,7 +42,7 @@ fn listen<W: Write>(
 /// Listens on the port, says so, and serves a connection for each session, one after the other. Gives the exit status: 0; 1
 /// after a fault was told: `ReadFailed` where it can't listen or accept, `WriteFailed` where it can't say that it listens,
 /// `Memory`.
-pub(crate) fn serve<W: Write, E: Write>(
+pub(crate) fn serve<W: Buffered, E: Buffered>(
     rt: &HostRuntime,
     serving: &Serving,
     output: &mut Output<W>,

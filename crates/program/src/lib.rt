@@ -4,11 +4,13 @@
 //! that it ended for that reason and no other.
 #![tactic(auto)]
 
+mod buffered;
 mod input;
 mod line;
 mod output;
 mod telling;
 
+pub use buffered::Buffered;
 pub use input::Input;
 pub use line::Line;
 pub use output::Output;

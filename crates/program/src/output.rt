@@ -1,9 +1,10 @@
 //! What the program writes.
-ghost use Rattle.std.specs.Prelude.{◌≡◌, ◌≤◌, length, take, Err, IsSome, IsNone, IfOk, OnOk, OnErr, IfErr};
+ghost use Rattle.std.specs.Prelude.{◌≡◌, ◌≤◌, [], length, take, Err, IsSome, IsNone, IfOk, OnOk, OnErr, IfErr};
 ghost use Rattle.std.specs.Io.KnownBytes.{Appends, Keeps};
 ghost use Rattle.logical_time.specs.declared.fault.Fault.TheVariants as fault;
 ghost use Rattle.program.specs.Outputs.{Adds, AppendsPart};
 
+use crate::buffered::Buffered;
 use logical_time::Fault;
 use std::io;
 use std::io::{ErrorKind, Write};
@@ -68,17 +69,20 @@ impl<W: Write> Output<W> {
         self.failure = Some(io::Error::from(ErrorKind::Interrupted));
         Err(Fault::WriteFailed)
     }
+}
 
-    /// Passes on what was written. Refused with `WriteFailed` exactly where it has failed, and nothing changes where it had
-    /// failed before. Takes no memory.
+impl<W: Buffered> Output<W> {
+    /// Passes on what was written: then the writer holds nothing back. Refused with `WriteFailed` exactly where it has failed,
+    /// and nothing changes where it had failed before. Takes no memory.
     pub fn flush(&mut self) -> Result<(), Fault>
         ensures same { Keeps (W.contents self.old.writer) (W.contents self.new.writer) }
+        ensures passed_on { OnOk result (W.held self.new.writer ≡ []) }
         ensures sound { OnOk result (IsNone self.new.failure) }
         ensures failed { IfErr result (λ e. (e ≡ fault.WriteFailed) × IsSome self.new.failure) }
         ensures spent { IsSome self.old.failure → (self.new ≡ self.old) × (result ≡ Err fault.WriteFailed) }
     {
         if self.failure.is_none() {
-            match self.writer.flush() {
+            match self.writer.hand_on() {
                 Ok(()) => return Ok(()),
                 Err(error) => self.failure = Some(error),
             }
@@ -86,10 +90,11 @@ impl<W: Write> Output<W> {
         Err(Fault::WriteFailed)
     }
 
-    /// Writes the bytes and passes them on. Refused with `WriteFailed` exactly where it has failed; then a beginning of them
-    /// is written, and nothing where it had failed before.
+    /// Writes the bytes and passes them on: then the writer holds nothing back. Refused with `WriteFailed` exactly where it has
+    /// failed; then a beginning of them is written, and nothing where it had failed before.
     pub fn write_all(&mut self, bytes: &[u8]) -> Result<(), Fault>
         ensures whole { OnOk result (Appends (W.contents self.old.writer) (W.contents self.new.writer) bytes.now) }
+        ensures passed_on { OnOk result (W.held self.new.writer ≡ []) }
         ensures sound { OnOk result (IsNone self.new.failure) }
         ensures part { OnErr result (AppendsPart (W.contents self.old.writer) (W.contents self.new.writer) bytes.now) }
         ensures failed { IfErr result (λ e. (e ≡ fault.WriteFailed) × IsSome self.new.failure) }

@@ -3,10 +3,10 @@ ghost use Rattle.std.specs.Prelude.{◌≡◌};
 ghost use Rattle.program.specs.Outputs.{Writes};
 ghost use Rattle.program.specs.Telling.{fault_line, told_text, Tells};
 
+use crate::buffered::Buffered;
 use crate::line::Line;
 use crate::output::Output;
 use logical_time::Fault;
-use std::io::Write;
 
 // The line of a fault. No other ends the program.
 fn fault_line(fault: Fault) -> &'static str
@@ -25,7 +25,7 @@ fn fault_line(fault: Fault) -> &'static str
 }
 
 // Writes the line of the fault and the line for people, until the output fails.
-fn write_lines<E: Write>(
+fn write_lines<E: Buffered>(
     errors: &mut Output<E>,
     fault: Fault,
     more: Option<Line>,
@@ -42,7 +42,7 @@ fn write_lines<E: Write>(
 
 /// Tells a fault that ends the program: its line, `eiger: fault NUMBER NAME`, and the line that says more, if there is one.
 /// Gives the exit status 1.
-pub fn tell<E: Write>(errors: &mut Output<E>, fault: Fault, more: Option<Line>) -> u8
+pub fn tell<E: Buffered>(errors: &mut Output<E>, fault: Fault, more: Option<Line>) -> u8
     ensures status { result ≡ 1 }
     ensures told { Tells E.contents fault more errors.old errors.new }
 {

@@ -1,5 +1,5 @@
 //! The program, where threads run the script.
-ghost use Rattle.std.specs.Prelude.{◌≡◌, ◌⊎◌, IsSome, IfOk, IfErr};
+ghost use Rattle.std.specs.Prelude.{◌≡◌, ◌⊎◌, [], IsSome, IfOk, IfErr};
 ghost use Rattle.workload.specs.Performing.{Prints, Ends, TellsUnread};
 ghost use Rattle.workload.specs.Text.{text_of};
 ghost use Rattle.running.specs.Performing.{IsThreadTextFor, IsThreadRefused};
@@ -7,10 +7,10 @@ ghost use Rattle.running.specs.Performing.{IsThreadTextFor, IsThreadRefused};
 use crate::scripts::run_to_the_end;
 use crate::workers::Workers;
 use logical_time::Fault;
-use program::{Input, Line, Output, tell};
+use program::{Buffered, Input, Line, Output, tell};
 use std::alloc::Global;
 use std::fmt::Display;
-use std::io::{Read, Write};
+use std::io::Read;
 use std::sync::Wait;
 use std::thread::Threads;
 use std::{mem, str};
@@ -56,10 +56,10 @@ fn line<D: Display + Drop>(alloc: Global, name: &str, said: Option<D>) -> Option
 }
 
 /// Reads a script, has so many workers run it, and writes what came of it, as `perform` of `workload` does for a run in a world;
-/// waits for locks. Gives the status of the program: 0, or 1 after a fault was told: `ReadFailed` where the input failed, as
-/// `transcript_by_threads` is refused, `Memory`, or `WriteFailed` where the output failed. Only after the last may something be
-/// written, a beginning of the transcript's text.
-pub fn perform_by_threads<T: Threads + Wait + Sync, R: Read, W: Write, E: Write>(
+/// waits for locks. Gives the status of the program: 0, where all is written and the writer holds nothing back, or 1 after a
+/// fault was told: `ReadFailed` where the input failed, as `transcript_by_threads` is refused, `Memory`, or `WriteFailed` where
+/// the output failed. Only after the last may something be written, a beginning of the transcript's text.
+pub fn perform_by_threads<T: Threads + Wait + Sync, R: Read, W: Buffered, E: Buffered>(
     rt: &T,
     alloc: Global,
     workers: &Workers,
@@ -69,6 +69,7 @@ pub fn perform_by_threads<T: Threads + Wait + Sync, R: Read, W: Write, E: Write>
 ) -> u8
     ensures status { (result ≡ 0) ⊎ (result ≡ 1) }
     ensures printed { result ≡ 0 → Prints IsThreadTextFor IsThreadRefused R.remaining W.contents E.contents input.old output.old output.new errors.old errors.new }
+    ensures passed_on { result ≡ 0 → W.held output.new.writer ≡ [] }
     ensures unread { IsSome input.old.failure → TellsUnread E.contents result errors.old errors.new }
     ensures ended { result ≡ 1 → Ends IsThreadTextFor IsThreadRefused R.remaining W.contents E.contents input.old input.new output.old output.new errors.old errors.new }
 {

@@ -1,5 +1,5 @@
 //! The program, over any reader and writers.
-ghost use Rattle.std.specs.Prelude.{◌≡◌, ◌⊎◌, ℕ, List, IsSome, IfOk, IfErr};
+ghost use Rattle.std.specs.Prelude.{◌≡◌, ◌⊎◌, [], ℕ, List, IsSome, IfOk, IfErr};
 ghost use Rattle.logical_time.specs.declared.fault.Fault.{Fault as Refusal};
 ghost use Rattle.workload.specs.Performing.{IsTextFor, IsRefused, Prints, Ends, TellsUnread};
 ghost use Rattle.workload.specs.Text.{text_of};
@@ -13,10 +13,10 @@ use crate::text::write_transcript;
 use crate::transcript::Transcript;
 use json::{Scratch, Value as Json};
 use logical_time::Fault;
-use program::{Input, Line, Output, tell};
+use program::{Buffered, Input, Line, Output, tell};
 use std::alloc::Global;
 use std::fmt::Display;
-use std::io::{Read, Write};
+use std::io::Read;
 use std::{mem, str};
 use world::World;
 
@@ -128,11 +128,12 @@ fn line<D: Display + Drop>(alloc: Global, name: &str, said: Option<D>) -> Option
     Line::new(format!(in alloc; "{name}: {said}").ok()?)
 }
 
-/// Does a task for a program that ends with it, and may wait as that does: reads all that the input has left, and writes the
-/// text of the transcript, piece by piece and without memory; the transcript's own is given back with that of the process.
-/// Gives the status of the program: 0, or 1 after a fault was told: `ReadFailed` where the input failed, what the task refuses,
-/// `Memory`, or `WriteFailed` where the output failed. Only after the last may something be written, a beginning of the text.
-pub fn perform<T: Task, R: Read, W: Write, E: Write>(
+/// Does a task for a program that ends with it, and may wait as that does: reads all that the input has left, writes the text
+/// of the transcript, piece by piece and without memory, and passes it on; the transcript's own is given back with that of the
+/// process. Gives the status of the program: 0, where all is written and the writer holds nothing back, or 1 after a fault was
+/// told: `ReadFailed` where the input failed, what the task refuses, `Memory`, or `WriteFailed` where the output failed. Only
+/// after the last may something be written, a beginning of the text.
+pub fn perform<T: Task, R: Read, W: Buffered, E: Buffered>(
     alloc: Global,
     task: &T,
     input: &mut Input<R>,
@@ -141,6 +142,7 @@ pub fn perform<T: Task, R: Read, W: Write, E: Write>(
 ) -> u8
     ensures status { (result ≡ 0) ⊎ (result ≡ 1) }
     ensures printed { result ≡ 0 → Prints T.is_text T.is_refused R.remaining W.contents E.contents input.old output.old output.new errors.old errors.new }
+    ensures passed_on { result ≡ 0 → W.held output.new.writer ≡ [] }
     ensures unread { IsSome input.old.failure → TellsUnread E.contents result errors.old errors.new }
     ensures ended { result ≡ 1 → Ends T.is_text T.is_refused R.remaining W.contents E.contents input.old input.new output.old output.new errors.old errors.new }
 {

@@ -1,5 +1,5 @@
 //! The texts of transcripts, written piece by piece: no piece takes memory.
-ghost use Rattle.std.specs.Prelude.{◌≡◌, ◌≤◌, ◌+◌, ◌*◌, ◌++◌, ◌∷◌, true, Err, IsSome, IsNone, OnOk, OnErr, IfErr, length, take, codes, decimal};
+ghost use Rattle.std.specs.Prelude.{◌≡◌, ◌≤◌, ◌+◌, ◌*◌, ◌++◌, ◌∷◌, [], true, Err, IsSome, IsNone, OnOk, OnErr, IfErr, length, take, codes, decimal};
 ghost use Rattle.std.specs.List.{flat_map, list_all};
 ghost use Rattle.std.specs.Io.KnownBytes.{Appends};
 ghost use Rattle.hex.specs.Hex.{encode_lower};
@@ -11,7 +11,7 @@ ghost use Rattle.workload.specs.Text.{is_short_column, column_text, line_text, r
 use crate::transcript::{Entry, Transcript};
 use itoa::Buffer;
 use logical_time::{Fault, Node, Stamp, Time};
-use program::Output;
+use program::{Buffered, Output};
 use slice::{AnsweredRow, Column};
 use std::io::Write;
 
@@ -457,15 +457,17 @@ fn put_entries<W: Write>(output: &mut Output<W>, entries: &[Entry]) -> Result<()
     Ok(())
 }
 
-/// Writes the text of a transcript and passes it on: a line for each entry and, after that of a read, one for each asked row.
-/// Numbers are decimal, bytes lower-case hexadecimal. Refused with `WriteFailed` exactly where the output has failed; then a
-/// beginning of the text is written, and nothing where it had failed before. Linear in the text. Takes no memory: the text is
-/// written in pieces of up to 588 bytes, so a writer that calls the system for each should have a buffer before it.
-pub fn write_transcript<W: Write>(
+/// Writes the text of a transcript and passes it on, so that the writer holds nothing back: a line for each entry and, after
+/// that of a read, one for each asked row. Numbers are decimal, bytes lower-case hexadecimal. Refused with `WriteFailed` exactly
+/// where the output has failed; then a beginning of the text is written, and nothing where it had failed before. Linear in the
+/// text. Takes no memory: the text is written in pieces of up to 588 bytes, so a writer that calls the system for each should
+/// have a buffer before it.
+pub fn write_transcript<W: Buffered>(
     output: &mut Output<W>,
     transcript: &Transcript,
 ) -> Result<(), Fault>
     ensures whole { OnOk result (Appends (W.contents output.old.writer) (W.contents output.new.writer) (text_of transcript.now)) }
+    ensures passed_on { OnOk result (W.held output.new.writer ≡ []) }
     ensures sound { OnOk result (IsNone output.new.failure) }
     ensures part { OnErr result (AppendsPart (W.contents output.old.writer) (W.contents output.new.writer) (text_of transcript.now)) }
     ensures failed { IfErr result (λ e. (e ≡ fault.WriteFailed) × IsSome output.new.failure) }
