@@ -15,7 +15,7 @@ passed-heard bytes told piece l m n h e = record {
   heard = ap (λ (x : LineValue). x.heard) e ∙ ap (with_more piece) h.heard ∙ with_more-then bytes piece l.heard;
   said = ap (λ (x : LineValue). x.said) e ∙ h.said;
   failures = ap (λ (x : LineValue). x.failures) e ∙ h.failures;
-  ended_then = ap (λ (x : LineValue). x.ended) e ∙ h.ended_then;
+  ended_then = ap (λ (x : LineValue). x.endings) e ∙ h.ended_then;
 }
 
 pub passed-said : (bytes told more : List ℕ) (l m n : LineValue) → Passed false bytes told l m → n ≡ says more m → Passed false bytes (told ++ more) l n
@@ -23,7 +23,7 @@ passed-said bytes told more l m n h e = record {
   heard = ap (λ (x : LineValue). x.heard) e ∙ h.heard;
   said = ap (λ (x : LineValue). x.said) e ∙ ap (with_more more) h.said ∙ with_more-then told more l.said;
   failures = ap (λ (x : LineValue). x.failures) e ∙ h.failures;
-  ended_then = ap (λ (x : LineValue). x.ended) e ∙ h.ended_then;
+  ended_then = ap (λ (x : LineValue). x.endings) e ∙ h.ended_then;
 }
 
 pub behind : (a b c : List ℕ) → IsCutShort b c → IsCutShort (a ++ b) (a ++ c)

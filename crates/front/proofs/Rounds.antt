@@ -1,5 +1,5 @@
 -- Rounds of serving.
-use Rattle.std.proofs.Common.{◌≡◌, ℕ, ◌<◌, Bool, true, false, ◌||◌, List, [], ◌++◌, length, None, refl, sym, ap, subst, ◌∙◌, inl, inr, ◌⊎◌}
+use Rattle.std.proofs.Common.{◌≡◌, ℕ, ◌<◌, true, false, List, [], ◌++◌, length, None, refl, sym, ap, subst, ◌∙◌, inl, inr, ◌⊎◌}
 use Rattle.logical_time.specs.declared.fault.Fault.{Fault}
 use Rattle.logical_time.specs.declared.fault.Fault.TheVariants.{Memory}
 use Rattle.messages.specs.declared.op.Op.{Op}
@@ -16,14 +16,6 @@ use Rattle.front.proofs.Requests.{begins-none, begins-then, begins-more}
 use Rattle.front.proofs.Replies.{answered-none, answered-then}
 use Rattle.front.proofs.Fed.{end_number, FoundFault, end_clean, end_inside}
 use Rattle.front.proofs.Endings.{passed-heard, passed-said, failed_served, refused_served}
-
-or_true : (b : Bool) → (b || true) ≡ true
-or_true true = refl
-or_true false = refl
-
-or_false : (b : Bool) → (b || false) ≡ b
-or_false true = refl
-or_false false = refl
 
 -- a reader without requests has its rest alone
 text_is : (r : ReaderValue) → r.held ≡ [] → text r ≡ r.rest
@@ -130,7 +122,7 @@ piece_served steps l p r m q piece result w h some refuses =
 -- the input ended
 pub input_served : {P : Type 0} (steps : P → Op → Reply → P → Type 0) (l : LineValue) (p : P) (r : ReaderValue) (m : LineValue) (q : P) (result : Ended) (w : LineValue) → Going steps l p r m q → EndsInput r result (ends m) w → Served steps result l p w q
 input_served steps l p r m q result w h how =
-    let so_far : Passed true h.bytes h.told l (ends m) = record { heard = h.passed.heard; said = h.passed.said; failures = h.passed.failures; ended_then = sym (or_true l.ended) } in
+    let so_far : Passed true h.bytes h.told l (ends m) = record { heard = h.passed.heard; said = h.passed.said; failures = h.passed.failures; ended_then = ap raised h.passed.ended_then } in
     elim how [
       | inl e ↦ subst (λ (x : Ended). Served steps x l p w q) (sym e.1) (subst (λ (x : LineValue). Served steps Clean l p x q) (sym e.2) (record {
         bytes = h.bytes;
@@ -139,7 +131,7 @@ input_served steps l p r m q result w h how =
         said = h.passed.said;
         failures = h.passed.failures;
         ended = true;
-        ended_then = sym (or_true l.ended);
+        ended_then = ap raised h.passed.ended_then;
         ends = (refl, subst (λ (x : List ℕ). UpToDate steps p h.bytes x h.told q) (end_clean r h.fault e.0) h.answered);
       }))
       | inr e ↦ refused_served steps result l p (ends m) w q e.0 true h.bytes h.told so_far e.2 (inl (record {
@@ -180,7 +172,7 @@ pub begins_going : {P : Type 0} (steps : P → Op → Reply → P → Type 0) (l
 begins_going steps l p r new front = subst (λ (x : ReaderValue). Going steps l p x l p) (sym new) (record {
   bytes = [];
   told = [];
-  passed = record { heard = sym (with_more-nil l.heard); said = sym (with_more-nil l.said); failures = refl; ended_then = sym (or_false l.ended) };
+  passed = record { heard = sym (with_more-nil l.heard); said = sym (with_more-nil l.said); failures = refl; ended_then = refl };
   answered = record { ops = []; begins = begins-none []; waiting = front; answered = answered-none steps p };
   held = refl;
   fault = refl;

@@ -1,12 +1,12 @@
 -- A line, as who serves it sees it.
-use Rattle.std.specs.Prelude.{ℕ, zero, ◌+◌, ◌-◌, ◌^◌, min, List, ◌++◌, take, Bool, true, Option, Some, None, option_map}
+use Rattle.std.specs.Prelude.{ℕ, zero, ◌+◌, ◌-◌, ◌^◌, min, List, ◌++◌, take, Option, Some, None, option_map}
 
--- the bytes that came and those that were written, where the line tells them; whether the end of input was told; and
+-- the bytes that came and those that were written, where the line tells them; how often the end of input was told; and
 -- how many calls failed
 pub record LineValue : Type 0 where
   pub heard : Option (List ℕ)
   pub said : Option (List ℕ)
-  pub ended : Bool
+  pub endings : ℕ
   pub failures : ℕ
 
 -- bytes behind those that are told
@@ -19,12 +19,12 @@ hears bytes l = record l { heard = with_more bytes l.heard }
 abbrev pub says : List ℕ → LineValue → LineValue
 says bytes l = record l { said = with_more bytes l.said }
 
-abbrev pub ends : LineValue → LineValue
-ends l = record l { ended = true }
-
--- a failure raises the count, which stays at its greatest value
+-- what is counted raises its count, which stays at its greatest value
 abbrev pub raised : ℕ → ℕ
 raised n = min (n + 1) (2 ^ 64 - 1)
+
+abbrev pub ends : LineValue → LineValue
+ends l = record l { endings = raised l.endings }
 
 abbrev pub fails : LineValue → LineValue
 fails l = record l { failures = raised l.failures }

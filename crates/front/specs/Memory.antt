@@ -1,15 +1,15 @@
 -- A line in memory.
-use Rattle.std.specs.Prelude.{ℕ, List, Bool, Some}
+use Rattle.std.specs.Prelude.{ℕ, List, Some}
 use Rattle.front.specs.Lines.{LineValue}
 use Rattle.front.specs.declared.memory.Failing.{Failing}
 
--- what was read and what wasn't; what was written; whether the end was told; how many reads and writes there were; which of
+-- what was read and what wasn't; what was written; how often the end was told; how many reads and writes there were; which of
 -- them is to fail, and how many have failed
 pub record MemoryValue : Type 0 where
   pub heard : List ℕ
   pub unread : List ℕ
   pub said : List ℕ
-  pub ended : Bool
+  pub endings : ℕ
   pub reads : ℕ
   pub writes : ℕ
   pub failing : Failing
@@ -17,4 +17,4 @@ pub record MemoryValue : Type 0 where
 
 -- as a line, it tells its bytes
 abbrev pub line_of : MemoryValue → LineValue
-line_of m = record { heard = Some m.heard; said = Some m.said; ended = m.ended; failures = m.failures }
+line_of m = record { heard = Some m.heard; said = Some m.said; endings = m.endings; failures = m.failures }

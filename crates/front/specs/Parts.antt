@@ -1,5 +1,5 @@
 -- What the parts of `serve` make of a line, a port and a reader.
-use Rattle.std.specs.Prelude.{◌≡◌, ℕ, ◌<◌, List, [], length, Bool, true, false, ◌||◌, Option, Some, None, ◌⊎◌}
+use Rattle.std.specs.Prelude.{◌≡◌, ℕ, ◌<◌, List, [], length, Bool, true, false, Option, Some, None, ◌⊎◌}
 use Rattle.logical_time.specs.declared.fault.Fault.{Fault}
 use Rattle.logical_time.specs.declared.fault.Fault.TheVariants.{Memory}
 use Rattle.messages.specs.declared.op.Op.{Op}
@@ -9,7 +9,7 @@ use Rattle.wire.specs.Answers.{fault_at_end}
 use Rattle.front.specs.declared.ended.Ended.{Ended}
 use Rattle.front.specs.declared.ended.Ended.TheVariants.{Clean, Refused, ReadFailed, WriteFailed}
 use Rattle.front.specs.Lines.{LineValue, with_more, hears, says, ends, fails}
-use Rattle.front.specs.Served.{Begins, IsRefusal, IsCutShort, Answered, Begun, UpToDate, Served}
+use Rattle.front.specs.Served.{Begins, IsRefusal, IsCutShort, Answered, Begun, UpToDate, endings_after, Served}
 
 -- a piece is written, or a beginning of it, and then the line failed
 abbrev pub Wrote : List ℕ → Bool → LineValue → LineValue → Type 0
@@ -51,12 +51,12 @@ abbrev pub AnswersHeld : {P : Type 0} → (P → Op → Reply → P → Type 0) 
 AnswersHeld steps true old l p r m q = Answering steps old l p r m q × (r.held ≡ [])
 AnswersHeld steps false old l p r m q = CutOff steps (text old) l p m q
 
--- so much came and went, no call failed, and the end of input was told or not
+-- so much came and went, no call failed, and the end of input was told once or not
 pub record Passed (ended : Bool) (bytes told : List ℕ) (old new : LineValue) : Type 0 where
   pub heard : new.heard ≡ with_more bytes old.heard
   pub said : new.said ≡ with_more told old.said
   pub failures : new.failures ≡ old.failures
-  pub ended_then : new.ended ≡ (old.ended || ended)
+  pub ended_then : new.endings ≡ endings_after ended old.endings
 
 -- serving goes on: all that came is answered, and nothing is held
 pub record Going {P : Type 0} (steps : P → Op → Reply → P → Type 0) (l : LineValue) (p : P) (r : ReaderValue) (m : LineValue) (q : P) : Type 0 where

@@ -1,5 +1,5 @@
 -- What `serve` reads, and what it writes.
-use Rattle.std.specs.Prelude.{◌≡◌, ℕ, ◌<◌, List, [], ◌∷◌, ◌++◌, length, Bool, true, false, ◌||◌, Some, None, Ok, Err, ◌⊎◌}
+use Rattle.std.specs.Prelude.{◌≡◌, ℕ, ◌<◌, List, [], ◌∷◌, ◌++◌, length, Bool, true, false, Some, None, Ok, Err, ◌⊎◌}
 use Rattle.std.specs.List.{list_all}
 use Rattle.logical_time.specs.declared.fault.Fault.{Fault}
 use Rattle.logical_time.specs.declared.fault.Fault.TheVariants.{Memory, Oversize}
@@ -95,6 +95,11 @@ EndsAs steps WriteFailed ended p bytes told q =
     (replies : List ℕ) × IsCutShort told replies
     × (((ended ≡ false) × Begun steps p bytes replies q) ⊎ ((f : Fault) × RefusedAt steps p ended f bytes replies q))
 
+-- how often the end of input was told after a call: once more where the call was told it
+abbrev pub endings_after : Bool → ℕ → ℕ
+endings_after true n = raised n
+endings_after false n = n
+
 -- how many failures there are after a call: one more where it ended by one
 abbrev pub failures_after : Ended → ℕ → ℕ
 failures_after Clean n = n
@@ -102,7 +107,8 @@ failures_after (Refused f) n = n
 failures_after ReadFailed n = raised n
 failures_after WriteFailed n = raised n
 
--- What a call of `serve` makes of a line and of a port. It reads no more once it is told the end of input.
+-- What a call of `serve` makes of a line and of a port. Whether it was told the end of input is its own: told once, by a read
+-- of this call, and it reads no more after that.
 pub record Served {P : Type 0} (steps : P → Op → Reply → P → Type 0) (result : Ended) (old : LineValue) (p : P) (new : LineValue) (q : P) : Type 0 where
   pub bytes : List ℕ
   pub told : List ℕ
@@ -110,5 +116,5 @@ pub record Served {P : Type 0} (steps : P → Op → Reply → P → Type 0) (re
   pub said : new.said ≡ with_more told old.said
   pub failures : new.failures ≡ failures_after result old.failures
   pub ended : Bool
-  pub ended_then : new.ended ≡ (old.ended || ended)
+  pub ended_then : new.endings ≡ endings_after ended old.endings
   pub ends : EndsAs steps result ended p bytes told q

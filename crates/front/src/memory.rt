@@ -1,5 +1,5 @@
 //! A line in memory.
-ghost use Rattle.std.specs.Prelude.{◌≡◌, ◌<◌, [], false, true};
+ghost use Rattle.std.specs.Prelude.{◌≡◌, ◌<◌, []};
 ghost use Rattle.front.specs.Lines.{raised};
 ghost use Rattle.front.specs.Memory.{MemoryValue, line_of};
 
@@ -41,26 +41,26 @@ pub struct MemoryLine {
     failing: Failing,
     reads: u64,
     writes: u64,
-    ended: bool,
+    endings: u64,
     failures: u64,
 }
 
 impl Model for MemoryLine {
-    ghost use Rattle.std.specs.Prelude.{◌≡◌, ◌≤◌, ◌<◌, length, take, drop, true};
+    ghost use Rattle.std.specs.Prelude.{◌≡◌, ◌≤◌, ◌<◌, length, take, drop};
     ghost use Rattle.front.specs.Memory.{MemoryValue};
 
     ghost Value = { MemoryValue };
 
-    ghost view = { λ l. record { heard = take l.at l.input.items; unread = drop l.at l.input.items; said = l.output.items; ended = l.ended; reads = l.reads; writes = l.writes; failing = l.failing; failures = l.failures } };
+    ghost view = { λ l. record { heard = take l.at l.input.items; unread = drop l.at l.input.items; said = l.output.items; endings = l.endings; reads = l.reads; writes = l.writes; failing = l.failing; failures = l.failures } };
 
-    ghost invariant = { λ l. (0 < l.step) × (l.at ≤ length l.input.items) × (l.ended ≡ true → l.at ≡ length l.input.items) };
+    ghost invariant = { λ l. (0 < l.step) × (l.at ≤ length l.input.items) × (0 < l.endings → l.at ≡ length l.input.items) };
 }
 
 impl MemoryLine {
     /// A line over this input, of which nothing is read yet. Each call gives or takes at most `step` bytes.
     pub fn new(alloc: Global, input: Vec<u8>, step: usize, failing: Failing) -> MemoryLine
         requires { 0 < step }
-        ensures { result ≡ record { heard = []; unread = input.items; said = []; ended = false; reads = 0; writes = 0; failing = failing; failures = 0 } }
+        ensures { result ≡ record { heard = []; unread = input.items; said = []; endings = 0; reads = 0; writes = 0; failing = failing; failures = 0 } }
     {
         MemoryLine {
             input,
@@ -70,7 +70,7 @@ impl MemoryLine {
             failing,
             reads: 0,
             writes: 0,
-            ended: false,
+            endings: 0,
             failures: 0,
         }
     }
@@ -85,7 +85,7 @@ impl MemoryLine {
     /// What wasn't read: nothing where the end of input was told.
     pub fn unread(&self) -> &[u8]
         ensures rest { result.now ≡ self.now.unread }
-        ensures none { self.now.ended ≡ true → result.now ≡ [] }
+        ensures none { 0 < self.now.endings → result.now ≡ [] }
     {
         &self.input[self.at..]
     }
@@ -109,7 +109,7 @@ impl Line for MemoryLine {
         }
         let rest = &self.input[self.at..];
         if rest.is_empty() {
-            self.ended = true;
+            self.endings = self.endings.saturating_add(1);
             return Some(0);
         }
         let n = self.step.min(rest.len()).min(buffer.len());

@@ -1,5 +1,5 @@
 //! A line over a socket.
-ghost use Rattle.std.specs.Prelude.{◌≡◌, false, None};
+ghost use Rattle.std.specs.Prelude.{◌≡◌, None};
 
 use crate::line::Line;
 use std::io::{Read, Write};
@@ -10,7 +10,7 @@ use std::net::TcpStream;
 #[derive(Drop)]
 pub struct SocketLine {
     stream: TcpStream,
-    ended: bool,
+    endings: u64,
     failures: u64,
 }
 
@@ -20,19 +20,19 @@ impl Model for SocketLine {
 
     ghost Value = { LineValue };
 
-    ghost view = { λ l. record { heard = None; said = None; ended = l.ended; failures = l.failures } };
+    ghost view = { λ l. record { heard = None; said = None; endings = l.endings; failures = l.failures } };
 }
 
 impl SocketLine {
     /// The line of a connection, before any call. What is written to it goes out at once.
     pub fn new(stream: TcpStream) -> SocketLine
-        ensures { result ≡ record { heard = None; said = None; ended = false; failures = 0 } }
+        ensures { result ≡ record { heard = None; said = None; endings = 0; failures = 0 } }
     {
         // a reply isn't kept back until the peer has taken the one before; where that is refused, replies come later
         let _refused = stream.set_nodelay(true);
         SocketLine {
             stream,
-            ended: false,
+            endings: 0,
             failures: 0,
         }
     }
@@ -45,7 +45,7 @@ impl Line for SocketLine {
     fn read(&mut self, buffer: &mut [u8]) -> Option<usize> {
         match self.stream.read(buffer) {
             Ok(0) => {
-                self.ended = true;
+                self.endings = self.endings.saturating_add(1);
                 Some(0)
             }
             Ok(n) => Some(n),
