@@ -1,5 +1,5 @@
 -- Rounds of serving.
-use Rattle.std.proofs.Common.{◌≡◌, ℕ, ◌<◌, true, false, List, [], ◌++◌, length, None, refl, sym, ap, subst, ◌∙◌, inl, inr, ◌⊎◌}
+use Rattle.std.proofs.Common.{◌≡◌, ℕ, ◌+◌, ◌<◌, ◌≤◌, true, false, List, [], ◌++◌, length, None, refl, sym, ap, subst, ◌∙◌, inl, inr, ◌⊎◌, arith, length-append}
 use Rattle.logical_time.specs.declared.fault.Fault.{Fault}
 use Rattle.logical_time.specs.declared.fault.Fault.TheVariants.{Memory}
 use Rattle.messages.specs.declared.op.Op.{Op}
@@ -9,7 +9,7 @@ use Rattle.wire.proofs.Faults.{front_fault}
 use Rattle.front.specs.declared.ended.Ended.{Ended}
 use Rattle.front.specs.declared.ended.Ended.TheVariants.{Clean, ReadFailed, WriteFailed}
 use Rattle.front.specs.Lines.{LineValue, raised, hears, ends, fails}
-use Rattle.front.specs.Served.{Begins, Answered, UpToDate, AtFault, AtPiece, Served}
+use Rattle.front.specs.Served.{Begins, Answered, UpToDate, AtFault, AtPiece, ServedBy, most_pieces}
 use Rattle.front.specs.Parts.{Refuses, EndsInput, GivesUp, Answering, CutOff, Passed, Going}
 use Rattle.front.proofs.Said.{with_more-nil}
 use Rattle.front.proofs.Requests.{begins-none, begins-then, begins-more}
@@ -22,19 +22,19 @@ text_is : (r : ReaderValue) → r.held ≡ [] → text r ≡ r.rest
 text_is r e = ap (λ (ops : List Op). frames ops ++ r.rest) e
 
 -- a piece came
-passed-piece : {P : Type 0} (steps : P → Op → Reply → P → Type 0) (l : LineValue) (p : P) (r : ReaderValue) (m : LineValue) (q : P) (piece : List ℕ) (n : LineValue) (h : Going steps l p r m q) → n ≡ hears piece m → Passed false (h.bytes ++ piece) h.told l n
+passed-piece : {P : Type 0} {pieces : ℕ} (steps : P → Op → Reply → P → Type 0) (l : LineValue) (p : P) (r : ReaderValue) (m : LineValue) (q : P) (piece : List ℕ) (n : LineValue) (h : Going pieces steps l p r m q) → n ≡ hears piece m → Passed false (h.bytes ++ piece) h.told l n
 passed-piece steps l p r m q piece n h e =
     passed-heard h.bytes h.told piece l m n h.passed e
 
 -- the requests that a piece completes stand behind those before it
-begins_fed : {P : Type 0} (steps : P → Op → Reply → P → Type 0) (l : LineValue) (p : P) (r : ReaderValue) (m : LineValue) (q : P) (piece : List ℕ) (s : ReaderValue) (ops : List Op) (rest : List ℕ) (h : Going steps l p r m q)
+begins_fed : {P : Type 0} {pieces : ℕ} (steps : P → Op → Reply → P → Type 0) (l : LineValue) (p : P) (r : ReaderValue) (m : LineValue) (q : P) (piece : List ℕ) (s : ReaderValue) (ops : List Op) (rest : List ℕ) (h : Going pieces steps l p r m q)
     → text s ≡ text r ++ piece → Begins (text s) ops rest → Begins (h.bytes ++ piece) (h.answered.ops ++ ops) rest
 begins_fed steps l p r m q piece s ops rest h fed begins =
     let shown : text s ≡ r.rest ++ piece = fed ∙ ap (λ (t : List ℕ). t ++ piece) (text_is r h.held) in
     begins-then (h.bytes ++ piece) h.answered.ops (r.rest ++ piece) ops rest (begins-more h.bytes h.answered.ops r.rest piece h.answered.begins) (subst (λ (t : List ℕ). Begins t ops rest) shown begins)
 
 -- the requests of a reader stand behind those before it
-begins_held : {P : Type 0} (steps : P → Op → Reply → P → Type 0) (l : LineValue) (p : P) (r : ReaderValue) (m : LineValue) (q : P) (ops : List Op) (rest : List ℕ) (h : Going steps l p r m q) → Begins (text r) ops rest → Begins h.bytes (h.answered.ops ++ ops) rest
+begins_held : {P : Type 0} {pieces : ℕ} (steps : P → Op → Reply → P → Type 0) (l : LineValue) (p : P) (r : ReaderValue) (m : LineValue) (q : P) (ops : List Op) (rest : List ℕ) (h : Going pieces steps l p r m q) → Begins (text r) ops rest → Begins h.bytes (h.answered.ops ++ ops) rest
 begins_held steps l p r m q ops rest h begins =
     begins-then h.bytes h.answered.ops r.rest ops rest h.answered.begins (subst (λ (t : List ℕ). Begins t ops rest) (text_is r h.held) begins)
 
@@ -42,12 +42,19 @@ begins_held steps l p r m q ops rest h begins =
 taken_all : (ops : List Op) (x : List ℕ) (s r : ReaderValue) → r.held ≡ [] → r.rest ≡ s.rest → Begins x ops (text r) → Begins x ops s.rest
 taken_all ops x s r held rest begins = subst (λ (t : List ℕ). Begins x ops t) (text_is r held ∙ rest) begins
 
+more_pieces : (bytes piece : List ℕ) (pieces : ℕ) → pieces ≤ length bytes → 0 < length piece → pieces + 1 ≤ length (bytes ++ piece)
+more_pieces bytes piece pieces le some = omega (arith, length-append bytes piece)
+
+at_least : (a b c : ℕ) → a ≤ b → b ≤ c → a ≤ c
+at_least a b c le more = omega arith
+
 -- a piece is read without a fault, and all that it completes is answered
-pub goes_on : {P : Type 0} (steps : P → Op → Reply → P → Type 0) (l : LineValue) (p : P) (r : ReaderValue) (m : LineValue) (q : P) (piece : List ℕ) (n : LineValue) (s : ReaderValue) (t : ReaderValue) (k : LineValue) (o : P)
-    → Going steps l p r m q → n ≡ hears piece m → text s ≡ text r ++ piece → s.fault ≡ None → front_of s.rest ≡ waits → Answering steps s n q t k o → t.held ≡ [] → Going steps l p t k o
-goes_on steps l p r m q piece n s t k o h came fed fault front a held = record {
+pub goes_on : {P : Type 0} {pieces : ℕ} (steps : P → Op → Reply → P → Type 0) (l : LineValue) (p : P) (r : ReaderValue) (m : LineValue) (q : P) (piece : List ℕ) (n : LineValue) (s : ReaderValue) (t : ReaderValue) (k : LineValue) (o : P)
+    → Going pieces steps l p r m q → n ≡ hears piece m → 0 < length piece → text s ≡ text r ++ piece → s.fault ≡ None → front_of s.rest ≡ waits → Answering steps s n q t k o → t.held ≡ [] → Going (pieces + 1) steps l p t k o
+goes_on steps l p r m q piece n s t k o h came some fed fault front a held = record {
   bytes = h.bytes ++ piece;
   told = h.told ++ a.told;
+  counted = more_pieces h.bytes piece _ h.counted some;
   passed = passed-said (h.bytes ++ piece) h.told a.told l n k (passed-piece steps l p r m q piece n h came) a.line;
   answered = record {
     ops = h.answered.ops ++ a.ops;
@@ -60,15 +67,15 @@ goes_on steps l p r m q piece n s t k o h came fed fault front a held = record {
 }
 
 -- the line failed among the answers
-pub cut_served : {P : Type 0} (steps : P → Op → Reply → P → Type 0) (l : LineValue) (p : P) (r : ReaderValue) (m : LineValue) (q : P) (piece : List ℕ) (n : LineValue) (s : ReaderValue) (k : LineValue) (o : P)
-    → Going steps l p r m q → n ≡ hears piece m → (text s ≡ text r ++ piece) ⊎ (s ≡ r) → CutOff steps (text s) n q k o → Served steps WriteFailed l p k o
-cut_served steps l p r m q piece n s k o h came fed a =
+pub cut_served : {P : Type 0} {pieces : ℕ} (refuses : List ℕ → List ℕ → Type 0) (steps : P → Op → Reply → P → Type 0) (l : LineValue) (p : P) (r : ReaderValue) (m : LineValue) (q : P) (piece : List ℕ) (n : LineValue) (s : ReaderValue) (k : LineValue) (o : P)
+    → Going pieces steps l p r m q → n ≡ hears piece m → (text s ≡ text r ++ piece) ⊎ (s ≡ r) → CutOff steps (text s) n q k o → ServedBy refuses steps WriteFailed l p k o
+cut_served refuses steps l p r m q piece n s k o h came fed a =
     let ops = h.answered.ops ++ a.begun.ops in
     let begun : (rest : List ℕ) × Begins (h.bytes ++ piece) ops rest = elim fed [
       | inl e ↦ (a.begun.rest, begins_fed steps l p r m q piece s a.begun.ops a.begun.rest h e a.begun.begins)
       | inr e ↦ (a.begun.rest ++ piece, begins-more h.bytes ops a.begun.rest piece (begins_held steps l p r m q a.begun.ops a.begun.rest h (subst (λ (x : ReaderValue). Begins (text x) a.begun.ops a.begun.rest) e a.begun.begins)))
     ] in
-    failed_served steps l p n k o false (h.bytes ++ piece) h.told a.sent a.replies (passed-piece steps l p r m q piece n h came) a.line a.beginning (inl (
+    failed_served refuses steps l p n k o false (h.bytes ++ piece) h.told a.sent a.replies (passed-piece steps l p r m q piece n h came) a.line a.beginning (inl (
       refl,
       record {
         ops = ops;
@@ -79,13 +86,13 @@ cut_served steps l p r m q piece n s k o h came fed a =
     ))
 
 -- a piece with a fault, before which all is answered
-pub fault_served : {P : Type 0} (steps : P → Op → Reply → P → Type 0) (l : LineValue) (p : P) (r : ReaderValue) (m : LineValue) (q : P) (piece : List ℕ) (n : LineValue) (s : ReaderValue) (t : ReaderValue) (k : LineValue) (o : P) (f : Fault) (result : Ended) (w : LineValue)
-    → Going steps l p r m q → n ≡ hears piece m → 0 < length piece → ((f ≡ Memory) × (s ≡ r)) ⊎ FoundFault piece r s f → Answering steps s n q t k o → t.held ≡ [] → Refuses f result k w → Served steps result l p w o
-fault_served steps l p r m q piece n s t k o f result w h came some fed a held refuses =
+pub fault_served : {P : Type 0} {pieces : ℕ} (refuses : List ℕ → List ℕ → Type 0) (steps : P → Op → Reply → P → Type 0) (l : LineValue) (p : P) (r : ReaderValue) (m : LineValue) (q : P) (piece : List ℕ) (n : LineValue) (s : ReaderValue) (t : ReaderValue) (k : LineValue) (o : P) (f : Fault) (result : Ended) (w : LineValue)
+    → Going pieces steps l p r m q → n ≡ hears piece m → 0 < length piece → (f ≡ Memory → refuses r.rest piece) → ((f ≡ Memory) × (s ≡ r)) ⊎ FoundFault piece r s f → Answering steps s n q t k o → t.held ≡ [] → Refuses f result k w → ServedBy refuses steps result l p w o
+fault_served refuses steps l p r m q piece n s t k o f result w h came some memory fed a held last =
     let ops = h.answered.ops ++ a.ops in
     let told = h.told ++ a.told in
     let answered : Answered steps p ops told o = answered-then steps p h.answered.ops h.told q a.ops a.told o h.answered.answered a.answered in
-    let stopped : AtFault steps p false f (h.bytes ++ piece) told o ⊎ ((false ≡ false) × AtPiece steps p f (h.bytes ++ piece) told o) = elim fed [
+    let stopped : AtFault steps p false f (h.bytes ++ piece) told o ⊎ ((false ≡ false) × AtPiece refuses steps p f (h.bytes ++ piece) told o) = elim fed [
       | inl e ↦ inr (
         refl,
         record {
@@ -95,6 +102,7 @@ fault_served steps l p r m q piece n s t k o f result w h came some fed a held r
           some = some;
           cut = refl;
           rest = r.rest;
+          why = inl (memory e.0);
           answered = record {
             ops = ops;
             begins = subst (λ (x : ReaderValue). Begins h.bytes ops x.rest) e.1 (begins_held steps l p r m q a.ops s.rest h (subst (λ (x : ReaderValue). Begins (text x) a.ops s.rest) e.1 (taken_all a.ops (text s) s t held a.rest a.begins)));
@@ -112,19 +120,19 @@ fault_served steps l p r m q piece n s t k o f result w h came some fed a held r
         answered = answered;
       })
     ] in
-    refused_served steps result l p k w o f false (h.bytes ++ piece) told (passed-said (h.bytes ++ piece) h.told a.told l n k (passed-piece steps l p r m q piece n h came) a.line) refuses stopped
+    refused_served refuses steps result l p k w o f false (h.bytes ++ piece) told (passed-said (h.bytes ++ piece) h.told a.told l n k (passed-piece steps l p r m q piece n h came) a.line) last stopped
 
 -- a piece that is refused
-piece_served : {P : Type 0} (steps : P → Op → Reply → P → Type 0) (l : LineValue) (p : P) (r : ReaderValue) (m : LineValue) (q : P) (piece : List ℕ) (result : Ended) (w : LineValue) → Going steps l p r m q → 0 < length piece → Refuses Memory result (hears piece m) w → Served steps result l p w q
-piece_served steps l p r m q piece result w h some refuses =
-    refused_served steps result l p (hears piece m) w q Memory false (h.bytes ++ piece) h.told (passed-piece steps l p r m q piece (hears piece m) h refl) refuses (inr (refl, record { memory = refl; before = h.bytes; piece = piece; some = some; cut = refl; rest = r.rest; answered = h.answered }))
+piece_served : {P : Type 0} {pieces : ℕ} (refuses : List ℕ → List ℕ → Type 0) (steps : P → Op → Reply → P → Type 0) (l : LineValue) (p : P) (r : ReaderValue) (m : LineValue) (q : P) (piece : List ℕ) (result : Ended) (w : LineValue) → Going pieces steps l p r m q → most_pieces ≤ pieces → 0 < length piece → Refuses Memory result (hears piece m) w → ServedBy refuses steps result l p w q
+piece_served refuses steps l p r m q piece result w h most some last =
+    refused_served refuses steps result l p (hears piece m) w q Memory false (h.bytes ++ piece) h.told (passed-piece steps l p r m q piece (hears piece m) h refl) last (inr (refl, record { memory = refl; before = h.bytes; piece = piece; some = some; cut = refl; rest = r.rest; why = inr (at_least _ _ _ most h.counted); answered = h.answered }))
 
 -- the input ended
-pub input_served : {P : Type 0} (steps : P → Op → Reply → P → Type 0) (l : LineValue) (p : P) (r : ReaderValue) (m : LineValue) (q : P) (result : Ended) (w : LineValue) → Going steps l p r m q → EndsInput r result (ends m) w → Served steps result l p w q
-input_served steps l p r m q result w h how =
+pub input_served : {P : Type 0} {pieces : ℕ} (refuses : List ℕ → List ℕ → Type 0) (steps : P → Op → Reply → P → Type 0) (l : LineValue) (p : P) (r : ReaderValue) (m : LineValue) (q : P) (result : Ended) (w : LineValue) → Going pieces steps l p r m q → EndsInput r result (ends m) w → ServedBy refuses steps result l p w q
+input_served refuses steps l p r m q result w h how =
     let so_far : Passed true h.bytes h.told l (ends m) = record { heard = h.passed.heard; said = h.passed.said; failures = h.passed.failures; ended_then = ap raised h.passed.ended_then } in
     elim how [
-      | inl e ↦ subst (λ (x : Ended). Served steps x l p w q) (sym e.1) (subst (λ (x : LineValue). Served steps Clean l p x q) (sym e.2) (record {
+      | inl e ↦ subst (λ (x : Ended). ServedBy refuses steps x l p w q) (sym e.1) (subst (λ (x : LineValue). ServedBy refuses steps Clean l p x q) (sym e.2) (record {
         bytes = h.bytes;
         told = h.told;
         heard = h.passed.heard;
@@ -134,7 +142,7 @@ input_served steps l p r m q result w h how =
         ended_then = ap raised h.passed.ended_then;
         ends = (refl, subst (λ (x : List ℕ). UpToDate steps p h.bytes x h.told q) (end_clean r h.fault e.0) h.answered);
       }))
-      | inr e ↦ refused_served steps result l p (ends m) w q e.0 true h.bytes h.told so_far e.2 (inl (record {
+      | inr e ↦ refused_served refuses steps result l p (ends m) w q e.0 true h.bytes h.told so_far e.2 (inl (record {
         ops = h.answered.ops;
         rest = r.rest;
         begins = h.answered.begins;
@@ -145,8 +153,8 @@ input_served steps l p r m q result w h how =
     ]
 
 -- the line failed to read
-pub read_failed : {P : Type 0} (steps : P → Op → Reply → P → Type 0) (l : LineValue) (p : P) (r : ReaderValue) (m : LineValue) (q : P) (w : LineValue) → Going steps l p r m q → w ≡ fails m → Served steps ReadFailed l p w q
-read_failed steps l p r m q w h e = subst (λ (x : LineValue). Served steps ReadFailed l p x q) (sym e) (record {
+pub read_failed : {P : Type 0} {pieces : ℕ} (refuses : List ℕ → List ℕ → Type 0) (steps : P → Op → Reply → P → Type 0) (l : LineValue) (p : P) (r : ReaderValue) (m : LineValue) (q : P) (w : LineValue) → Going pieces steps l p r m q → w ≡ fails m → ServedBy refuses steps ReadFailed l p w q
+read_failed refuses steps l p r m q w h e = subst (λ (x : LineValue). ServedBy refuses steps ReadFailed l p x q) (sym e) (record {
   bytes = h.bytes;
   told = h.told;
   heard = h.passed.heard;
@@ -157,21 +165,22 @@ read_failed steps l p r m q w h e = subst (λ (x : LineValue). Served steps Read
   ends = (refl, r.rest, h.answered);
 })
 
-pub gave_up : {P : Type 0} (steps : P → Op → Reply → P → Type 0) (l : LineValue) (p : P) (r : ReaderValue) (m : LineValue) (q : P) (result : Ended) (w : LineValue) → Going steps l p r m q → GivesUp r result m w → Served steps result l p w q
-gave_up steps l p r m q result w h how =
+pub gave_up : {P : Type 0} {pieces : ℕ} (refuses : List ℕ → List ℕ → Type 0) (steps : P → Op → Reply → P → Type 0) (l : LineValue) (p : P) (r : ReaderValue) (m : LineValue) (q : P) (result : Ended) (w : LineValue) → Going pieces steps l p r m q → most_pieces ≤ pieces → GivesUp r result m w → ServedBy refuses steps result l p w q
+gave_up refuses steps l p r m q result w h most how =
     elim how [
-      | inl e ↦ subst (λ (x : Ended). Served steps x l p w q) (sym e.0) (read_failed steps l p r m q w h e.1)
+      | inl e ↦ subst (λ (x : Ended). ServedBy refuses steps x l p w q) (sym e.0) (read_failed refuses steps l p r m q w h e.1)
       | inr other ↦ elim other [
-        | inl e ↦ input_served steps l p r m q result w h e
-        | inr e ↦ piece_served steps l p r m q e.0 result w h e.1 e.2
+        | inl e ↦ input_served refuses steps l p r m q result w h e
+        | inr e ↦ piece_served refuses steps l p r m q e.0 result w h most e.1 e.2
       ]
     ]
 
 -- serving begins
-pub begins_going : {P : Type 0} (steps : P → Op → Reply → P → Type 0) (l : LineValue) (p : P) (r : ReaderValue) → r ≡ record { held = []; rest = []; fault = None } → front_of [] ≡ waits → Going steps l p r l p
-begins_going steps l p r new front = subst (λ (x : ReaderValue). Going steps l p x l p) (sym new) (record {
+pub begins_going : {P : Type 0} (steps : P → Op → Reply → P → Type 0) (l : LineValue) (p : P) (r : ReaderValue) → r ≡ record { held = []; rest = []; fault = None } → front_of [] ≡ waits → Going 0 steps l p r l p
+begins_going steps l p r new front = subst (λ (x : ReaderValue). Going 0 steps l p x l p) (sym new) (record {
   bytes = [];
   told = [];
+  counted = omega arith;
   passed = record { heard = sym (with_more-nil l.heard); said = sym (with_more-nil l.said); failures = refl; ended_then = refl };
   answered = record { ops = []; begins = begins-none []; waiting = front; answered = answered-none steps p };
   held = refl;

@@ -1,5 +1,5 @@
 -- What the parts of `serve` make of a line, a port and a reader.
-use Rattle.std.specs.Prelude.{◌≡◌, ℕ, ◌<◌, List, [], length, Bool, true, false, Option, Some, None, ◌⊎◌}
+use Rattle.std.specs.Prelude.{◌≡◌, ℕ, ◌<◌, ◌≤◌, List, [], length, Bool, true, false, Option, Some, None, ◌⊎◌}
 use Rattle.logical_time.specs.declared.fault.Fault.{Fault}
 use Rattle.logical_time.specs.declared.fault.Fault.TheVariants.{Memory}
 use Rattle.messages.specs.declared.op.Op.{Op}
@@ -9,7 +9,7 @@ use Rattle.wire.specs.Answers.{fault_at_end}
 use Rattle.front.specs.declared.ended.Ended.{Ended}
 use Rattle.front.specs.declared.ended.Ended.TheVariants.{Clean, Refused, ReadFailed, WriteFailed}
 use Rattle.front.specs.Lines.{LineValue, with_more, hears, says, ends, fails}
-use Rattle.front.specs.Served.{Begins, IsRefusal, IsCutShort, Answered, Begun, UpToDate, endings_after, Served}
+use Rattle.front.specs.Served.{Begins, IsRefusal, IsCutShort, Answered, Begun, UpToDate, endings_after, ServedBy}
 
 -- a piece is written, or a beginning of it, and then the line failed
 abbrev pub Wrote : List ℕ → Bool → LineValue → LineValue → Type 0
@@ -58,16 +58,17 @@ pub record Passed (ended : Bool) (bytes told : List ℕ) (old new : LineValue) :
   pub failures : new.failures ≡ old.failures
   pub ended_then : new.endings ≡ endings_after ended old.endings
 
--- serving goes on: all that came is answered, and nothing is held
-pub record Going {P : Type 0} (steps : P → Op → Reply → P → Type 0) (l : LineValue) (p : P) (r : ReaderValue) (m : LineValue) (q : P) : Type 0 where
+-- serving goes on after so many pieces: all that came is answered, and nothing is held
+pub record Going {P : Type 0} (pieces : ℕ) (steps : P → Op → Reply → P → Type 0) (l : LineValue) (p : P) (r : ReaderValue) (m : LineValue) (q : P) : Type 0 where
   pub bytes : List ℕ
   pub told : List ℕ
+  pub counted : pieces ≤ length bytes
   pub passed : Passed false bytes told l m
   pub answered : UpToDate steps p bytes r.rest told q
   pub held : r.held ≡ []
   pub fault : r.fault ≡ None
 
--- serving goes on, or has ended
-abbrev pub GoesOn : {P : Type 0} → (P → Op → Reply → P → Type 0) → Option Ended → LineValue → P → ReaderValue → LineValue → P → Type 0
-GoesOn steps None l p r m q = Going steps l p r m q
-GoesOn steps (Some result) l p r m q = Served steps result l p m q
+-- serving goes on after so many pieces, or has ended
+abbrev pub GoesOn : {P : Type 0} → (List ℕ → List ℕ → Type 0) → ℕ → (P → Op → Reply → P → Type 0) → Option Ended → LineValue → P → ReaderValue → LineValue → P → Type 0
+GoesOn refuses pieces steps None l p r m q = Going pieces steps l p r m q
+GoesOn refuses pieces steps (Some result) l p r m q = ServedBy refuses steps result l p m q

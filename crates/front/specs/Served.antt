@@ -1,5 +1,5 @@
 -- What `serve` reads, and what it writes.
-use Rattle.std.specs.Prelude.{◌≡◌, ℕ, ◌<◌, List, [], ◌∷◌, ◌++◌, length, Bool, true, false, Some, None, Ok, Err, ◌⊎◌}
+use Rattle.std.specs.Prelude.{◌≡◌, ℕ, ◌<◌, ◌≤◌, ◌-◌, ◌^◌, List, [], ◌∷◌, ◌++◌, length, Bool, true, false, Some, None, Ok, Err, ◌⊎◌}
 use Rattle.std.specs.List.{list_all}
 use Rattle.logical_time.specs.declared.fault.Fault.{Fault}
 use Rattle.logical_time.specs.declared.fault.Fault.TheVariants.{Memory, Oversize}
@@ -57,23 +57,29 @@ pub record AtFault {P : Type 0} (steps : P → Op → Reply → P → Type 0) (p
   pub fault : ((ended ≡ false) × (front_of rest ≡ faulty f)) ⊎ ((ended ≡ true) × EndsInside rest (Some f))
   pub answered : Answered steps p ops replies q
 
--- memory was refused for the last piece, and all requests that the pieces before it spell are answered
-pub record AtPiece {P : Type 0} (steps : P → Op → Reply → P → Type 0) (p : P) (f : Fault) (bytes replies : List ℕ) (q : P) : Type 0 where
+-- after so many pieces no further one is taken
+abbrev pub most_pieces : ℕ
+most_pieces = 2 ^ 64 - 1
+
+-- The last piece was refused with `Memory`: feeding it was refused, where what came before had this rest; or as many pieces were
+-- taken as are taken, none of them empty. All requests that the pieces before it spell are answered.
+pub record AtPiece {P : Type 0} (refuses : List ℕ → List ℕ → Type 0) (steps : P → Op → Reply → P → Type 0) (p : P) (f : Fault) (bytes replies : List ℕ) (q : P) : Type 0 where
   pub memory : f ≡ Memory
   pub before : List ℕ
   pub piece : List ℕ
   pub some : 0 < length piece
   pub cut : bytes ≡ before ++ piece
   pub rest : List ℕ
+  pub why : refuses rest piece ⊎ (most_pieces ≤ length before)
   pub answered : UpToDate steps p before rest replies q
 
 -- the answers, and after them the refusal of the stream
-pub record RefusedAt {P : Type 0} (steps : P → Op → Reply → P → Type 0) (p : P) (ended : Bool) (f : Fault) (bytes told : List ℕ) (q : P) : Type 0 where
+pub record RefusedAt {P : Type 0} (refuses : List ℕ → List ℕ → Type 0) (steps : P → Op → Reply → P → Type 0) (p : P) (ended : Bool) (f : Fault) (bytes told : List ℕ) (q : P) : Type 0 where
   pub replies : List ℕ
   pub last : List ℕ
   pub refusal : IsRefusal f last
   pub written : told ≡ replies ++ last
-  pub stopped : AtFault steps p ended f bytes replies q ⊎ ((ended ≡ false) × AtPiece steps p f bytes replies q)
+  pub stopped : AtFault steps p ended f bytes replies q ⊎ ((ended ≡ false) × AtPiece refuses steps p f bytes replies q)
 
 -- the answers to requests that stand first, perhaps not to all
 pub record Begun {P : Type 0} (steps : P → Op → Reply → P → Type 0) (p : P) (bytes replies : List ℕ) (q : P) : Type 0 where
@@ -87,13 +93,13 @@ abbrev pub IsCutShort : List ℕ → List ℕ → Type 0
 IsCutShort first bytes = (others : List ℕ) × (0 < length others) × (bytes ≡ first ++ others)
 
 -- how a call ends, by whether it was told the end of input, the bytes that it read and wrote, and the ports before and after
-abbrev pub EndsAs : {P : Type 0} → (P → Op → Reply → P → Type 0) → Ended → Bool → P → List ℕ → List ℕ → P → Type 0
-EndsAs steps Clean ended p bytes told q = (ended ≡ true) × UpToDate steps p bytes [] told q
-EndsAs steps (Refused f) ended p bytes told q = RefusedAt steps p ended f bytes told q
-EndsAs steps ReadFailed ended p bytes told q = (ended ≡ false) × (rest : List ℕ) × UpToDate steps p bytes rest told q
-EndsAs steps WriteFailed ended p bytes told q =
+abbrev pub EndsAs : {P : Type 0} → (List ℕ → List ℕ → Type 0) → (P → Op → Reply → P → Type 0) → Ended → Bool → P → List ℕ → List ℕ → P → Type 0
+EndsAs refuses steps Clean ended p bytes told q = (ended ≡ true) × UpToDate steps p bytes [] told q
+EndsAs refuses steps (Refused f) ended p bytes told q = RefusedAt refuses steps p ended f bytes told q
+EndsAs refuses steps ReadFailed ended p bytes told q = (ended ≡ false) × (rest : List ℕ) × UpToDate steps p bytes rest told q
+EndsAs refuses steps WriteFailed ended p bytes told q =
     (replies : List ℕ) × IsCutShort told replies
-    × (((ended ≡ false) × Begun steps p bytes replies q) ⊎ ((f : Fault) × RefusedAt steps p ended f bytes replies q))
+    × (((ended ≡ false) × Begun steps p bytes replies q) ⊎ ((f : Fault) × RefusedAt refuses steps p ended f bytes replies q))
 
 -- how often the end of input was told after a call: once more where the call was told it
 abbrev pub endings_after : Bool → ℕ → ℕ
@@ -107,9 +113,9 @@ failures_after (Refused f) n = n
 failures_after ReadFailed n = raised n
 failures_after WriteFailed n = raised n
 
--- What a call of `serve` makes of a line and of a port. Whether it was told the end of input is its own: told once, by a read
--- of this call, and it reads no more after that.
-pub record Served {P : Type 0} (steps : P → Op → Reply → P → Type 0) (result : Ended) (old : LineValue) (p : P) (new : LineValue) (q : P) : Type 0 where
+-- What serving makes of a line and of a port, where `refuses` says when memory is refused for a piece. That it was told the end
+-- of input is its own: it was told once, by a read of this call, and reads no more after that.
+pub record ServedBy {P : Type 0} (refuses : List ℕ → List ℕ → Type 0) (steps : P → Op → Reply → P → Type 0) (result : Ended) (old : LineValue) (p : P) (new : LineValue) (q : P) : Type 0 where
   pub bytes : List ℕ
   pub told : List ℕ
   pub heard : new.heard ≡ with_more bytes old.heard
@@ -117,4 +123,12 @@ pub record Served {P : Type 0} (steps : P → Op → Reply → P → Type 0) (re
   pub failures : new.failures ≡ failures_after result old.failures
   pub ended : Bool
   pub ended_then : new.endings ≡ endings_after ended old.endings
-  pub ends : EndsAs steps result ended p bytes told q
+  pub ends : EndsAs refuses steps result ended p bytes told q
+
+-- nothing is known of when memory is refused for a piece
+abbrev pub any_piece : List ℕ → List ℕ → Type 0
+any_piece rest piece = Unit {0}
+
+-- what a call of `serve` makes of a line and of a port
+abbrev pub Served : {P : Type 0} → (P → Op → Reply → P → Type 0) → Ended → LineValue → P → LineValue → P → Type 0
+Served steps result old p new q = ServedBy any_piece steps result old p new q

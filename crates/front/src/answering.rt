@@ -1,17 +1,17 @@
 //! Answers the requests of what was read.
-ghost use Rattle.std.specs.Prelude.{◌≡◌, ◌<◌, List, ℕ, length};
+ghost use Rattle.std.specs.Prelude.{◌≡◌, ◌<◌, ◌+◌, List, ℕ, length};
 ghost use Rattle.front.specs.Lines.{LineValue, hears};
 ghost use Rattle.front.specs.Parts.{Wrote, AnswersHeld, Going, GoesOn, EndsInput};
 ghost use Rattle.front.specs.Served.{IsEncoding};
 ghost use Rattle.wire.specs.Replies.{Reply};
 
 use crate::ended::Ended;
+use crate::frames::Frames;
 use crate::line::Line;
 use crate::port::Port;
 use crate::writing::{refuse, reply};
 use messages::Op;
 use std::alloc::Global;
-use wire::Reader;
 
 // Answers a request. False where the line failed first.
 fn answer<L: Line, P: Port>(alloc: Global, line: &mut L, port: &mut P, op: Op) -> bool
@@ -22,13 +22,13 @@ fn answer<L: Line, P: Port>(alloc: Global, line: &mut L, port: &mut P, op: Op) -
 }
 
 // Answers the requests that are held. False where the line failed first.
-pub(crate) fn answer_held<L: Line, P: Port>(
+pub(crate) fn answer_held<L: Line, P: Port, F: Frames>(
     alloc: Global,
     line: &mut L,
     port: &mut P,
-    reader: &mut Reader,
+    reader: &mut F,
 ) -> bool
-    ensures { AnswersHeld P.steps result reader.old (L.seen line.old) port.old reader.new (L.seen line.new) port.new }
+    ensures { AnswersHeld P.steps result (F.kept reader.old) (L.seen line.old) port.old (F.kept reader.new) (L.seen line.new) port.new }
 {
     while let Some(op) = reader.next() {
         if !answer(alloc, line, port, op) {
@@ -39,15 +39,15 @@ pub(crate) fn answer_held<L: Line, P: Port>(
 }
 
 // Takes a piece that came, and answers the requests that it completes. Gives how serving ended, unless it goes on.
-pub(crate) fn take_piece<L: Line, P: Port>(
+pub(crate) fn take_piece<L: Line, P: Port, F: Frames>(
     alloc: Global,
     line: &mut L,
     port: &mut P,
-    reader: &mut Reader,
+    reader: &mut F,
     piece: &[u8],
 ) -> Option<Ended>
     requires { 0 < length piece.now }
-    ensures { (l m : LineValue) (p : P) → Going P.steps l p reader.old m port.old → L.seen line.old ≡ hears piece.now m → GoesOn P.steps result l p reader.new (L.seen line.new) port.new }
+    ensures { (n : ℕ) (l m : LineValue) (p : P) → Going n P.steps l p (F.kept reader.old) m port.old → L.seen line.old ≡ hears piece.now m → GoesOn F.refuses (n + 1) P.steps result l p (F.kept reader.new) (L.seen line.new) port.new }
 {
     let fed = reader.feed(piece);
     if !answer_held(alloc, line, port, reader) {
@@ -60,8 +60,8 @@ pub(crate) fn take_piece<L: Line, P: Port>(
 }
 
 // Ends with the input.
-pub(crate) fn end_of_input<L: Line>(line: &mut L, reader: &mut Reader) -> Ended
-    ensures { EndsInput reader.old result (L.seen line.old) (L.seen line.new) }
+pub(crate) fn end_of_input<L: Line, F: Frames>(line: &mut L, reader: &mut F) -> Ended
+    ensures { EndsInput (F.kept reader.old) result (L.seen line.old) (L.seen line.new) }
 {
     match reader.finish() {
         Ok(()) => Ended::Clean,

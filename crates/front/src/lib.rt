@@ -6,6 +6,7 @@
 
 mod answering;
 mod ended;
+mod frames;
 mod law;
 mod line;
 mod memory;
@@ -15,9 +16,10 @@ mod socket;
 mod writing;
 
 pub use ended::Ended;
+pub use frames::Frames;
 pub use law::bytes_spell_one_list;
 pub use line::Line;
 pub use memory::{Failing, MemoryLine};
 pub use port::Port;
-pub use serving::serve;
+pub use serving::{serve, serve_by};
 pub use socket::SocketLine;

@@ -1,11 +1,13 @@
 //! Serves a line by a port.
-ghost use Rattle.std.specs.Prelude.{◌≡◌, ◌<◌, length};
+ghost use Rattle.std.specs.Prelude.{◌≡◌, ◌<◌, ◌+◌, [], ℕ, length};
 ghost use Rattle.front.specs.Lines.{LineValue};
 ghost use Rattle.front.specs.Parts.{Going, GoesOn, GivesUp};
-ghost use Rattle.front.specs.Served.{Served};
+ghost use Rattle.front.specs.Served.{Served, ServedBy};
+ghost use Rattle.wire.specs.Frames.{ReaderValue};
 
 use crate::answering::{end_of_input, take_piece};
 use crate::ended::Ended;
+use crate::frames::Frames;
 use crate::line::Line;
 use crate::port::Port;
 use crate::writing::refuse;
@@ -17,15 +19,15 @@ use wire::Reader;
 const PIECE: usize = 4096;
 
 // Reads a piece and takes it. Gives how serving ended, unless it goes on.
-fn round<L: Line, P: Port>(
+fn round<L: Line, P: Port, F: Frames>(
     alloc: Global,
     line: &mut L,
     port: &mut P,
-    reader: &mut Reader,
+    reader: &mut F,
     buffer: &mut [u8],
 ) -> Option<Ended>
     requires { 0 < length buffer.old }
-    ensures { (l : LineValue) (p : P) → Going P.steps l p reader.old (L.seen line.old) port.old → GoesOn P.steps result l p reader.new (L.seen line.new) port.new }
+    ensures { (n : ℕ) (l : LineValue) (p : P) → Going n P.steps l p (F.kept reader.old) (L.seen line.old) port.old → GoesOn F.refuses (n + 1) P.steps result l p (F.kept reader.new) (L.seen line.new) port.new }
 {
     match line.read(buffer) {
         None => Some(Ended::ReadFailed),
@@ -35,9 +37,9 @@ fn round<L: Line, P: Port>(
 }
 
 // Takes no piece any more.
-fn give_up<L: Line>(line: &mut L, reader: &mut Reader, buffer: &mut [u8]) -> Ended
+fn give_up<L: Line, F: Frames>(line: &mut L, reader: &mut F, buffer: &mut [u8]) -> Ended
     requires { 0 < length buffer.old }
-    ensures { GivesUp reader.old result (L.seen line.old) (L.seen line.new) }
+    ensures { GivesUp (F.kept reader.old) result (L.seen line.old) (L.seen line.new) }
 {
     match line.read(buffer) {
         None => Ended::ReadFailed,
@@ -47,17 +49,17 @@ fn give_up<L: Line>(line: &mut L, reader: &mut Reader, buffer: &mut [u8]) -> End
 }
 
 // Goes on until it ends. No line comes to the end of the count, which is there because each loop ends.
-fn rounds<L: Line, P: Port>(
+fn rounds<L: Line, P: Port, F: Frames>(
     alloc: Global,
     line: &mut L,
     port: &mut P,
-    reader: &mut Reader,
+    reader: &mut F,
     buffer: &mut [u8],
 ) -> Ended
     requires { 0 < length buffer.old }
-    ensures { (l : LineValue) (p : P) → Going P.steps l p reader.old (L.seen line.old) port.old → Served P.steps result l p (L.seen line.new) port.new }
+    ensures { (l : LineValue) (p : P) → Going 0 P.steps l p (F.kept reader.old) (L.seen line.old) port.old → ServedBy F.refuses P.steps result l p (L.seen line.new) port.new }
 {
-    for _ in 0..u64::MAX {
+    for _piece in 0..u64::MAX {
         if let Some(ended) = round(alloc, line, port, reader, buffer) {
             return ended;
         }
@@ -69,11 +71,24 @@ fn rounds<L: Line, P: Port>(
 /// encoding becomes a refusal by `Oversize`, and one for whose encoding memory was refused a refusal by `Memory`; then
 /// it goes on. The first fault of the stream, an end of input inside a frame, and memory refused for a piece are
 /// answered by a last reply, which says so. Waits for its line, and goes on as long as bytes come; after
-/// 2^64 - 1 pieces a further one is refused with `Memory`.
+/// 2^64 - 1 pieces a further one is refused with `Memory`. It is `serve_by` with a new `Reader`.
 pub fn serve<L: Line, P: Port>(alloc: Global, line: &mut L, port: &mut P) -> Ended
     ensures served { Served P.steps result (L.seen line.old) port.old (L.seen line.new) port.new }
 {
-    let mut reader = Reader::new(alloc);
+    serve_by(alloc, line, port, &mut Reader::new(alloc))
+}
+
+/// Serves as `serve` does, with any `Frames` before their first piece, that being the caller's condition. It is refused with
+/// `Memory` only where they refuse a piece with it, and after 2^64 - 1 pieces.
+pub fn serve_by<L: Line, P: Port, F: Frames>(
+    alloc: Global,
+    line: &mut L,
+    port: &mut P,
+    frames: &mut F,
+) -> Ended
+    requires { F.kept frames.old ≡ record { held = []; rest = []; fault = None } }
+    ensures { ServedBy F.refuses P.steps result (L.seen line.old) port.old (L.seen line.new) port.new }
+{
     let mut buffer = [0u8; PIECE];
-    rounds(alloc, line, port, &mut reader, &mut buffer)
+    rounds(alloc, line, port, frames, &mut buffer)
 }
