@@ -22,5 +22,5 @@ pub use performing::{InWorld, Task, explain, perform, sim};
 pub use reading::read_script;
 pub use script::{Event, Events, Script};
 pub use simulating::simulate;
-pub use text::write_transcript;
+pub use text::{transcript_text, write_transcript};
 pub use transcript::{Entry, Transcript};

@@ -1,5 +1,5 @@
 //! The texts of transcripts, written piece by piece: no piece takes memory.
-ghost use Rattle.std.specs.Prelude.{◌≡◌, ◌≤◌, ◌+◌, ◌*◌, ◌++◌, ◌∷◌, [], true, Err, IsSome, IsNone, OnOk, OnErr, IfErr, length, take, codes, decimal};
+ghost use Rattle.std.specs.Prelude.{◌≡◌, ◌≤◌, ◌+◌, ◌*◌, ◌++◌, ◌∷◌, [], true, Err, IsSome, IsNone, IfOk, OnOk, OnErr, IfErr, length, take, codes, decimal};
 ghost use Rattle.std.specs.List.{flat_map, list_all};
 ghost use Rattle.std.specs.Io.KnownBytes.{Appends};
 ghost use Rattle.hex.specs.Hex.{encode_lower};
@@ -13,6 +13,7 @@ use itoa::Buffer;
 use logical_time::{Fault, Node, Stamp, Time};
 use program::{Buffered, Output};
 use slice::{AnsweredRow, Column};
+use std::alloc::Global;
 use std::io::Write;
 
 /// How many bytes are few: their digits are put together on the stack before they are written.
@@ -478,4 +479,18 @@ pub fn write_transcript<W: Buffered>(
     }
     put_entries(output, transcript.as_slice())?;
     output.flush()
+}
+
+/// The text of a transcript, as `write_transcript` writes it. Refused with `Memory` alone. Linear in the text.
+pub fn transcript_text(alloc: Global, transcript: &Transcript) -> Result<Vec<u8>, Fault>
+    ensures text { IfOk result (λ text. text.items ≡ text_of transcript.now) }
+    ensures memory { IfErr result (λ e. e ≡ fault.Memory) }
+{
+    let mut output = Output::new(Vec::new(alloc));
+    let written = write_transcript(&mut output, transcript);
+    let Output { writer, failure: _ } = output;
+    match written {
+        Ok(()) => Ok(writer),
+        Err(_) => Err(Fault::Memory),
+    }
 }
