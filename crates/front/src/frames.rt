@@ -15,8 +15,8 @@ pub trait Frames {
     /// What it keeps: the requests that weren't taken yet, the bytes behind their frames, and why it stopped.
     ghost kept: { Self → ReaderValue };
 
-    /// When memory is refused for a piece that comes behind such a rest. Who is served by any `Frames` knows nothing of that
-    /// but what `feed` answers.
+    /// When memory is refused for a piece that comes behind such a rest. Who serves by any `Frames` knows nothing of that but
+    /// what `feed` answers.
     ghost refuses: { List ℕ → List ℕ → Type 0 };
 
     /// Reads the next piece of the stream. Refused with the first fault of the stream, and with `Memory`; then nothing changes.
