@@ -11,7 +11,7 @@ use Rattle.messages.specs.declared.event.Event.TheVariants.{Handle}
 use Rattle.actors.specs.Machines.{Refuses}
 use Rattle.actors.specs.Seats.{SeatValue}
 use Rattle.actors.specs.Turns.{IsOfRequest, HasTakenOff}
-use Rattle.actors.specs.Refusals.{IsRefusal, IsFirst, IsDueOf, CanRefuse}
+use Rattle.actors.specs.Refusals.{IsRefusal, IsFirst, IsDueOf, IsKeptBack, CanRefuse}
 
 -- an event is refused so, where it is refused with `JournalFull` if the journal is full, and else for memory or as the machine refuses it
 pub refusal_of : (refuses : Refuses) (s : SeatValue) (event : Event) (fault : Fault) → (s.limit ≤ length s.journal → fault ≡ JournalFull)
@@ -70,3 +70,20 @@ handle_refused refuses s n fault some same refused = subst (λ (z : SeatValue). 
     by : (o : Option Envelope) → s.held ≡ o → IsSome o → IfSome o (λ e. IsRefusal refuses s (Handle e) fault) → CanRefuse refuses fault s
     by None is some refused = absurd (cc)
     by (Some e) is some refused = inr (Handle e, subst (λ o. IsDueOf o s (Handle e)) (sym is) refl, (refused, λ own. absurd (cc)))
+
+-- an event is to be done, for which a full journal has no room
+pub stuck_refused : (refuses : Refuses) (s : SeatValue) → s.limit ≤ length s.journal → IsSome s.held ⊎ ((0 < length s.backlog) × (s.free ≡ true))
+    → CanRefuse refuses JournalFull s
+stuck_refused refuses s full due = by s.held refl due
+  where
+    kept : (x : Event) → IsKeptBack refuses s x JournalFull
+    kept x = (inl (full, refl), λ own request. let is : number_of JournalFull ≡ 24 = refl in omega (arith, is, request))
+
+    first : (items : List Event) → s.backlog ≡ items → s.held ≡ None → (0 < length s.backlog) × (s.free ≡ true) → CanRefuse refuses JournalFull s
+    first [] is none work = absurd (let len : length s.backlog ≡ 0 = ap (λ (l : List Event). length l) is in let some = work.0 in omega (arith, len, some))
+    first (x ∷ more) is none work = inr (x, subst (λ o. IsDueOf o s x) (sym none) (work.1, (more, is)), kept x)
+
+    by : (o : Option Envelope) → s.held ≡ o → IsSome o ⊎ ((0 < length s.backlog) × (s.free ≡ true)) → CanRefuse refuses JournalFull s
+    by (Some e) is some = inr (Handle e, subst (λ o. IsDueOf o s (Handle e)) (sym is) refl, kept (Handle e))
+    by None is (inl some) = absurd (cc)
+    by None is (inr work) = first s.backlog refl is work

@@ -32,6 +32,11 @@ pub record HasNoEnvelope (s : SeatValue) : Type 0 where
   pub held : s.held ≡ None
   pub looked : All WasEmpty s.incoming
 
+-- no event is to be done: there is no envelope, and no item of the backlog, or the machine isn't free for it
+pub record HasNoEvent (s : SeatValue) : Type 0 where
+  pub none : HasNoEnvelope s
+  pub nothing : (s.backlog ≡ []) ⊎ (s.free ≡ false)
+
 -- Nothing is left to do: what was sent is in the rings, but where one is full; there is no envelope; and no event is still to
 -- be done, or the machine isn't free for it.
 pub record IsResting (s : SeatValue) : Type 0 where

@@ -6,7 +6,7 @@ ghost use Rattle.messages.specs.Topology.{node_count};
 ghost use Rattle.std.specs.Option.{option_copied};
 ghost use Rattle.actors.specs.Journals.{submissions, number_after, followed_by, IsOwn};
 ghost use Rattle.actors.specs.Seats.{Keeps, rings, through, ends_of, sources_of};
-ghost use Rattle.actors.specs.Resting.{unsent, IsFlushed, IsSorted, WasEmpty};
+ghost use Rattle.actors.specs.Resting.{unsent, IsFlushed, IsSorted, WasEmpty, HasNoEvent};
 ghost use Rattle.actors.specs.Looking.{IsNext};
 ghost use Rattle.actors.specs.Turns.{IsTurn, HasHandled, HasLooked, HasSame, HasDone, IsOfRequest, IsWork, turn_of};
 ghost use Rattle.actors.specs.Refusals.{IsRefusal, IsFirst, CanRefuse};
@@ -331,11 +331,22 @@ impl<M: Machine> Seat<M> {
         }
     }
 
+    /// Whether there is an event to do for which the journal has no room.
+    fn is_stuck(&self) -> bool
+        ensures stuck { result ≡ true → (self.now.limit ≤ length self.now.journal) × (IsSome self.now.held ⊎ ((0 < length self.now.backlog) × (self.now.free ≡ true))) }
+        ensures other { result ≡ false → self.now.limit ≤ length self.now.journal → (self.now.held ≡ None) × ((self.now.backlog ≡ []) ⊎ (self.now.free ≡ false)) }
+    {
+        if self.recorded.journal.len() < self.recorded.limit {
+            return false;
+        }
+        self.held.is_some() || (!self.backlog.is_empty() && self.is_free())
+    }
+
     /// Moves what waits into the rings, each ring's in order; a full ring holds back its own alone. Then handles one envelope
     /// if one is there, looking at the rings in turn; else does the first item of the backlog, if the machine is free. An
     /// envelope that was refused is the next one to be handled. Refused with `JournalFull` before all else where there is
-    /// an event to do and the journal is full, with `Memory`, and as the machine refuses the event, but not for what an item
-    /// of the backlog asks; then waiting sends may have moved. Costs what its event costs, the look at the rings, and what
+    /// an event to do and the journal is full, also where there is no memory to move what waits; with `Memory`; and as the
+    /// machine refuses the event, but not for what an item of the backlog asks. Then waiting sends may have moved. Costs what its event costs, the look at the rings, and what
     /// goes into them.
     pub fn turn(&mut self) -> Result<Turn, Fault>
         ensures ok { IfOk result (λ turn. IsTurn M.refuses turn self.old self.new) }
@@ -343,11 +354,16 @@ impl<M: Machine> Seat<M> {
         // what waited moved before the event
         ensures flushed { OnOk result (All IsFlushed self.new.outgoing) }
         ensures err { OnErr result (HasSame self.old self.new) }
-        ensures full { self.old.limit ≤ length self.old.journal → IfErr result (λ e. (e ≡ Fault.JournalFull) ⊎ (e ≡ Fault.Memory)) }
+        // a full journal refuses each event before all else: there is no other refusal but where none is to be done
+        ensures full { self.old.limit ≤ length self.old.journal → IfErr result (λ e. (e ≡ Fault.JournalFull) ⊎ ((e ≡ Fault.Memory) × HasNoEvent self.new)) }
         ensures refused { IfErr result (λ fault. CanRefuse M.refuses fault self.new) }
     {
-        let moved = self.flush()?;
+        let moved = self.flush();
         self.take_in();
+        if self.is_stuck() {
+            return Err(Fault::JournalFull);
+        }
+        let moved = moved?;
         if self.held.is_some() {
             self.handle()?;
             return Ok(Turn::Handled);

@@ -71,7 +71,7 @@ pub loop-place-init : goal.loop-place-init
 loop-place-init c = grind (arith, common_steps)
 
 pub returns-in_err-turn-clause-taken : goal.returns-in_err-turn-clause-taken
-returns-in_err-turn-clause-taken c = grind (arith, common_steps)
+returns-in_err-turn-clause-taken g c = let p = err_from_is_err_and c.from_residual.result c.from_residual.ensures.1 in rw (p.1) tt
 
 pub returns-in_err-turn-clause-round : goal.returns-in_err-turn-clause-round
-returns-in_err-turn-clause-round c = grind (arith, common_steps)
+returns-in_err-turn-clause-round g c = let p = err_from_is_err_and c.from_residual.result c.from_residual.ensures.1 in rw (p.1) tt

@@ -8,17 +8,17 @@ use Rattle.actors.specs.Refusals.{CanRefuse}
 use Rattle.actors.specs.declared.turn.Turn.{Turn}
 use Rattle.actors.specs.Seats.{SeatValue, rings}
 use Rattle.actors.proofs.Looking.{next_handled}
-use Rattle.actors.proofs.Refusing.{work_refused, handle_refused}
+use Rattle.actors.proofs.Refusing.{work_refused, handle_refused, stuck_refused}
 use Rattle.actors.proofs.seat.Seat.turn.Goals.{else-not-is_empty-via-then-not-is_empty+else-is_free, else-not-is_empty-via-else-not-is_empty}
 use Rattle.std.proofs.lemmas.Grind.{common_steps}
 use Rattle.actors.proofs.seat.Seat.turn.Goals as goal
 
 pub returns-then-is_some-clause-looked : goal.returns-then-is_some-clause-looked
 returns-then-is_some-clause-looked g c =
-    let flushed = c.flush.ensures.same in
+    let flushed = c.flush-moved.ensures.same in
     let taken = c.take_in.ensures.same in
     let some : IsSome c.take_in.new.self.held = search rules in
-    next_handled c.args.self.now c.flush.new.self c.take_in.new.self c.handle.new.self some c.take_in.ensures.next c.in_ok-handle.ensures.event
+    next_handled c.args.self.now c.flush-moved.new.self c.take_in.new.self c.handle.new.self some c.take_in.ensures.next c.in_ok-handle.ensures.event
     (ap (λ (s : SeatValue). s.held) flushed) (ap (λ (s : SeatValue). s.next) flushed) (ap (λ (s : SeatValue). s.journal) taken ∙ ap (λ (s : SeatValue). s.journal) flushed)
     c.handle.ensures.rings.0 c.handle.ensures.rings.1
 
@@ -33,15 +33,15 @@ returns-then-is_free-clause-refused g c =
 pub returns-then-is_free-clause-ok : goal.returns-then-is_free-clause-ok
 returns-then-is_free-clause-ok g c =
     each_worked (λ t. IsTurn g.M.Machine.refuses t c.take_in.new.self c.work.new.self) (λ t. IsTurn g.M.Machine.refuses t c.args.self.now c.work.new.self) IsWork c.work.result
-    (worked_on c.args.self.now c.flush.new.self c.take_in.new.self c.flush.ensures.same c.take_in.ensures.same c.flush.ensures.ends c.take_in.ensures.sources g.M.Machine.refuses c.work.new.self) c.work.ensures.work c.work.ensures.ok
+    (worked_on c.args.self.now c.flush-moved.new.self c.take_in.new.self c.flush-moved.ensures.same c.take_in.ensures.same c.flush-moved.ensures.ends c.take_in.ensures.sources g.M.Machine.refuses c.work.new.self) c.work.ensures.work c.work.ensures.ok
 
 pub returns-then-moved-clause-ok : goal.returns-then-moved-clause-ok
 returns-then-moved-clause-ok g c =
     let nothing : (c.take_in.new.self.backlog ≡ []) ⊎ (c.take_in.new.self.free ≡ false) = elim c.else-not-is_empty.branch [ else-not-is_empty-via-then-not-is_empty+else-is_free w ↦ inr (search rules) | else-not-is_empty-via-else-not-is_empty w ↦ inl (none_left c.take_in.new.self.backlog (search rules)) ] in
     let none : HasNoEnvelope c.take_in.new.self = search rules in
-    let moved : unsent c.flush.new.self < unsent c.args.self.now = search rules in (
-      rested c.args.self.now c.flush.new.self c.take_in.new.self c.flush.ensures.same c.take_in.ensures.same c.flush.ensures.ends c.take_in.ensures.sources c.in_ok-moved.ensures.sorted c.in_ok-moved.ensures.flushed none nothing,
-      fewer c.args.self.now c.flush.new.self c.take_in.new.self c.flush.ensures.same c.take_in.ensures.same c.flush.ensures.ends c.take_in.ensures.sources moved,
+    let moved : unsent c.flush-moved.new.self < unsent c.args.self.now = search rules in (
+      rested c.args.self.now c.flush-moved.new.self c.take_in.new.self c.flush-moved.ensures.same c.take_in.ensures.same c.flush-moved.ensures.ends c.take_in.ensures.sources c.in_ok-moved.ensures.sorted c.in_ok-moved.ensures.flushed none nothing,
+      fewer c.args.self.now c.flush-moved.new.self c.take_in.new.self c.flush-moved.ensures.same c.take_in.ensures.same c.flush-moved.ensures.ends c.take_in.ensures.sources moved,
     )
 
 pub returns-else-moved-clause-ok : goal.returns-else-moved-clause-ok
@@ -50,9 +50,9 @@ returns-else-moved-clause-ok g c =
     let none : HasNoEnvelope c.take_in.new.self = search rules in
     let quiet : c.in_ok-moved.moved ≡ false = search rules in
     let still = c.in_ok-moved.ensures.still quiet in (
-      rested c.args.self.now c.flush.new.self c.take_in.new.self c.flush.ensures.same c.take_in.ensures.same c.flush.ensures.ends c.take_in.ensures.sources c.in_ok-moved.ensures.sorted c.in_ok-moved.ensures.flushed none nothing,
+      rested c.args.self.now c.flush-moved.new.self c.take_in.new.self c.flush-moved.ensures.same c.take_in.ensures.same c.flush-moved.ensures.ends c.take_in.ensures.sources c.in_ok-moved.ensures.sorted c.in_ok-moved.ensures.flushed none nothing,
       ap (λ (s : SeatValue). rings s.outgoing) c.take_in.ensures.same ∙ still.0,
-      waits c.args.self.now c.flush.new.self c.take_in.new.self c.flush.ensures.same c.take_in.ensures.same c.flush.ensures.ends c.take_in.ensures.sources ∙ still.1,
+      waits c.args.self.now c.flush-moved.new.self c.take_in.new.self c.flush-moved.ensures.same c.take_in.ensures.same c.flush-moved.ensures.ends c.take_in.ensures.sources ∙ still.1,
     )
 
 pub returns-in_err-handle-clause-refused : goal.returns-in_err-handle-clause-refused
@@ -124,3 +124,8 @@ returns-then-moved-clause-full g c = grind (arith, common_steps)
 
 pub returns-then-moved-clause-refused : goal.returns-then-moved-clause-refused
 returns-then-moved-clause-refused g c = grind (arith, common_steps)
+
+pub returns-then-is_stuck-clause-refused : goal.returns-then-is_stuck-clause-refused
+returns-then-is_stuck-clause-refused g c =
+    let stuck = c.is_stuck.ensures.stuck c.if-is_stuck.true in
+    stuck_refused g.M.Machine.refuses c.take_in.new.self stuck.0 stuck.1
