@@ -16,3 +16,7 @@ pub mod Gathering
 pub mod Told
 pub mod Asked
 pub mod AskedFor
+pub mod Linked
+pub mod Renumbered
+pub mod QuietRuns
+pub mod Counting

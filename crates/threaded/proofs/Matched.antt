@@ -21,7 +21,7 @@ use Rattle.threaded.proofs.Lists.{take_one_more}
 -- ## Receipts
 
 -- what an event receives from a node
-abbrev receipt : ℕ → Event → List Envelope
+abbrev pub receipt : ℕ → Event → List Envelope
 receipt from x = receipts_from from (x ∷ [])
 
 receipts_then : (from : ℕ) (xs ys : List Event) → receipts_from from (xs ++ ys) ≡ receipts_from from xs ++ receipts_from from ys
@@ -35,18 +35,18 @@ receipts_then from (Handle e ∷ xs) ys = by (e.from == from) (receipts_then fro
     by true rest = ap (λ l. e ∷ l) rest
     by false rest = rest
 
-receipt_here : (from : ℕ) (e : Envelope) → e.from ≡ from → receipt from (Handle e) ≡ e ∷ []
+pub receipt_here : (from : ℕ) (e : Envelope) → e.from ≡ from → receipt from (Handle e) ≡ e ∷ []
 receipt_here from e is = ap (λ b. cond b (e ∷ []) []) (eq-eqb e.from from is)
 
-receipt_elsewhere : (from : ℕ) (e : Envelope) → (e.from == from) ≡ false → receipt from (Handle e) ≡ []
+pub receipt_elsewhere : (from : ℕ) (e : Envelope) → (e.from == from) ≡ false → receipt from (Handle e) ≡ []
 receipt_elsewhere from e apart = ap (λ b. cond b (e ∷ []) []) apart
 
-one_more : (from : ℕ) (journal : List Event) (place : ℕ) (x : Event) → slice_get journal place ≡ Some x
+pub one_more : (from : ℕ) (journal : List Event) (place : ℕ) (x : Event) → slice_get journal place ≡ Some x
     → receipts_from from (take (suc place) journal) ≡ receipts_from from (take place journal) ++ receipt from x
 one_more from journal place x at = ap (receipts_from from) (take_one_more journal place x at) ∙ receipts_then from (take place journal) (x ∷ [])
 
 -- there are no more receipts than events
-receipts_fewer : (from : ℕ) (xs : List Event) → length (receipts_from from xs) ≤ length xs
+pub receipts_fewer : (from : ℕ) (xs : List Event) → length (receipts_from from xs) ≤ length xs
 receipts_fewer from [] = omega arith
 receipts_fewer from (Submit o ∷ xs) = let rest = receipts_fewer from xs in omega arith
 receipts_fewer from (Collect time ∷ xs) = let rest = receipts_fewer from xs in omega arith
@@ -56,7 +56,7 @@ receipts_fewer from (Handle e ∷ xs) = by (e.from == from) (receipts_fewer from
     by true rest = omega arith
     by false rest = omega arith
 
-take_fewer : {X : Type 0} (n : ℕ) (xs : List X) → length (take n xs) ≤ n
+pub take_fewer : {X : Type 0} (n : ℕ) (xs : List X) → length (take n xs) ≤ n
 take_fewer zero xs = omega arith
 take_fewer (suc n) [] = omega arith
 take_fewer (suc n) (x ∷ xs) = let rest = take_fewer n xs in omega arith

@@ -6,3 +6,4 @@ pub mod Entries
 pub mod Asking
 pub mod Concluded
 pub mod Shown
+pub mod Quiet

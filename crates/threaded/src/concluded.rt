@@ -1,18 +1,21 @@
 //! What the journals of seats conclude.
-ghost use Rattle.std.specs.Prelude.{◌≡◌, ◌<◌, ℕ, length, Some, IfOk, IfErr, IfSome, IfNone, None};
+ghost use Rattle.std.specs.Prelude.{◌≡◌, ◌<◌, ◌↔◌, ℕ, true, false, length, Some, IfOk, IfErr, IfSome, IfNone, None};
 ghost use Rattle.world.specs.Causes.{PastsAreDecided};
 ghost use Rattle.world.specs.Collected.{CollectedIsBelowHorizon};
 ghost use Rattle.world.specs.Entries.{TellsDecided, StampsAgree, WritesAreTold};
 ghost use Rattle.world.specs.Fresh.{FirstRoundsAreWhole};
+ghost use Rattle.world.specs.Quiet.{IsQuiet};
 ghost use Rattle.world.specs.Promises.{EntriesAreOfSubmissions, OutcomesAreListed, ReadsShowOneTable, AnswersStay, LaterCommitsAreAbove, HistoriesGrow, ReadsShowTheirPast, ReadsAreFresh, StampsFollowCauses, TimesNeverFall, SessionsStayAtHome, OperationsEndOnce};
 ghost use Rattle.world.specs.Histories.{IsHistory};
 ghost use Rattle.threaded.specs.OneRun.{seat_of};
 ghost use Rattle.threaded.specs.Concluded.{InEachRun, InEachCut, AreConcluded, by_session};
+ghost use Rattle.threaded.specs.Quiet.{AreAllReceived, AreOfQuietRun};
 
 use crate::actor::Actor;
 use crate::concluding::place_of;
 use crate::entries::entries;
 use crate::history::history;
+use crate::matching::are_served;
 use actors::Seat;
 use logical_time::{Fault, Node};
 use messages::Topology;
@@ -70,6 +73,19 @@ impl Concluded {
     {
         let place = place_of(self.seats.as_slice(), node)?;
         Some(&self.seats[place])
+    }
+
+    /// Whether all that was sent was received, on each link: exactly then their journals are those of a quiet run, in which each
+    /// message was handled, every operation ended, and all data centres have one table. Goes through each journal once, and in the
+    /// order of n³ looks for n actors. Refused with `Memory` alone.
+    pub fn is_quiet(&self, alloc: Global) -> Result<bool, Fault>
+        ensures links { IfOk result (λ quiet. (quiet ≡ true) ↔ AreAllReceived self.now.top self.now.seats) }
+        ensures quiet { IfOk result (λ quiet. quiet ≡ true → AreOfQuietRun self.now.top self.now.seats) }
+        // and else no run with these journals is quiet
+        ensures other { IfOk result (λ quiet. quiet ≡ false → InEachRun self.now.top self.now.seats (λ w. IsQuiet w → ⊥)) }
+        ensures memory { IfErr result (λ e. e ≡ Fault.Memory) }
+    {
+        are_served(alloc, &self.topology, self.seats.as_slice())
     }
 
     /// The operations that ended, by the nodes of their sessions, each session's in order: as each run with these journals has

@@ -1,11 +1,15 @@
 //! Whether what seats received is what seats sent.
-ghost use Rattle.std.specs.Prelude.{◌≡◌, ◌<◌, ◌+◌, ◌^◌, ◌↔◌, ℕ, true, false, length, take, slice_get, set, Some, IfOk, IfErr};
+ghost use Rattle.std.specs.Prelude.{◌≡◌, ◌<◌, ◌≤◌, ◌+◌, ◌^◌, ◌↔◌, ℕ, true, false, length, take, slice_get, set, Some, IfOk, OnOk, IfErr};
 ghost use Rattle.logical_time.specs.declared.fault.Fault.TheVariants.{Memory};
 ghost use Rattle.messages.specs.Topology.{node_count};
-ghost use Rattle.threaded.specs.OneRun.{AreOfTopology};
+ghost use Rattle.actors.specs.Journals.{followed_by};
+ghost use Rattle.actors.specs.Seats.{through};
+ghost use Rattle.threaded.specs.OneRun.{AreOfTopology, AreSeatsOf};
 ghost use Rattle.threaded.specs.Matching.{AreKept, AreAllTimed, ArePlaces, DoesReceive, DoReceive, AreFromActors, HaveReceived, IsNextOn};
+ghost use Rattle.threaded.specs.Quiet.{HaveCounted, IsKeptAt, IsWhollyReceived, AreWhollyReceived, AreReceivedOf, AreAllServed};
 
 use crate::actor::Actor;
+use crate::concluding::place_of;
 use actors::Seat;
 use equality::same_envelope;
 use logical_time::{Fault, Node};
@@ -134,4 +138,121 @@ pub(crate) fn do_receive(
         }
     }
     Ok(true)
+}
+
+/// Counts one more envelope from the actor with this node.
+fn count_from(received: &mut Vec<usize>, node: Node)
+    requires within { node < length received.old.items }
+    requires fits { (n : ℕ) → slice_get received.old.items node ≡ Some n → n + 1 < 2 ^ 64 }
+    ensures { (n : ℕ) → slice_get received.old.items node ≡ Some n → received.new.items ≡ set received.old.items node (n + 1) }
+{
+    let from = usize::from(node.get());
+    received[from] += 1;
+}
+
+/// Whether the event at this place of a journal is a receipt. Then it's counted.
+fn count_receipt(received: &mut Vec<usize>, journal: &[Event], place: usize) -> bool
+    requires place { place < length journal.now }
+    requires fits { length journal.now < 2 ^ 64 }
+    requires senders { AreFromActors (length received.old.items) journal.now }
+    requires counted { HaveCounted (length received.old.items) (take place journal.now) received.old.items }
+    ensures { HaveCounted (length received.old.items) (take (place + 1) journal.now) received.new.items }
+{
+    match &journal[place] {
+        Event::Handle(envelope) => {
+            count_from(received, envelope.from);
+            true
+        }
+        Event::Submit(_) | Event::Collect(_) => false,
+    }
+}
+
+/// How many envelopes a journal received from each of so many actors. Refused with `Memory` alone.
+fn receipts_of(alloc: Global, count: usize, journal: &[Event]) -> Result<Vec<usize>, Fault>
+    requires { AreFromActors count journal.now }
+    ensures ok { IfOk result (λ received. HaveCounted count journal.now received.items) }
+    ensures memory { IfErr result (λ e. e ≡ Memory) }
+{
+    let mut received = none_received(alloc, count)?;
+    for place in 0..journal.len() {
+        count_receipt(&mut received, journal, place);
+    }
+    Ok(received)
+}
+
+/// Whether a seat sent no more envelopes to an actor than so many.
+fn sends_no_more(seat: &Seat<Actor>, to: Node, count: usize) -> bool
+    ensures { (result ≡ true) ↔ (length (followed_by (through seat.now.outgoing) seat.now.outbox to) ≤ count) }
+{
+    match seat.sent_to(to, count) {
+        Some(_) => false,
+        None => true,
+    }
+}
+
+/// Whether an actor's seat sent no more envelopes to another actor than so many.
+fn is_all(seats: &[Seat<Actor>], from: Node, to: Node, count: usize) -> bool
+    ensures { (result ≡ true) ↔ IsWhollyReceived seats.now from to count }
+{
+    match place_of(seats, from) {
+        Some(place) => sends_no_more(&seats[place], to, count),
+        None => true,
+    }
+}
+
+/// Whether the seats of so many actors sent no more envelopes to another actor than so many each.
+fn are_all(seats: &[Seat<Actor>], count: u16, to: Node, received: &[usize]) -> bool
+    requires { length received.now ≡ count }
+    ensures { (result ≡ true) ↔ AreWhollyReceived seats.now count to received.now }
+{
+    for from in 0..count {
+        let at = usize::from(from);
+        let all = is_all(seats, Node::new(from), to, received[at]);
+        if !all {
+            return false;
+        }
+    }
+    true
+}
+
+/// Whether the actor with this node received all that was sent to it. Refused with `Memory` alone.
+fn is_served(
+    alloc: Global,
+    topology: &Topology,
+    seats: &[Seat<Actor>],
+    to: Node,
+) -> Result<bool, Fault>
+    requires seats { AreSeatsOf topology.now seats.now }
+    requires node { to < node_count topology.now }
+    ensures ok { IfOk result (λ all. (all ≡ true) ↔ AreReceivedOf (node_count topology.now) seats.now to) }
+    ensures kept { OnOk result (IsKeptAt seats.now to) }
+    ensures memory { IfErr result (λ e. e ≡ Memory) }
+{
+    let Some(place) = place_of(seats, to) else {
+        unreachable!()
+    };
+    let journal = seats[place].journal();
+    let count = topology.node_count();
+    let received = receipts_of(alloc, usize::from(count), journal)?;
+    Ok(are_all(seats, count, to, received.as_slice()))
+}
+
+/// Whether each actor of a topology received all that was sent to it. Looks at each event once, and at each link. Refused with
+/// `Memory` alone.
+pub(crate) fn are_served(
+    alloc: Global,
+    topology: &Topology,
+    seats: &[Seat<Actor>],
+) -> Result<bool, Fault>
+    requires { AreSeatsOf topology.now seats.now }
+    ensures ok { IfOk result (λ all. (all ≡ true) ↔ AreAllServed (node_count topology.now) seats.now) }
+    ensures kept { OnOk result (AreKept (node_count topology.now) seats.now) }
+    ensures memory { IfErr result (λ e. e ≡ Memory) }
+{
+    let mut all = true;
+    for node in 0..topology.node_count() {
+        let served = is_served(alloc, topology, seats, Node::new(node))?;
+        all = all & served;
+    }
+    Ok(all)
 }
