@@ -1,7 +1,8 @@
 pub mod Lists
 pub mod FewDigits
-pub mod Wholes
+pub mod Converted
 pub mod Streams
+pub mod Members
 pub mod Told
 pub mod Refused
 pub mod Shown

@@ -23,7 +23,8 @@ use Rattle.workload.specs.Streams.{IsStretch, Begins}
 use Rattle.workload.specs.Text.{text_of}
 use Rattle.workload.proofs.Plays.{none_played, more_played, ended_there}
 use Rattle.workload.proofs.Shown.{shown_told}
-use Rattle.workload.proofs.Streams.{none_so_far, all_so_far, stretched, begun_reads}
+use Rattle.workload.proofs.Streams.{none_so_far, all_so_far, stretched}
+use Rattle.workload.proofs.Members.{begun_reads}
 
 -- ## Events after others
 
@@ -101,7 +102,7 @@ all_played top depth ts first r w ms left some e (xs, (now, so_far, end), count,
     (xs, all_so_far (event_of top) depth ts first now r xs some e so_far end, omega arith, noted)
 
 -- the text of what was told
-pub text_played : (text : List ℕ) (u v : List Token) (top : TopologyValue) (w : Run) (ms : List Mark) (entries : List Entry) → Begins (tokens text) u top → ArePlayed top 127 u v w ms
+pub text_played : (text : List ℕ) (u v : List Token) (top : TopologyValue) (w : Run) (ms : List Mark) (entries : List Entry) → Begins (tokens text) u top → ArePlayed top 126 u v w ms
     → v ≡ Token.end_object ∷ [] → 0 < top.shards → entries ≡ merged ms w.transcript → IsTextFor text (text_of entries)
 text_played text u v top w ms entries begins (xs, reads, le, noted) end some is =
     let script : Script = record { topology = top; events = xs } in (

@@ -2,7 +2,7 @@
 use Rattle.std.specs.Prelude.{◌≡◌, ℕ, List, Option, Some, None, option_and_then, Err, IsSome, IfSome, ◌⊎◌}
 use Rattle.std.specs.Str.{IsUtf8}
 use Rattle.std.specs.Io.KnownBytes.{Appends}
-use Rattle.json.specs.Json.{document}
+use Rattle.serde_json.specs.Read.{read}
 use Rattle.logical_time.specs.declared.fault.Fault.{Fault}
 use Rattle.logical_time.specs.declared.fault.Fault.TheVariants.{ClockSpent, Memory, Script as NoScript, ReadFailed, WriteFailed}
 use Rattle.program.specs.declared.input.Input.{Input}
@@ -20,7 +20,7 @@ use Rattle.workload.specs.Text.{text_of}
 
 -- the script that the bytes spell
 abbrev pub script_in : List ℕ → Option Script
-script_in bytes = option_and_then script_of (document bytes)
+script_in bytes = option_and_then script_of (read bytes)
 
 -- the bytes spell a script, and the text is that of the script's transcript
 abbrev pub IsTextFor : List ℕ → List ℕ → Type 0

@@ -1,8 +1,8 @@
 -- Which JSON value stands for which script.
 use Rattle.std.specs.Prelude.{ℕ, ◌+◌, ◌^◌, Bool, false, List, [], length, Option, Some, None, option_and_then, codes, if◌then◌else◌}
 use Rattle.std.specs.Str.{bytes_eq}
-use Rattle.json.specs.Json.{Json}
-use Rattle.json.specs.Find.{as_str, as_bool, get}
+use Rattle.serde_json.specs.Data.{Data}
+use Rattle.serde_json.specs.Find.{as_str, as_bool, get}
 use Rattle.column_family.specs.declared.batch.Change.{Change}
 use Rattle.column_family.specs.declared.batch.Mutation.{Mutation}
 use Rattle.column_family.specs.declared.batch.Mutation.TheVariants.{Insert, DeleteColumn, DeleteRow, DeleteRange}
@@ -19,30 +19,30 @@ use Rattle.workload.specs.Gives.{◌>>=◌}
 use Rattle.workload.specs.Shape.{whole_of, whole_below, has_members, has_items, members_named, part_at, member_by, text_at, list_by, list_within}
 
 -- ["insert", name, value]
-unfoldable pub insert_of : Json → Option Mutation
+unfoldable pub insert_of : Data → Option Mutation
 insert_of d = if has_items 3 d then (do
   name ← text_at 1 d
   value ← text_at 2 d
   Some (Insert name value)) else None
 
 -- ["delete", name]
-unfoldable pub delete_of : Json → Option Mutation
+unfoldable pub delete_of : Data → Option Mutation
 delete_of d = if has_items 2 d then (do
   name ← text_at 1 d
   Some (DeleteColumn name)) else None
 
 -- ["delete_row"]
-unfoldable pub delete_row_of : Json → Option Mutation
+unfoldable pub delete_row_of : Data → Option Mutation
 delete_row_of d = if has_items 1 d then Some DeleteRow else None
 
 -- ["delete_range", start, finish]
-unfoldable pub delete_range_of : Json → Option Mutation
+unfoldable pub delete_range_of : Data → Option Mutation
 delete_range_of d = if has_items 3 d then (do
   start ← text_at 1 d
   finish ← text_at 2 d
   Some (DeleteRange start finish)) else None
 
-unfoldable pub mutation_of : Json → Option Mutation
+unfoldable pub mutation_of : Data → Option Mutation
 mutation_of d = do
   tag ← text_at 0 d
   if bytes_eq tag (codes "insert") then insert_of d
@@ -51,7 +51,7 @@ mutation_of d = do
       else (if bytes_eq tag (codes "delete_range") then delete_range_of d else None)))
 
 -- [family, key, mutation]
-unfoldable pub change_of : Json → Option Change
+unfoldable pub change_of : Data → Option Change
 change_of d = if has_items 3 d then (do
   family ← text_at 0 d
   key ← text_at 1 d
@@ -59,28 +59,28 @@ change_of d = if has_items 3 d then (do
   Some (record { row = record { family = family; key = key }; mutation = mutation })) else None
 
 -- an end of a range: open where it is left out
-abbrev pub end_of : Option Json → Option (List ℕ)
+abbrev pub end_of : Option Data → Option (List ℕ)
 end_of None = Some []
 end_of (Some d) = as_str d
 
 -- upwards where it is left out
-abbrev pub reversed_of : Option Json → Option Bool
+abbrev pub reversed_of : Option Data → Option Bool
 reversed_of None = Some false
 reversed_of (Some d) = as_bool d
 
 -- 100 where it is left out
-abbrev pub count_of : Option Json → Option ℕ
+abbrev pub count_of : Option Data → Option ℕ
 count_of None = Some 100
 count_of (Some d) = whole_below (2 ^ 32) d
 
 -- how many of the members of a range are there
-abbrev pub range_members : Json → ℕ
+abbrev pub range_members : Data → ℕ
 range_members d =
     members_named (codes "start") d + members_named (codes "finish") d
     + members_named (codes "reversed") d + members_named (codes "count") d
 
 -- {"start": .., "finish": .., "reversed": .., "count": ..}, and each may be left out
-unfoldable pub range_of : Json → Option Predicate
+unfoldable pub range_of : Data → Option Predicate
 range_of d = if has_members (range_members d) d then (do
   reversed ← reversed_of (get (codes "reversed") d)
   count ← count_of (get (codes "count") d)
@@ -89,22 +89,22 @@ range_of d = if has_members (range_members d) d then (do
   Some (Range start finish reversed count)) else None
 
 -- [name, ..]
-unfoldable pub names_of : Json → Option Predicate
+unfoldable pub names_of : Data → Option Predicate
 names_of d = do
   names ← list_by as_str d
   Some (Names names)
 
-abbrev pub predicate_in : Option Json → Option Json → Option Predicate
+abbrev pub predicate_in : Option Data → Option Data → Option Predicate
 predicate_in (Some names) range = names_of names
 predicate_in None (Some range) = range_of range
 predicate_in None None = None
 
 -- {"names": ..} or {"range": ..}
-unfoldable pub predicate_of : Json → Option Predicate
+unfoldable pub predicate_of : Data → Option Predicate
 predicate_of d = if has_members 1 d then predicate_in (get (codes "names") d) (get (codes "range") d) else None
 
 -- [family, [key, ..], predicate]
-unfoldable pub read_of : Json → Option Op
+unfoldable pub read_of : Data → Option Op
 read_of d = if has_items 3 d then (do
   family ← text_at 0 d
   keys ← part_at (list_by as_str) 1 d
@@ -112,48 +112,48 @@ read_of d = if has_items 3 d then (do
   Some (Asks (record { family = family; keys = keys; predicate = predicate }))) else None
 
 -- [change, ..]
-unfoldable pub batch_of : Json → Option Op
+unfoldable pub batch_of : Data → Option Op
 batch_of d = do
   changes ← list_by change_of d
   Some (Batch changes)
 
-abbrev pub op_in : Option Json → Option Json → Option Op
+abbrev pub op_in : Option Data → Option Data → Option Op
 op_in (Some batch) read = batch_of batch
 op_in None (Some read) = read_of read
 op_in None None = None
 
 -- {"batch": ..} or {"read": ..}
-unfoldable pub op_of : Json → Option Op
+unfoldable pub op_of : Data → Option Op
 op_of d = if has_members 1 d then op_in (get (codes "batch") d) (get (codes "read") d) else None
 
 -- ["submit", session, operation], where sessions are numbered from 0
-unfoldable pub submit_of : TopologyValue → Json → Option Event
+unfoldable pub submit_of : TopologyValue → Data → Option Event
 submit_of top d = if has_items 3 d then (do
   session ← part_at (whole_below (length top.homes)) 1 d
   op ← part_at op_of 2 d
   Some (Submit (session_node top session) op)) else None
 
 -- ["deliver", message]: whether it was sent is seen when the event comes
-unfoldable pub deliver_of : Json → Option Event
+unfoldable pub deliver_of : Data → Option Event
 deliver_of d = if has_items 2 d then (do
   number ← part_at whole_of 1 d
   Some (Deliver number)) else None
 
-abbrev pub time_of : Json → Option ℕ
+abbrev pub time_of : Data → Option ℕ
 time_of = whole_below (2 ^ 48)
 
 -- ["collect", shard, time]
-unfoldable pub collect_of : TopologyValue → Json → Option Event
+unfoldable pub collect_of : TopologyValue → Data → Option Event
 collect_of top d = if has_items 3 d then (do
   shard ← part_at (whole_below (shard_count top)) 1 d
   time ← part_at time_of 2 d
   Some (Collect shard time)) else None
 
 -- ["drain"]
-unfoldable pub drain_of : Json → Option Event
+unfoldable pub drain_of : Data → Option Event
 drain_of d = if has_items 1 d then Some Drain else None
 
-unfoldable pub event_of : TopologyValue → Json → Option Event
+unfoldable pub event_of : TopologyValue → Data → Option Event
 event_of top d = do
   tag ← text_at 0 d
   if bytes_eq tag (codes "submit") then submit_of top d
@@ -165,18 +165,18 @@ abbrev pub schema_among : List (List ℕ) → Option (List (List ℕ))
 schema_among families = if is_schema families then Some families else None
 
 -- [name, ..], as a schema allows them
-unfoldable pub families_of : Json → Option (List (List ℕ))
+unfoldable pub families_of : Data → Option (List (List ℕ))
 families_of d = option_and_then schema_among (list_by as_str d)
 
 -- a number of data centres, of shards, or of one data centre
-abbrev pub small_of : Json → Option ℕ
+abbrev pub small_of : Data → Option ℕ
 small_of = whole_below (2 ^ 16)
 
 abbrev pub topology_among : TopologyValue → Option TopologyValue
 topology_among top = if is_topology top.dcs top.shards top.homes then Some top else None
 
 -- "dcs": .., "shards": .., "families": [..], "homes": [data centre, ..], within the limits of a topology
-unfoldable pub topology_of : Json → Option TopologyValue
+unfoldable pub topology_of : Data → Option TopologyValue
 topology_of d = do
   dcs ← member_by small_of (codes "dcs") d
   shards ← member_by small_of (codes "shards") d
@@ -185,7 +185,7 @@ topology_of d = do
   topology_among (record { dcs = dcs; shards = shards; schema = schema; homes = homes })
 
 -- {"dcs": .., "shards": .., "families": .., "homes": .., "events": ..}: at most 100,000 events
-unfoldable pub script_of : Json → Option Script
+unfoldable pub script_of : Data → Option Script
 script_of d = if has_members 5 d then (do
   top ← topology_of d
   events ← member_by (list_within (event_of top) 100000) (codes "events") d

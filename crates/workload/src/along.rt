@@ -11,9 +11,9 @@ use crate::marks::{Mark, with_outcomes};
 use crate::reading::MOST_EVENTS;
 use crate::script::Event;
 use crate::simulating::play_some;
-use crate::streaming::{begun, event, is_end, opens};
+use crate::streaming::{DEPTH, begun, event, is_end, opens};
 use crate::transcript::Transcript;
-use json::{MAX_DEPTH, Reader, Scratch};
+use json::{Reader, Scratch};
 use messages::Topology;
 use std::alloc::Global;
 use world::World;
@@ -98,7 +98,7 @@ pub(crate) fn run_along(alloc: Global, text: &str) -> Option<Transcript>
     // each data centre has a shard
     let _limits = topology.shards();
     let mut world = World::new(alloc, &topology).ok()?;
-    let played = play_along(alloc, &topology, &mut world, &mut reader, MAX_DEPTH - 1);
+    let played = play_along(alloc, &topology, &mut world, &mut reader, DEPTH - 1);
     match played {
         Some(marks) if is_end(&mut reader) => {
             let completed = world.leave();

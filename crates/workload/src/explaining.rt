@@ -1,12 +1,11 @@
 //! Where a JSON value is no script, and what is wrong there, for people.
 //!
 //! Nothing rests on this: `reading` says what a script is. It is looked at only after a script was refused.
-use crate::shape;
 use crate::wrong::{
     Known, Sound, Wrong, either, flag, item, items, listed, member, members, need, tag, text,
     texts, under, unknown, whole,
 };
-use json::{MAX_DEPTH, Reader, Scratch, Value as Json};
+use serde_json::{Error, Value as Json};
 use std::alloc::Global;
 
 /// The members of a script.
@@ -20,7 +19,7 @@ const LAST_TIME: u64 = 0xffff_ffff_ffff;
 /// The greatest count of a range.
 const MOST_COLUMNS: u64 = 0xffff_ffff;
 
-fn mutation(known: Known, json: &Json<'_>) -> Sound {
+fn mutation(known: Known, json: &Json) -> Sound {
     match tag(known, json)? {
         "insert" => items(known, json, 3, r#"["insert", NAME, VALUE]"#)?,
         "delete" => items(known, json, 2, r#"["delete", NAME]"#)?,
@@ -31,21 +30,21 @@ fn mutation(known: Known, json: &Json<'_>) -> Sound {
     texts(known, json)
 }
 
-fn change(known: Known, json: &Json<'_>) -> Sound {
+fn change(known: Known, json: &Json) -> Sound {
     items(known, json, 3, "[FAMILY, KEY, MUTATION]")?;
     under(known, "[0]", text(known, item(json, 0)))?;
     under(known, "[1]", text(known, item(json, 1)))?;
     under(known, "[2]", mutation(known, item(json, 2)))
 }
 
-fn batch(known: Known, json: &Json<'_>) -> Sound {
+fn batch(known: Known, json: &Json) -> Sound {
     for (place, item) in listed(known, json, 0, usize::MAX)?.iter().enumerate() {
         under(known, format_args!("[{place}]"), change(known, item))?;
     }
     Ok(())
 }
 
-fn range(known: Known, json: &Json<'_>) -> Sound {
+fn range(known: Known, json: &Json) -> Sound {
     members(known, json, &["start", "finish", "reversed", "count"])?;
     for name in ["start", "finish"] {
         if let Some(end) = json.get(name) {
@@ -61,7 +60,7 @@ fn range(known: Known, json: &Json<'_>) -> Sound {
     Ok(())
 }
 
-fn predicate(known: Known, json: &Json<'_>) -> Sound {
+fn predicate(known: Known, json: &Json) -> Sound {
     either(known, json, "names", "range")?;
     match json.get("names") {
         Some(names) => under(known, ".names", texts(known, names)),
@@ -69,14 +68,14 @@ fn predicate(known: Known, json: &Json<'_>) -> Sound {
     }
 }
 
-fn read(known: Known, json: &Json<'_>) -> Sound {
+fn read(known: Known, json: &Json) -> Sound {
     items(known, json, 3, "[FAMILY, [KEY, ..], PREDICATE]")?;
     under(known, "[0]", text(known, item(json, 0)))?;
     under(known, "[1]", texts(known, item(json, 1)))?;
     under(known, "[2]", predicate(known, item(json, 2)))
 }
 
-fn op(known: Known, json: &Json<'_>) -> Sound {
+fn op(known: Known, json: &Json) -> Sound {
     either(known, json, "batch", "read")?;
     match json.get("batch") {
         Some(changes) => under(known, ".batch", batch(known, changes)),
@@ -85,7 +84,7 @@ fn op(known: Known, json: &Json<'_>) -> Sound {
 }
 
 // A whole number from 0 on, at a place.
-fn number(known: Known, json: &Json<'_>, place: usize, most: u64) -> Sound {
+fn number(known: Known, json: &Json, place: usize, most: u64) -> Sound {
     under(
         known,
         format_args!("[{place}]"),
@@ -93,7 +92,7 @@ fn number(known: Known, json: &Json<'_>, place: usize, most: u64) -> Sound {
     )
 }
 
-fn event(known: Known, json: &Json<'_>) -> Sound {
+fn event(known: Known, json: &Json) -> Sound {
     match tag(known, json)? {
         "submit" => {
             items(known, json, 3, r#"["submit", SESSION, OPERATION]"#)?;
@@ -114,14 +113,14 @@ fn event(known: Known, json: &Json<'_>) -> Sound {
     }
 }
 
-fn events(known: Known, json: &Json<'_>) -> Sound {
+fn events(known: Known, json: &Json) -> Sound {
     for (place, item) in listed(known, json, 0, MOST_EVENTS)?.iter().enumerate() {
         under(known, format_args!("[{place}]"), event(known, item))?;
     }
     Ok(())
 }
 
-fn homes(known: Known, json: &Json<'_>) -> Sound {
+fn homes(known: Known, json: &Json) -> Sound {
     for (place, item) in listed(known, json, 1, 16)?.iter().enumerate() {
         under(
             known,
@@ -132,7 +131,7 @@ fn homes(known: Known, json: &Json<'_>) -> Sound {
     Ok(())
 }
 
-fn script(known: Known, json: &Json<'_>) -> Sound {
+fn script(known: Known, json: &Json) -> Sound {
     members(known, json, &MEMBERS)?;
     for name in MEMBERS {
         let is_there = json.get(name).is_some();
@@ -145,37 +144,23 @@ fn script(known: Known, json: &Json<'_>) -> Sound {
     under(known, ".events", events(known, member(json, "events")))
 }
 
-/// Where a text that is no JSON stops being some: a line and a byte in it, both counted from 1; none where memory is
-/// refused. Linear in the text.
-pub(crate) fn explain_text(alloc: Global, text: &str) -> Option<String> {
-    let mut scratch = Scratch::new(alloc);
-    let mut reader = Reader::new(text, &mut scratch).ok()?;
-    let _ = Json::read(alloc, &mut reader, MAX_DEPTH);
-    let end = reader.offset().min(text.len());
-    let before = &text.as_bytes()[..end];
-    let is_end_of_line = |byte: &&u8| **byte == b'\n';
-    let lines = before.iter().filter(is_end_of_line).count();
-    let columns = before
-        .iter()
-        .rev()
-        .position(|byte: &u8| *byte == b'\n')
-        .unwrap_or(end);
-    let (line, column) = (lines.saturating_add(1), columns.saturating_add(1));
+/// Where a text that is no JSON stops being some: a line and a byte in it, both counted from 1; none where memory is refused.
+pub(crate) fn explain_text(alloc: Global, error: &Error) -> Option<String> {
+    if error.is_memory() {
+        return None;
+    }
+    // a text that ends too soon lacks the byte after its last one
+    let past = if error.is_eof() { 1 } else { 0 };
+    let (line, column) = (error.line(), error.column().saturating_add(past));
     format!(in alloc; "no JSON at line {line} column {column}").ok()
 }
 
-// The whole number under a name, or 0 where there is none.
-fn number_named(json: &Json<'_>, name: &str) -> u64 {
-    json.get(name).and_then(shape::whole).unwrap_or(0)
-}
-
 /// What is wrong with a value that is no script, after its place; none where memory is refused. Linear in the value.
-pub(crate) fn explain(alloc: Global, json: &Json<'_>) -> Option<String> {
-    let (dcs, shards) = (number_named(json, "dcs"), number_named(json, "shards"));
-    let sessions = match json.get("homes") {
-        Some(Json::Array(homes)) => homes.len() as u64,
-        _ => 0,
-    };
+pub(crate) fn explain(alloc: Global, json: &Json) -> Option<String> {
+    let number = |name: &str| json.get(name).and_then(Json::as_u64).unwrap_or(0);
+    let (dcs, shards) = (number("dcs"), number("shards"));
+    let homes = json.get("homes").and_then(Json::as_array);
+    let sessions = homes.map_or(0, |homes: &Vec<Json>| homes.len() as u64);
     let known = Known {
         alloc,
         dc: dcs.saturating_sub(1),

@@ -6,6 +6,7 @@
 mod along;
 mod draining;
 mod explaining;
+mod heading;
 mod marks;
 mod performing;
 mod reading;

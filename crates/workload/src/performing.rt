@@ -11,9 +11,9 @@ use crate::script::{Event, Script};
 use crate::simulating::{happen, simulate_to_the_end};
 use crate::text::write_transcript;
 use crate::transcript::Transcript;
-use json::{Scratch, Value as Json};
 use logical_time::Fault;
 use program::{Buffered, Input, Line, Output, tell};
+use serde_json::Value as Json;
 use std::alloc::Global;
 use std::fmt::Display;
 use std::io::Read;
@@ -112,9 +112,8 @@ pub fn explain(alloc: Global, input: &[u8], fault: Fault) -> Option<String> {
             return format!(in alloc; "not UTF-8 at byte {byte}").ok();
         }
     };
-    let mut scratch = Scratch::new(alloc);
-    match Json::parse(alloc, text, &mut scratch) {
-        Err(_) => explaining::explain_text(alloc, text),
+    match Json::from_str(alloc, text) {
+        Err(error) => explaining::explain_text(alloc, &error),
         Ok(json) => match read_script(alloc, text) {
             Ok(script) => explain_end(alloc, &script),
             Err(_) => explaining::explain(alloc, &json),

@@ -1,38 +1,36 @@
 //! Scripts as JSON texts.
 ghost use Rattle.std.specs.Prelude.{◌≡◌, map, option_and_then, codes};
-ghost use Rattle.json.specs.Find.{as_str, get};
-ghost use Rattle.json.specs.Json.{document};
-ghost use Rattle.json.specs.Value.{value_view};
+ghost use Rattle.serde_json.specs.Find.{as_str, get};
+ghost use Rattle.serde_json.specs.Read.{read};
+ghost use Rattle.serde_json.specs.View.{view};
 ghost use Rattle.workload.specs.Gives.{Gives, GivesSeen};
 ghost use Rattle.workload.specs.Shape.{whole_of, member_by, all_by, list_by, list_within as items_within};
 ghost use Rattle.workload.specs.Script as form;
 
+use crate::heading::{COUNT_END, USUAL_COUNT};
 use crate::script::{Event, Events, Script};
 use crate::shape::{
     Shaped, has_items, has_members, list, list_of, member, member_as, members_named, number_at,
-    part_at, text_at, whole, whole_below,
+    part_at, text_at, whole_below,
 };
 use crate::streaming::{self, streamed};
 use column_family::{Batch, Change, Family, Key, Mutation, Name, Row, Schema, Value};
-use json::{Error, Reader, Scratch, Value as Json};
+use json::Reader;
 use logical_time::{Fault, Node, Time};
 use messages::{Op, Topology};
+use serde_json::Value as Json;
 use slice::{Keys, Names, Predicate, Read};
 use std::alloc::Global;
 
 /// How many events a script may have.
 pub(crate) const MOST_EVENTS: usize = 100_000;
-/// How many columns a range asks for where it doesn't say it.
-const USUAL_COUNT: u32 = 100;
-/// The first number that is no count of a range: 2^32.
-const COUNT_END: u64 = 0x1_0000_0000;
 /// The first number that has more than 16 bits: 2^16.
 const SMALL_END: u64 = 0x1_0000;
 
 impl Shaped for Family {
     ghost stands_for = { as_str };
 
-    fn of_json(alloc: Global, json: &Json<'_>) -> Result<Family, Fault> {
+    fn of_json(alloc: Global, json: &Json) -> Result<Family, Fault> {
         let text = json.as_str().ok_or(Fault::Script)?;
         Ok(Family::from_slice(alloc, text.as_bytes())?)
     }
@@ -50,7 +48,7 @@ impl Shaped for Family {
 impl Shaped for Key {
     ghost stands_for = { as_str };
 
-    fn of_json(alloc: Global, json: &Json<'_>) -> Result<Key, Fault> {
+    fn of_json(alloc: Global, json: &Json) -> Result<Key, Fault> {
         let text = json.as_str().ok_or(Fault::Script)?;
         Ok(Key::from_slice(alloc, text.as_bytes())?)
     }
@@ -68,7 +66,7 @@ impl Shaped for Key {
 impl Shaped for Name {
     ghost stands_for = { as_str };
 
-    fn of_json(alloc: Global, json: &Json<'_>) -> Result<Name, Fault> {
+    fn of_json(alloc: Global, json: &Json) -> Result<Name, Fault> {
         let text = json.as_str().ok_or(Fault::Script)?;
         Ok(Name::from_slice(alloc, text.as_bytes())?)
     }
@@ -86,7 +84,7 @@ impl Shaped for Name {
 impl Shaped for Value {
     ghost stands_for = { as_str };
 
-    fn of_json(alloc: Global, json: &Json<'_>) -> Result<Value, Fault> {
+    fn of_json(alloc: Global, json: &Json) -> Result<Value, Fault> {
         let text = json.as_str().ok_or(Fault::Script)?;
         Ok(Value::from_slice(alloc, text.as_bytes())?)
     }
@@ -104,7 +102,7 @@ impl Shaped for Value {
 impl Shaped for Keys {
     ghost stands_for = { list_by as_str };
 
-    fn of_json(alloc: Global, json: &Json<'_>) -> Result<Keys, Fault> {
+    fn of_json(alloc: Global, json: &Json) -> Result<Keys, Fault> {
         Ok(Keys::from_vec(alloc, list_of(alloc, json)?)?)
     }
 
@@ -116,7 +114,7 @@ impl Shaped for Keys {
 impl Shaped for Mutation {
     ghost stands_for = { form.mutation_of };
 
-    fn of_json(alloc: Global, json: &Json<'_>) -> Result<Mutation, Fault> {
+    fn of_json(alloc: Global, json: &Json) -> Result<Mutation, Fault> {
         mutation(alloc, json)
     }
 
@@ -128,7 +126,7 @@ impl Shaped for Mutation {
 impl Shaped for Predicate {
     ghost stands_for = { form.predicate_of };
 
-    fn of_json(alloc: Global, json: &Json<'_>) -> Result<Predicate, Fault> {
+    fn of_json(alloc: Global, json: &Json) -> Result<Predicate, Fault> {
         predicate(alloc, json)
     }
 
@@ -140,7 +138,7 @@ impl Shaped for Predicate {
 impl Shaped for Op {
     ghost stands_for = { form.op_of };
 
-    fn of_json(alloc: Global, json: &Json<'_>) -> Result<Op, Fault> {
+    fn of_json(alloc: Global, json: &Json) -> Result<Op, Fault> {
         op(alloc, json)
     }
 
@@ -152,7 +150,7 @@ impl Shaped for Op {
 impl Shaped for Change {
     ghost stands_for = { form.change_of };
 
-    fn of_json(alloc: Global, json: &Json<'_>) -> Result<Change, Fault> {
+    fn of_json(alloc: Global, json: &Json) -> Result<Change, Fault> {
         change(alloc, json)
     }
 
@@ -164,16 +162,20 @@ impl Shaped for Change {
 impl Shaped for u16 {
     ghost stands_for = { form.small_of };
 
-    fn of_json(_alloc: Global, json: &Json<'_>) -> Result<u16, Fault> {
+    fn of_json(_alloc: Global, json: &Json) -> Result<u16, Fault> {
         Ok(whole_below(json, SMALL_END)? as u16)
+    }
+
+    fn of_reader(_alloc: Global, reader: &mut Reader<'_>, depth: usize) -> Option<u16> {
+        Some(streaming::number_below(reader, depth, SMALL_END)? as u16)
     }
 }
 
 impl Shaped for usize {
     ghost stands_for = { whole_of };
 
-    fn of_json(_alloc: Global, json: &Json<'_>) -> Result<usize, Fault> {
-        Ok(whole(json).ok_or(Fault::Script)? as usize)
+    fn of_json(_alloc: Global, json: &Json) -> Result<usize, Fault> {
+        Ok(json.as_u64().ok_or(Fault::Script)? as usize)
     }
 
     fn of_reader(_alloc: Global, reader: &mut Reader<'_>, depth: usize) -> Option<usize> {
@@ -184,22 +186,30 @@ impl Shaped for usize {
 impl Shaped for Time {
     ghost stands_for = { form.time_of };
 
-    fn of_json(_alloc: Global, json: &Json<'_>) -> Result<Time, Fault> {
-        Time::new(whole(json).ok_or(Fault::Script)?).ok_or(Fault::Script)
+    fn of_json(_alloc: Global, json: &Json) -> Result<Time, Fault> {
+        Time::new(json.as_u64().ok_or(Fault::Script)?).ok_or(Fault::Script)
+    }
+
+    fn of_reader(_alloc: Global, reader: &mut Reader<'_>, depth: usize) -> Option<Time> {
+        Time::new(streaming::number(reader, depth)?)
     }
 }
 
 impl Shaped for Schema {
     ghost stands_for = { form.families_of };
 
-    fn of_json(alloc: Global, json: &Json<'_>) -> Result<Schema, Fault> {
+    fn of_json(alloc: Global, json: &Json) -> Result<Schema, Fault> {
         families(alloc, json)
+    }
+
+    fn of_reader(alloc: Global, reader: &mut Reader<'_>, depth: usize) -> Option<Schema> {
+        Schema::new(streaming::list_in(alloc, reader, depth)?)
     }
 }
 
 #[tactic(auto, unfolding(crate::specs::Script::insert_of))]
-fn insert(alloc: Global, json: &Json<'_>) -> Result<Mutation, Fault>
-    ensures { Gives result (form.insert_of (value_view json.now)) }
+fn insert(alloc: Global, json: &Json) -> Result<Mutation, Fault>
+    ensures { Gives result (form.insert_of (view json.now)) }
 {
     if !has_items(json, 3) {
         return Err(Fault::Script);
@@ -210,8 +220,8 @@ fn insert(alloc: Global, json: &Json<'_>) -> Result<Mutation, Fault>
 }
 
 #[tactic(auto, unfolding(crate::specs::Script::delete_of))]
-fn delete(alloc: Global, json: &Json<'_>) -> Result<Mutation, Fault>
-    ensures { Gives result (form.delete_of (value_view json.now)) }
+fn delete(alloc: Global, json: &Json) -> Result<Mutation, Fault>
+    ensures { Gives result (form.delete_of (view json.now)) }
 {
     if !has_items(json, 2) {
         return Err(Fault::Script);
@@ -221,8 +231,8 @@ fn delete(alloc: Global, json: &Json<'_>) -> Result<Mutation, Fault>
 }
 
 #[tactic(auto, unfolding(crate::specs::Script::delete_row_of))]
-fn delete_row(json: &Json<'_>) -> Result<Mutation, Fault>
-    ensures { Gives result (form.delete_row_of (value_view json.now)) }
+fn delete_row(json: &Json) -> Result<Mutation, Fault>
+    ensures { Gives result (form.delete_row_of (view json.now)) }
 {
     if has_items(json, 1) {
         Ok(Mutation::DeleteRow)
@@ -232,8 +242,8 @@ fn delete_row(json: &Json<'_>) -> Result<Mutation, Fault>
 }
 
 #[tactic(auto, unfolding(crate::specs::Script::delete_range_of))]
-fn delete_range(alloc: Global, json: &Json<'_>) -> Result<Mutation, Fault>
-    ensures { Gives result (form.delete_range_of (value_view json.now)) }
+fn delete_range(alloc: Global, json: &Json) -> Result<Mutation, Fault>
+    ensures { Gives result (form.delete_range_of (view json.now)) }
 {
     if !has_items(json, 3) {
         return Err(Fault::Script);
@@ -244,8 +254,8 @@ fn delete_range(alloc: Global, json: &Json<'_>) -> Result<Mutation, Fault>
 }
 
 #[tactic(auto, unfolding(crate::specs::Script::mutation_of))]
-fn mutation(alloc: Global, json: &Json<'_>) -> Result<Mutation, Fault>
-    ensures { Gives result (form.mutation_of (value_view json.now)) }
+fn mutation(alloc: Global, json: &Json) -> Result<Mutation, Fault>
+    ensures { Gives result (form.mutation_of (view json.now)) }
 {
     let tag = text_at(json, 0)?;
     if tag == "insert" {
@@ -262,8 +272,8 @@ fn mutation(alloc: Global, json: &Json<'_>) -> Result<Mutation, Fault>
 }
 
 #[tactic(auto, unfolding(crate::specs::Script::change_of))]
-fn change(alloc: Global, json: &Json<'_>) -> Result<Change, Fault>
-    ensures { Gives result (form.change_of (value_view json.now)) }
+fn change(alloc: Global, json: &Json) -> Result<Change, Fault>
+    ensures { Gives result (form.change_of (view json.now)) }
 {
     if !has_items(json, 3) {
         return Err(Fault::Script);
@@ -278,7 +288,7 @@ fn change(alloc: Global, json: &Json<'_>) -> Result<Change, Fault>
 
 // An end of a range, open where it isn't there.
 fn end(alloc: Global, json: &Json, name: &str) -> Result<Name, Fault>
-    ensures { Gives result (form.end_of (get name.now (value_view json.now))) }
+    ensures { Gives result (form.end_of (get name.now (view json.now))) }
 {
     match json.get(name) {
         Some(end) => Name::of_json(alloc, end),
@@ -286,8 +296,8 @@ fn end(alloc: Global, json: &Json, name: &str) -> Result<Name, Fault>
     }
 }
 
-fn reversed(json: &Json<'_>) -> Result<bool, Fault>
-    ensures { Gives result (form.reversed_of (get (codes "reversed") (value_view json.now))) }
+fn reversed(json: &Json) -> Result<bool, Fault>
+    ensures { Gives result (form.reversed_of (get (codes "reversed") (view json.now))) }
 {
     match json.get("reversed") {
         Some(flag) => flag.as_bool().ok_or(Fault::Script),
@@ -295,8 +305,8 @@ fn reversed(json: &Json<'_>) -> Result<bool, Fault>
     }
 }
 
-fn count(json: &Json<'_>) -> Result<u32, Fault>
-    ensures { Gives result (form.count_of (get (codes "count") (value_view json.now))) }
+fn count(json: &Json) -> Result<u32, Fault>
+    ensures { Gives result (form.count_of (get (codes "count") (view json.now))) }
 {
     match json.get("count") {
         Some(number) => Ok(whole_below(number, COUNT_END)? as u32),
@@ -305,16 +315,16 @@ fn count(json: &Json<'_>) -> Result<u32, Fault>
 }
 
 // How many of the members of a range are there.
-fn range_members(json: &Json<'_>) -> usize
-    ensures { result ≡ form.range_members (value_view json.now) }
+fn range_members(json: &Json) -> usize
+    ensures { result ≡ form.range_members (view json.now) }
 {
     let ends = members_named(json, "start") + members_named(json, "finish");
     ends + members_named(json, "reversed") + members_named(json, "count")
 }
 
 #[tactic(auto, unfolding(crate::specs::Script::range_of))]
-pub(crate) fn range(alloc: Global, json: &Json<'_>) -> Result<Predicate, Fault>
-    ensures { Gives result (form.range_of (value_view json.now)) }
+fn range(alloc: Global, json: &Json) -> Result<Predicate, Fault>
+    ensures { Gives result (form.range_of (view json.now)) }
 {
     if !has_members(json, range_members(json)) {
         return Err(Fault::Script);
@@ -332,15 +342,15 @@ pub(crate) fn range(alloc: Global, json: &Json<'_>) -> Result<Predicate, Fault>
 }
 
 #[tactic(auto, unfolding(crate::specs::Script::names_of))]
-fn names(alloc: Global, json: &Json<'_>) -> Result<Predicate, Fault>
-    ensures { Gives result (form.names_of (value_view json.now)) }
+fn names(alloc: Global, json: &Json) -> Result<Predicate, Fault>
+    ensures { Gives result (form.names_of (view json.now)) }
 {
     Ok(Predicate::Names(Names::from_vec(alloc, list_of(alloc, json)?)?))
 }
 
 #[tactic(auto, unfolding(crate::specs::Script::predicate_of))]
-fn predicate(alloc: Global, json: &Json<'_>) -> Result<Predicate, Fault>
-    ensures { Gives result (form.predicate_of (value_view json.now)) }
+fn predicate(alloc: Global, json: &Json) -> Result<Predicate, Fault>
+    ensures { Gives result (form.predicate_of (view json.now)) }
 {
     if !has_members(json, 1) {
         return Err(Fault::Script);
@@ -352,8 +362,8 @@ fn predicate(alloc: Global, json: &Json<'_>) -> Result<Predicate, Fault>
 }
 
 #[tactic(auto, unfolding(crate::specs::Script::read_of))]
-fn read_op(alloc: Global, json: &Json<'_>) -> Result<Op, Fault>
-    ensures { Gives result (form.read_of (value_view json.now)) }
+fn read_op(alloc: Global, json: &Json) -> Result<Op, Fault>
+    ensures { Gives result (form.read_of (view json.now)) }
 {
     if !has_items(json, 3) {
         return Err(Fault::Script);
@@ -370,16 +380,16 @@ fn read_op(alloc: Global, json: &Json<'_>) -> Result<Op, Fault>
 }
 
 #[tactic(auto, unfolding(crate::specs::Script::batch_of))]
-fn batch(alloc: Global, json: &Json<'_>) -> Result<Op, Fault>
-    ensures { Gives result (form.batch_of (value_view json.now)) }
+fn batch(alloc: Global, json: &Json) -> Result<Op, Fault>
+    ensures { Gives result (form.batch_of (view json.now)) }
 {
     let changes = list_of(alloc, json)?;
     Ok(Op::write(alloc, Batch::from_changes(changes))?)
 }
 
 #[tactic(auto, unfolding(crate::specs::Script::op_of))]
-fn op(alloc: Global, json: &Json<'_>) -> Result<Op, Fault>
-    ensures { Gives result (form.op_of (value_view json.now)) }
+fn op(alloc: Global, json: &Json) -> Result<Op, Fault>
+    ensures { Gives result (form.op_of (view json.now)) }
 {
     if !has_members(json, 1) {
         return Err(Fault::Script);
@@ -391,8 +401,8 @@ fn op(alloc: Global, json: &Json<'_>) -> Result<Op, Fault>
 }
 
 #[tactic(auto, unfolding(crate::specs::Script::submit_of))]
-fn submit(alloc: Global, topology: &Topology, json: &Json<'_>) -> Result<Event, Fault>
-    ensures { Gives result (form.submit_of topology.now (value_view json.now)) }
+fn submit(alloc: Global, topology: &Topology, json: &Json) -> Result<Event, Fault>
+    ensures { Gives result (form.submit_of topology.now (view json.now)) }
 {
     if !has_items(json, 3) {
         return Err(Fault::Script);
@@ -406,8 +416,8 @@ fn submit(alloc: Global, topology: &Topology, json: &Json<'_>) -> Result<Event, 
 }
 
 #[tactic(auto, unfolding(crate::specs::Script::deliver_of))]
-fn deliver(alloc: Global, json: &Json<'_>) -> Result<Event, Fault>
-    ensures { Gives result (form.deliver_of (value_view json.now)) }
+fn deliver(alloc: Global, json: &Json) -> Result<Event, Fault>
+    ensures { Gives result (form.deliver_of (view json.now)) }
 {
     if !has_items(json, 2) {
         return Err(Fault::Script);
@@ -417,8 +427,8 @@ fn deliver(alloc: Global, json: &Json<'_>) -> Result<Event, Fault>
 }
 
 #[tactic(auto, unfolding(crate::specs::Script::collect_of))]
-fn collect(alloc: Global, topology: &Topology, json: &Json<'_>) -> Result<Event, Fault>
-    ensures { Gives result (form.collect_of topology.now (value_view json.now)) }
+fn collect(alloc: Global, topology: &Topology, json: &Json) -> Result<Event, Fault>
+    ensures { Gives result (form.collect_of topology.now (view json.now)) }
 {
     if !has_items(json, 3) {
         return Err(Fault::Script);
@@ -432,8 +442,8 @@ fn collect(alloc: Global, topology: &Topology, json: &Json<'_>) -> Result<Event,
 }
 
 #[tactic(auto, unfolding(crate::specs::Script::drain_of))]
-fn drain(json: &Json<'_>) -> Result<Event, Fault>
-    ensures { Gives result (form.drain_of (value_view json.now)) }
+fn drain(json: &Json) -> Result<Event, Fault>
+    ensures { Gives result (form.drain_of (view json.now)) }
 {
     if has_items(json, 1) {
         Ok(Event::Drain)
@@ -443,8 +453,8 @@ fn drain(json: &Json<'_>) -> Result<Event, Fault>
 }
 
 #[tactic(auto, unfolding(crate::specs::Script::event_of))]
-fn event(alloc: Global, topology: &Topology, json: &Json<'_>) -> Result<Event, Fault>
-    ensures { Gives result (form.event_of topology.now (value_view json.now)) }
+fn event(alloc: Global, topology: &Topology, json: &Json) -> Result<Event, Fault>
+    ensures { Gives result (form.event_of topology.now (view json.now)) }
 {
     let tag = text_at(json, 0)?;
     if tag == "submit" {
@@ -461,12 +471,8 @@ fn event(alloc: Global, topology: &Topology, json: &Json<'_>) -> Result<Event, F
 }
 
 // What each item stands for, in order.
-fn each_event(
-    alloc: Global,
-    topology: &Topology,
-    items: &Vec<Json<'_>>,
-) -> Result<Vec<Event>, Fault>
-    ensures { GivesSeen (λ v. v.items) result (all_by (form.event_of topology.now) (map value_view items.now.items)) }
+fn each_event(alloc: Global, topology: &Topology, items: &Vec<Json>) -> Result<Vec<Event>, Fault>
+    ensures { GivesSeen (λ v. v.items) result (all_by (form.event_of topology.now) (map view items.now.items)) }
 {
     let mut all = Vec::new(alloc);
     for item in items {
@@ -476,8 +482,8 @@ fn each_event(
 }
 
 // What each item of a list stands for, of which there may be so many.
-fn each_within(alloc: Global, topology: &Topology, json: &Json<'_>) -> Result<Vec<Event>, Fault>
-    ensures { GivesSeen (λ v. v.items) result (items_within (form.event_of topology.now) 100000 (value_view json.now)) }
+fn each_within(alloc: Global, topology: &Topology, json: &Json) -> Result<Vec<Event>, Fault>
+    ensures { GivesSeen (λ v. v.items) result (items_within (form.event_of topology.now) 100000 (view json.now)) }
 {
     let items = list(json)?;
     if items.len() > MOST_EVENTS {
@@ -486,28 +492,28 @@ fn each_within(alloc: Global, topology: &Topology, json: &Json<'_>) -> Result<Ve
     each_event(alloc, topology, items)
 }
 
-fn events(alloc: Global, topology: &Topology, json: &Json<'_>) -> Result<Events, Fault>
-    ensures { Gives result (items_within (form.event_of topology.now) 100000 (value_view json.now)) }
+fn events(alloc: Global, topology: &Topology, json: &Json) -> Result<Events, Fault>
+    ensures { Gives result (items_within (form.event_of topology.now) 100000 (view json.now)) }
 {
     Ok(Events::from_vec(each_within(alloc, topology, json)?))
 }
 
 #[tactic(auto, unfolding(crate::specs::Script::families_of))]
-fn families(alloc: Global, json: &Json<'_>) -> Result<Schema, Fault>
-    ensures { Gives result (form.families_of (value_view json.now)) }
+fn families(alloc: Global, json: &Json) -> Result<Schema, Fault>
+    ensures { Gives result (form.families_of (view json.now)) }
 {
     Schema::new(list_of(alloc, json)?).ok_or(Fault::Script)
 }
 
-fn homes(alloc: Global, json: &Json<'_>) -> Result<Vec<u16>, Fault>
-    ensures { GivesSeen (λ v. v.items) result (member_by (list_by form.small_of) (codes "homes") (value_view json.now)) }
+fn homes(alloc: Global, json: &Json) -> Result<Vec<u16>, Fault>
+    ensures { GivesSeen (λ v. v.items) result (member_by (list_by form.small_of) (codes "homes") (view json.now)) }
 {
     list_of(alloc, member(json, "homes")?)
 }
 
 #[tactic(auto, unfolding(crate::specs::Script::topology_of))]
-pub(crate) fn topology(alloc: Global, json: &Json<'_>) -> Result<Topology, Fault>
-    ensures { Gives result (form.topology_of (value_view json.now)) }
+fn topology(alloc: Global, json: &Json) -> Result<Topology, Fault>
+    ensures { Gives result (form.topology_of (view json.now)) }
 {
     let dcs = member_as(alloc, json, "dcs")?;
     let shards = member_as(alloc, json, "shards")?;
@@ -517,8 +523,8 @@ pub(crate) fn topology(alloc: Global, json: &Json<'_>) -> Result<Topology, Fault
 }
 
 #[tactic(auto, unfolding(crate::specs::Script::script_of))]
-fn script(alloc: Global, json: &Json<'_>) -> Result<Script, Fault>
-    ensures { Gives result (form.script_of (value_view json.now)) }
+fn script(alloc: Global, json: &Json) -> Result<Script, Fault>
+    ensures { Gives result (form.script_of (view json.now)) }
 {
     if !has_members(json, 5) {
         return Err(Fault::Script);
@@ -528,26 +534,18 @@ fn script(alloc: Global, json: &Json<'_>) -> Result<Script, Fault>
     Ok(Script { topology, events })
 }
 
-// A JSON text as a value, which shares it. Refused with `Script` where it is none, or with `Memory`.
-fn parsed<'a>(alloc: Global, text: &'a str, scratch: &'a mut Scratch) -> Result<Json<'a>, Fault>
-    ensures { GivesSeen value_view result (document text.now) }
-{
-    match Json::parse(alloc, text, scratch) {
-        Ok(json) => Ok(json),
-        Err(Error::OutOfMemory) => Err(Fault::Memory),
-        Err(_) => Err(Fault::Script),
-    }
-}
-
-/// The script that a JSON text stands for. Refused with `Script` exactly where it stands for none, or with
-/// `Memory`. Linear in the text.
+/// The script that the value of a JSON text stands for, as `serde_json` reads it: of a member that is written twice, the last
+/// one counts. Refused with `Script` exactly where the text is no JSON that it reads, which nests at most 127 deep, or where its
+/// value stands for no script; or with `Memory`. Linear in the text.
 pub fn read_script(alloc: Global, text: &str) -> Result<Script, Fault>
-    ensures { Gives result (option_and_then form.script_of (document text.now)) }
+    ensures { Gives result (option_and_then form.script_of (read text.now)) }
 {
     if let Some(script) = streamed(alloc, text) {
         return Ok(script);
     }
-    let mut scratch = Scratch::new(alloc);
-    let json = parsed(alloc, text, &mut scratch)?;
-    script(alloc, &json)
+    match Json::from_str(alloc, text) {
+        Ok(json) => script(alloc, &json),
+        Err(error) if error.is_memory() => Err(Fault::Memory),
+        Err(_) => Err(Fault::Script),
+    }
 }

@@ -1,24 +1,28 @@
 //! Scripts read token by token, so that no value of JSON is made of what is long.
 //!
 //! Here only what stands for a script is told: `reading` tells which texts stand for none.
-ghost use Rattle.std.specs.Prelude.{◌≡◌, ◌∷◌, [], Some, true, IfSome, codes, option_and_then};
+ghost use Rattle.std.specs.Prelude.{◌≡◌, ◌∷◌, [], Some, true, IfSome, option_and_then};
 ghost use Rattle.json.specs.Token as spec;
-ghost use Rattle.json.specs.Json.{Json as SpecJson, document, object, member, no_members};
-ghost use Rattle.json.specs.Value.{value_view};
-ghost use Rattle.workload.specs.Shape.{list_by, has_members as form_members, whole_below as below, whole_of};
+ghost use Rattle.serde_json.specs.Data.{object, member, no_members};
+ghost use Rattle.serde_json.specs.Find.{as_bool};
+ghost use Rattle.serde_json.specs.Read.{read};
+ghost use Rattle.workload.specs.Shape.{list_by, whole_below as below, whole_of};
 ghost use Rattle.workload.specs.Script as form;
-ghost use Rattle.workload.specs.Streams.{Reads, ReadsRest, BeginWith, IsHeader, Begins};
+ghost use Rattle.workload.specs.Streams.{Reads, ReadsRest, Begins};
 
-use crate::reading::{MOST_EVENTS, range, topology};
+use crate::heading::{header, range, topology_in};
+use crate::reading::MOST_EVENTS;
 use crate::script::{Event, Events, Script};
-use crate::shape::{Shaped, has_members, whole};
+use crate::shape::{Shaped, few_digits};
 use column_family::{Batch, Change, Family, Key, Mutation, Name, Row, Value};
-use json::{MAX_DEPTH, Reader, Scratch, Token, Value as Json};
+use json::{Reader, Scratch, Token};
 use logical_time::{Node, Time};
 use messages::{Op, Topology};
 use slice::{Keys, Names, Predicate, Read};
 use std::alloc::Global;
 
+/// How deep lists and objects may nest: as for `serde_json`.
+pub(crate) const DEPTH: usize = 127;
 /// How many items a list has room for at first: mostly it has no more.
 const FEW: usize = 2;
 
@@ -30,7 +34,7 @@ pub(crate) fn opens(reader: &mut Reader<'_>) -> bool
 }
 
 /// Whether an object begins.
-fn opens_object(reader: &mut Reader<'_>) -> bool
+pub(crate) fn opens_object(reader: &mut Reader<'_>) -> bool
     ensures { result ≡ true → reader.old ≡ spec.begin_object ∷ reader.new }
 {
     matches!(reader.next(), Some(Token::BeginObject))
@@ -154,14 +158,6 @@ pub(crate) fn change(alloc: Global, reader: &mut Reader<'_>, depth: usize) -> Op
     })
 }
 
-/// The range that comes next.
-fn range_in(alloc: Global, reader: &mut Reader<'_>, depth: usize) -> Option<Predicate>
-    ensures { IfSome result (Reads form.range_of depth reader.old reader.new) }
-{
-    let json = Json::read(alloc, reader, depth).ok()?;
-    range(alloc, &json).ok()
-}
-
 /// The predicate that stands under this name and comes next.
 fn predicate_under(
     alloc: Global,
@@ -169,7 +165,7 @@ fn predicate_under(
     reader: &mut Reader<'_>,
     depth: usize,
 ) -> Option<Predicate>
-    ensures { IfSome result (Reads (λ j. form.predicate_of (object (member name.now j no_members))) depth reader.old reader.new) }
+    ensures { IfSome result (Reads (λ d. form.predicate_of (object (member name.now d no_members))) depth reader.old reader.new) }
 {
     if name == "names" {
         let names = list_in(alloc, reader, depth)?;
@@ -178,7 +174,7 @@ fn predicate_under(
             Err(_) => None,
         }
     } else if name == "range" {
-        range_in(alloc, reader, depth)
+        range(alloc, reader, depth)
     } else {
         None
     }
@@ -227,7 +223,7 @@ fn read(alloc: Global, reader: &mut Reader<'_>, depth: usize) -> Option<Op>
 
 /// The operation that stands under this name and comes next.
 fn op_under(alloc: Global, name: &str, reader: &mut Reader<'_>, depth: usize) -> Option<Op>
-    ensures { IfSome result (Reads (λ j. form.op_of (object (member name.now j no_members))) depth reader.old reader.new) }
+    ensures { IfSome result (Reads (λ d. form.op_of (object (member name.now d no_members))) depth reader.old reader.new) }
 {
     if name == "batch" {
         let changes = list_in(alloc, reader, depth)?;
@@ -269,16 +265,26 @@ fn digits<'a>(reader: &mut Reader<'a>) -> Option<&'a str>
     }
 }
 
-/// The whole number that comes next.
+/// The whole number that comes next, if its digits are not too many.
 pub(crate) fn number(reader: &mut Reader<'_>, depth: usize) -> Option<u64>
     ensures { IfSome result (Reads whole_of depth reader.old reader.new) }
 {
     let digits = digits(reader)?;
-    whole(&Json::Number(digits))
+    few_digits(digits.as_bytes())
+}
+
+/// Whether `true` or `false` comes next.
+pub(crate) fn flag(reader: &mut Reader<'_>, depth: usize) -> Option<bool>
+    ensures { IfSome result (Reads as_bool depth reader.old reader.new) }
+{
+    match reader.next() {
+        Some(Token::Bool(flag)) => Some(flag),
+        _ => None,
+    }
 }
 
 /// The whole number below an end that comes next.
-fn number_below(reader: &mut Reader<'_>, depth: usize, end: u64) -> Option<u64>
+pub(crate) fn number_below(reader: &mut Reader<'_>, depth: usize, end: u64) -> Option<u64>
     ensures { IfSome result (Reads (below end) depth reader.old reader.new) }
 {
     let number = number(reader, depth)?;
@@ -395,49 +401,6 @@ fn events(
     Some(all)
 }
 
-/// The members before the events; then these come.
-fn header<'a>(
-    alloc: Global,
-    reader: &mut Reader<'a>,
-    depth: usize,
-) -> Option<Vec<(&'a str, Json<'a>)>>
-    ensures { IfSome result (λ v. BeginWith depth (codes "events") reader.old reader.new v.items) }
-{
-    let mut members = Vec::new(alloc);
-    while let Ok(Some(name)) = reader.next_key() {
-        if name == "events" {
-            return Some(members);
-        }
-        let json = Json::read(alloc, reader, depth).ok()?;
-        members.push((name, json)).ok()?;
-    }
-    None
-}
-
-/// The topology of a script that has no other members than those of scripts.
-fn topology_of(alloc: Global, json: &Json<'_>) -> Option<Topology>
-    ensures members { IfSome result (λ top. form_members 5 (value_view json.now) ≡ true) }
-    ensures value { IfSome result (λ top. form.topology_of (value_view json.now) ≡ Some top) }
-{
-    if !has_members(json, 5) {
-        return None;
-    }
-    match topology(alloc, json) {
-        Ok(topology) => Some(topology),
-        Err(_) => None,
-    }
-}
-
-/// The topology that the members of a script tell, whatever its events are.
-fn topology_in<'a>(alloc: Global, mut members: Vec<(&'a str, Json<'a>)>) -> Option<Topology>
-    ensures { IfSome result (λ top. (events : SpecJson) → IsHeader members.entry.items events top) }
-{
-    members.push(("events", Json::Null)).ok()?;
-    let json = Json::Object(members);
-    let topology = topology_of(alloc, &json)?;
-    Some(topology)
-}
-
 /// Whether an object ends, and the text with it.
 pub(crate) fn is_end(reader: &mut Reader<'_>) -> bool
     ensures { result ≡ true → reader.old ≡ spec.end_object ∷ [] }
@@ -452,18 +415,18 @@ pub(crate) fn begun(alloc: Global, reader: &mut Reader<'_>) -> Option<Topology>
     if !opens_object(reader) {
         return None;
     }
-    let members = header(alloc, reader, MAX_DEPTH - 1)?;
-    topology_in(alloc, members)
+    let heading = header(alloc, reader, DEPTH - 1)?;
+    topology_in(heading)
 }
 
 /// The script that a text stands for, where its events are the last member, and memory is there.
 pub(crate) fn streamed(alloc: Global, text: &str) -> Option<Script>
-    ensures { IfSome result (λ script. option_and_then form.script_of (document text.now) ≡ Some script) }
+    ensures { IfSome result (λ script. option_and_then form.script_of (read text.now) ≡ Some script) }
 {
     let mut scratch = Scratch::new(alloc);
     let mut reader = Reader::new(text, &mut scratch).ok()?;
     let topology = begun(alloc, &mut reader)?;
-    let events = events(alloc, &topology, &mut reader, MAX_DEPTH - 1)?;
+    let events = events(alloc, &topology, &mut reader, DEPTH - 1)?;
     if events.len() > MOST_EVENTS || !is_end(&mut reader) {
         return None;
     }

@@ -1,6 +1,5 @@
 //! What is wrong with a JSON value, and where, for people.
-use crate::shape::whole as whole_of;
-use json::Value as Json;
+use serde_json::Value as Json;
 use std::alloc::{AllocError, Global};
 use std::fmt::Display;
 
@@ -68,17 +67,17 @@ pub(crate) fn unknown(known: Known, kind: &str, name: &str) -> Sound {
     Err(here(known, format_args!("unknown {kind} {shown:?}")))
 }
 
-pub(crate) fn text(known: Known, json: &Json<'_>) -> Sound {
-    need(known, json.as_str().is_some(), "not a text")
+pub(crate) fn text(known: Known, json: &Json) -> Sound {
+    need(known, json.is_string(), "not a text")
 }
 
-pub(crate) fn flag(known: Known, json: &Json<'_>) -> Sound {
-    need(known, json.as_bool().is_some(), "not true or false")
+pub(crate) fn flag(known: Known, json: &Json) -> Sound {
+    need(known, json.is_boolean(), "not true or false")
 }
 
 /// A whole number within these limits.
-pub(crate) fn whole(known: Known, json: &Json<'_>, least: u64, most: u64) -> Sound {
-    let Some(number) = whole_of(json) else {
+pub(crate) fn whole(known: Known, json: &Json, least: u64, most: u64) -> Sound {
+    let Some(number) = json.as_u64() else {
         return Err(here(known, "not a whole number"));
     };
     let is_within = least <= number && number <= most;
@@ -90,13 +89,13 @@ pub(crate) fn whole(known: Known, json: &Json<'_>, least: u64, most: u64) -> Sou
 }
 
 /// The items of a list, of which there may be so many.
-pub(crate) fn listed<'v, 'a>(
+pub(crate) fn listed<'v>(
     known: Known,
-    json: &'v Json<'a>,
+    json: &'v Json,
     least: usize,
     most: usize,
-) -> Result<&'v Vec<Json<'a>>, Wrong> {
-    let Json::Array(items) = json else {
+) -> Result<&'v Vec<Json>, Wrong> {
+    let Some(items) = json.as_array() else {
         return Err(here(known, "not a list"));
     };
     let count = items.len();
@@ -106,7 +105,7 @@ pub(crate) fn listed<'v, 'a>(
     Ok(items)
 }
 
-pub(crate) fn texts(known: Known, json: &Json<'_>) -> Sound {
+pub(crate) fn texts(known: Known, json: &Json) -> Sound {
     for (place, item) in listed(known, json, 0, usize::MAX)?.iter().enumerate() {
         under(known, format_args!("[{place}]"), text(known, item))?;
     }
@@ -114,34 +113,26 @@ pub(crate) fn texts(known: Known, json: &Json<'_>) -> Sound {
 }
 
 /// A list of so many items.
-pub(crate) fn items(known: Known, json: &Json<'_>, count: usize, form: &str) -> Sound {
-    let has_them = match json {
-        Json::Array(items) => items.len() == count,
-        _ => false,
-    };
-    need(known, has_them, format_args!("not {form}"))
+pub(crate) fn items(known: Known, json: &Json, count: usize, form: &str) -> Sound {
+    let found = json.as_array().map(|items: &Vec<Json>| items.len());
+    need(known, found == Some(count), format_args!("not {form}"))
 }
 
-/// An object with no other members, and with none twice.
-pub(crate) fn members(known: Known, json: &Json<'_>, names: &[&str]) -> Sound {
-    let Json::Object(members) = json else {
+/// An object with no other members.
+pub(crate) fn members(known: Known, json: &Json, names: &[&str]) -> Sound {
+    let Some(members) = json.as_object() else {
         return Err(here(known, "not an object"));
     };
-    for (place, member) in members.iter().enumerate() {
-        let name = member.0;
-        if !names.iter().any(|other: &&str| *other == name) {
-            return unknown(known, "member", name);
+    for name in members.keys() {
+        if !names.iter().any(|other: &&str| *other == name.as_str()) {
+            return unknown(known, "member", name.as_str());
         }
-        let is_new = !members[..place]
-            .iter()
-            .any(|other: &(&str, Json<'_>)| other.0 == name);
-        need(known, is_new, format_args!("two members {name:?}"))?;
     }
     Ok(())
 }
 
 /// An object with one of two members.
-pub(crate) fn either(known: Known, json: &Json<'_>, first: &str, second: &str) -> Sound {
+pub(crate) fn either(known: Known, json: &Json, first: &str, second: &str) -> Sound {
     members(known, json, &[first, second])?;
     let has_one = json.get(first).is_some() != json.get(second).is_some();
     need(
@@ -152,19 +143,19 @@ pub(crate) fn either(known: Known, json: &Json<'_>, first: &str, second: &str) -
 }
 
 /// The item at a place, of a list that has it.
-pub(crate) fn item<'v, 'a>(json: &'v Json<'a>, place: usize) -> &'v Json<'a> {
-    json.at(place).unwrap_or(json)
+pub(crate) fn item(json: &Json, place: usize) -> &Json {
+    json.get(place).unwrap_or(json)
 }
 
 /// The member of a name, of an object that has it.
-pub(crate) fn member<'v, 'a>(json: &'v Json<'a>, name: &str) -> &'v Json<'a> {
+pub(crate) fn member<'v>(json: &'v Json, name: &str) -> &'v Json {
     json.get(name).unwrap_or(json)
 }
 
 /// What a list begins with.
-pub(crate) fn tag<'a>(known: Known, json: &Json<'a>) -> Result<&'a str, Wrong> {
-    if let Some(Json::String(tag)) = json.at(0) {
-        return Ok(tag);
+pub(crate) fn tag<'v>(known: Known, json: &'v Json) -> Result<&'v str, Wrong> {
+    match json.get(0usize).and_then(Json::as_str) {
+        Some(tag) => Ok(tag),
+        None => Err(here(known, "not a list that begins with its kind")),
     }
-    Err(here(known, "not a list that begins with its kind"))
 }

@@ -1,7 +1,7 @@
 use Rattle.std.proofs.Common.{◌≡◌, map, take, Some}
-use Rattle.json.specs.Value.{value_view}
+use Rattle.serde_json.specs.View.{view}
 use Rattle.workload.specs.Shape.{all_by}
 use Rattle.workload.proofs.shape.each.Given as goal
 
 abbrev pub invariant-loop-item : goal.invariant-loop-item
-invariant-loop-item g l = all_by g.T.Shaped.stands_for (map value_view (take l.item-index l.items.items)) ≡ Some l.all.items
+invariant-loop-item g l = all_by g.T.Shaped.stands_for (map view (take l.item-index l.items.items)) ≡ Some l.all.items

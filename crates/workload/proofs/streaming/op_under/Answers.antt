@@ -6,4 +6,4 @@ pub returns-in-Ok : goal.returns-in-Ok
 returns-in-Ok c = rw (c.in-Ok.ensures, c.from_changes.ensures) (batch_reads c.args.name.now c.args.depth c.args.reader.now c.list_in.new.reader c.in_ok-changes.changes.items (sym c.eq.ensures ∙ c.if-eq.true) c.in_ok-changes.ensures)
 
 pub returns-then-eq-2 : goal.returns-then-eq-2
-returns-then-eq-2 c = reads_read c.args.name.now c.args.depth c.args.reader.now c.read.new.reader c.read.result (sym c.eq.ensures ∙ c.if-eq.false) (sym c.eq-else-eq.ensures ∙ c.if-eq-2.true) c.read.ensures
+returns-then-eq-2 c = reads_read c.args.name.now c.args.depth c.args.reader.now c.read.new.reader c.read.result (sym c.eq-else-eq.ensures ∙ c.if-eq-2.true) c.read.ensures

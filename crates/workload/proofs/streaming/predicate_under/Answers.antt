@@ -6,4 +6,4 @@ pub returns-in-Ok : goal.returns-in-Ok
 returns-in-Ok c = rw c.in-Ok.ensures (names_read c.args.name.now c.args.depth c.args.reader.now c.list_in.new.reader c.in_ok-names.names.items (sym c.eq.ensures ∙ c.if-eq.true) c.in_ok-names.ensures)
 
 pub returns-then-eq-2 : goal.returns-then-eq-2
-returns-then-eq-2 c = range_reads c.args.name.now c.args.depth c.args.reader.now c.range_in.new.reader c.range_in.result (sym c.eq.ensures ∙ c.if-eq.false) (sym c.eq-else-eq.ensures ∙ c.if-eq-2.true) c.range_in.ensures
+returns-then-eq-2 c = range_reads c.args.name.now c.args.depth c.args.reader.now c.range.new.reader c.range.result (sym c.eq-else-eq.ensures ∙ c.if-eq-2.true) c.range.ensures

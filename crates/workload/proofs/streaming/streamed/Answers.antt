@@ -1,7 +1,7 @@
 use Rattle.std.proofs.Common.{◌≡◌, subst, sym, arith}
 use Rattle.json.specs.Lex.{tokens}
 use Rattle.workload.specs.Streams.{Begins}
-use Rattle.workload.proofs.Streams.{begun_reads}
+use Rattle.workload.proofs.Members.{begun_reads}
 use Rattle.workload.proofs.streaming.streamed.Goals as goal
 
 pub returns : goal.returns
