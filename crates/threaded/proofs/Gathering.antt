@@ -1,10 +1,11 @@
--- The entries of outcomes are gathered, by the places of submissions.
-use Rattle.std.proofs.Common.{append-nil, ◌≡◌, ◌∙◌, ℕ, zero, suc, ◌+◌, ◌-◌, ◌<◌, ◌≤◌, true, false, List, [], ◌∷◌, ◌++◌, map, length, take, Option, Some, None, refl, sym, ap, arith, slice_get}
-use Rattle.std.specs.Prelude.{is_some, filter_map, flat_map, option_and_then, option_to_list, slice_index_or}
+-- Operations are found in a journal by their numbers, and the entries of sessions follow one another.
+use Rattle.std.proofs.Common.{append-nil, ◌≡◌, ◌∙◌, ℕ, zero, suc, ◌+◌, ◌-◌, ◌<◌, ◌≤◌, List, [], ◌∷◌, ◌++◌, length, take, Option, Some, None, refl, sym, ap, subst, arith, slice_get}
+use Rattle.std.specs.Prelude.{filter_map, flat_map, option_map, option_to_list, slice_index_or}
 use Rattle.std.specs.List.{range_with_len, cons_option}
-use Rattle.std.proofs.lemmas.List.{append_assoc, take_more}
+use Rattle.std.specs.Option.{unwrap_or}
+use Rattle.std.proofs.lemmas.List.{take_more, length-append}
 use Rattle.std.proofs.lemmas.List.Elements.{filter_map-append}
-use Rattle.std.proofs.lemmas.Option.{slice_get_within, slice_get-get_or}
+use Rattle.std.proofs.lemmas.Option.{slice_get_within}
 use Rattle.messages.specs.declared.op.Op.{Op}
 use Rattle.messages.specs.declared.outcome.Outcome.{Outcome}
 use Rattle.messages.specs.declared.event.Event.{Event}
@@ -14,15 +15,10 @@ use Rattle.world.specs.declared.completed.Completed.{Completed}
 use Rattle.world.specs.Threads.{op_in, op_numbered}
 use Rattle.world.proofs.Replacing.{item_at}
 use Rattle.threaded.specs.OneRun.{seat_of}
-use Rattle.threaded.specs.Submitted.{op_at, AreSubmittedAt}
-use Rattle.threaded.specs.Entries.{entries_at}
-use Rattle.threaded.proofs.Lists.{range_more, flat_more}
+use Rattle.threaded.specs.Submitted.{count_of}
+use Rattle.threaded.specs.Entries.{entry_by, entries_at, entries_after, entries_of}
 
 -- ## Lists
-
-map_append : {X Y : Type 0} (f : X → Y) (xs ys : List X) → map f (xs ++ ys) ≡ map f xs ++ map f ys
-map_append f [] ys = refl
-map_append f (x ∷ xs) ys = ap (λ l. f x ∷ l) (map_append f xs ys)
 
 -- what a function gives of a list with one more element
 given_more : {X Y : Type 0} (f : X → Option Y) (xs : List X) (k : ℕ) (x : X) → k < length xs → x ≡ slice_index_or xs k x
@@ -35,127 +31,117 @@ given_more {X} {Y} f xs k x lt at =
     single None = refl
     single (Some y) = refl
 
--- ## Places
-
--- the places among the first so many events
-abbrev pub AreAmongFirst : List Event → ℕ → List ℕ → Type 0
-AreAmongFirst journal k places = map (op_at journal) places ≡ map Some (filter_map op_in (take k journal))
-
-pub one_more_submission : (journal : List Event) (k : ℕ) (x : Event) (places : List ℕ) → k < length journal → x ≡ slice_index_or journal k x → is_some (op_in x) ≡ true
-    → AreAmongFirst journal k places → AreAmongFirst journal (k + 1) (places ++ k ∷ [])
-one_more_submission journal k x places lt at is so_far = by (op_in x) refl is
+-- what a function gives of an element stands after what it gives of those before
+given_at : {X Y : Type 0} (f : X → Option Y) (xs : List X) (k : ℕ) (x : X) (y : Y) → slice_get xs k ≡ Some x → f x ≡ Some y
+    → slice_get (filter_map f xs) (length (filter_map f (take k xs))) ≡ Some y
+given_at f [] k x y at is = absurd (cc)
+given_at f (z ∷ xs) zero x y at is =
+    let same : z ≡ x = cc in
+    ap (λ o. slice_get (cons_option o (filter_map f xs)) 0) (ap f same ∙ is)
+given_at {X} {Y} f (z ∷ xs) (suc k) x y at is = by (given_at f xs k x y at is) (f z)
   where
-    by : (o : Option Op) → op_in x ≡ o → is_some o ≡ true → AreAmongFirst journal (k + 1) (places ++ k ∷ [])
-    by None has some = absurd (cc)
-    by (Some o) has some =
-        let here : op_at journal k ≡ Some o = ap (option_and_then op_in) (item_at journal k x lt at) ∙ has in
-        map_append (op_at journal) places (k ∷ [])
-        ∙ ap (λ l. l ++ op_at journal k ∷ []) so_far
-        ∙ ap (λ z. map Some (filter_map op_in (take k journal)) ++ z ∷ []) here
-        ∙ sym (map_append Some (filter_map op_in (take k journal)) (o ∷ []))
-        ∙ ap (map Some) (sym (given_more op_in journal k x lt at ∙ ap (λ z. filter_map op_in (take k journal) ++ option_to_list z) has))
+    by : slice_get (filter_map f xs) (length (filter_map f (take k xs))) ≡ Some y → (o : Option Y)
+        → slice_get (cons_option o (filter_map f xs)) (length (cons_option o (filter_map f (take k xs)))) ≡ Some y
+    by later None = later
+    by later (Some w) = later
 
-pub no_more_submission : (journal : List Event) (k : ℕ) (x : Event) (places : List ℕ) → k < length journal → x ≡ slice_index_or journal k x → is_some (op_in x) ≡ false
-    → AreAmongFirst journal k places → AreAmongFirst journal (k + 1) places
-no_more_submission journal k x places lt at is so_far = by (op_in x) refl is
+all_taken : {X : Type 0} (xs : List X) (n : ℕ) → length xs ≤ n → take n xs ≡ xs
+all_taken [] zero le = refl
+all_taken [] (suc n) le = refl
+all_taken (x ∷ xs) zero le = absurd (omega arith)
+all_taken (x ∷ xs) (suc n) le = ap (λ l. x ∷ l) (all_taken xs n (omega arith))
+
+none_past : {X : Type 0} (xs : List X) (n : ℕ) → length xs ≤ n → slice_get xs n ≡ None
+none_past {X} xs n le = by (slice_get xs n) refl
   where
-    by : (o : Option Op) → op_in x ≡ o → is_some o ≡ false → AreAmongFirst journal (k + 1) places
-    by (Some o) has none = absurd (cc)
-    by None has none =
-        so_far
-        ∙ ap (map Some)
-        (sym (given_more op_in journal k x lt at ∙ ap (λ z. filter_map op_in (take k journal) ++ option_to_list z) has ∙ append-nil (filter_map op_in (take k journal))))
+    by : (o : Option X) → slice_get xs n ≡ o → o ≡ None
+    by None at = refl
+    by (Some x) at = let lt = slice_get_within xs n x at in absurd (omega arith)
 
 -- ## Numbers
 
--- what a function gives of an element is what stands at its place
-record IsThere {X Y : Type 0} (f : X → Option Y) (ys : List Y) (k : ℕ) (x : X) : Type 0 where
-  pub value : Y
-  pub at : slice_get ys k ≡ Some value
-  pub is : f x ≡ Some value
+module _ (journal : List Event) (place : ℕ) (x : Event) (lt : place < length journal) (at : x ≡ slice_index_or journal place x) where
+  -- one operation more was passed
+  pub one_more_passed : (o : Op) (passed : ℕ) → Some o ≡ op_in x → passed ≡ count_of (take place journal) → passed + 1 ≡ count_of (take (place + 1) journal)
+  one_more_passed o passed is so_far =
+      let given = filter_map op_in (take place journal) in
+      let all : count_of (take (place + 1) journal) ≡ length given + 1 =
+      ap length (given_more op_in journal place x lt at ∙ ap (λ p. given ++ option_to_list p) (sym is)) ∙ length-append given (o ∷ []) in
+      ap (λ n. n + 1) so_far ∙ sym all
 
-there : {X Y : Type 0} (f : X → Option Y) (xs : List X) (ys : List Y) (k : ℕ) (x : X) → map f xs ≡ map Some ys → slice_get xs k ≡ Some x → IsThere f ys k x
-there f [] ys k x all at = absurd (cc)
-there f (z ∷ xs) [] k x all at = absurd (cc)
-there f (z ∷ xs) (y ∷ ys) zero x all at =
-    let same : z ≡ x = cc in
-    let first : f z ≡ Some y = cc in
-    record { value = y; at = refl; is = ap f (sym same) ∙ first }
-there f (z ∷ xs) (y ∷ ys) (suc k) x all at =
-    let rest : map f xs ≡ map Some ys = cc in
-    let t = there f xs ys k x rest at in
-    record { value = t.value; at = t.at; is = t.is }
+  -- none was
+  pub none_passed : (passed : ℕ) → None ≡ op_in x → passed ≡ count_of (take place journal) → passed ≡ count_of (take (place + 1) journal)
+  none_passed passed is so_far =
+      let given = filter_map op_in (take place journal) in
+      so_far ∙ sym (ap length (given_more op_in journal place x lt at ∙ ap (λ p. given ++ option_to_list p) (sym is) ∙ append-nil given))
 
--- and past the end nothing does
-none_there : {X Y : Type 0} (f : X → Option Y) (xs : List X) (ys : List Y) (k : ℕ) → map f xs ≡ map Some ys → length xs ≤ k → slice_get ys k ≡ None
-none_there f xs [] k all le = refl
-none_there f [] (y ∷ ys) k all le = absurd (cc)
-none_there f (z ∷ xs) (y ∷ ys) zero all le = absurd (omega arith)
-none_there f (z ∷ xs) (y ∷ ys) (suc k) all le =
-    let rest : map f xs ≡ map Some ys = cc in none_there f xs ys k rest (omega arith)
+  -- the operation after those that were passed has the next number
+  pub next_found : (o : Op) (passed number : ℕ) → Some o ≡ op_in x → passed ≡ count_of (take place journal) → passed + 1 ≡ number → op_numbered journal number ≡ Some o
+  next_found o passed number is so_far next =
+      let one : passed + 1 ≡ suc passed = omega arith in
+      ap (op_numbered journal) (sym next ∙ one) ∙ ap (slice_get (filter_map op_in journal)) so_far ∙ given_at op_in journal place x o (item_at journal place x lt at) (sym is)
 
-module _ (journal : List Event) (places : List ℕ) (are : AreSubmittedAt journal places) where
-  there_at : (k place : ℕ) → slice_get places k ≡ Some place → IsThere (op_at journal) (filter_map op_in journal) k place
-  there_at k place at = there (op_at journal) places (filter_map op_in journal) k place are at
-
-  within : (k place : ℕ) → slice_get places k ≡ Some place → place < length journal
-  within k place at = by (slice_get journal place) refl
-    where
-      by : (o : Option Event) → slice_get journal place ≡ o → place < length journal
-      by None none =
-          let t = there_at k place at in
-          let no : Some t.value ≡ None = sym t.is ∙ ap (option_and_then op_in) none in
-          absurd (cc)
-      by (Some x) some = slice_get_within journal place x some
-
-  at_number : (number : ℕ) → (number ≡ 0 → ⊥) → number ≤ length places → slice_get places (number - 1) ≡ Some (slice_index_or places (number - 1) 0)
-  at_number zero none le = absurd (none refl)
-  at_number (suc k) none le = slice_get-get_or places (suc k - 1) 0 (omega arith)
-
-  -- the place of a number is in the journal
-  pub number_within : (number : ℕ) → (number ≡ 0 → ⊥) → number ≤ length places → slice_index_or places (number - 1) 0 < length journal
-  number_within number none le = within (number - 1) (slice_index_or places (number - 1) 0) (at_number number none le)
-
-  -- there stands its operation
-  pub numbered : (number : ℕ) (x : Event) → (number ≡ 0 → ⊥) → number ≤ length places → x ≡ slice_index_or journal (slice_index_or places (number - 1) 0) x
-      → op_in x ≡ op_numbered journal number
-  numbered zero x none le at = absurd (none refl)
-  numbered (suc k) x none le at =
-      let place = slice_index_or places (suc k - 1) 0 in
-      let t = there_at (suc k - 1) place (at_number (suc k) none le) in
-      let here : op_at journal place ≡ op_in x = ap (option_and_then op_in) (item_at journal place x (number_within (suc k) none le) at) in
-      let same : suc k - 1 ≡ k = omega arith in
-      sym here ∙ t.is ∙ sym t.at ∙ ap (slice_get (filter_map op_in journal)) same
-
-  -- a number above how many there are is no operation's
-  pub unnumbered : (number : ℕ) → length places < number → None ≡ op_numbered journal number
-  unnumbered zero lt = refl
-  unnumbered (suc k) lt = sym (none_there (op_at journal) places (filter_map op_in journal) k are (omega arith))
+-- past the end no number is an operation's
+pub not_found : (journal : List Event) (place passed number : ℕ) → length journal ≤ place → passed ≡ count_of (take place journal) → passed < number
+    → op_numbered journal number ≡ None
+not_found journal place passed zero le all lt = absurd (omega (arith, lt))
+not_found journal place passed (suc n) le all lt =
+    let whole : passed ≡ length (filter_map op_in journal) = all ∙ ap count_of (all_taken journal place le) in
+    none_past (filter_map op_in journal) n (omega (arith, whole, lt))
 
 -- ## Entries
 
--- a list with the entry of one more outcome, if it has one
-pub one_more_entry : (f : (ℕ × Outcome) → Option Completed) (outcomes : List (ℕ × Outcome)) (k : ℕ) (o : ℕ × Outcome) (old list now : List Completed) (entry : Option Completed)
-    → k < length outcomes → o ≡ slice_index_or outcomes k o → entry ≡ f o → list ≡ old ++ filter_map f (take k outcomes) → now ≡ list ++ option_to_list entry
-    → now ≡ old ++ filter_map f (take (k + 1) outcomes)
-one_more_entry f outcomes k o old list now entry lt at is so_far more =
-    more ∙ ap (λ l. l ++ option_to_list entry) so_far ∙ append_assoc old (filter_map f (take k outcomes)) (option_to_list entry)
-    ∙ ap (λ l. old ++ l) (ap (λ z. filter_map f (take k outcomes) ++ option_to_list z) is ∙ sym (given_more f outcomes k o lt at))
+module _ (node home : ℕ) (journal : List Event) (o : ℕ × Outcome) (os : List (ℕ × Outcome)) where
+  -- the entry of the first outcome
+  pub entry_first : (op : Op) → Some op ≡ op_numbered journal o.0
+      → filter_map (entry_by node home journal) (o ∷ os)
+      ≡ (let c : Completed = record { node = node; number = o.0; home = home; op = op; outcome = o.1 } in c) ∷ filter_map (entry_by node home journal) os
+  entry_first op is =
+      ap (λ p. cons_option (option_map (λ (x : Op). let c : Completed = record { node = node; number = o.0; home = home; op = x; outcome = o.1 } in c) p) (filter_map (entry_by node home journal) os))
+      (sym is)
+
+  -- it has none
+  pub no_entry : None ≡ op_numbered journal o.0 → filter_map (entry_by node home journal) (o ∷ os) ≡ filter_map (entry_by node home journal) os
+  no_entry is =
+      ap (λ p. cons_option (option_map (λ (x : Op). let c : Completed = record { node = node; number = o.0; home = home; op = x; outcome = o.1 } in c) p) (filter_map (entry_by node home journal) os))
+      (sym is)
 
 -- ## Sessions
 
--- the entries of the first so many sessions
-abbrev pub of_first : TopologyValue → List SeatValue → ℕ → List Completed
-of_first top seats n = flat_map (λ i. entries_at top (session_node top i) (seat_of seats (session_node top i))) (range_with_len 0 n)
+module _ (top : TopologyValue) (seats : List SeatValue) where
+  abbrev entries_by : ℕ → List Completed
+  entries_by i = entries_at top (session_node top i) (seat_of seats (session_node top i))
 
-pub one_more_session : (top : TopologyValue) (seats : List SeatValue) (n node : ℕ) (list now : List Completed) → node ≡ session_node top n → list ≡ of_first top seats n
-    → now ≡ list ++ entries_at top node (seat_of seats node) → now ≡ of_first top seats (n + 1)
-one_more_session top seats n node list now is so_far more =
-    let one : suc n ≡ n + 1 = omega arith in
-    let none : n ≡ 0 + n = omega arith in
-    more ∙ ap (λ l. l ++ entries_at top node (seat_of seats node)) so_far
-    ∙ ap (λ k. of_first top seats n ++ entries_at top k (seat_of seats k)) is
-    ∙ sym (flat_more (λ i. entries_at top (session_node top i) (seat_of seats (session_node top i))) (range_with_len 0 n) n)
-    ∙ ap (λ k. flat_map (λ i. entries_at top (session_node top i) (seat_of seats (session_node top i))) (range_with_len 0 n ++ k ∷ [])) none
-    ∙ ap (flat_map (λ i. entries_at top (session_node top i) (seat_of seats (session_node top i)))) (sym (range_more 0 n))
-    ∙ ap (of_first top seats) one
+  -- the entries of a session, and of those after it
+  pub session_after : (n node : ℕ) → n < length top.homes → node ≡ session_node top n
+      → entries_after top seats n ≡ entries_at top node (seat_of seats node) ++ entries_after top seats (n + 1)
+  session_after n node lt is =
+      let more : length top.homes - n ≡ suc (length top.homes - (n + 1)) = omega (arith, lt) in
+      ap (λ k. flat_map entries_by (range_with_len n k)) more
+      ∙ ap (λ k. entries_at top k (seat_of seats k) ++ entries_after top seats (n + 1)) (sym is)
+
+  pub none_after : (n : ℕ) → length top.homes ≤ n → entries_after top seats n ≡ []
+  none_after n le =
+      let none : length top.homes - n ≡ 0 = omega (arith, le) in
+      ap (λ k. flat_map entries_by (range_with_len n k)) none
+
+  pub all_after : entries_after top seats 0 ≡ entries_of top seats
+  all_after =
+      let all : length top.homes - 0 ≡ length top.homes = omega arith in
+      ap (λ k. flat_map entries_by (range_with_len 0 k)) all
+
+  -- ## As code asks for it
+
+  module _ (n : ℕ) (left : Option (List Completed)) where
+    pub lent_first : (more : Option (List Completed)) (c : Completed) → unwrap_or left [] ≡ c ∷ unwrap_or more []
+        → unwrap_or left [] ++ entries_after top seats n ≡ c ∷ (unwrap_or more [] ++ entries_after top seats n)
+    lent_first more c is = ap (λ l. l ++ entries_after top seats n) is
+
+    pub begun_next : (next : Option (List Completed)) (node : ℕ) → unwrap_or left [] ≡ [] → n < length top.homes → node ≡ session_node top n
+        → unwrap_or next [] ≡ entries_at top node (seat_of seats node)
+        → unwrap_or next [] ++ entries_after top seats (n + 1) ≡ unwrap_or left [] ++ entries_after top seats n
+    begun_next next node none lt is begun =
+        ap (λ l. l ++ entries_after top seats (n + 1)) begun ∙ sym (session_after n node lt is) ∙ ap (λ l. l ++ entries_after top seats n) (sym none)
+
+    pub all_lent : unwrap_or left [] ≡ [] → length top.homes ≤ n → unwrap_or left [] ++ entries_after top seats n ≡ []
+    all_lent none le = ap (λ l. l ++ entries_after top seats n) none ∙ none_after n le

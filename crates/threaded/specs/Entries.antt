@@ -1,5 +1,5 @@
 -- What the seats of sessions tell of the operations that ended.
-use Rattle.std.specs.Prelude.{ℕ, List, [], filter_map, flat_map, length, Option, Some, None, option_map}
+use Rattle.std.specs.Prelude.{ℕ, ◌-◌, List, [], filter_map, flat_map, length, Option, Some, None, option_map}
 use Rattle.std.specs.List.{range_with_len}
 use Rattle.std.specs.Option.{unwrap_or}
 use Rattle.messages.specs.declared.op.Op.{Op}
@@ -9,7 +9,12 @@ use Rattle.messages.specs.Topology.{TopologyValue, session_node, home_of}
 use Rattle.actors.specs.Seats.{SeatValue}
 use Rattle.world.specs.declared.completed.Completed.{Completed}
 use Rattle.world.specs.Threads.{op_numbered}
+use Rattle.threaded.specs.declared.entries.Ended.{Ended}
 use Rattle.threaded.specs.OneRun.{seat_of}
+
+-- the entry that is lent
+abbrev pub completed_of : Ended → Completed
+completed_of e = record { node = e.node; number = e.number; home = e.home; op = e.op.now; outcome = e.outcome.now }
 
 -- the entry of an outcome, which stands with the number of its operation: that is the one of this number in the session's journal
 abbrev pub entry_by : ℕ → ℕ → List Event → (ℕ × Outcome) → Option Completed
@@ -20,6 +25,11 @@ entry_by node home journal o =
 abbrev pub entries_at : TopologyValue → ℕ → Option SeatValue → List Completed
 entries_at top node None = []
 entries_at top node (Some s) = filter_map (entry_by node (unwrap_or (home_of top node) 0) s.journal) s.outcomes
+
+-- the entries of the sessions after the first so many, by their nodes
+abbrev pub entries_after : TopologyValue → List SeatValue → ℕ → List Completed
+entries_after top seats n =
+    flat_map (λ i. entries_at top (session_node top i) (seat_of seats (session_node top i))) (range_with_len n (length top.homes - n))
 
 -- the entries of all sessions, by their nodes
 abbrev pub entries_of : TopologyValue → List SeatValue → List Completed

@@ -1,13 +1,16 @@
--- Where the submissions of a journal stand.
-use Rattle.std.specs.Prelude.{◌≡◌, ℕ, List, map, filter_map, slice_get, Option, Some, option_and_then}
+-- Where an operation stands in a journal.
+use Rattle.std.specs.Prelude.{◌≡◌, ℕ, ◌+◌, ◌<◌, List, filter_map, take, length, Some}
+use Rattle.std.specs.Borrow.{Bor}
 use Rattle.messages.specs.declared.op.Op.{Op}
 use Rattle.messages.specs.declared.event.Event.{Event}
-use Rattle.world.specs.Threads.{op_in}
+use Rattle.world.specs.Threads.{op_in, op_numbered}
 
--- the operation that the event at this place of a journal submits, if it submits one
-abbrev pub op_at : List Event → ℕ → Option Op
-op_at journal place = option_and_then op_in (slice_get journal place)
+-- how many operations these events submit
+abbrev pub count_of : List Event → ℕ
+count_of events = length (filter_map op_in events)
 
--- at these places of a journal its operations are submitted, all of them and in order
-abbrev pub AreSubmittedAt : List Event → List ℕ → Type 0
-AreSubmittedAt journal places = map (op_at journal) places ≡ map Some (filter_map op_in journal)
+-- at this place of a journal its operation with this number is submitted
+pub record IsFound (journal : List Event) (number : ℕ) (found : ℕ × Bor Op) : Type 0 where
+  pub op : op_numbered journal number ≡ Some found.1.now
+  pub within : found.0 < length journal
+  pub passed : count_of (take (found.0 + 1) journal) ≡ number

@@ -13,7 +13,7 @@ ghost use Rattle.threaded.specs.Quiet.{AreAllReceived, AreOfQuietRun};
 
 use crate::actor::Actor;
 use crate::concluding::place_of;
-use crate::entries::entries;
+use crate::entries::AllEnded;
 use crate::history::history;
 use crate::matching::are_served;
 use actors::Seat;
@@ -22,7 +22,6 @@ use messages::Topology;
 use std::alloc::Global;
 use std::marker::Model;
 use table::History;
-use world::Completed;
 
 /// Seats whose journals are a run. There is one, and what the threads answered is what each run with these journals has: so all
 /// that is promised of runs is promised of what they answered. It must be closed.
@@ -89,12 +88,11 @@ impl Concluded {
     }
 
     /// The operations that ended, by the nodes of their sessions, each session's in order: as each run with these journals has
-    /// them, of which there is one. Goes through each session's journal once; the copies share the bytes of keys, names and
-    /// values. Refused with `Memory` alone.
-    pub fn transcript(&self, alloc: Global) -> Result<Vec<Completed>, Fault>
+    /// them, of which there is one. They are lent from the seats: no memory is taken. Going through all of them goes through each
+    /// session's journal once.
+    pub fn transcript(&self) -> AllEnded<'_>
         ensures run { AreConcluded self.now.top self.now.seats }
-        ensures listed { IfOk result (λ t. InEachRun self.now.top self.now.seats (λ w. t.items ≡ by_session self.now.top w.transcript)) }
-        ensures memory { IfErr result (λ e. e ≡ Fault.Memory) }
+        ensures listed { InEachRun self.now.top self.now.seats (λ w. result ≡ by_session self.now.top w.transcript) }
         // whatever the threads did, each read is answered with the meaning of its request on one table: its home's history at
         // its effective time
         ensures one_table { InEachRun self.now.top self.now.seats (ReadsShowOneTable self.now.top) }
@@ -118,7 +116,7 @@ impl Concluded {
         ensures times { InEachRun self.now.top self.now.seats TimesNeverFall }
         ensures homes { InEachRun self.now.top self.now.seats SessionsStayAtHome }
     {
-        entries(alloc, self.seats.as_slice(), &self.topology)
+        AllEnded::over(&self.topology, self.seats.as_slice())
     }
 
     /// The history of a data centre, as each run with these journals has it: by asking, for each submitted batch, the seat of its

@@ -1,6 +1,7 @@
-//! The entries of a transcript, as the seats of sessions tell them.
-ghost use Rattle.std.specs.Prelude.{◌≡◌, ◌<◌, ◌++◌, ℕ, true, List, map, filter_map, Some, option_copied, option_to_list, IfOk, OnOk, IfErr};
-ghost use Rattle.logical_time.specs.declared.fault.Fault.TheVariants.{Memory};
+//! The entries of a transcript, lent from the seats of sessions.
+ghost use Rattle.std.specs.Prelude.{◌≡◌, ◌<◌, ◌∷◌, [], ℕ, true, List, map, take, filter_map, Some, None, option_copied, IfSome, IfNone};
+ghost use Rattle.std.specs.Iterator.{YieldsFirstBy, item_count};
+ghost use Rattle.std.specs.Option.{unwrap_or};
 ghost use Rattle.messages.specs.Topology.{TopologyValue, is_topology, node_count};
 ghost use Rattle.actors.specs.Seats.{SeatValue};
 ghost use Rattle.world.specs.declared.run_event.RunEvent.{RunEvent};
@@ -10,16 +11,15 @@ ghost use Rattle.world.specs.Threads as threads;
 ghost use Rattle.threaded.specs.Machines.{as_finished};
 ghost use Rattle.threaded.specs.OneRun.{seat_of, journal_of};
 ghost use Rattle.threaded.specs.Concluded.{by_session};
-ghost use Rattle.threaded.specs.Submitted.{AreSubmittedAt};
-ghost use Rattle.threaded.specs.Entries.{entry_by, entries_at, entries_of};
+ghost use Rattle.threaded.specs.Entries.{completed_of, entry_by, entries_at, entries_of};
+ghost use Rattle.threaded.specs.Submitted.{count_of, IsFound};
 
 use crate::actor::Actor;
 use crate::concluding::place_of;
 use actors::Seat;
-use logical_time::{Fault, Node};
+use logical_time::Node;
 use messages::{Event, Op, Outcome, Topology};
-use std::alloc::Global;
-use world::Completed;
+use std::marker::Model;
 
 /// The operation that an event submits, if it submits one.
 pub(crate) fn submitted(event: &Event) -> Option<&Op>
@@ -31,125 +31,236 @@ pub(crate) fn submitted(event: &Event) -> Option<&Op>
     }
 }
 
-/// The places in a journal where operations are submitted. Refused with `Memory` alone.
-fn submissions(alloc: Global, journal: &[Event]) -> Result<Vec<usize>, Fault>
-    ensures ok { IfOk result (λ places. AreSubmittedAt journal.now places.items) }
-    ensures memory { IfErr result (λ e. e ≡ Memory) }
+/// The operation with a number, and its place, if there is one: by a walk from a place on, before which so many stand.
+fn find_from(journal: &[Event], first: usize, passed: u64, number: u64) -> Option<(usize, &Op)>
+    requires passed { passed ≡ count_of (take first journal.now) }
+    requires lower { passed < number }
+    ensures some { IfSome result (IsFound journal.now number) }
+    ensures none { IfNone result (threads.op_numbered journal.now number ≡ None) }
 {
-    let mut places = Vec::new(alloc);
-    for place in 0..journal.len() {
-        if submitted(&journal[place]).is_some() {
-            places.push(place)?;
+    let mut passed = passed;
+    for place in first..journal.len() {
+        if let Some(op) = submitted(&journal[place]) {
+            passed += 1;
+            if passed == number {
+                return Some((place, op));
+            }
         }
     }
-    Ok(places)
+    None
 }
 
-/// The operation with a number, by the places in the journal where operations are submitted.
-fn op_numbered<'a>(journal: &'a [Event], places: &[usize], number: u64) -> Option<&'a Op>
-    requires { AreSubmittedAt journal.now places.now }
-    ensures { option_copied result ≡ threads.op_numbered journal.now number }
-{
-    if number == 0 || number > places.len() as u64 {
-        return None;
+/// The journal of a session, in which its operations are looked up by their numbers.
+#[derive(Drop)]
+struct Search<'a> {
+    journal: &'a [Event],
+    /// How many events were passed.
+    events: usize,
+    /// How many operations they submit.
+    passed: u64,
+}
+
+impl<'a> Model for Search<'a> {
+    ghost use Rattle.std.specs.Prelude.{◌≡◌, List, take};
+    ghost use Rattle.messages.specs.declared.event.Event.{Event};
+    ghost use Rattle.threaded.specs.Submitted.{count_of};
+
+    ghost Value = { List Event };
+
+    ghost view = { λ s. s.journal.now };
+
+    ghost invariant = { λ s. s.passed ≡ count_of (take s.events s.journal.now) };
+}
+
+impl<'a> Search<'a> {
+    fn new(journal: &'a [Event]) -> Search<'a>
+        ensures { result ≡ journal.now }
+    {
+        Search {
+            journal,
+            events: 0,
+            passed: 0,
+        }
     }
-    let place = places[number as usize - 1];
-    submitted(&journal[place])
+
+    /// The operation with a number from 1, and its place, if there is one.
+    fn found(&self, number: u64) -> Option<(usize, &'a Op)>
+        requires { 0 < number }
+        ensures some { IfSome result (IsFound self.now number) }
+        ensures none { IfNone result (threads.op_numbered self.now number ≡ None) }
+    {
+        if self.passed < number {
+            find_from(self.journal, self.events, self.passed, number)
+        } else {
+            find_from(self.journal, 0, 0, number)
+        }
+    }
+
+    /// The operation with a number, if there is one. Goes on from the one that was found last, where that has a lower number:
+    /// all of a session, in order, cost one walk through its journal.
+    fn find(&mut self, number: u64) -> Option<&'a Op>
+        ensures op { option_copied result ≡ threads.op_numbered self.old number }
+        ensures same { self.new ≡ self.old }
+    {
+        if number == 0 {
+            return None;
+        }
+        let (place, op) = self.found(number)?;
+        self.events = place + 1;
+        self.passed = number;
+        Some(op)
+    }
 }
 
-/// The entry of an outcome, if its operation is in the journal. Refused with `Memory` alone.
-fn entry(
+/// An operation that ended, as its session's seat keeps it.
+#[derive(Clone, Copy)]
+pub struct Ended<'a> {
+    /// The session's node.
+    pub node: Node,
+    /// Its number among the session's operations, from 1.
+    pub number: u64,
+    /// The home of the session.
+    pub home: u16,
+    /// What was asked.
+    pub op: &'a Op,
+    /// What came of it.
+    pub outcome: &'a Outcome,
+}
+
+/// The operations of a session that ended and are still to come, in the order of their outcomes.
+#[derive(Drop)]
+struct OfSession<'a> {
     node: Node,
     home: u16,
-    journal: &[Event],
-    places: &[usize],
-    outcome: &(u64, Outcome),
-) -> Result<Option<Completed>, Fault>
-    requires { AreSubmittedAt journal.now places.now }
-    ensures ok { IfOk result (λ o. o ≡ entry_by node home journal.now outcome.now) }
-    ensures memory { IfErr result (λ e. e ≡ Memory) }
-{
-    match op_numbered(journal, places, outcome.0) {
-        None => Ok(None),
-        Some(op) => Ok(Some(Completed {
+    search: Search<'a>,
+    outcomes: &'a [(u64, Outcome)],
+}
+
+impl<'a> Model for OfSession<'a> {
+    ghost use Rattle.std.specs.Prelude.{List, filter_map};
+    ghost use Rattle.world.specs.declared.completed.Completed.{Completed};
+    ghost use Rattle.threaded.specs.Entries.{entry_by};
+
+    ghost Value = { List Completed };
+
+    ghost view = { λ s. filter_map (entry_by s.node s.home s.search) s.outcomes.now };
+}
+
+impl<'a> OfSession<'a> {
+    fn new(node: Node, home: u16, seat: &'a Seat<Actor>) -> OfSession<'a>
+        ensures { result ≡ filter_map (entry_by node home seat.now.journal) seat.now.outcomes }
+    {
+        OfSession {
             node,
-            number: outcome.0,
             home,
-            op: op.copied()?,
-            outcome: outcome.1.copied()?,
-        })),
-    }
-}
-
-/// Adds an entry at the end, if there is one. Refused with `Memory` alone.
-fn add(list: &mut Vec<Completed>, entry: Option<Completed>) -> Result<(), Fault>
-    ensures ok { OnOk result (list.new.items ≡ list.old.items ++ option_to_list entry) }
-    ensures memory { IfErr result (λ e. e ≡ Memory) }
-{
-    if let Some(entry) = entry {
-        list.push(entry)?;
-    }
-    Ok(())
-}
-
-/// Adds the entries of a session at the end, in the order of its outcomes. Refused with `Memory` alone. The journal is gone
-/// through once.
-fn add_outcomes(
-    alloc: Global,
-    list: &mut Vec<Completed>,
-    node: Node,
-    home: u16,
-    seat: &Seat<Actor>,
-) -> Result<(), Fault>
-    ensures ok { OnOk result (list.new.items ≡ list.old.items ++ filter_map (entry_by node home seat.now.journal) seat.now.outcomes) }
-    ensures memory { IfErr result (λ e. e ≡ Memory) }
-{
-    let journal = seat.journal();
-    let outcomes = seat.outcomes();
-    let places = submissions(alloc, journal)?;
-    for place in 0..outcomes.len() {
-        let told = entry(node, home, journal, places.as_slice(), &outcomes[place])?;
-        add(list, told)?;
-    }
-    Ok(())
-}
-
-/// Adds the entries of the session with this node at the end, if it has a seat. Refused with `Memory` alone.
-fn add_session(
-    alloc: Global,
-    list: &mut Vec<Completed>,
-    seats: &[Seat<Actor>],
-    topology: &Topology,
-    node: Node,
-) -> Result<(), Fault>
-    ensures ok { OnOk result (list.new.items ≡ list.old.items ++ entries_at topology.now node (seat_of seats.now node)) }
-    ensures memory { IfErr result (λ e. e ≡ Memory) }
-{
-    match place_of(seats, node) {
-        Some(place) => {
-            let home = topology.home_of(node).unwrap_or(0);
-            add_outcomes(alloc, list, node, home, &seats[place])
+            search: Search::new(seat.journal()),
+            outcomes: seat.outcomes(),
         }
-        None => Ok(()),
+    }
+
+    fn next(&mut self) -> Option<Ended<'a>>
+        ensures some { IfSome result (λ ended. self.old ≡ completed_of ended ∷ self.new) }
+        ensures none { IfNone result (self.old ≡ []) }
+        ensures still { IfNone result (self.new ≡ []) }
+    {
+        while let Some((first, others)) = self.outcomes.split_first() {
+            self.outcomes = others;
+            if let Some(op) = self.search.find(first.0) {
+                return Some(Ended {
+                    node: self.node,
+                    number: first.0,
+                    home: self.home,
+                    op,
+                    outcome: &first.1,
+                });
+            }
+        }
+        None
     }
 }
 
-/// The entries of all sessions, by their nodes, each session's in the order of its outcomes. Refused with `Memory` alone. Each
-/// session's journal is gone through once.
-pub(crate) fn entries(
-    alloc: Global,
-    seats: &[Seat<Actor>],
+/// The operations of the session with this node that ended, if it has a seat.
+fn of_session<'a>(
     topology: &Topology,
-) -> Result<Vec<Completed>, Fault>
-    ensures ok { IfOk result (λ list. list.items ≡ entries_of topology.now seats.now) }
-    ensures memory { IfErr result (λ e. e ≡ Memory) }
+    seats: &'a [Seat<Actor>],
+    node: Node,
+) -> Option<OfSession<'a>>
+    ensures { unwrap_or result [] ≡ entries_at topology.now node (seat_of seats.now node) }
 {
-    let mut list = Vec::new(alloc);
-    for session in 0..topology.homes().len() as u16 {
-        let node = topology.session_node(session);
-        add_session(alloc, &mut list, seats, topology, node)?;
+    let place = place_of(seats, node)?;
+    let home = topology.home_of(node).unwrap_or(0);
+    Some(OfSession::new(node, home, &seats[place]))
+}
+
+/// The operations that ended and are still to come: by the nodes of their sessions, each session's in the order of its
+/// outcomes. They are lent from the seats, and each session's journal is gone through once.
+#[derive(Drop)]
+pub struct AllEnded<'a> {
+    topology: &'a Topology,
+    seats: &'a [Seat<Actor>],
+    /// How many sessions were begun with.
+    sessions: u16,
+    /// What is left of the last of them.
+    left: Option<OfSession<'a>>,
+}
+
+impl<'a> Model for AllEnded<'a> {
+    ghost use Rattle.std.specs.Prelude.{◌++◌, [], List};
+    ghost use Rattle.std.specs.Option.{unwrap_or};
+    ghost use Rattle.world.specs.declared.completed.Completed.{Completed};
+    ghost use Rattle.threaded.specs.Entries.{entries_after};
+
+    ghost Value = { List Completed };
+
+    ghost view = { λ a. unwrap_or a.left [] ++ entries_after a.topology.now a.seats.now a.sessions };
+}
+
+/// The next of the session that was begun with.
+fn next_of<'a>(left: &mut Option<OfSession<'a>>) -> Option<Ended<'a>>
+    ensures some { IfSome result (λ ended. unwrap_or left.old [] ≡ completed_of ended ∷ unwrap_or left.new []) }
+    ensures none { IfNone result (unwrap_or left.old [] ≡ []) }
+    ensures still { IfNone result (unwrap_or left.new [] ≡ []) }
+{
+    let Some(session) = left else {
+        return None;
+    };
+    session.next()
+}
+
+impl<'a> AllEnded<'a> {
+    /// All that ended in the sessions of a topology, by their seats.
+    pub(crate) fn over(topology: &'a Topology, seats: &'a [Seat<Actor>]) -> AllEnded<'a>
+        ensures { result ≡ entries_of topology.now seats.now }
+    {
+        AllEnded {
+            topology,
+            seats,
+            sessions: 0,
+            left: None,
+        }
     }
-    Ok(list)
+}
+
+impl<'a> Iterator for AllEnded<'a> {
+    type Item = Ended<'a>;
+
+    ghost next_gives = { YieldsFirstBy completed_of (λ rest. rest) };
+
+    ghost remaining = { item_count (λ rest. rest) };
+
+    fn next(&mut self) -> Option<Ended<'a>> {
+        loop {
+            if let Some(ended) = next_of(&mut self.left) {
+                return Some(ended);
+            }
+            if usize::from(self.sessions) >= self.topology.homes().len() {
+                return None;
+            }
+            let node = self.topology.session_node(self.sessions);
+            self.left = of_session(self.topology, self.seats, node);
+            self.sessions += 1;
+        }
+    }
 }
 
 /// Where the journals of seats are a run's, and each seat has the outcomes that the run has of its actor, the entries of all

@@ -17,3 +17,4 @@ pub mod shown;
 pub use actor::Actor;
 pub use concluded::Concluded;
 pub use concluding::conclude;
+pub use entries::{AllEnded, Ended};

@@ -5,8 +5,7 @@ use messages::{Op, Outcome};
 use slice::{Answer, Read};
 use std::alloc::Global;
 use table::{History, answer};
-use threaded::Concluded;
-use world::Completed;
+use threaded::{Concluded, Ended};
 
 /// How many writes and reads ended, and how many of them wrong.
 #[derive(Drop)]
@@ -72,9 +71,9 @@ impl Count {
         &mut self,
         alloc: Global,
         history: &History,
-        ended: &Completed,
+        ended: &Ended<'_>,
     ) -> Result<(), Fault> {
-        match (&ended.op, &ended.outcome) {
+        match (ended.op, ended.outcome) {
             (Op::Read(read), Outcome::Read { effective, answer }) => {
                 let is_right = is_meant(alloc, history, *effective, (read.get(), answer))?;
                 add(&mut self.reads, true);
@@ -95,13 +94,12 @@ impl Count {
 
     /// Adds all operations that ended.
     pub(crate) fn add_all(&mut self, alloc: Global, concluded: &Concluded) -> Result<(), Fault> {
-        let transcript = concluded.transcript(alloc)?;
-        for ended in transcript.iter() {
+        for ended in concluded.transcript() {
             if concluded.topology().dcs() <= ended.home {
                 return Err(Fault::Script);
             }
             let history = concluded.history(alloc, ended.home)?;
-            self.add_ended(alloc, &history, ended)?;
+            self.add_ended(alloc, &history, &ended)?;
         }
         Ok(())
     }

@@ -63,9 +63,9 @@ fn ended(alloc: Global, mut seats: Vec<Seat<Actor>>) -> Result<usize, Fault> {
     }
     match conclude(alloc, seats) {
         Ok(concluded) => {
-            let transcript = concluded.transcript(alloc);
+            let ended = concluded.transcript().count();
             concluded.close();
-            Ok(transcript?.len())
+            Ok(ended)
         }
         Err((fault, seats)) => {
             close_all(seats);

@@ -124,9 +124,9 @@ impl Meshes {
 fn ended(alloc: Global, seats: Vec<Seat<Actor>>) -> Result<usize, Fault> {
     match conclude(alloc, seats) {
         Ok(concluded) => {
-            let transcript = concluded.transcript(alloc);
+            let ended = concluded.transcript().count();
             concluded.close();
-            Ok(transcript?.len())
+            Ok(ended)
         }
         Err((fault, seats)) => {
             close_all(seats);
