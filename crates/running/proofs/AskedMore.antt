@@ -1,7 +1,7 @@
 -- What was asked, and how far an actor came with it, one event more at a time.
 use Rattle.std.proofs.Common.{◌≡◌, ◌∙◌, ℕ, zero, suc, ◌+◌, ◌<◌, ◌≤◌, Bool, true, false, cond, List, [], ◌∷◌, ◌++◌, length, take, drop, slice_get, Option, Some, None, inl, inr, refl, sym, ap, subst, arith}
 use Rattle.std.specs.Prelude.{◌==◌, All, filter_map, option_map, option_to_list, get_or, slice_index_or}
-use Rattle.std.proofs.lemmas.Option.{slice_get-get_or}
+use Rattle.std.proofs.lemmas.Option.{slice_get_within, slice_get-get_or}
 use Rattle.std.specs.Option.{is_none}
 use Rattle.std.proofs.lemmas.List.{append-nil, append_assoc, length-append}
 use Rattle.std.proofs.lemmas.List.Elements.{filter_map-append, filter-append}
@@ -21,13 +21,13 @@ use Rattle.threaded.proofs.Lists.{take_one_more}
 use Rattle.running.specs.declared.course.Course.{Course}
 use Rattle.running.proofs.ToldMore.{drop_past}
 use Rattle.running.specs.Asked.{asked_by, asked_in, asked_of, fault_of, accepted_of, refusals_from, own_events, HasTaken}
-use Rattle.running.specs.Course.{HasCome}
+use Rattle.running.specs.Course.{HasCome, HasOnlyDone, IsWaitingAfter}
 
 module _ (top : TopologyValue) where
   abbrev not_refused : ActorEvent → Bool
   not_refused x = is_none (fault_of top x)
 
-  accepted_append : (xs ys : List ActorEvent) → accepted_of top (xs ++ ys) ≡ accepted_of top xs ++ accepted_of top ys
+  pub accepted_append : (xs ys : List ActorEvent) → accepted_of top (xs ++ ys) ≡ accepted_of top xs ++ accepted_of top ys
   accepted_append xs ys = filter-append not_refused xs ys
 
   one_accepted : (x : ActorEvent) → fault_of top x ≡ None → accepted_of top (x ∷ []) ≡ x ∷ []
@@ -36,7 +36,7 @@ module _ (top : TopologyValue) where
   one_refused : (x : ActorEvent) (f : Fault) → fault_of top x ≡ Some f → accepted_of top (x ∷ []) ≡ []
   one_refused x f some = ap (λ (o : Option Fault). cond (is_none o) (x ∷ []) []) some
 
-  submissions_append : (xs ys : List ActorEvent) → submissions (xs ++ ys) ≡ submissions xs + submissions ys
+  pub submissions_append : (xs ys : List ActorEvent) → submissions (xs ++ ys) ≡ submissions xs + submissions ys
   submissions_append xs ys = ap (λ (l : List _). length l) (filter_map-append op_in xs ys) ∙ length-append (filter_map op_in xs) (filter_map op_in ys)
 
   abbrev refusal_at : ℕ → ActorEvent → List (ℕ × Fault)
@@ -122,6 +122,19 @@ module _ (top : TopologyValue) where
   come_first s c events refusals accepted =
       record { own = ap (λ n. own_events (take n s.journal)) events; refused = ap (λ n. take n s.refusals) refusals; counted = accepted }
 
+-- ## Places
+
+module _ {X : Type 0} (xs : List X) (k : ℕ) where
+  pub found_there : (x : X) → k < length xs → x ≡ slice_index_or xs k x → Some x ≡ slice_get xs k
+  found_there x lt at = sym (item_at xs k x lt at)
+
+  pub nothing_there : length xs ≤ k → None ≡ slice_get xs k
+  nothing_there le = by (slice_get xs k) refl
+    where
+      by : (o : Option X) → slice_get xs k ≡ o → None ≡ o
+      by None at = refl
+      by (Some x) at = let lt = slice_get_within xs k x at in absurd (omega (arith, lt, le))
+
 -- ## What is asked
 
 asked_one : (node : ℕ) (x : ScriptEvent) → asked_in node (x ∷ []) ≡ option_to_list (asked_by node x)
@@ -195,12 +208,8 @@ asked_own node events = all_at (asked_in node events) (each events)
         ]
 
 module _ (s : Script) (node : ℕ) (seat : SeatValue) (place : ℕ) where
-  abbrev pub DidOnly : Type 0
-  DidOnly = (own_events seat.journal ≡ accepted_of s.topology (asked_in node (take place s.events)))
-      × (seat.refusals ≡ refusals_from s.topology 0 (asked_in node (take place s.events)))
-
   -- the actor did nothing else, and all was asked
-  pub taken_whole : length s.events ≤ place → DidOnly → HasTaken s.topology (asked_of s node) seat
+  pub taken_whole : length s.events ≤ place → HasOnlyDone s.topology seat (asked_in node (take place s.events)) → HasTaken s.topology (asked_of s node) seat
   taken_whole le did =
       record {
         done = asked_in node (take place s.events);
@@ -212,14 +221,14 @@ module _ (s : Script) (node : ℕ) (seat : SeatValue) (place : ℕ) where
       }
 
   -- the actor did nothing else, and waits for the end of an operation
-  pub taken_so_far : (c : Course) → HasCome s.topology seat c (asked_in node (take place s.events)) → length seat.outcomes < c.accepted → DidOnly
-      → HasTaken s.topology (asked_of s node) seat
-  taken_so_far c come waits did =
+  pub taken_so_far : (c : Course) → HasCome s.topology seat c (asked_in node (take place s.events))
+      → IsWaitingAfter s.topology seat c (asked_in node (take place s.events)) → HasTaken s.topology (asked_of s node) seat
+  taken_so_far c come waits =
       record {
         done = asked_in node (take place s.events);
         rest = asked_in node (drop place s.events);
         beginning = asked_all node s.events place;
-        own = did.0;
-        refused = did.1;
-        left = inr (subst (λ n. length seat.outcomes < n) come.counted waits);
+        own = waits.0.0;
+        refused = waits.0.1;
+        left = inr (subst (λ n. length seat.outcomes < n) come.counted waits.1);
       }

@@ -1,10 +1,11 @@
 -- What is told of sessions is what the run has of them.
-use Rattle.std.proofs.Common.{◌≡◌, ◌∙◌, ℕ, zero, suc, ◌+◌, ◌<◌, ◌≤◌, Bool, true, false, cond, List, [], ◌∷◌, ◌++◌, map, length, take, Some, inl, inr, refl, sym, ap, subst, arith}
+use Rattle.std.proofs.Common.{◌≡◌, ◌∙◌, ℕ, zero, suc, ◌+◌, ◌<◌, ◌≤◌, Bool, true, false, cond, List, [], ◌∷◌, ◌++◌, map, length, take, slice_get, Some, ◌⊎◌, inl, inr, refl, sym, ap, subst, arith}
 use Rattle.std.specs.Prelude.{filter, flat_map, ◌==◌, All, Contains}
 use Rattle.std.specs.List.{range_with_len}
 use Rattle.std.proofs.lemmas.Bool.Decides.{nat_tests}
 use Rattle.std.proofs.lemmas.List.Elements.{filter-append}
 use Rattle.logical_time.specs.declared.fault.Fault.{Fault}
+use Rattle.logical_time.specs.declared.fault.Fault.TheVariants.{Memory, StrangerEnd}
 use Rattle.slice.specs.declared.read.AnsweredRow.{AnsweredRow}
 use Rattle.messages.specs.declared.outcome.Outcome.{Outcome}
 use Rattle.messages.specs.declared.outcome.Outcome.TheVariants as outcome
@@ -12,12 +13,14 @@ use Rattle.messages.specs.Topology.{TopologyValue, is_topology, shard_count, nod
 use Rattle.messages.specs.Session.{Finished}
 use Rattle.actors.specs.Seats.{SeatValue}
 use Rattle.actors.specs.Resting.{IsResting}
+use Rattle.actors.specs.Draining.{AreLater, OneCanRefuse}
 use Rattle.world.specs.declared.completed.Completed.{Completed}
 use Rattle.world.specs.Run.{run}
 use Rattle.world.specs.Journals.{finished_as}
 use Rattle.world.proofs.Among.{Among, among_append, among_contains, contains_among, filter_among, filter_only, map_among, map_only}
-use Rattle.threaded.specs.Machines.{as_finished}
-use Rattle.threaded.specs.OneRun.{seat_of}
+use Rattle.threaded.specs.Machines.{as_finished, Refuses}
+use Rattle.threaded.specs.OneRun.{seat_of, AreSeatsOf, AreOfOneRun}
+use Rattle.threaded.specs.Matching.{IsUnconcluded}
 use Rattle.threaded.specs.Concluded.{InEachRun, AreConcluded, by_session}
 use Rattle.workload.specs.declared.script.Script.{Script}
 use Rattle.workload.specs.declared.transcript.Entry.{Entry}
@@ -25,6 +28,7 @@ use Rattle.workload.specs.declared.transcript.Entry.TheVariants as entry
 use Rattle.workload.specs.Simulation.{entry_by, entry_of, is_outcome, ShowsOneTable}
 use Rattle.workload.proofs.Shown.{shows}
 use Rattle.running.specs.Asked.{asked_of, HasTaken}
+use Rattle.running.specs.Faults.{HaveTaken, AreOfScript, CanEnd, IsToldAs, IsEndedBy}
 use Rattle.running.specs.Told.{count_before, refusal_by, told_before, left_after, told_by, told_at, told_of}
 use Rattle.running.specs.Running.{IsThreadTranscriptOf}
 
@@ -131,13 +135,6 @@ all_outcomes top seats are events is =
         ap (λ o. filter is_outcome (told_at node o)) seat.1
         ∙ seat_told node (run top events).transcript seat.0 ((are.alike events is).outcomes node seat.0 below seat.1)
 
--- a topology has a node
-pub some_seats : (top : TopologyValue) (homes : List ℕ) (n : ℕ) → n ≡ node_count top → homes ≡ top.homes → 1 ≤ length homes → 0 < n
-some_seats top homes n is same le =
-    let l : 1 ≤ length top.homes = subst (λ (h : List ℕ). 1 ≤ length h) same le in
-    let k : n ≡ shard_count top + length top.homes = is in
-    omega (arith, l, k)
-
 some_shards : (top : TopologyValue) → is_topology top.dcs top.shards top.homes ≡ true → 0 < top.shards
 some_shards top sound = grind (arith, nat_tests)
 
@@ -159,21 +156,70 @@ module _ (top : TopologyValue) (entries : List Entry) (seats : List SeatValue) (
       let back : Among e (map entry_of w.transcript) = subst (λ x. Among x (map entry_of w.transcript)) (sym shown) (map_among entry_of w.transcript c in_all) in
       shows top events (some_shards top are.are.sound) node number time answer (among_contains _ _ back)
 
--- the same of a script's actors
-abbrev pub EachTook : Script → List SeatValue → Type 0
-EachTook s seats = (node : ℕ) (seat : SeatValue) → node < node_count s.topology → seat_of seats node ≡ Some seat → HasTaken s.topology (asked_of s node) seat
+-- ## Seats of a script
 
-pub is_transcript : (s : Script) (entries : List Entry) (seats : List SeatValue) (top : TopologyValue) → top ≡ s.topology → AreConcluded top seats
-    → All IsResting seats → EachTook s seats → entries ≡ told_of top seats → IsThreadTranscriptOf s entries
-is_transcript s entries seats top same are resting taken told =
-    let here : AreConcluded s.topology seats = subst (λ t. AreConcluded t seats) same are in
-    let tells : entries ≡ told_of s.topology seats = told ∙ ap (λ t. told_of t seats) same in
-    record {
-      seats = seats;
-      concluded = here;
-      resting = resting;
-      taken = taken;
-      told = tells;
-      outcomes = outcomes_in_each s.topology entries seats here tells;
-      reads = reads_in_each s.topology entries seats here tells;
-    }
+module _ (s : Script) (seats : List SeatValue) where
+  each_took : HaveTaken s seats → (node : ℕ) (seat : SeatValue) → node < node_count s.topology → seat_of seats node ≡ Some seat → HasTaken s.topology (asked_of s node) seat
+  each_took took node seat lt at =
+      let here = took node lt in
+      let both : Some here.0 ≡ Some seat = sym here.1 ∙ at in
+      let same : here.0 ≡ seat = cc in
+      subst (λ z. HasTaken s.topology (asked_of s node) z) same here.2
+
+  pub is_transcript : (entries : List Entry) (top : TopologyValue) → top ≡ s.topology → AreConcluded top seats → All IsResting seats → HaveTaken s seats
+      → entries ≡ told_of top seats → IsThreadTranscriptOf s entries
+  is_transcript entries top same are resting took told =
+      let here : AreConcluded s.topology seats = subst (λ t. AreConcluded t seats) same are in
+      let tells : entries ≡ told_of s.topology seats = told ∙ ap (λ t. told_of t seats) same in
+      record {
+        seats = seats;
+        concluded = here;
+        resting = resting;
+        taken = each_took took;
+        told = tells;
+        outcomes = outcomes_in_each s.topology entries seats here tells;
+        reads = reads_in_each s.topology entries seats here tells;
+      }
+
+  -- seats that conclude a run, each of whose actors did what the script asks of it
+  pub of_script : (top : TopologyValue) → top ≡ s.topology → AreConcluded top seats → HaveTaken s seats → AreOfScript s seats
+  of_script top same are took =
+      let here : AreConcluded s.topology seats = subst (λ t. AreConcluded t seats) same are in
+      record { are = here.are; links = here.links; taken = took }
+
+  pub not_of_run : (AreOfOneRun seats → ⊥) → AreOfScript s seats → ⊥
+  not_of_run not of = not (record { top = s.topology; are = of.are; links = of.links })
+
+  pub not_of_script : (top : TopologyValue) → AreConcluded top seats → ((top ≡ s.topology) × HaveTaken s seats → ⊥) → AreOfScript s seats → ⊥
+  not_of_script top are not of = not (one_topology top are.are of.are, of.taken)
+    where
+      one_topology : (top : TopologyValue) → AreSeatsOf top seats → AreSeatsOf s.topology seats → top ≡ s.topology
+      one_topology top first second =
+          let le : 1 ≤ length top.homes = (let sound = first.sound in grind (arith, nat_tests)) in
+          let count : length seats ≡ shard_count top + length top.homes = first.count in
+          by seats refl (omega (arith, le, count))
+        where
+          by : (l : List SeatValue) → l ≡ seats → 0 < length seats → top ≡ s.topology
+          by [] is lt = absurd (omega (arith, lt, (let none : length seats ≡ 0 = ap (λ (l : List SeatValue). length l) (sym is) in none)))
+          by (x ∷ xs) is lt =
+              let at : slice_get seats 0 ≡ Some x = ap (λ l. slice_get l 0) (sym is) in
+              sym (first.topology 0 x at) ∙ second.topology 0 x at
+
+-- ## As faults are told
+
+module _ (s : Script) (back last : List SeatValue) (later : AreLater back last) where
+  pub ended_so : (e told : Fault) → CanEnd e last → IsToldAs e told → IsEndedBy s back told
+  ended_so e told (inl memory) (inl is) = inl (is.1 ∙ memory)
+  ended_so e told (inl memory) (inr is) = absurd (is.0 (inl memory))
+  ended_so e told (inr can) (inl is) = elim is.0 [
+    | inl memory ↦ inl (is.1 ∙ memory)
+    | inr spent ↦ elim spent [
+      | inl clock ↦ inr (inl (inl (is.1 ∙ clock), (last, later, subst (λ f. OneCanRefuse Refuses f last) (sym is.1) can)))
+      | inr full ↦ inr (inl (inr (is.1 ∙ full), (last, later, subst (λ f. OneCanRefuse Refuses f last) (sym is.1) can)))
+    ]
+  ]
+  ended_so e told (inr can) (inr is) = inr (inr (is.1, (last, later, inl (e, is.0, can))))
+
+pub unconcluded : (s : Script) (seats : List SeatValue) (e : Fault) → IsUnconcluded seats e → (e ≡ Memory) ⊎ ((e ≡ StrangerEnd) × (AreOfScript s seats → ⊥))
+unconcluded s seats e (inl memory) = inl memory
+unconcluded s seats e (inr strange) = inr (strange.0, not_of_run s seats strange.1)

@@ -1,13 +1,13 @@
 -- What is told, one entry more at a time.
-use Rattle.std.proofs.Common.{◌≡◌, ◌∙◌, ℕ, zero, suc, ◌+◌, ◌<◌, ◌≤◌, Bool, true, false, cond, List, [], ◌∷◌, ◌++◌, map, length, take, drop, slice_get, Some, refl, sym, ap, subst, arith}
-use Rattle.std.specs.Prelude.{flat_map, nat_lt, get_or, Result, Ok, Err, OnOk}
+use Rattle.std.proofs.Common.{◌≡◌, ◌∙◌, ℕ, zero, suc, ◌+◌, ◌<◌, ◌≤◌, Bool, true, false, cond, List, [], ◌∷◌, ◌++◌, map, length, take, drop, slice_get, Some, None, inl, inr, refl, sym, ap, subst, arith}
+use Rattle.std.specs.Prelude.{◌↔◌, flat_map, nat_lt, get_or, Result, Ok, Err, OnOk}
 use Rattle.std.proofs.lemmas.Option.{slice_get-get_or}
 use Rattle.std.specs.List.{range_with_len}
 use Rattle.std.proofs.lemmas.List.{append-nil, append_assoc}
-use Rattle.std.proofs.lemmas.Bool.Decides.{nat_tests}
+use Rattle.std.proofs.lemmas.Bool.Decides.{nat_tests, eqb_tells}
 use Rattle.logical_time.specs.declared.fault.Fault.{Fault}
 use Rattle.messages.specs.declared.outcome.Outcome.{Outcome}
-use Rattle.messages.specs.Topology.{TopologyValue, session_node}
+use Rattle.messages.specs.Topology.{TopologyValue, node_count, session_node}
 use Rattle.actors.specs.Seats.{SeatValue}
 use Rattle.threaded.specs.OneRun.{seat_of}
 use Rattle.threaded.proofs.Lists.{flat_more, range_more}
@@ -15,6 +15,7 @@ use Rattle.workload.specs.declared.script.Script.{Script}
 use Rattle.workload.specs.declared.transcript.Entry.{Entry}
 use Rattle.workload.specs.Simulation.{entry_by}
 use Rattle.running.specs.Asked.{asked_of, HasTaken}
+use Rattle.running.specs.Faults.{TookIn, HaveTaken}
 use Rattle.running.specs.Told.{count_before, refusal_by, told_before, left_after, told_by, told_at}
 
 -- what stands at a place, and after it
@@ -162,16 +163,31 @@ on_way_done_at node number rs ls first place old now d same lt le way =
 module _ (script : Script) (seats : List SeatValue) where
   -- so it is for the first so many nodes
   abbrev pub HaveFirstTaken : ℕ → Type 0
-  HaveFirstTaken k = (node : ℕ) (s : SeatValue) → node < k → seat_of seats node ≡ Some s → HasTaken script.topology (asked_of script node) s
+  HaveFirstTaken k = (node : ℕ) → node < k → TookIn script seats node
 
-  pub one_more_taken : (k node : ℕ) (s : SeatValue) → node ≡ k → seat_of seats node ≡ Some s → HasTaken script.topology (asked_of script node) s
-      → HaveFirstTaken k → HaveFirstTaken (k + 1)
-  one_more_taken k node s is at taken before n t below there = by (nat_lt n k) refl
-    where
-      by : (b : Bool) → nat_lt n k ≡ b → HasTaken script.topology (asked_of script n) t
-      by true q = before n t (grind (arith, nat_tests)) there
-      by false q =
-          let last : n ≡ node = grind (arith, nat_tests) in
-          let both : Some s ≡ Some t = sym at ∙ ap (seat_of seats) (sym last) ∙ there in
-          let same : s ≡ t = cc in
-          subst (λ m. HasTaken script.topology (asked_of script m) t) (sym last) (subst (λ z. HasTaken script.topology (asked_of script node) z) same taken)
+  pub one_more_taken : (k node : ℕ) → node ≡ k → TookIn script seats node → HaveFirstTaken k → HaveFirstTaken (k + 1)
+  one_more_taken k node is took before n below = elim (eqb_tells n k) [
+    | inl same ↦ subst (λ m. TookIn script seats m) (is ∙ sym same.1) took
+    | inr away ↦ let apart = away.1 in before n (omega (arith, below, apart))
+  ]
+
+  pub all_taken : (k : ℕ) → node_count script.topology ≤ k → HaveFirstTaken k → HaveTaken script seats
+  all_taken k le first node lt = first node (omega (arith, le, lt))
+
+  -- the actor with a node didn't
+  pub one_missing : (k node : ℕ) → node ≡ k → k < node_count script.topology → (TookIn script seats node → ⊥) → HaveTaken script seats → ⊥
+  one_missing k node is lt missing all = missing (subst (λ m. TookIn script seats m) (sym is) (all k lt))
+
+  -- where there is no seat, or another
+  pub no_seat_took : (node : ℕ) → seat_of seats node ≡ None → TookIn script seats node → ⊥
+  no_seat_took node none took = let no : None ≡ Some took.0 = sym none ∙ took.1 in absurd (cc)
+
+  pub seat_took : (node : ℕ) (s : SeatValue) (b : Bool) → seat_of seats node ≡ Some s → (b ≡ true) ↔ HasTaken script.topology (asked_of script node) s
+      → (b ≡ true) ↔ TookIn script seats node
+  seat_took node s b at tells = (
+    λ is. (s, at, tells.0 is),
+    λ took.
+        let both : Some took.0 ≡ Some s = sym took.1 ∙ at in
+        let same : took.0 ≡ s = cc in
+        tells.1 (subst (λ z. HasTaken script.topology (asked_of script node) z) same took.2),
+  )

@@ -1,4 +1,5 @@
 pub mod Asked
+pub mod Loaded
 pub mod Course
 pub mod Told
 pub mod Faults

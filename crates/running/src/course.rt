@@ -1,5 +1,5 @@
 //! How far an actor came with what was asked of it.
-ghost use Rattle.std.specs.Prelude.{◌≡◌, ◌≤◌, ◌++◌, ◌∷◌, [], ℕ, List, Bool, true, not, take, length, slice_get, Some, None, option_to_list};
+ghost use Rattle.std.specs.Prelude.{◌≡◌, ◌↔◌, ◌≤◌, ◌++◌, ◌∷◌, [], ℕ, List, Bool, true, false, not, take, length, slice_get, Some, None, option_copied, option_to_list};
 ghost use Rattle.std.specs.Option.{is_none};
 ghost use Rattle.logical_time.specs.Fault.{IsRefusedFor};
 ghost use Rattle.messages.specs.declared.event.Event.{Event as ActorEvent};
@@ -9,7 +9,7 @@ ghost use Rattle.messages.specs.Submitting.{plan_fault};
 ghost use Rattle.messages.specs.Topology.{TopologyValue};
 ghost use Rattle.actors.specs.Journals.{IsOwn};
 ghost use Rattle.running.specs.Asked.{asked_by, asked_of, fault_of, accepted_of, refusals_from, own_events, HasTaken};
-ghost use Rattle.running.specs.Course.{IsWithin, HasCome, CameTo};
+ghost use Rattle.running.specs.Course.{IsWithin, HasCome, CameTo, HasOnlyDone, IsWaitingAfter, DidNotDo, HasStopped};
 
 use actors::Seat;
 use column_family::Schema;
@@ -63,6 +63,47 @@ fn next_own(journal: &[Event], first: usize) -> usize
     journal.len()
 }
 
+/// What stands at a place, if there is so much.
+#[tactic(auto, using(crate::proofs::AskedMore::found_there, crate::proofs::AskedMore::nothing_there))]
+fn item_at<T>(items: &[T], place: usize) -> Option<&T>
+    ensures { option_copied result ≡ slice_get items.now place }
+{
+    if place < items.len() {
+        return Some(&items[place]);
+    }
+    None
+}
+
+/// Whether this is the event that submits the operation.
+fn is_submission(found: Option<&Event>, op: &Op) -> bool
+    ensures { (result ≡ true) ↔ (option_copied found.entry ≡ Some (event.Submit op.now)) }
+{
+    match found {
+        Some(Event::Submit(own)) => same_op(own, op),
+        Some(Event::Handle(_)) | Some(Event::Collect(_)) | None => false,
+    }
+}
+
+/// Whether this is the event that collects up to the time.
+fn is_collection(found: Option<&Event>, time: Time) -> bool
+    ensures { (result ≡ true) ↔ (option_copied found.entry ≡ Some (event.Collect time)) }
+{
+    match found {
+        Some(Event::Collect(own)) => *own == time,
+        Some(Event::Handle(_)) | Some(Event::Submit(_)) | None => false,
+    }
+}
+
+/// Whether this is the refusal with the fault, after so many accepted operations.
+fn is_refusal(refusal: Option<&(u64, Fault)>, accepted: u64, fault: Fault) -> bool
+    ensures { (result ≡ true) ↔ (option_copied refusal.entry ≡ Some (accepted, fault)) }
+{
+    match refusal {
+        Some(refusal) => refusal.0 == accepted && refusal.1 == fault,
+        None => false,
+    }
+}
+
 impl Course {
     /// The operation was accepted, if it is what the actor did next of its own.
     fn submits(&mut self, seat: &Seat<Actor>, op: &Op) -> bool
@@ -70,17 +111,17 @@ impl Course {
         ensures within { IsWithin seat.now self.new }
         ensures came { (top : TopologyValue) (done : List ActorEvent) → plan_fault top op.now ≡ None → HasCome top seat.now self.old done
             → CameTo top seat.now self.new result done (event.Submit op.now ∷ []) }
+        ensures stopped { (top : TopologyValue) (done : List ActorEvent) → plan_fault top op.now ≡ None → HasCome top seat.now self.old done
+            → result ≡ false → DidNotDo top seat.now done (event.Submit op.now) }
     {
         let journal = seat.journal();
         self.events = next_own(journal, self.events);
-        match journal.get(self.events) {
-            Some(Event::Submit(own)) if same_op(own, op) => {
-                self.events += 1;
-                self.accepted += 1;
-                true
-            }
-            _ => false,
+        if !is_submission(item_at(journal, self.events), op) {
+            return false;
         }
+        self.events += 1;
+        self.accepted += 1;
+        true
     }
 
     /// The actor collected up to this time, if that is what it did next of its own.
@@ -89,16 +130,16 @@ impl Course {
         ensures within { IsWithin seat.now self.new }
         ensures came { (top : TopologyValue) (done : List ActorEvent) → HasCome top seat.now self.old done
             → CameTo top seat.now self.new result done (event.Collect time ∷ []) }
+        ensures stopped { (top : TopologyValue) (done : List ActorEvent) → HasCome top seat.now self.old done
+            → result ≡ false → DidNotDo top seat.now done (event.Collect time) }
     {
         let journal = seat.journal();
         self.events = next_own(journal, self.events);
-        match journal.get(self.events) {
-            Some(Event::Collect(own)) if *own == time => {
-                self.events += 1;
-                true
-            }
-            _ => false,
+        if !is_collection(item_at(journal, self.events), time) {
+            return false;
         }
+        self.events += 1;
+        true
     }
 
     /// What was asked was refused with this fault, if that is the next refusal, after as many accepted operations.
@@ -107,14 +148,19 @@ impl Course {
         ensures within { IsWithin seat.now self.new }
         ensures came { (top : TopologyValue) (x : ActorEvent) (done : List ActorEvent) → fault_of top x ≡ Some fault → HasCome top seat.now self.old done
             → CameTo top seat.now self.new result done (x ∷ []) }
+        ensures stopped { (top : TopologyValue) (x : ActorEvent) (done : List ActorEvent) → fault_of top x ≡ Some fault → HasCome top seat.now self.old done
+            → result ≡ false → DidNotDo top seat.now done x }
     {
-        match seat.refusals().get(self.refusals) {
-            Some(refusal) if refusal.0 == self.accepted as u64 && refusal.1 == fault => {
-                self.refusals += 1;
-                true
-            }
-            _ => false,
+        let refusals = seat.refusals();
+        if !is_refusal(
+            item_at(refusals, self.refusals),
+            self.accepted as u64,
+            fault,
+        ) {
+            return false;
         }
+        self.refusals += 1;
+        true
     }
 
     /// The actor with this node did what an event of a script asks of it, if it asks it for something.
@@ -129,6 +175,8 @@ impl Course {
         ensures within { IsWithin seat.now self.new }
         ensures came { (top : TopologyValue) (done : List ActorEvent) → top.schema ≡ schema.now → HasCome top seat.now self.old done
             → CameTo top seat.now self.new result done (option_to_list (asked_by node event.now)) }
+        ensures stopped { (top : TopologyValue) (done : List ActorEvent) → top.schema ≡ schema.now → HasCome top seat.now self.old done
+            → result ≡ false → HasStopped top seat.now done (asked_by node event.now) }
     {
         match event {
             ScriptEvent::Submit { session, op } if *session == node => match check(schema, op) {
@@ -143,20 +191,34 @@ impl Course {
     /// Whether the actor did nothing else of its own, and nothing else was refused.
     fn is_whole(&self, seat: &Seat<Actor>) -> bool
         requires { IsWithin seat.now self.now }
-        ensures own { (top : TopologyValue) (done : List ActorEvent) → HasCome top seat.now self.now done → result ≡ true
-            → own_events seat.now.journal ≡ accepted_of top done }
-        ensures refused { (top : TopologyValue) (done : List ActorEvent) → HasCome top seat.now self.now done → result ≡ true
-            → seat.now.refusals ≡ refusals_from top 0 done }
+        ensures { (top : TopologyValue) (done : List ActorEvent) → HasCome top seat.now self.now done → (result ≡ true) ↔ HasOnlyDone top seat.now done }
     {
         let journal = seat.journal();
-        next_own(journal, self.events) == journal.len() && self.refusals == seat.refusals().len()
+        if next_own(journal, self.events) < journal.len() {
+            return false;
+        }
+        if self.refusals < seat.refusals().len() {
+            return false;
+        }
+        true
+    }
+
+    /// The same, and an operation that was accepted hasn't ended.
+    fn is_waiting(&self, seat: &Seat<Actor>) -> bool
+        requires { IsWithin seat.now self.now }
+        ensures { (top : TopologyValue) (done : List ActorEvent) → HasCome top seat.now self.now done → (result ≡ true) ↔ IsWaitingAfter top seat.now self.now done }
+    {
+        if !self.is_whole(seat) {
+            return false;
+        }
+        seat.outcomes().len() < self.accepted
     }
 }
 
 /// Whether the actor of a seat did what the script asks of the actor with this node, but where it waits for the end of an
 /// operation, and nothing else of its own. Linear in the script and the journal, beside what operations are long.
 pub(crate) fn has_taken(script: &Script, node: Node, seat: &Seat<Actor>) -> bool
-    ensures { result ≡ true → HasTaken script.now.topology (asked_of script.now node) seat.now }
+    ensures { (result ≡ true) ↔ HasTaken script.now.topology (asked_of script.now node) seat.now }
 {
     let events = script.events.as_slice();
     let mut course = Course {
@@ -166,7 +228,7 @@ pub(crate) fn has_taken(script: &Script, node: Node, seat: &Seat<Actor>) -> bool
     };
     for place in 0..events.len() {
         if !course.goes_on(seat, node, script.topology.schema(), &events[place]) {
-            return course.is_whole(seat) && seat.outcomes().len() < course.accepted;
+            return course.is_waiting(seat);
         }
     }
     course.is_whole(seat)

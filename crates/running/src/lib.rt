@@ -7,6 +7,7 @@
 
 mod asking;
 mod course;
+mod crew;
 mod performing;
 mod running_seats;
 mod scripts;
@@ -14,6 +15,7 @@ mod seats;
 mod telling;
 mod workers;
 
+pub use crew::Crew;
 pub use performing::{perform_by_threads, transcript_by_threads};
 pub use scripts::run;
 pub use workers::Workers;

@@ -1,19 +1,15 @@
-//! Workers run seats.
-ghost use Rattle.std.specs.Prelude.{◌≡◌, ◌<◌, ◌≤◌, length, All, IfOk, OnOk};
+//! What is left after workers is done.
+ghost use Rattle.std.specs.Prelude.{◌≡◌, true, All, OnOk, IfErr};
 ghost use Rattle.logical_time.specs.Fault.{IsRefusedFor};
 ghost use Rattle.actors.specs.Resting.{IsResting};
-ghost use Rattle.running.specs.Faults.{fault_at, first_fault};
+ghost use Rattle.actors.specs.Draining.{IsLater, AreLater, OneCanRefuse};
+ghost use Rattle.actors.specs.Refusals.{CanRefuse};
+ghost use Rattle.threaded.specs.Machines.{Refuses};
+ghost use Rattle.running.specs.Faults.{fault_at, first_fault, CanEnd};
 
-use crate::seats::{close_all, locked, room, unlocked};
-use actors::{End, Open, Pool, Report, Seat, Shift, drain};
+use actors::{End, Seat, Shift, drain};
 use logical_time::Fault;
-use std::alloc::Global;
-use std::sync::Wait;
-use std::thread::Threads;
 use threaded::Actor;
-
-/// How many turns a worker takes at most.
-const TURNS: u64 = 10_000_000;
 
 /// The fault with which a worker ended, if it ended with one.
 fn fault_of(shift: &Shift) -> Option<Fault>
@@ -38,42 +34,57 @@ fn check(shifts: &[Shift]) -> Result<(), Fault>
     Ok(())
 }
 
-/// What the workers' report says of the seats, and then what is left is done.
-fn finish(report: Result<Report, Fault>, seats: &mut [Seat<Actor>]) -> Result<(), Fault>
-    ensures resting { OnOk result (All IsResting seats.new) }
+/// Whether a turn of the seat is refused with this fault.
+fn does_refuse(seat: &mut Seat<Actor>, fault: Fault) -> bool
+    ensures later { IsLater seat.old seat.new }
+    ensures refused { result ≡ true → CanRefuse Refuses fault seat.new }
 {
-    check(report?.shifts.as_slice())?;
-    drain(seats)
+    match seat.turn() {
+        Ok(_) => false,
+        Err(refused) => refused == fault,
+    }
 }
 
-/// So many workers run the seats, each for at most 10,000,000 turns; then turns are taken until a whole round does nothing.
-/// Waits for locks. Refused with the fault of the lowest-numbered worker who ended with one, as a turn is, and with `Memory`;
-/// then the seats are ended.
-pub(crate) fn run_seats<R: Threads + Wait + Sync>(
-    rt: &R,
-    alloc: Global,
-    seats: Vec<Seat<Actor>>,
-    workers: usize,
-) -> Result<Vec<Seat<Actor>>, Fault>
-    requires workers { (0 < workers) × (workers ≤ 16) }
-    requires seats { 0 < length seats.items }
-    ensures resting { IfOk result (λ seats. All IsResting seats.items) }
+/// Whether a turn of one of the seats is refused with this fault: each takes a turn, until one is.
+fn do_refuse(seats: &mut [Seat<Actor>], fault: Fault) -> bool
+    ensures later { AreLater seats.old seats.new }
+    ensures refused { result ≡ true → OneCanRefuse Refuses fault seats.new }
 {
-    let (empty, back) = match room(alloc, seats.len()) {
-        Ok(room) => room,
-        Err(fault) => {
-            close_all(seats);
-            return Err(fault);
-        }
-    };
-    let locked = locked(seats, empty);
-    let report = Pool::run(rt, alloc, locked.as_slice(), workers, TURNS, &Open);
-    let mut seats = unlocked(locked, back);
-    match finish(report, seats.as_mut_slice()) {
-        Ok(()) => Ok(seats),
-        Err(fault) => {
-            close_all(seats);
-            Err(fault)
+    for place in 0..seats.len() {
+        if does_refuse(&mut seats[place], fault) {
+            return true;
         }
     }
+    false
+}
+
+/// The fault of the lowest-numbered worker who ended with one: for memory, or where one of the seats refuses with it still. A seat
+/// that is at the end of its journal or its clock stays there.
+fn confirm(shifts: &[Shift], seats: &mut [Seat<Actor>]) -> Result<(), Fault>
+    ensures later { AreLater seats.old seats.new }
+    ensures refused { IfErr result (λ e. CanEnd e seats.new) }
+{
+    match check(shifts) {
+        Ok(()) => Ok(()),
+        Err(fault) => {
+            if fault == Fault::Memory {
+                return Err(fault);
+            }
+            if do_refuse(seats, fault) {
+                return Err(fault);
+            }
+            Ok(())
+        }
+    }
+}
+
+/// What is left after the workers is done: turns are taken until a whole round does nothing. Refused with the fault of the
+/// lowest-numbered worker who ended with one, and as a turn is.
+pub(crate) fn finish(shifts: &[Shift], seats: &mut [Seat<Actor>]) -> Result<(), Fault>
+    ensures later { AreLater seats.old seats.new }
+    ensures resting { OnOk result (All IsResting seats.new) }
+    ensures refused { IfErr result (λ e. CanEnd e seats.new) }
+{
+    confirm(shifts, seats)?;
+    drain(seats)
 }

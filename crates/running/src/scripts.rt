@@ -1,33 +1,33 @@
 //! Scripts are run by threads.
-ghost use Rattle.std.specs.Prelude.{◌≡◌, IfOk, IfErr};
+ghost use Rattle.std.specs.Prelude.{◌≡◌, ◌↔◌, ◌⊎◌, true, All, IfOk, IfErr};
+ghost use Rattle.actors.specs.Resting.{IsResting};
 ghost use Rattle.running.specs.Running.{IsThreadTranscriptOf};
-ghost use Rattle.running.specs.Faults.{IsOfRun};
+ghost use Rattle.running.specs.Faults.{IsTold, IsToldAs, AreOfScript, IsEndedBy, IsRunRefused};
 
-use crate::running_seats::run_seats;
+use crate::crew::Crew;
+use crate::running_seats::finish;
 use crate::seats::{close_all, seats_of};
 use crate::telling::tell;
-use crate::workers::Workers;
+use actors::{Seat, Shift};
 use logical_time::Fault;
 use std::alloc::Global;
 use std::sync::Wait;
 use std::thread::Threads;
-use threaded::{Concluded, conclude};
+use threaded::{Actor, Concluded, conclude};
 use workload::{Script, Transcript};
 
-/// Runs a script by so many workers, concludes what they did, and tells it. Refused as a seat, as the seats are concluded, and
-/// as `tell`.
-fn run_by<R: Threads + Wait + Sync>(
-    rt: &R,
+/// What seats that rest made of a script, and what they conclude. That they rest is the caller's condition. Refused with
+/// `StrangerEnd` exactly where they aren't of a run of the script, and with `Memory`; then they are ended.
+fn concluded_from(
     alloc: Global,
     script: &Script,
-    workers: &Workers,
+    seats: Vec<Seat<Actor>>,
 ) -> Result<(Transcript, Concluded), Fault>
+    requires { All IsResting seats.items }
     ensures told { IfOk result (λ told. IsThreadTranscriptOf script.now told.0) }
+    ensures of { IfOk result (λ told. AreOfScript script.now seats.items) }
+    ensures refused { IfErr result (λ e. (e ≡ Fault.Memory) ⊎ ((e ≡ Fault.StrangerEnd) × (AreOfScript script.now seats.items → ⊥))) }
 {
-    // there is a session
-    let _limits = script.topology.homes();
-    let seats = seats_of(alloc, script)?;
-    let seats = run_seats(rt, alloc, seats, workers.get())?;
     match conclude(alloc, seats) {
         Ok(concluded) => match tell(alloc, script, &concluded) {
             Ok(transcript) => Ok((transcript, concluded)),
@@ -43,64 +43,92 @@ fn run_by<R: Threads + Wait + Sync>(
     }
 }
 
-/// A fault that ends such a run. A seat refuses with no other; but what a seat under a lock refuses with, no lock says.
-fn known(fault: Fault) -> Fault
-    ensures { IsOfRun result }
+/// Whether a fault is told as it is.
+fn is_told(fault: Fault) -> bool
+    ensures { (result ≡ true) ↔ IsTold fault }
 {
-    match fault {
-        Fault::ClockSpent | Fault::Memory | Fault::JournalFull => fault,
-        _ => Fault::StrangerEnd,
-    }
+    fault == Fault::Memory || fault == Fault::ClockSpent || fault == Fault::JournalFull
 }
 
-/// The same, and `known` of the fault.
-fn told_by<R: Threads + Wait + Sync>(
-    rt: &R,
+/// The fault that is told for one with which a seat refuses.
+fn known(fault: Fault) -> Fault
+    ensures { IsToldAs fault result }
+{
+    if is_told(fault) {
+        return fault;
+    }
+    Fault::StrangerEnd
+}
+
+/// What seats that came back made of a script, once what is left is done. Refused with `ClockSpent` and `JournalFull` only where
+/// a seat refuses with it then, with `StrangerEnd` where one refuses with another fault, or where they aren't of a run of the
+/// script, and with `Memory`; then they are ended.
+fn made_of(
     alloc: Global,
     script: &Script,
-    workers: &Workers,
+    shifts: &[Shift],
+    mut seats: Vec<Seat<Actor>>,
 ) -> Result<(Transcript, Concluded), Fault>
     ensures told { IfOk result (λ told. IsThreadTranscriptOf script.now told.0) }
-    ensures refused { IfErr result IsOfRun }
+    ensures refused { IfErr result (IsEndedBy script.now seats.items) }
 {
-    match run_by(rt, alloc, script, workers) {
-        Ok(told) => Ok(told),
-        Err(fault) => Err(known(fault)),
+    match finish(shifts, seats.as_mut_slice()) {
+        Ok(()) => concluded_from(alloc, script, seats),
+        Err(fault) => {
+            close_all(seats);
+            Err(known(fault))
+        }
     }
 }
 
-/// Runs a script by so many workers. Each session's operations, in order, are the backlog of its seat, and each collection
-/// that of its shard's; deliveries and drains are left out, since the threads deliver by themselves. Each worker takes at
-/// most 10,000,000 turns; then turns are taken until a whole round does nothing, and the journals are compared. The
-/// transcript has the outcomes and refusals of one session after the other, each session's in order. Waits for locks. Refused
-/// with the fault of the lowest-numbered worker who ended with one, else as the drain: with `ClockSpent`, `Memory` or
-/// `JournalFull`; with `StrangerEnd` where the journals aren't those of a run of the script. Costs what the turns cost, a
-/// comparison of each envelope, and for each actor two walks through the script and one through its journal.
-pub fn run<R: Threads + Wait + Sync>(
+/// Runs a script by a crew, concludes what it did, and tells it.
+fn run_by<R: Threads + Wait + Sync, C: Crew>(
     rt: &R,
     alloc: Global,
     script: &Script,
-    workers: &Workers,
+    crew: &C,
+) -> Result<(Transcript, Concluded), Fault>
+    ensures told { IfOk result (λ told. IsThreadTranscriptOf script.now told.0) }
+    ensures refused { IfErr result (IsRunRefused C.brings script.now) }
+{
+    let seats = seats_of(alloc, script)?;
+    let (report, seats) = crew.go_round(rt, alloc, seats)?;
+    made_of(alloc, script, report.shifts.as_slice(), seats)
+}
+
+/// Runs a script by a crew: so many workers. Each session's operations, in order, are the backlog of its seat, and each
+/// collection that of its shard's; deliveries and drains are left out, since the threads deliver by themselves. Each worker takes
+/// at most 10,000,000 turns; then turns are taken until a whole round does nothing, and the journals are compared. The
+/// transcript has the outcomes and refusals of one session after the other, each session's in order. Waits for locks. Refused
+/// with the fault of the lowest-numbered worker who ended with one, else as the drain: with `Memory`, and with `ClockSpent` or
+/// `JournalFull` only where a seat that came back refuses with it; with `StrangerEnd` only where one refuses with another fault,
+/// or where what came back isn't of a run of the script. Costs what the turns cost, a comparison of each envelope, and for each
+/// actor two walks through the script and one through its journal.
+pub fn run<R: Threads + Wait + Sync, C: Crew>(
+    rt: &R,
+    alloc: Global,
+    script: &Script,
+    crew: &C,
 ) -> Result<Transcript, Fault>
     ensures told { IfOk result (IsThreadTranscriptOf script.now) }
-    ensures refused { IfErr result IsOfRun }
+    ensures refused { IfErr result (IsRunRefused C.brings script.now) }
 {
-    let (transcript, concluded) = told_by(rt, alloc, script, workers)?;
+    let (transcript, concluded) = run_by(rt, alloc, script, crew)?;
     concluded.close();
     Ok(transcript)
 }
 
 /// The same for a program that ends with it: the memory of what the seats recorded is given back with that of the process.
-pub(crate) fn run_to_the_end<R: Threads + Wait + Sync>(
+pub(crate) fn run_to_the_end<R: Threads + Wait + Sync, C: Crew>(
     rt: &R,
     alloc: Global,
     script: &Script,
-    workers: &Workers,
+    crew: &C,
 ) -> Result<Transcript, Fault>
     ensures told { IfOk result (IsThreadTranscriptOf script.now) }
-    ensures refused { IfErr result IsOfRun }
+    ensures refused { IfErr result (IsRunRefused C.brings script.now) }
 {
-    let (transcript, concluded) = told_by(rt, alloc, script, workers)?;
+    let (transcript, concluded) = run_by(rt, alloc, script, crew)?;
     concluded.leave();
     Ok(transcript)
 }

@@ -1,6 +1,6 @@
 //! The seats of a script, and their locks.
-ghost use Rattle.std.specs.Prelude.{◌≡◌, ◌≤◌, ◌+◌, [], length, vec_capacity, IfOk, IfErr};
-ghost use Rattle.messages.specs.Topology.{node_count};
+ghost use Rattle.std.specs.Prelude.{◌≡◌, ◌≤◌, ◌+◌, [], length, vec_capacity, IfOk, OnOk, IfErr};
+ghost use Rattle.running.specs.Loaded.{with_asked, HaveAsked, AreLoadedSeats};
 
 use crate::asking::asked_in;
 use actors::{Machine, Mesh, Seat};
@@ -25,8 +25,11 @@ pub(crate) fn close_all(mut seats: Vec<Seat<Actor>>) {
     seats.destroy_empty();
 }
 
-/// Gives the actor of a seat what the script asks of it. Refused with `Memory` alone.
-fn load(alloc: Global, seat: &mut Seat<Actor>, events: &[Event]) -> Result<(), Fault> {
+/// Gives the actor of a seat what these events of a script ask of it. Refused with `Memory` alone.
+fn load(alloc: Global, seat: &mut Seat<Actor>, events: &[Event]) -> Result<(), Fault>
+    ensures ok { OnOk result (seat.new ≡ with_asked events.now seat.old) }
+    ensures memory { IfErr result (λ e. e ≡ Fault.Memory) }
+{
     let asked = asked_in(alloc, seat.node(), events)?;
     match seat.load(asked) {
         Ok(()) => Ok(()),
@@ -34,17 +37,22 @@ fn load(alloc: Global, seat: &mut Seat<Actor>, events: &[Event]) -> Result<(), F
     }
 }
 
-/// Gives each actor what the script asks of it. Refused with `Memory` alone.
-fn load_all(alloc: Global, seats: &mut [Seat<Actor>], events: &[Event]) -> Result<(), Fault> {
+/// Gives each actor what these events of a script ask of it. Refused with `Memory` alone.
+fn load_all(alloc: Global, seats: &mut [Seat<Actor>], events: &[Event]) -> Result<(), Fault>
+    ensures ok { OnOk result (HaveAsked events.now seats.old seats.new) }
+    ensures memory { IfErr result (λ e. e ≡ Fault.Memory) }
+{
     for place in 0..seats.len() {
         load(alloc, &mut seats[place], events)?;
     }
     Ok(())
 }
 
-/// The seats of a script's actors, by their nodes, each with what the script asks of its actor. Refused with `Memory` alone.
+/// The seats of a script's actors, by their nodes: each is new, with rings for 32 envelopes and a journal for 1,000,000 events,
+/// and has what the script asks of its actor as its backlog. Refused with `Memory` alone.
 pub(crate) fn seats_of(alloc: Global, script: &Script) -> Result<Vec<Seat<Actor>>, Fault>
-    ensures count { IfOk result (λ seats. length seats.items ≡ node_count script.now.topology) }
+    ensures ok { IfOk result (λ seats. AreLoadedSeats script.now 32 1000000 seats.items) }
+    ensures memory { IfErr result (λ e. e ≡ Fault.Memory) }
 {
     let mut seats = Mesh::build_sized(alloc, &script.topology, RING, JOURNAL)?;
     match load_all(alloc, seats.as_mut_slice(), script.events.as_slice()) {

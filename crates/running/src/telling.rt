@@ -1,10 +1,8 @@
 //! What became of the operations of sessions is told.
-ghost use Rattle.std.specs.Prelude.{◌≡◌, ◌<◌, ◌++◌, ◌∷◌, [], ◌⊎◌, ℕ, true, map, drop, Some, All, IfOk, OnOk, IfErr};
-ghost use Rattle.messages.specs.Topology.{node_count};
-ghost use Rattle.actors.specs.Seats.{SeatValue};
+ghost use Rattle.std.specs.Prelude.{◌≡◌, ◌↔◌, ◌++◌, ◌∷◌, [], ◌⊎◌, true, map, drop, All, IfOk, OnOk, IfErr};
 ghost use Rattle.actors.specs.Resting.{IsResting};
 ghost use Rattle.threaded.specs.OneRun.{seat_of};
-ghost use Rattle.running.specs.Asked.{asked_of, HasTaken};
+ghost use Rattle.running.specs.Faults.{TookIn, HaveTaken, AreOfScript};
 ghost use Rattle.workload.specs.Simulation.{entry_by};
 ghost use Rattle.running.specs.Told.{refusal_by, told_before, left_after, told_by, told_at, told_of};
 ghost use Rattle.running.specs.Running.{IsThreadTranscriptOf};
@@ -114,23 +112,41 @@ fn tell_sessions(concluded: &Concluded, transcript: &mut Transcript) -> Result<(
     Ok(())
 }
 
-/// Whether each actor did a beginning of what the script asks of it, and nothing else of its own.
+/// Whether the actor with this node has a seat, and did a beginning of what the script asks of it, and nothing else of its own.
+fn took(script: &Script, concluded: &Concluded, node: Node) -> bool
+    ensures { (result ≡ true) ↔ TookIn script.now concluded.now.seats node }
+{
+    match concluded.seat(node) {
+        Some(seat) => has_taken(script, node, seat),
+        None => false,
+    }
+}
+
+/// Whether so it is of each actor.
 fn have_taken(script: &Script, concluded: &Concluded) -> bool
-    ensures { result ≡ true → (node : ℕ) (s : SeatValue) → node < node_count script.now.topology → seat_of concluded.now.seats node ≡ Some s
-        → HasTaken script.now.topology (asked_of script.now node) s }
+    ensures { (result ≡ true) ↔ HaveTaken script.now concluded.now.seats }
 {
     for node in 0..script.topology.node_count() {
-        let node = Node::new(node);
-        match concluded.seat(node) {
-            Some(seat) if has_taken(script, node, seat) => {}
-            _ => return false,
+        if !took(script, concluded, Node::new(node)) {
+            return false;
         }
     }
     true
 }
 
+/// Whether the seats are of a run of the script.
+fn are_of(script: &Script, concluded: &Concluded) -> bool
+    ensures { (result ≡ true) ↔ ((concluded.now.top ≡ script.now.topology) × HaveTaken script.now concluded.now.seats) }
+{
+    if !same_topology(concluded.topology(), &script.topology) {
+        return false;
+    }
+    have_taken(script, concluded)
+}
+
 /// What became of the operations of a script, if these seats did what it asks of their actors. That they rest is the caller's
-/// condition. Refused with `StrangerEnd` where they didn't, and with `Memory`. For each actor the script is gone through once.
+/// condition. Refused with `StrangerEnd` exactly where they didn't, and with `Memory`. For each actor the script is gone through
+/// once.
 pub(crate) fn tell(
     alloc: Global,
     script: &Script,
@@ -138,14 +154,15 @@ pub(crate) fn tell(
 ) -> Result<Transcript, Fault>
     requires { All IsResting concluded.now.seats }
     ensures told { IfOk result (IsThreadTranscriptOf script.now) }
-    ensures refused { IfErr result (λ e. (e ≡ Fault.Memory) ⊎ (e ≡ Fault.StrangerEnd)) }
+    ensures of { IfOk result (λ transcript. AreOfScript script.now concluded.now.seats) }
+    ensures refused { IfErr result (λ e. (e ≡ Fault.Memory) ⊎ ((e ≡ Fault.StrangerEnd) × (AreOfScript script.now concluded.now.seats → ⊥))) }
 {
-    if !same_topology(concluded.topology(), &script.topology) || !have_taken(script, concluded) {
+    // the journals are those of a run
+    let _concluded = concluded.seats();
+    if !are_of(script, concluded) {
         return Err(Fault::StrangerEnd);
     }
     let mut transcript = Transcript::new(alloc);
     tell_sessions(concluded, &mut transcript)?;
-    // the journals are those of a run
-    let _concluded = concluded.seats();
     Ok(transcript)
 }

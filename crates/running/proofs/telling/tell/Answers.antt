@@ -1,11 +1,22 @@
-use Rattle.std.proofs.Common.{◌∙◌, ◌++◌, ap, sym}
+use Rattle.std.proofs.Common.{◌∙◌, ◌++◌, ap, inr, refl}
 use Rattle.running.specs.Told.{told_of}
-use Rattle.running.proofs.Shown.{is_transcript}
+use Rattle.running.proofs.Shown.{is_transcript, of_script, not_of_script}
 use Rattle.running.proofs.telling.tell.Goals as goal
+
+pub returns-then-not-are_of-clause-refused : goal.returns-then-not-are_of-clause-refused
+returns-then-not-are_of-clause-refused c =
+    let v = c.args.concluded.now in
+    inr (refl, not_of_script c.args.script.now v.seats v.top c.seats-concluded.ensures.run (λ both. let no = c.if-not-are_of.ensures.1 both in absurd (cc)))
 
 pub returns-clause-told : goal.returns-clause-told
 returns-clause-told c =
     let v = c.args.concluded.now in
-    is_transcript c.args.script.now c.tell_sessions.new.transcript v.seats v.top (sym c.topology.ensures ∙ c.same_topology.ensures.0 c.if-not-same_topology.false)
-    c.seats-concluded.ensures.run c.requires (c.have_taken.ensures c.if-not-have_taken.false)
+    let of = c.if-not-are_of.ensures.0 refl in
+    is_transcript c.args.script.now v.seats c.tell_sessions.new.transcript v.top of.0 c.seats-concluded.ensures.run c.requires of.1
     (c.in_ok-tell_sessions.ensures.told ∙ ap (λ l. l ++ told_of v.top v.seats) c.new-transcript.ensures)
+
+pub returns-clause-of : goal.returns-clause-of
+returns-clause-of c =
+    let v = c.args.concluded.now in
+    let of = c.if-not-are_of.ensures.0 refl in
+    of_script c.args.script.now v.seats v.top of.0 c.seats-concluded.ensures.run of.1

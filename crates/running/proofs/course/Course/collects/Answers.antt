@@ -1,21 +1,20 @@
-use Rattle.std.proofs.Common.{◌≡◌, ◌∙◌, ◌∷◌, [], Some, take, slice_get, refl, ap, subst, arith, rules}
+use Rattle.std.proofs.Common.{◌≡◌, ◌∷◌, [], refl, arith}
 use Rattle.messages.specs.declared.event.Event.TheVariants as event
 use Rattle.actors.specs.Journals.{submissions}
-use Rattle.world.proofs.Replacing.{item_at}
-use Rattle.running.specs.Asked.{own_events}
-use Rattle.running.proofs.AskedMore.{came_by_own}
+use Rattle.running.proofs.Exact.{own_came, own_waits, own_differs}
 use Rattle.running.proofs.course.Course.collects.Goals as goal
 
-pub returns-in-Some-Collect-clause-came : goal.returns-in-Some-Collect-clause-came
-returns-in-Some-Collect-clause-came c =
-    let place = c.next_own-self.result in
-    let x = event.Collect c.args.time in
-    let found = c.in-Some-Collect.ensures.lookup in
-    let same : c.in-Some-Collect.own ≡ c.args.time = search rules in
-    let here : slice_get c.journal-journal.result.now place ≡ Some x =
-    item_at c.journal-journal.result.now place c.in-Some-Collect.field-0.now found.3.0 found.1 ∙ ap Some (c.in-Some-Collect.field-0-is ∙ ap event.Collect same) in
-    let none : submissions (x ∷ []) ≡ 0 = refl in
-    λ top done come.
-    came_by_own top c.args.seat.now c.args.self.now _ done x place come refl refl
-    (subst (λ j. own_events (take place j) ≡ own_events (take c.args.self.now.events j)) c.journal-journal.ensures.value c.next_own-self.ensures.passed)
-    (subst (λ j. slice_get j place ≡ Some x) c.journal-journal.ensures.value here) refl refl (omega (arith, none))
+pub returns-then-not-is_collection-clause-came : goal.returns-then-not-is_collection-clause-came
+returns-then-not-is_collection-clause-came c = λ top done come.
+    own_waits top c.args.seat.now c.args.self.now _ done come c.journal-journal.result.now c.journal-journal.ensures.value c.next_own-self.result c.next_own-self.ensures.passed refl refl refl
+
+pub returns-then-not-is_collection-clause-stopped : goal.returns-then-not-is_collection-clause-stopped
+returns-then-not-is_collection-clause-stopped c = λ top done come off.
+    own_differs top c.args.seat.now c.args.self.now c.args.self.now done come c.journal-journal.result.now c.journal-journal.ensures.value c.next_own-self.result
+    c.next_own-self.ensures.passed (event.Collect c.args.time) _ c.item_at.ensures refl c.next_own-self.ensures.own c.if-not-is_collection.ensures
+
+pub returns-clause-came : goal.returns-clause-came
+returns-clause-came c = λ top done come.
+    let none : submissions (event.Collect c.args.time ∷ []) ≡ 0 = refl in
+    own_came top c.args.seat.now c.args.self.now _ done come c.journal-journal.result.now c.journal-journal.ensures.value c.next_own-self.result
+    c.next_own-self.ensures.passed (event.Collect c.args.time) _ c.item_at.ensures refl refl c.if-not-is_collection.ensures refl refl (omega (arith, none))

@@ -1,14 +1,17 @@
-use Rattle.std.proofs.Common.{◌≡◌, ◌∙◌, Some, slice_get, refl, ap, sym, subst, rules}
-use Rattle.world.proofs.Replacing.{item_at}
+use Rattle.std.proofs.Common.{◌≡◌, ◌∙◌, Some, slice_get, refl, ap, sym}
 use Rattle.running.proofs.AskedMore.{came_by_refusal}
+use Rattle.running.proofs.Exact.{refusal_stopped}
 use Rattle.running.proofs.course.Course.refuses.Goals as goal
 
-pub returns-in-Some-clause-came : goal.returns-in-Some-clause-came
-returns-in-Some-clause-came c =
-    let r = c.in-Some.refusal.now in
-    let found = c.in-Some.ensures.lookup in
-    let same : r.1 ≡ c.args.fault = search rules in
-    let here : slice_get c.refusals.result.now c.args.self.now.refusals ≡ Some r = item_at c.refusals.result.now c.args.self.now.refusals r found.3.0 found.1 in
-    λ top x done some come.
-    came_by_refusal top c.args.seat.now c.args.self.now _ done x r come (some ∙ ap Some (sym same)) c.if-refusal-self.true
-    (subst (λ l. slice_get l c.args.self.now.refusals ≡ Some r) c.refusals.ensures here) refl refl refl
+pub returns-then-not-is_refusal-clause-stopped : goal.returns-then-not-is_refusal-clause-stopped
+returns-then-not-is_refusal-clause-stopped c = λ top x done some come off.
+    refusal_stopped top c.args.seat.now c.args.self.now done come c.requires.refusals x c.args.fault some
+    (λ is.
+    let no = c.if-not-is_refusal.ensures.1 (c.item_at.ensures ∙ ap (λ l. slice_get l c.args.self.now.refusals) c.refusals-refusals.ensures ∙ is) in
+    absurd (cc))
+
+pub returns-clause-came : goal.returns-clause-came
+returns-clause-came c = λ top x done some come.
+    let here : slice_get c.args.seat.now.refusals c.args.self.now.refusals ≡ Some (c.args.self.now.accepted, c.args.fault) =
+    ap (λ l. slice_get l c.args.self.now.refusals) (sym c.refusals-refusals.ensures) ∙ sym c.item_at.ensures ∙ c.if-not-is_refusal.ensures.0 refl in
+    came_by_refusal top c.args.seat.now c.args.self.now _ done x (c.args.self.now.accepted, c.args.fault) come some refl here refl refl refl

@@ -1,21 +1,20 @@
-use Rattle.std.proofs.Common.{◌≡◌, ◌∙◌, ◌∷◌, [], Some, take, slice_get, refl, ap, subst, arith}
+use Rattle.std.proofs.Common.{◌≡◌, ◌∷◌, [], refl}
 use Rattle.messages.specs.declared.event.Event.TheVariants as event
 use Rattle.actors.specs.Journals.{submissions}
-use Rattle.world.proofs.Replacing.{item_at}
-use Rattle.running.specs.Asked.{own_events}
-use Rattle.running.proofs.AskedMore.{came_by_own}
+use Rattle.running.proofs.Exact.{own_came, own_waits, own_differs}
 use Rattle.running.proofs.course.Course.submits.Goals as goal
 
-pub returns-in-Some-Submit-clause-came : goal.returns-in-Some-Submit-clause-came
-returns-in-Some-Submit-clause-came c =
-    let place = c.next_own-self.result in
-    let x = event.Submit c.args.op.now in
-    let found = c.in-Some-Submit.ensures.lookup in
-    let same : c.in-Some-Submit.own ≡ c.args.op.now = c.same_op.ensures.0 c.if-same_op.true in
-    let here : slice_get c.journal-journal.result.now place ≡ Some x =
-    item_at c.journal-journal.result.now place c.in-Some-Submit.field-0.now found.3.0 found.1 ∙ ap Some (c.in-Some-Submit.field-0-is ∙ ap event.Submit same) in
-    let one : submissions (x ∷ []) ≡ 1 = refl in
-    λ top done accepted come.
-    came_by_own top c.args.seat.now c.args.self.now _ done x place come accepted refl
-    (subst (λ j. own_events (take place j) ≡ own_events (take c.args.self.now.events j)) c.journal-journal.ensures.value c.next_own-self.ensures.passed)
-    (subst (λ j. slice_get j place ≡ Some x) c.journal-journal.ensures.value here) refl refl (omega (arith, one))
+pub returns-then-not-is_submission-clause-came : goal.returns-then-not-is_submission-clause-came
+returns-then-not-is_submission-clause-came c = λ top done none come.
+    own_waits top c.args.seat.now c.args.self.now _ done come c.journal-journal.result.now c.journal-journal.ensures.value c.next_own-self.result c.next_own-self.ensures.passed refl refl refl
+
+pub returns-then-not-is_submission-clause-stopped : goal.returns-then-not-is_submission-clause-stopped
+returns-then-not-is_submission-clause-stopped c = λ top done none come off.
+    own_differs top c.args.seat.now c.args.self.now c.args.self.now done come c.journal-journal.result.now c.journal-journal.ensures.value c.next_own-self.result
+    c.next_own-self.ensures.passed (event.Submit c.args.op.now) _ c.item_at.ensures none c.next_own-self.ensures.own c.if-not-is_submission.ensures
+
+pub returns-clause-came : goal.returns-clause-came
+returns-clause-came c = λ top done none come.
+    let one : submissions (event.Submit c.args.op.now ∷ []) ≡ 1 = refl in
+    own_came top c.args.seat.now c.args.self.now _ done come c.journal-journal.result.now c.journal-journal.ensures.value c.next_own-self.result
+    c.next_own-self.ensures.passed (event.Submit c.args.op.now) _ c.item_at.ensures none refl c.if-not-is_submission.ensures refl refl refl
