@@ -1,4 +1,4 @@
-use Rattle.std.proofs.Common.{◌≡◌, ◌∙◌, ◌<◌, ◌≤◌, length, sym, rules}
+use Rattle.std.proofs.Common.{◌∙◌, ◌<◌, ◌≤◌, length, sym, rules}
 use Rattle.threaded.proofs.Gathering.{begun_next, all_lent}
 use Rattle.threaded.proofs.entries.AllEndedIterator.next.Goals as goal
 
