@@ -1,5 +1,5 @@
 -- What was asked, and how far an actor came with it, one event more at a time.
-use Rattle.std.proofs.Common.{◌≡◌, ◌∙◌, ℕ, zero, suc, ◌+◌, ◌<◌, ◌≤◌, Bool, true, false, cond, List, [], ◌∷◌, ◌++◌, length, take, drop, slice_get, Option, Some, None, inl, inr, refl, sym, ap, subst, arith}
+use Rattle.std.proofs.Common.{◌≡◌, ◌∙◌, ℕ, zero, suc, ◌+◌, ◌<◌, ◌≤◌, Bool, true, false, cond, List, [], ◌∷◌, ◌++◌, length, take, slice_get, Option, Some, None, inl, inr, refl, sym, ap, subst, arith}
 use Rattle.std.specs.Prelude.{◌==◌, All, filter_map, option_map, option_to_list, get_or, slice_index_or}
 use Rattle.std.proofs.lemmas.Option.{slice_get_within, slice_get-get_or}
 use Rattle.std.specs.Option.{is_none}
@@ -14,14 +14,12 @@ use Rattle.actors.specs.Journals.{op_in, submissions, IsOwn}
 use Rattle.actors.specs.Seats.{SeatValue}
 use Rattle.workload.specs.declared.script.Event.{Event as ScriptEvent}
 use Rattle.workload.specs.declared.script.Event.TheVariants as script
-use Rattle.workload.specs.declared.script.Script.{Script}
 use Rattle.world.proofs.Among.{Among, among_append, get_among}
 use Rattle.world.proofs.Replacing.{item_at}
 use Rattle.threaded.proofs.Lists.{take_one_more}
 use Rattle.running.specs.declared.course.Course.{Course}
-use Rattle.running.proofs.ToldMore.{drop_past}
-use Rattle.running.specs.Asked.{asked_by, asked_in, asked_of, fault_of, accepted_of, refusals_from, own_events, HasTaken}
-use Rattle.running.specs.Course.{HasCome, HasOnlyDone, IsWaitingAfter}
+use Rattle.running.specs.Asked.{asked_by, asked_in, fault_of, accepted_of, refusals_from, own_events}
+use Rattle.running.specs.Course.{HasCome}
 
 module _ (top : TopologyValue) where
   abbrev not_refused : ActorEvent → Bool
@@ -96,12 +94,6 @@ module _ (top : TopologyValue) where
             ∙ ap submissions (sym (accepted_more done x none));
       }
 
-  -- nothing was asked, and more was looked at
-  pub came_no_further : (s : SeatValue) (c d : Course) (done : List ActorEvent) → HasCome top s c done
-      → own_events (take d.events s.journal) ≡ own_events (take c.events s.journal) → d.refusals ≡ c.refusals → d.accepted ≡ c.accepted → HasCome top s d done
-  came_no_further s c d done come passed refusals accepted =
-      record { own = passed ∙ come.own; refused = ap (λ n. take n s.refusals) refusals ∙ come.refused; counted = accepted ∙ come.counted }
-
   -- what is asked next was refused
   pub came_by_refusal : (s : SeatValue) (c d : Course) (done : List ActorEvent) (x : ActorEvent) (r : ℕ × Fault) → HasCome top s c done → fault_of top x ≡ Some r.1
       → r.0 ≡ c.accepted → slice_get s.refusals c.refusals ≡ Some r
@@ -151,15 +143,6 @@ asked_more node events place x at =
     ap (λ n. asked_in node (take n events)) next ∙ ap (asked_in node) (take_one_more events place x at)
     ∙ filter_map-append (asked_by node) (take place events) (x ∷ []) ∙ ap (λ l. asked_in node (take place events) ++ l) (asked_one node x)
 
-pub asked_all : (node : ℕ) (events : List ScriptEvent) (place : ℕ) → asked_in node events ≡ asked_in node (take place events) ++ asked_in node (drop place events)
-asked_all node events place = ap (asked_in node) (sym (take_drop events place)) ∙ filter_map-append (asked_by node) (take place events) (drop place events)
-  where
-    take_drop : (xs : List ScriptEvent) (n : ℕ) → take n xs ++ drop n xs ≡ xs
-    take_drop [] zero = refl
-    take_drop [] (suc n) = refl
-    take_drop (x ∷ xs) zero = refl
-    take_drop (x ∷ xs) (suc n) = ap (λ l. x ∷ l) (take_drop xs n)
-
 -- what the next event asks is added
 pub asked_next : (node : ℕ) (events : List ScriptEvent) (place : ℕ) (x : ScriptEvent) (old now : List ActorEvent) → place < length events → x ≡ slice_index_or events place x
     → old ≡ asked_in node (take place events) → now ≡ old ++ option_to_list (asked_by node x) → now ≡ asked_in node (take (place + 1) events)
@@ -206,29 +189,3 @@ asked_own node events = all_at (asked_in node events) (each events)
           | inl here ↦ one x y here
           | inr later ↦ each xs y later
         ]
-
-module _ (s : Script) (node : ℕ) (seat : SeatValue) (place : ℕ) where
-  -- the actor did nothing else, and all was asked
-  pub taken_whole : length s.events ≤ place → HasOnlyDone s.topology seat (asked_in node (take place s.events)) → HasTaken s.topology (asked_of s node) seat
-  taken_whole le did =
-      record {
-        done = asked_in node (take place s.events);
-        rest = asked_in node (drop place s.events);
-        beginning = asked_all node s.events place;
-        own = did.0;
-        refused = did.1;
-        left = inl (ap (asked_in node) (drop_past s.events place le));
-      }
-
-  -- the actor did nothing else, and waits for the end of an operation
-  pub taken_so_far : (c : Course) → HasCome s.topology seat c (asked_in node (take place s.events))
-      → IsWaitingAfter s.topology seat c (asked_in node (take place s.events)) → HasTaken s.topology (asked_of s node) seat
-  taken_so_far c come waits =
-      record {
-        done = asked_in node (take place s.events);
-        rest = asked_in node (drop place s.events);
-        beginning = asked_all node s.events place;
-        own = waits.0.0;
-        refused = waits.0.1;
-        left = inr (subst (λ n. length seat.outcomes < n) come.counted waits.1);
-      }

@@ -3,6 +3,7 @@ use Rattle.std.proofs.Common.{◌≡◌, ◌∙◌, ℕ, zero, suc, ◌+◌, ◌
 use Rattle.std.specs.Prelude.{filter, flat_map, ◌==◌, All, Contains}
 use Rattle.std.specs.List.{range_with_len}
 use Rattle.std.proofs.lemmas.Bool.Decides.{nat_tests}
+use Rattle.std.proofs.lemmas.List.{append-nil}
 use Rattle.std.proofs.lemmas.List.Elements.{filter-append}
 use Rattle.logical_time.specs.declared.fault.Fault.{Fault}
 use Rattle.logical_time.specs.declared.fault.Fault.TheVariants.{Memory, StrangerEnd}
@@ -22,6 +23,7 @@ use Rattle.threaded.specs.Machines.{as_finished, Refuses}
 use Rattle.threaded.specs.OneRun.{seat_of, AreSeatsOf, AreOfOneRun}
 use Rattle.threaded.specs.Matching.{IsUnconcluded}
 use Rattle.threaded.specs.Concluded.{InEachRun, AreConcluded, by_session}
+use Rattle.threaded.specs.Quiet.{AreAllReceived, AreOfQuietRun}
 use Rattle.workload.specs.declared.script.Script.{Script}
 use Rattle.workload.specs.declared.transcript.Entry.{Entry}
 use Rattle.workload.specs.declared.transcript.Entry.TheVariants as entry
@@ -167,8 +169,8 @@ module _ (s : Script) (seats : List SeatValue) where
       subst (λ z. HasTaken s.topology (asked_of s node) z) same here.2
 
   pub is_transcript : (entries : List Entry) (top : TopologyValue) → top ≡ s.topology → AreConcluded top seats → All IsResting seats → HaveTaken s seats
-      → entries ≡ told_of top seats → IsThreadTranscriptOf s entries
-  is_transcript entries top same are resting took told =
+      → AreOfQuietRun top seats → entries ≡ told_of top seats → IsThreadTranscriptOf s entries
+  is_transcript entries top same are resting took quiet told =
       let here : AreConcluded s.topology seats = subst (λ t. AreConcluded t seats) same are in
       let tells : entries ≡ told_of s.topology seats = told ∙ ap (λ t. told_of t seats) same in
       record {
@@ -176,19 +178,32 @@ module _ (s : Script) (seats : List SeatValue) where
         concluded = here;
         resting = resting;
         taken = each_took took;
+        quiet = subst (λ t. AreOfQuietRun t seats) same quiet;
         told = tells;
         outcomes = outcomes_in_each s.topology entries seats here tells;
         reads = reads_in_each s.topology entries seats here tells;
       }
 
-  -- seats that conclude a run, each of whose actors did what the script asks of it
-  pub of_script : (top : TopologyValue) → top ≡ s.topology → AreConcluded top seats → HaveTaken s seats → AreOfScript s seats
-  of_script top same are took =
-      let here : AreConcluded s.topology seats = subst (λ t. AreConcluded t seats) same are in
-      record { are = here.are; links = here.links; taken = took }
+  -- seats that conclude a run and received all that was sent, each of whose actors did what the script asks of it
+  pub of_script : (top : TopologyValue) → top ≡ s.topology → AreConcluded top seats → AreAllReceived top seats → HaveTaken s seats → AreOfScript s seats
+  of_script top same are received took =
+      record {
+        are = subst (λ t. AreSeatsOf t seats) same are.are;
+        received = subst (λ t. AreAllReceived t seats) same received;
+        taken = took;
+      }
 
   pub not_of_run : (AreOfOneRun seats → ⊥) → AreOfScript s seats → ⊥
-  not_of_run not of = not (record { top = s.topology; are = of.are; links = of.links })
+  not_of_run not of =
+      not
+      (record {
+        top = s.topology;
+        are = of.are;
+        links = λ from to sends receives. ([], sym (of.received from to sends receives) ∙ sym (append-nil _));
+      })
+
+  pub not_received : (top : TopologyValue) → top ≡ s.topology → (AreAllReceived top seats → ⊥) → AreOfScript s seats → ⊥
+  not_received top same not of = not (subst (λ t. AreAllReceived t seats) (sym same) of.received)
 
   pub not_of_script : (top : TopologyValue) → AreConcluded top seats → ((top ≡ s.topology) × HaveTaken s seats → ⊥) → AreOfScript s seats → ⊥
   not_of_script top are not of = not (one_topology top are.are of.are, of.taken)

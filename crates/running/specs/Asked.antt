@@ -1,5 +1,5 @@
 -- What a script asks of each actor, and when an actor did it.
-use Rattle.std.specs.Prelude.{◌≡◌, ℕ, ◌+◌, ◌<◌, ◌==◌, ◌⊎◌, length, if◌then◌else◌, List, [], ◌∷◌, ◌++◌, filter, filter_map, Option, Some, None, option_map, option_to_list}
+use Rattle.std.specs.Prelude.{◌≡◌, ℕ, ◌+◌, ◌==◌, if◌then◌else◌, List, [], ◌∷◌, ◌++◌, filter, filter_map, Option, Some, None, option_map, option_to_list}
 use Rattle.std.specs.Option.{is_none}
 use Rattle.logical_time.specs.declared.fault.Fault.{Fault}
 use Rattle.messages.specs.declared.event.Event.{Event as ActorEvent}
@@ -48,12 +48,7 @@ refusals_from top count (x ∷ xs) =
 abbrev pub own_events : List ActorEvent → List ActorEvent
 own_events journal = filter (λ x. is_none (envelope_of x)) journal
 
--- Of what was asked of it, the actor of a seat did a beginning: what was accepted of that is its own events, and what wasn't
--- is its refusals. Something is left only where an operation that was accepted hasn't ended.
+-- The actor of a seat did all that was asked of it: what was accepted of that is its own events, and what wasn't is its refusals.
 pub record HasTaken (top : TopologyValue) (asked : List ActorEvent) (s : SeatValue) : Type 0 where
-  pub done : List ActorEvent
-  pub rest : List ActorEvent
-  pub beginning : asked ≡ done ++ rest
-  pub own : own_events s.journal ≡ accepted_of top done
-  pub refused : s.refusals ≡ refusals_from top 0 done
-  pub left : (rest ≡ []) ⊎ (length s.outcomes < submissions (accepted_of top done))
+  pub own : own_events s.journal ≡ accepted_of top asked
+  pub refused : s.refusals ≡ refusals_from top 0 asked

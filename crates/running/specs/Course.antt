@@ -1,11 +1,11 @@
 -- How far an actor came with what was asked of it.
-use Rattle.std.specs.Prelude.{◌≡◌, ◌≤◌, ◌<◌, Bool, true, false, List, ◌∷◌, ◌++◌, Option, Some, take, length}
+use Rattle.std.specs.Prelude.{◌≡◌, ◌≤◌, List, ◌∷◌, ◌++◌, Option, Some, take, length}
 use Rattle.messages.specs.declared.event.Event.{Event as ActorEvent}
 use Rattle.messages.specs.Topology.{TopologyValue}
 use Rattle.actors.specs.Journals.{submissions}
 use Rattle.actors.specs.Seats.{SeatValue}
 use Rattle.running.specs.declared.course.Course.{Course}
-use Rattle.running.specs.Asked.{accepted_of, refusals_from, own_events}
+use Rattle.running.specs.Asked.{accepted_of, refusals_from, own_events, HasTaken}
 
 -- it looked at no more events and refusals than there are, and each operation that was accepted is one of those events
 pub record IsWithin (s : SeatValue) (c : Course) : Type 0 where
@@ -19,22 +19,9 @@ pub record HasCome (top : TopologyValue) (s : SeatValue) (c : Course) (done : Li
   pub refused : take c.refusals s.refusals ≡ refusals_from top 0 done
   pub counted : c.accepted ≡ submissions (accepted_of top done)
 
--- where more was asked, and that was done or wasn't
-abbrev pub CameTo : TopologyValue → SeatValue → Course → Bool → List ActorEvent → List ActorEvent → Type 0
-CameTo top s c true done more = HasCome top s c (done ++ more)
-CameTo top s c false done more = HasCome top s c done
-
--- of what was asked, the actor did exactly this: its own events and its refusals are those of it
-abbrev pub HasOnlyDone : TopologyValue → SeatValue → List ActorEvent → Type 0
-HasOnlyDone top s done = (own_events s.journal ≡ accepted_of top done) × (s.refusals ≡ refusals_from top 0 done)
-
--- it did exactly this, and an operation that was accepted hasn't ended
-abbrev pub IsWaitingAfter : TopologyValue → SeatValue → Course → List ActorEvent → Type 0
-IsWaitingAfter top s c done = HasOnlyDone top s done × (length s.outcomes < c.accepted)
-
 -- after this, whatever came next, the actor didn't do this event
 abbrev pub DidNotDo : TopologyValue → SeatValue → List ActorEvent → ActorEvent → Type 0
-DidNotDo top s done event = (more : List ActorEvent) → HasOnlyDone top s (done ++ event ∷ more) → ⊥
+DidNotDo top s done event = (more : List ActorEvent) → HasTaken top (done ++ event ∷ more) s → ⊥
 
 -- an event was asked that the actor didn't do
 pub record HasStopped (top : TopologyValue) (s : SeatValue) (done : List ActorEvent) (next : Option ActorEvent) : Type 0 where

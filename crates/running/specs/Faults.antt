@@ -11,7 +11,8 @@ use Rattle.actors.specs.declared.report.End.{End}
 use Rattle.actors.specs.declared.report.End.TheVariants.{Turns, Fault as Faulty, Rest}
 use Rattle.actors.specs.declared.report.Shift.{Shift}
 use Rattle.threaded.specs.Machines.{Refuses}
-use Rattle.threaded.specs.OneRun.{seat_of, journal_of, AreSeatsOf, DoLinksMatch}
+use Rattle.threaded.specs.OneRun.{seat_of, AreSeatsOf}
+use Rattle.threaded.specs.Quiet.{AreAllReceived}
 use Rattle.workload.specs.declared.script.Script.{Script}
 use Rattle.running.specs.Asked.{asked_of, HasTaken}
 use Rattle.running.specs.Loaded.{AreLoadedSeats}
@@ -31,7 +32,7 @@ first_fault (s ∷ shifts) = option_or (fault_at s.end) (first_fault shifts)
 
 -- ## What came back
 
--- the actor with this node has a seat, and did what the script asks of it, as far as it could
+-- the actor with this node has a seat, and did all that the script asks of it
 abbrev pub TookIn : Script → List SeatValue → ℕ → Type 0
 TookIn s seats node = (seat : SeatValue) × (seat_of seats node ≡ Some seat) × HasTaken s.topology (asked_of s node) seat
 
@@ -39,11 +40,11 @@ TookIn s seats node = (seat : SeatValue) × (seat_of seats node ≡ Some seat) �
 abbrev pub HaveTaken : Script → List SeatValue → Type 0
 HaveTaken s seats = (node : ℕ) → node < node_count s.topology → TookIn s seats node
 
--- The seats are one for each of the script's actors, on each link the receipts are a beginning of what the sender's journal sent
--- there, and each actor did what the script asks of it, as far as it could.
+-- The seats are one for each of the script's actors, on each link all that the sender's journal sent there was received, and each
+-- actor did all that the script asks of it.
 pub record AreOfScript (s : Script) (seats : List SeatValue) : Type 0 where
   pub are : AreSeatsOf s.topology seats
-  pub links : DoLinksMatch s.topology (journal_of seats)
+  pub received : AreAllReceived s.topology seats
   pub taken : HaveTaken s seats
 
 -- a fault that is told as it is
@@ -62,7 +63,8 @@ CanEnd e seats = (e ≡ Memory) ⊎ OneCanRefuse Refuses e seats
 abbrev pub IsSpent : List SeatValue → Fault → Type 0
 IsSpent back e = ((e ≡ ClockSpent) ⊎ (e ≡ JournalFull)) × ((last : List SeatValue) × AreLater back last × OneCanRefuse Refuses e last)
 
--- After turns one of the seats refuses what is to be done otherwise, or all rest and aren't of a run of the script.
+-- After turns one of the seats refuses what is to be done otherwise, or all rest and aren't of a run of the script in which all
+-- that was sent was received.
 abbrev pub AreStrange : Script → List SeatValue → Type 0
 AreStrange s last = ((e : Fault) × (IsTold e → ⊥) × OneCanRefuse Refuses e last) ⊎ (All IsResting last × (AreOfScript s last → ⊥))
 

@@ -6,6 +6,7 @@ use Rattle.actors.specs.Seats.{SeatValue}
 use Rattle.actors.specs.Resting.{IsResting}
 use Rattle.threaded.specs.OneRun.{seat_of}
 use Rattle.threaded.specs.Concluded.{InEachRun, AreConcluded, by_session}
+use Rattle.threaded.specs.Quiet.{AreOfQuietRun}
 use Rattle.workload.specs.declared.script.Script.{Script}
 use Rattle.workload.specs.declared.transcript.Entry.{Entry}
 use Rattle.workload.specs.declared.transcript.Entry.TheVariants as entry
@@ -20,8 +21,10 @@ pub record IsThreadTranscriptOf (s : Script) (entries : List Entry) : Type 0 whe
   pub concluded : AreConcluded s.topology seats
   -- no seat had anything left to do
   pub resting : All IsResting seats
-  -- each actor did what the script asks of it, as far as it could
+  -- each actor did all that the script asks of it
   pub taken : (node : ℕ) (seat : SeatValue) → node < node_count s.topology → seat_of seats node ≡ Some seat → HasTaken s.topology (asked_of s node) seat
+  -- they received all that was sent: the run is quiet, so every operation ended, and all data centres have one table
+  pub quiet : AreOfQuietRun s.topology seats
   -- what is told of the sessions, one after the other
   pub told : entries ≡ told_of s.topology seats
   -- the outcomes among it are those of each run with these journals, by their sessions

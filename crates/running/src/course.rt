@@ -1,5 +1,5 @@
 //! How far an actor came with what was asked of it.
-ghost use Rattle.std.specs.Prelude.{◌≡◌, ◌↔◌, ◌≤◌, ◌++◌, ◌∷◌, [], ℕ, List, Bool, true, false, not, take, length, slice_get, Some, None, option_copied, option_to_list};
+ghost use Rattle.std.specs.Prelude.{◌≡◌, ◌↔◌, ◌≤◌, ◌++◌, ◌∷◌, [], List, true, false, not, take, length, slice_get, Some, None, option_copied, option_to_list};
 ghost use Rattle.std.specs.Option.{is_none};
 ghost use Rattle.logical_time.specs.Fault.{IsRefusedFor};
 ghost use Rattle.messages.specs.declared.event.Event.{Event as ActorEvent};
@@ -8,8 +8,8 @@ ghost use Rattle.messages.specs.Actors.{envelope_of};
 ghost use Rattle.messages.specs.Submitting.{plan_fault};
 ghost use Rattle.messages.specs.Topology.{TopologyValue};
 ghost use Rattle.actors.specs.Journals.{IsOwn};
-ghost use Rattle.running.specs.Asked.{asked_by, asked_of, fault_of, accepted_of, refusals_from, own_events, HasTaken};
-ghost use Rattle.running.specs.Course.{IsWithin, HasCome, CameTo, HasOnlyDone, IsWaitingAfter, DidNotDo, HasStopped};
+ghost use Rattle.running.specs.Asked.{asked_by, asked_of, fault_of, own_events, HasTaken};
+ghost use Rattle.running.specs.Course.{IsWithin, HasCome, DidNotDo, HasStopped};
 
 use actors::Seat;
 use column_family::Schema;
@@ -110,7 +110,7 @@ impl Course {
         requires { IsWithin seat.now self.old }
         ensures within { IsWithin seat.now self.new }
         ensures came { (top : TopologyValue) (done : List ActorEvent) → plan_fault top op.now ≡ None → HasCome top seat.now self.old done
-            → CameTo top seat.now self.new result done (event.Submit op.now ∷ []) }
+            → result ≡ true → HasCome top seat.now self.new (done ++ event.Submit op.now ∷ []) }
         ensures stopped { (top : TopologyValue) (done : List ActorEvent) → plan_fault top op.now ≡ None → HasCome top seat.now self.old done
             → result ≡ false → DidNotDo top seat.now done (event.Submit op.now) }
     {
@@ -129,7 +129,7 @@ impl Course {
         requires { IsWithin seat.now self.old }
         ensures within { IsWithin seat.now self.new }
         ensures came { (top : TopologyValue) (done : List ActorEvent) → HasCome top seat.now self.old done
-            → CameTo top seat.now self.new result done (event.Collect time ∷ []) }
+            → result ≡ true → HasCome top seat.now self.new (done ++ event.Collect time ∷ []) }
         ensures stopped { (top : TopologyValue) (done : List ActorEvent) → HasCome top seat.now self.old done
             → result ≡ false → DidNotDo top seat.now done (event.Collect time) }
     {
@@ -147,7 +147,7 @@ impl Course {
         requires { IsWithin seat.now self.old }
         ensures within { IsWithin seat.now self.new }
         ensures came { (top : TopologyValue) (x : ActorEvent) (done : List ActorEvent) → fault_of top x ≡ Some fault → HasCome top seat.now self.old done
-            → CameTo top seat.now self.new result done (x ∷ []) }
+            → result ≡ true → HasCome top seat.now self.new (done ++ x ∷ []) }
         ensures stopped { (top : TopologyValue) (x : ActorEvent) (done : List ActorEvent) → fault_of top x ≡ Some fault → HasCome top seat.now self.old done
             → result ≡ false → DidNotDo top seat.now done x }
     {
@@ -174,7 +174,7 @@ impl Course {
         requires { IsWithin seat.now self.old }
         ensures within { IsWithin seat.now self.new }
         ensures came { (top : TopologyValue) (done : List ActorEvent) → top.schema ≡ schema.now → HasCome top seat.now self.old done
-            → CameTo top seat.now self.new result done (option_to_list (asked_by node event.now)) }
+            → result ≡ true → HasCome top seat.now self.new (done ++ option_to_list (asked_by node event.now)) }
         ensures stopped { (top : TopologyValue) (done : List ActorEvent) → top.schema ≡ schema.now → HasCome top seat.now self.old done
             → result ≡ false → HasStopped top seat.now done (asked_by node event.now) }
     {
@@ -191,7 +191,7 @@ impl Course {
     /// Whether the actor did nothing else of its own, and nothing else was refused.
     fn is_whole(&self, seat: &Seat<Actor>) -> bool
         requires { IsWithin seat.now self.now }
-        ensures { (top : TopologyValue) (done : List ActorEvent) → HasCome top seat.now self.now done → (result ≡ true) ↔ HasOnlyDone top seat.now done }
+        ensures { (top : TopologyValue) (done : List ActorEvent) → HasCome top seat.now self.now done → (result ≡ true) ↔ HasTaken top done seat.now }
     {
         let journal = seat.journal();
         if next_own(journal, self.events) < journal.len() {
@@ -202,21 +202,10 @@ impl Course {
         }
         true
     }
-
-    /// The same, and an operation that was accepted hasn't ended.
-    fn is_waiting(&self, seat: &Seat<Actor>) -> bool
-        requires { IsWithin seat.now self.now }
-        ensures { (top : TopologyValue) (done : List ActorEvent) → HasCome top seat.now self.now done → (result ≡ true) ↔ IsWaitingAfter top seat.now self.now done }
-    {
-        if !self.is_whole(seat) {
-            return false;
-        }
-        seat.outcomes().len() < self.accepted
-    }
 }
 
-/// Whether the actor of a seat did what the script asks of the actor with this node, but where it waits for the end of an
-/// operation, and nothing else of its own. Linear in the script and the journal, beside what operations are long.
+/// Whether the actor of a seat did all that the script asks of the actor with this node, and nothing else of its own. Linear in
+/// the script and the journal, beside what operations are long.
 pub(crate) fn has_taken(script: &Script, node: Node, seat: &Seat<Actor>) -> bool
     ensures { (result ≡ true) ↔ HasTaken script.now.topology (asked_of script.now node) seat.now }
 {
@@ -228,7 +217,7 @@ pub(crate) fn has_taken(script: &Script, node: Node, seat: &Seat<Actor>) -> bool
     };
     for place in 0..events.len() {
         if !course.goes_on(seat, node, script.topology.schema(), &events[place]) {
-            return course.is_waiting(seat);
+            return false;
         }
     }
     course.is_whole(seat)

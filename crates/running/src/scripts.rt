@@ -17,7 +17,8 @@ use threaded::{Actor, Concluded, conclude};
 use workload::{Script, Transcript};
 
 /// What seats that rest made of a script, and what they conclude. That they rest is the caller's condition. Refused with
-/// `StrangerEnd` exactly where they aren't of a run of the script, and with `Memory`; then they are ended.
+/// `StrangerEnd` exactly where they aren't of a run of the script in which all that was sent was received, and with `Memory`; then
+/// they are ended.
 fn concluded_from(
     alloc: Global,
     script: &Script,
@@ -62,7 +63,7 @@ fn known(fault: Fault) -> Fault
 
 /// What seats that came back made of a script, once what is left is done. Refused with `ClockSpent` and `JournalFull` only where
 /// a seat refuses with it then, with `StrangerEnd` where one refuses with another fault, or where they aren't of a run of the
-/// script, and with `Memory`; then they are ended.
+/// script in which all that was sent was received, and with `Memory`; then they are ended.
 fn made_of(
     alloc: Global,
     script: &Script,
@@ -102,8 +103,9 @@ fn run_by<R: Threads + Wait + Sync, C: Crew>(
 /// transcript has the outcomes and refusals of one session after the other, each session's in order. Waits for locks. Refused
 /// with the fault of the lowest-numbered worker who ended with one, else as the drain: with `Memory`, and with `ClockSpent` or
 /// `JournalFull` only where a seat that came back refuses with it; with `StrangerEnd` only where one refuses with another fault,
-/// or where what came back isn't of a run of the script. Costs what the turns cost, a comparison of each envelope, and for each
-/// actor two walks through the script and one through its journal.
+/// or where what came back isn't of a run of the script in which all that was sent was received. Costs what the turns cost, a
+/// comparison of each envelope, for each actor two walks through the script and two through its journal, and in the order of n³
+/// looks for n actors.
 pub fn run<R: Threads + Wait + Sync, C: Crew>(
     rt: &R,
     alloc: Global,

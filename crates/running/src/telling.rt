@@ -112,7 +112,7 @@ fn tell_sessions(concluded: &Concluded, transcript: &mut Transcript) -> Result<(
     Ok(())
 }
 
-/// Whether the actor with this node has a seat, and did a beginning of what the script asks of it, and nothing else of its own.
+/// Whether the actor with this node has a seat, and did all that the script asks of it, and nothing else of its own.
 fn took(script: &Script, concluded: &Concluded, node: Node) -> bool
     ensures { (result ≡ true) ↔ TookIn script.now concluded.now.seats node }
 {
@@ -134,7 +134,7 @@ fn have_taken(script: &Script, concluded: &Concluded) -> bool
     true
 }
 
-/// Whether the seats are of a run of the script.
+/// Whether the seats are the script's, and their actors did what it asks.
 fn are_of(script: &Script, concluded: &Concluded) -> bool
     ensures { (result ≡ true) ↔ ((concluded.now.top ≡ script.now.topology) × HaveTaken script.now concluded.now.seats) }
 {
@@ -144,9 +144,9 @@ fn are_of(script: &Script, concluded: &Concluded) -> bool
     have_taken(script, concluded)
 }
 
-/// What became of the operations of a script, if these seats did what it asks of their actors. That they rest is the caller's
-/// condition. Refused with `StrangerEnd` exactly where they didn't, and with `Memory`. For each actor the script is gone through
-/// once.
+/// What became of the operations of a script, if these seats did what it asks of their actors, and received all that was sent. That
+/// they rest is the caller's condition. Refused with `StrangerEnd` exactly where they didn't, and with `Memory`. For each actor the
+/// script and its journal are gone through once, and then as `Concluded::is_quiet` says.
 pub(crate) fn tell(
     alloc: Global,
     script: &Script,
@@ -160,6 +160,10 @@ pub(crate) fn tell(
     // the journals are those of a run
     let _concluded = concluded.seats();
     if !are_of(script, concluded) {
+        return Err(Fault::StrangerEnd);
+    }
+    let quiet = concluded.is_quiet(alloc)?;
+    if !quiet {
         return Err(Fault::StrangerEnd);
     }
     let mut transcript = Transcript::new(alloc);

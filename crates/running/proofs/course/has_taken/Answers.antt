@@ -17,7 +17,7 @@ loop-place-preserved c =
       within = c.if-not-goes_on.ensures.within;
       come =
           subst (λ l. HasCome s.topology c.args.seat.now c.goes_on.new.self l) (sym (asked_more c.args.node s.events place x at))
-          (c.if-not-goes_on.ensures.came s.topology (asked_in c.args.node (take place s.events)) (sym c.schema.ensures) c.loop-place.invariant.come);
+          (c.if-not-goes_on.ensures.came s.topology (asked_in c.args.node (take place s.events)) (sym c.schema.ensures) c.loop-place.invariant.come refl);
     }
 
 pub returns-then-not-goes_on : goal.returns-then-not-goes_on
@@ -25,18 +25,15 @@ returns-then-not-goes_on c =
     let s = c.args.script.now in
     let place = c.loop-place.place in
     let x = c.index-events-place.result in
-    let done = asked_in c.args.node (take place s.events) in
     let at : slice_get s.events place ≡ Some x =
     subst (λ l. slice_get l place ≡ Some x) c.as_slice-events.ensures (item_at c.as_slice-events.result.now place x c.loop-place-test.true c.index-events-place.is) in
-    let come : HasCome s.topology c.args.seat.now c.goes_on.new.self done = c.if-not-goes_on.ensures.came s.topology done (sym c.schema.ensures) c.loop-place.invariant.come in
-    let stopped = c.if-not-goes_on.ensures.stopped s.topology done (sym c.schema.ensures) c.loop-place.invariant.come refl in
-    stop_tells s c.args.node c.args.seat.now place c.goes_on.new.self come c.if-not-goes_on.ensures.within.refusals x at stopped c.is_waiting.result
-    (c.is_waiting.ensures s.topology done come)
+    let stopped = c.if-not-goes_on.ensures.stopped s.topology (asked_in c.args.node (take place s.events)) (sym c.schema.ensures) c.loop-place.invariant.come refl in
+    (λ no. absurd (cc), λ taken. absurd (stop_tells s c.args.node c.args.seat.now place x at stopped taken))
 
 pub returns : goal.returns
 returns c =
     let s = c.args.script.now in
     let place = c.loop-place.place in
     let le : length s.events ≤ place = subst (λ (l : List _). length l ≤ place) c.as_slice-events.ensures c.loop-place-test.false in
-    end_tells s c.args.node c.args.seat.now place c.loop-place.course c.loop-place.invariant.come c.loop-place.invariant.within.refusals le c.is_whole.result
+    end_tells s c.args.node c.args.seat.now place le c.is_whole.result
     (c.is_whole.ensures s.topology (asked_in c.args.node (take place s.events)) c.loop-place.invariant.come)

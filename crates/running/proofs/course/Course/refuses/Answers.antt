@@ -11,7 +11,7 @@ returns-then-not-is_refusal-clause-stopped c = λ top x done some come off.
     absurd (cc))
 
 pub returns-clause-came : goal.returns-clause-came
-returns-clause-came c = λ top x done some come.
+returns-clause-came c = λ top x done some come on.
     let here : slice_get c.args.seat.now.refusals c.args.self.now.refusals ≡ Some (c.args.self.now.accepted, c.args.fault) =
     ap (λ l. slice_get l c.args.self.now.refusals) (sym c.refusals-refusals.ensures) ∙ sym c.item_at.ensures ∙ c.if-not-is_refusal.ensures.0 refl in
     came_by_refusal top c.args.seat.now c.args.self.now _ done x (c.args.self.now.accepted, c.args.fault) come some refl here refl refl refl

@@ -1,12 +1,8 @@
 use Rattle.std.proofs.Common.{◌≡◌, ◌∷◌, [], refl}
 use Rattle.messages.specs.declared.event.Event.TheVariants as event
 use Rattle.actors.specs.Journals.{submissions}
-use Rattle.running.proofs.Exact.{own_came, own_waits, own_differs}
+use Rattle.running.proofs.Exact.{own_came, own_differs}
 use Rattle.running.proofs.course.Course.submits.Goals as goal
-
-pub returns-then-not-is_submission-clause-came : goal.returns-then-not-is_submission-clause-came
-returns-then-not-is_submission-clause-came c = λ top done none come.
-    own_waits top c.args.seat.now c.args.self.now _ done come c.journal-journal.result.now c.journal-journal.ensures.value c.next_own-self.result c.next_own-self.ensures.passed refl refl refl
 
 pub returns-then-not-is_submission-clause-stopped : goal.returns-then-not-is_submission-clause-stopped
 returns-then-not-is_submission-clause-stopped c = λ top done none come off.
@@ -14,7 +10,7 @@ returns-then-not-is_submission-clause-stopped c = λ top done none come off.
     c.next_own-self.ensures.passed (event.Submit c.args.op.now) _ c.item_at.ensures none c.next_own-self.ensures.own c.if-not-is_submission.ensures
 
 pub returns-clause-came : goal.returns-clause-came
-returns-clause-came c = λ top done none come.
+returns-clause-came c = λ top done none come on.
     let one : submissions (event.Submit c.args.op.now ∷ []) ≡ 1 = refl in
     own_came top c.args.seat.now c.args.self.now _ done come c.journal-journal.result.now c.journal-journal.ensures.value c.next_own-self.result
     c.next_own-self.ensures.passed (event.Submit c.args.op.now) _ c.item_at.ensures none refl c.if-not-is_submission.ensures refl refl refl
