@@ -91,9 +91,17 @@ impl Subject for Late {
     }
 }
 
+fn new_session(alloc: Global, topology: &Topology) -> Result<Session, Fault> {
+    let node = Node::new(1);
+    match topology.home_of(node) {
+        Some(_) => Session::new(alloc, topology, node),
+        None => Err(Fault::UnknownHome),
+    }
+}
+
 /// Tells the steps of this shard, and of a session of this topology.
 fn tell_with(rt: &HostRuntime, topology: &Topology, shard: Shard) -> Result<(), Fault> {
-    let session = match Session::new(rt.alloc(), topology, Node::new(1)) {
+    let session = match new_session(rt.alloc(), topology) {
         Ok(session) => session,
         Err(fault) => {
             shard.close();
@@ -119,10 +127,6 @@ fn tell_with(rt: &HostRuntime, topology: &Topology, shard: Shard) -> Result<(), 
 
 pub(crate) fn tell(rt: &HostRuntime) -> Result<(), Fault> {
     let topology = topology(rt.alloc(), (1, 1), &[0])?;
-    let node = Node::new(1);
-    if topology.home_of(node).is_none() {
-        return Err(Fault::UnknownHome);
-    }
     match Shard::new(rt.alloc(), &topology, Node::new(0)) {
         Some(shard) => tell_with(rt, &topology, shard),
         None => Err(Fault::UnknownHome),
