@@ -1,0 +1,4 @@
+pub mod Same
+pub mod NormalForms
+pub mod Stamps
+pub mod Oks

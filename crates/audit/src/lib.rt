@@ -1,0 +1,12 @@
+//! The audit: completed reads against the plain table.
+#![tactic(auto)]
+
+mod auditing;
+mod comparing;
+mod found;
+mod laid;
+mod law;
+
+pub use auditing::audit;
+pub use found::Audit;
+pub use law::right_answers_are_the_meaning;
