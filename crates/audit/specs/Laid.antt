@@ -1,5 +1,6 @@
 -- Histories that are laid out in a store.
-use Rattle.std.specs.Prelude.{◌≡◌, ⊤, ℕ, List, map, Option, Some, None}
+use Rattle.std.specs.Prelude.{◌≡◌, ⊤, List, map, Option, Some, None}
+use Rattle.std.specs.List.Sorted.{IsPermutation}
 use Rattle.logical_time.specs.Stamps.{WriterValue}
 use Rattle.column_family.specs.declared.batch.Committed.{Committed}
 use Rattle.column_family.specs.History.{History}
@@ -20,12 +21,22 @@ applied_of c = record { part = record { writer = nobody; batch = normal_of c.bat
 abbrev pub all_applied : History → List Applied
 all_applied h = map applied_of h
 
--- a store that keeps a whole history, and answers at every time
-pub record IsLaidOut (s : Kept) (h : History) : Type 0 where
+-- a store to which these entries were applied, and no more, and which answers at every time
+pub record IsApplied (s : Kept) (h : History) : Type 0 where
   pub keeps : Keeps s (all_applied h)
   pub low : s.low ≡ 0
 
+-- a store to which the entries of a history were applied, in some order
+pub record IsLaidOut (s : Kept) (h : History) : Type 0 where
+  pub order : History
+  pub same : IsPermutation h order
+  pub applied : IsApplied s order
+
 -- the same, where there is a store
+abbrev pub IsAppliedIn : Option Kept → History → Type 0
+IsAppliedIn None h = ⊤
+IsAppliedIn (Some s) h = IsApplied s h
+
 abbrev pub IsLaidIn : Option Kept → History → Type 0
 IsLaidIn None h = ⊤
 IsLaidIn (Some s) h = IsLaidOut s h

@@ -1,5 +1,6 @@
 //! Histories that are laid out for reads.
 ghost use Rattle.std.specs.Prelude.{◌≡◌, ◌++◌, [], ◌∷◌, List, map, IfOk, OnOk, IfErr};
+ghost use Rattle.std.specs.List.Sorted.{IsPermutation};
 ghost use Rattle.logical_time.specs.declared.fault.Fault.TheVariants as fault;
 ghost use Rattle.column_family.specs.History.{History as Entries, up_to};
 ghost use Rattle.table.specs.Meaning as meaning;
@@ -10,7 +11,7 @@ ghost use Rattle.audit.specs.Laid as laid;
 use column_family::{Committed, Key, normal};
 use logical_time::{Fault, Node, Shard, Time, TxnId, Writer};
 use slice::{Answer, AnsweredRow, Read};
-use std::alloc::Global;
+use std::alloc::{AllocError, Global};
 use std::collections::BTreeSet;
 use std::marker::Model;
 use store::Store;
@@ -46,7 +47,7 @@ fn apply(alloc: Global, store: &mut Store, entry: &Committed) -> Result<(), Faul
 
 // A store to which the entries were applied, or none where two of them have one stamp. Refused with `Memory` alone.
 fn store_of(alloc: Global, entries: &[Committed]) -> Result<Option<Store>, Fault>
-    ensures ok { IfOk result (λ store. laid.IsLaidIn store entries.now) }
+    ensures ok { IfOk result (λ store. laid.IsAppliedIn store entries.now) }
     ensures memory { IfErr result (λ e. e ≡ fault.Memory) }
 {
     let mut store = Store::new(alloc);
@@ -58,6 +59,45 @@ fn store_of(alloc: Global, entries: &[Committed]) -> Result<Option<Store>, Fault
         apply(alloc, &mut store, entry)?;
     }
     Ok(Some(store))
+}
+
+// A copy of the entry.
+fn copy_of(entry: &Committed) -> Result<Committed, AllocError>
+    ensures { IfOk result (λ copy. copy ≡ entry.now) }
+{
+    entry.clone()
+}
+
+// Copies of the entries, which share the bytes of keys, names and values. Refused with `Memory` alone.
+fn copies_of(alloc: Global, entries: &[Committed]) -> Result<Vec<Committed>, Fault>
+    ensures ok { IfOk result (λ copies. copies.items ≡ entries.now) }
+    ensures memory { IfErr result (λ e. e ≡ fault.Memory) }
+{
+    let mut copies = Vec::with_capacity(alloc, entries.len())?;
+    for entry in entries {
+        copies.push(copy_of(entry)?)?;
+    }
+    Ok(copies)
+}
+
+// The entries in the order of their stamps, in which a store takes them quickest. Refused with `Memory` alone.
+fn by_stamp(alloc: Global, entries: &[Committed]) -> Result<Vec<Committed>, Fault>
+    ensures ok { IfOk result (λ sorted. IsPermutation entries.now sorted.items) }
+    ensures memory { IfErr result (λ e. e ≡ fault.Memory) }
+{
+    let mut sorted = copies_of(alloc, entries)?;
+    sorted.sort_unstable_by_key(|entry| entry.stamp);
+    Ok(sorted)
+}
+
+// A store in which the entries are laid out, or none where two of them have one stamp. Refused with `Memory` alone.
+fn lay_out(alloc: Global, entries: &[Committed]) -> Result<Option<Store>, Fault>
+    ensures ok { IfOk result (λ store. laid.IsLaidIn store entries.now) }
+    ensures memory { IfErr result (λ e. e ≡ fault.Memory) }
+{
+    let sorted = by_stamp(alloc, entries)?;
+    let store = store_of(alloc, sorted.as_slice())?;
+    Ok(store)
 }
 
 // The row of one key, by the store.
@@ -125,7 +165,7 @@ impl Laid<'_> {
         ensures ok { IfOk result (λ laid. laid ≡ history.now) }
         ensures memory { IfErr result (λ e. e ≡ fault.Memory) }
     {
-        let store = store_of(alloc, history.as_slice())?;
+        let store = lay_out(alloc, history.as_slice())?;
         Ok(Laid { history, store })
     }
 

@@ -1,6 +1,5 @@
-use Rattle.std.proofs.Common.{rules, ◌≡◌, List}
+use Rattle.std.proofs.Common.{rules, ◌≡◌}
 use Rattle.std.specs.Prelude.{◌↔◌, true}
-use Rattle.slice.specs.declared.read.AnsweredRow.{AnsweredRow}
 use Rattle.table.specs.Meaning.{meaning}
 use Rattle.audit.proofs.Same.{compared}
 use Rattle.audit.proofs.auditing.is_right.Goals as goal

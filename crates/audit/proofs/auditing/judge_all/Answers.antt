@@ -1,4 +1,4 @@
-use Rattle.std.proofs.Common.{◌≡◌, ◌∙◌, ap, map, subst, Result, Ok, List, Bool}
+use Rattle.std.proofs.Common.{◌≡◌, ◌∙◌, ap, map, subst, Result, List, Bool}
 use Rattle.std.specs.Prelude.{IfOk}
 use Rattle.std.specs.declared.alloc.AllocError.{AllocError}
 use Rattle.std.specs.List.{AllZip}

@@ -2,7 +2,7 @@ use Rattle.std.proofs.Common.{rules, ◌≡◌, ◌∙◌, sym, take, false}
 use Rattle.std.specs.BTreeSet.{contains}
 use Rattle.logical_time.specs.Stamps.{stamp_cmp}
 use Rattle.audit.specs.Laid.{all_applied}
-use Rattle.audit.proofs.Stamps.{laid_more, seen_more}
+use Rattle.audit.proofs.Stamps.{applied_more, seen_more}
 use Rattle.audit.proofs.laid.store_of.Goals as goal
 
 pub loop-entry-preserved : goal.loop-entry-preserved
@@ -13,8 +13,8 @@ loop-entry-preserved c =
     let inv = c.loop-entry.invariant in
     let absent : contains stamp_cmp c.loop-entry.seen entry.stamp ≡ false = search rules in
     record {
-      laid = laid_more entries index entry c.loop-entry.store c.apply.new.store c.loop-entry-test.true c.entry-item.is inv.laid
-          (c.in_ok-apply.ensures.keeps (all_applied (take index entries)) inv.laid.keeps (sym (inv.seen entry.stamp) ∙ absent)) c.in_ok-apply.ensures.low;
+      applied = applied_more entries index entry c.loop-entry.store c.apply.new.store c.loop-entry-test.true c.entry-item.is inv.applied
+          (c.in_ok-apply.ensures.keeps (all_applied (take index entries)) inv.applied.keeps (sym (inv.seen entry.stamp) ∙ absent)) c.in_ok-apply.ensures.low;
       seen = λ s. seen_more entries index entry s (contains stamp_cmp c.loop-entry.seen s) (contains stamp_cmp c.insert.new.self s)
           c.loop-entry-test.true c.entry-item.is (inv.seen s) (c.in_ok-insert.ensures.updates.0 s);
     }
