@@ -1,5 +1,5 @@
 -- The numbers of a range at which a test gives true, and one more number.
-use Rattle.std.proofs.Common.{◌≡◌, ℕ, zero, suc, ◌+◌, Bool, true, false, cond, List, [], ◌∷◌, ◌++◌, map, refl, ap, ◌∙◌, arith, add-one}
+use Rattle.std.proofs.Common.{◌≡◌, ℕ, zero, suc, ◌+◌, ◌<◌, ◌≤◌, Bool, true, false, cond, List, [], ◌∷◌, ◌++◌, map, refl, ap, ◌∙◌, arith, add-one}
 use Rattle.std.specs.Prelude.{filter}
 use Rattle.std.specs.List.{range_with_len}
 use Rattle.std.proofs.lemmas.List.{append-nil}
@@ -26,3 +26,18 @@ shown_more f p n is =
 pub not_shown : {Y : Type 0} (f : ℕ → Y) (p : ℕ → Bool) (n : ℕ) → p n ≡ false
     → map f (filter p (range_with_len 0 (n + 1))) ≡ map f (filter p (range_with_len 0 n))
 not_shown f p n is = rw add-one (ap (λ xs. map f xs) (filter_more p n 0 n (omega arith) ∙ (rw is (append-nil (filter p (range_with_len 0 n))))))
+
+-- functions that agree below n give the same of the numbers there
+pub map_agree : {Y : Type 0} (f g : ℕ → Y) (p : ℕ → Bool) (n : ℕ) → ((k : ℕ) → k < n → g k ≡ f k)
+    → map g (filter p (range_with_len 0 n)) ≡ map f (filter p (range_with_len 0 n))
+map_agree {Y} f g p n agree = within n 0 (λ k low high. agree k (omega (arith, high)))
+  where
+    one : (b : Bool) (a : ℕ) (xs : List ℕ) → g a ≡ f a → map g xs ≡ map f xs → map g (cond b (a ∷ xs) xs) ≡ map f (cond b (a ∷ xs) xs)
+    one true a xs here rest = rw (here, rest) refl
+    one false a xs here rest = rest
+
+    within : (m a : ℕ) → ((k : ℕ) → a ≤ k → k < a + m → g k ≡ f k) → map g (filter p (range_with_len a m)) ≡ map f (filter p (range_with_len a m))
+    within zero a same = refl
+    within (suc m) a same =
+        one (p a) a (filter p (range_with_len (a + 1) m)) (same a (omega arith) (omega arith))
+        (within m (a + 1) (λ k low high. same k (omega (arith, low)) (omega (arith, high))))

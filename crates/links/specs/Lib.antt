@@ -1,2 +1,3 @@
 pub mod Links
+pub mod Rings
 pub mod Mesh

@@ -2,20 +2,33 @@
 use Rattle.std.specs.Prelude.{ℕ, ◌==◌, Bool, false, ◌&&◌, ◌||◌, if◌then◌else◌, List, filter, Option, Some, None}
 use Rattle.std.specs.List.{range_with_len}
 use Rattle.messages.specs.declared.envelope.Envelope.{Envelope}
+use denote.RawPtr.{Ptr}
+use Rattle.std.specs.declared.alloc.Global.{Global}
+use Rattle.rtrb.specs.Shared.{Names}
 use Rattle.messages.specs.Topology.{TopologyValue, is_shard, dc_of, shard_of, home_of, node_count}
 
--- the sender's end: the actor to which it leads, all that went into the ring, oldest first, and how many places are known to
+-- Which ring it is, by all that `rtrb`'s `IsPair` compares of two ends: where its counts and its places lie, its capacity with
+-- the names of its two views, and whose memory it is.
+pub record RingName : Type 0 where
+  pub words : Ptr
+  pub slots : Ptr
+  pub names : Names
+  pub heap : Global
+
+-- the sender's end: the actor to which it leads, which ring it is an end of, all that went into the ring, oldest first, and how many places are known to
 -- be free
 pub record OutLinkValue : Type 0 where
   pub to : ℕ
+  pub ring : RingName
   pub sent : List Envelope
   pub free : ℕ
 
--- the receiver's end: the actors from which and to which it leads, all that was taken from the ring, oldest first, and how many
--- envelopes are known to be in it
+-- the receiver's end: the actors from which and to which it leads, which ring it is an end of, all that was taken from the ring,
+-- oldest first, and how many envelopes are known to be in it
 pub record InLinkValue : Type 0 where
   pub from : ℕ
   pub to : ℕ
+  pub ring : RingName
   pub received : List Envelope
   pub known : ℕ
 

@@ -18,11 +18,12 @@ pub struct InLink {
 impl Model for InLink {
     ghost use Rattle.std.specs.Prelude.{length, map};
     ghost use Rattle.links.specs.Links.{InLinkValue, readdressed};
+    ghost use Rattle.links.specs.Rings.{consumer_ring};
     ghost use Rattle.rtrb.specs.Ring.{received, known_items};
 
     ghost Value = { InLinkValue };
 
-    ghost view = { λ l. record { from = l.from; to = l.to; received = map (readdressed l.from l.to) (received l.consumer); known = length (known_items l.consumer) } };
+    ghost view = { λ l. record { from = l.from; to = l.to; ring = consumer_ring l.consumer; received = map (readdressed l.from l.to) (received l.consumer); known = length (known_items l.consumer) } };
 }
 
 impl InLink {
@@ -44,6 +45,7 @@ impl InLink {
     /// Costs less than `pop` where it finds none.
     pub fn is_empty(&mut self) -> bool
         ensures addresses { (self.new.from ≡ self.old.from) × (self.new.to ≡ self.old.to) }
+        ensures ring { self.new.ring ≡ self.old.ring }
         ensures same { self.new.received ≡ self.old.received }
         ensures empty { IsTrue result ↔ (self.new.known ≡ 0) }
     {
@@ -56,6 +58,7 @@ impl InLink {
     #[tactic(auto, using(crate::proofs::Received::received_more))]
     pub fn pop(&mut self) -> Option<Envelope>
         ensures addresses { (self.new.from ≡ self.old.from) × (self.new.to ≡ self.old.to) }
+        ensures ring { self.new.ring ≡ self.old.ring }
         ensures some { IfSome result (λ envelope. self.new.received ≡ self.old.received ++ envelope ∷ []) }
         ensures from { IfSome result (λ envelope. envelope.from ≡ self.old.from) }
         ensures to { IfSome result (λ envelope. envelope.to ≡ self.old.to) }

@@ -1,8 +1,8 @@
 //! The rings of a topology.
-ghost use Rattle.std.specs.Prelude.{◌≡◌, ◌<◌, ◌≤◌, ◌==◌, ◌++◌, ◌∷◌, [], ℕ, ◌&&◌, nat_lt, if◌then◌else◌, length, map, IfOk, OnOk, IfErr};
+ghost use Rattle.std.specs.Prelude.{◌≡◌, ◌<◌, ◌==◌, ◌++◌, ◌∷◌, [], ℕ, if◌then◌else◌, length, IfOk, OnOk, IfErr};
 ghost use Rattle.messages.specs.Topology.{node_count};
 ghost use Rattle.links.specs.Links as spec;
-ghost use Rattle.links.specs.Mesh.{IsMesh, outgoing_at, incoming_at, new_out_link, new_in_link};
+ghost use Rattle.links.specs.Mesh.{IsLaid, AreLaid, IsMesh, outgoing_at, incoming_at, new_out_link, new_in_link};
 
 use crate::ends::Ends;
 use crate::in_link::InLink;
@@ -48,15 +48,15 @@ pub fn may_exchange(topology: &Topology, a: Node, b: Node) -> bool
     }
 }
 
-/// A ring from one actor to another, for so many envelopes. Refused with `Memory` alone.
+/// A ring from one actor to another, for so many envelopes: the two ends are of one ring. Refused with `Memory` alone.
 pub fn ring(
     alloc: Global,
     from: Node,
     to: Node,
     capacity: usize,
 ) -> Result<(OutLink, InLink), Fault>
-    ensures out { IfOk result (λ r. r.0 ≡ new_out_link capacity to) }
-    ensures into { IfOk result (λ r. r.1 ≡ new_in_link to from) }
+    ensures out { IfOk result (λ r. r.0 ≡ new_out_link capacity r.0.ring to) }
+    ensures into { IfOk result (λ r. r.1 ≡ new_in_link r.0.ring to from) }
     ensures memory { IfErr result (λ e. e ≡ Fault.Memory) }
 {
     let (producer, consumer) = RingBuffer::new(alloc, capacity)?;
@@ -104,7 +104,7 @@ fn add_incoming(ends: &mut Vec<Ends>, place: usize, link: InLink) -> Result<(), 
     Ok(())
 }
 
-/// Lays a ring from one actor to another.
+/// Lays a ring from one actor to another, which hold its two ends.
 fn lay(
     alloc: Global,
     ends: &mut Vec<Ends>,
@@ -114,8 +114,7 @@ fn lay(
 ) -> Result<(), Fault>
     requires { (from < length ends.old.items) × (to < length ends.old.items) }
     ensures count { length ends.new.items ≡ length ends.old.items }
-    ensures outgoing { (node : ℕ) → OnOk result (outgoing_at ends.new.items node ≡ outgoing_at ends.old.items node ++ (if node == from then new_out_link capacity to ∷ [] else [])) }
-    ensures incoming { (node : ℕ) → OnOk result (incoming_at ends.new.items node ≡ incoming_at ends.old.items node ++ (if node == to then new_in_link to from ∷ [] else [])) }
+    ensures laid { OnOk result (IsLaid capacity from to ends.old.items ends.new.items) }
     ensures memory { IfErr result (λ e. e ≡ Fault.Memory) }
 {
     let (out, into) = ring(alloc, Node::new(from), Node::new(to), capacity)?;
@@ -133,8 +132,7 @@ fn lay_from(
 ) -> Result<(), Fault>
     requires { (from < node_count topology.now) × (length ends.old.items ≡ node_count topology.now) }
     ensures count { length ends.new.items ≡ length ends.old.items }
-    ensures outgoing { (node : ℕ) → OnOk result (outgoing_at ends.new.items node ≡ outgoing_at ends.old.items node ++ (if node == from then map (new_out_link capacity) (spec.reached_from topology.now from) else [])) }
-    ensures incoming { (node : ℕ) → node < node_count topology.now → OnOk result (incoming_at ends.new.items node ≡ incoming_at ends.old.items node ++ (if spec.may_exchange topology.now from node then new_in_link node from ∷ [] else [])) }
+    ensures laid { OnOk result (AreLaid topology.now capacity from ends.old.items ends.new.items) }
     ensures memory { IfErr result (λ e. e ≡ Fault.Memory) }
 {
     let count = topology.node_count();

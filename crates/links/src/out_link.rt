@@ -15,11 +15,12 @@ pub struct OutLink {
 
 impl Model for OutLink {
     ghost use Rattle.links.specs.Links.{OutLinkValue};
+    ghost use Rattle.links.specs.Rings.{producer_ring};
     ghost use Rattle.rtrb.specs.Ring.{sent, known_free};
 
     ghost Value = { OutLinkValue };
 
-    ghost view = { λ l. record { to = l.to; sent = sent l.producer; free = known_free l.producer } };
+    ghost view = { λ l. record { to = l.to; ring = producer_ring l.producer; sent = sent l.producer; free = known_free l.producer } };
 }
 
 impl OutLink {
@@ -34,6 +35,7 @@ impl OutLink {
     /// time.
     pub fn is_full(&mut self) -> bool
         ensures to { self.new.to ≡ self.old.to }
+        ensures ring { self.new.ring ≡ self.old.ring }
         ensures same { self.new.sent ≡ self.old.sent }
         ensures full { IsTrue result ↔ (self.new.free ≡ 0) }
     {
@@ -43,6 +45,7 @@ impl OutLink {
     /// Puts an envelope into the ring, or hands it back where the ring is full. Takes no memory.
     pub fn push(&mut self, envelope: Envelope) -> Result<(), Envelope>
         ensures to { self.new.to ≡ self.old.to }
+        ensures ring { self.new.ring ≡ self.old.ring }
         ensures ok { OnOk result (self.new.sent ≡ self.old.sent ++ envelope ∷ []) }
         ensures back { IfErr result (λ back. back ≡ envelope) }
         ensures full { IfErr result (λ _. (self.new.sent ≡ self.old.sent) × (self.new.free ≡ 0)) }
