@@ -5,8 +5,8 @@ use Rattle.std.specs.List.{slice_get, range_with_len}
 use Rattle.messages.specs.declared.envelope.Envelope.{Envelope}
 use Rattle.messages.specs.declared.outcome.Outcome.{Outcome}
 use Rattle.messages.specs.Topology.{TopologyValue, node_count}
-use Rattle.links.specs.Links.{OutLinkValue, InLinkValue, may_exchange, reached_from, reaching}
-use Rattle.links.specs.Mesh.{new_out_link, new_in_link}
+use Rattle.links.specs.Links.{RingName, OutLinkValue, InLinkValue, may_exchange, reached_from, reaching}
+use Rattle.links.specs.Mesh.{new_out_link, new_in_link, new_outgoing, new_incoming}
 use Rattle.links.specs.declared.ends.Ends.{Ends}
 use Rattle.actors.specs.CameFrom.{CameFrom}
 use Rattle.actors.specs.Machines.{IsRecorded}
@@ -19,32 +19,32 @@ both_empty : (b : Bool) (xs : List Envelope) → xs ≡ [] → cond b [] xs ≡ 
 both_empty true xs e = refl
 both_empty false xs e = e
 
-quiet : (capacity : ℕ) (ns : List ℕ) (n : ℕ) → through (map new_lane (map (new_out_link capacity) ns)) n ≡ []
-quiet capacity [] n = refl
-quiet capacity (m ∷ ns) n = both_empty (m == n) _ (quiet capacity ns n)
+quiet : (capacity : ℕ) (rings : ℕ → RingName) (ns : List ℕ) (n : ℕ) → through (map new_lane (new_outgoing capacity rings ns)) n ≡ []
+quiet capacity rings [] n = refl
+quiet capacity rings (m ∷ ns) n = both_empty (m == n) _ (quiet capacity rings ns n)
 
-same_ends : (capacity : ℕ) (ns : List ℕ) → ends_of (map new_lane (map (new_out_link capacity) ns)) ≡ ns
-same_ends capacity [] = refl
-same_ends capacity (n ∷ ns) = ap (λ (ms : List ℕ). n ∷ ms) (same_ends capacity ns)
+same_ends : (capacity : ℕ) (rings : ℕ → RingName) (ns : List ℕ) → ends_of (map new_lane (new_outgoing capacity rings ns)) ≡ ns
+same_ends capacity rings [] = refl
+same_ends capacity rings (n ∷ ns) = ap (λ (ms : List ℕ). n ∷ ms) (same_ends capacity rings ns)
 
-same_sources : (node : ℕ) (ns : List ℕ) → sources_of (map (new_in_link node) ns) ≡ ns
-same_sources node [] = refl
-same_sources node (n ∷ ns) = ap (λ (ms : List ℕ). n ∷ ms) (same_sources node ns)
+same_sources : (rings : ℕ → RingName) (node : ℕ) (ns : List ℕ) → sources_of (new_incoming rings node ns) ≡ ns
+same_sources rings node [] = refl
+same_sources rings node (n ∷ ns) = ap (λ (ms : List ℕ). n ∷ ms) (same_sources rings node ns)
 
-nothing_taken : (node : ℕ) (ns : List ℕ) (k : ℕ) (l : InLinkValue) → slice_get (map (new_in_link node) ns) k ≡ Some l → l.received ≡ []
-nothing_taken node [] k l at = absurd cc
-nothing_taken node (n ∷ ns) zero l at = let is : new_in_link node n ≡ l = cc in ap (λ (x : InLinkValue). x.received) (sym is)
-nothing_taken node (n ∷ ns) (suc k) l at = nothing_taken node ns k l at
+nothing_taken : (rings : ℕ → RingName) (node : ℕ) (ns : List ℕ) (k : ℕ) (l : InLinkValue) → slice_get (new_incoming rings node ns) k ≡ Some l → l.received ≡ []
+nothing_taken rings node [] k l at = absurd cc
+nothing_taken rings node (n ∷ ns) zero l at = let is : new_in_link (rings n) node n ≡ l = cc in ap (λ (x : InLinkValue). x.received) (sym is)
+nothing_taken rings node (n ∷ ns) (suc k) l at = nothing_taken rings node ns k l at
 
-nothing_gone : (capacity : ℕ) (ns : List ℕ) (k : ℕ) (l : OutLinkValue) → slice_get (map (new_out_link capacity) ns) k ≡ Some l → IsUnused l
-nothing_gone capacity [] k l at = absurd cc
-nothing_gone capacity (n ∷ ns) zero l at = let is : new_out_link capacity n ≡ l = cc in ap (λ (x : OutLinkValue). x.sent) (sym is)
-nothing_gone capacity (n ∷ ns) (suc k) l at = nothing_gone capacity ns k l at
+nothing_gone : (capacity : ℕ) (rings : ℕ → RingName) (ns : List ℕ) (k : ℕ) (l : OutLinkValue) → slice_get (new_outgoing capacity rings ns) k ≡ Some l → IsUnused l
+nothing_gone capacity rings [] k l at = absurd cc
+nothing_gone capacity rings (n ∷ ns) zero l at = let is : new_out_link capacity (rings n) n ≡ l = cc in ap (λ (x : OutLinkValue). x.sent) (sym is)
+nothing_gone capacity rings (n ∷ ns) (suc k) l at = nothing_gone capacity rings ns k l at
 
 -- nothing went into a seat's rings before its first event
 pub unused : (top : TopologyValue) (node : ℕ) (ends : Ends) → AreItsRings top node ends → All IsUnused ends.outgoing.items
 unused top node ends its =
-    all_of IsUnused ends.outgoing.items (λ k l lt at. nothing_gone its.capacity (reached_from top node) k l (subst (λ ls. slice_get ls k ≡ Some l) its.outgoing at))
+    all_of IsUnused ends.outgoing.items (λ k l lt at. nothing_gone its.capacity its.rings_to (reached_from top node) k l (subst (λ ls. slice_get ls k ≡ Some l) its.outgoing at))
 
 at_least : (p : ℕ → Bool) (n a k m : ℕ) → slice_get (filter p (range_with_len a n)) k ≡ Some m → a ≤ m
 at_least p zero a k m at = absurd cc
@@ -91,18 +91,18 @@ pub opened : {M : Type 0} (came_from : CameFrom M) (untaken : M → Option (ℕ 
     → Keeps came_from untaken machine d
 opened came_from untaken machine d ends recorded its journal outcomes outbox accepted clock timed backlog outgoing incoming held =
     let reached = reached_from d.topology d.node in
-    let out : d.outgoing ≡ map new_lane (map (new_out_link its.capacity) reached) = outgoing ∙ ap (λ ls. map new_lane ls) its.outgoing in
-    let into : d.incoming ≡ map (new_in_link d.node) (reaching d.topology d.node) = incoming ∙ its.incoming in
+    let out : d.outgoing ≡ map new_lane (new_outgoing its.capacity its.rings_to reached) = outgoing ∙ ap (λ ls. map new_lane ls) its.outgoing in
+    let into : d.incoming ≡ new_incoming its.rings_from d.node (reaching d.topology d.node) = incoming ∙ its.incoming in
     record {
       recorded =
           rw (journal, outcomes, outbox, accepted, clock, timed)
           (recorded_moved came_from untaken d.topology d.node (λ to. []) (through d.outgoing) machine [] [] [] [] 0 0 true recorded
-          (λ n. rw out (ap (λ xs. xs ++ []) (quiet its.capacity reached n))));
-      received = rw (journal, into, held) (λ k l at. nothing_taken d.node (reaching d.topology d.node) k l at);
-      ends = rw (out, same_ends its.capacity reached) (range_apart (λ to. may_exchange d.topology d.node to) (node_count d.topology) 0);
-      sources = rw (into, same_sources d.node (reaching d.topology d.node)) (range_apart (λ from. may_exchange d.topology from d.node) (node_count d.topology) 0);
+          (λ n. rw out (ap (λ xs. xs ++ []) (quiet its.capacity its.rings_to reached n))));
+      received = rw (journal, into, held) (λ k l at. nothing_taken its.rings_from d.node (reaching d.topology d.node) k l at);
+      ends = rw (out, same_ends its.capacity its.rings_to reached) (range_apart (λ to. may_exchange d.topology d.node to) (node_count d.topology) 0);
+      sources = rw (into, same_sources its.rings_from d.node (reaching d.topology d.node)) (range_apart (λ from. may_exchange d.topology from d.node) (node_count d.topology) 0);
       reached =
-          rw (into, same_sources d.node (reaching d.topology d.node)) (range_within (λ from. may_exchange d.topology from d.node) (node_count d.topology));
+          rw (into, same_sources its.rings_from d.node (reaching d.topology d.node)) (range_within (λ from. may_exchange d.topology from d.node) (node_count d.topology));
       handled = rw journal (λ e has. absurd (let lt = has.1 in omega (arith, lt)));
       held_back = rw held tt;
       own = rw backlog (λ k e lt. absurd (omega arith));

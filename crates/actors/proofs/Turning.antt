@@ -7,7 +7,7 @@ use Rattle.actors.specs.Journals.{submissions, IsBeginning}
 use Rattle.actors.specs.Machines.{Refuses}
 use Rattle.actors.specs.Seats.{SeatValue, ends_of, sources_of}
 use Rattle.actors.specs.Resting.{unsent, waiting_on, IsFlushed, IsSorted, HasNoEnvelope}
-use Rattle.actors.specs.Turns.{HasSame, HasDone, HasRested, HasTakenOff, IsTurn, IsWork}
+use Rattle.actors.specs.Turns.{HasSame, HasDone, HasRested, HasTakenOff, HasFoundNone, HasLooked, IsTurn, IsWork}
 use Rattle.actors.specs.declared.turn.Turn.{Turn}
 use Rattle.actors.specs.declared.turn.Turn.TheVariants.{Idle, Moved, Handled, Submitted, Collected, Refused}
 
@@ -95,6 +95,15 @@ module _ (old a b : SeatValue) (flushed : a ≡ record old { outgoing = a.outgoi
 pub each_worked : {X : Type 0} (P Q : Turn → Type 0) (W : Turn → Type 0) (r : Result Turn X) → ((t : Turn) → W t → P t → Q t) → IfOk r W → IfOk r P → IfOk r Q
 each_worked P Q W (Ok t) f w p = f t w p
 each_worked P Q W (Err x) f w p = tt
+
+-- where no envelope was there, an item of the backlog was next
+pub worked_looked : (t : Turn) (old new : SeatValue) → HasFoundNone old new → IsWork t → HasLooked t old new
+worked_looked Idle old new found work = absurd work
+worked_looked Moved old new found work = absurd work
+worked_looked Handled old new found work = absurd work
+worked_looked (Submitted number) old new found work = found
+worked_looked Collected old new found work = found
+worked_looked (Refused fault) old new found work = found
 
 pub none_left : (es : List Event) → length es ≡ 0 → es ≡ []
 none_left [] none = refl

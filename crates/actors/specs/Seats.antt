@@ -6,15 +6,16 @@ use Rattle.messages.specs.declared.outcome.Outcome.{Outcome}
 use Rattle.messages.specs.declared.event.Event.{Event}
 use Rattle.messages.specs.declared.event.Event.TheVariants.{Handle}
 use Rattle.messages.specs.Topology.{TopologyValue, node_count}
-use Rattle.links.specs.Links.{InLinkValue}
+use Rattle.links.specs.Links.{RingName, InLinkValue}
 use Rattle.actors.specs.Journals.{IsOwn, receipts_from, held_from}
 use Rattle.actors.specs.CameFrom.{CameFrom}
 use Rattle.actors.specs.Machines.{IsRecorded}
 
--- a way to an actor: all that went into the ring that leads there, how many places of the ring are known to be free, and what
+-- a way to an actor: which ring leads there, all that went into it, how many places of the ring are known to be free, and what
 -- waits for one, in order
 pub record LaneValue : Type 0 where
   pub to : ℕ
+  pub ring : RingName
   pub sent : List Envelope
   pub free : ℕ
   pub waiting : List Envelope

@@ -29,7 +29,7 @@ impl Model for Lane {
 
     ghost Value = { LaneValue };
 
-    ghost view = { λ l. record { to = l.link.to; sent = l.link.sent; free = l.link.free; waiting = drop l.gone l.sent.items } };
+    ghost view = { λ l. record { to = l.link.to; ring = l.link.ring; sent = l.link.sent; free = l.link.free; waiting = drop l.gone l.sent.items } };
 
     ghost invariant = { λ l. (l.gone ≤ length l.sent.items) × (l.link.sent ≡ take l.gone l.sent.items) };
 }
@@ -38,7 +38,7 @@ impl Lane {
     /// A way on which nothing waits, over a ring into which nothing went.
     pub fn new(alloc: Global, link: OutLink) -> Lane
         requires { link.sent ≡ [] }
-        ensures { result ≡ record { to = link.to; sent = link.sent; free = link.free; waiting = [] } }
+        ensures { result ≡ record { to = link.to; ring = link.ring; sent = link.sent; free = link.free; waiting = [] } }
     {
         Lane {
             link,

@@ -1,7 +1,7 @@
-use Rattle.std.specs.Prelude.{◌⊎◌, IsSome, Result, Err, IfErr}
-use Rattle.actors.specs.Resting.{unsent, HasNoEnvelope}
-use Rattle.actors.specs.Turns.{IsTurn, IsWork}
-use Rattle.actors.proofs.Turning.{rested, fewer, waits, none_left, worked_on, each_worked}
+use Rattle.std.specs.Prelude.{◌⊎◌, All, IsSome, Result, Err, IfErr}
+use Rattle.actors.specs.Resting.{unsent, WasEmpty, HasNoEnvelope}
+use Rattle.actors.specs.Turns.{IsTurn, IsWork, HasFoundNone, HasLooked}
+use Rattle.actors.proofs.Turning.{rested, fewer, waits, none_left, worked_on, each_worked, worked_looked}
 use Rattle.std.proofs.Common.{inl, inr, sym, subst, ◌≡◌, ◌<◌, ◌∙◌, [], length, None, true, false, ap, rules, arith}
 use Rattle.logical_time.specs.declared.fault.Fault.{Fault}
 use Rattle.actors.specs.Refusals.{CanRefuse}
@@ -29,6 +29,18 @@ returns-then-is_free-clause-refused g c =
     let none : m.held ≡ None = search rules in
     let free : m.free ≡ true = search rules in
     work_refused g.M.Machine.refuses m c.work.new.self c.work.result some none free c.work.ensures.err c.work.ensures.refused
+
+pub returns-then-is_free-clause-looked : goal.returns-then-is_free-clause-looked
+returns-then-is_free-clause-looked g c =
+    let m = c.take_in.new.self in
+    let none : m.held ≡ None = search rules in
+    let looked = c.take_in.ensures.looked none in
+    let rings = c.work.ensures.rings in
+    let next : c.work.new.self.next ≡ c.args.self.now.next = rings.2 ∙ (looked.1 ∙ ap (λ (s : SeatValue). s.next) c.flush-moved.ensures.same) in
+    let found : HasFoundNone c.args.self.now c.work.new.self =
+    (record { held = rings.1 ∙ none; looked = subst (λ ls. All WasEmpty ls) (sym rings.0) looked.0 }, next) in
+    each_worked IsWork (λ t. HasLooked t c.args.self.now c.work.new.self) IsWork c.work.result
+    (λ t work same. worked_looked t c.args.self.now c.work.new.self found work) c.work.ensures.work c.work.ensures.work
 
 pub returns-then-is_free-clause-ok : goal.returns-then-is_free-clause-ok
 returns-then-is_free-clause-ok g c =
