@@ -1,8 +1,8 @@
 -- The seats of a topology, before their first events.
-use Rattle.std.specs.Prelude.{◌≡◌, ℕ, ◌==◌, if◌then◌else◌, List, [], ◌∷◌, length, slice_get, Some}
+use Rattle.std.specs.Prelude.{◌≡◌, ℕ, ◌==◌, true, if◌then◌else◌, List, [], ◌∷◌, length, slice_get, Some}
 use denote.RawPtr.{null_ptr}
 use Rattle.messages.specs.Topology.{TopologyValue}
-use Rattle.links.specs.Links.{RingName, InLinkValue, reached_from, reaching}
+use Rattle.links.specs.Links.{RingName, InLinkValue, may_exchange, reached_from, reaching}
 use Rattle.links.specs.Mesh.{new_outgoing, new_incoming}
 use Rattle.actors.specs.Seats.{LaneValue, SeatValue}
 use Rattle.actors.specs.Opening.{new_seat}
@@ -27,7 +27,9 @@ abbrev pub IsNewSeat : TopologyValue → ℕ → ℕ → ℕ → SeatValue → T
 IsNewSeat top ring limit node s =
     s ≡ new_seat top node limit (new_outgoing ring (ring_to s.outgoing) (reached_from top node)) (new_incoming (ring_from s.incoming) node (reaching top node))
 
--- one for each of so many nodes, by their nodes
+-- One for each of so many nodes, by their nodes. Of two of them that may exchange envelopes, the sender's way to the other, and the
+-- other's link from it, are the two ends of one ring.
 pub record AreNewSeats (top : TopologyValue) (ring limit count : ℕ) (seats : List SeatValue) : Type 0 where
   pub all : length seats ≡ count
   pub each : (node : ℕ) (s : SeatValue) → slice_get seats node ≡ Some s → IsNewSeat top ring limit node s
+  pub one_ring : (a b : ℕ) (s t : SeatValue) → slice_get seats a ≡ Some s → slice_get seats b ≡ Some t → may_exchange top a b ≡ true → ring_to s.outgoing b ≡ ring_from t.incoming a

@@ -1,7 +1,9 @@
-use Rattle.std.proofs.Common.{◌≡◌, ◌<◌, get_or, length, refl, rules, arith}
+use Rattle.std.proofs.Common.{◌≡◌, ◌<◌, ℕ, subst, get_or, length, refl, rules, arith}
 use Rattle.std.proofs.lemmas.Grind.{common_steps}
+use Rattle.messages.specs.Topology.{node_count}
+use Rattle.actors.specs.Building.{AreNewSeats}
 use Rattle.actors.specs.Opening.{new_seat}
-use Rattle.actors.proofs.Built.{first_of, others_of, its_rings, is_new, none_built, one_more_seat}
+use Rattle.actors.proofs.Built.{first_of, others_of, its_rings, none_built, one_more_seat, are_new}
 use Rattle.actors.proofs.building.seat_all.Goals as goal
 
 pub new-requires-in-loop-node-clause-rings : goal.new-requires-in-loop-node-clause-rings
@@ -27,15 +29,21 @@ loop-node-preserved g c =
     record {
       rest = others_of c.args.ends.items c.loop-node.ends.items _ node own inv.rest lt c.remove.ensures.by_index.2;
       room = search rules;
-      seats = one_more_seat top c.args.ring c.args.journal node c.loop-node.seats.items _ c.in-Ok.seat inv.seats
-          (is_new top c.args.ring c.args.journal node c.args.ends.items own c.in-Ok.seat c.requires (rw (← c.node_count-count.ensures.value) below) at ok) c.push_reserved.ensures.items;
+      seats = one_more_seat top c.args.ring c.args.journal node c.args.ends.items own c.loop-node.seats.items _ c.in-Ok.seat inv.seats
+          (rw (← c.node_count-count.ensures.value) below) at ok c.push_reserved.ensures.items;
     }
 
 pub loop-node-init : goal.loop-node-init
-loop-node-init g c = record { rest = refl; room = search rules; seats = none_built c.args.topology.now c.args.ring c.args.journal _ (search rules) }
+loop-node-init g c = record { rest = refl; room = search rules; seats = none_built c.args.topology.now c.args.ring c.args.journal c.args.ends.items _ c.requires (search rules) }
 
 pub loop-node-smaller : goal.loop-node-smaller
 loop-node-smaller g c = grind (arith, common_steps)
 
 pub remove-requires : goal.remove-requires
 remove-requires c = grind (arith, common_steps)
+
+pub returns-clause-ok : goal.returns-clause-ok
+returns-clause-ok g c =
+    let all : c.loop-node.node ≡ node_count c.args.topology.now = grind (arith, common_steps) in
+    subst (λ (n : ℕ). AreNewSeats c.args.topology.now c.args.ring c.args.journal n c.loop-node.seats.items) all
+    (are_new c.args.topology.now c.args.ring c.args.journal c.loop-node.node c.args.ends.items c.loop-node.seats.items c.loop-node.invariant.seats)

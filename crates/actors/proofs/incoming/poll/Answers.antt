@@ -1,4 +1,4 @@
-use Rattle.std.proofs.Common.{◌≡◌, ◌≤◌, ◌<◌, ◌∙◌, length, None, rules}
+use Rattle.std.proofs.Common.{◌≤◌, ◌<◌, ◌∙◌, length, None, rules}
 use Rattle.actors.proofs.Receiving.{popped, unpolled, same_sources}
 use Rattle.actors.proofs.Looking.{looked_more, looked_up_to, others_stay, popped_at}
 use Rattle.actors.proofs.incoming.poll.Goals as goal

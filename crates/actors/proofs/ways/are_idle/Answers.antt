@@ -1,4 +1,4 @@
-use Rattle.std.proofs.Common.{◌≡◌, ◌<◌, length, rules}
+use Rattle.std.proofs.Common.{◌<◌, length, rules}
 use Rattle.actors.proofs.Lanes.{idle_more}
 use Rattle.actors.proofs.ways.are_idle.Goals as goal
 
