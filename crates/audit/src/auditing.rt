@@ -144,9 +144,9 @@ fn lay_all(alloc: Global, histories: &[History]) -> Result<Vec<Laid<'_>>, Fault>
 
 /// Counts the completed reads, and those of them whose answer isn't the meaning of their request on the history of
 /// their home, at their effective time. A read that ended with `Collected` isn't completed; where a home has no
-/// history, nothing is right there. In the order of n log n for n changes and asked rows; a history in which two
-/// entries have one stamp, which no run makes, is gone through for each read. Spread over the processors.
-/// Refused with `Memory` alone.
+/// history, nothing is right there. In the order of n log n for n changes and asked rows of the histories of a run; where at one
+/// place commit times fall as stamps rise, a change costs as many steps as the versions that it hides, and a history in which
+/// two entries have one stamp is gone through for each read. Spread over the processors. Refused with `Memory` alone.
 pub fn audit(
     rt: &(impl Threads + Sync),
     alloc: Global,

@@ -160,7 +160,8 @@ impl<'h> Model for Laid<'h> {
 }
 
 impl Laid<'_> {
-    /// Lays a history out. In the order of n log n for n changes. Refused with `Memory` alone.
+    /// Lays a history out. In the order of n log n for n changes of a run's history; where at one place commit times fall as
+    /// stamps rise, a change costs as many steps as the versions that it hides. Refused with `Memory` alone.
     pub(crate) fn new(alloc: Global, history: &History) -> Result<Laid<'_>, Fault>
         ensures ok { IfOk result (λ laid. laid ≡ history.now) }
         ensures memory { IfErr result (λ e. e ≡ fault.Memory) }

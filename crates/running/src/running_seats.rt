@@ -79,7 +79,7 @@ fn confirm(shifts: &[Shift], seats: &mut [Seat<Actor>]) -> Result<(), Fault>
 }
 
 /// What is left after the workers is done: turns are taken until a whole round does nothing. Refused with the fault of the
-/// lowest-numbered worker who ended with one, and as a turn is.
+/// lowest-numbered worker who ended with one, where that is `Memory` or a seat still refuses with it, and as a turn is.
 pub(crate) fn finish(shifts: &[Shift], seats: &mut [Seat<Actor>]) -> Result<(), Fault>
     ensures later { AreLater seats.old seats.new }
     ensures resting { OnOk result (All IsResting seats.new) }

@@ -101,11 +101,10 @@ fn run_by<R: Threads + Wait + Sync, C: Crew>(
 /// collection that of its shard's; deliveries and drains are left out, since the threads deliver by themselves. Each worker takes
 /// at most 10,000,000 turns; then turns are taken until a whole round does nothing, and the journals are compared. The
 /// transcript has the outcomes and refusals of one session after the other, each session's in order. Waits for locks. Refused
-/// with the fault of the lowest-numbered worker who ended with one, else as the drain: with `Memory`, and with `ClockSpent` or
-/// `JournalFull` only where a seat that came back refuses with it; with `StrangerEnd` only where one refuses with another fault,
-/// or where what came back isn't of a run of the script in which all that was sent was received. Costs what the turns cost, a
-/// comparison of each envelope, for each actor two walks through the script and two through its journal, and in the order of n³
-/// looks for n actors.
+/// with `Memory`; with `ClockSpent` or `JournalFull` only where a seat that came back refuses with it; with `StrangerEnd` only where
+/// one refuses with another fault, or where what came back isn't of a run of the script in which all that was sent was received.
+/// Costs what the turns cost, a comparison of each envelope, for each actor two walks through the script and two through its
+/// journal, and in the order of n³ looks for n actors.
 pub fn run<R: Threads + Wait + Sync, C: Crew>(
     rt: &R,
     alloc: Global,
