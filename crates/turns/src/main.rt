@@ -5,6 +5,7 @@
 //! hand, whatever the schedule is.
 #![tactic(auto)]
 
+mod auditing;
 mod building;
 mod bytes;
 mod counting;

@@ -1,4 +1,5 @@
 //! Scripts that threads run: what is told of them, and what their journals conclude beside the histories.
+use crate::auditing::audited;
 use crate::judging::{Count, entries_of};
 use crate::seats::{close_all, load, run_seats};
 use crate::showing::{add_entry, print};
@@ -109,14 +110,25 @@ fn concluded(alloc: Global, mut seats: Vec<Seat<Actor>>) -> Result<Concluded, Fa
     }
 }
 
-/// What ended in a run, and how many entries its histories have.
-fn judged_of(alloc: Global, concluded: &Concluded) -> Result<(Count, String), Fault> {
+/// What ended in a run, what the audit finds there, and how many entries its histories have.
+fn judged_of<R: Threads + Sync>(
+    threads: &R,
+    alloc: Global,
+    concluded: &Concluded,
+) -> Result<(Count, String), Fault> {
     let mut count = Count::new();
     count.add_all(alloc, concluded)?;
-    Ok((count, entries_of(alloc, concluded)?))
+    let found = audited(threads, alloc, concluded, true)?;
+    let emptied = audited(threads, alloc, concluded, false)?;
+    let (reads, wrong, more) = (found.reads, found.wrong, emptied.wrong);
+    let entries = entries_of(alloc, concluded)?;
+    let told = format!(in alloc;
+        "audit {reads} wrong {wrong}, emptied wrong {more}, entries{entries}"
+    )?;
+    Ok((count, told))
 }
 
-/// What ended in a run of the script by these workers, and how many entries its histories have.
+/// What ended in a run of the script by these workers, what the audit finds there, and how many entries its histories have.
 fn judged<R: Threads + Wait + Sync>(
     threads: &R,
     alloc: Global,
@@ -126,7 +138,7 @@ fn judged<R: Threads + Wait + Sync>(
     let seats = seats_of(alloc, script)?;
     let (seats, _) = run_seats(threads, alloc, seats, workers, &Open)?;
     let concluded = concluded(alloc, seats)?;
-    let judged = judged_of(alloc, &concluded);
+    let judged = judged_of(threads, alloc, &concluded);
     concluded.close();
     judged
 }
@@ -138,7 +150,7 @@ fn tell_count<R: Threads + Wait + Sync>(
     script: &Script,
     workers: &Workers,
 ) -> Result<(), Fault> {
-    let (count, entries) = judged(threads, rt.alloc(), script, workers)?;
+    let (count, found) = judged(threads, rt.alloc(), script, workers)?;
     let Count {
         writes,
         missing,
@@ -147,7 +159,7 @@ fn tell_count<R: Threads + Wait + Sync>(
     } = count;
     let workers = workers.get();
     let line = format!(in rt.alloc();
-        "workers {workers}: writes {writes}, missing {missing}, reads {reads}, wrong {wrong}, entries{entries}"
+        "workers {workers}: writes {writes}, missing {missing}, reads {reads}, wrong {wrong}, {found}"
     )?;
     print(rt, line.as_str())
 }
