@@ -28,6 +28,15 @@ fn are_same(first: &Answer, second: &Answer) -> bool {
         })
 }
 
+/// How many operations ended.
+pub(crate) fn count_of(concluded: &Concluded) -> usize {
+    let mut count: usize = 0;
+    for _ in concluded.transcript() {
+        count = count.wrapping_add(1);
+    }
+    count
+}
+
 /// How many entries the history of each data centre has.
 pub(crate) fn entries_of(alloc: Global, concluded: &Concluded) -> Result<String, Fault> {
     let mut seen = String::new(alloc);

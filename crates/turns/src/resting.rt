@@ -1,5 +1,6 @@
 //! Two workers that rest once a write of two shards has its outcome.
 use crate::building::{batch, topology};
+use crate::judging::count_of;
 use crate::seats::{close_all, load, run_seats};
 use crate::showing::{print, word_of};
 use actors::{End, Mesh, Open, Report, Seat, drain};
@@ -63,7 +64,7 @@ fn ended(alloc: Global, mut seats: Vec<Seat<Actor>>) -> Result<usize, Fault> {
     }
     match conclude(alloc, seats) {
         Ok(concluded) => {
-            let ended = concluded.transcript().count();
+            let ended = count_of(&concluded);
             concluded.close();
             Ok(ended)
         }

@@ -1,5 +1,6 @@
 //! Seats that conclude nothing: too many, too few, and one of another mesh.
 use crate::building::{batch, topology};
+use crate::judging::count_of;
 use crate::seats::close_all;
 use crate::showing::print;
 use actors::{Mesh, Seat, drain};
@@ -124,7 +125,7 @@ impl Meshes {
 fn ended(alloc: Global, seats: Vec<Seat<Actor>>) -> Result<usize, Fault> {
     match conclude(alloc, seats) {
         Ok(concluded) => {
-            let ended = concluded.transcript().count();
+            let ended = count_of(&concluded);
             concluded.close();
             Ok(ended)
         }
