@@ -1,101 +1,69 @@
--- Changes that touch something, each in a row of its own, are their own normal form.
-use Rattle.std.proofs.Common.{◌≡◌, ◌∙◌, ℕ, ◌+◌, ◌<◌, ◌≤◌, ap, sym, subst, refl, Bool, true, false, List, [], ◌∷◌, Option, Some, None, arith}
-use Rattle.std.specs.Prelude.{◌&&◌, not}
+-- Changes that are each in a row of its own are their own normal form.
+use Rattle.std.proofs.Common.{◌≡◌, ◌∙◌, ℕ, ◌+◌, ◌<◌, ap, sym, refl, Bool, true, false, List, [], ◌∷◌, ◌++◌, append_assoc, append-nil, arith}
+use Rattle.std.specs.Prelude.{◌==◌, ◌&&◌, not}
 use Rattle.std.specs.List.{AllByRecursion, list_any}
 use Rattle.std.specs.Str.{bytes_eq}
-use Rattle.std.specs.declared.cmp.Ordering.TheVariants.{Less}
+use Rattle.std.specs.declared.cmp.Ordering.TheVariants.{Greater}
 use Rattle.std.specs.Ordering.{nat_cmp}
 use Rattle.std.specs.Map.{values_of}
 use Rattle.std.specs.BTreeMap.{insert_entry}
+use Rattle.std.proofs.lemmas.Bool.{ne_eqb}
 use Rattle.std.proofs.lemmas.Slice.Eq.{bytes_eq-Decides}
 use Rattle.column_family.specs.declared.batch.Row.{Row}
 use Rattle.column_family.specs.declared.batch.Change.{Change}
 use Rattle.column_family.specs.declared.batch.Mutation.{Mutation}
-use Rattle.column_family.specs.declared.batch.Mutation.TheVariants.{Insert, DeleteColumn, DeleteRow, DeleteRange}
-use Rattle.column_family.specs.declared.normalizing.Place.{Place}
+use Rattle.column_family.specs.declared.places.Place.{Place}
 use Rattle.column_family.specs.Location.{is_same_row}
 use Rattle.column_family.specs.Normal.{changes_before}
-use Rattle.column_family.specs.Places.{Placed, is_effective, are_apart, place_cmp, place_of, is_taken, is_covered, keep_at, keep, keep_all, normal_of}
+use Rattle.column_family.specs.Places.{Placed, are_apart, place_cmp, part_of, after, keep, keep_all, normal_of}
 use Rattle.column_family.proofs.Options.{both_true, neither}
 use Rattle.column_family.proofs.Firsts.{bytes_eq-flip}
 
--- ---- a place before all that are taken
-abbrev StandsAfter : ℕ → Placed → Type 0
-StandsAfter i = AllByRecursion (λ (e : Place × Change). i < e.0.row)
+-- ---- a place behind all at which something is kept
+abbrev StandsBelow : ℕ → Placed → Type 0
+StandsBelow i = AllByRecursion (λ (e : Place × Change). e.0.row < i)
 
-abbrev StandsFrom : ℕ → Placed → Type 0
-StandsFrom i = AllByRecursion (λ (e : Place × Change). i ≤ e.0.row)
+greater : (i j : ℕ) → j < i → nat_cmp i j ≡ Greater
+greater i j h = grind arith
 
-less : (i j : ℕ) → i < j → nat_cmp i j ≡ Less
-less i j h = grind arith
+elsewhere : (i j : ℕ) → j < i → (j == i) ≡ false
+elsewhere i j h = ne_eqb j i (λ e. omega arith)
 
-free : (k : Place) (es : Placed) → StandsAfter k.row es → is_taken es k ≡ false
-free k [] all = refl
-free k (e ∷ es) all = let l = less k.row e.0.row all.0 in rw l (free k es all.1)
+none_undone : (i : ℕ) (m : Mutation) (es : Placed) → StandsBelow i es → after i m es ≡ es
+none_undone i m [] below = refl
+none_undone i m (e ∷ es) below = let other = elsewhere i e.0.row below.0 in rw other (ap (λ (fs : Placed). e ∷ fs) (none_undone i m es below.1))
 
-uncovered : (k : Place) (es : Placed) → StandsAfter k.row es → is_covered es k ≡ false
-uncovered k es all =
-    let deletion = free (record { row = k.row; column = None }) es all in
-    let own = free k es all in
-    rw (deletion, own) refl
+behind : (k : Place) (c : Change) (es : Placed) → StandsBelow k.row es → insert_entry place_cmp es k c ≡ es ++ (k, c) ∷ []
+behind k c [] below = refl
+behind k c (e ∷ es) below = let g = greater k.row e.0.row below.0 in rw g (ap (λ (fs : Placed). e ∷ fs) (behind k c es below.1))
 
-front : (k : Place) (c : Change) (es : Placed) → StandsAfter k.row es → insert_entry place_cmp es k c ≡ ((k, c) ∷ es)
-front k c [] all = refl
-front k c (e ∷ es) all = let l = less k.row e.0.row all.0 in rw l refl
+kept_last : (i : ℕ) (c : Change) (n : ℕ) (es : Placed) → n ≡ i → StandsBelow i es → keep n i es c ≡ es ++ (record { row = i; part = part_of i c.mutation }, c) ∷ []
+kept_last i c n es numbered below =
+    ap (λ (j : ℕ). keep j i es c) numbered
+    ∙ (ap (λ (fs : Placed). insert_entry place_cmp fs (record { row = i; part = part_of i c.mutation }) c) (none_undone i c.mutation es below)
+    ∙ behind (record { row = i; part = part_of i c.mutation }) c es below)
 
--- ---- a change more, of a row that comes before
-place_at : ℕ → Mutation → Place
-place_at i (Insert n v) = record { row = i; column = Some n }
-place_at i (DeleteColumn n) = record { row = i; column = Some n }
-place_at i DeleteRow = record { row = i; column = None }
-place_at i (DeleteRange s f) = record { row = i; column = None }
+below_more : (i : ℕ) (es : Placed) (k : Place) (c : Change) → k.row ≡ i → StandsBelow i es → StandsBelow (i + 1) (es ++ (k, c) ∷ [])
+below_more i [] k c e below = (omega arith, tt)
+below_more i (f ∷ es) k c e below = let h = below.0 in (omega arith, below_more i es k c e below.1)
 
-at_row : (i : ℕ) (m : Mutation) → (place_at i m).row ≡ i
-unfolding place_at
-at_row i (Insert n v) = refl
-at_row i (DeleteColumn n) = refl
-at_row i DeleteRow = refl
-at_row i (DeleteRange s f) = refl
-
-at_place : (i : ℕ) (m : Mutation) → is_effective m ≡ true → place_of i m ≡ Some (place_at i m)
-unfolding place_at
-at_place i (Insert n v) h = refl
-at_place i (DeleteColumn n) h = refl
-at_place i DeleteRow h = refl
-at_place i (DeleteRange s f) h = absurd (cc)
-
-kept_first : (i n : ℕ) (c : Change) (es : Placed) → n ≡ i → is_effective c.mutation ≡ true → StandsAfter i es → keep n es c ≡ ((place_at i c.mutation, c) ∷ es)
-kept_first i n c es numbered effective all =
-    let k = place_at i c.mutation in
-    let after : StandsAfter k.row es = subst (λ (j : ℕ). StandsAfter j es) (sym (at_row i c.mutation)) all in
-    let uncovered = uncovered k es after in
-    let put : keep_at es (Some k) c ≡ ((k, c) ∷ es) = rw uncovered (front k c es after) in
-    ap (λ (j : ℕ). keep j es c) numbered ∙ ap (λ (o : Option Place). keep_at es o c) (at_place i c.mutation effective) ∙ put
+values_more : (es : Placed) (k : Place) (c : Change) → values_of (es ++ (k, c) ∷ []) ≡ values_of es ++ c ∷ []
+values_more [] k c = refl
+values_more (e ∷ es) k c = ap (λ (cs : List Change). e.1 ∷ cs) (values_more es k c)
 
 -- ---- all of them
 IsNumbered : (Row → ℕ) → ℕ → List Change → Type 0
 IsNumbered number i [] = Unit {0}
 IsNumbered number i (c ∷ cs) = (number c.row ≡ i) × IsNumbered number (i + 1) cs
 
-after_all : (i : ℕ) (es : Placed) → StandsFrom (i + 1) es → StandsAfter i es
-after_all i [] all = tt
-after_all i (e ∷ es) all = let h = all.0 in (omega (arith, h), after_all i es all.1)
-
-from_all : (i : ℕ) (es : Placed) → StandsAfter i es → StandsFrom i es
-from_all i [] all = tt
-from_all i (e ∷ es) all = let h = all.0 in (omega (arith, h), from_all i es all.1)
-
-kept_all : (number : Row → ℕ) (i : ℕ) (cs : List Change) → IsNumbered number i cs → AllByRecursion (λ (c : Change). is_effective c.mutation ≡ true) cs → (values_of (keep_all number [] cs) ≡ cs) × StandsFrom i (keep_all number [] cs)
+kept_all : (number : Row → ℕ) (i : ℕ) (es : Placed) (cs : List Change) → IsNumbered number i cs → StandsBelow i es → values_of (keep_all number i es cs) ≡ values_of es ++ cs
 unfolding IsNumbered
-kept_all number i [] numbered effective = (refl, tt)
-kept_all number i (c ∷ cs) numbered effective =
-    let before = kept_all number (i + 1) cs numbered.1 effective.1 in
-    let after = after_all i (keep_all number [] cs) before.1 in
-    let is = kept_first i (number c.row) c (keep_all number [] cs) numbered.0 effective.0 after in
-    let row : i ≤ (place_at i c.mutation).row = let e = at_row i c.mutation in omega (arith, e) in (
-      ap (λ (es : Placed). values_of es) is ∙ ap (λ (ds : List Change). c ∷ ds) before.0,
-      subst (λ (es : Placed). StandsFrom i es) (sym is) (row, from_all i (keep_all number [] cs) after),
-    )
+kept_all number i es [] numbered below = sym (append-nil (values_of es))
+kept_all number i es (c ∷ cs) numbered below =
+    let k : Place = record { row = i; part = part_of i c.mutation } in
+    ap (λ (fs : Placed). values_of (keep_all number (i + 1) fs cs)) (kept_last i c (number c.row) es numbered.0 below)
+    ∙ (kept_all number (i + 1) (es ++ (k, c) ∷ []) cs numbered.1 (below_more i es k c refl below)
+    ∙ (ap (λ (ds : List Change). ds ++ cs) (values_more es k c) ∙ append_assoc (values_of es) (c ∷ []) cs))
 
 -- ---- the numbers of rows of their own
 flipped : (r s : Row) → is_same_row r s ≡ is_same_row s r
@@ -121,12 +89,10 @@ denied : (b : Bool) → not b ≡ true → b ≡ false
 denied true h = absurd (cc)
 denied false h = refl
 
-parts : (c : Change) (cs : List Change) → are_apart (c ∷ cs) ≡ true → (is_effective c.mutation ≡ true) × ((list_any (λ (d : Change). is_same_row c.row d.row) cs ≡ false) × (are_apart cs ≡ true))
+parts : (c : Change) (cs : List Change) → are_apart (c ∷ cs) ≡ true → (list_any (λ (d : Change). is_same_row c.row d.row) cs ≡ false) × (are_apart cs ≡ true)
 parts c cs h =
-    let others = list_any (λ (d : Change). is_same_row c.row d.row) cs in
-    let both = both_true (is_effective c.mutation && not others) (are_apart cs) h in
-    let first = both_true (is_effective c.mutation) (not others) both.0 in
-    (first.0, (denied others first.1, both.1))
+    let both = both_true (not (list_any (λ (d : Change). is_same_row c.row d.row) cs)) (are_apart cs) h in
+    (denied (list_any (λ (d : Change). is_same_row c.row d.row) cs) both.0, both.1)
 
 numbered : (cs : List Change) → are_apart cs ≡ true → IsNumbered (changes_before cs) 0 cs
 unfolding IsNumbered
@@ -134,11 +100,7 @@ numbered [] h = tt
 numbered (c ∷ cs) h =
     let p = parts c cs h in
     let own = same_itself c.row in
-    (rw own refl, shifted c cs 0 cs p.1.0 (numbered cs p.1.1))
-
-effective : (cs : List Change) → are_apart cs ≡ true → AllByRecursion (λ (c : Change). is_effective c.mutation ≡ true) cs
-effective [] h = tt
-effective (c ∷ cs) h = let p = parts c cs h in (p.0, effective cs p.1.1)
+    (rw own refl, shifted c cs 0 cs p.0 (numbered cs p.1))
 
 pub apart_normal : (cs : List Change) → are_apart cs ≡ true → normal_of cs ≡ cs
-apart_normal cs h = (kept_all (changes_before cs) 0 cs (numbered cs h) (effective cs h)).0
+apart_normal cs h = kept_all (changes_before cs) 0 [] cs (numbered cs h) tt

@@ -1,5 +1,5 @@
 -- Where the first change of each row stands, and what is kept, from the newest change to the oldest.
-use Rattle.std.proofs.Common.{◌≡◌, ◌∙◌, ℕ, suc, ◌+◌, ap, sym, refl, Bool, true, false, ◌&&◌, List, [], ◌∷◌, ◌++◌, length, Option, Some, None, arith}
+use Rattle.std.proofs.Common.{◌≡◌, ◌∙◌, ℕ, suc, ◌+◌, ◌<◌, get_or, drop, ap, sym, refl, Bool, true, false, ◌&&◌, List, [], ◌∷◌, ◌++◌, length, Option, Some, None, arith}
 use Rattle.std.specs.BTreeMap.{BTreeMap, get, Updates}
 use Rattle.std.specs.Prelude.{if◌then◌else◌, unwrap_or}
 use Rattle.std.specs.declared.cmp.Ordering.{Ordering}
@@ -7,6 +7,7 @@ use Rattle.std.specs.declared.cmp.Ordering.TheVariants.{Less, Equal, Greater}
 use Rattle.std.specs.Ordering.{nat_cmp, is_eq, ordering_then}
 use Rattle.std.specs.Cmp.Lexicographic.{slice_cmp}
 use Rattle.std.specs.Str.{bytes_eq}
+use Rattle.std.proofs.lemmas.List.{drop_more}
 use Rattle.std.proofs.lemmas.Slice.Eq.{bytes_eq-Decides}
 use Rattle.std.proofs.lemmas.Map.Text.{is_eq-slice_cmp}
 use Rattle.column_family.specs.declared.batch.Row.{Row}
@@ -32,10 +33,6 @@ first_from_all i (x ∷ xs) r =
     go : (b : Bool) → (if b then i else changes_before xs r + (i + 1)) ≡ (if b then 0 else changes_before xs r + 1) + i
     go true = omega arith
     go false = omega arith
-
-keep_all_push : (number : Row → ℕ) (es : Placed) (xs : List Change) (c : Change) → keep_all number es (xs ++ c ∷ []) ≡ keep_all number (keep (number c.row) es c) xs
-keep_all_push number es [] c = refl
-keep_all_push number es (x ∷ xs) c = ap (λ (fs : Placed). keep (number x.row) fs x) (keep_all_push number es xs c)
 
 -- equal rows are one row, by either test
 pub bytes_eq-flip : (a b : List ℕ) → bytes_eq a b ≡ bytes_eq b a
@@ -82,9 +79,10 @@ first_step changes rest earlier c k m n split same updates so_far r =
     ∙ ap (λ (xs : List Change). first_from 0 xs r d) (sym split)
     ∙ so_far r
 
-pub keep_step : (number : Row → ℕ) (es fs all : Placed) (rest earlier : List Change) (c : Change) (n : ℕ) → rest ≡ earlier ++ c ∷ [] → n ≡ number c.row → fs ≡ keep n es c → keep_all number es rest ≡ all → keep_all number fs earlier ≡ all
-keep_step number es fs all rest earlier c n split numbered kept so_far =
-    ap (λ (gs : Placed). keep_all number gs earlier) (kept ∙ ap (λ (i : ℕ). keep i es c) numbered)
-    ∙ sym (keep_all_push number es earlier c)
-    ∙ ap (λ (xs : List Change). keep_all number es xs) (sym split)
-    ∙ so_far
+-- the step of a walk that keeps what stands at the place i of a batch
+pub keep_step : (number : Row → ℕ) (es fs all : Placed) (changes : List Change) (c : Change) (i n : ℕ) → i < length changes → c ≡ get_or changes i c → n ≡ number c.row → fs ≡ keep n i es c
+    → keep_all number i es (drop i changes) ≡ all → keep_all number (i + 1) fs (drop (i + 1) changes) ≡ all
+keep_step number es fs all changes c i n inside is numbered kept so_far =
+    let next : drop i changes ≡ (c ∷ drop (i + 1) changes) = drop_more changes i c inside ∙ ap (λ (x : Change). x ∷ drop (i + 1) changes) (sym is) in
+    ap (λ (gs : Placed). keep_all number (i + 1) gs (drop (i + 1) changes)) (kept ∙ ap (λ (m : ℕ). keep m i es c) numbered)
+    ∙ (ap (λ (xs : List Change). keep_all number i es xs) (sym next) ∙ so_far)

@@ -1,97 +1,33 @@
--- What is kept of a batch, place by place, has the last mutation of each location and the last deletion of each row.
-use Rattle.std.proofs.Common.{◌≡◌, ◌∙◌, ℕ, ◌<◌, ap, sym, refl, inl, inr, Bool, true, false, cond, List, [], ◌∷◌, Option, Some, None, arith}
-use Rattle.std.specs.Prelude.{if◌then◌else◌, ◌&&◌, is_some}
+-- What is kept of a batch, place by place, has the last mutation of each location, the last deletion of each row, and
+-- the last of each row and of the ranges with a location.
+use Rattle.std.proofs.Common.{◌≡◌, ◌∙◌, ℕ, ◌+◌, ◌<◌, ap, sym, subst, refl, Bool, true, false, List, [], ◌∷◌, Option, Some, None, arith}
+use Rattle.std.specs.Prelude.{if◌then◌else◌, ◌==◌, ◌&&◌, ◌||◌, not}
 use Rattle.std.specs.List.{AllByRecursion}
-use Rattle.std.specs.Option.{option_or, option_cmp}
+use Rattle.std.specs.List.Sorted.{IsStrictlySortedBy}
+use Rattle.std.specs.Option.{option_or}
 use Rattle.std.specs.Str.{bytes_eq}
 use Rattle.std.specs.declared.cmp.Ordering.{Ordering}
 use Rattle.std.specs.declared.cmp.Ordering.TheVariants.{Less, Equal, Greater}
-use Rattle.std.specs.Ordering.{nat_cmp, is_eq, ordering_then, match_ordering}
+use Rattle.std.specs.Ordering.{nat_cmp, match_ordering}
 use Rattle.std.specs.Cmp.Lexicographic.{slice_cmp}
-use Rattle.std.specs.Map.{lookup, values_of}
+use Rattle.std.specs.Map.{keys_of, values_of}
 use Rattle.std.specs.BTreeMap.{insert_entry}
-use Rattle.std.proofs.lemmas.Cmp.{tied_itself, nat_cmp_total, nat_list_cmp_total}
+use Rattle.std.proofs.lemmas.Cmp.{tied_itself, nat_list_cmp_total}
 use Rattle.std.proofs.lemmas.Map.Lookups.{exact_bytes}
 use Rattle.std.proofs.lemmas.Slice.Eq.{bytes_eq-Decides}
+use Rattle.std.proofs.lemmas.Bool.{eqb-true, eq-eqb}
 use Rattle.column_family.specs.declared.batch.Row.{Row}
 use Rattle.column_family.specs.declared.batch.Change.{Change}
 use Rattle.column_family.specs.declared.batch.Mutation.{Mutation}
 use Rattle.column_family.specs.declared.batch.Mutation.TheVariants.{Insert, DeleteColumn, DeleteRow, DeleteRange}
-use Rattle.column_family.specs.declared.normalizing.Place.{Place}
-use Rattle.column_family.specs.Location.{Location, is_same_row, touches_name, deletes_row, is_row_deletion, touches}
+use Rattle.column_family.specs.declared.places.Place.{Place}
+use Rattle.column_family.specs.Names.{is_between}
+use Rattle.column_family.specs.Location.{Location, is_same_row, touches_name, ranges_over, deletes_row, is_row_deletion, strikes, touches}
 use Rattle.column_family.specs.History.{last_of}
-use Rattle.column_family.specs.Places.{Placed, place_cmp, place_of, is_taken, is_covered, keep_at, keep, keep_all}
-use Rattle.column_family.proofs.Options.{by_cases, both_true, either_true, neither, some_left, some_right, or_none, or_some, or_swap}
-
--- ---- places
--- the part of a row that a mutation concerns: a column, or all of it
-abbrev pub part_of : Mutation → Option (Option (List ℕ))
-part_of (Insert n v) = Some (Some n)
-part_of (DeleteColumn n) = Some (Some n)
-part_of DeleteRow = Some None
-part_of (DeleteRange s f) = None
-
-pub placed_row : (i : ℕ) (m : Mutation) (k : Place) → place_of i m ≡ Some k → i ≡ k.row
-placed_row i (Insert n v) k h = let e : record { row = i; column = Some n } ≡ k = cc in ap (λ (p : Place). p.row) e
-placed_row i (DeleteColumn n) k h = let e : record { row = i; column = Some n } ≡ k = cc in ap (λ (p : Place). p.row) e
-placed_row i DeleteRow k h = let e : record { row = i; column = None } ≡ k = cc in ap (λ (p : Place). p.row) e
-placed_row i (DeleteRange s f) k h = absurd (cc)
-
-pub placed_part : (i : ℕ) (m : Mutation) (k : Place) → place_of i m ≡ Some k → part_of m ≡ Some k.column
-placed_part i (Insert n v) k h = let e : record { row = i; column = Some n } ≡ k = cc in ap (λ (p : Place). Some p.column) e
-placed_part i (DeleteColumn n) k h = let e : record { row = i; column = Some n } ≡ k = cc in ap (λ (p : Place). Some p.column) e
-placed_part i DeleteRow k h = let e : record { row = i; column = None } ≡ k = cc in ap (λ (p : Place). Some p.column) e
-placed_part i (DeleteRange s f) k h = absurd (cc)
-
-unplaced_part : (i : ℕ) (m : Mutation) → place_of i m ≡ None → part_of m ≡ None
-unplaced_part i (Insert n v) h = absurd (cc)
-unplaced_part i (DeleteColumn n) h = absurd (cc)
-unplaced_part i DeleteRow h = absurd (cc)
-unplaced_part i (DeleteRange s f) h = refl
-
-is_equal : (o : Ordering) → is_eq o ≡ true → o ≡ Equal
-is_equal Less h = absurd (cc)
-is_equal Equal h = refl
-is_equal Greater h = absurd (cc)
-
-both_equal : (a b : Ordering) → ordering_then a b ≡ Equal → (a ≡ Equal) × (b ≡ Equal)
-both_equal Less b h = absurd (cc)
-both_equal Equal b h = (refl, h)
-both_equal Greater b h = absurd (cc)
-
-pub same_number : (a b : ℕ) → nat_cmp a b ≡ Equal → a ≡ b
-same_number a b h = grind arith
-
-same_column : (a b : Option (List ℕ)) → option_cmp (slice_cmp nat_cmp) a b ≡ Equal → a ≡ b
-same_column None None h = refl
-same_column None (Some n) h = absurd (cc)
-same_column (Some n) None h = absurd (cc)
-same_column (Some n) (Some m) h = ap (λ (x : List ℕ). Some x) (exact_bytes n m h)
-
-same_place : (p q : Place) → is_eq (place_cmp p q) ≡ true → (p.row ≡ q.row) × (p.column ≡ q.column)
-same_place p q h =
-    let e = both_equal (nat_cmp p.row q.row) (option_cmp (slice_cmp nat_cmp) p.column q.column) (is_equal (place_cmp p q) h) in
-    (same_number p.row q.row e.0, same_column p.column q.column e.1)
-
--- the change stands at its place, and its row is one of those that are numbered
-abbrev pub IsPlaced : (Row → ℕ) → ℕ → Place × Change → Type 0
-IsPlaced number n e = (place_of (number e.1.row) e.1.mutation ≡ Some e.0) × (number e.1.row < n)
-
--- each numbered row has a number of its own
-abbrev pub IsNumbering : (Row → ℕ) → ℕ → Type 0
-IsNumbering number n = (r s : Row) → number r < n → number r ≡ number s → r ≡ s
-
--- ---- a test of changes by row and part of the row
-abbrev at_part : (Option (List ℕ) → Bool) → Option (Option (List ℕ)) → Bool
-at_part v None = false
-at_part v (Some a) = v a
-
-abbrev concerns : Row → (Option (List ℕ) → Bool) → Change → Bool
-concerns r v c = is_same_row r c.row && at_part v (part_of c.mutation)
-
--- the test passes on all of the row, and on one column at most
-abbrev IsOfOne : (Option (List ℕ) → Bool) → Type 0
-IsOfOne v = (v None ≡ true) × ((n m : List ℕ) → v (Some n) ≡ true → v (Some m) ≡ true → n ≡ m)
+use Rattle.column_family.specs.Places.{Placed, part_of, part_cmp, place_cmp, is_undone, after, keep, keep_all}
+use Rattle.column_family.proofs.Options.{by_cases, both_true, both_hold, denied, or_none, or_assoc}
+use Rattle.column_family.proofs.PlaceOrder.{place_total, equal_places, in_row}
+use Rattle.column_family.proofs.PlacesKept.{IsPlaced, IsNumbering, at_place, placed_after, placed_keep, sorted_after, sorted_keep}
 
 pub one_row : (r s : Row) → is_same_row r s ≡ true → r ≡ s
 one_row r s h =
@@ -100,187 +36,284 @@ one_row r s h =
     let f = (bytes_eq-Decides r.family s.family).0 b.1 in
     λ i. record { key = k i; family = f i }
 
--- ---- where a place is taken, what stands there passes the test
-taken_passes : (number : Row → ℕ) (n : ℕ) (r : Row) (v : Option (List ℕ) → Bool) → IsNumbering number n → (es : Placed) → AllByRecursion (IsPlaced number n) es → (q : Place) → q.row ≡ number r → v q.column ≡ true → is_taken es q ≡ true → is_some (last_of (concerns r v) (values_of es)) ≡ true
-taken_passes number n r v apart [] all q row passes taken = absurd (cc)
-taken_passes number n r v apart (e ∷ es) all q row passes taken =
-    by_cases (is_eq (place_cmp q e.0))
-    (λ yes.
-    let same = same_place q e.0 yes in
-    let numbered : number e.1.row ≡ number r = placed_row (number e.1.row) e.1.mutation e.0 all.0.0 ∙ sym same.0 ∙ row in
-    let rows : e.1.row ≡ r = apart e.1.row r all.0.1 numbered in
-    let part : part_of e.1.mutation ≡ Some q.column = placed_part (number e.1.row) e.1.mutation e.0 all.0.0 ∙ ap (λ (o : Option (List ℕ)). Some o) (sym same.1) in
-    let this : concerns r v e.1 ≡ true = concerned r v e.1 rows (ap (λ (o : Option (Option (List ℕ))). at_part v o) part ∙ passes) in
-    some_right (last_of (concerns r v) (values_of es)) (if concerns r v e.1 then Some e.1.mutation else None) (rw this refl))
-    (λ away.
-    let later : is_taken es q ≡ true = sym (ap (λ (b : Bool). is_some (cond b (Some e.1) (lookup (λ p. is_eq (place_cmp q p)) es))) away) ∙ taken in
-    some_left (last_of (concerns r v) (values_of es)) (if concerns r v e.1 then Some e.1.mutation else None) (taken_passes number n r v apart es all.1 q row passes later))
-  where
-    concerned : (r : Row) (v : Option (List ℕ) → Bool) (c : Change) → c.row ≡ r → at_part v (part_of c.mutation) ≡ true → concerns r v c ≡ true
-    concerned r v c rows passes =
-        let f : bytes_eq r.family c.row.family ≡ true = (bytes_eq-Decides r.family c.row.family).1 (ap (λ (s : Row). s.family) (sym rows)) in
-        let k : bytes_eq r.key c.row.key ≡ true = (bytes_eq-Decides r.key c.row.key).1 (ap (λ (s : Row). s.key) (sym rows)) in
-        rw (k, f) passes
+-- ---- a test of changes by row and mutation
+abbrev pub tests : Row → (Mutation → Bool) → Change → Bool
+tests r q c = is_same_row r c.row && q c.mutation
 
--- ---- a change that is put at its place
-untaken : (es : Placed) (e : Place × Change) (q : Place) → is_taken (e ∷ es) q ≡ false → (is_eq (place_cmp q e.0) ≡ false) × (is_taken es q ≡ false)
-untaken es e q h = go (is_eq (place_cmp q e.0)) refl h
-  where
-    go : (b : Bool) → is_eq (place_cmp q e.0) ≡ b → is_some (cond b (Some e.1) (lookup (λ p. is_eq (place_cmp q p)) es)) ≡ false → (is_eq (place_cmp q e.0) ≡ false) × (is_taken es q ≡ false)
-    go true f g = absurd (cc)
-    go false f g = (f, g)
+-- a newer mutation passes the test where an older one did that it undoes or replaces, and where both pass, what isn't
+-- undone stands before the newer
+pub record GoesByTheLast (q : Mutation → Bool) : Type 0 where
+  pub undoing : (m d : Mutation) (i : ℕ) → q m ≡ true → is_undone d (part_of i m) ≡ true → q d ≡ true
+  pub replacing : (m d : Mutation) (i j : ℕ) → i < j → part_cmp (part_of j d) (part_of i m) ≡ Equal → q m ≡ true → q d ≡ true
+  pub before : (m d : Mutation) (i j : ℕ) → i < j → q m ≡ true → q d ≡ true → is_undone d (part_of i m) ≡ false → part_cmp (part_of j d) (part_of i m) ≡ Less → ⊥
 
--- two columns of one row that the test passes on are one
-clash : (v : Option (List ℕ) → Bool) → IsOfOne v → (a b : Option (List ℕ)) → v a ≡ true → v b ≡ true → option_cmp (slice_cmp nat_cmp) a b ≡ Greater → is_eq (option_cmp (slice_cmp nat_cmp) None b) ≡ false → ⊥
-clash v one None None p q h g = cc
-clash v one None (Some m) p q h g = cc
-clash v one (Some n) None p q h g = cc
-clash v one (Some n) (Some m) p q h g =
-    let same : slice_cmp nat_cmp n m ≡ Equal = ap (λ (x : List ℕ). slice_cmp nat_cmp n x) (sym (one.1 n m p q)) ∙ tied_itself nat_list_cmp_total n in
+module _ (number : Row → ℕ) (n : ℕ) (apart : IsNumbering number n) (r : Row) (q : Mutation → Bool) (by_last : GoesByTheLast q) where
+  passes_too : (c : Change) (e : Place × Change) (i : ℕ) → IsPlaced number n i e → e.0.row ≡ number c.row → tests r q e.1 ≡ true → (q e.1.mutation ≡ true → q c.mutation ≡ true) → tests r q c ≡ true
+  passes_too c e i placed row t f =
+      let b = both_true (is_same_row r e.1.row) (q e.1.mutation) t in
+      let rows : e.1.row ≡ c.row = apart e.1.row c.row placed.1 (sym placed.0 ∙ row) in
+      both_hold (is_same_row r c.row) (q c.mutation) (ap (λ (s : Row). is_same_row r s) (sym rows) ∙ b.0) (f b.1)
+
+  -- where what is undone passes, the newer change does
+  undone_passes : (c : Change) (i : ℕ) (e : Place × Change) → IsPlaced number n i e → (e.0.row == number c.row && is_undone c.mutation e.0.part) ≡ true → tests r q e.1 ≡ true → tests r q c ≡ true
+  undone_passes c i e placed undone t =
+      let u = both_true (e.0.row == number c.row) (is_undone c.mutation e.0.part) undone in
+      passes_too c e i placed (eqb-true e.0.row (number c.row) u.0) t
+      (λ h. by_last.undoing e.1.mutation c.mutation placed.2.0 h (ap (is_undone c.mutation) (sym placed.2.2) ∙ u.1))
+
+  -- where what is replaced passes, the newer change does
+  replaced_passes : (c : Change) (i : ℕ) (e : Place × Change) → IsPlaced number n i e → place_cmp (at_place number i c) e.0 ≡ Equal → tests r q e.1 ≡ true → tests r q c ≡ true
+  replaced_passes c i e placed equal t =
+      let row : number c.row ≡ e.0.row = ap (λ (p : Place). p.row) (equal_places (at_place number i c) e.0 equal) in
+      let parts : part_cmp (part_of i c.mutation) (part_of placed.2.0 e.1.mutation) ≡ Equal = ap (part_cmp (part_of i c.mutation)) (sym placed.2.2) ∙ (sym (in_row (at_place number i c) e.0 row) ∙ equal) in
+      passes_too c e i placed (sym row) t (λ h. by_last.replacing e.1.mutation c.mutation placed.2.0 i placed.2.1 parts h)
+
+  -- where both pass, what isn't undone stands before the newer change
+  none_behind : (c : Change) (i : ℕ) (e : Place × Change) → IsPlaced number n i e → (e.0.row == number c.row && is_undone c.mutation e.0.part) ≡ false → tests r q c ≡ true → tests r q e.1 ≡ true → place_cmp (at_place number i c) e.0 ≡ Less → ⊥
+  none_behind c i e placed left t t' less =
+      let b = both_true (is_same_row r c.row) (q c.mutation) t in
+      let b' = both_true (is_same_row r e.1.row) (q e.1.mutation) t' in
+      let rows : c.row ≡ e.1.row = sym (one_row r c.row b.0) ∙ one_row r e.1.row b'.0 in
+      let row : number c.row ≡ e.0.row = ap number rows ∙ sym placed.0 in
+      let same : (e.0.row == number c.row) ≡ true = eq-eqb e.0.row (number c.row) (sym row) in
+      let kept : is_undone c.mutation e.0.part ≡ false = sym (ap (λ (x : Bool). x && is_undone c.mutation e.0.part) same) ∙ left in
+      by_last.before e.1.mutation c.mutation placed.2.0 i placed.2.1 b'.1 b.1 (ap (is_undone c.mutation) (sym placed.2.2) ∙ kept)
+      (ap (part_cmp (part_of i c.mutation)) (sym placed.2.2) ∙ (sym (in_row (at_place number i c) e.0 row) ∙ less))
+
+  -- ---- a change that doesn't pass
+  unless : (x : Bool) (o : Option Mutation) (m : Mutation) → x ≡ false → option_or o (if x then Some m else None) ≡ o
+  unless true o m h = absurd (cc)
+  unless false o m h = sym (or_none o)
+
+  last_left : (c : Change) (i : ℕ) → tests r q c ≡ false → (es : Placed) → AllByRecursion (IsPlaced number n i) es → last_of (tests r q) (values_of (after (number c.row) c.mutation es)) ≡ last_of (tests r q) (values_of es)
+  last_left c i fails [] all = refl
+  last_left c i fails (e ∷ es) all = go (last_left c i fails es all.1) (e.0.row == number c.row && is_undone c.mutation e.0.part) refl
+    where
+      go : last_of (tests r q) (values_of (after (number c.row) c.mutation es)) ≡ last_of (tests r q) (values_of es)
+          → (b : Bool) → (e.0.row == number c.row && is_undone c.mutation e.0.part) ≡ b
+          → last_of (tests r q) (values_of (if not b then e ∷ after (number c.row) c.mutation es else after (number c.row) c.mutation es)) ≡ last_of (tests r q) (values_of (e ∷ es))
+      go ih true u =
+          let none : tests r q e.1 ≡ false = denied (tests r q e.1) (λ t. let passes = undone_passes c i e all.0 u t in cc) in
+          ih ∙ sym (unless (tests r q e.1) (last_of (tests r q) (values_of es)) e.1.mutation none)
+      go ih false u = ap (λ (o : Option Mutation). option_or o (if tests r q e.1 then Some e.1.mutation else None)) ih
+
+  last_beside : (c : Change) (i : ℕ) → tests r q c ≡ false → (es : Placed) → AllByRecursion (IsPlaced number n i) es → last_of (tests r q) (values_of (insert_entry place_cmp es (at_place number i c) c)) ≡ last_of (tests r q) (values_of es)
+  last_beside c i fails [] all = unless (tests r q c) None c.mutation fails
+  last_beside c i fails (e ∷ es) all = go (last_beside c i fails es all.1) (place_cmp (at_place number i c) e.0) refl
+    where
+      go : last_of (tests r q) (values_of (insert_entry place_cmp es (at_place number i c) c)) ≡ last_of (tests r q) (values_of es)
+          → (o : Ordering) → place_cmp (at_place number i c) e.0 ≡ o
+          → last_of (tests r q) (values_of (match_ordering o ((at_place number i c, c) ∷ e ∷ es) ((e.0, c) ∷ es) (e ∷ insert_entry place_cmp es (at_place number i c) c))) ≡ last_of (tests r q) (values_of (e ∷ es))
+      go ih Less h = unless (tests r q c) (last_of (tests r q) (values_of (e ∷ es))) c.mutation fails
+      go ih Equal h =
+          let none : tests r q e.1 ≡ false = denied (tests r q e.1) (λ t. let passes = replaced_passes c i e all.0 h t in cc) in
+          unless (tests r q c) (last_of (tests r q) (values_of es)) c.mutation fails ∙ sym (unless (tests r q e.1) (last_of (tests r q) (values_of es)) e.1.mutation none)
+      go ih Greater h = ap (λ (o : Option Mutation). option_or o (if tests r q e.1 then Some e.1.mutation else None)) ih
+
+  -- ---- a change that passes
+  abbrev PassesBefore : Place → Place × Change → Type 0
+  PassesBefore k e = tests r q e.1 ≡ true → place_cmp k e.0 ≡ Less → ⊥
+
+  none_later : (k : Place) (es : Placed) → AllByRecursion (PassesBefore k) es → AllByRecursion (λ (p : Place). place_cmp k p ≡ Less) (keys_of es) → last_of (tests r q) (values_of es) ≡ None
+  none_later k [] all less = refl
+  none_later k (e ∷ es) all less =
+      let none : tests r q e.1 ≡ false = denied (tests r q e.1) (λ t. all.0 t less.0) in
+      unless (tests r q e.1) (last_of (tests r q) (values_of es)) e.1.mutation none ∙ none_later k es all.1 less.1
+
+  each_later : (k p : Place) → place_cmp k p ≡ Less → (ps : List Place) → AllByRecursion (λ (x : Place). place_cmp p x ≡ Less) ps → AllByRecursion (λ (x : Place). place_cmp k x ≡ Less) ps
+  each_later k p less [] h = tt
+  each_later k p less (x ∷ xs) h = (place_total.trans k p x less h.0, each_later k p less xs h.1)
+
+  last_put : (k : Place) (c : Change) → tests r q c ≡ true → (es : Placed) → AllByRecursion (PassesBefore k) es → IsStrictlySortedBy place_cmp (keys_of es) → last_of (tests r q) (values_of (insert_entry place_cmp es k c)) ≡ Some c.mutation
+  unfolding IsStrictlySortedBy
+  last_put k c passes [] all s = rw passes refl
+  last_put k c passes (e ∷ es) all s = go (last_put k c passes es all.1 s.1) (place_cmp k e.0) refl
+    where
+      here : (o : Option Mutation) → o ≡ None → option_or o (if tests r q c then Some c.mutation else None) ≡ Some c.mutation
+      here o h = ap (λ (x : Option Mutation). option_or x (if tests r q c then Some c.mutation else None)) h ∙ ap (λ (b : Bool). if b then Some c.mutation else None) passes
+
+      go : last_of (tests r q) (values_of (insert_entry place_cmp es k c)) ≡ Some c.mutation
+          → (o : Ordering) → place_cmp k e.0 ≡ o → last_of (tests r q) (values_of (match_ordering o ((k, c) ∷ e ∷ es) ((e.0, c) ∷ es) (e ∷ insert_entry place_cmp es k c))) ≡ Some c.mutation
+      go ih Less h = here (last_of (tests r q) (values_of (e ∷ es))) (none_later k (e ∷ es) all (h, each_later k e.0 h (keys_of es) s.0))
+      go ih Equal h = here (last_of (tests r q) (values_of es)) (none_later k es all.1 (subst (λ (p : Place). AllByRecursion (λ (x : Place). place_cmp p x ≡ Less) (keys_of es)) (sym (equal_places k e.0 h)) s.0))
+      go ih Greater h = ap (λ (o : Option Mutation). option_or o (if tests r q e.1 then Some e.1.mutation else None)) ih
+
+  left_before : (c : Change) (i : ℕ) → tests r q c ≡ true → (es : Placed) → AllByRecursion (IsPlaced number n i) es → AllByRecursion (PassesBefore (at_place number i c)) (after (number c.row) c.mutation es)
+  left_before c i passes [] all = tt
+  left_before c i passes (e ∷ es) all = go (left_before c i passes es all.1) (e.0.row == number c.row && is_undone c.mutation e.0.part) refl
+    where
+      go : AllByRecursion (PassesBefore (at_place number i c)) (after (number c.row) c.mutation es) → (b : Bool) → (e.0.row == number c.row && is_undone c.mutation e.0.part) ≡ b
+          → AllByRecursion (PassesBefore (at_place number i c)) (if not b then e ∷ after (number c.row) c.mutation es else after (number c.row) c.mutation es)
+      go ih true u = ih
+      go ih false u = ((λ t less. none_behind c i e all.0 u passes t less), ih)
+
+  -- ---- one change more
+  last_keep : (c : Change) (i : ℕ) (es : Placed) → AllByRecursion (IsPlaced number n i) es → IsStrictlySortedBy place_cmp (keys_of es)
+      → last_of (tests r q) (values_of (keep (number c.row) i es c)) ≡ option_or (if tests r q c then Some c.mutation else None) (last_of (tests r q) (values_of es))
+  last_keep c i es all s =
+      by_cases (tests r q c)
+      (λ yes. last_put (at_place number i c) c yes (after (number c.row) c.mutation es) (left_before c i yes es all) (sorted_after (number c.row) c.mutation es s)
+      ∙ sym (ap (λ (b : Bool). option_or (if b then Some c.mutation else None) (last_of (tests r q) (values_of es))) yes))
+      (λ no. last_beside c i no (after (number c.row) c.mutation es) (placed_after number n (number c.row) c.mutation i es all)
+      ∙ (last_left c i no es all ∙ sym (ap (λ (b : Bool). option_or (if b then Some c.mutation else None) (last_of (tests r q) (values_of es))) no)))
+
+  -- ---- all of them
+  last_all : (i : ℕ) (es : Placed) → AllByRecursion (IsPlaced number n i) es → IsStrictlySortedBy place_cmp (keys_of es) → (cs : List Change) → AllByRecursion (λ (c : Change). number c.row < n) cs
+      → last_of (tests r q) (values_of (keep_all number i es cs)) ≡ option_or (last_of (tests r q) cs) (last_of (tests r q) (values_of es))
+  last_all i es all s [] known = refl
+  last_all i es all s (c ∷ cs) known =
+      last_all (i + 1) (keep (number c.row) i es c) (placed_keep number n c i known.0 es all) (sorted_keep (number c.row) i es c s) cs known.1
+      ∙ (ap (λ (o : Option Mutation). option_or (last_of (tests r q) cs) o) (last_keep c i es all s)
+      ∙ sym (or_assoc (last_of (tests r q) cs) (if tests r q c then Some c.mutation else None) (last_of (tests r q) (values_of es))))
+
+  pub last_kept : (cs : List Change) → AllByRecursion (λ (c : Change). number c.row < n) cs → last_of (tests r q) (values_of (keep_all number 0 [] cs)) ≡ last_of (tests r q) cs
+  unfolding IsStrictlySortedBy
+  last_kept cs known = last_all 0 [] tt tt cs known ∙ sym (or_none (last_of (tests r q) cs))
+
+-- ---- the three tests of a history
+named : (n m name : List ℕ) → bytes_eq n name ≡ true → bytes_eq m name ≡ true → slice_cmp nat_cmp m n ≡ Less → ⊥
+named n m name s t less =
+    let same : m ≡ n = (bytes_eq-Decides m name).0 t ∙ sym ((bytes_eq-Decides n name).0 s) in
+    let equal : slice_cmp nat_cmp m n ≡ Equal = ap (slice_cmp nat_cmp m) (sym same) ∙ tied_itself nat_list_cmp_total m in
     cc
 
-in_row : (i j : ℕ) (o : Ordering) → i ≡ j → ordering_then (nat_cmp i j) o ≡ o
-in_row i j o e = ap (λ (k : ℕ). ordering_then (nat_cmp i k) o) (sym e) ∙ ap (λ (t : Ordering). ordering_then t o) (tied_itself nat_cmp_total i)
+named_alike : (n m name : List ℕ) → slice_cmp nat_cmp m n ≡ Equal → bytes_eq n name ≡ true → bytes_eq m name ≡ true
+named_alike n m name equal t = ap (λ (k : List ℕ). bytes_eq k name) (exact_bytes m n equal) ∙ t
 
-passes_part : (v : Option (List ℕ) → Bool) (m : Mutation) (a : Option (List ℕ)) → part_of m ≡ Some a → at_part v (part_of m) ≡ true → v a ≡ true
-passes_part v m a e h = sym (ap (λ (o : Option (Option (List ℕ))). at_part v o) e) ∙ h
+not_less : (i j : ℕ) → i < j → nat_cmp j i ≡ Less → ⊥
+not_less i j lt h = grind arith
 
--- what stands before a change that the test passes on doesn't pass it
-passes_once : (number : Row → ℕ) (n : ℕ) (r : Row) (v : Option (List ℕ) → Bool) → IsOfOne v → (k : Place) (c : Change) (e : Place × Change) → IsPlaced number n (k, c) → IsPlaced number n e → place_cmp k e.0 ≡ Greater → is_eq (place_cmp (record { row = k.row; column = None }) e.0) ≡ false → concerns r v c ≡ true → concerns r v e.1 ≡ true → ⊥
-passes_once number n r v one k c e placed placed' greater undeleted t t' =
-    let b = both_true (is_same_row r c.row) (at_part v (part_of c.mutation)) t in
-    let b' = both_true (is_same_row r e.1.row) (at_part v (part_of e.1.mutation)) t' in
-    let rows : c.row ≡ e.1.row = sym (one_row r c.row b.0) ∙ one_row r e.1.row b'.0 in
-    let same : k.row ≡ e.0.row = sym (placed_row (number c.row) c.mutation k placed.0) ∙ ap number rows ∙ placed_row (number e.1.row) e.1.mutation e.0 placed'.0 in
-    let a = passes_part v c.mutation k.column (placed_part (number c.row) c.mutation k placed.0) b.1 in
-    let a' = passes_part v e.1.mutation e.0.column (placed_part (number e.1.row) e.1.mutation e.0 placed'.0) b'.1 in
-    clash v one k.column e.0.column a a'
-    (sym (in_row k.row e.0.row (option_cmp (slice_cmp nat_cmp) k.column e.0.column) same) ∙ greater)
-    (sym (ap (λ (o : Ordering). is_eq o) (in_row k.row e.0.row (option_cmp (slice_cmp nat_cmp) None e.0.column) same)) ∙ undeleted)
+not_equal : (i j : ℕ) → i < j → nat_cmp j i ≡ Equal → ⊥
+not_equal i j lt h = grind arith
 
-last_insert : (number : Row → ℕ) (n : ℕ) (r : Row) (v : Option (List ℕ) → Bool) → IsOfOne v → (k : Place) (c : Change) → IsPlaced number n (k, c) → (es : Placed) → AllByRecursion (IsPlaced number n) es → is_taken es (record { row = k.row; column = None }) ≡ false → is_taken es k ≡ false → last_of (concerns r v) (values_of (insert_entry place_cmp es k c)) ≡ option_or (last_of (concerns r v) (values_of es)) (if concerns r v c then Some c.mutation else None)
-last_insert number n r v one k c placed [] all undeleted free = refl
-last_insert number n r v one k c placed (e ∷ es) all undeleted free =
-    let u = untaken es e (record { row = k.row; column = None }) undeleted in
-    let f = untaken es e k free in
-    go (last_insert number n r v one k c placed es all.1 u.1 f.1) u.0 f.0 (place_cmp k e.0) refl
-  where
-    go : last_of (concerns r v) (values_of (insert_entry place_cmp es k c)) ≡ option_or (last_of (concerns r v) (values_of es)) (if concerns r v c then Some c.mutation else None) → is_eq (place_cmp (record { row = k.row; column = None }) e.0) ≡ false → is_eq (place_cmp k e.0) ≡ false → (o : Ordering) → place_cmp k e.0 ≡ o → last_of (concerns r v) (values_of (match_ordering o ((k, c) ∷ e ∷ es) ((e.0, c) ∷ es) (e ∷ insert_entry place_cmp es k c))) ≡ option_or (option_or (last_of (concerns r v) (values_of es)) (if concerns r v e.1 then Some e.1.mutation else None)) (if concerns r v c then Some c.mutation else None)
-    go ih u f Less g = refl
-    go ih u f Equal g = let h : is_eq (place_cmp k e.0) ≡ true = ap (λ (o : Ordering). is_eq o) g in absurd (cc)
-    go ih u f Greater g =
-        ap (λ (o : Option Mutation). option_or o (if concerns r v e.1 then Some e.1.mutation else None)) ih
-        ∙ or_swap (concerns r v c) (concerns r v e.1) c.mutation e.1.mutation (last_of (concerns r v) (values_of es)) (passes_once number n r v one k c e placed all.0 g u)
+undoing_touch : (name : List ℕ) (m d : Mutation) (i : ℕ) → touches_name m name ≡ true → is_undone d (part_of i m) ≡ true → touches_name d name ≡ true
+undoing_touch name m DeleteRow i t u = refl
+undoing_touch name (Insert n v) (DeleteRange s f) i t u = ap (is_between s f) (sym ((bytes_eq-Decides n name).0 t)) ∙ u
+undoing_touch name (DeleteColumn n) (DeleteRange s f) i t u = ap (is_between s f) (sym ((bytes_eq-Decides n name).0 t)) ∙ u
+undoing_touch name m d i t u = absurd (cc)
 
-placed_insert : (number : Row → ℕ) (n : ℕ) (k : Place) (c : Change) → IsPlaced number n (k, c) → (es : Placed) → AllByRecursion (IsPlaced number n) es → is_taken es k ≡ false → AllByRecursion (IsPlaced number n) (insert_entry place_cmp es k c)
-placed_insert number n k c placed [] all free = (placed, tt)
-placed_insert number n k c placed (e ∷ es) all free =
-    let f = untaken es e k free in
-    go (placed_insert number n k c placed es all.1 f.1) f.0 (place_cmp k e.0) refl
-  where
-    go : AllByRecursion (IsPlaced number n) (insert_entry place_cmp es k c) → is_eq (place_cmp k e.0) ≡ false → (o : Ordering) → place_cmp k e.0 ≡ o → AllByRecursion (IsPlaced number n) (match_ordering o ((k, c) ∷ e ∷ es) ((e.0, c) ∷ es) (e ∷ insert_entry place_cmp es k c))
-    go ih f Less g = (placed, all)
-    go ih f Equal g = let h : is_eq (place_cmp k e.0) ≡ true = ap (λ (o : Ordering). is_eq o) g in absurd (cc)
-    go ih f Greater g = (all.0, ih)
+replacing_touch : (name : List ℕ) (m d : Mutation) (i j : ℕ) → i < j → part_cmp (part_of j d) (part_of i m) ≡ Equal → touches_name m name ≡ true → touches_name d name ≡ true
+replacing_touch name m DeleteRow i j lt e t = refl
+replacing_touch name (Insert n v) (Insert n' v') i j lt e t = named_alike n n' name e t
+replacing_touch name (Insert n v) (DeleteColumn n') i j lt e t = named_alike n n' name e t
+replacing_touch name (DeleteColumn n) (Insert n' v') i j lt e t = named_alike n n' name e t
+replacing_touch name (DeleteColumn n) (DeleteColumn n') i j lt e t = named_alike n n' name e t
+replacing_touch name (DeleteRange s f) (DeleteRange s' f') i j lt e t = absurd (not_equal i j lt e)
+replacing_touch name m d i j lt e t = absurd (cc)
 
--- ---- one change more
-placed_keep : (number : Row → ℕ) (n : ℕ) (c : Change) → number c.row < n → (es : Placed) → AllByRecursion (IsPlaced number n) es → AllByRecursion (IsPlaced number n) (keep (number c.row) es c)
-placed_keep number n c known es all = go (place_of (number c.row) c.mutation) refl
-  where
-    go : (o : Option Place) → place_of (number c.row) c.mutation ≡ o → AllByRecursion (IsPlaced number n) (keep_at es o c)
-    go None e = all
-    go (Some k) e =
-        by_cases (is_covered es k)
-        (λ yes. rw yes all)
-        (λ free. let f = neither (is_taken es (record { row = k.row; column = None })) (is_taken es k) free in rw free (placed_insert number n k c (e, known) es all f.1))
+touch_before : (name : List ℕ) (m d : Mutation) (i j : ℕ) → i < j → touches_name m name ≡ true → touches_name d name ≡ true → is_undone d (part_of i m) ≡ false → part_cmp (part_of j d) (part_of i m) ≡ Less → ⊥
+touch_before name (Insert n v) (Insert n' v') i j lt t t' u less = named n n' name t t' less
+touch_before name (Insert n v) (DeleteColumn n') i j lt t t' u less = named n n' name t t' less
+touch_before name (DeleteColumn n) (Insert n' v') i j lt t t' u less = named n n' name t t' less
+touch_before name (DeleteColumn n) (DeleteColumn n') i j lt t t' u less = named n n' name t t' less
+touch_before name (Insert n v) (DeleteRange s f) i j lt t t' u less = let other : is_between s f n ≡ true = ap (is_between s f) ((bytes_eq-Decides n name).0 t) ∙ t' in absurd (cc)
+touch_before name (DeleteColumn n) (DeleteRange s f) i j lt t t' u less = let other : is_between s f n ≡ true = ap (is_between s f) ((bytes_eq-Decides n name).0 t) ∙ t' in absurd (cc)
+touch_before name (DeleteRange s f) (DeleteRange s' f') i j lt t t' u less = not_less i j lt less
+touch_before name DeleteRow (Insert n' v') i j lt t t' u less = absurd (cc)
+touch_before name DeleteRow (DeleteColumn n') i j lt t t' u less = absurd (cc)
+touch_before name DeleteRow DeleteRow i j lt t t' u less = absurd (cc)
+touch_before name DeleteRow (DeleteRange s' f') i j lt t t' u less = absurd (cc)
+touch_before name m d i j lt t t' u less = absurd (cc)
 
-last_keep : (number : Row → ℕ) (n : ℕ) (r : Row) (v : Option (List ℕ) → Bool) → IsNumbering number n → IsOfOne v → (c : Change) → number c.row < n → (es : Placed) → AllByRecursion (IsPlaced number n) es → last_of (concerns r v) (values_of (keep (number c.row) es c)) ≡ option_or (last_of (concerns r v) (values_of es)) (if concerns r v c then Some c.mutation else None)
-last_keep number n r v apart one c known es all = go (place_of (number c.row) c.mutation) refl
-  where
-    idle : concerns r v c ≡ false → last_of (concerns r v) (values_of es) ≡ option_or (last_of (concerns r v) (values_of es)) (if concerns r v c then Some c.mutation else None)
-    idle h = or_none (last_of (concerns r v) (values_of es)) ∙ ap (λ (b : Bool). option_or (last_of (concerns r v) (values_of es)) (if b then Some c.mutation else None)) (sym h)
+touches_by_last : (name : List ℕ) → GoesByTheLast (λ m. touches_name m name)
+touches_by_last name = record { undoing = undoing_touch name; replacing = replacing_touch name; before = touch_before name }
 
-    unconcerned : (b : Bool) → (b && false) ≡ false
-    unconcerned true = refl
-    unconcerned false = refl
+abbrev strikes_name : List ℕ → Mutation → Bool
+strikes_name name m = deletes_row m || ranges_over m name
 
-    covered : (k : Place) → place_of (number c.row) c.mutation ≡ Some k → is_covered es k ≡ true → concerns r v c ≡ true → is_some (last_of (concerns r v) (values_of es)) ≡ true
-    covered k e cover t =
-        let b = both_true (is_same_row r c.row) (at_part v (part_of c.mutation)) t in
-        let row : k.row ≡ number r = sym (placed_row (number c.row) c.mutation k e) ∙ ap number (sym (one_row r c.row b.0)) in
-        let deletion : Place = record { row = k.row; column = None } in
-        elim (either_true (is_taken es deletion) (is_taken es k) cover) [
-          | inl taken ↦ taken_passes number n r v apart es all deletion row one.0 taken
-          | inr taken ↦ taken_passes number n r v apart es all k row (passes_part v c.mutation k.column (placed_part (number c.row) c.mutation k e) b.1) taken
-        ]
+undoing_strike : (name : List ℕ) (m d : Mutation) (i : ℕ) → strikes_name name m ≡ true → is_undone d (part_of i m) ≡ true → strikes_name name d ≡ true
+undoing_strike name m DeleteRow i t u = refl
+undoing_strike name (Insert n v) (DeleteRange s' f') i t u = absurd (cc)
+undoing_strike name (DeleteColumn n) (DeleteRange s' f') i t u = absurd (cc)
+undoing_strike name DeleteRow (DeleteRange s' f') i t u = absurd (cc)
+undoing_strike name (DeleteRange s f) (DeleteRange s' f') i t u = absurd (cc)
+undoing_strike name m d i t u = absurd (cc)
 
-    go : (o : Option Place) → place_of (number c.row) c.mutation ≡ o → last_of (concerns r v) (values_of (keep_at es o c)) ≡ option_or (last_of (concerns r v) (values_of es)) (if concerns r v c then Some c.mutation else None)
-    go None e = idle (ap (λ (o : Option (Option (List ℕ))). is_same_row r c.row && at_part v o) (unplaced_part (number c.row) c.mutation e) ∙ unconcerned (is_same_row r c.row))
-    go (Some k) e =
-        by_cases (is_covered es k)
-        (λ yes. rw yes (by_cases (concerns r v c)
-        (λ t. or_some (last_of (concerns r v) (values_of es)) (if concerns r v c then Some c.mutation else None) (covered k e yes t))
-        (λ t. idle t)))
-        (λ free. let f = neither (is_taken es (record { row = k.row; column = None })) (is_taken es k) free in rw free (last_insert number n r v one k c (e, known) es all f.0 f.1))
+replacing_strike : (name : List ℕ) (m d : Mutation) (i j : ℕ) → i < j → part_cmp (part_of j d) (part_of i m) ≡ Equal → strikes_name name m ≡ true → strikes_name name d ≡ true
+replacing_strike name m DeleteRow i j lt e t = refl
+replacing_strike name (DeleteRange s f) (DeleteRange s' f') i j lt e t = absurd (not_equal i j lt e)
+replacing_strike name (Insert n v) (Insert n' v') i j lt e t = absurd (cc)
+replacing_strike name (Insert n v) (DeleteColumn n') i j lt e t = absurd (cc)
+replacing_strike name (Insert n v) (DeleteRange s' f') i j lt e t = absurd (cc)
+replacing_strike name (DeleteColumn n) (Insert n' v') i j lt e t = absurd (cc)
+replacing_strike name (DeleteColumn n) (DeleteColumn n') i j lt e t = absurd (cc)
+replacing_strike name (DeleteColumn n) (DeleteRange s' f') i j lt e t = absurd (cc)
+replacing_strike name DeleteRow (Insert n' v') i j lt e t = absurd (cc)
+replacing_strike name DeleteRow (DeleteColumn n') i j lt e t = absurd (cc)
+replacing_strike name DeleteRow (DeleteRange s' f') i j lt e t = absurd (cc)
+replacing_strike name (DeleteRange s f) (Insert n' v') i j lt e t = absurd (cc)
+replacing_strike name (DeleteRange s f) (DeleteColumn n') i j lt e t = absurd (cc)
 
--- ---- all of them
-pub placed_all : (number : Row → ℕ) (n : ℕ) (cs : List Change) → AllByRecursion (λ (c : Change). number c.row < n) cs → AllByRecursion (IsPlaced number n) (keep_all number [] cs)
-placed_all number n [] known = tt
-placed_all number n (c ∷ cs) known = placed_keep number n c known.0 (keep_all number [] cs) (placed_all number n cs known.1)
+strike_before : (name : List ℕ) (m d : Mutation) (i j : ℕ) → i < j → strikes_name name m ≡ true → strikes_name name d ≡ true → is_undone d (part_of i m) ≡ false → part_cmp (part_of j d) (part_of i m) ≡ Less → ⊥
+strike_before name (DeleteRange s f) (DeleteRange s' f') i j lt t t' u less = not_less i j lt less
+strike_before name (Insert n v) (Insert n' v') i j lt t t' u less = absurd (cc)
+strike_before name (Insert n v) (DeleteColumn n') i j lt t t' u less = absurd (cc)
+strike_before name (Insert n v) DeleteRow i j lt t t' u less = absurd (cc)
+strike_before name (Insert n v) (DeleteRange s' f') i j lt t t' u less = absurd (cc)
+strike_before name (DeleteColumn n) (Insert n' v') i j lt t t' u less = absurd (cc)
+strike_before name (DeleteColumn n) (DeleteColumn n') i j lt t t' u less = absurd (cc)
+strike_before name (DeleteColumn n) DeleteRow i j lt t t' u less = absurd (cc)
+strike_before name (DeleteColumn n) (DeleteRange s' f') i j lt t t' u less = absurd (cc)
+strike_before name DeleteRow (Insert n' v') i j lt t t' u less = absurd (cc)
+strike_before name DeleteRow (DeleteColumn n') i j lt t t' u less = absurd (cc)
+strike_before name DeleteRow DeleteRow i j lt t t' u less = absurd (cc)
+strike_before name DeleteRow (DeleteRange s' f') i j lt t t' u less = absurd (cc)
+strike_before name (DeleteRange s f) (Insert n' v') i j lt t t' u less = absurd (cc)
+strike_before name (DeleteRange s f) (DeleteColumn n') i j lt t t' u less = absurd (cc)
+strike_before name (DeleteRange s f) DeleteRow i j lt t t' u less = absurd (cc)
 
-last_all : (number : Row → ℕ) (n : ℕ) (r : Row) (v : Option (List ℕ) → Bool) → IsNumbering number n → IsOfOne v → (cs : List Change) → AllByRecursion (λ (c : Change). number c.row < n) cs → last_of (concerns r v) (values_of (keep_all number [] cs)) ≡ last_of (concerns r v) cs
-last_all number n r v apart one [] known = refl
-last_all number n r v apart one (c ∷ cs) known =
-    last_keep number n r v apart one c known.0 (keep_all number [] cs) (placed_all number n cs known.1)
-    ∙ ap (λ (o : Option Mutation). option_or o (if concerns r v c then Some c.mutation else None)) (last_all number n r v apart one cs known.1)
+strikes_by_last : (name : List ℕ) → GoesByTheLast (strikes_name name)
+strikes_by_last name = record { undoing = undoing_strike name; replacing = replacing_strike name; before = strike_before name }
 
--- ---- the two tests of a history
-last_alike : (p q : Change → Bool) → ((c : Change) → p c ≡ q c) → (cs : List Change) → last_of p cs ≡ last_of q cs
-last_alike p q same [] = refl
-last_alike p q same (c ∷ cs) =
-    ap (λ (o : Option Mutation). option_or o (if p c then Some c.mutation else None)) (last_alike p q same cs)
-    ∙ ap (λ (b : Bool). option_or (last_of q cs) (if b then Some c.mutation else None)) (same c)
+undoing_deletion : (m d : Mutation) (i : ℕ) → deletes_row m ≡ true → is_undone d (part_of i m) ≡ true → deletes_row d ≡ true
+undoing_deletion m DeleteRow i t u = refl
+undoing_deletion (Insert n v) (DeleteRange s' f') i t u = absurd (cc)
+undoing_deletion (DeleteColumn n) (DeleteRange s' f') i t u = absurd (cc)
+undoing_deletion DeleteRow (DeleteRange s' f') i t u = absurd (cc)
+undoing_deletion (DeleteRange s f) (DeleteRange s' f') i t u = absurd (cc)
+undoing_deletion m d i t u = absurd (cc)
 
-touches_part : List ℕ → Option (List ℕ) → Bool
-touches_part name None = true
-touches_part name (Some n) = bytes_eq n name
+replacing_deletion : (m d : Mutation) (i j : ℕ) → i < j → part_cmp (part_of j d) (part_of i m) ≡ Equal → deletes_row m ≡ true → deletes_row d ≡ true
+replacing_deletion m DeleteRow i j lt e t = refl
+replacing_deletion (Insert n v) (Insert n' v') i j lt e t = absurd (cc)
+replacing_deletion (Insert n v) (DeleteColumn n') i j lt e t = absurd (cc)
+replacing_deletion (Insert n v) (DeleteRange s' f') i j lt e t = absurd (cc)
+replacing_deletion (DeleteColumn n) (Insert n' v') i j lt e t = absurd (cc)
+replacing_deletion (DeleteColumn n) (DeleteColumn n') i j lt e t = absurd (cc)
+replacing_deletion (DeleteColumn n) (DeleteRange s' f') i j lt e t = absurd (cc)
+replacing_deletion DeleteRow (Insert n' v') i j lt e t = absurd (cc)
+replacing_deletion DeleteRow (DeleteColumn n') i j lt e t = absurd (cc)
+replacing_deletion DeleteRow (DeleteRange s' f') i j lt e t = absurd (cc)
+replacing_deletion (DeleteRange s f) (Insert n' v') i j lt e t = absurd (cc)
+replacing_deletion (DeleteRange s f) (DeleteColumn n') i j lt e t = absurd (cc)
+replacing_deletion (DeleteRange s f) (DeleteRange s' f') i j lt e t = absurd (cc)
 
-deletes_part : Option (List ℕ) → Bool
-deletes_part None = true
-deletes_part (Some n) = false
+deletion_before : (m d : Mutation) (i j : ℕ) → i < j → deletes_row m ≡ true → deletes_row d ≡ true → is_undone d (part_of i m) ≡ false → part_cmp (part_of j d) (part_of i m) ≡ Less → ⊥
+deletion_before (Insert n v) (Insert n' v') i j lt t t' u less = absurd (cc)
+deletion_before (Insert n v) (DeleteColumn n') i j lt t t' u less = absurd (cc)
+deletion_before (Insert n v) DeleteRow i j lt t t' u less = absurd (cc)
+deletion_before (Insert n v) (DeleteRange s' f') i j lt t t' u less = absurd (cc)
+deletion_before (DeleteColumn n) (Insert n' v') i j lt t t' u less = absurd (cc)
+deletion_before (DeleteColumn n) (DeleteColumn n') i j lt t t' u less = absurd (cc)
+deletion_before (DeleteColumn n) DeleteRow i j lt t t' u less = absurd (cc)
+deletion_before (DeleteColumn n) (DeleteRange s' f') i j lt t t' u less = absurd (cc)
+deletion_before DeleteRow (Insert n' v') i j lt t t' u less = absurd (cc)
+deletion_before DeleteRow (DeleteColumn n') i j lt t t' u less = absurd (cc)
+deletion_before DeleteRow DeleteRow i j lt t t' u less = absurd (cc)
+deletion_before DeleteRow (DeleteRange s' f') i j lt t t' u less = absurd (cc)
+deletion_before (DeleteRange s f) (Insert n' v') i j lt t t' u less = absurd (cc)
+deletion_before (DeleteRange s f) (DeleteColumn n') i j lt t t' u less = absurd (cc)
+deletion_before (DeleteRange s f) DeleteRow i j lt t t' u less = absurd (cc)
+deletion_before (DeleteRange s f) (DeleteRange s' f') i j lt t t' u less = absurd (cc)
 
-part_touched : (m : Mutation) (name : List ℕ) → touches_name m name ≡ at_part (touches_part name) (part_of m)
-unfolding touches_part
-part_touched (Insert n v) name = refl
-part_touched (DeleteColumn n) name = refl
-part_touched DeleteRow name = refl
-part_touched (DeleteRange s f) name = refl
+deletions_by_last : GoesByTheLast (λ m. deletes_row m)
+deletions_by_last = record { undoing = undoing_deletion; replacing = replacing_deletion; before = deletion_before }
 
-part_deleted : (m : Mutation) → deletes_row m ≡ at_part deletes_part (part_of m)
-unfolding deletes_part
-part_deleted (Insert n v) = refl
-part_deleted (DeleteColumn n) = refl
-part_deleted DeleteRow = refl
-part_deleted (DeleteRange s f) = refl
+pub last_touch : (number : Row → ℕ) (n : ℕ) → IsNumbering number n → (cs : List Change) → AllByRecursion (λ (c : Change). number c.row < n) cs → (l : Location) → last_of (touches l) (values_of (keep_all number 0 [] cs)) ≡ last_of (touches l) cs
+last_touch number n apart cs known l = last_kept number n apart l.row (λ m. touches_name m l.name) (touches_by_last l.name) cs known
 
-touches_of_one : (name : List ℕ) → IsOfOne (touches_part name)
-unfolding touches_part
-touches_of_one name = (refl, λ n m p q. (bytes_eq-Decides n name).0 p ∙ sym ((bytes_eq-Decides m name).0 q))
+pub last_deletion : (number : Row → ℕ) (n : ℕ) → IsNumbering number n → (cs : List Change) → AllByRecursion (λ (c : Change). number c.row < n) cs → (r : Row) → last_of (is_row_deletion r) (values_of (keep_all number 0 [] cs)) ≡ last_of (is_row_deletion r) cs
+last_deletion number n apart cs known r = last_kept number n apart r (λ m. deletes_row m) deletions_by_last cs known
 
-deletes_of_one : IsOfOne deletes_part
-unfolding deletes_part
-deletes_of_one = (refl, λ n m p q. absurd (cc))
-
-pub last_touch : (number : Row → ℕ) (n : ℕ) → IsNumbering number n → (cs : List Change) → AllByRecursion (λ (c : Change). number c.row < n) cs → (l : Location) → last_of (touches l) (values_of (keep_all number [] cs)) ≡ last_of (touches l) cs
-last_touch number n apart cs known l =
-    let same : (c : Change) → touches l c ≡ concerns l.row (touches_part l.name) c = λ c. ap (λ (b : Bool). is_same_row l.row c.row && b) (part_touched c.mutation l.name) in
-    last_alike (touches l) (concerns l.row (touches_part l.name)) same (values_of (keep_all number [] cs))
-    ∙ last_all number n l.row (touches_part l.name) apart (touches_of_one l.name) cs known
-    ∙ sym (last_alike (touches l) (concerns l.row (touches_part l.name)) same cs)
-
-pub last_deletion : (number : Row → ℕ) (n : ℕ) → IsNumbering number n → (cs : List Change) → AllByRecursion (λ (c : Change). number c.row < n) cs → (r : Row) → last_of (is_row_deletion r) (values_of (keep_all number [] cs)) ≡ last_of (is_row_deletion r) cs
-last_deletion number n apart cs known r =
-    let same : (c : Change) → is_row_deletion r c ≡ concerns r deletes_part c = λ c. ap (λ (b : Bool). is_same_row r c.row && b) (part_deleted c.mutation) in
-    last_alike (is_row_deletion r) (concerns r deletes_part) same (values_of (keep_all number [] cs))
-    ∙ last_all number n r deletes_part apart deletes_of_one cs known
-    ∙ sym (last_alike (is_row_deletion r) (concerns r deletes_part) same cs)
+pub last_strike : (number : Row → ℕ) (n : ℕ) → IsNumbering number n → (cs : List Change) → AllByRecursion (λ (c : Change). number c.row < n) cs → (l : Location) → last_of (strikes l) (values_of (keep_all number 0 [] cs)) ≡ last_of (strikes l) cs
+last_strike number n apart cs known l = last_kept number n apart l.row (strikes_name l.name) (strikes_by_last l.name) cs known

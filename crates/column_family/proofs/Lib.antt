@@ -1,3 +1,5 @@
+pub mod PlaceOrder
+pub mod PlacesKept
 pub mod Alike
 pub mod Firsts
 pub mod Kept
@@ -8,6 +10,10 @@ pub mod Order
 pub mod UpTo
 pub mod Joins
 pub mod RowOrder
-pub mod HashedRows
 pub mod Heads
 pub mod Apart
+pub mod Removing
+pub mod Derived
+pub mod Leaving
+pub mod RowsKept
+pub mod RangesKept

@@ -42,3 +42,23 @@ or_swap true false x y (Some z) h = refl
 or_swap false true x y None h = refl
 or_swap false true x y (Some z) h = refl
 or_swap false false x y a h = refl
+
+pub both_hold : (a b : Bool) → a ≡ true → b ≡ true → (a && b) ≡ true
+both_hold true b h k = k
+both_hold false b h k = h
+
+pub denied : (b : Bool) → (b ≡ true → ⊥) → b ≡ false
+denied true h = absurd (h refl)
+denied false h = refl
+
+pub or_assoc : {T : Type 0} (a b c : Option T) → option_or (option_or a b) c ≡ option_or a (option_or b c)
+or_assoc None b c = refl
+or_assoc (Some x) b c = refl
+
+pub first_holds : (a b : Bool) → a ≡ true → (a || b) ≡ true
+first_holds true b h = refl
+first_holds false b h = absurd (cc)
+
+pub second_holds : (a b : Bool) → b ≡ true → (a || b) ≡ true
+second_holds true b h = refl
+second_holds false b h = h

@@ -1,6 +1,5 @@
 -- How the first bytes of a text order it.
-use Rattle.std.specs.Prelude.{◌≡◌, ℕ, ◌+◌, ◌*◌, ◌^◌, ◌%◌, ◌<◌, suc, zero, nat_le, if◌then◌else◌, List, [], ◌∷◌, ◌++◌, length, get_or, slice_index_or}
-use Rattle.std.specs.Hash.{HashWrites, u64}
+use Rattle.std.specs.Prelude.{◌≡◌, ℕ, ◌+◌, ◌*◌, ◌^◌, ◌%◌, ◌<◌, suc, zero, List, [], ◌∷◌, length, get_or, slice_index_or}
 
 -- the first n bytes as one number, of which the first weighs most; one that isn't there counts 0
 unfoldable pub head_of : ℕ → List ℕ → ℕ
@@ -25,7 +24,3 @@ second_of bytes = head_of 14 bytes % 256 ^ 7 * 256 + length bytes
 -- fourteen places hold these bytes, and 0 behind them
 abbrev pub IsPadded : List ℕ → List ℕ → Type 0
 IsPadded places bytes = (i : ℕ) → i < 14 → slice_index_or places i 0 ≡ get_or bytes i 0
-
--- what a hasher is fed of a text: of a short one two numbers that tell it, of a long one its bytes
-abbrev pub fed_of : List ℕ → HashWrites
-fed_of bytes = if nat_le (length bytes) 14 then u64 (first_of bytes) ++ u64 (second_of bytes) else bytes ∷ []

@@ -1,12 +1,14 @@
 -- Histories, and the table that a history has at a time.
-use Rattle.std.specs.Prelude.{◌≡◌, ℕ, Bool, true, nat_le, if◌then◌else◌, List, [], ◌∷◌, filter, Option, Some, None, option_map, is_some, ◌⊎◌}
+use Rattle.std.specs.Prelude.{◌≡◌, ℕ, Bool, true, false, ◌&&◌, not, nat_le, if◌then◌else◌, List, [], ◌∷◌, filter, Option, Some, None, option_map, is_some, ◌⊎◌}
 use Rattle.std.specs.Option.{option_or}
-use Rattle.logical_time.specs.Stamps.{StampValue, is_older}
+use Rattle.std.specs.List.{list_any}
+use Rattle.std.specs.Ordering.{is_eq}
+use Rattle.logical_time.specs.Stamps.{StampValue, stamp_cmp, is_older}
 use Rattle.column_family.specs.declared.batch.Change.{Change}
 use Rattle.column_family.specs.declared.batch.Committed.{Committed}
 use Rattle.column_family.specs.declared.batch.Mutation.{Mutation}
 use Rattle.column_family.specs.declared.batch.Mutation.TheVariants.{Insert, DeleteColumn, DeleteRow, DeleteRange}
-use Rattle.column_family.specs.Location.{Location, touches, is_column_change, is_row_deletion}
+use Rattle.column_family.specs.Location.{Location, touches, is_column_change, deletes_row, is_row_deletion, strikes}
 
 -- a history: batches as they were submitted, each with the stamp of its transaction and its commit
 -- time, in any order
@@ -77,9 +79,31 @@ value_of (Some s) = inserted s.mutation
 abbrev pub stamp_of : Option Stamped → Option StampValue
 stamp_of o = option_map (λ s. s.stamp) o
 
--- A read of a location rests on the transaction of this stamp: that of its newest mutation, where some
--- column mutation touches it, or that of the newest deletion of its row.
+-- whether a mutation, if there is one, deletes no row
+abbrev pub keeps_row : Option Mutation → Bool
+keeps_row None = false
+keeps_row (Some m) = not (deletes_row m)
+
+-- whether a batch deletes a range of columns that has the location, and its row by no later change: of these
+-- deletions the last is that of a range
+abbrev pub leaves_range : Location → List Change → Bool
+leaves_range l cs = keeps_row (last_of (strikes l) cs)
+
+-- whether the stamp is older than that of a mutation, if there is a mutation
+abbrev pub is_older_than : Option Stamped → StampValue → Bool
+is_older_than None s = false
+is_older_than (Some x) s = is_older s x.stamp
+
+-- Whether the transaction of this stamp deletes a range of columns that has the location, newer than the newest
+-- deletion of its row: with a greater stamp, or later in the batch of that deletion.
+abbrev pub ranges_at : History → Location → StampValue → Bool
+ranges_at h l s =
+    list_any (λ c. is_eq (stamp_cmp c.stamp s) && leaves_range l c.batch) h
+    && not (is_older_than (newest_of (is_row_deletion l.row) h) s)
+
+-- A read of a location rests on the transaction of this stamp: that of its newest mutation, where some column
+-- mutation touches it, or that of the newest deletion of its row, or one with a newer deletion of a range that has it.
 abbrev pub RestsOn : History → Location → StampValue → Type 0
 RestsOn h l s =
     ((is_some (newest_of (is_column_change l) h) ≡ true) × (stamp_of (newest h l) ≡ Some s))
-    ⊎ (stamp_of (newest_of (is_row_deletion l.row) h) ≡ Some s)
+    ⊎ ((stamp_of (newest_of (is_row_deletion l.row) h) ≡ Some s) ⊎ (ranges_at h l s ≡ true))

@@ -7,7 +7,7 @@ use std::alloc::{AllocError, AllocFailed, Global};
 use std::marker::Model;
 
 /// A row: a key in a column family. Two rows are compared by their keys first, in which most differ.
-#[derive(Drop, Clone, PartialEq, Eq, PartialOrd, Ord, Hash)]
+#[derive(Drop, Clone, PartialEq, Eq, PartialOrd, Ord)]
 pub struct Row {
     /// The key.
     pub key: Key,
@@ -32,7 +32,7 @@ pub enum Mutation {
     },
     /// Deletes all columns of the row.
     DeleteRow,
-    /// Deletes the columns between two ends, both included; an empty end is open. Refused for now.
+    /// Deletes the columns between two ends, both included; an empty end is open.
     DeleteRange {
         /// The first name.
         start: Name,

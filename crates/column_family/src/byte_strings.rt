@@ -4,6 +4,7 @@
 //! can't be taken for each other. Contracts see lists of bytes.
 ghost use Rattle.std.specs.Prelude.{◌≡◌, ◌&&◌, nat_le, length, IfOk};
 ghost use Rattle.column_family.specs.Limits.{is_key, is_name, is_end, is_value};
+ghost use Rattle.column_family.specs.Names as names;
 
 use crate::shared_bytes::SharedBytes;
 use std::alloc::{AllocError, Global};
@@ -24,7 +25,7 @@ fn has_length(bytes: &[u8], longest: usize) -> bool
 }
 
 /// The name of a column family.
-#[derive(Drop, Clone, PartialEq, Eq, PartialOrd, Ord, Hash)]
+#[derive(Drop, Clone, PartialEq, Eq, PartialOrd, Ord)]
 pub struct Family(SharedBytes);
 
 impl Model for Family {
@@ -54,7 +55,7 @@ impl Family {
 }
 
 /// The key of a row.
-#[derive(Drop, Clone, PartialEq, Eq, PartialOrd, Ord, Hash)]
+#[derive(Drop, Clone, PartialEq, Eq, PartialOrd, Ord)]
 pub struct Key(SharedBytes);
 
 impl Model for Key {
@@ -124,6 +125,13 @@ impl Name {
         ensures { result ≡ is_name self.now }
     {
         has_length(self.as_slice(), LONGEST_NAME)
+    }
+
+    /// Whether the name lies between two ends: both are included, and an empty one is open.
+    pub fn is_between(&self, low: &Name, high: &Name) -> bool
+        ensures { result ≡ names.is_between low.now high.now self.now }
+    {
+        (low.as_slice().is_empty() || low <= self) && (high.as_slice().is_empty() || self <= high)
     }
 
     /// Whether this may be an end of a range: it has at most 1,024 bytes.

@@ -7,13 +7,18 @@
 mod batch;
 mod byte_strings;
 mod few;
+mod law;
 mod newest;
 mod normalizing;
+mod places;
 mod schema;
 mod shared_bytes;
 
 pub use batch::{Batch, Change, Committed, Mutation, Row};
 pub use byte_strings::{Family, Key, Name, Value};
+pub use law::{
+    normal_forms_leave_their_ranges, worked_normal_forms, worked_range_deletions, worked_ranges,
+};
 pub use newest::{
     NewestMutation, newest_column_change, newest_row_deletion, newest_touching, up_to,
 };

@@ -110,7 +110,13 @@ impl Test<'_> {
 fn touches_name(mutation: &Mutation, name: &Name) -> bool
     ensures { result ≡ location.touches_name mutation.now name.now }
 {
-    changes_name(mutation, name) || deletes_row(mutation)
+    match mutation {
+        Mutation::Insert { name: changed, .. } | Mutation::DeleteColumn { name: changed } => {
+            changed == name
+        }
+        Mutation::DeleteRow => true,
+        Mutation::DeleteRange { start, finish } => name.is_between(start, finish),
+    }
 }
 
 // Whether the mutation inserts or deletes the column of this name.

@@ -1,33 +1,27 @@
-//! The normal form of a batch: in the order of its rows, what has an effect, once.
+//! The normal form of a batch: in the order of its rows, what no later change undoes.
 //!
-//! Changes are taken from the newest to the oldest, and kept by their place in the normal form. An older
-//! change is without effect where its place is taken, and where its row is deleted by a newer one.
-ghost use Rattle.std.specs.Prelude.{◌≡◌, [], length, unwrap_or, true, Some, IfOk, OnOk, IfErr};
+//! Changes are taken from the oldest to the newest, and kept by their place in the normal form. A newer change takes
+//! away what it undoes: a deletion of the row all of the row, one of a range the columns between its ends, and
+//! any other what stands at its own place.
+ghost use Rattle.std.specs.Prelude.{◌≡◌, [], length, unwrap_or, true, IfOk, OnOk, IfErr};
 ghost use Rattle.std.specs.List.{list_any};
 ghost use Rattle.std.specs.BTreeMap.{get, values};
 ghost use Rattle.logical_time.specs.declared.fault.Fault.TheVariants as fault;
 ghost use Rattle.column_family.specs.declared.batch.Row.{Row};
+ghost use Rattle.column_family.specs.declared.batch.Mutation.TheVariants.{DeleteRow, DeleteRange};
 ghost use Rattle.column_family.specs.Location.{is_same_row};
-ghost use Rattle.column_family.specs.Normal.{IsNormal, IsInOrderOf, StandsFor, changes_before};
+ghost use Rattle.column_family.specs.Normal.{IsNormal, IsInOrderOf, StandsFor, changes_before, ranges_left, ranges_of};
 ghost use Rattle.column_family.specs.Places as spec;
 
 use crate::batch::{Batch, Change, Mutation, Row};
 use crate::byte_strings::Name;
+use crate::places::{Part, Place, remove_between};
 use logical_time::Fault;
 use std::alloc::{AllocError, Global};
 use std::collections::BTreeMap;
 
 /// So many changes are compared with one another, row by row, before they are put at places.
 const FEW: usize = 8;
-
-/// Where a change stands in the normal form.
-#[derive(Drop, PartialEq, Eq, PartialOrd, Ord)]
-struct Place {
-    /// Where the first change of its row stands in the batch.
-    row: usize,
-    /// The column, or none for a deletion of the row, which stands before the columns.
-    column: Option<Name>,
-}
 
 /// Where the first change of each row stands.
 fn first_places(alloc: Global, changes: &[Change]) -> Result<BTreeMap<Row, usize>, Fault>
@@ -43,65 +37,106 @@ fn first_places(alloc: Global, changes: &[Change]) -> Result<BTreeMap<Row, usize
     Ok(first)
 }
 
-/// The place of a mutation of a row: none where it touches nothing.
-fn place_of(row: usize, mutation: &Mutation) -> Result<Option<Place>, AllocError>
-    ensures { IfOk result (λ place. place ≡ spec.place_of row mutation.now) }
+/// The part of its row that a mutation concerns, which stands here in the batch.
+fn part_of(index: usize, mutation: &Mutation) -> Result<Part, AllocError>
+    ensures { IfOk result (λ part. part ≡ spec.part_of index mutation.now) }
 {
-    let column = match mutation {
-        Mutation::Insert { name, .. } => Some(name.clone()?),
-        Mutation::DeleteColumn { name } => Some(name.clone()?),
-        Mutation::DeleteRow => None,
-        Mutation::DeleteRange { .. } => return Ok(None),
-    };
-    Ok(Some(Place { row, column }))
+    match mutation {
+        Mutation::Insert { name, .. } => Ok(Part::Column(name.clone()?)),
+        Mutation::DeleteColumn { name } => Ok(Part::Column(name.clone()?)),
+        Mutation::DeleteRow => Ok(Part::Whole),
+        Mutation::DeleteRange { .. } => Ok(Part::Range(index)),
+    }
 }
 
-/// Whether an older change at the place is without effect.
-fn is_covered(kept: &BTreeMap<Place, Change>, place: &Place) -> bool
-    ensures { result ≡ spec.is_covered kept.now.entries place.now }
+/// The last part of a row that a range with this finish has.
+fn last_part(finish: &Name) -> Result<Part, AllocError>
+    ensures { IfOk result (λ part. part ≡ spec.last_part finish.now) }
 {
-    let deletion = Place {
-        row: place.row,
-        column: None,
-    };
-    kept.contains_key(&deletion) || kept.contains_key(place)
+    if finish.as_slice().is_empty() {
+        Ok(Part::End)
+    } else {
+        Ok(Part::Column(finish.clone()?))
+    }
 }
 
-/// Keeps an older change that has this place, if it has an effect.
-fn keep_at(kept: &mut BTreeMap<Place, Change>, place: Place, change: &Change) -> Result<(), Fault>
-    ensures ok { OnOk result (kept.new.entries ≡ spec.keep_at kept.old.entries (Some place) change.now) }
+/// Removes all that is kept of a row, as a newer deletion of it does.
+fn remove_row(kept: &mut BTreeMap<Place, Change>, row: usize) -> Result<(), AllocError>
+    ensures { OnOk result (kept.new.entries ≡ spec.after row DeleteRow kept.old.entries) }
+{
+    let low = Place {
+        row,
+        part: Part::Whole,
+    };
+    let high = Place {
+        row,
+        part: Part::End,
+    };
+    remove_between(kept, &low, &high)
+}
+
+/// Removes what is kept of the columns of a row between two ends, as a newer deletion of this range does.
+fn remove_range(
+    kept: &mut BTreeMap<Place, Change>,
+    row: usize,
+    start: &Name,
+    finish: &Name,
+) -> Result<(), AllocError>
+    ensures { OnOk result (kept.new.entries ≡ spec.after row (DeleteRange start.now finish.now) kept.old.entries) }
+{
+    let low = Place {
+        row,
+        part: Part::Column(start.clone()?),
+    };
+    let high = Place {
+        row,
+        part: last_part(finish)?,
+    };
+    remove_between(kept, &low, &high)
+}
+
+/// Removes what is kept of a row that a newer mutation of it undoes, what stands at its own place excepted.
+fn remove_undone(
+    kept: &mut BTreeMap<Place, Change>,
+    row: usize,
+    mutation: &Mutation,
+) -> Result<(), AllocError>
+    ensures { OnOk result (kept.new.entries ≡ spec.after row mutation.now kept.old.entries) }
+{
+    match mutation {
+        Mutation::DeleteRow => remove_row(kept, row),
+        Mutation::DeleteRange { start, finish } => remove_range(kept, row, start, finish),
+        Mutation::Insert { .. } => Ok(()),
+        Mutation::DeleteColumn { .. } => Ok(()),
+    }
+}
+
+/// Keeps a newer change of the row, which stands here in the batch, in place of what it undoes.
+fn keep(
+    kept: &mut BTreeMap<Place, Change>,
+    row: usize,
+    index: usize,
+    change: &Change,
+) -> Result<(), Fault>
+    ensures ok { OnOk result (kept.new.entries ≡ spec.keep row index kept.old.entries change.now) }
     ensures memory { IfErr result (λ e. e ≡ fault.Memory) }
 {
-    if is_covered(kept, &place) {
-        return Ok(());
-    }
-    drop(kept.insert(place, change.copied()?)?);
+    remove_undone(kept, row, &change.mutation)?;
+    let part = part_of(index, &change.mutation)?;
+    drop(kept.insert(Place { row, part }, change.copied()?)?);
     Ok(())
-}
-
-/// Keeps an older change of the row, if it has an effect.
-fn keep(kept: &mut BTreeMap<Place, Change>, row: usize, change: &Change) -> Result<(), Fault>
-    ensures ok { OnOk result (kept.new.entries ≡ spec.keep row kept.old.entries change.now) }
-    ensures memory { IfErr result (λ e. e ≡ fault.Memory) }
-{
-    match place_of(row, &change.mutation)? {
-        Some(place) => keep_at(kept, place, change),
-        None => Ok(()),
-    }
 }
 
 /// What is kept of the changes, by place.
 fn keep_all(alloc: Global, changes: &[Change]) -> Result<BTreeMap<Place, Change>, Fault>
-    ensures exact { IfOk result (λ kept. kept.entries ≡ spec.keep_all (changes_before changes.now) [] changes.now) }
+    ensures exact { IfOk result (λ kept. kept.entries ≡ spec.keep_all (changes_before changes.now) 0 [] changes.now) }
     ensures memory { IfErr result (λ e. e ≡ fault.Memory) }
 {
     let first = first_places(alloc, changes)?;
     let mut kept = BTreeMap::new(alloc);
-    let mut rest = changes;
-    while let Some((newest, older)) = rest.split_last() {
-        let row = first.get(&newest.row).copied().unwrap_or(changes.len());
-        keep(&mut kept, row, newest)?;
-        rest = older;
+    for (index, change) in changes.iter().enumerate() {
+        let row = first.get(&change.row).copied().unwrap_or(changes.len());
+        keep(&mut kept, row, index, change)?;
     }
     Ok(kept)
 }
@@ -113,23 +148,13 @@ fn is_in(row: &Row, changes: &[Change]) -> bool
     changes.iter().any(|change| *row == change.row)
 }
 
-/// Whether the mutation touches something.
-fn is_effective(mutation: &Mutation) -> bool
-    ensures { result ≡ spec.is_effective mutation.now }
-{
-    match mutation {
-        Mutation::Insert { .. } | Mutation::DeleteColumn { .. } | Mutation::DeleteRow => true,
-        Mutation::DeleteRange { .. } => false,
-    }
-}
-
-/// Whether each of the changes touches something, in a row of its own.
+/// Whether each of the changes is in a row of its own.
 fn are_apart(changes: &[Change]) -> bool
     ensures { result ≡ spec.are_apart changes.now }
 {
     let mut rest = changes;
     while let [first, others @ ..] = rest {
-        if !is_effective(&first.mutation) || is_in(&first.row, others) {
+        if is_in(&first.row, others) {
             return false;
         }
         rest = others;
@@ -157,15 +182,17 @@ fn kept_changes(alloc: Global, batch: &Batch) -> Result<Batch, Fault>
     Ok(Batch::from_changes(changes))
 }
 
-/// The normal form of a batch: rows in the order in which they first occur, and of each row at most one
-/// deletion, first, and then the newest mutation of each column, in name order. It stands for the batch:
-/// in no history does it change what is read. In the order of m log m for m changes. Its one error is
-/// `Memory`.
-#[tactic(auto, using(crate::proofs::Order::kept_stands))]
+/// The normal form of a batch: rows in the order in which they first occur, and of each row its last deletion, then
+/// the deletions of ranges after it in their order, and then the newest mutation of each column that no later one of
+/// these touches, in name order. It stands for the batch: in no history does it change what is read or what a read
+/// rests on. In the order of m log m for m changes. Its one error is `Memory`.
+#[tactic(auto, using(crate::proofs::Order::kept_stands, crate::proofs::RowsKept::kept_rows, crate::proofs::RangesKept::kept_ranges))]
 pub fn normal(alloc: Global, batch: &Batch) -> Result<Batch, Fault>
     ensures exact { IfOk result (λ kept. kept ≡ spec.normal_of batch.now) }
     ensures form { IfOk result (λ kept. IsNormal kept) }
     ensures order { IfOk result (λ kept. IsInOrderOf batch.now kept) }
+    ensures rows { IfOk result (λ kept. (r : Row) → list_any (λ c. is_same_row r c.row) kept ≡ list_any (λ c. is_same_row r c.row) batch.now) }
+    ensures ranges { IfOk result (λ kept. (r : Row) → ranges_of r kept ≡ ranges_left r batch.now) }
     ensures stands_for { IfOk result (λ kept. StandsFor kept batch.now) }
     ensures memory { IfErr result (λ e. e ≡ fault.Memory) }
 {

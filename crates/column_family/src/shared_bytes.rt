@@ -3,15 +3,12 @@ ghost use Rattle.std.specs.Prelude.{◌≡◌, ◌<◌, nat_eq, refl, Some, IfOk
 ghost use Rattle.std.specs.Ordering.{nat_cmp};
 ghost use Rattle.std.specs.Cmp.Lexicographic.{pointwise, slice_cmp, nat_list_eq_equiv, nat_list_cmp_total, texts_ties, texts_po};
 ghost use Rattle.std.specs.Cmp.{partial_equiv_from_equiv};
-ghost use Rattle.std.specs.Cmp.Rules.{hashing};
-ghost use Rattle.std.proofs.Common.{rules};
-ghost use Rattle.column_family.specs.Heads.{fed_of, head_of};
+ghost use Rattle.column_family.specs.Heads.{head_of};
 ghost use Rattle.column_family.specs.Texts.{bytes_of, IsText};
 
 use crate::few::{FEW, Few};
 use std::alloc::{AllocError, Global};
 use std::cmp::Ordering;
-use std::hash::{Hash, Hasher};
 use std::marker::Model;
 use std::sync::Arc;
 
@@ -196,23 +193,6 @@ impl Ord for SharedBytes {
         match (&self.text, &other.text) {
             (Text::Few(few), Text::Few(others)) => few.cmp_few(others),
             _ => self.cmp_many(other),
-        }
-    }
-}
-
-impl Hash for SharedBytes {
-    ghost hash_input = { fed_of };
-
-    ghost respects_eq = { Prim.search (hashing, rules) };
-
-    #[inline(always)]
-    fn hash<H: Hasher>(&self, state: &mut H) {
-        match &self.text {
-            Text::Few(few) => {
-                state.write_u64(few.first());
-                state.write_u64(few.second());
-            }
-            Text::Many { bytes, .. } => state.write(bytes.as_slice()),
         }
     }
 }

@@ -1,7 +1,7 @@
 -- The numbers of the refusals, and when a call is refused.
 use Rattle.std.specs.Prelude.{◌≡◌, ℕ, Option, Some, None, Result, Ok, Err}
 use Rattle.logical_time.specs.declared.fault.Fault.{Fault}
-use Rattle.logical_time.specs.declared.fault.Fault.TheVariants.{EmptyBatch, UnknownFamily, KeyLength, NameLength, ValueLength, TooMany, RangeOrder, EmptyRead, RangeDeletion, Busy, Collected, ClockSpent, Memory, JournalFull, StrangerEnd, AlreadyHome, UnknownHome, Oversize, UnknownTag, BadCount, TrailingBytes, Truncated, Script, ReadFailed, WriteFailed}
+use Rattle.logical_time.specs.declared.fault.Fault.TheVariants.{EmptyBatch, UnknownFamily, KeyLength, NameLength, ValueLength, TooMany, RangeOrder, EmptyRead, Busy, Collected, ClockSpent, Memory, JournalFull, StrangerEnd, AlreadyHome, UnknownHome, Oversize, UnknownTag, BadCount, TrailingBytes, Truncated, Script, ReadFailed, WriteFailed}
 
 -- the number under which a refusal is documented
 abbrev pub number_of : Fault → ℕ
@@ -13,7 +13,6 @@ number_of ValueLength = 5
 number_of TooMany = 6
 number_of RangeOrder = 7
 number_of EmptyRead = 8
-number_of RangeDeletion = 9
 number_of Busy = 20
 number_of Collected = 21
 number_of ClockSpent = 22

@@ -33,9 +33,6 @@ pub enum Fault {
     /// A read that asks for no key.
     #[error("8 EmptyRead")]
     EmptyRead,
-    /// A deletion of a range of columns, which isn't supported yet.
-    #[error("9 RangeDeletion")]
-    RangeDeletion,
     /// A submission while the session's operation before it is open.
     #[error("20 Busy")]
     Busy,
@@ -102,7 +99,6 @@ impl Fault {
             Fault::TooMany => 6,
             Fault::RangeOrder => 7,
             Fault::EmptyRead => 8,
-            Fault::RangeDeletion => 9,
             Fault::Busy => 20,
             Fault::Collected => 21,
             Fault::ClockSpent => 22,

@@ -2,14 +2,14 @@
 use Rattle.std.proofs.Common.{◌≡◌, ◌≢◌, ◌∙◌, ℕ, ◌+◌, ◌<◌, ap, sym, subst, refl, inl, inr, Bool, true, false, cond, List, [], ◌∷◌, map, length, get_or, None, Result, Ok, Err, IfOk, sum, arith, eqb-true, eq-eqb}
 use Rattle.std.specs.Prelude.{if◌then◌else◌, ◌&&◌, ◌==◌, ◌⊎◌, not, nat_lt}
 use Rattle.std.specs.List.{Contains, filter, range_with_len}
-use Rattle.std.proofs.lemmas.List.Elements.{All-cons, All-map, All-filter, All-weaker, filter_agree, filter_passes}
+use Rattle.std.proofs.lemmas.List.Elements.{All-cons, All-map, All-weaker, filter_agree, filter_passes}
 use Rattle.std.proofs.lemmas.List.Kept.{AllPairs-filter}
 use Rattle.std.proofs.lemmas.Nat.{mod_below}
 use Rattle.logical_time.specs.declared.fault.Fault.{Fault}
 use Rattle.column_family.specs.declared.batch.Row.{Row}
 use Rattle.column_family.specs.declared.batch.Change.{Change}
 use Rattle.column_family.specs.Location.{is_same_row}
-use Rattle.column_family.specs.Normal.{changes_before, StandsBefore, IsEffective, IsNormal}
+use Rattle.column_family.specs.Normal.{changes_before, StandsBefore, IsNormal}
 use Rattle.column_family.specs.Places.{normal_of}
 use Rattle.column_family.proofs.Kept.{one_row}
 use Rattle.column_family.proofs.Options.{both_true}
@@ -45,10 +45,8 @@ before_part shards s (x ∷ xs) q r on lt =
     go false false false e f g rest h = rest (omega arith)
 
 pub normal_part : (shards s : ℕ) (xs : List Change) → IsNormal xs → IsNormal (part_for shards xs s)
-normal_part shards s xs normal = (
-  All-filter (λ c. is_on shards s c.row.key) (λ c. IsEffective c.mutation) xs normal.0,
-  λ i j d lt below. step (get_or (part_for shards xs s) i d) (get_or (part_for shards xs s) j d) (filter_passes (λ c. is_on shards s c.row.key) xs i d (omega arith)) (AllPairs-filter (λ c e. (changes_before xs c.row < changes_before xs e.row) ⊎ ((c.row ≡ e.row) × StandsBefore c.mutation e.mutation)) (λ c. is_on shards s c.row.key) xs normal.1 i j d lt below),
-)
+normal_part shards s xs normal =
+    λ i j d lt below. step (get_or (part_for shards xs s) i d) (get_or (part_for shards xs s) j d) (filter_passes (λ c. is_on shards s c.row.key) xs i d (omega arith)) (AllPairs-filter (λ c e. (changes_before xs c.row < changes_before xs e.row) ⊎ ((c.row ≡ e.row) × StandsBefore c.mutation e.mutation)) (λ c. is_on shards s c.row.key) xs normal i j d lt below)
   where
     step : (c d : Change) → is_on shards s c.row.key ≡ true → (changes_before xs c.row < changes_before xs d.row) ⊎ ((c.row ≡ d.row) × StandsBefore c.mutation d.mutation)
         → (changes_before (part_for shards xs s) c.row < changes_before (part_for shards xs s) d.row) ⊎ ((c.row ≡ d.row) × StandsBefore c.mutation d.mutation)
@@ -65,19 +63,19 @@ first_touched schema [] shards accepted = absurd (cc)
 first_touched schema (c ∷ cs) shards accepted = let itself : (shard_of shards c.row.key == shard_of shards c.row.key) ≡ true = eq-eqb _ _ refl in rw itself refl
 
 -- ---- the cohorts are those that the normal form touches
-pub same_cohorts : (schema : List (List ℕ)) (batch : List Change) (shards k : ℕ) → batch_fault schema batch ≡ None
+pub same_cohorts : (batch : List Change) (shards k : ℕ)
     → filter (λ s. not (s == k) && is_touched shards (normal_of batch) s) (range_with_len 0 shards) ≡ filter (λ s. not (s == k) && is_touched shards batch s) (range_with_len 0 shards)
-same_cohorts schema batch shards k accepted =
+same_cohorts batch shards k =
     filter_agree (λ s. not (s == k) && is_touched shards (normal_of batch) s) (λ s. not (s == k) && is_touched shards batch s)
-    (λ s. ap (λ b. not (s == k) && b) (same_shards schema batch shards s accepted)) (range_with_len 0 shards)
+    (λ s. ap (λ b. not (s == k) && b) (same_shards batch shards s)) (range_with_len 0 shards)
 
 -- ---- the cut
 pub parts_cut : (schema : List (List ℕ)) (batch : List Change) (shards : ℕ) → 0 < shards → batch_fault schema batch ≡ None
     → IsCut shards (normal_of batch) (part_on shards (normal_of batch) (coordinator_of shards batch) ∷ map (part_on shards (normal_of batch)) (cohorts_of shards batch))
 parts_cut schema batch shards some accepted = record {
-  full = All-cons (λ p. p.batch ≢ []) first rest (full_part shards k kept (same_shards schema batch shards k accepted ∙ first_touched schema batch shards accepted))
+  full = All-cons (λ p. p.batch ≢ []) first rest (full_part shards k kept (same_shards batch shards k ∙ first_touched schema batch shards accepted))
       (All-map (λ p. p.batch ≢ []) (part_on shards kept) (cohorts_of shards batch)
-      (All-weaker (λ s. test s ≡ true) (λ s. part_for shards kept s ≢ []) (λ s e. full_part shards s kept (same_shards schema batch shards s accepted ∙ (both_true (not (s == k)) (is_touched shards batch s) e).1)) (cohorts_of shards batch) (filter_passes test (range_with_len 0 shards))));
+      (All-weaker (λ s. test s ≡ true) (λ s. part_for shards kept s ≢ []) (λ s e. full_part shards s kept (same_shards batch shards s ∙ (both_true (not (s == k)) (is_touched shards batch s) e).1)) (cohorts_of shards batch) (filter_passes test (range_with_len 0 shards))));
   form = All-cons (λ p. IsNormal p.batch) first rest (normal_part shards k kept (normal_form batch))
       (All-map (λ p. IsNormal p.batch) (part_on shards kept) (cohorts_of shards batch) (λ i d lt. normal_part shards (get_or (cohorts_of shards batch) i d) kept (normal_form batch)));
   whole = λ c has. whole c has;
@@ -104,7 +102,7 @@ parts_cut schema batch shards some accepted = record {
         touched : is_touched shards batch (shard_of shards c.row.key) ≡ true
         touched =
             let here = eq-eqb (shard_of shards c.row.key) (shard_of shards c.row.key) refl in
-            sym (same_shards schema batch shards (shard_of shards c.row.key) accepted) ∙ contains_any (λ d. is_on shards (shard_of shards c.row.key) d.row.key) (normal_of batch) c has here
+            sym (same_shards batch shards (shard_of shards c.row.key)) ∙ contains_any (λ d. is_on shards (shard_of shards c.row.key) d.row.key) (normal_of batch) c has here
 
         go : (b : Bool) → (shard_of shards c.row.key == coordinator_of shards batch) ≡ b → Contains (map (λ p. p.shard) (first ∷ rest)) (shard_of shards c.row.key)
         go true e = subst (λ z. Contains (k ∷ map (λ p. p.shard) rest) z) (sym (eqb-true (shard_of shards c.row.key) k e)) (contains_head k (map (λ p. p.shard) rest))

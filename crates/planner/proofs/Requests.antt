@@ -33,11 +33,16 @@ tested : (b : Bool) (f : Fault) → number_of f < 20 → IsOfRequest (unless b f
 tested true f low = tt
 tested false f low = low
 
+range_low : (start finish : List ℕ) (reversed : Bool) → IsOfRequest (range_fault start finish reversed)
+range_low start finish reversed =
+    let ordered = is_open start || is_open finish || (if reversed then name_le finish start else name_le start finish) in
+    chosen (is_end start && is_end finish) (if ordered then None else Some RangeOrder) (Some NameLength) (chosen ordered None (Some RangeOrder) tt (omega arith)) (omega arith)
+
 mutation_low : (m : Mutation) → IsOfRequest (mutation_fault m)
 mutation_low (Insert n v) = either (unless (is_name n) NameLength) (unless (is_value v) ValueLength) (tested (is_name n) NameLength (omega arith)) (tested (is_value v) ValueLength (omega arith))
 mutation_low (DeleteColumn n) = tested (is_name n) NameLength (omega arith)
 mutation_low DeleteRow = tt
-mutation_low (DeleteRange start finish) = omega arith
+mutation_low (DeleteRange start finish) = range_low start finish false
 
 change_low : (schema : List (List ℕ)) (c : Change) → IsOfRequest (change_fault schema c)
 change_low schema c =
@@ -59,11 +64,6 @@ names_low : (names : List (List ℕ)) → IsOfRequest (names_fault names)
 names_low names =
     chosen (nat_lt 4096 (length names)) (Some TooMany) (if list_all is_name names then None else Some NameLength) (omega arith)
     (chosen (list_all is_name names) None (Some NameLength) tt (omega arith))
-
-range_low : (start finish : List ℕ) (reversed : Bool) → IsOfRequest (range_fault start finish reversed)
-range_low start finish reversed =
-    let ordered = is_open start || is_open finish || (if reversed then name_le finish start else name_le start finish) in
-    chosen (is_end start && is_end finish) (if ordered then None else Some RangeOrder) (Some NameLength) (chosen ordered None (Some RangeOrder) tt (omega arith)) (omega arith)
 
 predicate_low : (p : Predicate) → IsOfRequest (predicate_fault p)
 predicate_low (Names names) = names_low names

@@ -1,27 +1,27 @@
 -- Why a batch or a read is refused, in the order in which it is looked at.
-use Rattle.std.specs.Prelude.{ℕ, Bool, not, nat_lt, if◌then◌else◌, List, [], ◌∷◌, length, Option, Some, None, Result, Ok, Err, ◌≡◌, unwrap_or}
+use Rattle.std.specs.Prelude.{ℕ, Bool, false, not, nat_lt, if◌then◌else◌, List, [], ◌∷◌, length, Option, Some, None, Result, Ok, Err, ◌≡◌, unwrap_or}
 use Rattle.std.specs.List.{list_all}
 use Rattle.std.specs.Option.{option_or}
 use Rattle.logical_time.specs.declared.fault.Fault.{Fault}
-use Rattle.logical_time.specs.declared.fault.Fault.TheVariants.{EmptyBatch, UnknownFamily, KeyLength, NameLength, ValueLength, TooMany, EmptyRead, RangeDeletion, Memory}
+use Rattle.logical_time.specs.declared.fault.Fault.TheVariants.{EmptyBatch, UnknownFamily, KeyLength, NameLength, ValueLength, TooMany, EmptyRead, Memory}
 use Rattle.column_family.specs.declared.batch.Change.{Change}
 use Rattle.column_family.specs.declared.batch.Mutation.{Mutation}
 use Rattle.column_family.specs.declared.batch.Mutation.TheVariants.{Insert, DeleteColumn, DeleteRow, DeleteRange}
 use Rattle.column_family.specs.Limits.{is_key, is_name, is_value}
 use Rattle.column_family.specs.Schema.{has_family}
 use Rattle.slice.specs.declared.read.Read.{Read}
-use Rattle.slice.specs.Slice.{predicate_fault}
+use Rattle.slice.specs.Slice.{predicate_fault, range_fault}
 
 -- the fault, unless the test holds
 abbrev pub unless : Bool → Fault → Option Fault
 unless b e = if b then None else Some e
 
--- a name, then a value; deletions of ranges are refused whatever their ends are
+-- a name, then a value; for a deleted range the length of its ends, then their order
 abbrev pub mutation_fault : Mutation → Option Fault
 mutation_fault (Insert n v) = option_or (unless (is_name n) NameLength) (unless (is_value v) ValueLength)
 mutation_fault (DeleteColumn n) = unless (is_name n) NameLength
 mutation_fault DeleteRow = None
-mutation_fault (DeleteRange start finish) = Some RangeDeletion
+mutation_fault (DeleteRange start finish) = range_fault start finish false
 
 -- the family, then the key, then the mutation
 abbrev pub change_fault : List (List ℕ) → Change → Option Fault

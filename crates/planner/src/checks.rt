@@ -7,7 +7,7 @@ ghost use Rattle.planner.specs.Checks.{batch_fault, changes_fault, change_fault,
 
 use column_family::{Batch, Change, Key, Mutation, Schema};
 use logical_time::Fault;
-use slice::Read;
+use slice::{Read, check_range};
 
 /// How many changes a batch may have.
 const MOST_CHANGES: usize = 4096;
@@ -16,7 +16,7 @@ const MOST_KEYS: usize = 256;
 
 /// Whether the batch may be submitted to a store of this schema: refused with `EmptyBatch` for no change, then
 /// `TooMany` for more than 4,096, and then for its changes in order, each through before the next: `UnknownFamily`,
-/// `KeyLength`, `NameLength`, `ValueLength`, `RangeDeletion`.
+/// `KeyLength`, `NameLength`, `ValueLength`, and for the ends of a deleted range `NameLength`, `RangeOrder`.
 pub fn check_batch(schema: &Schema, batch: &Batch) -> Result<(), Fault>
     ensures { IsRefusedFor (batch_fault schema.now batch.now) result }
 {
@@ -58,7 +58,7 @@ fn check_mutation(mutation: &Mutation) -> Result<(), Fault>
         Mutation::Insert { name, .. } | Mutation::DeleteColumn { name } if !name.is_allowed() =>
             Err(Fault::NameLength),
         Mutation::Insert { value, .. } if !value.is_allowed() => Err(Fault::ValueLength),
-        Mutation::DeleteRange { .. } => Err(Fault::RangeDeletion),
+        Mutation::DeleteRange { start, finish } => check_range(start, finish, false),
         Mutation::Insert { .. } | Mutation::DeleteColumn { .. } | Mutation::DeleteRow => Ok(()),
     }
 }

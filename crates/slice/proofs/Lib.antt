@@ -11,3 +11,7 @@ pub mod SameNewest
 pub mod RowTests
 pub mod RowAlike
 pub mod Rested
+pub mod Ranges
+pub mod MetRanges
+pub mod SameRanges
+pub mod SetBetween

@@ -9,12 +9,12 @@ use Rattle.logical_time.specs.Stamps.{StampValue}
 use Rattle.column_family.specs.declared.batch.Row.{Row}
 use Rattle.column_family.specs.declared.batch.Change.{Change}
 use Rattle.column_family.specs.declared.batch.Mutation.{Mutation}
-use Rattle.column_family.specs.Location.{Location, is_same_row, touches, touches_name, is_row_deletion, deletes_row}
+use Rattle.column_family.specs.Location.{Location, is_same_row, touches, touches_name, is_row_deletion, deletes_row, ranges_over, strikes}
 use Rattle.column_family.specs.History.{Stamped, stamped, newer_of, last_of, newest_of}
 use Rattle.column_family.specs.Normal.{committed}
 use Rattle.column_family.specs.Places.{normal_of}
 use Rattle.column_family.proofs.Options.{or_none}
-use Rattle.column_family.proofs.Order.{normal_stands}
+use Rattle.column_family.proofs.Order.{normal_stands, normal_strikes}
 use Rattle.slice.specs.Parts.{has_row, changes_of}
 use Rattle.slice.proofs.Changed.{some_last}
 
@@ -50,6 +50,13 @@ deletion_test r =
     record {
       own = λ c h. (and_parts (is_same_row r c.row) (deletes_row c.mutation) h).0;
       normal = λ batch. same_last (is_row_deletion r) (normal_of batch) batch ((normal_stands batch).deletion [] [] nothing 0 0 r);
+    }
+
+pub strikes_test : (l : Location) → IsRowTest l.row (strikes l)
+strikes_test l =
+    record {
+      own = λ c h. (and_parts (is_same_row l.row c.row) (deletes_row c.mutation || ranges_over c.mutation l.name) h).0;
+      normal = λ batch. normal_strikes batch l;
     }
 
 -- ---- the changes of the row are all that count

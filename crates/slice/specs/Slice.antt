@@ -1,27 +1,14 @@
 -- The slice of a row's live columns, and which predicates may be asked.
-use Rattle.std.specs.Prelude.{◌≡◌, ⊤, ℕ, Bool, true, false, ◌&&◌, ◌||◌, nat_lt, if◌then◌else◌, List, [], ◌∷◌, length, filter, take, reverse, Option, Some, None}
+use Rattle.std.specs.Prelude.{◌≡◌, ⊤, ℕ, Bool, true, ◌&&◌, ◌||◌, nat_lt, if◌then◌else◌, List, [], ◌∷◌, length, filter, take, reverse, Option, Some, None}
 use Rattle.std.specs.List.{list_all, list_any}
 use Rattle.std.specs.Str.{bytes_eq}
-use Rattle.std.specs.Ordering.{nat_cmp, is_le}
-use Rattle.std.specs.Cmp.Lexicographic.{slice_cmp}
 use Rattle.logical_time.specs.declared.fault.Fault.{Fault}
 use Rattle.logical_time.specs.declared.fault.Fault.TheVariants.{NameLength, TooMany, RangeOrder}
 use Rattle.column_family.specs.Limits.{is_name, is_end}
+pub use Rattle.column_family.specs.Names.{name_le, is_open, is_between}
 use Rattle.slice.specs.declared.column.Column.{Column}
 use Rattle.slice.specs.declared.predicate.Predicate.{Predicate}
 use Rattle.slice.specs.declared.predicate.Predicate.TheVariants.{Names, Range}
-
--- whether the first name isn't above the second, as bytes
-abbrev pub name_le : List ℕ → List ℕ → Bool
-name_le a b = is_le (slice_cmp nat_cmp a b)
-
-abbrev pub is_open : List ℕ → Bool
-is_open [] = true
-is_open (b ∷ bs) = false
-
--- whether a name lies between two ends: both are included, and an empty end is open
-abbrev pub is_between : List ℕ → List ℕ → List ℕ → Bool
-is_between low high name = (is_open low || name_le low name) && (is_open high || name_le name high)
 
 -- a walk goes upwards from start to finish or, reversed, downwards from start to finish
 abbrev pub is_in_walk : List ℕ → List ℕ → Bool → List ℕ → Bool

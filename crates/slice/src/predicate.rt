@@ -7,7 +7,6 @@ ghost use Rattle.slice.specs.Slice.{names_fault, range_fault};
 ghost use Rattle.slice.specs.Rests as rests;
 
 use crate::column::Column;
-use crate::selecting::is_between;
 use column_family::Name;
 use logical_time::Fault;
 use std::alloc::{AllocError, Global};
@@ -102,13 +101,13 @@ impl Predicate {
                 finish,
                 reversed: false,
                 ..
-            } => is_between(start, finish, name),
+            } => name.is_between(start, finish),
             Predicate::Range {
                 start,
                 finish,
                 reversed: true,
                 ..
-            } => is_between(finish, start, name),
+            } => name.is_between(finish, start),
         }
     }
 
@@ -169,8 +168,9 @@ fn check_names(names: &[Name]) -> Result<(), Fault>
     }
 }
 
-// Whether a walk may go between these ends.
-fn check_range(start: &Name, finish: &Name, reversed: bool) -> Result<(), Fault>
+/// Whether a range may have these ends: refused with `NameLength` for an end above 1,024 bytes, then with `RangeOrder`
+/// where neither is empty and the start lies after the finish in the direction of the walk. An empty end is open.
+pub fn check_range(start: &Name, finish: &Name, reversed: bool) -> Result<(), Fault>
     ensures { IsRefusedFor (range_fault start.now finish.now reversed) result }
 {
     if !start.is_allowed_end() || !finish.is_allowed_end() {

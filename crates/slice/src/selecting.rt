@@ -74,13 +74,6 @@ fn among<'a>(
         .collect(alloc)
 }
 
-// Whether the name lies between the ends: both are included, and an empty one is open.
-pub(crate) fn is_between(low: &Name, high: &Name, name: &Name) -> bool
-    ensures { result ≡ slice.is_between low.now high.now name.now }
-{
-    (low.as_slice().is_empty() || low <= name) && (high.as_slice().is_empty() || name <= high)
-}
-
 // The first columns between these ends, the lowest first.
 fn lowest<'a>(
     alloc: Global,
@@ -94,7 +87,7 @@ fn lowest<'a>(
 {
     let found = live
         .iter()
-        .filter(|column| is_between(low, high, &column.name))
+        .filter(|column| column.name.is_between(low, high))
         .take(count)
         .collect(alloc)?;
     Ok(found)
@@ -114,7 +107,7 @@ fn highest<'a>(
     let found = live
         .iter()
         .rev()
-        .filter(|column| is_between(low, high, &column.name))
+        .filter(|column| column.name.is_between(low, high))
         .take(count)
         .collect(alloc)?;
     Ok(found)

@@ -9,7 +9,7 @@ use Rattle.planner.proofs.batches.plan_batch.Goals as goal
 pub returns-clause-cohorts : goal.returns-clause-cohorts
 returns-clause-cohorts c =
     IfOk-weaker c.cut.result _ (λ plan. plan.cohorts.items ≡ map (part_on c.args.shards (normal_of c.args.batch.now)) (cohorts_of c.args.shards c.args.batch.now))
-    (λ plan e. e ∙ ap (map (part_on c.args.shards (normal_of c.args.batch.now))) (same_cohorts c.args.schema.now c.args.batch.now c.args.shards (coordinator_of c.args.shards c.args.batch.now) c.in_ok-check_batch.ensures))
+    (λ plan e. e ∙ ap (map (part_on c.args.shards (normal_of c.args.batch.now))) (same_cohorts c.args.batch.now c.args.shards (coordinator_of c.args.shards c.args.batch.now)))
     c.cut.ensures.cohorts
 
 pub returns-clause-cut : goal.returns-clause-cut
