@@ -11,7 +11,7 @@ use Rattle.version_gc.specs.Collection.{Put, Collect}
 use Rattle.version_gc.proofs.Collected.{at_kept}
 
 -- a put is seen alike in two chains that answer alike
-put_alike : (held added : List Version) (v : Version) (t : ℕ) → IsFalling held → IsFalling added → has_stamp held v.stamp ≡ has_stamp added v.stamp → at_of held t ≡ at_of added t → at_of (put_of held v) t ≡ at_of (put_of added v) t
+pub put_alike : (held added : List Version) (v : Version) (t : ℕ) → IsFalling held → IsFalling added → has_stamp held v.stamp ≡ has_stamp added v.stamp → at_of held t ≡ at_of added t → at_of (put_of held v) t ≡ at_of (put_of added v) t
 put_alike held added v t h a same e =
     at_after_put held (put_of held v) v h refl t
     ∙ ap (λ (b : Bool). if b then at_of held t else (if nat_le v.evt t then newer_of v (at_of held t) else at_of held t)) same

@@ -1,2 +1,4 @@
 pub mod Collected
 pub mod Deeds
+pub mod CollectedRanges
+pub mod RowDeeds

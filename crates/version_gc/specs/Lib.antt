@@ -1,1 +1,2 @@
 pub mod Collection
+pub mod RangeCollection

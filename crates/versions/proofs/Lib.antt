@@ -10,3 +10,10 @@ pub mod Ended
 pub mod Indexed
 pub mod Kept
 pub mod Found
+pub mod RangeOrder
+pub mod RangesHeld
+pub mod RangesOver
+pub mod RangesIndexed
+pub mod RangesKept
+pub mod SweepOrder
+pub mod SweepSteps

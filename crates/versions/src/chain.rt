@@ -32,7 +32,7 @@ impl Model for Chain {
 
 impl Chain {
     ghost use Rattle.std.specs.Prelude.{◌^◌};
-    ghost use Rattle.versions.specs.Chain.{put_of, at_of, interval_of, kept_from};
+    ghost use Rattle.versions.specs.Chain.{IsFalling, put_of, at_of, interval_of, kept_from};
     ghost use Rattle.versions.specs.Newest.{IsNewest, IsNewestAt, IsWithin, IsPlaceNewestAt, at_with, has_stamp};
 
     /// A chain without a version.
@@ -42,6 +42,13 @@ impl Chain {
         Chain {
             entries: Entries::new(alloc),
         }
+    }
+
+    // Does nothing: the stamps fall.
+    pub(crate) fn is_ordered(&self)
+        ensures { IsFalling self.now.versions }
+    {
+        let _entries = self.entries.as_slice();
     }
 
     /// How many versions are held.
