@@ -1,5 +1,5 @@
 -- Parts of which no two have one stamp.
-use Rattle.std.proofs.Common.{◌≡◌, ◌∙◌, sym, ap, refl, ℕ, inl, inr, Bool, true, false, ◌||◌, nat_le, List, [], ◌∷◌, ◌++◌, Option, Some, None, option_map, arith}
+use Rattle.std.proofs.Common.{◌≡◌, ◌∙◌, sym, ap, subst, refl, ℕ, inl, inr, Bool, true, false, ◌||◌, nat_le, List, [], ◌∷◌, ◌++◌, Option, Some, None, option_map, arith}
 use Rattle.std.specs.Prelude.{Contains}
 use Rattle.std.specs.Ordering.{is_eq}
 use Rattle.std.specs.List.{list_any}
@@ -107,3 +107,11 @@ newest_from q (x ∷ rest) y e = go (last_of q x.part.batch) (newest_of q (histo
         by_cases (is_older x.stamp z.stamp)
         (λ lt. later (more (rw lt at f)))
         (λ ge. here m (rw ge at f))
+
+-- each part is in normal form
+pub normal_part : (applied : List Applied) → AreApart applied → (a : Applied) → Contains applied a → IsNormal a.part.batch
+normal_part [] apart a has = absurd (none_in_empty a has)
+normal_part (x ∷ rest) apart a has = elim (first_or_rest x a rest has) [
+  | inl here ↦ subst (λ (b : Applied). IsNormal b.part.batch) here apart.0
+  | inr there ↦ normal_part rest apart.2 a there
+]

@@ -15,7 +15,7 @@ use Rattle.column_family.specs.Location.{is_same_row}
 use Rattle.versions.specs.Chain.{Held, put_of}
 use Rattle.versions.specs.Newest.{has_stamp}
 use Rattle.store.specs.declared.origin.Origin.{Origin}
-use Rattle.store.specs.Kept.{Place, Chains, chain_of, chain_at, column_held, is_of_place, is_at, version_of, written, put_all, HasRoom}
+use Rattle.store.specs.Kept.{Place, Chains, chain_of, chain_at, column_held, is_of_place, is_at, version_of, written, put_all, HasRoomAtPlaces}
 use Rattle.store.proofs.Maps.{by_cases}
 use Rattle.store.proofs.Places.{IsReady}
 
@@ -36,9 +36,9 @@ or_second true b e = refl
 or_second false b e = e
 
 -- room for one change more
-pub room_more : (old new : List (Row × Chains)) (changes : List Change) (c : Change) → HasRoom old changes
+pub room_more : (old new : List (Row × Chains)) (changes : List Change) (c : Change) → HasRoomAtPlaces old changes
     → ((r : Row) (p : Place) → (chain_at old r p).room ≤ (chain_at new r p).room)
-    → ((r : Row) (p : Place) → is_at r p c ≡ true → 0 < (chain_at new r p).room) → HasRoom new (changes ++ c ∷ [])
+    → ((r : Row) (p : Place) → is_at r p c ≡ true → 0 < (chain_at new r p).room) → HasRoomAtPlaces new (changes ++ c ∷ [])
 room_more old new changes c has grows here r p at =
     let split : (list_any (is_at r p) changes || list_any (is_at r p) (c ∷ [])) ≡ true = sym (list_any-append (is_at r p) changes (c ∷ [])) ∙ at in
     elim (either_true (list_any (is_at r p) changes) (list_any (is_at r p) (c ∷ [])) split) [
@@ -48,7 +48,7 @@ room_more old new changes c has grows here r p at =
 
 -- where there is room for all there is room for each
 pub room_at : (first now : List (Row × Chains)) (changes : List Change) (i : ℕ) (c : Change) → i < length changes → c ≡ get_or changes i c
-    → HasRoom first changes → ((r : Row) (p : Place) → (chain_at first r p).room ≤ (chain_at now r p).room)
+    → HasRoomAtPlaces first changes → ((r : Row) (p : Place) → (chain_at first r p).room ≤ (chain_at now r p).room)
     → (r : Row) (p : Place) → is_at r p c ≡ true → 0 < (chain_at now r p).room
 room_at first now changes i c lt is has grows r p at =
     let room = has r p (list_any_at (is_at r p) changes i c lt (ap (is_at r p) (sym is) ∙ at)) in

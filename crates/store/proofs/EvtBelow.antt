@@ -1,5 +1,5 @@
 -- When a row by the newest versions is valid, where each part is committed by a time.
-use Rattle.std.proofs.Common.{ℕ, ◌≤◌, Bool, true, false, cond, List, [], ◌∷◌, map, Option, Some, None, arith}
+use Rattle.std.proofs.Common.{ℕ, ◌≤◌, Bool, true, false, not, ◌&&◌, cond, if◌then◌else◌, List, [], ◌∷◌, map, Option, Some, None, arith}
 use Rattle.std.specs.Prelude.{option_map, Contains}
 use Rattle.logical_time.specs.Stamps.{is_older}
 use Rattle.column_family.specs.declared.batch.Row.{Row}
@@ -7,12 +7,12 @@ use Rattle.column_family.specs.declared.batch.Change.{Change}
 use Rattle.column_family.specs.declared.batch.Committed.{Committed}
 use Rattle.column_family.specs.declared.batch.Mutation.{Mutation}
 use Rattle.column_family.specs.Location.{is_column_change, is_row_deletion}
-use Rattle.column_family.specs.History.{History, Stamped, newer_of, newest_of, stamped, last_of}
+use Rattle.column_family.specs.History.{History, Stamped, newer_of, newest_of, stamped, last_of, is_older_than}
 use Rattle.slice.specs.declared.predicate.Predicate.{Predicate}
 use Rattle.slice.specs.Slice.{is_asked}
 use Rattle.slice.specs.Live.{columns_changed}
 use Rattle.store.specs.declared.part.Applied.{Applied}
-use Rattle.store.specs.Part.{committed_of, history_of, commit_of, column_evt, greatest_of, evt_of}
+use Rattle.store.specs.Part.{committed_of, history_of, commit_of, column_evt, leaves_asked, range_evt, greatest_of, evt_of}
 use Rattle.store.proofs.Lists.{contains_first, contains_rest}
 
 newer_below : (n : ℕ) (a b : Option Stamped) → commit_of a ≤ n → commit_of b ≤ n → commit_of (newer_of a b) ≤ n
@@ -45,6 +45,18 @@ greatest_below : (n : ℕ) (f : List ℕ → ℕ) (cs : List (List ℕ)) → ((c
 greatest_below n f [] k = omega arith
 greatest_below n f (c ∷ cs) k = let h = k c in let t = greatest_below n f cs k in omega arith
 
+ranges_below : (n : ℕ) (h : History) (r : Row) (p : Predicate) (vs : List Applied) → ((v : Applied) → Contains vs v → v.commit ≤ n)
+    → greatest_of (map (range_evt h r p) (history_of vs)) ≤ n
+ranges_below n h r p [] k = omega arith
+ranges_below n h r p (v ∷ vs) k =
+    let first = one (leaves_asked r p v.part.batch && not (is_older_than (newest_of (is_row_deletion r) h) v.stamp)) (k v (contains_first v vs)) in
+    let rest = ranges_below n h r p vs (λ u m. k u (contains_rest v u vs m)) in
+    omega (arith, first, rest)
+  where
+    one : (b : Bool) → v.commit ≤ n → (if b then v.commit else 0) ≤ n
+    one true le = le
+    one false le = omega arith
+
 -- where each part is committed by a time, a row isn't valid later only
 pub evt_early : (n : ℕ) (vs : List Applied) (r : Row) (p : Predicate) → ((v : Applied) → Contains vs v → v.commit ≤ n) → evt_of (history_of vs) r p ≤ n
 evt_early n vs r p k =
@@ -52,4 +64,5 @@ evt_early n vs r p k =
     let columns =
     greatest_below n (column_evt (history_of vs) r p) (columns_changed (history_of vs) r)
     (λ c. column_below n (history_of vs) r p c (newest_below n (is_column_change (record { row = r; name = c })) vs k)) in
-    omega arith
+    let ranges = ranges_below n (history_of vs) r p vs k in
+    omega (arith, deletion, columns, ranges)

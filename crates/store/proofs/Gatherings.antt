@@ -1,15 +1,15 @@
 -- A part gathered column by column is what is seen of the row.
-use Rattle.std.proofs.Common.{◌≡◌, ◌∙◌, ap, sym, subst, refl, ℕ, ◌≤◌, ◌<◌, max, nat_lt, Bool, true, false, not, ◌&&◌, ◌||◌, List, [], ◌∷◌, ◌++◌, length, map, filter, filter_map, take, Option, Some, None, option_map, inl, inr, append-nil, arith, Result, Ok, Err, IfOk, OnOk}
+use Rattle.std.proofs.Common.{◌≡◌, ◌∙◌, ap, sym, subst, refl, ℕ, ◌<◌, max, nat_lt, true, false, List, [], ◌∷◌, ◌++◌, length, map, filter_map, Option, Some, None, option_map, inl, inr, append-nil, arith, Result, Ok, Err, IfOk, OnOk}
 use Rattle.std.proofs.lemmas.Bool.Decides.{nat_tests}
 use Rattle.std.proofs.lemmas.List.{append_assoc, take_all}
 use Rattle.std.proofs.lemmas.List.Elements.{Contains-append_cases, Contains-append_left, Contains-append_right}
-use Rattle.std.specs.Prelude.{Contains, if◌then◌else◌, option_to_list}
+use Rattle.std.specs.Prelude.{Contains, option_to_list}
 use Rattle.std.specs.List.{cons_option}
 use Rattle.std.specs.List.Sorted.{IsStrictlySortedBy}
 use Rattle.logical_time.specs.Stamps.{WriterValue, writer_cmp}
 use Rattle.slice.specs.declared.column.Column.{Column}
 use Rattle.slice.specs.declared.predicate.Predicate.{Predicate}
-use Rattle.slice.specs.declared.predicate.Predicate.TheVariants.{Names, Range}
+use Rattle.slice.specs.declared.predicate.Predicate.TheVariants.{Range}
 use Rattle.slice.specs.Rests.{is_within}
 use Rattle.slice.specs.Slice.{first_of_walk}
 use Rattle.slice.proofs.Selected.{cut_of_asked}
@@ -20,7 +20,7 @@ use Rattle.store.specs.Gathering.{IsLeft, writers_gathered}
 use Rattle.store.specs.declared.sight.Moment.{Moment}
 use Rattle.store.specs.Kept.{Chains, name_cmp}
 use Rattle.store.specs.Part.{greatest_of}
-use Rattle.store.specs.Sight.{Sight, NamedVersion, AreSeen, HaveSameWriters, IsMadeOf, IsPartSeen, evt_of_sight, evt_or_0, is_covered, live_of, seen_entry, sight_of, uncovered_writer, writer_of}
+use Rattle.store.specs.Sight.{Sight, NamedVersion, AreSeen, HaveSameWriters, IsMadeOf, IsPartSeen, evt_or_0, is_covered, live_of, seen_entry, sight_of, uncovered_writer, writer_of}
 use Rattle.store.proofs.Assembled.{live_asked, not_more}
 use Rattle.store.proofs.Gathered.{then_same, within_only}
 use Rattle.store.proofs.Sights.{entries_seen}

@@ -6,7 +6,7 @@ use Rattle.std.specs.Cmp.Lexicographic.{slice_cmp}
 use Rattle.std.specs.List.{AllByRecursion}
 use Rattle.std.specs.Option.{option_or}
 use Rattle.std.specs.Str.{bytes_eq}
-use Rattle.std.proofs.lemmas.List.Elements.{Contains-append_left, Contains-push}
+use Rattle.std.proofs.lemmas.List.Elements.{Contains-append_left, Contains-append_cases, Contains-push}
 use Rattle.std.proofs.lemmas.Slice.Eq.{bytes_eq-Decides}
 use Rattle.logical_time.specs.Stamps.{StampValue, stamp_cmp, is_older}
 use Rattle.column_family.specs.declared.batch.Row.{Row}
@@ -16,9 +16,10 @@ use Rattle.column_family.specs.declared.batch.Mutation.TheVariants.{Insert, Dele
 use Rattle.column_family.specs.Location.{is_same_row}
 use Rattle.column_family.specs.History.{Stamped, up_to, newer_of, newest_of, last_of, stamped, inserted}
 use Rattle.column_family.specs.Normal.{StandsBefore, IsBelow, IsInOrderOf, IsNormal}
-use Rattle.column_family.proofs.Options.{by_cases, both_true, or_none}
+use Rattle.column_family.proofs.Options.{by_cases, both_true, denied, or_none}
 use Rattle.column_family.proofs.Joins.{newer_of_none}
 use Rattle.versions.specs.declared.version.Version.{Version}
+use Rattle.versions.specs.declared.range.RangeDeletion.{RangeDeletion}
 use Rattle.versions.specs.Chain.{IsFalling, at_of, put_of}
 use Rattle.versions.specs.Newest.{has_stamp, newer_of as newer_version}
 use Rattle.versions.proofs.Falling.{falling_put}
@@ -26,10 +27,11 @@ use Rattle.versions.proofs.Held.{held_after_put}
 use Rattle.versions.proofs.Seen.{at_after_put}
 use Rattle.store.specs.declared.origin.Origin.{Origin}
 use Rattle.store.specs.declared.part.Applied.{Applied}
-use Rattle.store.specs.Part.{committed_of, history_of}
-use Rattle.store.specs.Kept.{Place, Kept, chain_at, is_of_place, is_at, version_of, written, put_all, HavePut}
-use Rattle.store.specs.Keeps.{IsNewStamp, mutation_of, stamped_of, IsFrom, Keeps}
-use Rattle.store.proofs.Lists.{contains_first, contains_rest}
+use Rattle.store.specs.Part.{committed_of, history_of, applied_by}
+use Rattle.store.specs.Kept.{Place, Kept, chain_at, is_of_place, is_at, version_of, written, put_all, HavePut, IsRangeWritten, HavePutRanges}
+use Rattle.store.specs.Keeps.{IsNewStamp, mutation_of, stamped_of, IsFrom, IsRangeFrom, is_row_newer, Keeps}
+use Rattle.store.proofs.Lists.{none_in_empty, contains_first, contains_rest, first_or_rest, kept, kept_only}
+use Rattle.store.proofs.Passing.{row_newer_more}
 use Rattle.store.proofs.Newer.{history_by}
 use Rattle.store.proofs.Apart.{new_stamp, apart_more}
 use Rattle.store.proofs.Touched.{Precedes, after_first, rest_in_order, in_row, none_last, each_weaker}
@@ -101,7 +103,7 @@ few batch r p (c ∷ cs) h =
 -- so it leaves no version there, or one
 pub by_few : (o : Origin) (r : Row) (p : Place) (batch : List Change) → IsNormal batch → (P : List Version → Option Mutation → Type 0) → P [] None
     → ((c : Change) → is_at r p c ≡ true → P (version_of o c.mutation ∷ []) (Some c.mutation)) → P (written o r p batch) (last_of (is_at r p) batch)
-by_few o r p batch normal P none one = elim (few batch r p batch normal.1) [
+by_few o r p batch normal P none one = elim (few batch r p batch normal) [
   | inl h ↦
       subst (λ (l : Option Mutation). P (written o r p batch) l) (sym h.1)
       (subst (λ (cs : List Change). P (map (λ (c : Change). version_of o c.mutation) cs) None) (sym h.0) none)
@@ -177,8 +179,47 @@ from_put all a c xs falling from w has =
           (a, Contains-push all a, ap (λ (u : Version). u.stamp) e, ap (λ (u : Version). u.evt) e, ap (λ (u : Version). u.what.writer) e))
     ]
 
-put_keeps : (old new : Kept) (all : List Applied) (a : Applied) → new.low ≡ old.low → HavePut (origin_of a) a.part.batch old.rows new.rows → IsNormal a.part.batch → IsNewStamp a.stamp all → Keeps old all → Keeps new (all ++ a ∷ [])
-put_keeps old new all a low put normal fresh k = record {
+-- ---- deletions of ranges
+pub range_from_more : (all : List Applied) (a : Applied) (r : Row) (x : RangeDeletion) → IsRangeFrom all r x → IsRangeFrom (all ++ a ∷ []) r x
+range_from_more all a r x (b, has, stamp, commit, writer, at) = (b, Contains-append_left all (a ∷ []) b has, stamp, commit, writer, at)
+
+-- what a part's change leaves came from it
+pub range_from_own : (all : List Applied) (a : Applied) (r : Row) (x : RangeDeletion) → IsRangeWritten (origin_of a) r a.part.batch x → IsRangeFrom (all ++ a ∷ []) r x
+range_from_own all a r x (at, stamp, evt, writer) = (a, Contains-push all a, sym stamp, sym evt, sym writer, at)
+
+-- what comes from one part more comes from that one or was there by the time
+pub range_from_either : (t : ℕ) (all : List Applied) (a : Applied) (r : Row) (x : RangeDeletion) → IsRangeFrom (applied_by t (all ++ a ∷ [])) r x
+    → IsRangeFrom (applied_by t all) r x ⊎ IsRangeWritten (origin_of a) r a.part.batch x
+range_from_either t all a r x (b, has, stamp, commit, writer, at) =
+    let k = kept_only (λ (c : Applied). nat_le c.commit t) (all ++ a ∷ []) b has in
+    elim (Contains-append_cases all (a ∷ []) b k.0) [
+      | inl old ↦ inl (b, kept (λ (c : Applied). nat_le c.commit t) all b old k.1, stamp, commit, writer, at)
+      | inr new ↦ elim (first_or_rest a b [] new) [
+        | inl here ↦
+            inr (
+              subst (λ (c : Applied). Contains c.part.batch (record { row = r; mutation = DeleteRange x.start x.finish })) (sym here) at,
+              sym stamp ∙ ap (λ (c : Applied). c.stamp) (sym here),
+              sym commit ∙ ap (λ (c : Applied). c.commit) (sym here),
+              sym writer ∙ ap (λ (c : Applied). c.part.writer) (sym here),
+            )
+        | inr none ↦ absurd (none_in_empty b none)
+      ]
+    ]
+
+-- where no deletion of the row is newer once one part more is applied, none was
+pub still_stands : (t : ℕ) (all : List Applied) (a : Applied) (r : Row) (s : StampValue) → is_row_newer (applied_by t (all ++ a ∷ [])) r s ≡ false → is_row_newer (applied_by t all) r s ≡ false
+still_stands t all a r s stands =
+    denied (is_row_newer (applied_by t all) r s)
+    (λ e.
+    let more = row_newer_more (applied_by t all) (applied_by t (all ++ a ∷ [])) r s
+    (λ b has.
+    let k = kept_only (λ (c : Applied). nat_le c.commit t) all b has in
+    kept (λ (c : Applied). nat_le c.commit t) (all ++ a ∷ []) b (Contains-append_left all (a ∷ []) b k.0) k.1) e in
+    cc)
+
+put_keeps : (old new : Kept) (all : List Applied) (a : Applied) → new.low ≡ old.low → HavePut (origin_of a) a.part.batch old.rows new.rows
+    → HavePutRanges (origin_of a) a.part.batch old.rows new.rows → IsNormal a.part.batch → IsNewStamp a.stamp all → Keeps old all → Keeps new (all ++ a ∷ [])
+put_keeps old new all a low put put_also normal fresh k = record {
   apart = apart_more all a normal fresh k.apart;
   falling = λ r p.
       (let xs = (chain_at old.rows r p).versions in
@@ -200,10 +241,21 @@ put_keeps old new all a low put normal fresh k = record {
       (λ held. from_more all a w (k.from r p w held))
       (λ c is held. from_put all a c xs (k.falling r p) (k.from r p) w held)
       (subst (λ (ys : List Version). Contains ys w) (put r p) has));
+  ranges = λ r t x above from stands.
+      (put_also r x).1
+      (elim (range_from_either t all a r x from) [
+        | inl old_one ↦ inl (k.ranges r t x (omega (arith, above, low)) old_one (still_stands t all a r x.stamp stands))
+        | inr new_one ↦ inr new_one
+      ]);
+  ranges_from = λ r x has. elim ((put_also r x).0 has) [
+    | inl old_one ↦ range_from_more all a r x (k.ranges_from r x old_one)
+    | inr new_one ↦ range_from_own all a r x new_one
+  ];
 }
 
 pub keeps_applied : (old new : Kept) (all : List Applied) (a : Applied) (o : Origin) → new.low ≡ old.low
-    → o ≡ record { writer = a.part.writer; stamp = a.stamp; evt = a.commit } → HavePut o a.part.batch old.rows new.rows
+    → o ≡ record { writer = a.part.writer; stamp = a.stamp; evt = a.commit } → HavePut o a.part.batch old.rows new.rows → HavePutRanges o a.part.batch old.rows new.rows
     → IsNormal a.part.batch → IsNewStamp a.stamp all → Keeps old all → Keeps new (all ++ a ∷ [])
-keeps_applied old new all a o low is put normal fresh k =
-    put_keeps old new all a low (subst (λ (from : Origin). HavePut from a.part.batch old.rows new.rows) is put) normal fresh k
+keeps_applied old new all a o low is put put_also normal fresh k =
+    put_keeps old new all a low (subst (λ (from : Origin). HavePut from a.part.batch old.rows new.rows) is put)
+    (subst (λ (from : Origin). HavePutRanges from a.part.batch old.rows new.rows) is put_also) normal fresh k

@@ -8,7 +8,7 @@ use Rattle.versions.specs.Chain.{Held, kept_from}
 use Rattle.slice.specs.declared.predicate.Predicate.{Predicate}
 use Rattle.slice.specs.Slice.{is_asked}
 use Rattle.store.specs.declared.sight.Moment.TheVariants.{Now}
-use Rattle.store.specs.Kept.{Chains, column_held, collected_held, nothing_held}
+use Rattle.store.specs.Kept.{Chains, column_held, collected_held, nothing_held, no_ranges}
 use Rattle.store.specs.Latest.{IsLatest, IsLatestAfter, evt_at}
 use Rattle.store.specs.Part.{greatest_of}
 use Rattle.store.specs.Sight.{NamedVersion, AreSeen, evt_or_0, sight_of}
@@ -62,7 +62,7 @@ latest_collected t olds news None collects is = tt
 latest_collected t olds news (Some s) collects is =
     latest_same olds news s
     (λ n. ap (λ (es : List (List ℕ × Held)). evt_at es n) collects
-    ∙ ap (λ (xs : List Version). evt_or_0 (slice_get xs 0)) (row_collected t (record { columns = olds; deletions = nothing_held }) (Some n))
+    ∙ ap (λ (xs : List Version). evt_or_0 (slice_get xs 0)) (row_collected t (record { columns = olds; deletions = nothing_held; ranges = no_ranges }) (Some n))
     ∙ ap evt_or_0 (newest_kept t (column_held olds n).versions)) is
 
 -- ---- among the columns that are seen

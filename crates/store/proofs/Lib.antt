@@ -5,7 +5,9 @@ pub mod Lists
 pub mod Newer
 pub mod Apart
 pub mod Touched
+pub mod Passing
 pub mod Slices
+pub mod Ranged
 pub mod View
 pub mod PartAt
 pub mod FromEvt
@@ -14,6 +16,7 @@ pub mod EvtBelow
 pub mod OneWriter
 pub mod Overtaken
 pub mod KeepsApplied
+pub mod Written
 pub mod Lasting
 pub mod Latest
 pub mod Collected
@@ -22,6 +25,8 @@ pub mod Later
 pub mod Bounds
 pub mod Sights
 pub mod Assembled
+pub mod Strikes
+pub mod Struck
 pub mod Merged
 pub mod MergeSteps
 pub mod ReadWith

@@ -1,6 +1,6 @@
 -- What a list contains once it is filtered, or seen by a function.
-use Rattle.std.proofs.Common.{◌≡◌, ◌∙◌, sym, ap, subst, refl, Bool, true, false, ◌||◌, inl, inr, cond, List, [], ◌∷◌, map, Option, Some, None}
-use Rattle.std.specs.Prelude.{filter, filter_map, Contains}
+use Rattle.std.proofs.Common.{◌≡◌, ◌∙◌, sym, ap, subst, refl, Bool, true, false, not, ◌||◌, inl, inr, cond, List, [], ◌∷◌, map, Option, Some, None}
+use Rattle.std.specs.Prelude.{filter, filter_map, Contains, ◌⊎◌}
 use Rattle.std.specs.List.{cons_option, list_any, AllByRecursion}
 pub use Rattle.slice.proofs.Lists.{none_in_empty, contains_first, contains_rest, first_or_rest}
 
@@ -91,3 +91,43 @@ any_has q (y ∷ ys) x has is = elim (first_or_rest y x ys has) [
 pub each_from : {X : Type 0} (P : X → Type 0) (xs : List X) → ((x : X) → Contains xs x → P x) → AllByRecursion P xs
 each_from P [] h = tt
 each_from P (x ∷ xs) h = (h x (contains_first x xs), each_from P xs (λ y has. h y (contains_rest x y xs has)))
+
+either : (a b : Bool) → (a || b) ≡ true → (a ≡ true) ⊎ (b ≡ true)
+either true b e = inl refl
+either false b e = inr e
+
+pub any_found : {X : Type 0} (q : X → Bool) (xs : List X) → list_any q xs ≡ true → (x : X) × Contains xs x × (q x ≡ true)
+any_found q [] e = absurd (cc)
+any_found {X} q (x ∷ xs) e = elim (either (q x) (list_any q xs) e) [
+  | inl here ↦ (x, contains_first x xs, here)
+  | inr there ↦ (let m = any_found q xs there in (m.0, contains_rest x m.0 xs m.1, m.2))
+]
+
+pub same_if : (a b : Bool) → (a ≡ true → b ≡ true) → (b ≡ true → a ≡ true) → a ≡ b
+same_if true b f g = sym (f refl)
+same_if false true f g = g refl
+same_if false false f g = refl
+
+pub not_true : (b : Bool) → not b ≡ true → b ≡ false
+not_true true h = absurd (cc)
+not_true false h = refl
+
+pub not_false : (b : Bool) → b ≡ false → not b ≡ true
+not_false true h = absurd (cc)
+not_false false h = refl
+
+-- ## Images
+
+pub mapped : {X Y : Type 0} (f : X → Y) (xs : List X) (x : X) → Contains xs x → Contains (map f xs) (f x)
+mapped f [] x has = absurd (none_in_empty x has)
+mapped f (z ∷ xs) x has = elim (first_or_rest z x xs has) [
+  | inl here ↦ subst (λ y. Contains (f z ∷ map f xs) y) (ap f here) (contains_first (f z) (map f xs))
+  | inr there ↦ contains_rest (f z) (f x) (map f xs) (mapped f xs x there)
+]
+
+pub mapped_only : {X Y : Type 0} (f : X → Y) (xs : List X) (y : Y) → Contains (map f xs) y → (x : X) × Contains xs x × (f x ≡ y)
+mapped_only f [] y has = absurd (none_in_empty y has)
+mapped_only f (z ∷ xs) y has = elim (first_or_rest (f z) y (map f xs) has) [
+  | inl here ↦ (z, contains_first z xs, here)
+  | inr there ↦ (let m = mapped_only f xs y there in (m.0, contains_rest z m.0 xs m.1, m.2))
+]

@@ -61,18 +61,18 @@ no_older_itself : (a : Option Stamped) → IsNoOlder a a
 no_older_itself None = tt
 no_older_itself (Some x) = not_older_itself x.stamp
 
-no_older_trans : (a b c : Option Stamped) → IsNoOlder a b → IsNoOlder b c → IsNoOlder a c
+pub no_older_trans : (a b c : Option Stamped) → IsNoOlder a b → IsNoOlder b c → IsNoOlder a c
 no_older_trans a b None h k = tt
 no_older_trans a None (Some z) h k = absurd k
 no_older_trans None (Some y) (Some z) h k = absurd h
 no_older_trans (Some x) (Some y) (Some z) h k = not_older_trans x.stamp y.stamp z.stamp h k
 
-first_no_older : (a b : Option Stamped) → IsNoOlder (newer_of a b) a
+pub first_no_older : (a b : Option Stamped) → IsNoOlder (newer_of a b) a
 first_no_older None b = tt
 first_no_older (Some x) None = not_older_itself x.stamp
 first_no_older (Some x) (Some y) = by_cases (is_older x.stamp y.stamp) (λ lt. rw lt (not_older_back x.stamp y.stamp lt)) (λ ge. rw ge (not_older_itself x.stamp))
 
-second_no_older : (a b : Option Stamped) → IsNoOlder (newer_of a b) b
+pub second_no_older : (a b : Option Stamped) → IsNoOlder (newer_of a b) b
 second_no_older None b = no_older_itself b
 second_no_older (Some x) None = tt
 second_no_older (Some x) (Some y) = by_cases (is_older x.stamp y.stamp) (λ lt. rw lt (not_older_itself y.stamp)) (λ ge. rw ge ge)

@@ -27,6 +27,7 @@ use Rattle.logical_time.specs.Stamps.{writer_cmp}
 use Rattle.store.specs.declared.part.Part.{Part}
 use Rattle.store.specs.Kept.{Place, Chains, no_row, chain_of, name_cmp, column_held, nothing_held}
 use Rattle.store.specs.Sight.{Sight, NamedVersion, newer_seen, laid_over, seen_in, seen_entry, seen_at, sight_of, AreSeen, is_backwards, writers_of, evt_of_sight, IsPartSeen}
+use Rattle.store.specs.Struck.{standing, ranges_seen, ranges_over, IsPartUnder}
 use Rattle.store.proofs.Bounds.{none_between}
 use Rattle.store.proofs.Lists.{none_in_empty, contains_first, contains_rest, first_or_rest, kept, kept_only, given, given_only}
 use Rattle.store.proofs.Maps.{by_cases, same_name}
@@ -233,12 +234,17 @@ none_there : (m : Moment) (q : Place) → sight_of m no_row q ≡ None
 none_there m None = none_of_nothing m
 none_there m (Some n) = none_of_nothing m
 
+alone : (o : Option Version) → o ≡ newer_seen None o
+alone None = refl
+alone (Some v) = refl
+
 -- what is laid over a row of which nothing is kept is all that is seen
-pub seen_over_nothing : (m : Moment) (g : Sight) (p : Predicate) (part : Part) → IsPartSeen g p part → IsPartSeen (laid_over (sight_of m no_row) g) p part
-seen_over_nothing m g p part seen =
-    let same : g ≡ laid_over (sight_of m no_row) g = λ i. λ q. (alone (g q) ∙ ap (λ (o : Option Version). newer_seen o (g q)) (sym (none_there m q))) i in
-    subst (λ (f : Sight). IsPartSeen f p part) same seen
-  where
-    alone : (o : Option Version) → o ≡ newer_seen None o
-    alone None = refl
-    alone (Some v) = refl
+pub under_over_nothing : (m : Moment) (over : Chains) (p : Predicate) (part : Part) → IsPartUnder (sight_of m over) (ranges_seen m over) p part
+    → IsPartUnder (laid_over (sight_of m no_row) (sight_of m over)) (ranges_over m no_row over) p part
+under_over_nothing m over p part seen =
+    let same : sight_of m over ≡ laid_over (sight_of m no_row) (sight_of m over) =
+    λ i. λ q. (alone (sight_of m over q) ∙ ap (λ (o : Option Version). newer_seen o (sight_of m over q)) (sym (none_there m q))) i in
+    let deletion : seen_in m over.deletions.versions ≡ newer_seen (seen_in m no_row.deletions.versions) (seen_in m over.deletions.versions) =
+    alone (seen_in m over.deletions.versions) ∙ ap (λ (o : Option Version). newer_seen o (seen_in m over.deletions.versions)) (sym (none_of_nothing m)) in
+    subst (λ (f : Sight). IsPartUnder f (ranges_over m no_row over) p part) same
+    (subst (λ (d : Option Version). IsPartUnder (sight_of m over) (standing m d over.ranges.ranges) p part) deletion seen)

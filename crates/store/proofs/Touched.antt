@@ -1,5 +1,6 @@
--- In a list of parts that stand apart, what touches a column last is the column's newest change or a newer deletion of its row.
-use Rattle.std.proofs.Common.{◌≡◌, ◌∙◌, sym, ap, refl, ℕ, ◌<◌, suc, zero, inl, inr, Bool, true, false, ◌&&◌, List, [], ◌∷◌, Option, Some, None, option_map, arith}
+-- In a list of parts that stand apart, what touches a column last is the column's newest change, or a newer deletion of its row or
+-- of a range that has it.
+use Rattle.std.proofs.Common.{◌≡◌, ◌∙◌, sym, ap, refl, ℕ, ◌<◌, suc, zero, inl, inr, Bool, true, false, ◌&&◌, ◌||◌, List, [], ◌∷◌, Option, Some, None, option_map, arith}
 use Rattle.std.specs.Prelude.{if◌then◌else◌, ◌⊎◌}
 use Rattle.std.specs.List.{AllByRecursion}
 use Rattle.std.specs.Option.{option_or}
@@ -9,7 +10,7 @@ use Rattle.column_family.specs.declared.batch.Change.{Change}
 use Rattle.column_family.specs.declared.batch.Committed.{Committed}
 use Rattle.column_family.specs.declared.batch.Mutation.{Mutation}
 use Rattle.column_family.specs.declared.batch.Mutation.TheVariants.{Insert, DeleteColumn, DeleteRow, DeleteRange}
-use Rattle.column_family.specs.Location.{Location, is_same_row, touches, touches_name, changes_name, deletes_row, is_column_change, is_row_deletion}
+use Rattle.column_family.specs.Location.{Location, is_same_row, touches, touches_name, changes_name, deletes_row, ranges_over, strikes, is_column_change}
 use Rattle.column_family.specs.History.{Stamped, newer_of, newest, newest_of, last_of, stamped}
 use Rattle.column_family.specs.Normal.{changes_before, StandsBefore, IsInOrderOf}
 use Rattle.column_family.proofs.Kept.{one_row}
@@ -47,23 +48,26 @@ pub each_weaker : (P Q : Change → Type 0) → ((c : Change) → P c → Q c) �
 each_weaker P Q f [] h = tt
 each_weaker P Q f (c ∷ cs) h = (f c h.0, each_weaker P Q f cs h.1)
 
-not_before_deletion : (m k : Mutation) (n : List ℕ) → changes_name m n ≡ true → deletes_row k ≡ true → StandsBefore m k → ⊥
-not_before_deletion (Insert a v) DeleteRow n p q h = h
-not_before_deletion (DeleteColumn a) DeleteRow n p q h = h
-not_before_deletion DeleteRow k n p q h = cc
-not_before_deletion (DeleteRange a b) k n p q h = cc
-not_before_deletion m (Insert a v) n p q h = cc
-not_before_deletion m (DeleteColumn a) n p q h = cc
-not_before_deletion m (DeleteRange a b) n p q h = cc
+not_before_strike : (m k : Mutation) (n : List ℕ) → changes_name m n ≡ true → (deletes_row k || ranges_over k n) ≡ true → StandsBefore m k → ⊥
+not_before_strike (Insert a v) DeleteRow n p q h = h
+not_before_strike (Insert a v) (DeleteRange b c) n p q h = h
+not_before_strike (Insert a v) (Insert b w) n p q h = cc
+not_before_strike (Insert a v) (DeleteColumn b) n p q h = cc
+not_before_strike (DeleteColumn a) DeleteRow n p q h = h
+not_before_strike (DeleteColumn a) (DeleteRange b c) n p q h = h
+not_before_strike (DeleteColumn a) (Insert b w) n p q h = cc
+not_before_strike (DeleteColumn a) (DeleteColumn b) n p q h = cc
+not_before_strike DeleteRow k n p q h = cc
+not_before_strike (DeleteRange a b) k n p q h = cc
 
--- no deletion of the row stands after a change of one of its columns
-no_deletion : (batch : List Change) (l : Location) (c : Change) → is_column_change l c ≡ true → (d : Change) → Precedes batch c d → is_row_deletion l.row d ≡ false
-no_deletion batch l c is d before =
+-- no deletion of the row or of a range that has a column stands after a change of that column
+no_strike : (batch : List Change) (l : Location) (c : Change) → is_column_change l c ≡ true → (d : Change) → Precedes batch c d → strikes l d ≡ false
+no_strike batch l c is d before =
     let b = both_true (is_same_row l.row c.row) (changes_name c.mutation l.name) is in
-    by_cases (is_row_deletion l.row d)
+    by_cases (strikes l d)
     (λ t.
-    let e = both_true (is_same_row l.row d.row) (deletes_row d.mutation) t in
-    absurd (not_before_deletion c.mutation d.mutation l.name b.1 e.1 (in_row batch l.row c d b.0 e.0 before)))
+    let e = both_true (is_same_row l.row d.row) (deletes_row d.mutation || ranges_over d.mutation l.name) t in
+    absurd (not_before_strike c.mutation d.mutation l.name b.1 e.1 (in_row batch l.row c d b.0 e.0 before)))
     (λ f. f)
 
 neither_more : (t c d : Option Mutation) → t ≡ option_or c d → option_or t None ≡ option_or (option_or c None) (option_or d None)
@@ -80,10 +84,13 @@ deletion_more t (Some k) d m e = ap (λ (o : Option Mutation). option_or o (Some
 
 one_more : (n : List ℕ) (t c d : Option Mutation) (b : Bool) (m : Mutation) → t ≡ option_or c d → ((b && changes_name m n) ≡ true → d ≡ None)
     → option_or t (if b && touches_name m n then Some m else None)
-    ≡ option_or (option_or c (if b && changes_name m n then Some m else None)) (option_or d (if b && deletes_row m then Some m else None))
+    ≡ option_or (option_or c (if b && changes_name m n then Some m else None)) (option_or d (if b && (deletes_row m || ranges_over m n) then Some m else None))
 one_more n t c d false m e none = neither_more t c d e
 one_more n t c d true DeleteRow e none = deletion_more t c d DeleteRow e
-one_more n t c d true (DeleteRange a z) e none = neither_more t c d e
+one_more n t c d true (DeleteRange a z) e none =
+    by_cases (ranges_over (DeleteRange a z) n)
+    (λ y. rw y (deletion_more t c d (DeleteRange a z) e))
+    (λ f. rw f (neither_more t c d e))
 one_more n t c d true (Insert a v) e none =
     by_cases (changes_name (Insert a v) n)
     (λ y. rw y (change_more t c d (Insert a v) e (none y)))
@@ -94,12 +101,12 @@ one_more n t c d true (DeleteColumn a) e none =
     (λ f. rw f (neither_more t c d e))
 
 last_touch : (batch : List Change) (l : Location) (cs : List Change) → IsInOrderOf batch cs
-    → last_of (touches l) cs ≡ option_or (last_of (is_column_change l) cs) (last_of (is_row_deletion l.row) cs)
+    → last_of (touches l) cs ≡ option_or (last_of (is_column_change l) cs) (last_of (strikes l) cs)
 last_touch batch l [] h = refl
 last_touch batch l (c ∷ cs) h =
-    one_more l.name (last_of (touches l) cs) (last_of (is_column_change l) cs) (last_of (is_row_deletion l.row) cs) (is_same_row l.row c.row) c.mutation
+    one_more l.name (last_of (touches l) cs) (last_of (is_column_change l) cs) (last_of (strikes l) cs) (is_same_row l.row c.row) c.mutation
     (last_touch batch l cs (rest_in_order batch c cs h))
-    (λ is. none_last (is_row_deletion l.row) cs (each_weaker (Precedes batch c) (λ d. is_row_deletion l.row d ≡ false) (no_deletion batch l c is) cs (after_first batch c cs h)))
+    (λ is. none_last (strikes l) cs (each_weaker (Precedes batch c) (λ d. strikes l d ≡ false) (no_strike batch l c is) cs (after_first batch c cs h)))
 
 -- ---- all parts
 both_stamped : (c : Committed) (a b : Option Mutation) → option_map (stamped c) (option_or a b) ≡ newer_of (option_map (stamped c) a) (option_map (stamped c) b)
@@ -116,15 +123,15 @@ crossed c x o y z swap =
     ∙ sym (newer_of_assoc x y (newer_of d z))
 
 pub newest_touch : (applied : List Applied) → AreApart applied → (l : Location)
-    → newest (history_of applied) l ≡ newer_of (newest_of (is_column_change l) (history_of applied)) (newest_of (is_row_deletion l.row) (history_of applied))
+    → newest (history_of applied) l ≡ newer_of (newest_of (is_column_change l) (history_of applied)) (newest_of (strikes l) (history_of applied))
 newest_touch [] apart l = refl
 newest_touch (a ∷ rest) apart l =
     let c = committed_of a in
     let x = last_of (is_column_change l) a.part.batch in
-    let y = last_of (is_row_deletion l.row) a.part.batch in
+    let y = last_of (strikes l) a.part.batch in
     let rests = newest_of (is_column_change l) (history_of rest) in
-    let gone = newest_of (is_row_deletion l.row) (history_of rest) in
-    ap (λ (o : Option Mutation). newer_of (option_map (stamped c) o) (newest (history_of rest) l)) (last_touch a.part.batch l a.part.batch apart.0.1)
+    let struck = newest_of (strikes l) (history_of rest) in
+    ap (λ (o : Option Mutation). newer_of (option_map (stamped c) o) (newest (history_of rest) l)) (last_touch a.part.batch l a.part.batch apart.0)
     ∙ ap (λ (o : Option Stamped). newer_of o (newest (history_of rest) l)) (both_stamped c x y)
     ∙ ap (newer_of (newer_of (option_map (stamped c) x) (option_map (stamped c) y))) (newest_touch rest apart.2 l)
-    ∙ crossed c (option_map (stamped c) x) y rests gone (newer_of_swap c y rests (apart_newest a.stamp (is_column_change l) rest apart.1))
+    ∙ crossed c (option_map (stamped c) x) y rests struck (newer_of_swap c y rests (apart_newest a.stamp (is_column_change l) rest apart.1))

@@ -1,14 +1,18 @@
 -- Parts that don't touch a row, or are committed later, change nothing of what is right of it.
-use Rattle.std.proofs.Common.{◌≡◌, ◌∙◌, sym, ap, subst, refl, ℕ, ◌<◌, Bool, true, false, List, [], ◌∷◌, ◌++◌, None, option_map, nat_le, arith}
+use Rattle.std.proofs.Common.{◌≡◌, ◌∙◌, sym, ap, subst, refl, ℕ, ◌<◌, Bool, true, false, not, ◌&&◌, ◌||◌, List, [], ◌∷◌, ◌++◌, Option, None, option_map, nat_le, arith}
 use Rattle.std.specs.Prelude.{Contains}
-use Rattle.std.specs.List.{AllByRecursion}
+use Rattle.std.specs.List.{AllByRecursion, list_any}
+use Rattle.std.specs.Ordering.{is_eq}
 use Rattle.std.proofs.lemmas.Bool.Decides.{nat_tests}
 use Rattle.std.proofs.lemmas.List.Elements.{filter-append, Contains-append_left}
-use Rattle.logical_time.specs.Stamps.{StampValue, WriterValue}
+use Rattle.std.proofs.lemmas.List.Folds.{list_any-append}
+use Rattle.logical_time.specs.Stamps.{StampValue, WriterValue, stamp_cmp}
 use Rattle.column_family.specs.declared.batch.Row.{Row}
 use Rattle.column_family.specs.declared.batch.Change.{Change}
-use Rattle.column_family.specs.Location.{is_same_row, touches, touches_name, changes_name, deletes_row, is_column_change, is_row_deletion}
-use Rattle.column_family.specs.History.{newer_of, newest, newest_of, last_of, stamped}
+use Rattle.column_family.specs.declared.batch.Committed.{Committed}
+use Rattle.column_family.specs.declared.batch.Mutation.{Mutation}
+use Rattle.column_family.specs.Location.{is_same_row, touches, touches_name, changes_name, deletes_row, ranges_over, strikes, is_column_change, is_row_deletion}
+use Rattle.column_family.specs.History.{Stamped, newer_of, newest, newest_of, last_of, stamped, keeps_row, leaves_range, is_older_than, ranges_at}
 use Rattle.column_family.proofs.Options.{both_true}
 use Rattle.column_family.proofs.Joins.{newer_of_none, newest_of_append}
 use Rattle.slice.specs.declared.predicate.Predicate.{Predicate}
@@ -68,6 +72,37 @@ change_of_row r n c e = (both_true (is_same_row r c.row) (changes_name c.mutatio
 deletion_of_row : (r : Row) → IsOfRow r (is_row_deletion r)
 deletion_of_row r c e = (both_true (is_same_row r c.row) (deletes_row c.mutation) e).0
 
+strike_of_row : (r : Row) (n : List ℕ) → IsOfRow r (strikes (column_at r n))
+strike_of_row r n c e = (both_true (is_same_row r c.row) (deletes_row c.mutation || ranges_over c.mutation n) e).0
+
+-- ---- deletions of ranges
+none_left : (r : Row) (n : List ℕ) (w : StampValue) (ys : List Applied) → AreUntouched r ys
+    → list_any (λ (c : Committed). is_eq (stamp_cmp c.stamp w) && leaves_range (column_at r n) c.batch) (history_of ys) ≡ false
+none_left r n w [] h = refl
+none_left r n w (y ∷ ys) h =
+    let last : last_of (strikes (column_at r n)) y.part.batch ≡ None =
+    none_last (strikes (column_at r n)) y.part.batch
+    (each_from (λ d. strikes (column_at r n) d ≡ false) y.part.batch (none_of_row (strikes (column_at r n)) r (strike_of_row r n) y.part.batch h.0)) in
+    ap (λ (o : Option Mutation). (is_eq (stamp_cmp y.stamp w) && keeps_row o) || list_any (λ (c : Committed). is_eq (stamp_cmp c.stamp w) && leaves_range (column_at r n) c.batch) (history_of ys)) last
+    ∙ neither_one (is_eq (stamp_cmp y.stamp w)) (none_left r n w ys h.1)
+  where
+    neither_one : (b : Bool) {rest : Bool} → rest ≡ false → ((b && false) || rest) ≡ false
+    neither_one true e = e
+    neither_one false e = e
+
+or_nothing : (b c : Bool) → c ≡ false → (b || c) ≡ b
+or_nothing true c e = refl
+or_nothing false c e = e
+
+ranges_stay : (xs ys : List Applied) (r : Row) (n : List ℕ) (w : StampValue) → AreUntouched r ys → ranges_at (history_of xs) (column_at r n) w ≡ ranges_at (history_of (xs ++ ys)) (column_at r n) w
+ranges_stay xs ys r n w h =
+    let q = λ (c : Committed). is_eq (stamp_cmp c.stamp w) && leaves_range (column_at r n) c.batch in
+    let some : list_any q (history_of (xs ++ ys)) ≡ list_any q (history_of xs) =
+    ap (list_any q) (history_joined xs ys) ∙ list_any-append q (history_of xs) (history_of ys)
+    ∙ or_nothing (list_any q (history_of xs)) (list_any q (history_of ys)) (none_left r n w ys h) in
+    ap (λ (b : Bool). b && not (is_older_than (newest_of (is_row_deletion r) (history_of xs)) w)) (sym some)
+    ∙ ap (λ (o : Option Stamped). list_any q (history_of (xs ++ ys)) && not (is_older_than o w)) (newest_stays (is_row_deletion r) r (deletion_of_row r) xs ys h)
+
 -- what is shown of a row stays when parts that don't touch it come after
 part_stays : (xs ys : List Applied) (r : Row) (p : Predicate) (part : Part) → AreApart (xs ++ ys) → AreUntouched r ys → IsPartOf xs r p part
     → IsPartOf (xs ++ ys) r p part
@@ -81,9 +116,10 @@ part_stays xs ys r p part apart none shown =
     let gone : newest_of (is_row_deletion r) h ≡ newest_of (is_row_deletion r) k =
     newest_stays (is_row_deletion r) r (deletion_of_row r) xs ys none in
     let slices = slices_agree h k r p touched in
-    let forth : (w : StampValue) → RowRestsOn h r p w → RowRestsOn k r p w = λ w. rests_agree h k r p w slices changed touched gone in
+    let forth : (w : StampValue) → RowRestsOn h r p w → RowRestsOn k r p w =
+    λ w. rests_agree h k r p w slices changed touched gone (λ n asked e. sym (ranges_stay xs ys r n w none) ∙ e) in
     let back : (w : StampValue) → RowRestsOn k r p w → RowRestsOn h r p w =
-    λ w. rests_agree k h r p w (sym slices) (λ n asked. sym (changed n asked)) (λ n asked. sym (touched n asked)) (sym gone) in
+    λ w. rests_agree k h r p w (sym slices) (λ n asked. sym (changed n asked)) (λ n asked. sym (touched n asked)) (sym gone) (λ n asked e. ranges_stay xs ys r n w none ∙ e) in
     record {
       columns = shown.columns ∙ slices;
       writers = λ w. (

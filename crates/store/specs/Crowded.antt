@@ -1,10 +1,10 @@
 -- Which rows a collection has to look at.
-use Rattle.std.specs.Prelude.{◌≡◌, ◌≤◌, length, nat_lt, Bool, true, false, not, ◌&&◌, ◌||◌, List, map}
+use Rattle.std.specs.Prelude.{◌≡◌, ◌≤◌, length, nat_lt, Bool, true, false, not, ◌&&◌, ◌||◌, List, [], map}
 use Rattle.std.specs.List.{list_any}
 use Rattle.column_family.specs.declared.batch.Row.{Row}
 use Rattle.column_family.specs.Places.{is_listed, row_cmp}
 use Rattle.versions.specs.Chain.{Held}
-use Rattle.store.specs.Kept.{Place, Chains, chain_at, held_by, no_row}
+use Rattle.store.specs.Kept.{Place, Chains, chain_at, ranges_in, held_by, no_row}
 
 -- the rows that are listed, and whether all are that have to be
 pub record Listed : Type 0 where
@@ -19,15 +19,24 @@ holds_more h = nat_lt 1 (length h.versions)
 abbrev pub comes_to_more : Held → Held → Bool
 comes_to_more before after = not (holds_more before) && holds_more after
 
--- whether a chain of the row holds more than one version: a collection drops nothing from any other row
+-- whether a chain of the row holds more than one version, or the row a deletion of a range: a collection drops nothing
+-- from any other row
 abbrev pub is_crowded : Chains → Bool
-is_crowded row = list_any holds_more (map (λ e. e.1) row.columns) || holds_more row.deletions
+is_crowded row = list_any holds_more (map (λ e. e.1) row.columns) || (holds_more row.deletions || nat_lt 0 (length row.ranges.ranges))
 
 -- whether the row is crowded, as one of these
 abbrev pub is_crowded_in : List (Row × Chains) → Row → Bool
 is_crowded_in rows r = is_crowded (held_by row_cmp no_row rows r)
 
 -- if the list is whole, each chain of a row that isn't listed holds one version at most
-abbrev pub AreListed : Listed → List (Row × Chains) → Type 0
-AreListed l rows =
+abbrev pub AreShort : Listed → List (Row × Chains) → Type 0
+AreShort l rows =
     l.whole ≡ true → (r : Row) (p : Place) → is_listed l.rows r ≡ false → length (chain_at rows r p).versions ≤ 1
+
+-- if the list is whole, a row that isn't listed holds no deletion of a range
+abbrev pub HaveNoRanges : Listed → List (Row × Chains) → Type 0
+HaveNoRanges l rows = l.whole ≡ true → (r : Row) → is_listed l.rows r ≡ false → (ranges_in rows r).ranges ≡ []
+
+-- the list has each row that has to be listed
+abbrev pub AreListed : Listed → List (Row × Chains) → Type 0
+AreListed l rows = AreShort l rows × HaveNoRanges l rows

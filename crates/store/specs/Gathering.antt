@@ -1,5 +1,5 @@
 -- What a read gathers as it comes from column to column.
-use Rattle.std.specs.Prelude.{◌≡◌, ℕ, max, List, ◌++◌, map, filter_map, Option, option_map, option_to_list}
+use Rattle.std.specs.Prelude.{◌≡◌, max, List, ◌++◌, map, filter_map, Option, option_map, option_to_list}
 use Rattle.logical_time.specs.Stamps.{WriterValue}
 use Rattle.versions.specs.declared.version.Version.{Version}
 use Rattle.store.specs.declared.gathering.Gathered.{Gathered}

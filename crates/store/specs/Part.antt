@@ -1,14 +1,19 @@
 -- What a store answers, by what was applied to it.
-use Rattle.std.specs.Prelude.{◌≡◌, ℕ, max, nat_le, if◌then◌else◌, List, [], ◌∷◌, map, filter, Option, Some, None, Contains, ◌↔◌}
+use Rattle.std.specs.Prelude.{◌≡◌, ℕ, max, nat_le, Bool, false, not, ◌&&◌, ◌||◌, if◌then◌else◌, List, [], ◌∷◌, map, filter, Option, Some, None, Contains, ◌↔◌}
+use Rattle.std.specs.List.{list_any}
 use Rattle.std.specs.List.Sorted.{IsStrictlySortedBy}
 use Rattle.logical_time.specs.Stamps.{WriterValue, writer_cmp}
 use Rattle.column_family.specs.declared.batch.Row.{Row}
+use Rattle.column_family.specs.declared.batch.Change.{Change}
 use Rattle.column_family.specs.declared.batch.Committed.{Committed}
-use Rattle.column_family.specs.Location.{is_column_change, is_row_deletion}
-use Rattle.column_family.specs.History.{History, Stamped, newest_of}
+use Rattle.column_family.specs.declared.batch.Mutation.{Mutation}
+use Rattle.column_family.specs.declared.batch.Mutation.TheVariants.{Insert, DeleteColumn, DeleteRow, DeleteRange}
+use Rattle.column_family.specs.Location.{is_same_row, is_column_change, is_row_deletion}
+use Rattle.column_family.specs.History.{History, Stamped, newest_of, is_older_than}
 use Rattle.slice.specs.declared.predicate.Predicate.{Predicate}
 use Rattle.slice.specs.Slice.{slice_of, is_asked}
 use Rattle.slice.specs.Live.{live_columns, columns_changed}
+use Rattle.slice.specs.Meeting.{asks_between}
 use Rattle.slice.specs.Rests.{RowRestsOn}
 pub use Rattle.slice.specs.Parts.{has_row}
 use Rattle.store.specs.declared.part.Applied.{Applied}
@@ -52,11 +57,31 @@ abbrev pub greatest_of : List ℕ → ℕ
 greatest_of [] = 0
 greatest_of (n ∷ ns) = max n (greatest_of ns)
 
+-- whether the mutation deletes a range of columns that has an asked one
+abbrev pub asks_range : Predicate → Mutation → Bool
+asks_range p (Insert n v) = false
+asks_range p (DeleteColumn n) = false
+asks_range p DeleteRow = false
+asks_range p (DeleteRange start finish) = asks_between p start finish
+
+-- whether a batch deletes a range of the row's columns that has an asked one, and the row by no later change
+abbrev pub leaves_asked : Row → Predicate → List Change → Bool
+leaves_asked r p [] = false
+leaves_asked r p (c ∷ cs) =
+    (is_same_row r c.row && (asks_range p c.mutation && not (list_any (is_row_deletion r) cs))) || leaves_asked r p cs
+
+-- the commit time of a batch that deletes a range with an asked column, newer than the newest deletion of the row; else 0
+abbrev pub range_evt : History → Row → Predicate → Committed → ℕ
+range_evt h r p c =
+    if leaves_asked r p c.batch && not (is_older_than (newest_of (is_row_deletion r) h) c.stamp) then c.commit else 0
+
 -- The earliest valid time of a row's slice: the greatest of the newest version of each asked column that there
--- is, whatever the count of a range is, and of the row's newest deletion; 0 if there are none (this profile's EVT).
+-- is, whatever the count of a range is, of the row's newest deletion, and of each newer deletion of a range that has an
+-- asked column; 0 if there are none (this profile's EVT).
 abbrev pub evt_of : History → Row → Predicate → ℕ
 evt_of h r p =
-    max (commit_of (newest_of (is_row_deletion r) h)) (greatest_of (map (column_evt h r p) (columns_changed h r)))
+    max (commit_of (newest_of (is_row_deletion r) h))
+    (max (greatest_of (map (column_evt h r p) (columns_changed h r))) (greatest_of (map (range_evt h r p) h)))
 
 -- a row's part by the newest versions, and since when it is valid
 pub record IsNewestPart (applied : List Applied) (r : Row) (p : Predicate) (part : Part) : Type 0 where

@@ -1,10 +1,11 @@
 //! The rows that a collection has to look at.
-ghost use Rattle.std.specs.Prelude.{◌≡◌, ◌≤◌, [], ℕ, if◌then◌else◌, true, false, filter, OnOk};
+ghost use Rattle.std.specs.Prelude.{◌≡◌, ◌≤◌, [], ℕ, if◌then◌else◌, None, true, false, filter, OnOk};
 ghost use Rattle.std.specs.Ordering.{is_eq};
 ghost use Rattle.column_family.specs.declared.batch.Row.{Row};
 ghost use Rattle.column_family.specs.Places.{is_listed, row_cmp};
 ghost use Rattle.versions.specs.Chain.{kept_from};
-ghost use Rattle.store.specs.Kept.{Place, chain_at, HaveKept};
+ghost use Rattle.versions.specs.Ranges.{kept_ranges};
+ghost use Rattle.store.specs.Kept.{Place, chain_at, ranges_in, HaveKept, HaveKeptRanges};
 ghost use Rattle.store.specs.Crowded.{AreListed, is_crowded_in};
 
 use crate::row::RowChains;
@@ -15,7 +16,8 @@ use std::alloc::Global;
 use std::collections::{BTreeMap, BTreeSet};
 use std::marker::Model;
 
-/// The rows of which a chain may hold more than one version. No other row has anything to collect.
+/// The rows of which a chain may hold more than one version, and those that hold a deletion of a range. No other row has
+/// anything to collect.
 #[derive(Drop)]
 pub(crate) struct Crowded {
     rows: BTreeSet<Row>,
@@ -63,28 +65,30 @@ impl Crowded {
 
 // Collects each of these rows.
 fn collect_listed(rows: &mut BTreeMap<Row, RowChains>, listed: &BTreeSet<Row>, time: Time)
-    ensures { (r : Row) (p : Place) → (chain_at rows.new.entries r p).versions ≡ (if is_listed listed.now.keys r then kept_from time (chain_at rows.old.entries r p).versions else (chain_at rows.old.entries r p).versions) }
+    ensures ranges { (r : Row) → (ranges_in rows.new.entries r).ranges ≡ (if is_listed listed.now.keys r then kept_ranges time (chain_at rows.old.entries r None).versions (ranges_in rows.old.entries r).ranges else (ranges_in rows.old.entries r).ranges) }
+    ensures versions { (r : Row) (p : Place) → (chain_at rows.new.entries r p).versions ≡ (if is_listed listed.now.keys r then kept_from time (chain_at rows.old.entries r p).versions else (chain_at rows.old.entries r p).versions) }
 {
     for row in listed.iter() {
         collect_row(rows, row, time);
     }
 }
 
-// Takes the rows from the list of which no chain holds more than one version any more.
+// Takes the rows from the list of which no chain holds more than one version any more, nor the row a deletion of a range.
 fn keep_crowded(listed: &mut BTreeSet<Row>, rows: &BTreeMap<Row, RowChains>)
     ensures { listed.new.keys ≡ filter (is_crowded_in rows.now.entries) listed.old.keys }
 {
     listed.retain(|row| is_crowded(rows, row));
 }
 
-/// Drops the versions that are the newest of their chain at no time from this one on. Linear in the rows that are
-/// listed, with their versions; in all rows where the list isn't whole.
+/// Drops the versions that are the newest of their chain at no time from this one on, and the deletions of ranges that are
+/// in force at none. Linear in the rows that are listed, with all that they hold; in all rows where the list isn't whole.
 pub(crate) fn collect_crowded(
     rows: &mut BTreeMap<Row, RowChains>,
     crowded: &mut Crowded,
     time: Time,
 )
     ensures kept { AreListed crowded.old rows.old.entries → HaveKept time rows.old.entries rows.new.entries }
+    ensures ranges { AreListed crowded.old rows.old.entries → HaveKeptRanges time rows.old.entries rows.new.entries }
     ensures listed { AreListed crowded.old rows.old.entries → AreListed crowded.new rows.new.entries }
 {
     if crowded.is_whole {

@@ -3,17 +3,22 @@
 //! Nothing here knows of votes, messages or sessions.
 #![tactic(auto)]
 
+mod asked;
 mod boxed_chain;
+mod boxed_ranges;
 mod crowded;
 mod gathering;
 mod merging;
 mod origin;
 mod part;
 mod reading;
+mod room;
 mod row;
 mod rows;
 mod sight;
 mod store;
+mod striking;
+mod sweeping;
 mod walk;
 
 pub use part::{Applied, Part};

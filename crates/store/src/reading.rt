@@ -17,6 +17,7 @@ ghost use Rattle.slice.specs.Live.{in_name_order};
 ghost use Rattle.store.specs.Part.{greatest_of};
 ghost use Rattle.store.specs.Sight as sight;
 ghost use Rattle.store.specs.Sight.{AreAskedFor, HaveSameWriters, IsMadeOf, IsPartSeen, laid_over, named, sight_of};
+ghost use Rattle.store.specs.Struck.{IsPartUnder, ranges_over, ranges_seen};
 
 use crate::gathering::{
     asks_for_few, few_names, gather_all, gather_named, gather_two, turned_names,
@@ -25,6 +26,7 @@ use crate::merging::{merged, newer_seen};
 use crate::part::Part;
 use crate::row::RowChains;
 use crate::sight::{Moment, Seen, asked_columns, seen_deletion};
+use crate::striking::{part_under, part_under_both};
 use crate::walk::walk_until;
 use column_family::{Name, Row};
 use logical_time::{Fault, Time, Writer, Writers};
@@ -96,8 +98,8 @@ pub(crate) fn evt_of_deletion(deletion: Option<&Version>) -> Time
     }
 }
 
-// Since when the deletion and the columns are all seen.
-fn evt_of(deletion: Option<&Version>, seen: &[Seen]) -> Time
+/// Since when the deletion and the columns are all seen.
+pub(crate) fn evt_of(deletion: Option<&Version>, seen: &[Seen]) -> Time
     ensures { result ≡ max (sight.evt_or_0 (option_copied deletion.entry)) (greatest_of (map (λ s. s.version.now.evt) seen.now)) }
 {
     let mut evt = evt_of_deletion(deletion);
@@ -144,8 +146,8 @@ fn come_to<'a, 's>(reversed: bool, columns: &[Column], seen: &'a [Seen<'s>]) -> 
     }
 }
 
-// Those of the columns on which a read rests that returned these columns, where all stand in name order.
-fn reached<'a, 's>(
+/// Those of the columns on which a read rests that returned these columns, where all stand in name order.
+pub(crate) fn reached<'a, 's>(
     predicate: &Predicate,
     columns: &[Column],
     seen: &'a [Seen<'s>],
@@ -228,8 +230,8 @@ fn column_writers(
     Ok(writers)
 }
 
-// The writers of the columns' versions and of the deletion.
-fn writers_of(
+/// The writers of the columns' versions and of the deletion.
+pub(crate) fn writers_of(
     alloc: Global,
     deletion: Option<&Version>,
     seen: &[Seen],
@@ -357,8 +359,8 @@ fn walked_columns(
     live_columns(alloc, deletion, &live)
 }
 
-// The columns of these that a read shows, which asks for all of them.
-fn shown_columns(
+/// The columns of these that a read shows, which asks for all of them.
+pub(crate) fn shown_columns(
     alloc: Global,
     predicate: &Predicate,
     deletion: Option<&Version>,
@@ -491,9 +493,9 @@ fn part_whole(alloc: Global, row: &RowChains, moment: &Moment) -> Result<Part, F
     found.into_part(alloc)
 }
 
-// What is seen of a row.
+/// What is seen of a row's places.
 #[inline]
-fn part_of(
+pub(crate) fn part_of(
     alloc: Global,
     row: &RowChains,
     predicate: &Predicate,
@@ -518,8 +520,8 @@ fn part_of(
     made_of(alloc, predicate, seen_deletion(row, moment), &seen)
 }
 
-// What is seen of a row where another is laid over it.
-fn part_over<'s>(
+/// What is seen of a row's places where another is laid over it.
+pub(crate) fn part_over<'s>(
     alloc: Global,
     row: &'s RowChains,
     over: &'s RowChains,
@@ -538,7 +540,7 @@ fn part_over<'s>(
 
 // What is seen of a row of which nothing is kept.
 fn empty_part(alloc: Global, predicate: &Predicate, moment: &Moment) -> Part
-    ensures { IsPartSeen (sight_of moment.now no_row) predicate.now result }
+    ensures { IsPartUnder (sight_of moment.now no_row) (ranges_seen moment.now no_row) predicate.now result }
 {
     Part {
         columns: Columns::none(),
@@ -556,11 +558,11 @@ pub(crate) fn part_in(
     predicate: &Predicate,
     moment: &Moment,
 ) -> Result<Part, Fault>
-    ensures ok { IfOk result (IsPartSeen (sight_of moment.now (held_by row_cmp no_row rows.now.entries row.now)) predicate.now) }
+    ensures ok { IfOk result (IsPartUnder (sight_of moment.now (held_by row_cmp no_row rows.now.entries row.now)) (ranges_seen moment.now (held_by row_cmp no_row rows.now.entries row.now)) predicate.now) }
     ensures memory { IfErr result (λ e. e ≡ fault.Memory) }
 {
     match rows.get(row) {
-        Some(held) => part_of(alloc, held, predicate, moment),
+        Some(held) => part_under(alloc, held, predicate, moment),
         None => Ok(empty_part(alloc, predicate, moment)),
     }
 }
@@ -574,11 +576,11 @@ pub(crate) fn part_with<'s>(
     predicate: &Predicate,
     moment: &Moment,
 ) -> Result<Part, Fault>
-    ensures ok { IfOk result (IsPartSeen (laid_over (sight_of moment.now (held_by row_cmp no_row rows.now.entries row.now)) (sight_of moment.now over.now)) predicate.now) }
+    ensures ok { IfOk result (IsPartUnder (laid_over (sight_of moment.now (held_by row_cmp no_row rows.now.entries row.now)) (sight_of moment.now over.now)) (ranges_over moment.now (held_by row_cmp no_row rows.now.entries row.now) over.now) predicate.now) }
     ensures memory { IfErr result (λ e. e ≡ fault.Memory) }
 {
     match rows.get(row) {
-        Some(held) => part_over(alloc, held, over, predicate, moment),
-        None => part_of(alloc, over, predicate, moment),
+        Some(held) => part_under_both(alloc, held, over, predicate, moment),
+        None => part_under(alloc, over, predicate, moment),
     }
 }

@@ -1,5 +1,5 @@
 //! The chains of a row.
-ghost use Rattle.std.specs.Prelude.{◌≡◌, ◌+◌, ◌≤◌, ◌<◌, ◌⊎◌, [], ℕ, List, Some, None, length, true, false, if◌then◌else◌, OnOk, IfOk, IfErr, IfSome, IsOk, IsSomeAnd, map, slice_get, unwrap_or};
+ghost use Rattle.std.specs.Prelude.{◌≡◌, ◌+◌, ◌≤◌, ◌<◌, ◌⊎◌, ◌↔◌, Contains, nat_lt, [], ℕ, List, Some, None, length, true, false, if◌then◌else◌, OnOk, IfOk, IfErr, IfSome, IsOk, IsSomeAnd, map, slice_get, unwrap_or};
 ghost use Rattle.std.specs.List.{list_any};
 ghost use Rattle.std.specs.Option.{option_copied};
 ghost use Rattle.std.specs.Map.{lookup};
@@ -8,40 +8,45 @@ ghost use Rattle.std.specs.Str.{bytes_eq};
 ghost use Rattle.logical_time.specs.declared.fault.Fault.TheVariants as fault;
 ghost use Rattle.versions.specs.Chain.{put_of};
 ghost use Rattle.versions.specs.Newest.{has_stamp};
+ghost use Rattle.versions.specs.Ranges as in_ranges;
 ghost use Rattle.store.specs.Crowded as crowded;
 ghost use Rattle.store.specs.Crowded.{comes_to_more, holds_more};
 ghost use Rattle.store.specs.Latest.{IsLatest, IsLatestAfter};
 ghost use Rattle.store.specs.Sight.{evt_or_0};
 ghost use Rattle.store.specs.Kept as kept;
-ghost use Rattle.store.specs.Kept.{Place, chain_of, collected_held, collected_row, column_held, is_of_place, name_cmp, nothing_held, put_all, written};
+ghost use Rattle.store.specs.Kept.{Place, chain_of, collected_held, collected_ranges, collected_row, column_held, is_of_place, name_cmp, no_ranges, nothing_held, put_all, written, IsRangeLeft, IsRangeWritten};
+ghost use Rattle.versions.specs.declared.range.RangeDeletion.{RangeDeletion};
 
 use crate::boxed_chain::BoxedChain;
+use crate::boxed_ranges::BoxedRanges;
 use crate::origin::Origin;
 use column_family::{Change, Mutation, Name, Row, Value};
 use logical_time::{Fault, Time};
 use std::alloc::Global;
 use std::collections::BTreeMap;
 use std::marker::Model;
-use versions::{Chain, Version, What};
+use versions::{Chain, RangeDeletion, Ranges, Version, What};
 
-/// The chains of a row: one for each of its columns, and one for its deletions.
+/// What is held of a row: a chain for each of its columns, one for its deletions, and the deletions of ranges.
 #[derive(Drop)]
 pub(crate) struct RowChains {
     pub(crate) columns: BTreeMap<Name, BoxedChain>,
     // made with the first deletion
     deletions: Option<BoxedChain>,
+    // made with the first deletion of a range
+    ranges: Option<BoxedRanges>,
     // the greatest EVT of the newest versions of the columns, where it is known
     latest: Option<Time>,
 }
 
 impl Model for RowChains {
     ghost use Rattle.std.specs.Prelude.{IfSome, unwrap_or};
-    ghost use Rattle.store.specs.Kept.{Chains, nothing_held};
+    ghost use Rattle.store.specs.Kept.{Chains, no_ranges, nothing_held};
     ghost use Rattle.store.specs.Latest.{IsLatest};
 
     ghost Value = { Chains };
 
-    ghost view = { λ r. record { columns = r.columns.entries; deletions = unwrap_or r.deletions nothing_held } };
+    ghost view = { λ r. record { columns = r.columns.entries; deletions = unwrap_or r.deletions nothing_held; ranges = unwrap_or r.ranges no_ranges } };
 
     ghost invariant = { λ r. IfSome r.latest (IsLatest r.columns.entries) };
 }
@@ -203,27 +208,94 @@ fn collect_deletions(deletions: &mut Option<BoxedChain>, time: Time)
     }
 }
 
+// Puts a deletion of a range to those of a row.
+fn put_range(ranges: &mut Option<BoxedRanges>, range: RangeDeletion)
+    requires { 0 < (unwrap_or ranges.old no_ranges).room }
+    ensures put { (unwrap_or ranges.new no_ranges).ranges ≡ in_ranges.put_range (unwrap_or ranges.old no_ranges).ranges range }
+    ensures room { (unwrap_or ranges.old no_ranges).room ≤ (unwrap_or ranges.new no_ranges).room + 1 }
+{
+    match ranges {
+        Some(held) => held.put(range),
+        None => unreachable!(),
+    }
+}
+
+// Makes room for so many more deletions of ranges.
+fn reserve_ranges(
+    alloc: Global,
+    ranges: &mut Option<BoxedRanges>,
+    additional: usize,
+) -> Result<(), Fault>
+    ensures ranges { (unwrap_or ranges.new no_ranges).ranges ≡ (unwrap_or ranges.old no_ranges).ranges }
+    ensures room { (unwrap_or ranges.old no_ranges).room ≤ (unwrap_or ranges.new no_ranges).room }
+    ensures ok { OnOk result (additional ≤ (unwrap_or ranges.new no_ranges).room) }
+    ensures succeeds { additional ≤ (unwrap_or ranges.old no_ranges).room → IsOk result }
+    ensures memory { IfErr result (λ e. e ≡ fault.Memory) }
+{
+    if let Some(held) = ranges {
+        return held.reserve(additional);
+    }
+    if additional == 0 {
+        return Ok(());
+    }
+    *ranges = Some(BoxedRanges::new(alloc, additional)?);
+    Ok(())
+}
+
+// Drops the deletions of ranges that are in force at no time from the time on, below these deletions of the row.
+fn collect_below(ranges: &mut Option<BoxedRanges>, deletions: &Chain, time: Time)
+    ensures { unwrap_or ranges.new no_ranges ≡ collected_ranges time deletions.now.versions (unwrap_or ranges.old no_ranges) }
+{
+    if let Some(held) = ranges {
+        held.collect(deletions, time);
+    }
+}
+
+// The same where there may be no deletion of the row: then all stay.
+#[tactic(auto, using(crate::proofs::Collected::all_collected))]
+fn collect_ranges(ranges: &mut Option<BoxedRanges>, deletions: Option<&Chain>, time: Time)
+    ensures { unwrap_or ranges.new no_ranges ≡ collected_ranges time (unwrap_or (option_copied deletions.entry) nothing_held).versions (unwrap_or ranges.old no_ranges) }
+{
+    if let Some(chain) = deletions {
+        collect_below(ranges, chain, time);
+    }
+}
+
+// The chain, if there is one.
+#[inline]
+fn chain_in(chain: &Option<BoxedChain>) -> Option<&Chain>
+    ensures { unwrap_or (option_copied result) nothing_held ≡ unwrap_or chain.now nothing_held }
+{
+    match chain {
+        Some(chain) => Some(chain.as_chain()),
+        None => None,
+    }
+}
+
 impl RowChains {
     /// A row without a version.
     pub(crate) fn new(alloc: Global) -> RowChains
         ensures columns { result.columns ≡ [] }
         ensures deletions { result.deletions.versions ≡ [] }
+        ensures ranges { result.ranges ≡ no_ranges }
     {
         RowChains {
             columns: BTreeMap::new(alloc),
             deletions: None,
+            ranges: None,
             latest: Some(Time::zero()),
         }
     }
 
     /// Puts what a mutation leaves into the chain of its place, and answers whether that came to hold more than one
-    /// version.
+    /// version. A deletion of a range has no place: `put_range` is for it.
     #[inline(always)]
     pub(crate) fn put(&mut self, mutation: Mutation, origin: &Origin) -> bool
         requires { (p : Place) → is_of_place p mutation ≡ true → (0 < (chain_of self.old p).room) ⊎ (has_stamp (chain_of self.old p).versions origin.now.stamp ≡ true) }
         ensures versions { (p : Place) → (chain_of self.new p).versions ≡ (if is_of_place p mutation then put_of (chain_of self.old p).versions (kept.version_of origin.now mutation) else (chain_of self.old p).versions) }
         ensures room { (p : Place) → (chain_of self.old p).room ≤ (chain_of self.new p).room + (if is_of_place p mutation then 1 else 0) }
         ensures more { result ≡ false → (p : Place) → is_of_place p mutation ≡ true → length (chain_of self.old p).versions ≤ 1 → length (chain_of self.new p).versions ≤ 1 }
+        ensures ranges { self.new.ranges ≡ self.old.ranges }
     {
         match mutation {
             Mutation::Insert { name, value } => put_column(
@@ -243,6 +315,25 @@ impl RowChains {
         }
     }
 
+    /// Puts a deletion of a range.
+    pub(crate) fn put_range(&mut self, start: Name, finish: Name, origin: &Origin)
+        requires { 0 < self.old.ranges.room }
+        ensures places { (p : Place) → chain_of self.new p ≡ chain_of self.old p }
+        ensures put { self.new.ranges.ranges ≡ in_ranges.put_range self.old.ranges.ranges (record { stamp = origin.now.stamp; evt = origin.now.evt; start = start; finish = finish; writer = origin.now.writer }) }
+        ensures room { self.old.ranges.room ≤ self.new.ranges.room + 1 }
+    {
+        put_range(
+            &mut self.ranges,
+            RangeDeletion {
+                stamp: origin.stamp,
+                evt: origin.evt,
+                start,
+                finish,
+                writer: origin.writer,
+            },
+        );
+    }
+
     /// The greatest EVT of the newest versions of the columns, or 0 without one, where it is known: until the version that
     /// has it is followed by one with an earlier EVT.
     pub(crate) fn latest(&self) -> Option<Time>
@@ -256,28 +347,61 @@ impl RowChains {
     pub(crate) fn deletions(&self) -> Option<&Chain>
         ensures { unwrap_or (option_copied result) nothing_held ≡ self.now.deletions }
     {
-        match &self.deletions {
-            Some(chain) => Some(chain.as_chain()),
+        chain_in(&self.deletions)
+    }
+
+    /// The deletions of ranges, if there were any.
+    pub(crate) fn ranges(&self) -> Option<&Ranges>
+        ensures { unwrap_or (option_copied result) no_ranges ≡ self.now.ranges }
+    {
+        match &self.ranges {
+            Some(ranges) => Some(ranges.as_ranges()),
             None => None,
         }
     }
 
-    /// Whether a chain holds more than one version. Linear in the columns.
+    // Whether it holds a deletion of a range.
+    fn has_ranges(&self) -> bool
+        ensures { result ≡ nat_lt 0 (length self.now.ranges.ranges) }
+    {
+        match self.ranges() {
+            Some(ranges) => ranges.len() > 0,
+            None => false,
+        }
+    }
+
+    /// Whether a chain holds more than one version, or a range of columns was deleted. Linear in the columns.
     pub(crate) fn is_crowded(&self) -> bool
         ensures { result ≡ crowded.is_crowded self.now }
     {
-        is_crowded_in(&self.columns) || self.deletions().is_some_and(|chain| chain.len() > 1)
+        is_crowded_in(&self.columns)
+            || self.deletions().is_some_and(|chain| chain.len() > 1)
+            || self.has_ranges()
     }
 
-    /// Drops the versions that are the newest of their chain at no time from this one on. Linear in the versions.
+    /// Drops the versions that are the newest of their chain at no time from this one on, and the deletions of ranges that
+    /// are in force at none. Linear in all of these.
     pub(crate) fn collect(&mut self, time: Time)
         ensures { self.new ≡ collected_row time self.old }
     {
+        collect_ranges(&mut self.ranges, chain_in(&self.deletions), time);
         collect_columns(&mut self.columns, time);
         collect_deletions(&mut self.deletions, time);
     }
 
-    /// Makes room for what a mutation leaves.
+    /// Makes room for so many more deletions of ranges.
+    pub(crate) fn reserve_ranges(&mut self, alloc: Global, additional: usize) -> Result<(), Fault>
+        ensures places { (p : Place) → chain_of self.new p ≡ chain_of self.old p }
+        ensures ranges { self.new.ranges.ranges ≡ self.old.ranges.ranges }
+        ensures room { self.old.ranges.room ≤ self.new.ranges.room }
+        ensures ok { OnOk result (additional ≤ self.new.ranges.room) }
+        ensures succeeds { additional ≤ self.old.ranges.room → IsOk result }
+        ensures memory { IfErr result (λ e. e ≡ fault.Memory) }
+    {
+        reserve_ranges(alloc, &mut self.ranges, additional)
+    }
+
+    /// Makes room for what a mutation leaves at its place.
     #[inline(always)]
     pub(crate) fn reserve(&mut self, alloc: Global, mutation: &Mutation) -> Result<(), Fault>
         ensures versions { (p : Place) → (chain_of self.new p).versions ≡ (chain_of self.old p).versions }
@@ -285,6 +409,7 @@ impl RowChains {
         ensures ok { OnOk result ((p : Place) → is_of_place p mutation.now ≡ true → 0 < (chain_of self.new p).room) }
         ensures succeeds { ((p : Place) → is_of_place p mutation.now ≡ true → 0 < (chain_of self.old p).room) → IsOk result }
         ensures memory { IfErr result (λ e. e ≡ fault.Memory) }
+        ensures ranges { self.new.ranges ≡ self.old.ranges }
     {
         match mutation {
             Mutation::Insert { name, .. } | Mutation::DeleteColumn { name } => reserve_column(
@@ -298,6 +423,27 @@ impl RowChains {
     }
 }
 
+// Puts a change of a row, and makes the room for it.
+fn put_whole(
+    alloc: Global,
+    held: &mut RowChains,
+    mutation: &Mutation,
+    origin: &Origin,
+) -> Result<(), Fault>
+    ensures versions { OnOk result ((p : Place) → (chain_of held.new p).versions ≡ (if is_of_place p mutation.now then put_of (chain_of held.old p).versions (kept.version_of origin.now mutation.now) else (chain_of held.old p).versions)) }
+    ensures ranges { OnOk result ((x : RangeDeletion) → Contains held.new.ranges.ranges x ↔ (Contains held.old.ranges.ranges x ⊎ IsRangeLeft origin.now mutation.now x)) }
+    ensures memory { IfErr result (λ e. e ≡ fault.Memory) }
+{
+    if let Mutation::DeleteRange { start, finish } = mutation {
+        held.reserve_ranges(alloc, 1)?;
+        held.put_range(start.clone()?, finish.clone()?, origin);
+        return Ok(());
+    }
+    held.reserve(alloc, mutation)?;
+    held.put(mutation.clone()?, origin);
+    Ok(())
+}
+
 /// What the changes of one row leave, as chains of that row alone. Linear in all of the changes, and logarithmic for
 /// each of the row in the columns of these.
 pub(crate) fn row_written(
@@ -307,13 +453,13 @@ pub(crate) fn row_written(
     origin: &Origin,
 ) -> Result<RowChains, Fault>
     ensures ok { IfOk result (λ held. (p : Place) → (chain_of held p).versions ≡ put_all [] (written origin.now row.now p changes.now)) }
+    ensures ranges { IfOk result (λ held. (x : RangeDeletion) → Contains held.ranges.ranges x ↔ IsRangeWritten origin.now row.now changes.now x) }
     ensures memory { IfErr result (λ e. e ≡ fault.Memory) }
 {
     let mut held = RowChains::new(alloc);
     for change in changes {
         if *row == change.row {
-            held.reserve(alloc, &change.mutation)?;
-            held.put(change.mutation.clone()?, origin);
+            put_whole(alloc, &mut held, &change.mutation, origin)?;
         }
     }
     Ok(held)

@@ -5,7 +5,7 @@ ghost use Rattle.column_family.specs.Location.{Location};
 ghost use Rattle.column_family.specs.Normal.{IsNormal};
 ghost use Rattle.store.specs.declared.part.Applied.{Applied};
 ghost use Rattle.store.specs.Crowded.{AreListed};
-ghost use Rattle.store.specs.Kept.{HasRoom, HaveKept, HaveKeptRoom, HaveSameVersions, HavePut};
+ghost use Rattle.store.specs.Kept.{HasRoom, HaveKept, HaveKeptRanges, HaveKeptRoom, HaveKeptRangeRoom, HaveSameVersions, HaveSameRanges, HavePut, HavePutRanges};
 ghost use Rattle.store.specs.Keeps.{Keeps, IsNewStamp, IsOvertaken};
 ghost use Rattle.column_family.specs.History.{newest_at};
 ghost use Rattle.store.specs.declared.sight.Moment.TheVariants.{At};
@@ -36,6 +36,7 @@ fn put_part(
 )
     requires { HasRoom rows.old.entries prepared.part.batch }
     ensures put { HavePut (record { writer = prepared.part.writer; stamp = stamp; evt = commit }) prepared.part.batch rows.old.entries rows.new.entries }
+    ensures ranges { HavePutRanges (record { writer = prepared.part.writer; stamp = stamp; evt = commit }) prepared.part.batch rows.old.entries rows.new.entries }
     ensures listed { AreListed crowded.old rows.old.entries → AreListed crowded.new rows.new.entries }
 {
     let (part, _) = prepared.surrender();
@@ -86,11 +87,14 @@ impl Store {
     /// Makes room for the changes of a batch, so that the next `apply` of a part with that batch succeeds if no
     /// other changing call stands between. What is held and the room for more stay, also where this is refused, with
     /// `Memory` alone.
-    /// Logarithmic for each change in the rows and in the columns of its row.
+    /// Logarithmic for each change in the rows and in the columns of its row, and linear in the batch for each range of
+    /// columns that it deletes.
     #[tactic(auto, using(crate::proofs::Lasting::keeps_same))]
     pub fn make_room(&mut self, batch: &Batch) -> Result<(), Fault>
         ensures same { HaveSameVersions self.old.rows self.new.rows }
+        ensures same_ranges { HaveSameRanges self.old.rows self.new.rows }
         ensures room { HaveKeptRoom self.old.rows self.new.rows }
+        ensures range_room { HaveKeptRangeRoom self.old.rows self.new.rows }
         ensures low { self.new.low ≡ self.old.low }
         ensures keeps { (all : List Applied) → Keeps self.old all → Keeps self.new all }
         ensures ok { OnOk result (HasRoom self.new.rows batch.now) }
@@ -101,8 +105,8 @@ impl Store {
     }
 
     /// Applies a part with this commit time and this stamp: it puts the version that each change leaves into the
-    /// chain of its place, in any order of stamps. So the store keeps this part too, if it is in normal form and
-    /// its stamp is new. Refused with `Memory` alone, and never after `make_room` for its batch; then what is held
+    /// chain of its place, and each deletion of a range to those of its row, in any order of stamps. So the store keeps this
+    /// part too, if it is in normal form and its stamp is new. Refused with `Memory` alone, and never after `make_room` for its batch; then what is held
     /// and the room for more stay, and the part is handed back. Logarithmic for each change in the rows and in the columns of its row;
     /// in the chain it costs what a put does. For `collect` it notes each row of which a chain holds more than one
     /// version then; where there is no memory for that, nothing is refused.
@@ -114,15 +118,19 @@ impl Store {
         stamp: Stamp,
     ) -> Result<(), (Fault, Prepared)>
         ensures put { OnOk result (HavePut (record { writer = prepared.part.writer; stamp = stamp; evt = commit }) prepared.part.batch self.old.rows self.new.rows) }
+        ensures ranges { OnOk result (HavePutRanges (record { writer = prepared.part.writer; stamp = stamp; evt = commit }) prepared.part.batch self.old.rows self.new.rows) }
         ensures low { self.new.low ≡ self.old.low }
         ensures keeps { (all : List Applied) → Keeps self.old all → IsNormal prepared.part.batch → IsNewStamp stamp all → OnOk result (Keeps self.new (all ++ record { part = prepared.part; commit = commit; stamp = stamp } ∷ [])) }
         ensures succeeds { HasRoom self.old.rows prepared.part.batch → IsOk result }
         ensures same { OnErr result (HaveSameVersions self.old.rows self.new.rows) }
+        ensures same_ranges { OnErr result (HaveSameRanges self.old.rows self.new.rows) }
         ensures room { OnErr result (HaveKeptRoom self.old.rows self.new.rows) }
+        ensures range_room { OnErr result (HaveKeptRangeRoom self.old.rows self.new.rows) }
         ensures kept { (all : List Applied) → Keeps self.old all → OnErr result (Keeps self.new all) }
         ensures back { IfErr result (λ e. (e.0 ≡ fault.Memory) × (e.1 ≡ prepared)) }
 
-        // A mutation that is committed no earlier than a newer one of its location changes the table at no time.
+        // A mutation that is committed no earlier than a newer one of its location changes the table at no time. What a
+        // read rests on, and since when it is valid, a deletion of a range may change all the same.
         ensures overtaken { (all : List Applied) (l : Location) → IsOvertaken all l stamp commit → (t : ℕ) → newest_at (history_of (all ++ record { part = prepared.part; commit = commit; stamp = stamp } ∷ [])) t l ≡ newest_at (history_of all) t l }
     {
         match reserve_changes(self.alloc, &mut self.rows, prepared.part().as_slice()) {
@@ -140,10 +148,12 @@ impl Store {
     pub fn apply_in_room(&mut self, prepared: Prepared, commit: Time, stamp: Stamp)
         requires { HasRoom self.old.rows prepared.part.batch }
         ensures put { HavePut (record { writer = prepared.part.writer; stamp = stamp; evt = commit }) prepared.part.batch self.old.rows self.new.rows }
+        ensures ranges { HavePutRanges (record { writer = prepared.part.writer; stamp = stamp; evt = commit }) prepared.part.batch self.old.rows self.new.rows }
         ensures low { self.new.low ≡ self.old.low }
         ensures keeps { (all : List Applied) → Keeps self.old all → IsNormal prepared.part.batch → IsNewStamp stamp all → Keeps self.new (all ++ record { part = prepared.part; commit = commit; stamp = stamp } ∷ []) }
 
-        // A mutation that is committed no earlier than a newer one of its location changes the table at no time.
+        // A mutation that is committed no earlier than a newer one of its location changes the table at no time. What a
+        // read rests on, and since when it is valid, a deletion of a range may change all the same.
         ensures overtaken { (all : List Applied) (l : Location) → IsOvertaken all l stamp commit → (t : ℕ) → newest_at (history_of (all ++ record { part = prepared.part; commit = commit; stamp = stamp } ∷ [])) t l ≡ newest_at (history_of all) t l }
     {
         put_part(&mut self.rows, &mut self.crowded, prepared, commit, stamp);
@@ -151,7 +161,9 @@ impl Store {
 
     /// The slice of the row's newest versions, with what it rests on and its earliest valid time: it is right at
     /// every time from that one on, by everything that was ever applied. Takes as many steps as there are asked
-    /// columns, each found in the order of their logarithm, after the row in that of the rows. Refused with `Memory` alone.
+    /// columns, each found in the order of their logarithm, after the row in that of the rows. Where `k` deletions of ranges
+    /// are held of the row: for `n` asked columns as many as `n + k` more, each logarithmic in `k` and in the names of a
+    /// list. Refused with `Memory` alone.
     #[tactic(auto, using(crate::proofs::PartAt::part_now, crate::proofs::FromEvt::right_from_evt))]
     pub fn read_now(&self, row: &Row, predicate: &Predicate) -> Result<Part, Fault>
         ensures newest { (all : List Applied) → Keeps self.now all → IfOk result (IsNewestPart all row.now predicate.now) }
@@ -231,13 +243,15 @@ impl Store {
     }
 
     /// Raises the horizon to this time if it lies below it, and drops from each chain the versions that are its newest
-    /// at no time from the horizon on. What a read at the horizon or later answers stays. Passes over each row of which
-    /// every chain holds one version at most: linear in the columns and versions of the other rows, and logarithmic
-    /// for each of these in all rows. Once an `apply` had no memory to note a row, it is linear in the store. Takes
+    /// at no time from the horizon on, and from each row the deletions of ranges for which some newer deletion of the row has
+    /// an EVT not above the greater of the horizon and their own. What a read at the horizon or later answers stays. Passes
+    /// over each row of which every chain holds one version at most and no range was deleted: linear in what the other rows
+    /// hold, and logarithmic for each of these in all rows. Once an `apply` had no memory to note a row, it is linear in the store. Takes
     /// no memory.
     pub fn collect(&mut self, time: Time)
         ensures low { self.new.low ≡ max self.old.low time }
         ensures kept { HaveKept self.new.low self.old.rows self.new.rows }
+        ensures ranges { HaveKeptRanges self.new.low self.old.rows self.new.rows }
         ensures keeps { (all : List Applied) → Keeps self.old all → Keeps self.new all }
     {
         self.low = self.low.max(time);

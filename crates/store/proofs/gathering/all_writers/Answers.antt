@@ -1,8 +1,6 @@
-use Rattle.std.proofs.Common.{rules, ◌∙◌, subst, sym, ap, List, [], ◌∷◌, ◌++◌, Option}
-use Rattle.std.specs.Prelude.{option_to_list}
+use Rattle.std.proofs.Common.{subst, sym, [], ◌∷◌, ◌++◌}
 use Rattle.std.specs.List.Sorted.{IsStrictlySortedBy}
-use Rattle.logical_time.specs.Stamps.{WriterValue, writer_cmp}
-use Rattle.store.specs.Sight.{HaveSameWriters}
+use Rattle.logical_time.specs.Stamps.{writer_cmp}
 use Rattle.store.proofs.Assembled.{if_ok}
 use Rattle.store.proofs.Gathered.{then_same}
 use Rattle.store.proofs.Gatherings.{at_either_end}

@@ -2,7 +2,7 @@ use Rattle.std.proofs.Common.{rules, ◌≡◌, ◌∙◌, ap, subst, ◌∷◌,
 use Rattle.std.specs.List.{cons_option}
 use Rattle.std.specs.Option.{option_copied}
 use Rattle.store.specs.Gathering.{IsLeft}
-use Rattle.store.specs.Sight.{NamedVersion, named, seen_entry}
+use Rattle.store.specs.Sight.{named, seen_entry}
 use Rattle.store.proofs.gathering.gather_all.Goals as goal
 
 pub loop-name-init : goal.loop-name-init

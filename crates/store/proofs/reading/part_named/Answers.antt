@@ -1,11 +1,10 @@
-use Rattle.std.proofs.Common.{rules, ◌≡◌, ◌∙◌, ap, sym, subst, refl, ℕ, List, [], filter_map}
+use Rattle.std.proofs.Common.{◌≡◌, ap, sym, subst, refl, ℕ, List, [], filter_map}
 use Rattle.std.specs.Option.{option_copied}
 use Rattle.slice.specs.declared.predicate.Predicate.TheVariants.{Names}
 use Rattle.versions.specs.Chain.{Held}
 use Rattle.store.specs.Gathering.{IsLeft}
 use Rattle.store.specs.Kept.{Chains}
-use Rattle.store.specs.Sight.{NamedVersion, seen_at, sight_of}
-use Rattle.store.proofs.Assembled.{if_ok}
+use Rattle.store.specs.Sight.{seen_at, sight_of}
 use Rattle.store.proofs.Gatherings.{gathered_part, each_field}
 use Rattle.store.proofs.Sights.{names_seen}
 use Rattle.store.proofs.reading.part_named.Goals as goal

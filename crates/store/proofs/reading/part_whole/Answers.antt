@@ -1,4 +1,4 @@
-use Rattle.std.proofs.Common.{rules, ◌≡◌, ap, subst, ℕ, List, [], map, filter_map}
+use Rattle.std.proofs.Common.{◌≡◌, ap, subst, ℕ, List, [], map, filter_map}
 use Rattle.std.specs.Option.{option_copied}
 use Rattle.std.specs.List.Sorted.{IsStrictlySortedBy}
 use Rattle.versions.specs.Chain.{Held}

@@ -1,7 +1,12 @@
 use Rattle.std.proofs.Common.{◌≡◌, [], take}
-use Rattle.store.specs.Kept.{Place, chain_of, put_all, written}
+use Rattle.std.specs.Prelude.{Contains, ◌↔◌}
+use Rattle.versions.specs.declared.range.RangeDeletion.{RangeDeletion}
+use Rattle.store.specs.Kept.{Place, chain_of, put_all, written, IsRangeWritten}
 use Rattle.store.proofs.row.row_written.Given as goal
 
 -- what the changes so far leave in the row
 abbrev pub invariant-loop-change : goal.invariant-loop-change
-invariant-loop-change l = (p : Place) → (chain_of l.held p).versions ≡ put_all [] (written l.origin l.row p (take l.change-index l.changes))
+invariant-loop-change l = record {
+  versions : (p : Place) → (chain_of l.held p).versions ≡ put_all [] (written l.origin l.row p (take l.change-index l.changes));
+  ranges : (x : RangeDeletion) → Contains l.held.ranges.ranges x ↔ IsRangeWritten l.origin l.row (take l.change-index l.changes) x;
+}

@@ -20,6 +20,12 @@ returns-clause-room c =
     let same : c.in_ok-clone.field-0 ≡ c.args.change.now.row = search rules in
     each_row (λ b x y. (p : Place) → (chain_of x p).room ≤ (chain_of y p).room) c.args.rows.now c.insert.new.self c.in_ok-clone.field-0 c.reserve.new.self c.in_ok-insert.ensures.updates (rw (same, f) (λ p. elim p as (λ q. (chain_of no_row q).room ≤ (chain_of c.reserve.new.self q).room) [ None ↦ omega arith | Some n ↦ omega arith ])) (λ x p. omega arith)
 
+pub returns-clause-ranges : goal.returns-clause-ranges
+returns-clause-ranges c =
+    let f = not_found row_cmp no_row c.args.rows.now c.args.change.now.row (search rules) in
+    let same : c.in_ok-clone.field-0 ≡ c.args.change.now.row = search rules in
+    each_row (λ b x y. y.ranges ≡ x.ranges) c.args.rows.now c.insert.new.self c.in_ok-clone.field-0 c.reserve.new.self c.in_ok-insert.ensures.updates (rw (same, f) (c.reserve.ensures.ranges ∙ c.new-held.ensures.ranges)) (λ x. refl)
+
 pub returns-clause-ok : goal.returns-clause-ok
 returns-clause-ok c =
     let m = c.args.change.now.mutation in

@@ -1,20 +1,8 @@
-use Rattle.versions.specs.Chain.{put_of}
-use Rattle.store.specs.Kept.{chain_at, version_of}
-use Rattle.store.proofs.Listed.{listed_added, listed_unless}
-use Rattle.store.proofs.Places.{own_at}
+use Rattle.store.specs.Kept.{ranges_in}
+use Rattle.store.proofs.Written.{range_put}
 use Rattle.store.proofs.rows.put_change.Goals as goal
 
-pub put_mutation-requires : goal.put_mutation-requires
-put_mutation-requires c = λ p at. c.requires c.args.change.row p (own_at c.args.change p at)
-
-pub returns-then-put_mutation-clause-listed : goal.returns-then-put_mutation-clause-listed
-returns-then-put_mutation-clause-listed c =
-    listed_added c.args.crowded.now c.add.new.self c.args.rows.now.entries c.put_mutation.new.rows.entries c.args.change.row c.args.change.mutation
-    (λ r p. put_of (chain_at c.args.rows.now.entries r p).versions (version_of c.args.origin.now c.args.change.mutation))
-    c.put_mutation.ensures.versions c.add.ensures.whole c.add.ensures.listed
-
-pub returns-else-put_mutation-clause-listed : goal.returns-else-put_mutation-clause-listed
-returns-else-put_mutation-clause-listed c =
-    listed_unless c.args.crowded.now c.args.rows.now.entries c.put_mutation.new.rows.entries c.args.change.row c.args.change.mutation
-    (λ r p. put_of (chain_at c.args.rows.now.entries r p).versions (version_of c.args.origin.now c.args.change.mutation))
-    c.put_mutation.ensures.versions (c.put_mutation.ensures.more c.if-put_mutation.false)
+pub returns-in-DeleteRange-clause-held : goal.returns-in-DeleteRange-clause-held
+returns-in-DeleteRange-clause-held c = λ r x.
+    rw c.in-DeleteRange.is
+    (range_put c.args.origin.now r c.args.change.row c.in-DeleteRange.start c.in-DeleteRange.finish (ranges_in c.args.rows.now.entries r).ranges (ranges_in c.put_and_list.new.rows.entries r).ranges x (c.put_and_list.ensures.put r))

@@ -1,7 +1,11 @@
-use Rattle.std.proofs.Common.{rules, ◌≡◌, ◌∙◌, ◌∷◌, subst, List}
+use Rattle.std.proofs.Common.{rules, ◌≡◌, ◌∙◌, [], ◌∷◌, ap, sym, subst, length, arith, List}
+use Rattle.std.specs.Prelude.{Contains, ◌⊎◌, ◌↔◌}
+use Rattle.std.proofs.lemmas.List.{nil_from_length}
+use Rattle.column_family.specs.Normal.{ranges_of}
 use Rattle.column_family.specs.declared.batch.Change.{Change}
-use Rattle.store.specs.Kept.{chain_at, written, put_all}
+use Rattle.store.specs.Kept.{chain_at, ranges_in, written, put_all, IsRangeWritten}
 use Rattle.store.proofs.Changes.{AreReady, ready_rest, put_rest}
+use Rattle.store.proofs.Written.{count_first, held_rest, all_put}
 use Rattle.store.proofs.rows.put_changes.Goals as goal
 
 pub loop-change-preserved : goal.loop-change-preserved
@@ -16,5 +20,26 @@ loop-change-preserved c =
       ready = ready_rest o olds news c.in-Some.change c.next.new.self.rest.items c.put_change.ensures.versions c.put_change.ensures.room ready;
       versions = λ r p. put_rest o olds news c.in-Some.change c.next.new.self.rest.items c.put_change.ensures.versions r p
           ∙ subst (λ (cs : List Change). put_all (chain_at olds r p).versions (written o r p cs) ≡ put_all (chain_at c.args.rows.now.entries r p).versions (written o r p c.args.changes.items)) split (i.versions r p);
+      ranges_ready = λ r.
+          (let first = i.ranges_ready r in
+          let count = count_first r c.in-Some.change c.next.new.self.rest.items in
+          let room = c.put_change.ensures.range_room r in
+          let same = ap (λ (cs : List Change). length (ranges_of r cs)) split in
+          omega (arith, first, count, room, same));
+      held = λ r x.
+          held_rest o r c.in-Some.change c.next.new.self.rest.items (ranges_in olds r).ranges (ranges_in news r).ranges x
+          (Contains (ranges_in c.args.rows.now.entries r).ranges x ⊎ IsRangeWritten o r c.args.changes.items x) (c.put_change.ensures.held r x)
+          (subst
+          (λ (cs : List Change). (Contains (ranges_in c.args.rows.now.entries r).ranges x ⊎ IsRangeWritten o r c.args.changes.items x) ↔ (Contains (ranges_in olds r).ranges x ⊎ IsRangeWritten o r cs x))
+          split (i.held r x));
       listed = λ listed. c.put_change.ensures.listed (i.listed listed);
     }
+
+pub returns-clause-ranges : goal.returns-clause-ranges
+returns-clause-ranges c = λ r x.
+    let rest : c.loop-change.change-iterator.rest.items ≡ [] = nil_from_length c.loop-change.change-iterator.rest.items (sym c.loop-change.change-iterator.rest.ok.0 ∙ c.in-None.ensures.steps.0) in
+    let all = all_put c.args.origin.now r (ranges_in c.loop-change.rows.entries r).ranges x (Contains (ranges_in c.args.rows.now.entries r).ranges x ⊎ IsRangeWritten c.args.origin.now r c.args.changes.items x)
+    (subst
+    (λ (cs : List Change). (Contains (ranges_in c.args.rows.now.entries r).ranges x ⊎ IsRangeWritten c.args.origin.now r c.args.changes.items x)
+    ↔ (Contains (ranges_in c.loop-change.rows.entries r).ranges x ⊎ IsRangeWritten c.args.origin.now r cs x)) rest (c.loop-change.invariant.held r x)) in
+    (λ has. all.1 has, λ either. all.0 either)

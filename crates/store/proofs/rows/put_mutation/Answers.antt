@@ -31,6 +31,12 @@ returns-in-Some-clause-more c = λ no p at few.
     let held = found row_cmp no_row (c.get_mut.follows.lender c.put.new.self) c.args.row.now c.put.new.self (h.3 (search rules)).1 in
     rw held (c.put.ensures.more no p at (subst (λ (row : Chains). length (chain_of row p).versions ≤ 1) was few))
 
+pub returns-in-Some-clause-ranges : goal.returns-in-Some-clause-ranges
+returns-in-Some-clause-ranges c =
+    let h = c.get_mut.follows.holds c.put.new.self in
+    let f = found row_cmp no_row c.args.rows.now c.args.row.now c.in-Some.held.now (search rules) in
+    each_row (λ b x y. y.ranges ≡ x.ranges) c.args.rows.now (c.get_mut.follows.lender c.put.new.self) c.args.row.now c.put.new.self (h.3 (search rules)) (rw f c.put.ensures.ranges) (λ x. refl)
+
 pub returns-in-None-clause-versions : goal.returns-in-None-clause-versions
 returns-in-None-clause-versions c = λ r p.
     let same : c.get_mut.follows.lender-at-none ≡ c.args.rows.now = search rules in

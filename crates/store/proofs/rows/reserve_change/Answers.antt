@@ -23,6 +23,12 @@ returns-in-Some-clause-room c =
     let f = found row_cmp no_row c.args.rows.now c.args.change.now.row c.in-Some.held.now (search rules) in
     each_row (λ b x y. (p : Place) → (chain_of x p).room ≤ (chain_of y p).room) c.args.rows.now (c.get_mut.follows.lender c.reserve.new.self) c.args.change.now.row c.reserve.new.self (h.3 (search rules)) (rw f c.reserve.ensures.room) (λ x p. omega arith)
 
+pub returns-in-Some-clause-ranges : goal.returns-in-Some-clause-ranges
+returns-in-Some-clause-ranges c =
+    let h = c.get_mut.follows.holds c.reserve.new.self in
+    let f = found row_cmp no_row c.args.rows.now c.args.change.now.row c.in-Some.held.now (search rules) in
+    each_row (λ b x y. y.ranges ≡ x.ranges) c.args.rows.now (c.get_mut.follows.lender c.reserve.new.self) c.args.change.now.row c.reserve.new.self (h.3 (search rules)) (rw f c.reserve.ensures.ranges) (λ x. refl)
+
 pub returns-in-Some-clause-ok : goal.returns-in-Some-clause-ok
 returns-in-Some-clause-ok c =
     let h = c.get_mut.follows.holds c.reserve.new.self in

@@ -1,5 +1,19 @@
-use Rattle.std.proofs.Common.{rules}
+use Rattle.std.proofs.Common.{rules, ◌≡◌, ◌∙◌, ap, subst, List}
+use Rattle.std.specs.Prelude.{Contains, ◌⊎◌, ◌↔◌}
+use Rattle.column_family.specs.declared.batch.Change.{Change}
+use Rattle.txn_state.specs.declared.part.WritePart.{WritePart}
+use Rattle.store.specs.declared.origin.Origin.{Origin}
+use Rattle.store.specs.Kept.{ranges_in, IsRangeWritten}
 use Rattle.store.proofs.store.put_part.Goals as goal
 
 pub returns-clause-put : goal.returns-clause-put
 returns-clause-put c = search rules
+
+pub returns-clause-ranges : goal.returns-clause-ranges
+returns-clause-ranges c = λ r x.
+    let o : Origin = record { writer = c.args.prepared.part.writer; stamp = c.args.stamp; evt = c.args.commit } in
+    let from : c.new-origin.result ≡ o = c.new-origin.ensures ∙ ap (λ (p : WritePart). record { writer = p.writer; stamp = c.args.stamp; evt = c.args.commit }) c.surrender-part.ensures.0 in
+    let batch : c.into_vec.result.items ≡ c.args.prepared.part.batch = c.into_vec.ensures ∙ ap (λ (p : WritePart). p.batch) c.surrender-part.ensures.0 in
+    subst (λ (f : Origin). Contains (ranges_in c.put_changes.new.rows.entries r).ranges x ↔ (Contains (ranges_in c.args.rows.now.entries r).ranges x ⊎ IsRangeWritten f r c.args.prepared.part.batch x)) from
+    (subst (λ (cs : List Change). Contains (ranges_in c.put_changes.new.rows.entries r).ranges x ↔ (Contains (ranges_in c.args.rows.now.entries r).ranges x ⊎ IsRangeWritten c.new-origin.result r cs x)) batch
+    (c.put_changes.ensures.ranges r x))

@@ -1,7 +1,7 @@
 use Rattle.std.proofs.Common.{rules, ◌≡◌, subst, sym, append-nil, true, false}
 use Rattle.std.specs.Option.{option_copied}
 use Rattle.store.specs.declared.gathering.Gathered.{Gathered}
-use Rattle.store.specs.Gathering.{IsLeft, writers_gathered}
+use Rattle.store.specs.Gathering.{writers_gathered}
 use Rattle.store.specs.Sight.{HaveSameWriters, is_covered, named}
 use Rattle.store.proofs.Gathered.{all_there}
 use Rattle.store.proofs.Gatherings.{one_gathered, on_ok}

@@ -1,4 +1,4 @@
-use Rattle.std.proofs.Common.{◌<◌, sym, subst, inl, inr, arith}
+use Rattle.std.proofs.Common.{◌<◌, sym, subst, inl, inr}
 use Rattle.store.specs.Kept.{Chains, column_held}
 use Rattle.store.proofs.Places.{at_insertion, at_deletion, at_row_deletion}
 use Rattle.store.proofs.row.RowChains.reserve.Goals as goal

@@ -1,7 +1,7 @@
-use Rattle.std.proofs.Common.{rules, ap, refl}
+use Rattle.std.proofs.Common.{rules, ap, subst, refl}
 use Rattle.store.specs.declared.origin.Origin.{Origin}
 use Rattle.store.specs.declared.part.Applied.{Applied}
-use Rattle.store.specs.Kept.{Kept, HavePut}
+use Rattle.store.specs.Kept.{Kept, HavePut, HavePutRanges}
 use Rattle.store.proofs.KeepsApplied.{keeps_applied}
 use Rattle.store.proofs.store.Store.apply_in_room.Goals as goal
 
@@ -11,4 +11,11 @@ returns-clause-keeps c = λ all keeps normal fresh.
     let o : Origin = record { writer = c.args.prepared.part.writer; stamp = c.args.stamp; evt = c.args.commit } in
     let a : Applied = record { part = c.args.prepared.part; commit = c.args.commit; stamp = c.args.stamp } in
     let put : HavePut o c.args.prepared.part.batch c.args.self.now.rows new.rows = search rules in
-    keeps_applied c.args.self.now new all a o (ap (λ (k : Kept). k.low) c.self.view_is) refl put normal fresh keeps
+    let ranges : HavePutRanges o c.args.prepared.part.batch c.args.self.now.rows new.rows =
+    subst (λ (k : Kept). HavePutRanges o c.args.prepared.part.batch k.rows new.rows) c.self.view_is c.put_part.ensures.ranges in
+    keeps_applied c.args.self.now new all a o (ap (λ (k : Kept). k.low) c.self.view_is) refl put ranges normal fresh keeps
+
+pub returns-clause-ranges : goal.returns-clause-ranges
+returns-clause-ranges c =
+    let o : Origin = record { writer = c.args.prepared.part.writer; stamp = c.args.stamp; evt = c.args.commit } in
+    subst (λ (k : Kept). HavePutRanges o c.args.prepared.part.batch k.rows c.put_part.new.rows.entries) c.self.view_is c.put_part.ensures.ranges

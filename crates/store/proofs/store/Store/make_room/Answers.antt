@@ -1,5 +1,5 @@
 use Rattle.std.proofs.Common.{rules, ap, subst}
-use Rattle.store.specs.Kept.{Kept, HaveSameVersions}
+use Rattle.store.specs.Kept.{Kept, HaveSameVersions, HaveSameRanges}
 use Rattle.store.proofs.Lasting.{keeps_same}
 use Rattle.store.proofs.store.Store.make_room.Goals as goal
 
@@ -7,7 +7,8 @@ pub returns-clause-keeps : goal.returns-clause-keeps
 returns-clause-keeps c = λ all keeps.
     let new : Kept = record { rows = c.reserve_changes.new.rows.entries; low = c.self.inside.low } in
     keeps_same c.args.self.now new all (ap (λ (k : Kept). k.low) c.self.view_is)
-    (subst (λ (k : Kept). HaveSameVersions k.rows new.rows) c.self.view_is c.reserve_changes.ensures.versions) keeps
+    (subst (λ (k : Kept). HaveSameVersions k.rows new.rows) c.self.view_is c.reserve_changes.ensures.versions)
+    (subst (λ (k : Kept). HaveSameRanges k.rows new.rows) c.self.view_is c.reserve_changes.ensures.ranges) keeps
 
 pub returns-clause-ok : goal.returns-clause-ok
 returns-clause-ok c = search rules

@@ -5,7 +5,8 @@ use Rattle.store.specs.declared.sight.Moment.{Moment}
 use Rattle.store.specs.declared.sight.Moment.TheVariants.{At}
 use Rattle.store.specs.Kept.{Kept, held_by, no_row}
 use Rattle.store.specs.Part.{applied_by}
-use Rattle.store.specs.Sight.{sight_of, IsPartSeen}
+use Rattle.store.specs.Sight.{sight_of}
+use Rattle.store.specs.Struck.{ranges_seen, IsPartUnder}
 use Rattle.store.proofs.Assembled.{any_evt}
 use Rattle.store.proofs.Later.{right_lasts}
 use Rattle.store.proofs.PartAt.{part_at}
@@ -20,8 +21,8 @@ returns-clause-right c = λ all keeps.
     let is = c.in_ok-moment.ensures.ok in
     any_evt (applied_by c.args.time all) r p part c.zero.result
     (part_at s all r p c.args.time part keeps is.1
-    (subst (λ (k : Kept). IsPartSeen (sight_of (At c.args.time) (held_by row_cmp no_row k.rows r)) p part) c.self.view_is
-    (subst (λ (m : Moment). IsPartSeen (sight_of m (held_by row_cmp no_row c.self.inside.rows.entries r)) p part) is.0 c.in_ok-part.ensures.ok)))
+    (subst (λ (k : Kept). IsPartUnder (sight_of (At c.args.time) (held_by row_cmp no_row k.rows r)) (ranges_seen (At c.args.time) (held_by row_cmp no_row k.rows r)) p part) c.self.view_is
+    (subst (λ (m : Moment). IsPartUnder (sight_of m (held_by row_cmp no_row c.self.inside.rows.entries r)) (ranges_seen m (held_by row_cmp no_row c.self.inside.rows.entries r)) p part) is.0 c.in_ok-part.ensures.ok)))
 
 pub returns-clause-lasts : goal.returns-clause-lasts
 returns-clause-lasts c = λ all later keeps above.
