@@ -21,7 +21,7 @@ use Rattle.world.proofs.Told.{said, told_true, told_commit, told_stamp, told_abo
 -- ## Parts in normal form
 
 nothing_normal : IsNormal []
-nothing_normal = (λ k d lt. absurd (omega arith), λ i j d lt below. absurd (omega arith))
+nothing_normal = λ i j d lt below. absurd (omega arith)
 
 normal_on : (top : TopologyValue) (batch rows : List Change) (node : ℕ) → rows ≡ part_on top batch node → IsNormal rows
 normal_on top batch rows node e = subst IsNormal (sym e) (normal_part top.shards (shard_of top node) (normal_of batch) (normal_form batch))
