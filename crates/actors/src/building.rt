@@ -53,7 +53,8 @@ fn seat_all<M: Machine>(
 
 impl Mesh {
     /// A seat for each actor, by their nodes, before their first events. Each ring holds so many envelopes, and each
-    /// journal so many events. Refused with `Memory` alone.
+    /// journal so many events; 1 to 256 envelopes and 1 to 1,000,000 events are what a caller asks for: through a ring for
+    /// none nothing moves, and a journal for none refuses each event. Refused with `Memory` alone.
     pub fn build_sized<M: Machine>(
         alloc: Global,
         topology: &Topology,

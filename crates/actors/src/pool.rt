@@ -37,15 +37,14 @@ pub struct Pool;
 /// near then, and its lock is taken once.
 const STAYS: u64 = 16;
 
-/// How many seats one after the other a worker passes by while others are at them, before it waits for the next one's lock.
-const PASSES: usize = 4;
-
 /// Where a worker is on its way round the seats.
 #[derive(Drop)]
 struct Stand {
     place: usize,
     // How many idle turns it took one after the other, of seats that had nothing of their own left to do.
     resting: usize,
+    // At how many seats one after the other it did nothing, since it gave way.
+    vain: usize,
 }
 
 impl Stand {
@@ -53,7 +52,22 @@ impl Stand {
     fn at(place: usize) -> Stand
         ensures { (result.place ≡ place) × (result.resting ≡ 0) }
     {
-        Stand { place, resting: 0 }
+        Stand {
+            place,
+            resting: 0,
+            vain: 0,
+        }
+    }
+
+    /// Did nothing at a seat. After a round of those it gives way to other threads.
+    fn wait(&mut self, seats: usize)
+        ensures { (self.new.place ≡ self.old.place) × (self.new.resting ≡ self.old.resting) }
+    {
+        self.vain = self.vain.saturating_add(1);
+        if self.vain >= seats {
+            self.vain = 0;
+            thread::yield_now();
+        }
     }
 
     /// Goes on to the next seat.
@@ -74,6 +88,7 @@ impl Stand {
         ensures { (self.new.place < seats) × (self.new.resting ≡ 0) }
     {
         self.resting = 0;
+        self.wait(seats);
         self.step(seats);
     }
 
@@ -87,6 +102,11 @@ impl Stand {
             (true, 1) => self.resting + 1,
             (true, _) => 1,
         };
+        if visit.vain {
+            self.wait(seats);
+        } else {
+            self.vain = 0;
+        }
         self.step(seats);
     }
 }
@@ -95,13 +115,15 @@ impl Stand {
 #[derive(Drop)]
 struct Visit {
     turns: u64,
+    // Whether no turn did anything.
+    vain: bool,
     // Whether the last turn was idle, and nothing of its own was left to do for the seat.
     rested: bool,
     // Why the last turn was refused.
     fault: Option<Fault>,
 }
 
-/// The seat at which a worker stands, locked: it passes by those at which others are, some of them, and then waits.
+/// The seat at which a worker stands, locked: it passes by those at which others are.
 fn locked<'s, M: Machine, R: Wait>(
     rt: &R,
     seats: &'s [Mutex<Seat<M>>],
@@ -110,13 +132,13 @@ fn locked<'s, M: Machine, R: Wait>(
     requires { (stand.old.place < length seats.now) × (stand.old.resting < length seats.now) }
     ensures { (stand.new.place < length seats.now) × (stand.new.resting < length seats.now) }
 {
-    for _ in 0..PASSES {
+    for _ in rt.forever() {
         match seats[stand.place].try_lock() {
             Some(seat) => return seat,
             None => stand.pass(seats.len()),
         }
     }
-    seats[stand.place].lock(rt)
+    unreachable!()
 }
 
 /// Takes a turn of a seat that is locked.
@@ -139,6 +161,7 @@ fn stay<M: Machine, G: Gate>(mut seat: MutexGuard<'_, Seat<M>>, gate: &G, most: 
             Ok(turn) => {
                 return Visit {
                     turns: before + 1,
+                    vain: before == 0 && turn == Turn::Idle,
                     rested: turn == Turn::Idle && seat.is_done(),
                     fault: None,
                 };
@@ -146,6 +169,7 @@ fn stay<M: Machine, G: Gate>(mut seat: MutexGuard<'_, Seat<M>>, gate: &G, most: 
             Err(fault) => {
                 return Visit {
                     turns: before + 1,
+                    vain: false,
                     rested: false,
                     fault: Some(fault),
                 };
@@ -154,6 +178,7 @@ fn stay<M: Machine, G: Gate>(mut seat: MutexGuard<'_, Seat<M>>, gate: &G, most: 
     }
     Visit {
         turns: most,
+        vain: false,
         rested: false,
         fault: None,
     }
@@ -204,8 +229,8 @@ fn go_round<M: Machine, G: Gate, R: Wait>(
 impl Pool {
     /// Runs the seats by so many workers, each for at most so many turns. A worker goes round the seats, worker w from the
     /// seat `w mod seats` on: it locks one and takes a turn of it, and the next while each handled an envelope, 16 at most. A seat
-    /// at which another worker is it passes by; after four of them one after the other it waits for the next one's lock. It
-    /// stops after its turns, after a turn that was refused, or after a round in which it came by all seats, and all were idle,
+    /// at which another worker is it passes by, and comes back; after a round in which it did nothing it gives way to other
+    /// threads. It stops after its turns, after a turn that was refused, or after a round in which it came by all seats, and all were idle,
     /// all machines free and all backlogs empty. 1 to 16 workers and at least one seat are the caller's condition. Refused with
     /// `Memory` alone.
     pub fn run<M: Machine + Send, G: Gate, R: Threads + Wait + Sync>(

@@ -346,8 +346,8 @@ impl<M: Machine> Seat<M> {
     /// if one is there, looking at the rings in turn; else does the first item of the backlog, if the machine is free. An
     /// envelope that was refused is the next one to be handled. Refused with `JournalFull` before all else where there is
     /// an event to do and the journal is full, also where there is no memory to move what waits; with `Memory`; and as the
-    /// machine refuses the event, but not for what an item of the backlog asks. Then waiting sends may have moved. Costs what its event costs, the look at the rings, and what
-    /// goes into them.
+    /// machine refuses the event, but not for what an item of the backlog asks. Then waiting sends may have moved. Costs what
+    /// its event costs, the look at the rings, and what goes into them.
     pub fn turn(&mut self) -> Result<Turn, Fault>
         ensures ok { IfOk result (λ turn. IsTurn M.refuses turn self.old self.new) }
         ensures looked { IfOk result (λ turn. HasLooked turn self.old self.new) }

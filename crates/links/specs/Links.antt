@@ -15,8 +15,8 @@ pub record RingName : Type 0 where
   pub names : Names
   pub heap : Global
 
--- the sender's end: the actor to which it leads, which ring it is an end of, all that went into the ring, oldest first, and how many places are known to
--- be free
+-- the sender's end: the actor to which it leads, which ring it is an end of, all that went into the ring, oldest first, and how
+-- many places are known to be free
 pub record OutLinkValue : Type 0 where
   pub to : ℕ
   pub ring : RingName

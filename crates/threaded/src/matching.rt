@@ -150,8 +150,8 @@ fn count_from(received: &mut Vec<usize>, node: Node)
     received[from] += 1;
 }
 
-/// Whether the event at this place of a journal is a receipt. Then it's counted.
-fn count_receipt(received: &mut Vec<usize>, journal: &[Event], place: usize) -> bool
+/// Counts the event at this place of a journal, if it is a receipt.
+fn count_receipt(received: &mut Vec<usize>, journal: &[Event], place: usize)
     requires place { place < length journal.now }
     requires fits { length journal.now < 2 ^ 64 }
     requires senders { AreFromActors (length received.old.items) journal.now }
@@ -159,11 +159,8 @@ fn count_receipt(received: &mut Vec<usize>, journal: &[Event], place: usize) -> 
     ensures { HaveCounted (length received.old.items) (take (place + 1) journal.now) received.new.items }
 {
     match &journal[place] {
-        Event::Handle(envelope) => {
-            count_from(received, envelope.from);
-            true
-        }
-        Event::Submit(_) | Event::Collect(_) => false,
+        Event::Handle(envelope) => count_from(received, envelope.from),
+        Event::Submit(_) | Event::Collect(_) => return,
     }
 }
 

@@ -20,8 +20,8 @@ count_from-requires-clause-fits c = λ n at.
     let le = count_within (length c.args.received.now.items) c.args.journal.now c.args.place c.args.received.now.items c.requires.counted c.in-Handle.envelope.from n at in
     omega (arith, le, c.requires.place, c.requires.fits)
 
-pub returns-in-Handle : goal.returns-in-Handle
-returns-in-Handle c =
+pub returns : goal.returns
+returns c =
     counted_then (length c.args.received.now.items) c.args.journal.now c.args.place c.args.received.now.items c.requires.counted c.in-Handle.envelope
     (item_at c.args.journal.now c.args.place c.index-journal-place.result c.requires.place c.index-journal-place.is ∙ ap Some c.in-Handle.is)
     (c.requires.senders c.in-Handle.envelope (
