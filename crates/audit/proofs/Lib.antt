@@ -2,3 +2,4 @@ pub mod Same
 pub mod NormalForms
 pub mod Stamps
 pub mod Oks
+pub mod WrongReads

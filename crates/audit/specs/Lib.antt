@@ -1,2 +1,3 @@
 pub mod Audit
 pub mod Laid
+pub mod Misreads

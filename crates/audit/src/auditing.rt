@@ -16,8 +16,8 @@ use std::thread::Threads;
 use table::History;
 use world::Completed;
 
-// Whether an answer is the meaning of a read. Refused with `Memory` alone.
-fn is_right(
+/// Whether an answer is the meaning of a read. Refused with `Memory` alone.
+pub(crate) fn is_right(
     alloc: Global,
     laid: &Laid<'_>,
     read: &Read,
@@ -130,8 +130,8 @@ fn count_reads(completed: &[Completed]) -> usize
     reads
 }
 
-// The histories, each laid out. Refused with `Memory` alone.
-fn lay_all(alloc: Global, histories: &[History]) -> Result<Vec<Laid<'_>>, Fault>
+/// The histories, each laid out. Refused with `Memory` alone.
+pub(crate) fn lay_all(alloc: Global, histories: &[History]) -> Result<Vec<Laid<'_>>, Fault>
     ensures ok { IfOk result (λ laid. laid.items ≡ histories.now) }
     ensures memory { IfErr result (λ e. e ≡ fault.Memory) }
 {

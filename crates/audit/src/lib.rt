@@ -4,9 +4,11 @@
 mod auditing;
 mod comparing;
 mod found;
+mod judging;
 mod laid;
 mod law;
 
 pub use auditing::audit;
 pub use found::Audit;
+pub use judging::{Answered, Misread, misreads};
 pub use law::right_answers_are_the_meaning;

@@ -1,3 +1,4 @@
+pub mod Audits
 pub mod ToldMore
 pub mod AskedMore
 pub mod Exact

@@ -1,12 +1,13 @@
 -- Seats get what a script asks of their actors.
-use Rattle.std.proofs.Common.{◌≡◌, ◌∙◌, ℕ, zero, suc, ◌+◌, ◌<◌, ◌≤◌, List, [], ◌∷◌, ◌++◌, length, take, drop, set, get_or, Option, Some, None, inl, inr, refl, sym, ap, arith}
+use Rattle.std.proofs.Common.{◌≡◌, ◌∙◌, ℕ, zero, suc, ◌+◌, ◌<◌, ◌≤◌, true, List, [], ◌∷◌, ◌++◌, length, take, drop, set, get_or, Option, Some, None, inl, inr, refl, sym, ap, arith}
 use Rattle.std.specs.List.{slice_get}
 use Rattle.std.proofs.lemmas.List.{append-nil, length-set}
 use Rattle.std.proofs.lemmas.Bool.Decides.{eqb_tells}
 use Rattle.std.proofs.lemmas.Option.{slice_get_within, slice_get-get_or}
 use Rattle.messages.specs.Topology.{node_count}
 use Rattle.actors.specs.Seats.{SeatValue}
-use Rattle.actors.specs.Building.{AreNewSeats}
+use Rattle.links.specs.Links.{may_exchange}
+use Rattle.actors.specs.Building.{ring_to, ring_from, AreNewSeats}
 use Rattle.actors.proofs.Lists.{here, set_at, set_away}
 use Rattle.workload.specs.declared.script.Event.{Event as ScriptEvent}
 use Rattle.workload.specs.declared.script.Script.{Script}
@@ -60,30 +61,37 @@ all_asked events old now place le first =
 -- new seats with what the script asks of them
 pub new_asked : (s : Script) (ring limit : ℕ) (old new : List SeatValue) → AreNewSeats s.topology ring limit (node_count s.topology) old → HaveAsked s.events old new
     → AreLoadedSeats s ring limit new
-new_asked s ring limit old new are have = record { all = have.count ∙ are.all; each = each }
+new_asked s ring limit old new are have = record { all = have.count ∙ are.all; each = each; one_ring = one_ring }
   where
+    -- what a seat had been before it was asked
+    before : (node : ℕ) (seat : SeatValue) → slice_get new node ≡ Some seat → (b : SeatValue) × (slice_get old node ≡ Some b) × (seat ≡ with_asked s.events b)
+    before node seat at =
+        let lt = slice_get_within new node seat at in
+        let count = have.count in
+        let shorter : node < length old = omega (arith, lt, count) in
+        let b = get_or old node seat in
+        let some : slice_get old node ≡ Some b = slice_get-get_or old node seat shorter in
+        let both : Some seat ≡ Some (with_asked s.events b) = sym at ∙ have.each node b some in
+        let same : seat ≡ with_asked s.events b = cc in
+        (b, some, same)
+
+    one_ring : (a b : ℕ) (x y : SeatValue) → slice_get new a ≡ Some x → slice_get new b ≡ Some y → may_exchange s.topology a b ≡ true → ring_to x.outgoing b ≡ ring_from y.incoming a
+    one_ring a b x y at_a at_b may =
+        let (u, was_u, x_is) = before a x at_a in
+        let (v, was_v, y_is) = before b y at_b in
+        ap (λ (z : SeatValue). ring_to z.outgoing b) x_is ∙ are.one_ring a b u v was_u was_v may ∙ ap (λ (z : SeatValue). ring_from z.incoming a) (sym y_is)
+
     each : (node : ℕ) (seat : SeatValue) → slice_get new node ≡ Some seat → IsLoadedSeat s ring limit node seat
-    each node seat at = by (slice_get old node) refl
-      where
-        by : (o : Option SeatValue) → slice_get old node ≡ o → IsLoadedSeat s ring limit node seat
-        by None none =
-            let lt = slice_get_within new node seat at in
-            let count = have.count in
-            let shorter : node < length old = omega (arith, lt, count) in
-            let some : slice_get old node ≡ Some (get_or old node seat) = slice_get-get_or old node seat shorter in
-            let no : None ≡ Some (get_or old node seat) = sym none ∙ some in
-            absurd (cc)
-        by (Some b) some =
-            let is = are.each node b some in
-            let both : Some seat ≡ Some (with_asked s.events b) = sym at ∙ have.each node b some in
-            let same : seat ≡ with_asked s.events b = cc in
-            record {
-              empty = b;
-              is_new = is;
-              loaded =
-                  same ∙ ap (λ l. let r : SeatValue = record b { backlog = l } in r)
-                  (ap (λ (z : SeatValue). z.backlog ++ asked_in z.node s.events) is);
-            }
+    each node seat at =
+        let (b, some, same) = before node seat at in
+        let is = are.each node b some in
+        record {
+          empty = b;
+          is_new = is;
+          loaded =
+              same ∙ ap (λ l. let r : SeatValue = record b { backlog = l } in r)
+              (ap (λ (z : SeatValue). z.backlog ++ asked_in z.node s.events) is);
+        }
 
 -- what is left in a list whose elements were written to through a slice
 pub written_back : {X : Type 0} (new old : List X) (n : ℕ) → length new ≡ length old → n ≡ length old → take n (new ++ drop (length new) old) ≡ new

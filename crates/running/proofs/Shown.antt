@@ -32,7 +32,7 @@ use Rattle.workload.proofs.Shown.{shows}
 use Rattle.running.specs.Asked.{asked_of, HasTaken}
 use Rattle.running.specs.Faults.{HaveTaken, AreOfScript, CanEnd, IsToldAs, IsEndedBy}
 use Rattle.running.specs.Told.{count_before, refusal_by, told_before, left_after, told_by, told_at, told_of}
-use Rattle.running.specs.Running.{IsThreadTranscriptOf}
+use Rattle.running.specs.Running.{IsToldOf}
 
 -- ## One session
 
@@ -169,19 +169,23 @@ module _ (s : Script) (seats : List SeatValue) where
       subst (λ z. HasTaken s.topology (asked_of s node) z) same here.2
 
   pub is_transcript : (entries : List Entry) (top : TopologyValue) → top ≡ s.topology → AreConcluded top seats → All IsResting seats → HaveTaken s seats
-      → AreOfQuietRun top seats → entries ≡ told_of top seats → IsThreadTranscriptOf s entries
+      → AreOfQuietRun top seats → entries ≡ told_of top seats → IsToldOf s (record { top = top; seats = seats }) entries
   is_transcript entries top same are resting took quiet told =
       let here : AreConcluded s.topology seats = subst (λ t. AreConcluded t seats) same are in
       let tells : entries ≡ told_of s.topology seats = told ∙ ap (λ t. told_of t seats) same in
       record {
-        seats = seats;
-        concluded = here;
-        resting = resting;
-        taken = each_took took;
-        quiet = subst (λ t. AreOfQuietRun t seats) same quiet;
-        told = tells;
-        outcomes = outcomes_in_each s.topology entries seats here tells;
-        reads = reads_in_each s.topology entries seats here tells;
+        topology = same;
+        transcript = record {
+          seats = seats;
+          concluded = here;
+          resting = resting;
+          taken = each_took took;
+          quiet = subst (λ t. AreOfQuietRun t seats) same quiet;
+          told = tells;
+          outcomes = outcomes_in_each s.topology entries seats here tells;
+          reads = reads_in_each s.topology entries seats here tells;
+        };
+        seats = refl;
       }
 
   -- seats that conclude a run and received all that was sent, each of whose actors did what the script asks of it

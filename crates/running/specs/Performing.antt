@@ -1,18 +1,28 @@
 -- What the program makes of its input by threads.
-use Rattle.std.specs.Prelude.{◌≡◌, ◌⊎◌, ℕ, List, Some}
+use Rattle.std.specs.Prelude.{◌≡◌, ◌⊎◌, ℕ, Bool, true, false, List, Some}
 use Rattle.logical_time.specs.declared.fault.Fault.{Fault}
 use Rattle.logical_time.specs.declared.fault.Fault.TheVariants.{Memory, Script as NoScript}
+use Rattle.audit.specs.declared.found.Audit.{Audit}
 use Rattle.workload.specs.declared.script.Script.{Script}
+use Rattle.workload.specs.declared.tail.Tail.{Tail}
+use Rattle.workload.specs.declared.tail.Tail.TheVariants.{Nothing, Audited}
 use Rattle.workload.specs.declared.transcript.Entry.{Entry}
+use Rattle.workload.specs.Audited.{told_text}
 use Rattle.workload.specs.Performing.{script_in, SpellsNoScript}
-use Rattle.workload.specs.Text.{text_of}
 use Rattle.running.specs.Faults.{Brings, IsRunRefused}
-use Rattle.running.specs.Running.{IsThreadTranscriptOf}
+use Rattle.running.specs.Running.{IsThreadTranscriptOf, IsThreadAudited}
 
--- the bytes spell a script, and the text is that of a transcript of what threads made of it
-abbrev pub IsThreadTextFor : List ℕ → List ℕ → Type 0
-IsThreadTextFor bytes text =
-    (script : Script) × (entries : List Entry) × (script_in bytes ≡ Some script) × IsThreadTranscriptOf script entries × (text ≡ text_of entries)
+-- what is told of a script, with or without an audit: a transcript of what threads made of it, and what stands after that; no read
+-- is wrong
+abbrev pub IsThreadTold : Bool → Script → List Entry → Tail → Type 0
+IsThreadTold false s entries tail = IsThreadTranscriptOf s entries × (tail ≡ Nothing)
+IsThreadTold true s entries tail = (found : Audit) × IsThreadAudited s entries found × (found.wrong ≡ 0) × (tail ≡ Audited found)
+
+-- the bytes spell a script, and the text is that of what is told of it
+abbrev pub IsThreadTextFor : Bool → List ℕ → List ℕ → Type 0
+IsThreadTextFor audit bytes text =
+    (script : Script) × (entries : List Entry) × (tail : Tail) × (script_in bytes ≡ Some script) × IsThreadTold audit script entries tail
+    × (text ≡ told_text entries tail)
 
 -- why there is no text for the bytes: they spell no script, for want of memory, or there is no transcript of their script
 abbrev pub IsThreadRefused : Brings → List ℕ → Fault → Type 0

@@ -5,11 +5,13 @@ use Rattle.messages.specs.Topology.{node_count}
 use Rattle.actors.specs.Seats.{SeatValue}
 use Rattle.actors.specs.Resting.{IsResting}
 use Rattle.threaded.specs.OneRun.{seat_of}
-use Rattle.threaded.specs.Concluded.{InEachRun, AreConcluded, by_session}
+use Rattle.threaded.specs.Concluded.{ConcludedValue, InEachRun, AreConcluded, by_session}
 use Rattle.threaded.specs.Quiet.{AreOfQuietRun}
 use Rattle.workload.specs.declared.script.Script.{Script}
 use Rattle.workload.specs.declared.transcript.Entry.{Entry}
 use Rattle.workload.specs.declared.transcript.Entry.TheVariants as entry
+use Rattle.audit.specs.declared.found.Audit.{Audit}
+use Rattle.workload.specs.Audited.{IsAuditOf}
 use Rattle.workload.specs.Simulation.{entry_of, is_outcome, ShowsOneTable}
 use Rattle.running.specs.Asked.{asked_of, HasTaken}
 use Rattle.running.specs.Told.{told_of}
@@ -32,3 +34,15 @@ pub record IsThreadTranscriptOf (s : Script) (entries : List Entry) : Type 0 whe
   -- and each answer of a read shows the one table of its home there
   pub reads : (node number time : ℕ) (answer : List AnsweredRow) → Contains entries (entry.Read node number time answer)
       → InEachRun s.topology seats (λ w. ShowsOneTable s.topology w node number time answer)
+
+-- The entries are such a transcript, told of the seats that were concluded.
+pub record IsToldOf (s : Script) (v : ConcludedValue) (entries : List Entry) : Type 0 where
+  pub topology : v.top ≡ s.topology
+  pub transcript : IsThreadTranscriptOf s entries
+  pub seats : transcript.seats ≡ v.seats
+
+-- What is told of a script with an audit: such a transcript, and the audit of what ended, in each run with the journals of its
+-- seats.
+pub record IsThreadAudited (s : Script) (entries : List Entry) (found : Audit) : Type 0 where
+  pub transcript : IsThreadTranscriptOf s entries
+  pub audit : InEachRun s.topology transcript.seats (λ w. IsAuditOf s.topology w (by_session s.topology w.transcript) found)

@@ -6,10 +6,11 @@
 #![tactic(auto)]
 
 mod asking;
+mod auditing;
 mod course;
 mod crew;
+mod finishing;
 mod performing;
-mod running_seats;
 mod scripts;
 mod seats;
 mod telling;
@@ -17,5 +18,5 @@ mod workers;
 
 pub use crew::Crew;
 pub use performing::{perform_by_threads, transcript_by_threads};
-pub use scripts::run;
+pub use scripts::{run, run_audited};
 pub use workers::Workers;

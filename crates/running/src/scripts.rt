@@ -1,11 +1,14 @@
 //! Scripts are run by threads.
-ghost use Rattle.std.specs.Prelude.{◌≡◌, ◌↔◌, ◌⊎◌, true, All, IfOk, IfErr};
+ghost use Rattle.std.specs.Prelude.{◌≡◌, ◌↔◌, ◌⊎◌, true, All, Some, IfOk, IfErr};
 ghost use Rattle.actors.specs.Resting.{IsResting};
-ghost use Rattle.running.specs.Running.{IsThreadTranscriptOf};
-ghost use Rattle.running.specs.Faults.{IsTold, IsToldAs, AreOfScript, IsEndedBy, IsRunRefused};
+ghost use Rattle.workload.specs.Audited.{status_of};
+ghost use Rattle.running.specs.Performing.{IsThreadTold};
+ghost use Rattle.running.specs.Running.{IsThreadTranscriptOf, IsToldOf, IsThreadAudited};
+ghost use Rattle.running.specs.Faults.{first_fault, IsTold, IsToldAs, AreOfScript, IsEndedBy, IsRunRefused};
 
+use crate::auditing::audit_of;
 use crate::crew::Crew;
-use crate::running_seats::finish;
+use crate::finishing::finish;
 use crate::seats::{close_all, seats_of};
 use crate::telling::tell;
 use actors::{Seat, Shift};
@@ -14,7 +17,7 @@ use std::alloc::Global;
 use std::sync::Wait;
 use std::thread::Threads;
 use threaded::{Actor, Concluded, conclude};
-use workload::{Script, Transcript};
+use workload::{Audit, Script, Tail, Transcript};
 
 /// What seats that rest made of a script, and what they conclude. That they rest is the caller's condition. Refused with
 /// `StrangerEnd` exactly where they aren't of a run of the script in which all that was sent was received, and with `Memory`; then
@@ -25,7 +28,7 @@ fn concluded_from(
     seats: Vec<Seat<Actor>>,
 ) -> Result<(Transcript, Concluded), Fault>
     requires { All IsResting seats.items }
-    ensures told { IfOk result (λ told. IsThreadTranscriptOf script.now told.0) }
+    ensures told { IfOk result (λ told. IsToldOf script.now told.1 told.0) }
     ensures of { IfOk result (λ told. AreOfScript script.now seats.items) }
     ensures refused { IfErr result (λ e. (e ≡ Fault.Memory) ⊎ ((e ≡ Fault.StrangerEnd) × (AreOfScript script.now seats.items → ⊥))) }
 {
@@ -70,8 +73,9 @@ fn made_of(
     shifts: &[Shift],
     mut seats: Vec<Seat<Actor>>,
 ) -> Result<(Transcript, Concluded), Fault>
-    ensures told { IfOk result (λ told. IsThreadTranscriptOf script.now told.0) }
+    ensures told { IfOk result (λ told. IsToldOf script.now told.1 told.0) }
     ensures refused { IfErr result (IsEndedBy script.now seats.items) }
+    ensures heard { first_fault shifts.now ≡ Some Fault.Memory → IfOk result (λ told. ⊥) × IfErr result (λ e. e ≡ Fault.Memory) }
 {
     match finish(shifts, seats.as_mut_slice()) {
         Ok(()) => concluded_from(alloc, script, seats),
@@ -89,7 +93,7 @@ fn run_by<R: Threads + Wait + Sync, C: Crew>(
     script: &Script,
     crew: &C,
 ) -> Result<(Transcript, Concluded), Fault>
-    ensures told { IfOk result (λ told. IsThreadTranscriptOf script.now told.0) }
+    ensures told { IfOk result (λ told. IsToldOf script.now told.1 told.0) }
     ensures refused { IfErr result (IsRunRefused C.brings script.now) }
 {
     let seats = seats_of(alloc, script)?;
@@ -105,6 +109,7 @@ fn run_by<R: Threads + Wait + Sync, C: Crew>(
 /// one refuses with another fault, or where what came back isn't of a run of the script in which all that was sent was received.
 /// Costs what the turns cost, a comparison of each envelope, for each actor two walks through the script and two through its
 /// journal, and in the order of n³ looks for n actors.
+#[tactic(auto, using(crate::proofs::Audits::is_told))]
 pub fn run<R: Threads + Wait + Sync, C: Crew>(
     rt: &R,
     alloc: Global,
@@ -119,8 +124,29 @@ pub fn run<R: Threads + Wait + Sync, C: Crew>(
     Ok(transcript)
 }
 
-/// The same for a program that ends with it: the memory of what the seats recorded is given back with that of the process.
-pub(crate) fn run_to_the_end<R: Threads + Wait + Sync, C: Crew>(
+/// Runs a script as `run` does, and audits what it came to: how many of its reads were answered, and how many of these wrong: none
+/// is. Refused as `run` is. Costs what `run` costs, the history of each data centre, a copy of each operation that ended, and
+/// `audit` over them.
+pub fn run_audited<R: Threads + Wait + Sync, C: Crew>(
+    rt: &R,
+    alloc: Global,
+    script: &Script,
+    crew: &C,
+) -> Result<(Transcript, Audit), Fault>
+    ensures told { IfOk result (λ r. IsThreadAudited script.now r.0 r.1) }
+    // each read shows the one table of its home
+    ensures right { IfOk result (λ r. r.1.wrong ≡ 0) }
+    ensures refused { IfErr result (IsRunRefused C.brings script.now) }
+{
+    let (transcript, concluded) = run_by(rt, alloc, script, crew)?;
+    let found = audit_of(rt, alloc, &concluded);
+    concluded.close();
+    Ok((transcript, found?))
+}
+
+// The same as `run` for a program that ends with it: the memory of what the seats recorded is given back with that of the process.
+#[tactic(auto, using(crate::proofs::Audits::is_told))]
+fn run_to_the_end<R: Threads + Wait + Sync, C: Crew>(
     rt: &R,
     alloc: Global,
     script: &Script,
@@ -132,4 +158,25 @@ pub(crate) fn run_to_the_end<R: Threads + Wait + Sync, C: Crew>(
     let (transcript, concluded) = run_by(rt, alloc, script, crew)?;
     concluded.leave();
     Ok(transcript)
+}
+
+/// What threads make of a script, for a program that ends with it, and what an audit of that finds, where it is asked for.
+#[tactic(auto, using(crate::proofs::Audits::is_told_audited))]
+pub(crate) fn told_by<R: Threads + Wait + Sync, C: Crew>(
+    rt: &R,
+    alloc: Global,
+    script: &Script,
+    crew: &C,
+    audit: bool,
+) -> Result<(Transcript, Tail), Fault>
+    ensures told { IfOk result (λ r. IsThreadTold audit script.now r.0 r.1) }
+    ensures right { IfOk result (λ r. status_of r.1 ≡ 0) }
+    ensures refused { IfErr result (IsRunRefused C.brings script.now) }
+{
+    if audit {
+        let (transcript, found) = run_audited(rt, alloc, script, crew)?;
+        Ok((transcript, Tail::Audited(found)))
+    } else {
+        Ok((run_to_the_end(rt, alloc, script, crew)?, Tail::Nothing))
+    }
 }

@@ -5,7 +5,7 @@ ghost use Rattle.threaded.specs.OneRun.{seat_of};
 ghost use Rattle.running.specs.Faults.{TookIn, HaveTaken, AreOfScript};
 ghost use Rattle.workload.specs.Simulation.{entry_by};
 ghost use Rattle.running.specs.Told.{refusal_by, told_before, left_after, told_by, told_at, told_of};
-ghost use Rattle.running.specs.Running.{IsThreadTranscriptOf};
+ghost use Rattle.running.specs.Running.{IsToldOf};
 
 use crate::course::has_taken;
 use actors::Seat;
@@ -153,7 +153,7 @@ pub(crate) fn tell(
     concluded: &Concluded,
 ) -> Result<Transcript, Fault>
     requires { All IsResting concluded.now.seats }
-    ensures told { IfOk result (IsThreadTranscriptOf script.now) }
+    ensures told { IfOk result (IsToldOf script.now concluded.now) }
     ensures of { IfOk result (λ transcript. AreOfScript script.now concluded.now.seats) }
     ensures refused { IfErr result (λ e. (e ≡ Fault.Memory) ⊎ ((e ≡ Fault.StrangerEnd) × (AreOfScript script.now concluded.now.seats → ⊥))) }
 {

@@ -1,3 +1,4 @@
+pub mod Audits
 pub mod Lists
 pub mod FewDigits
 pub mod Converted

@@ -40,7 +40,7 @@ of_read c node number time answer h = by c.outcome refl
     by outcome.Collected q = (let e : entry.Read node number time answer ≡ entry.Collected c.node c.number = h ∙ ap (entry_by c.node c.number) q in absurd cc)
 
 -- an operation that ended as a read is one
-read_of : (o : Op) (time : ℕ) (answer : List AnsweredRow) → Fits o (outcome.Read time answer) → (read : Read) × (o ≡ op.Read read)
+pub read_of : (o : Op) (time : ℕ) (answer : List AnsweredRow) → Fits o (outcome.Read time answer) → (read : Read) × (o ≡ op.Read read)
 read_of (op.Batch batch) time answer h = absurd h
 read_of (op.Read read) time answer h = (read, refl)
 

@@ -4,6 +4,7 @@
 #![tactic(auto)]
 
 mod along;
+mod auditing;
 mod draining;
 mod explaining;
 mod heading;
@@ -14,14 +15,21 @@ mod script;
 mod shape;
 mod simulating;
 mod streaming;
+mod tail;
 mod text;
 mod transcript;
 mod wrong;
 
+pub use audit::{Audit, audit};
+pub use auditing::{sim_audited, simulate_audited, simulate_recorded};
 pub use draining::drain;
-pub use performing::{InWorld, Task, explain, perform, sim};
+pub use performing::{explain, perform, sim};
 pub use reading::read_script;
 pub use script::{Event, Events, Script};
+pub use shape::{
+    Shaped, has_items, has_members, item, list, list_of, member, member_as, part_at, whole_below,
+};
 pub use simulating::simulate;
-pub use text::{transcript_text, write_transcript};
+pub use tail::{Tail, status_of};
+pub use text::{put_rows, transcript_text, write_transcript};
 pub use transcript::{Entry, Transcript};

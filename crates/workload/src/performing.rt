@@ -1,14 +1,16 @@
 //! The program, over any reader and writers.
-ghost use Rattle.std.specs.Prelude.{◌≡◌, ◌⊎◌, [], ℕ, List, IsSome, IfOk, IfErr};
-ghost use Rattle.logical_time.specs.declared.fault.Fault.{Fault as Refusal};
+ghost use Rattle.std.specs.Prelude.{◌≡◌, ◌⊎◌, [], IsSome, IfOk, IfErr};
+ghost use Rattle.workload.specs.Audited.{told_text, status_of as status_by, IsToldFor};
 ghost use Rattle.workload.specs.Performing.{IsTextFor, IsRefused, Prints, Ends, TellsUnread};
 ghost use Rattle.workload.specs.Text.{text_of};
 
 use crate::along::run_along;
+use crate::auditing::sim_audited;
 use crate::explaining;
 use crate::reading::read_script;
 use crate::script::{Event, Script};
 use crate::simulating::{happen, simulate_to_the_end};
+use crate::tail::{Tail, status_of};
 use crate::text::write_transcript;
 use crate::transcript::Transcript;
 use logical_time::Fault;
@@ -17,43 +19,9 @@ use serde_json::Value as Json;
 use std::alloc::Global;
 use std::fmt::Display;
 use std::io::Read;
+use std::thread::Threads;
 use std::{mem, str};
 use world::World;
-
-/// What the program is asked to make of its input.
-pub trait Task {
-    /// When a text is one for these bytes.
-    ghost is_text: { List ℕ → List ℕ → Type 0 };
-
-    /// When bytes may be refused with a fault.
-    ghost is_refused: { List ℕ → Refusal → Type 0 };
-
-    /// A transcript whose text is one for the bytes. May wait, where the task holds a handle for that.
-    fn transcript(&self, alloc: Global, input: &[u8]) -> Result<Transcript, Fault>
-        ensures text { IfOk result (λ transcript. is_text input.now (text_of transcript)) }
-        ensures refused { IfErr result (is_refused input.now) };
-
-    /// What people need to know of such a refusal, if more can be said.
-    fn explain(&self, alloc: Global, input: &[u8], fault: Fault) -> Option<String>;
-}
-
-/// Runs a script in a world, and tells its transcript.
-#[derive(Clone, Copy)]
-pub struct InWorld;
-
-impl Task for InWorld {
-    ghost is_text = { IsTextFor };
-
-    ghost is_refused = { IsRefused };
-
-    fn transcript(&self, alloc: Global, input: &[u8]) -> Result<Transcript, Fault> {
-        sim(alloc, input)
-    }
-
-    fn explain(&self, alloc: Global, input: &[u8], fault: Fault) -> Option<String> {
-        explain(alloc, input, fault)
-    }
-}
 
 /// The transcript of the script that the bytes spell, for a program that ends with it: the memory of the script and of what
 /// its world recorded is given back with that of the process. Refused with `Script` where they spell none, or where a message
@@ -72,6 +40,25 @@ pub fn sim(alloc: Global, input: &[u8]) -> Result<Transcript, Fault>
     let transcript = simulate_to_the_end(alloc, &script)?;
     mem::forget(script);
     Ok(transcript)
+}
+
+// What the program makes of its input: a transcript, and what stands after it where an audit is asked for.
+fn told_of(
+    rt: &(impl Threads + Sync),
+    alloc: Global,
+    audit: bool,
+    input: &[u8],
+) -> Result<(Transcript, Tail), Fault>
+    ensures text { IfOk result (λ r. IsToldFor audit input.now (told_text r.0 r.1)) }
+    ensures right { IfOk result (λ r. status_by r.1 ≡ 0) }
+    ensures refused { IfErr result (IsRefused input.now) }
+{
+    if audit {
+        let (transcript, quiet, found) = sim_audited(rt, alloc, input)?;
+        Ok((transcript, Tail::AuditedRun { quiet, found }))
+    } else {
+        Ok((sim(alloc, input)?, Tail::Nothing))
+    }
 }
 
 // Why an event ends the script.
@@ -127,23 +114,25 @@ fn line<D: Display + Drop>(alloc: Global, name: &str, said: Option<D>) -> Option
     Line::new(format!(in alloc; "{name}: {said}").ok()?)
 }
 
-/// Does a task for a program that ends with it, and may wait as that does: reads all that the input has left, writes the text
-/// of the transcript, piece by piece and without memory, and passes it on; the transcript's own is given back with that of the
-/// process. Gives the status of the program: 0, where all is written and the writer holds nothing back, or 1 after a fault was
-/// told: `ReadFailed` where the input failed, what the task refuses, `Memory`, or `WriteFailed` where the output failed. Only
-/// after the last may something be written, a beginning of the text.
-pub fn perform<T: Task, R: Read, W: Buffered, E: Buffered>(
+/// Runs a script in a world, and audits the run where that is asked for, for a program that ends with it: reads all that the input
+/// has left, writes the text of the transcript, and then of the audit, piece by piece and without memory, and passes it on; the
+/// transcript's own is given back with that of the process. Gives the status of the program: that of the audit, where all is written
+/// and the writer holds nothing back, which is 0, since no read of a run is answered wrong; or 1 after a fault was told:
+/// `ReadFailed` where the input failed, as `sim` is refused, `Memory`, or `WriteFailed` where the output failed. Only after the last
+/// may something be written, a beginning of the text.
+pub fn perform<T: Threads + Sync, R: Read, W: Buffered, E: Buffered>(
+    rt: &T,
     alloc: Global,
-    task: &T,
+    audit: bool,
     input: &mut Input<R>,
     output: &mut Output<W>,
     errors: &mut Output<E>,
 ) -> u8
     ensures status { (result ≡ 0) ⊎ (result ≡ 1) }
-    ensures printed { result ≡ 0 → Prints T.is_text T.is_refused R.remaining W.contents E.contents input.old output.old output.new errors.old errors.new }
+    ensures printed { result ≡ 0 → Prints (IsToldFor audit) IsRefused R.remaining W.contents E.contents input.old output.old output.new errors.old errors.new }
     ensures passed_on { result ≡ 0 → W.held output.new.writer ≡ [] }
     ensures unread { IsSome input.old.failure → TellsUnread E.contents result errors.old errors.new }
-    ensures ended { result ≡ 1 → Ends T.is_text T.is_refused R.remaining W.contents E.contents input.old input.new output.old output.new errors.old errors.new }
+    ensures ended { result ≡ 1 → Ends (IsToldFor audit) IsRefused R.remaining W.contents E.contents input.old input.new output.old output.new errors.old errors.new }
 {
     let bytes = match input.read_all(alloc) {
         Ok(bytes) => bytes,
@@ -152,21 +141,17 @@ pub fn perform<T: Task, R: Read, W: Buffered, E: Buffered>(
             return tell(errors, fault, more);
         }
     };
-    let transcript = match task.transcript(alloc, &bytes) {
-        Ok(transcript) => transcript,
+    let (transcript, tail) = match told_of(rt, alloc, audit, &bytes) {
+        Ok(told) => told,
         Err(fault) => {
-            let more = line(
-                alloc,
-                input.name.as_str(),
-                task.explain(alloc, &bytes, fault),
-            );
+            let more = line(alloc, input.name.as_str(), explain(alloc, &bytes, fault));
             return tell(errors, fault, more);
         }
     };
-    let written = write_transcript(output, &transcript);
+    let written = write_transcript(output, &transcript, tail);
     mem::forget(transcript);
     match written {
-        Ok(()) => 0,
+        Ok(()) => status_of(tail),
         Err(fault) => tell(errors, fault, line(alloc, "the output", output.failure)),
     }
 }

@@ -134,9 +134,14 @@ pub(crate) fn play_some(
     Ok(())
 }
 
-// The events happen in order, until one ends the script, and are noted.
-fn play_all(alloc: Global, world: &mut World, events: &[Event]) -> Result<Vec<Mark>, Fault>
+/// The events happen in order, until one ends the script, and are noted.
+pub(crate) fn play_all(
+    alloc: Global,
+    world: &mut World,
+    events: &[Event],
+) -> Result<Vec<Mark>, Fault>
     requires opening { world.old.events ≡ [] }
+    ensures topology { OnOk result (world.new.top ≡ world.old.top) }
     ensures ok { IfOk result (λ marks. HasTold world.old.top events.now (run_of world.new) (merged marks.items (run_of world.new).transcript)) }
     ensures ends { IfErr result (λ e. (e ≡ Fault.Memory) ⊎ (simulated_in world.old.top events.now ≡ Err e)) }
 {
@@ -145,8 +150,8 @@ fn play_all(alloc: Global, world: &mut World, events: &[Event]) -> Result<Vec<Ma
     Ok(marks)
 }
 
-// The transcript of what was played, with copies of the outcomes, unless something ended the script.
-fn copied_transcript(
+/// The transcript of what was played, with copies of the outcomes, unless something ended the script.
+pub(crate) fn copied_transcript(
     alloc: Global,
     world: &World,
     played: Result<Vec<Mark>, Fault>,

@@ -6,8 +6,10 @@ ghost use Rattle.hex.specs.Hex.{encode_lower};
 ghost use Rattle.logical_time.specs.declared.fault.Fault.TheVariants as fault;
 ghost use Rattle.logical_time.specs.Fault.{number_of};
 ghost use Rattle.program.specs.Outputs.{Adds, AppendsPart};
+ghost use Rattle.workload.specs.Audited.{told_text};
 ghost use Rattle.workload.specs.Text.{is_short_column, column_text, line_text, row_text, op_text, commit_text, answer_text, refusal_text, entry_text, text_of};
 
+use crate::tail::{Tail, put_tail};
 use crate::transcript::{Entry, Transcript};
 use itoa::Buffer;
 use logical_time::{Fault, Node, Stamp, Time};
@@ -277,8 +279,10 @@ fn put_row<W: Write>(output: &mut Output<W>, row: &AnsweredRow) -> Result<(), Fa
     put_line(output, row.key.as_slice(), row.columns.as_slice())
 }
 
-// Each row, in order.
-fn put_rows<W: Write>(output: &mut Output<W>, rows: &[AnsweredRow]) -> Result<(), Fault>
+/// Writes the lines of rows, in order, as a transcript has them, to an output that hasn't failed, and passes nothing on. Refused
+/// with `WriteFailed` exactly where the output has failed; then a beginning of the lines is written. Linear in them. Takes no
+/// memory.
+pub fn put_rows<W: Write>(output: &mut Output<W>, rows: &[AnsweredRow]) -> Result<(), Fault>
     requires { IsNone output.old.failure }
     ensures { Adds W.contents output.old output.new result (flat_map row_text rows.now) }
 {
@@ -288,9 +292,9 @@ fn put_rows<W: Write>(output: &mut Output<W>, rows: &[AnsweredRow]) -> Result<()
     Ok(())
 }
 
-// Lays a few words, and then a number, at the beginning of a text: how many bytes they have.
+/// Lays a few words, and then a number, at the beginning of a text: how many bytes they have.
 #[inline(always)]
-fn lay_number(text: &mut [u8], words: &[u8], number: u64) -> usize
+pub(crate) fn lay_number(text: &mut [u8], words: &[u8], number: u64) -> usize
     requires room { 56 ≤ length text.old }
     requires words { length words.now ≤ 16 }
     ensures laid { take result text.new ≡ words.now ++ decimal number }
@@ -458,26 +462,36 @@ fn put_entries<W: Write>(output: &mut Output<W>, entries: &[Entry]) -> Result<()
     Ok(())
 }
 
-/// Writes the text of a transcript and passes it on, so that the writer holds nothing back: a line for each entry and, after
-/// that of a read, one for each asked row. Numbers are decimal, bytes lower-case hexadecimal. Refused with `WriteFailed` exactly
-/// where the output has failed; then a beginning of the text is written, and nothing where it had failed before. Linear in the
-/// text. Takes no memory: the text is written in pieces of up to 588 bytes, so a writer that calls the system for each should
-/// have a buffer before it.
+// Each entry, in order, and then what stands after them.
+fn put_told<W: Write>(output: &mut Output<W>, entries: &[Entry], tail: Tail) -> Result<(), Fault>
+    requires { IsNone output.old.failure }
+    ensures { Adds W.contents output.old output.new result (told_text entries.now tail) }
+{
+    put_entries(output, entries)?;
+    put_tail(output, tail)
+}
+
+/// Writes the text of a transcript, and what stands after it, and passes it on, so that the writer holds nothing back: a line for
+/// each entry and, after that of a read, one for each asked row; then those of the tail. Numbers are decimal, bytes lower-case
+/// hexadecimal. Refused with `WriteFailed` exactly where the output has failed; then a beginning of the text is written, and nothing
+/// where it had failed before. Linear in the text. Takes no memory: the text is written in pieces of up to 588 bytes, so a writer
+/// that calls the system for each should have a buffer before it.
 pub fn write_transcript<W: Buffered>(
     output: &mut Output<W>,
     transcript: &Transcript,
+    tail: Tail,
 ) -> Result<(), Fault>
-    ensures whole { OnOk result (Appends (W.contents output.old.writer) (W.contents output.new.writer) (text_of transcript.now)) }
+    ensures whole { OnOk result (Appends (W.contents output.old.writer) (W.contents output.new.writer) (told_text transcript.now tail)) }
     ensures passed_on { OnOk result (W.held output.new.writer ≡ []) }
     ensures sound { OnOk result (IsNone output.new.failure) }
-    ensures part { OnErr result (AppendsPart (W.contents output.old.writer) (W.contents output.new.writer) (text_of transcript.now)) }
+    ensures part { OnErr result (AppendsPart (W.contents output.old.writer) (W.contents output.new.writer) (told_text transcript.now tail)) }
     ensures failed { IfErr result (λ e. (e ≡ fault.WriteFailed) × IsSome output.new.failure) }
     ensures spent { IsSome output.old.failure → (output.new ≡ output.old) × (result ≡ Err fault.WriteFailed) }
 {
     if output.failure.is_some() {
         return Err(Fault::WriteFailed);
     }
-    put_entries(output, transcript.as_slice())?;
+    put_told(output, transcript.as_slice(), tail)?;
     output.flush()
 }
 
@@ -487,7 +501,7 @@ pub fn transcript_text(alloc: Global, transcript: &Transcript) -> Result<Vec<u8>
     ensures memory { IfErr result (λ e. e ≡ fault.Memory) }
 {
     let mut output = Output::new(Vec::new(alloc));
-    let written = write_transcript(&mut output, transcript);
+    let written = write_transcript(&mut output, transcript, Tail::Nothing);
     let Output { writer, failure: _ } = output;
     match written {
         Ok(()) => Ok(writer),

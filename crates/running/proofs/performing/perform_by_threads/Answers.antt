@@ -1,5 +1,5 @@
-use Rattle.std.proofs.Common.{rules}
-use Rattle.workload.specs.Text.{text_of}
+use Rattle.std.proofs.Common.{refl}
+use Rattle.workload.specs.Audited.{told_text}
 use Rattle.workload.proofs.Refused.{cut_ends}
 use Rattle.running.specs.Performing.{IsThreadTextFor, IsThreadRefused}
 use Rattle.running.proofs.performing.perform_by_threads.Goals as goal
@@ -9,7 +9,19 @@ returns-clause-ended g c = λ one. record {
   fault = c.in-Err-written.fault;
   more = c.line.result;
   cause =
-      cut_ends IsThreadTextFor (IsThreadRefused g.C.Crew.brings) g.R.Read.remaining g.W.Write.contents g.E.Write.contents c.args.input.now c.read_all.new.self c.args.output.now c.write_transcript-written.new.output
-      c.in-Err-written.fault c.in-Ok.bytes.items (text_of c.in-Ok-transcript_by_threads.transcript) c.in-Ok.ensures.whole (search rules) c.in-Err-written.ensures.failed (search rules);
+      let told = c.in-Ok-transcript_by_threads.told in
+      cut_ends (IsThreadTextFor c.args.audit) (IsThreadRefused g.C.Crew.brings) g.R.Read.remaining g.W.Write.contents g.E.Write.contents c.args.input.now c.read_all.new.self c.args.output.now
+      c.write_transcript-written.new.output c.in-Err-written.fault c.in-Ok.bytes.items (told_text told.0 told.1) c.in-Ok.ensures.whole (rw c.deref.ensures.value at c.in-Ok-transcript_by_threads.ensures.text)
+      c.in-Err-written.ensures.failed c.in-Err-written.ensures.part;
   tells = c.tell-in-Err-written.ensures.told;
+}
+
+pub returns-in-Ok-written-clause-printed : goal.returns-in-Ok-written-clause-printed
+returns-in-Ok-written-clause-printed g c = λ none. record {
+  bytes = c.in-Ok.bytes.items;
+  text = (let told = c.in-Ok-transcript_by_threads.told in told_text told.0 told.1);
+  are_read = c.in-Ok.ensures.whole;
+  text_for = rw c.deref.ensures.value at c.in-Ok-transcript_by_threads.ensures.text;
+  is_written = c.in-Ok-written.ensures.whole;
+  nothing_told = refl;
 }

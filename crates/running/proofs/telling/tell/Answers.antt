@@ -18,8 +18,10 @@ pub returns-clause-told : goal.returns-clause-told
 returns-clause-told c =
     let v = c.args.concluded.now in
     let of = c.if-not-are_of.ensures.0 refl in
+    let is =
     is_transcript c.args.script.now v.seats c.tell_sessions.new.transcript v.top of.0 c.seats-concluded.ensures.run c.requires of.1 (c.in_ok-quiet.ensures.quiet c.if-not-quiet.false)
-    (c.in_ok-tell_sessions.ensures.told ∙ ap (λ l. l ++ told_of v.top v.seats) c.new-transcript.ensures)
+    (c.in_ok-tell_sessions.ensures.told ∙ ap (λ l. l ++ told_of v.top v.seats) c.new-transcript.ensures) in
+    record { topology = is.topology; transcript = is.transcript; seats = is.seats }
 
 pub returns-clause-of : goal.returns-clause-of
 returns-clause-of c =

@@ -1,5 +1,5 @@
-use Rattle.std.proofs.Common.{rules}
-use Rattle.workload.specs.Text.{text_of}
+use Rattle.workload.specs.Audited.{told_text, IsToldFor}
+use Rattle.workload.specs.Performing.{IsRefused}
 use Rattle.workload.proofs.Refused.{cut_ends}
 use Rattle.workload.proofs.performing.perform.Goals as goal
 
@@ -8,7 +8,8 @@ returns-clause-ended g c = λ one. record {
   fault = c.in-Err-written.fault;
   more = c.line.result;
   cause =
-      cut_ends g.T.Task.is_text g.T.Task.is_refused g.R.Read.remaining g.W.Write.contents g.E.Write.contents c.args.input.now c.read_all.new.self c.args.output.now c.write_transcript-written.new.output c.in-Err-written.fault
-      c.in-Ok.bytes.items (text_of c.in-Ok-transcript.transcript) c.in-Ok.ensures.whole (search rules) c.in-Err-written.ensures.failed (search rules);
+      let told = c.in-Ok-told_of.told in
+      cut_ends (IsToldFor c.args.audit) IsRefused g.R.Read.remaining g.W.Write.contents g.E.Write.contents c.args.input.now c.read_all.new.self c.args.output.now c.write_transcript-written.new.output c.in-Err-written.fault
+      c.in-Ok.bytes.items (told_text told.0 told.1) c.in-Ok.ensures.whole (rw c.deref.ensures.value at c.in-Ok-told_of.ensures.text) c.in-Err-written.ensures.failed c.in-Err-written.ensures.part;
   tells = c.tell-in-Err-written.ensures.told;
 }

@@ -2,7 +2,7 @@ use Rattle.std.proofs.Common.{◌≡◌, subst, rules}
 use Rattle.actors.specs.Refusals.{CanRefuse}
 use Rattle.actors.proofs.Rounds.{turn_later}
 use Rattle.threaded.specs.Machines.{Refuses}
-use Rattle.running.proofs.running_seats.does_refuse.Goals as goal
+use Rattle.running.proofs.finishing.does_refuse.Goals as goal
 
 pub returns-in-Ok-clause-later : goal.returns-in-Ok-clause-later
 returns-in-Ok-clause-later c = turn_later Refuses c.in-Ok.field-0 c.args.seat.now c.turn.new.self c.in-Ok.ensures.ok

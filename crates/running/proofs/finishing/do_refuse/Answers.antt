@@ -3,7 +3,7 @@ use Rattle.actors.specs.Seats.{SeatValue}
 use Rattle.actors.specs.Draining.{IsLater}
 use Rattle.actors.proofs.Rounds.{seat_later, refused_at}
 use Rattle.threaded.specs.Machines.{Refuses}
-use Rattle.running.proofs.running_seats.do_refuse.Goals as goal
+use Rattle.running.proofs.finishing.do_refuse.Goals as goal
 
 pub returns-then-does_refuse-clause-later : goal.returns-then-does_refuse-clause-later
 returns-then-does_refuse-clause-later c =

@@ -1,5 +1,5 @@
 //! What is left after workers is done.
-ghost use Rattle.std.specs.Prelude.{◌≡◌, true, All, OnOk, IfErr};
+ghost use Rattle.std.specs.Prelude.{◌≡◌, true, All, Some, OnOk, IfErr};
 ghost use Rattle.logical_time.specs.Fault.{IsRefusedFor};
 ghost use Rattle.actors.specs.Resting.{IsResting};
 ghost use Rattle.actors.specs.Draining.{IsLater, AreLater, OneCanRefuse};
@@ -63,6 +63,8 @@ fn do_refuse(seats: &mut [Seat<Actor>], fault: Fault) -> bool
 fn confirm(shifts: &[Shift], seats: &mut [Seat<Actor>]) -> Result<(), Fault>
     ensures later { AreLater seats.old seats.new }
     ensures refused { IfErr result (λ e. CanEnd e seats.new) }
+    // a worker's want of memory is told, whatever the seats do now
+    ensures heard { first_fault shifts.now ≡ Some Fault.Memory → OnOk result ⊥ × IfErr result (λ e. e ≡ Fault.Memory) }
 {
     match check(shifts) {
         Ok(()) => Ok(()),
@@ -84,6 +86,7 @@ pub(crate) fn finish(shifts: &[Shift], seats: &mut [Seat<Actor>]) -> Result<(), 
     ensures later { AreLater seats.old seats.new }
     ensures resting { OnOk result (All IsResting seats.new) }
     ensures refused { IfErr result (λ e. CanEnd e seats.new) }
+    ensures heard { first_fault shifts.now ≡ Some Fault.Memory → OnOk result ⊥ × IfErr result (λ e. e ≡ Fault.Memory) }
 {
     confirm(shifts, seats)?;
     drain(seats)

@@ -1,6 +1,6 @@
 use Rattle.std.proofs.Common.{◌≡◌, drop}
 use Rattle.running.specs.Faults.{first_fault}
-use Rattle.running.proofs.running_seats.check.Given as goal
+use Rattle.running.proofs.finishing.check.Given as goal
 
 -- none of those before ended with a fault
 abbrev pub invariant-loop-place : goal.invariant-loop-place

@@ -1,5 +1,5 @@
 use Rattle.actors.specs.Draining.{AreLater}
-use Rattle.running.proofs.running_seats.do_refuse.Given as goal
+use Rattle.running.proofs.finishing.do_refuse.Given as goal
 
 abbrev pub invariant-loop-place : goal.invariant-loop-place
 invariant-loop-place l = AreLater l.fn.seats l.seats
