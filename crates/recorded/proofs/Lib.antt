@@ -1,0 +1,4 @@
+pub mod Reports
+pub mod Spelled
+pub mod Recordings
+pub mod Listed
