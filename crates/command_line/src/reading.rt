@@ -13,17 +13,40 @@ use std::io;
 /// What is told of a command line that is no text.
 const NO_TEXT: &str = "error: a word of the command line isn't UTF-8\n";
 
+/// What is said of a script's file.
+const SCRIPT: &str = "The script, a JSON object as docs/formats.md says";
+
+/// What is said of the file of a recorded history.
+const RECORDED: &str = "A recorded history, a JSON object as docs/formats.md says";
+
 /// What a command line asks for.
 #[derive(Drop)]
 pub enum Asked {
     /// The transcript of the script in the file of this name.
-    Sim(String),
+    Sim {
+        /// The name.
+        name: String,
+        /// Whether the reads are audited.
+        audit: bool,
+    },
+    /// The recorded history of the run of the script in the file of this name.
+    History {
+        /// The name.
+        name: String,
+    },
     /// The transcript of what threads make of the script in the file of this name.
     Run {
         /// The name.
         name: String,
         /// How many threads there are.
         workers: u16,
+        /// Whether the reads are audited.
+        audit: bool,
+    },
+    /// The audit of the histories and reads that the file of this name records.
+    Audit {
+        /// The name.
+        name: String,
     },
     /// A server.
     Serve(Serving),
@@ -31,12 +54,35 @@ pub enum Asked {
     Told(Told),
 }
 
-// The name of a script's file.
-fn file<'a>(alloc: Global) -> Arg<'a> {
+// The name of a file, of which this is said.
+fn file<'a>(alloc: Global, help: &'a str) -> Arg<'a> {
     Arg::new(alloc, "FILE")
         .required(true)
         .action(ArgAction::Set)
-        .help("The script, a JSON object as docs/formats.md says")
+        .help(help)
+}
+
+// The flag that asks for an audit.
+fn audit_flag<'a>(alloc: Global) -> Arg<'a> {
+    Arg::new(alloc, "audit")
+        .long("audit")
+        .action(ArgAction::SetTrue)
+        .help("Also tells how many reads were answered, and how many of them wrong")
+}
+
+// The subcommand that asks for a run in a world.
+fn sim_command<'a>(alloc: Global) -> Result<Command<'a>, AllocError> {
+    let history = Arg::new(alloc, "history")
+        .long("history")
+        .action(ArgAction::SetTrue)
+        .help("Prints the recorded history of the run in place of its transcript, for eiger audit")
+        .conflicts_with("audit")?;
+    Command::new(alloc, "sim")
+        .about("Runs a script, and prints its transcript: what came of each operation")
+        .after_help("Example: eiger sim examples/insert_and_read_back.json")
+        .arg(file(alloc, SCRIPT))?
+        .arg(audit_flag(alloc))?
+        .arg(history)
 }
 
 // The subcommand that asks for a run by threads.
@@ -53,38 +99,65 @@ fn run_command<'a>(alloc: Global) -> Result<Command<'a>, AllocError> {
             "Runs a script by threads, and prints what came of each operation, session by session",
         )
         .after_help("Example: eiger run examples/insert_and_read_back.json --workers 2")
-        .arg(file(alloc))?
-        .arg(workers)
+        .arg(file(alloc, SCRIPT))?
+        .arg(workers)?
+        .arg(audit_flag(alloc))
+}
+
+// The subcommand that asks for the audit of a recorded history.
+fn audit_command<'a>(alloc: Global) -> Result<Command<'a>, AllocError> {
+    Command::new(alloc, "audit")
+        .about(
+            "Audits a recorded history of any store: compares each read with the plain table, and tells those that are wrong",
+        )
+        .after_help("Example: eiger audit examples/recorded.json")
+        .arg(file(alloc, RECORDED))
 }
 
 fn command<'a>(alloc: Global) -> Result<Command<'a>, AllocError> {
-    let sim = Command::new(alloc, "sim")
-        .about("Runs a script, and prints its transcript: what came of each operation")
-        .after_help("Example: eiger sim examples/insert_and_read_back.json")
-        .arg(file(alloc))?;
     Command::new(alloc, "eiger")
-        .about("A causally consistent column-family store: runs scripts, and serves connections")
+        .about(
+            "A causally consistent column-family store: runs scripts, audits histories, and serves connections",
+        )
         .after_help(
-            "Example: eiger sim examples/insert_and_read_back.json\nExit status: 0; 1 after a fault, told on standard error; 2 for a refused command line",
+            "Example: eiger sim examples/insert_and_read_back.json\nExit status: 0; 1 after a fault, told on standard error; 2 for a refused command line; 3 where an audit found a wrong read",
         )
         .subcommand_required(true)
-        .subcommand(sim)?
+        .subcommand(sim_command(alloc)?)?
         .subcommand(run_command(alloc)?)?
+        .subcommand(audit_command(alloc)?)?
         .subcommand(serve_command(alloc)?)
+}
+
+// The name of the file.
+fn name_of(alloc: Global, found: &ArgMatches<'_>) -> Result<String, AllocError> {
+    String::from_str(alloc, found.get_str("FILE").unwrap_or(""))
 }
 
 /// What accepted words ask for.
 fn accepted(alloc: Global, matches: &ArgMatches<'_>) -> Result<Asked, AllocError> {
     match matches.subcommand() {
         Some(("sim", found)) => {
-            let name = found.get_str("FILE").unwrap_or("");
-            Ok(Asked::Sim(String::from_str(alloc, name)?))
+            let name = name_of(alloc, found)?;
+            if found.get_flag("history") {
+                return Ok(Asked::History { name });
+            }
+            let audit = found.get_flag("audit");
+            Ok(Asked::Sim { name, audit })
         }
         Some(("run", found)) => {
-            let name = String::from_str(alloc, found.get_str("FILE").unwrap_or(""))?;
+            let name = name_of(alloc, found)?;
             let workers = found.get_one::<u16>("workers").unwrap_or(1);
-            Ok(Asked::Run { name, workers })
+            let audit = found.get_flag("audit");
+            Ok(Asked::Run {
+                name,
+                workers,
+                audit,
+            })
         }
+        Some(("audit", found)) => Ok(Asked::Audit {
+            name: name_of(alloc, found)?,
+        }),
         Some((_, found)) => match serving_of(alloc, found)? {
             Ok(serving) => Ok(Asked::Serve(serving)),
             Err(told) => Ok(Asked::Told(told)),

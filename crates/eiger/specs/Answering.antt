@@ -4,12 +4,17 @@ use Rattle.logical_time.specs.declared.fault.Fault.{Fault}
 use Rattle.program.specs.declared.output.Output.{Output}
 use Rattle.program.specs.Telling.{Tells}
 use Rattle.command_line.specs.declared.reading.Asked.{Asked}
-use Rattle.command_line.specs.declared.reading.Asked.TheVariants.{Sim, Run, Serve, Told}
+use Rattle.command_line.specs.declared.reading.Asked.TheVariants.{Sim, History, Run, Audit, Serve, Told}
 use Rattle.command_line.specs.Told.{Answers}
 
 -- 0, and nothing is told
 pub record IsDone {E : Type 0} (status : ℕ) (told told' : Output E) : Type 0 where
   pub is_ended : status ≡ 0
+  pub nothing_told : told' ≡ told
+
+-- 0 or 3, and nothing is told
+pub record IsJudged {E : Type 0} (status : ℕ) (told told' : Output E) : Type 0 where
+  pub is_ended : (status ≡ 0) ⊎ (status ≡ 3)
   pub nothing_told : told' ≡ told
 
 -- 1, and a fault is told
@@ -21,8 +26,10 @@ pub record HasFailed {E : Type 0} (written : E → Option (List ℕ)) (status : 
 
 -- this exit status, these outputs
 abbrev pub IsAnswer : {W E : Type 0} → (W → Option (List ℕ)) → (E → Option (List ℕ)) → Result Asked Fault → ℕ → Output W → Output W → Output E → Output E → Type 0
-IsAnswer contents written (Ok (Sim name)) status old new told told' = IsDone status told told' ⊎ HasFailed written status told told'
-IsAnswer contents written (Ok (Run name workers)) status old new told told' = IsDone status told told' ⊎ HasFailed written status told told'
+IsAnswer contents written (Ok (Sim name audit)) status old new told told' = IsDone status told told' ⊎ HasFailed written status told told'
+IsAnswer contents written (Ok (History name)) status old new told told' = IsDone status told told' ⊎ HasFailed written status told told'
+IsAnswer contents written (Ok (Run name workers audit)) status old new told told' = IsDone status told told' ⊎ HasFailed written status told told'
+IsAnswer contents written (Ok (Audit name)) status old new told told' = IsJudged status told told' ⊎ HasFailed written status told told'
 IsAnswer contents written (Ok (Serve s)) status old new told told' = IsDone status told told' ⊎ HasFailed written status told told'
 IsAnswer contents written (Ok (Told t)) status old new told told' = Answers contents written t status old new told told'
 IsAnswer contents written (Err e) status old new told told' = (status ≡ 1) × (new ≡ old) × Tells written e None told told'
