@@ -51,9 +51,16 @@ pub(crate) fn row(alloc: Global, key: &str) -> Result<Row, Fault> {
     Ok(Row { family, key })
 }
 
-/// `x1` gives column x the value 1, `x` alone deletes the column, and an empty text deletes the row.
-fn mutation(alloc: Global, text: &[u8]) -> Result<Mutation, Fault> {
-    let [first, value @ ..] = text else {
+/// `x1` gives column x the value 1, `x` alone deletes the column, `x..z` those from x to z, where an end that is left out is
+/// open, and an empty text deletes the row.
+fn mutation(alloc: Global, text: &str) -> Result<Mutation, Fault> {
+    if let Some((start, finish)) = text.split_once("..") {
+        return Ok(Mutation::DeleteRange {
+            start: Name::from_slice(alloc, start.as_bytes())?,
+            finish: Name::from_slice(alloc, finish.as_bytes())?,
+        });
+    }
+    let [first, value @ ..] = text.as_bytes() else {
         return Ok(Mutation::DeleteRow);
     };
     let name = Name::from_slice(alloc, &[*first])?;
@@ -68,7 +75,7 @@ fn mutation(alloc: Global, text: &[u8]) -> Result<Mutation, Fault> {
 fn change(alloc: Global, word: &str) -> Result<Change, Fault> {
     let (key, text) = word.split_once(':').unwrap_or((word, ""));
     let row = row(alloc, key)?;
-    let mutation = mutation(alloc, text.as_bytes())?;
+    let mutation = mutation(alloc, text)?;
     Ok(Change { row, mutation })
 }
 

@@ -26,6 +26,13 @@ fn add_answer(alloc: Global, told: &Told, seen: &mut String) -> Result<(), Fault
     Ok(write!(seen, "{status}\n{written}{told}")?)
 }
 
+fn add_audit(audit: bool, seen: &mut String) -> Result<(), Fault> {
+    if audit {
+        write!(seen, ", audited")?;
+    }
+    Ok(())
+}
+
 fn add_server(serving: &Serving, seen: &mut String) -> Result<(), Fault> {
     let (port, topology) = (serving.port, &serving.topology);
     let (dcs, shards) = (topology.dcs(), topology.shards().get());
@@ -40,8 +47,20 @@ impl Subject for Line {
     fn step(&mut self, alloc: Global, words: &[&str], seen: &mut String) -> Result<(), Fault> {
         let words = copies(alloc, words)?;
         match read_words(alloc, words.as_slice())? {
-            Asked::Sim(name) => Ok(write!(seen, "{name}")?),
-            Asked::Run { name, workers } => Ok(write!(seen, "{name} by {workers}")?),
+            Asked::Sim { name, audit } => {
+                write!(seen, "{name}")?;
+                add_audit(audit, seen)
+            }
+            Asked::History { name } => Ok(write!(seen, "the history of {name}")?),
+            Asked::Run {
+                name,
+                workers,
+                audit,
+            } => {
+                write!(seen, "{name} by {workers}")?;
+                add_audit(audit, seen)
+            }
+            Asked::Audit { name } => Ok(write!(seen, "the audit of {name}")?),
             Asked::Serve(serving) => add_server(&serving, seen),
             Asked::Told(told) => add_answer(alloc, &told, seen),
         }

@@ -10,6 +10,7 @@ mod marks;
 mod normal_forms;
 mod parts;
 mod readers;
+mod records;
 mod refusals;
 mod schedules;
 mod scripts;
@@ -24,6 +25,7 @@ mod worlds;
 use logical_time::Fault;
 use pending::Marks;
 use std::io;
+use std::thread::Threads;
 use table::History;
 
 fn tell_steps(rt: &HostRuntime) -> Result<(), Fault> {
@@ -41,15 +43,16 @@ fn tell_steps(rt: &HostRuntime) -> Result<(), Fault> {
     schedules::tell(rt)
 }
 
-fn tell_scripts(rt: &HostRuntime) -> io::Result<()> {
-    scripts::tell(rt)?;
-    readers::tell(rt)?;
+fn tell_scripts<T: Threads + Sync>(rt: &HostRuntime, threads: &T) -> io::Result<()> {
+    scripts::tell(rt, threads)?;
+    readers::tell(rt, threads)?;
+    records::tell(rt)?;
     refusals::tell(rt)
 }
 
 fn main(rt: HostRuntime) -> Result<(), Fault> {
     tell_steps(&rt)?;
-    match tell_scripts(&rt) {
+    match tell_scripts(&rt, &rt) {
         Ok(()) => Ok(()),
         Err(_) => Err(Fault::ReadFailed),
     }

@@ -6,7 +6,8 @@ use crate::showing::text_of;
 use program::{Buffered, Input, Output};
 use std::io;
 use std::io::{Read, Write};
-use workload::{InWorld, perform};
+use std::thread::Threads;
+use workload::perform;
 
 /// A script whose transcript has 17 bytes.
 const SCRIPT: &[u8] =
@@ -76,18 +77,24 @@ impl Buffered for FailingOnce {
 }
 
 /// Tells how reading the script ends.
-fn tell_reader<R: Read + Drop>(
+fn tell_reader<T: Threads + Sync, R: Read + Drop>(
     rt: &HostRuntime,
+    threads: &T,
     kind: &str,
     opened: io::Result<R>,
 ) -> io::Result<()> {
-    let (status, out, errors) = run(rt.alloc(), opened)?;
+    let (status, out, errors) = run(threads, rt.alloc(), false, opened)?;
     let (out, errors) = (text_of(&out), text_of(&errors));
     print!(rt; "{kind}: {status}\n{out}{errors}")
 }
 
 /// Tells what writers get that fail at these calls.
-fn tell_writers(rt: &HostRuntime, out_fails: usize, errors_fail: usize) -> io::Result<()> {
+fn tell_writers<T: Threads + Sync>(
+    rt: &HostRuntime,
+    threads: &T,
+    out_fails: usize,
+    errors_fail: usize,
+) -> io::Result<()> {
     let alloc = rt.alloc();
     let failing = |fails_at: usize| FailingOnce {
         taken: Vec::new(alloc),
@@ -97,20 +104,20 @@ fn tell_writers(rt: &HostRuntime, out_fails: usize, errors_fail: usize) -> io::R
     let mut input = Input::new(String::from_str(alloc, "script.json")?, Ok(SCRIPT));
     let mut output = Output::new(failing(out_fails));
     let mut errors = Output::new(failing(errors_fail));
-    let status = perform(alloc, &InWorld, &mut input, &mut output, &mut errors);
+    let status = perform(threads, alloc, false, &mut input, &mut output, &mut errors);
     let (out, told) = (text_of(&output.writer.taken), text_of(&errors.writer.taken));
     println!(rt; "fails at {out_fails} and {errors_fail}: {status} {out:?} {told:?}")
 }
 
-pub(crate) fn tell(rt: &HostRuntime) -> io::Result<()> {
-    tell_reader(rt, "a whole script", Ok(SCRIPT))?;
-    tell_reader(rt, "a failing reader", Ok(SCRIPT.chain(Failing)))?;
+pub(crate) fn tell<T: Threads + Sync>(rt: &HostRuntime, threads: &T) -> io::Result<()> {
+    tell_reader(rt, threads, "a whole script", Ok(SCRIPT))?;
+    tell_reader(rt, threads, "a failing reader", Ok(SCRIPT.chain(Failing)))?;
     let missing = io::Error::from(io::ErrorKind::NotFound);
-    tell_reader::<&[u8]>(rt, "a missing file", Err(missing))?;
+    tell_reader::<T, &[u8]>(rt, threads, "a missing file", Err(missing))?;
     let mangled: &[u8] = b"{\"dcs\":\"\xff\"}";
-    tell_reader(rt, "no text", Ok(mangled))?;
+    tell_reader(rt, threads, "no text", Ok(mangled))?;
     for (out_fails, errors_fail) in FAILURES {
-        tell_writers(rt, out_fails, errors_fail)?;
+        tell_writers(rt, threads, out_fails, errors_fail)?;
     }
     Ok(())
 }

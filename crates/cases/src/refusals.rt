@@ -2,7 +2,7 @@
 use logical_time::Fault;
 use std::io;
 
-const REFUSALS: [Fault; 25] = [
+const REFUSALS: [Fault; 24] = [
     Fault::EmptyBatch,
     Fault::UnknownFamily,
     Fault::KeyLength,
@@ -11,7 +11,6 @@ const REFUSALS: [Fault; 25] = [
     Fault::TooMany,
     Fault::RangeOrder,
     Fault::EmptyRead,
-    Fault::RangeDeletion,
     Fault::Busy,
     Fault::Collected,
     Fault::ClockSpent,

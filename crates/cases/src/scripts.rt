@@ -4,11 +4,12 @@ use crate::showing::text_of;
 use program::{Input, Output};
 use std::alloc::{AllocError, Global};
 use std::io::Read;
+use std::thread::Threads;
 use std::{fs, io};
-use workload::{InWorld, perform};
+use workload::perform;
 
 /// The names of the scripts with a transcript.
-const SCRIPTS: [&str; 21] = [
+const SCRIPTS: [&str; 29] = [
     "collected_while_waiting",
     "concurrent_inserts_meet",
     "count_after_deletion",
@@ -18,7 +19,15 @@ const SCRIPTS: [&str; 21] = [
     "horizon_at_effective_time",
     "insert_and_read_back",
     "late_repeats",
+    "older_insert_under_range",
     "older_stamp_arrives_late",
+    "range_deletion",
+    "range_deletion_beside_it",
+    "range_deletion_is_waited_for",
+    "range_deletion_on_two_shards",
+    "range_deletion_walks",
+    "range_deletions_collected",
+    "range_deletions_in_evt",
     "read_asks_coordinator",
     "read_before_dependency",
     "read_before_vote",
@@ -32,14 +41,19 @@ const SCRIPTS: [&str; 21] = [
     "write_is_replicated",
 ];
 
+/// The names of scripts that are audited.
+const AUDITED: [&str; 2] = ["insert_and_read_back", "read_asks_coordinator"];
+
 /// The name of what is read.
 const NAME: &str = "script.json";
 /// How it is told that it is no script, or ends early.
 const NO_SCRIPT: &str = "eiger: fault 35 Script\n";
 
-/// A run of what was opened: its status, what it writes, and what is told of faults.
-pub(crate) fn run<R: Read>(
+/// A run of what was opened, audited where that is asked for: its status, what it writes, and what is told of faults.
+pub(crate) fn run<T: Threads + Sync, R: Read>(
+    threads: &T,
     alloc: Global,
+    audit: bool,
     opened: io::Result<R>,
 ) -> Result<(u8, Vec<u8>, Vec<u8>), AllocError>
 where
@@ -48,21 +62,26 @@ where
     let mut input = Input::new(String::from_str(alloc, NAME)?, opened);
     let mut output = Output::new(Vec::new(alloc));
     let mut errors = Output::new(Vec::new(alloc));
-    let status = perform(alloc, &InWorld, &mut input, &mut output, &mut errors);
+    let status = perform(threads, alloc, audit, &mut input, &mut output, &mut errors);
     Ok((status, output.writer, errors.writer))
 }
 
 /// Whether a run of the script writes this transcript, and no fault is told.
-fn writes(alloc: Global, script: &[u8], transcript: &[u8]) -> Result<bool, AllocError> {
-    let (status, out, errors) = run(alloc, Ok(script))?;
+fn writes<T: Threads + Sync>(
+    threads: &T,
+    alloc: Global,
+    script: &[u8],
+    transcript: &[u8],
+) -> Result<bool, AllocError> {
+    let (status, out, errors) = run(threads, alloc, false, Ok(script))?;
     Ok(status == 0 && errors.is_empty() && out.as_slice() == transcript)
 }
 
 /// Tells whether the script of this name writes its transcript.
-fn tell_script(rt: &HostRuntime, name: &str) -> io::Result<()> {
+fn tell_script<T: Threads + Sync>(rt: &HostRuntime, threads: &T, name: &str) -> io::Result<()> {
     let script = fs::read(rt, format!(in rt.alloc(); "{name}.json")?)?;
     let transcript = fs::read(rt, format!(in rt.alloc(); "{name}.transcript")?)?;
-    let is_written = writes(rt.alloc(), &script, &transcript)?;
+    let is_written = writes(threads, rt.alloc(), &script, &transcript)?;
     let told = if is_written {
         "as written"
     } else {
@@ -71,10 +90,23 @@ fn tell_script(rt: &HostRuntime, name: &str) -> io::Result<()> {
     println!(rt; "{name}: {told}")
 }
 
+/// Tells what an audited run of the script of this name writes, and what is told of faults.
+fn tell_audited<T: Threads + Sync>(rt: &HostRuntime, threads: &T, name: &str) -> io::Result<()> {
+    let script = fs::read(rt, format!(in rt.alloc(); "{name}.json")?)?;
+    let (status, out, errors) = run(threads, rt.alloc(), true, Ok(script.as_slice()))?;
+    let (out, errors) = (text_of(&out), text_of(&errors));
+    print!(rt; "{name}, audited: {status}\n{out}{errors}")
+}
+
 /// Whether a run of the script ends with the fault, and this is said of it, and nothing is written; where nothing is to be
 /// said, whether it ends well.
-fn ends(alloc: Global, script: &str, said: &str) -> Result<bool, AllocError> {
-    let (status, out, errors) = run(alloc, Ok(script.as_bytes()))?;
+fn ends<T: Threads + Sync>(
+    threads: &T,
+    alloc: Global,
+    script: &str,
+    said: &str,
+) -> Result<bool, AllocError> {
+    let (status, out, errors) = run(threads, alloc, false, Ok(script.as_bytes()))?;
     if said.is_empty() {
         return Ok(status == 0 && errors.is_empty());
     }
@@ -83,12 +115,12 @@ fn ends(alloc: Global, script: &str, said: &str) -> Result<bool, AllocError> {
 }
 
 /// Tells how many lines of the file, each a script and what is said of it, end so. The others are told in full.
-fn tell_lines(rt: &HostRuntime, file: &str) -> io::Result<()> {
+fn tell_lines<T: Threads + Sync>(rt: &HostRuntime, threads: &T, file: &str) -> io::Result<()> {
     let text = fs::read_to_string(rt, file)?;
     let mut ended = 0u64;
     for line in text.lines() {
         let (script, said) = line.split_once(" => ").unwrap_or((line, ""));
-        if ends(rt.alloc(), script, said)? {
+        if ends(threads, rt.alloc(), script, said)? {
             ended = ended.wrapping_add(1);
         } else {
             println!(rt; "{line}")?;
@@ -123,23 +155,26 @@ fn script_of(alloc: Global, lines: &str) -> Result<String, AllocError> {
 const LIMITS: [&str; 3] = ["limits", "events_100000", "events_100001"];
 
 /// Tells what the script of these parts writes, and what is told of it.
-fn tell_limits(rt: &HostRuntime, name: &str) -> io::Result<()> {
+fn tell_limits<T: Threads + Sync>(rt: &HostRuntime, threads: &T, name: &str) -> io::Result<()> {
     let lines = fs::read_to_string(rt, format!(in rt.alloc(); "{name}.parts")?)?;
     let script = script_of(rt.alloc(), lines.as_str())?;
-    let (status, out, errors) = run(rt.alloc(), Ok(script.as_bytes()))?;
+    let (status, out, errors) = run(threads, rt.alloc(), false, Ok(script.as_bytes()))?;
     let (out, errors) = (text_of(&out), text_of(&errors));
     print!(rt; "{name}: {status}\n{out}{errors}")
 }
 
-pub(crate) fn tell(rt: &HostRuntime) -> io::Result<()> {
+pub(crate) fn tell<T: Threads + Sync>(rt: &HostRuntime, threads: &T) -> io::Result<()> {
     for name in SCRIPTS {
-        tell_script(rt, name)?;
+        tell_script(rt, threads, name)?;
     }
-    tell_lines(rt, "scripts.txt")?;
-    tell_lines(rt, "not_scripts.txt")?;
-    tell_lines(rt, "not_sent.txt")?;
+    for name in AUDITED {
+        tell_audited(rt, threads, name)?;
+    }
+    tell_lines(rt, threads, "scripts.txt")?;
+    tell_lines(rt, threads, "not_scripts.txt")?;
+    tell_lines(rt, threads, "not_sent.txt")?;
     for name in LIMITS {
-        tell_limits(rt, name)?;
+        tell_limits(rt, threads, name)?;
     }
     Ok(())
 }

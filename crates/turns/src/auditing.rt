@@ -1,8 +1,10 @@
-//! What seats conclude, by the audit: once as it is, and once with all answers emptied, which are wrong then.
+//! What seats conclude, by the audit: as it is, with all answers emptied, which are wrong then, and with one column changed, by
+//! which one is.
 use audit::{Audit, audit};
+use column_family::Value;
 use logical_time::Fault;
 use messages::Outcome;
-use slice::Answer;
+use slice::{Answer, AnsweredRow, Columns};
 use std::alloc::Global;
 use std::thread::Threads;
 use table::History;
@@ -29,18 +31,78 @@ fn emptied(alloc: Global, outcome: &Outcome) -> Result<Outcome, Fault> {
     }
 }
 
-/// All operations that ended, with their answers or without.
+/// Whether a row has a column.
+fn has_column(row: &AnsweredRow) -> bool {
+    !row.columns.as_slice().is_empty()
+}
+
+/// Columns, the first of them with another value.
+fn with_another_value(alloc: Global, columns: &Columns) -> Result<Columns, Fault> {
+    let mut changed = Vec::new(alloc);
+    for column in columns.as_slice() {
+        let mut copy = column.clone()?;
+        if changed.is_empty() {
+            copy.value = Value::from_slice(alloc, b"another")?;
+        }
+        changed.push(copy)?;
+    }
+    Ok(Columns::from_vec(alloc, changed)?)
+}
+
+/// An answer, with another value in one column, if it has one.
+fn changed(alloc: Global, answer: &Answer) -> Result<Answer, Fault> {
+    let mut rows = Answer::new(alloc);
+    let mut is_changed = false;
+    for row in answer.as_slice() {
+        let mut copy = row.clone()?;
+        if !is_changed && has_column(row) {
+            copy.columns = with_another_value(alloc, &row.columns)?;
+            is_changed = true;
+        }
+        rows.push(copy)?;
+    }
+    Ok(rows)
+}
+
+/// Changes one column of the first answer that has one.
+fn change_one(alloc: Global, completed: &mut [Completed]) -> Result<(), Fault> {
+    for one in completed.iter_mut() {
+        if let Outcome::Read { effective, answer } = &one.outcome
+            && answer.as_slice().iter().any(|row| has_column(row))
+        {
+            one.outcome = Outcome::Read {
+                effective: *effective,
+                answer: changed(alloc, answer)?,
+            };
+            return Ok(());
+        }
+    }
+    Ok(())
+}
+
+/// How answers come before the audit.
+#[derive(Clone, Copy, PartialEq, Eq)]
+pub(crate) enum Answers {
+    /// As they are.
+    Whole,
+    /// Without their rows.
+    Emptied,
+    /// With another value in one column of one of them.
+    OneChanged,
+}
+
+/// All operations that ended, with these answers.
 fn completed_of(
     alloc: Global,
     concluded: &Concluded,
-    with_rows: bool,
+    answers: Answers,
 ) -> Result<Vec<Completed>, Fault> {
     let mut completed = Vec::new(alloc);
     for ended in concluded.transcript() {
-        let outcome = if with_rows {
-            ended.outcome.copied()?
-        } else {
+        let outcome = if answers == Answers::Emptied {
             emptied(alloc, ended.outcome)?
+        } else {
+            ended.outcome.copied()?
         };
         completed.push(Completed {
             node: ended.node,
@@ -50,17 +112,20 @@ fn completed_of(
             outcome,
         })?;
     }
+    if answers == Answers::OneChanged {
+        change_one(alloc, completed.as_mut_slice())?;
+    }
     Ok(completed)
 }
 
-/// What the audit finds in what was concluded, with the answers or without.
+/// What the audit finds in what was concluded, with these answers.
 pub(crate) fn audited<R: Threads + Sync>(
     threads: &R,
     alloc: Global,
     concluded: &Concluded,
-    with_rows: bool,
+    answers: Answers,
 ) -> Result<Audit, Fault> {
     let histories = histories_of(alloc, concluded)?;
-    let completed = completed_of(alloc, concluded, with_rows)?;
+    let completed = completed_of(alloc, concluded, answers)?;
     audit(threads, alloc, histories.as_slice(), completed.as_slice())
 }

@@ -9,7 +9,8 @@ pub(crate) fn number(word: &str) -> usize {
     word.parse().unwrap_or(0)
 }
 
-fn small(word: &str) -> u16 {
+/// A small number; 0 for what is none.
+pub(crate) fn small(word: &str) -> u16 {
     word.parse().unwrap_or(0)
 }
 

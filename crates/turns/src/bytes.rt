@@ -20,10 +20,11 @@ const FAULTS: [&[u8]; 4] = [
     b"{\"dcs\":\"\xff\"}",
 ];
 
-/// What two workers write and tell of what was opened, after the status.
+/// What two workers write and tell of what was opened, after the status, audited where that is asked for.
 fn made<R: Threads + Wait + Sync>(
     threads: &R,
     alloc: Global,
+    audit: bool,
     opened: io::Result<&[u8]>,
 ) -> Result<(u8, Vec<u8>, Vec<u8>), Fault> {
     let workers = Workers::new(2).ok_or(Fault::Script)?;
@@ -34,6 +35,7 @@ fn made<R: Threads + Wait + Sync>(
         threads,
         alloc,
         &workers,
+        audit,
         &mut input,
         &mut output,
         &mut errors,
@@ -45,9 +47,10 @@ fn made<R: Threads + Wait + Sync>(
 fn tell_made<R: Threads + Wait + Sync>(
     rt: &HostRuntime,
     threads: &R,
+    audit: bool,
     opened: io::Result<&[u8]>,
 ) -> Result<(), Fault> {
-    let (status, output, errors) = made(threads, rt.alloc(), opened)?;
+    let (status, output, errors) = made(threads, rt.alloc(), audit, opened)?;
     let (output, errors) = (text_of(&output), text_of(&errors));
     print!(rt; "status {status}\n{output}{errors}").map_err(|_| Fault::WriteFailed)
 }
@@ -57,11 +60,13 @@ pub(crate) fn tell<R: Threads + Wait + Sync>(rt: &HostRuntime, threads: &R) -> R
         return Err(Fault::ReadFailed);
     };
     print(rt, "threads_insert_and_read_back")?;
-    tell_made(rt, threads, Ok(&script))?;
+    tell_made(rt, threads, false, Ok(&script))?;
+    print(rt, "threads_insert_and_read_back, audited")?;
+    tell_made(rt, threads, true, Ok(&script))?;
     print(rt, "threads_run_nothing")?;
     for bytes in FAULTS {
-        tell_made(rt, threads, Ok(bytes))?;
+        tell_made(rt, threads, false, Ok(bytes))?;
     }
     let missing = io::Error::from(io::ErrorKind::NotFound);
-    tell_made(rt, threads, Err(missing))
+    tell_made(rt, threads, false, Err(missing))
 }

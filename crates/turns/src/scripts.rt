@@ -1,9 +1,10 @@
 //! Scripts that threads run: what is told of them, and what their journals conclude beside the histories.
-use crate::auditing::audited;
+use crate::auditing::{Answers, audited};
 use crate::judging::{Count, entries_of};
 use crate::seats::{close_all, load, run_seats};
 use crate::showing::{add_entry, print};
 use actors::{Mesh, Open, Seat, drain};
+use audit::Audit;
 use logical_time::Fault;
 use messages::Event;
 use running::Workers;
@@ -15,15 +16,16 @@ use threaded::{Actor, Concluded, conclude};
 use workload::{Event as ScriptEvent, Script, Transcript, read_script};
 
 /// The names of the scripts.
-const SCRIPTS: [&str; 4] = [
+const SCRIPTS: [&str; 5] = [
     "insert_and_read_back",
     "two_shard_write",
     "write_is_replicated",
     "rows_apart",
+    "range_deletion",
 ];
 
 /// The names of scripts in which the schedule decides what is told: how many operations end is all that is printed.
-const RACES: [&str; 7] = [
+const RACES: [&str; 8] = [
     "read_asks_coordinator",
     "undecided_is_excluded",
     "concurrent_inserts_meet",
@@ -31,7 +33,11 @@ const RACES: [&str; 7] = [
     "dependency_through_a_read",
     "unseen_column_under_mark",
     "one_row",
+    "range_deletion_is_waited_for",
 ];
+
+/// The names of scripts of which one answer is changed.
+const CHANGED: [&str; 2] = ["insert_and_read_back", "rows_apart"];
 
 /// By how many workers each is run.
 const WORKERS: [usize; 3] = [1, 2, 4];
@@ -118,14 +124,26 @@ fn judged_of<R: Threads + Sync>(
 ) -> Result<(Count, String), Fault> {
     let mut count = Count::new();
     count.add_all(alloc, concluded)?;
-    let found = audited(threads, alloc, concluded, true)?;
-    let emptied = audited(threads, alloc, concluded, false)?;
+    let found = audited(threads, alloc, concluded, Answers::Whole)?;
+    let emptied = audited(threads, alloc, concluded, Answers::Emptied)?;
     let (reads, wrong, more) = (found.reads, found.wrong, emptied.wrong);
     let entries = entries_of(alloc, concluded)?;
     let told = format!(in alloc;
         "audit {reads} wrong {wrong}, emptied wrong {more}, entries{entries}"
     )?;
     Ok((count, told))
+}
+
+/// What these workers conclude of the script.
+fn concluded_by<R: Threads + Wait + Sync>(
+    threads: &R,
+    alloc: Global,
+    script: &Script,
+    workers: &Workers,
+) -> Result<Concluded, Fault> {
+    let seats = seats_of(alloc, script)?;
+    let (seats, _) = run_seats(threads, alloc, seats, workers, &Open)?;
+    concluded(alloc, seats)
 }
 
 /// What ended in a run of the script by these workers, what the audit finds there, and how many entries its histories have.
@@ -135,9 +153,7 @@ fn judged<R: Threads + Wait + Sync>(
     script: &Script,
     workers: &Workers,
 ) -> Result<(Count, String), Fault> {
-    let seats = seats_of(alloc, script)?;
-    let (seats, _) = run_seats(threads, alloc, seats, workers, &Open)?;
-    let concluded = concluded(alloc, seats)?;
+    let concluded = concluded_by(threads, alloc, script, workers)?;
     let judged = judged_of(threads, alloc, &concluded);
     concluded.close();
     judged
@@ -198,6 +214,23 @@ fn tell_race<R: Threads + Wait + Sync>(
     Ok(())
 }
 
+/// Tells what the audit finds where one column of one answer of the script is changed.
+fn tell_changed<R: Threads + Wait + Sync>(
+    rt: &HostRuntime,
+    threads: &R,
+    name: &str,
+) -> Result<(), Fault> {
+    let alloc = rt.alloc();
+    let script = read(rt, name)?;
+    let workers = Workers::new(2).ok_or(Fault::Script)?;
+    let concluded = concluded_by(threads, alloc, &script, &workers)?;
+    let found = audited(threads, alloc, &concluded, Answers::OneChanged);
+    concluded.close();
+    let Audit { reads, wrong } = found?;
+    let line = format!(in alloc; "{name}: one column changed, audit {reads} wrong {wrong}")?;
+    print(rt, line.as_str())
+}
+
 fn tell_script<R: Threads + Wait + Sync>(
     rt: &HostRuntime,
     threads: &R,
@@ -218,6 +251,9 @@ pub(crate) fn tell<R: Threads + Wait + Sync>(rt: &HostRuntime, threads: &R) -> R
     }
     for name in RACES {
         tell_race(rt, threads, name)?;
+    }
+    for name in CHANGED {
+        tell_changed(rt, threads, name)?;
     }
     Ok(())
 }

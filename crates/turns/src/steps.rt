@@ -1,20 +1,24 @@
 //! Steps of seats by hand: what is submitted, collected and put into backlogs, turn by turn, and what is seen after each.
-use crate::building::{batch, number, time, topology_of};
+use crate::building::{batch, number, small, time, topology_of};
 use crate::seats::{close_all, load};
 use crate::showing::{add_done, add_journal, add_number, add_outcomes, add_turn, print, word_of};
 use actors::{Mesh, Seat, drain};
-use logical_time::Fault;
+use logical_time::{Fault, Node};
 use messages::{Event, Op};
 use std::alloc::Global;
 use std::fs;
 use threaded::Actor;
 
 /// The files of steps.
-const FILES: [&str; 3] = [
+const FILES: [&str; 4] = [
     "by_hand.steps",
     "ring_of_one.steps",
+    "ring_of_one_then_its_reader.steps",
     "journal_of_three.steps",
 ];
+
+/// How many envelopes of a seat are counted at most.
+const MOST: usize = 1000;
 
 /// The seats of a line `mesh DCS SHARDS HOMES RING JOURNAL`.
 fn seats_of(alloc: Global, line: &str) -> Result<Vec<Seat<Actor>>, Fault> {
@@ -45,6 +49,21 @@ fn load_collections(alloc: Global, seat: &mut Seat<Actor>, times: &[&str]) -> Re
     Ok(())
 }
 
+/// How many envelopes a seat sent to an actor: those that went into the ring and those that wait.
+fn count_sent(seat: &Seat<Actor>, to: Node) -> usize {
+    for number in 0..MOST {
+        if seat.sent_to(to, number).is_none() {
+            return number;
+        }
+    }
+    MOST
+}
+
+fn add_sent(seen: &mut String, seat: &Seat<Actor>, to: Node) -> Result<(), Fault> {
+    let count = count_sent(seat, to);
+    Ok(write!(seen, "{count}")?)
+}
+
 /// Does a step of a seat.
 fn step_seat(
     alloc: Global,
@@ -62,6 +81,7 @@ fn step_seat(
         ["turn"] => add_turn(seen, seat.turn()),
         ["journal"] => add_journal(seen, seat.journal()),
         ["outcomes"] => add_outcomes(seen, seat.outcomes()),
+        ["sent", to] => add_sent(seen, seat, Node::new(small(to))),
         ["done"] => Ok(seen.push_str(word_of(seat.is_done()))?),
         _ => Err(Fault::Script),
     }
