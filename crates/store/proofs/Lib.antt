@@ -17,6 +17,7 @@ pub mod OneWriter
 pub mod Overtaken
 pub mod KeepsApplied
 pub mod Written
+pub mod Counts
 pub mod Lasting
 pub mod Latest
 pub mod Collected

@@ -4,7 +4,7 @@ use Rattle.column_family.specs.declared.batch.Row.{Row}
 use Rattle.column_family.specs.Normal.{ranges_of}
 use Rattle.store.specs.Kept.{Place, chain_at, ranges_in, HaveKeptRangeRoom, HaveSameRanges}
 use Rattle.store.proofs.Written.{is_range_of}
-use Rattle.store.proofs.room.reserve_ranges.Given as goal
+use Rattle.store.proofs.room.reserve_each.Given as goal
 
 -- there is room in the rows of which the changes so far delete a range
 abbrev pub invariant-loop-change : goal.invariant-loop-change
