@@ -48,18 +48,29 @@ work_refused refuses s n (Err e) some none free same refused = subst (λ (z : Se
         ]
 
 -- the first item of the backlog was refused for something else than what it asks
-pub kept_back : (refuses : Refuses) (s : SeatValue) (event : Event) (more : List Event) (fault : Fault) → s.backlog ≡ event ∷ more → 9 < number_of fault
+pub kept_back : (refuses : Refuses) (s : SeatValue) (event : Event) (more : List Event) (fault : Fault) → s.backlog ≡ event ∷ more → (IsOfRequest fault → ⊥)
     → IsRefusal refuses s event fault → (x : Event) → IsFirst s x → (fault ≡ Memory) ⊎ (IsRefusal refuses s x fault × (IsOfRequest fault → ⊥))
-kept_back refuses s event more fault is above refused x first =
+kept_back refuses s event more fault is other refused x first =
     let both : event ∷ more ≡ x ∷ first.0 = sym is ∙ first.1 in
     let same : event ≡ x = cc in
-    inr (subst (λ (z : Event). IsRefusal refuses s z fault) same refused, λ request. omega (arith, above, request))
+    inr (subst (λ (z : Event). IsRefusal refuses s z fault) same refused, other)
+
+-- a full journal and the lack of memory are no refusals for what is asked
+full_is_none : IsOfRequest JournalFull → ⊥
+full_is_none (inl low) = let is : number_of JournalFull ≡ 24 = refl in absurd (omega (arith, is, low))
+full_is_none (inr (inl same)) = absurd (cc)
+full_is_none (inr (inr same)) = absurd (cc)
+
+memory_is_none : IsOfRequest Memory → ⊥
+memory_is_none (inl low) = let is : number_of Memory ≡ 23 = refl in absurd (omega (arith, is, low))
+memory_is_none (inr (inl same)) = absurd (cc)
+memory_is_none (inr (inr same)) = absurd (cc)
 
 -- a refusal of an operation for what it asks is the machine's, and there was room
 pub taken_off : (refuses : Refuses) (event : Event) (fault : Fault) (old new : SeatValue) → old.backlog ≡ event ∷ new.backlog → IsOfRequest fault
     → IsRefusal refuses old event fault → HasTakenOff refuses fault old new
-taken_off refuses event fault old new first request (inl full) = absurd (let is : number_of fault ≡ 24 = ap number_of full.1 in omega (arith, is, request))
-taken_off refuses event fault old new first request (inr (room, inl memory)) = absurd (let is : number_of fault ≡ 23 = ap number_of memory in omega (arith, is, request))
+taken_off refuses event fault old new first request (inl full) = absurd (full_is_none (subst IsOfRequest full.1 request))
+taken_off refuses event fault old new first request (inr (room, inl memory)) = absurd (memory_is_none (subst IsOfRequest memory request))
 taken_off refuses event fault old new first request (inr (room, inr refused)) = record { event = event; first = first; room = room; refused = refused }
 
 -- the envelope that is held was refused, and the seat is to handle it
@@ -77,7 +88,7 @@ pub stuck_refused : (refuses : Refuses) (s : SeatValue) → s.limit ≤ length s
 stuck_refused refuses s full due = by s.held refl due
   where
     kept : (x : Event) → IsKeptBack refuses s x JournalFull
-    kept x = (inl (full, refl), λ own request. let is : number_of JournalFull ≡ 24 = refl in omega (arith, is, request))
+    kept x = (inl (full, refl), λ own. full_is_none)
 
     first : (items : List Event) → s.backlog ≡ items → s.held ≡ None → (0 < length s.backlog) × (s.free ≡ true) → CanRefuse refuses JournalFull s
     first [] is none work = absurd (let len : length s.backlog ≡ 0 = ap (λ (l : List Event). length l) is in let some = work.0 in omega (arith, len, some))

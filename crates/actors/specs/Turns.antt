@@ -1,6 +1,7 @@
 -- What a turn of a seat does.
-use Rattle.std.specs.Prelude.{◌≡◌, ◌≤◌, ◌<◌, ℕ, [], ◌∷◌, ◌++◌, length, Option, Some, None, true}
+use Rattle.std.specs.Prelude.{◌≡◌, ◌≤◌, ◌<◌, ◌⊎◌, ℕ, [], ◌∷◌, ◌++◌, length, Option, Some, None, true}
 use Rattle.logical_time.specs.declared.fault.Fault.{Fault}
+use Rattle.logical_time.specs.declared.fault.Fault.TheVariants.{AlreadyHome, UnknownHome}
 use Rattle.logical_time.specs.Fault.{number_of}
 use Rattle.messages.specs.declared.envelope.Envelope.{Envelope}
 use Rattle.messages.specs.declared.op.Op.{Op}
@@ -14,9 +15,9 @@ use Rattle.actors.specs.Looking.{IsNext}
 use Rattle.actors.specs.declared.turn.Turn.{Turn}
 use Rattle.actors.specs.declared.turn.Turn.TheVariants.{Idle, Moved, Handled, Submitted, Collected, Refused}
 
--- a refusal of an operation for what it asks
+-- a refusal of an operation for what it asks: of a batch or a read as the planner refuses it, or of a move
 abbrev pub IsOfRequest : Fault → Type 0
-IsOfRequest fault = number_of fault ≤ 9
+IsOfRequest fault = (number_of fault ≤ 9) ⊎ ((fault ≡ AlreadyHome) ⊎ (fault ≡ UnknownHome))
 
 -- its ways lead to the same actors, and its rings from the same ones, in the same order
 abbrev pub HasSameRings : SeatValue → SeatValue → Type 0

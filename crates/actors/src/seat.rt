@@ -15,7 +15,7 @@ ghost use Rattle.actors.specs.Opening.{AreItsRings, new_seat};
 use crate::incoming;
 use crate::machine::Machine;
 use crate::recorded::{Recorded, envelope_in, let_go, let_go_envelope, op_of};
-use crate::turn::Turn;
+use crate::turn::{Turn, is_of_request};
 use crate::ways::Ways;
 use links::{Ends, InLink};
 use logical_time::{Fault, Node, Time};
@@ -24,9 +24,6 @@ use std::alloc::Global;
 use std::collections::VecDeque;
 use std::marker::Model;
 use std::mem;
-
-/// The greatest number of a refusal of an operation for what it asks.
-const LAST_OF_REQUEST: u16 = 9;
 
 /// A machine with its journal, its backlog and its ends of the rings. It must be closed.
 pub struct Seat<M: Machine> {
@@ -313,7 +310,7 @@ impl<M: Machine> Seat<M> {
         };
         match self.recorded.happen(event) {
             Ok(number) => Ok(done(number)),
-            Err((fault, event)) if fault.number() > LAST_OF_REQUEST => {
+            Err((fault, event)) if !is_of_request(fault) => {
                 self.backlog.push_front_reserved(event);
                 Err(fault)
             }

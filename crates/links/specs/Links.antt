@@ -1,11 +1,11 @@
 -- Rings between actors: the two ends of one, and which pairs of actors have one.
-use Rattle.std.specs.Prelude.{ℕ, ◌==◌, Bool, false, ◌&&◌, ◌||◌, if◌then◌else◌, List, filter, Option, Some, None}
+use Rattle.std.specs.Prelude.{ℕ, ◌==◌, Bool, true, ◌||◌, if◌then◌else◌, List, filter}
 use Rattle.std.specs.List.{range_with_len}
 use Rattle.messages.specs.declared.envelope.Envelope.{Envelope}
 use denote.RawPtr.{Ptr}
 use Rattle.std.specs.declared.alloc.Global.{Global}
 use Rattle.rtrb.specs.Shared.{Names}
-use Rattle.messages.specs.Topology.{TopologyValue, is_shard, dc_of, shard_of, home_of, node_count}
+use Rattle.messages.specs.Topology.{TopologyValue, is_shard, dc_of, shard_of, node_count}
 
 -- Which ring it is, by all that `rtrb`'s `IsPair` compares of two ends: where its counts and its places lie, its capacity with
 -- the names of its two views, and whose memory it is.
@@ -36,24 +36,14 @@ pub record InLinkValue : Type 0 where
 abbrev pub readdressed : ℕ → ℕ → Envelope → Envelope
 readdressed from to e = record { from = from; to = to; time = e.time; body = e.body }
 
-abbrev pub is_in : Option ℕ → ℕ → Bool
-is_in None dc = false
-is_in (Some home) dc = home == dc
-
--- the shard is one of the session's home
-abbrev pub is_at_home : TopologyValue → ℕ → ℕ → Bool
-is_at_home top session shard = is_in (home_of top session) (dc_of top shard)
-
 -- the shards are in one data centre, or are the same shard of two
 abbrev pub are_near : TopologyValue → ℕ → ℕ → Bool
 are_near top a b = (dc_of top a == dc_of top b) || (shard_of top a == shard_of top b)
 
 -- Which actors may exchange envelopes: an actor with itself, the shards of one data centre with each other, the same shard
--- of two data centres, and a session with the shards of its home.
+-- of two data centres, and a session with every shard, since it may move to any data centre.
 abbrev pub may_exchange : TopologyValue → ℕ → ℕ → Bool
-may_exchange top a b =
-    (a == b)
-    || (if is_shard top a then (if is_shard top b then are_near top a b else is_at_home top b a) else (is_shard top b && is_at_home top a b))
+may_exchange top a b = (a == b) || (if is_shard top a then (if is_shard top b then are_near top a b else true) else is_shard top b)
 
 -- the actors to which an actor may send, by their nodes
 abbrev pub reached_from : TopologyValue → ℕ → List ℕ

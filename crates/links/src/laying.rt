@@ -15,16 +15,6 @@ use std::alloc::Global;
 /// How many envelopes a ring holds, where nothing else is asked for.
 pub const RING: usize = 256;
 
-/// Whether the shard is one of the session's home.
-fn is_at_home(topology: &Topology, session: Node, shard: Node) -> bool
-    ensures { result ≡ spec.is_at_home topology.now session shard }
-{
-    match topology.home_of(session) {
-        Some(home) => home == topology.dc_of(shard),
-        None => false,
-    }
-}
-
 /// Whether the shards are in one data centre, or are the same shard of two.
 fn are_near(topology: &Topology, a: Node, b: Node) -> bool
     ensures { result ≡ spec.are_near topology.now a b }
@@ -33,7 +23,7 @@ fn are_near(topology: &Topology, a: Node, b: Node) -> bool
 }
 
 /// Whether the two actors may exchange envelopes: an actor with itself, the shards of one data centre with each other, the
-/// same shard of two data centres, and a session with the shards of its home.
+/// same shard of two data centres, and a session with every shard, since it may move to any data centre.
 pub fn may_exchange(topology: &Topology, a: Node, b: Node) -> bool
     ensures { result ≡ spec.may_exchange topology.now a b }
 {
@@ -42,8 +32,7 @@ pub fn may_exchange(topology: &Topology, a: Node, b: Node) -> bool
     }
     match (topology.is_shard(a), topology.is_shard(b)) {
         (true, true) => are_near(topology, a, b),
-        (true, false) => is_at_home(topology, b, a),
-        (false, true) => is_at_home(topology, a, b),
+        (true, false) | (false, true) => true,
         (false, false) => false,
     }
 }

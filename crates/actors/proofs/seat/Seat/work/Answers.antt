@@ -2,7 +2,6 @@ use Rattle.std.proofs.Common.{◌≡◌, ◌∙◌, ◌<◌, ◌∷◌, ◌++◌
 use Rattle.std.specs.Prelude.{All}
 use Rattle.std.proofs.lemmas.Grind.{common_steps}
 use Rattle.logical_time.specs.declared.fault.Fault.{Fault}
-use Rattle.logical_time.specs.Fault.{number_of}
 use Rattle.messages.specs.declared.event.Event.{Event}
 use Rattle.actors.specs.Journals.{IsOwn}
 use Rattle.actors.specs.Turns.{IsOfRequest}
@@ -37,8 +36,8 @@ returns-in-Ok-clause-ok g c =
     rw (← c.self.view_is) (worked g.M.Machine.refuses c.in-Some.event c.in-Ok.number c.done.result _ _ c.done.ensures number (own_first s.backlog.items _ c.in-Some.event is inv.own)
     (record { room = c.in-Ok.ensures.room; journal = c.in-Ok.ensures.journal; outcomes = c.in-Ok.ensures.outcomes; refusals = refl; topology = refl; node = refl; limit = c.happen.ensures.limit; rings = (refl, refl) }) is (subst (λ (x : SeatValue). x.free ≡ true) (sym c.self.view_is) c.requires.free))
 
-pub invariant_of-self-then-number-gt-LAST_OF_REQUEST : goal.invariant_of-self-then-number-gt-LAST_OF_REQUEST
-invariant_of-self-then-number-gt-LAST_OF_REQUEST g c =
+pub invariant_of-self-then-not-is_of_request : goal.invariant_of-self-then-not-is_of_request
+invariant_of-self-then-not-is_of_request g c =
     let s = c.self.inside in
     let inv = c.self.invariant in
     let back : s.backlog.items ≡ c.push_front_reserved.new.self.items = search rules in
@@ -59,8 +58,8 @@ pub returns-in-Err-clause-refused : goal.returns-in-Err-clause-refused
 returns-in-Err-clause-refused g c =
     let s = c.self.inside in
     let is : s.backlog.items ≡ c.in-Some.event ∷ c.pop_front.new.self.items = search rules in
-    let above : 9 < number_of c.in-Err.fault = search rules in
-    kept_back g.M.Machine.refuses c.args.self.now c.in-Some.event c.pop_front.new.self.items c.in-Err.fault (rw (← c.self.view_is) is) above
+    let other : IsOfRequest c.in-Err.fault → ⊥ = search rules in
+    kept_back g.M.Machine.refuses c.args.self.now c.in-Some.event c.pop_front.new.self.items c.in-Err.fault (rw (← c.self.view_is) is) other
     (refusal_of g.M.Machine.refuses c.args.self.now c.in-Some.event c.in-Err.fault (rw (← c.self.view_is) c.in-Err.ensures.full)
     (rw (← c.self.view_is) (c.in-Err.ensures.fault s.topology s.node (through s.outgoing) c.self.invariant.recorded)))
 
