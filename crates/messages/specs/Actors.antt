@@ -1,9 +1,11 @@
 -- One actor, a shard or a session: its step at an event, and the replay of its journal, which is the list of its events.
-use Rattle.std.specs.Prelude.{ℕ, if◌then◌else◌, List, [], ◌∷◌, ◌++◌, Option, Some, None, option_map, option_and_then, Result, Ok, Err}
+use Rattle.std.specs.Prelude.{ℕ, if◌then◌else◌, nat_lt, List, [], ◌∷◌, ◌++◌, Option, Some, None, option_map, option_and_then, Result, Ok, Err}
 use Rattle.std.specs.List.{cons_option}
 use Rattle.std.specs.Option.{unwrap_or}
 use Rattle.logical_time.specs.declared.fault.Fault.{Fault}
 use Rattle.messages.specs.declared.envelope.Envelope.{Envelope}
+use Rattle.messages.specs.declared.outcome.Outcome.{Outcome}
+use Rattle.messages.specs.declared.outcome.Outcome.TheVariants as outcome
 use Rattle.messages.specs.declared.event.Event.{Event}
 use Rattle.messages.specs.declared.event.Event.TheVariants.{Submit, Handle, Collect}
 use Rattle.messages.specs.Topology.{TopologyValue, is_shard, home_of}
@@ -27,7 +29,7 @@ abbrev pub clock_of : ActorState → ℕ
 clock_of (OfShard a) = a.clock
 clock_of (OfSession a) = a.clock
 
--- an actor before its first event: a shard, or a session at its home
+-- an actor before its first event: a shard, or a session at its first home
 abbrev pub opening_actor : TopologyValue → ℕ → ActorState
 opening_actor top node =
     if is_shard top node then OfShard new_shard else OfSession (new_session (unwrap_or (home_of top node) 0))
@@ -90,3 +92,22 @@ finished_in (Some r) = r.finished
 -- all that a journal's events finish, in order: the outcomes of a session
 abbrev pub outcomes_by : TopologyValue → ℕ → List Event → List Finished
 outcomes_by top node journal = finished_in (replay_of top node journal)
+
+-- ## Homes
+
+-- the data centre of a session before its first event
+abbrev pub opening_home : TopologyValue → ℕ → ℕ
+opening_home top node = unwrap_or (home_of top node) 0
+
+-- the home after an outcome: a move's is the new one
+abbrev pub home_after : ℕ → Outcome → ℕ
+home_after home (outcome.Moved dc floor) = dc
+home_after home (outcome.Wrote commit stamp) = home
+home_after home (outcome.Read time answer) = home
+home_after home outcome.Collected = home
+
+-- the home of a session when it submitted the operation of this number, by its first home and what it finished: where the last
+-- move before left it
+abbrev pub home_before : ℕ → List Finished → ℕ → ℕ
+home_before home [] number = home
+home_before home (f ∷ fs) number = home_before (if nat_lt f.number number then home_after home f.outcome else home) fs number

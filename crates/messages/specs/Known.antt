@@ -56,7 +56,7 @@ is_met met waiter dependency = list_any (λ m. is_same_txn m.waiter waiter && is
 abbrev pub all_met : List Met → TxnValue → List WriterValue → Bool
 all_met met waiter dependencies = list_all (λ w. is_met met waiter w.txn) dependencies
 
--- whether this shard asked for the dependency for this waiter already
+-- whether this actor asked for the dependency for this waiter already
 abbrev pub is_asker : List Asker → TxnValue → TxnValue → ℕ → Bool
 is_asker askers dependency waiter from =
     list_any (λ k. is_same_txn k.dependency dependency && is_same_txn k.waiter waiter && (k.from == from)) askers

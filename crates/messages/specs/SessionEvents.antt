@@ -1,5 +1,6 @@
--- The events of a session: Done, PartNow, PartAt, submissions, and the outcome taken.
-use Rattle.std.specs.Prelude.{ℕ, max, Bool, true, false, ◌&&◌, ◌==◌, List, [], ◌∷◌, ◌++◌, map, Some, None, Result}
+-- The events of a session: Done, PartNow, PartAt, DepOk, and the outcome taken.
+use Rattle.std.specs.Prelude.{ℕ, max, Bool, true, false, ◌&&◌, ◌==◌, not, List, [], ◌∷◌, ◌++◌, map, filter, Some, None, Result}
+use Rattle.std.specs.List.{list_any}
 use Rattle.logical_time.specs.declared.fault.Fault.{Fault}
 use Rattle.logical_time.specs.Stamps.{StampValue, TxnValue, WriterValue}
 use Rattle.slice.specs.declared.read.Read.{Read}
@@ -10,30 +11,15 @@ use Rattle.messages.specs.declared.rows_at.AtTime.TheVariants as at
 use Rattle.messages.specs.declared.outcome.Outcome.{Outcome}
 use Rattle.messages.specs.declared.outcome.Outcome.TheVariants as outcome
 use Rattle.messages.specs.declared.body.Body.{Body}
-use Rattle.messages.specs.declared.body.Body.TheVariants.{ReadAt, Done, PartNow, PartAt}
+use Rattle.messages.specs.declared.body.Body.TheVariants.{ReadAt, DepOk, Done, PartNow, PartAt}
 use Rattle.messages.specs.declared.envelope.Envelope.{Envelope}
 use Rattle.messages.specs.Topology.{TopologyValue}
 use Rattle.messages.specs.Words.{is_same_txn, envelope}
 use Rattle.messages.specs.Clock.{ticked, on_clock}
-use Rattle.messages.specs.Session.{SessionState, SessionStep, Open, Idle, Writing, FirstRound, SecondRound, HeardNow, HeardAt, calm}
+use Rattle.messages.specs.Session.{SessionState, SessionStep, Open, Idle, Writing, FirstRound, SecondRound, Moving, HeardNow, HeardAt, calm, ended, moved}
 use Rattle.messages.specs.Rounds.{asked_nodes, is_missing, all_heard, effective_time, late_keys, late_nodes, is_missing_at, all_heard_at, rows_taken, answer_of, with_writers}
 
--- ## The end of an operation
-
--- the open operation ends with this outcome, at this floor and with these dependencies
-abbrev pub ended : ℕ → SessionState → ℕ → List WriterValue → Outcome → SessionStep
-ended n a floor dependencies o =
-    record {
-      state =
-          record a {
-            clock = n;
-            floor = floor;
-            dependencies = dependencies;
-            current = Idle;
-            untaken = Some (record { number = a.count; outcome = o });
-          };
-      sends = [];
-    }
+-- ## The end of a read
 
 -- a read completes: the floor is its effective time, its writers are added to the dependencies
 abbrev pub answered : ℕ → SessionState → Read → ℕ → List RowAt → SessionStep
@@ -62,6 +48,7 @@ done_in (Writing coordinator) me n a t commit stamp =
 done_in Idle me n a t commit stamp = calm n a
 done_in (FirstRound read heard) me n a t commit stamp = calm n a
 done_in (SecondRound read time first heard) me n a t commit stamp = calm n a
+done_in (Moving dc left floor) me n a t commit stamp = calm n a
 
 -- Done: ends the open write, if it is of this one; else ignored
 abbrev pub on_done : ℕ → ℕ → SessionState → TxnValue → ℕ → StampValue → SessionStep
@@ -108,6 +95,7 @@ part_now_in (FirstRound read heard) top me n a from number rows =
 part_now_in Idle top me n a from number rows = calm n a
 part_now_in (Writing coordinator) top me n a from number rows = calm n a
 part_now_in (SecondRound read time first heard) top me n a from number rows = calm n a
+part_now_in (Moving dc left floor) top me n a from number rows = calm n a
 
 -- PartNow: kept where it is of the open read in its first round and this shard hasn't answered; else ignored
 abbrev pub on_part_now : TopologyValue → ℕ → ℕ → SessionState → ℕ → ℕ → List RowNow → SessionStep
@@ -142,10 +130,44 @@ part_at_in (SecondRound read time first heard) top n a from number answer =
 part_at_in Idle top n a from number answer = calm n a
 part_at_in (Writing coordinator) top n a from number answer = calm n a
 part_at_in (FirstRound read heard) top n a from number answer = calm n a
+part_at_in (Moving dc left floor) top n a from number answer = calm n a
 
 -- PartAt: kept where it is of the open read in its second round and this shard is awaited; else ignored
 abbrev pub on_part_at : TopologyValue → ℕ → SessionState → ℕ → ℕ → AtTime → SessionStep
 on_part_at top n a from number answer = part_at_in a.current top n a from number answer
+
+-- ## DepOk
+
+-- what is missing once the answer about this transaction is there
+abbrev pub left_after : TxnValue → List WriterValue → List WriterValue
+left_after t left = filter (λ w. not (is_same_txn w.txn t)) left
+
+-- whether the answer about this transaction is missing
+abbrev pub is_left : TxnValue → List WriterValue → Bool
+is_left t left = list_any (λ w. is_same_txn w.txn t) left
+
+-- a missing answer came, by what is left: the last one ends the move
+abbrev pub moving_on : List WriterValue → ℕ → SessionState → ℕ → ℕ → SessionStep
+moving_on [] n a dc floor = moved n a dc floor
+moving_on (w ∷ ws) n a dc floor = record { state = record a { clock = n; current = Moving dc (w ∷ ws) floor }; sends = [] }
+
+-- an answer while a move is open, by whether it is for this move and missing
+abbrev pub dep_ok_if : Bool → ℕ → SessionState → ℕ → List WriterValue → ℕ → TxnValue → ℕ → SessionStep
+dep_ok_if true n a dc left floor dependency commit = moving_on (left_after dependency left) n a dc (max floor commit)
+dep_ok_if false n a dc left floor dependency commit = calm n a
+
+abbrev pub dep_ok_in : Open → ℕ → ℕ → SessionState → TxnValue → TxnValue → ℕ → SessionStep
+dep_ok_in (Moving dc left floor) me n a dependency waiter commit =
+    dep_ok_if (is_same_txn waiter (record { session = me; number = a.count }) && is_left dependency left) n a dc left floor dependency commit
+dep_ok_in Idle me n a dependency waiter commit = calm n a
+dep_ok_in (Writing coordinator) me n a dependency waiter commit = calm n a
+dep_ok_in (FirstRound read heard) me n a dependency waiter commit = calm n a
+dep_ok_in (SecondRound read time first heard) me n a dependency waiter commit = calm n a
+
+-- DepOk: counted once where it is for the open move. Else ignored, so also one for an earlier move, whose waiter has an earlier
+-- number
+abbrev pub on_dep_ok : ℕ → ℕ → SessionState → TxnValue → TxnValue → ℕ → SessionStep
+on_dep_ok me n a dependency waiter commit = dep_ok_in a.current me n a dependency waiter commit
 
 -- ## Events
 
@@ -154,6 +176,7 @@ abbrev pub heard : TopologyValue → ℕ → ℕ → SessionState → ℕ → Bo
 heard top me n a from (Done txn commit stamp) = on_done me n a txn commit stamp
 heard top me n a from (PartNow number rows) = on_part_now top me n a from number rows
 heard top me n a from (PartAt number time answer) = on_part_at top n a from number answer
+heard top me n a from (DepOk dependency waiter commit) = on_dep_ok me n a dependency waiter commit
 heard top me n a from body = calm n a
 
 -- a session handles an envelope: refused where its clock would leave its range

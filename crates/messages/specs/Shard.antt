@@ -61,7 +61,7 @@ pub record Met : Type 0 where
   pub waiter : TxnValue
   pub dependency : TxnValue
 
--- a shard that asked for a dependency before it was decided
+-- who asked for a dependency before it was decided: a shard for a write, or a session for its move
 pub record Asker : Type 0 where
   pub dependency : TxnValue
   pub waiter : TxnValue

@@ -2,14 +2,14 @@
 use Rattle.std.specs.Prelude.{ℕ, ◌+◌, ◌*◌, ◌-◌, ◌/◌, ◌%◌, Bool, ◌&&◌, nat_le, nat_lt, if◌then◌else◌, List, length, slice_get, Option, Some, None, option_and_then}
 use Rattle.std.specs.List.{list_all}
 
--- so many data centres of so many shards, the column families, and the home of each session
+-- so many data centres of so many shards, the column families, and the first home of each session
 pub record TopologyValue : Type 0 where
   pub dcs : ℕ
   pub shards : ℕ
   pub schema : List (List ℕ)
   pub homes : List ℕ
 
--- 1 to 4 data centres of 1 to 8 shards, and 1 to 16 sessions, each at home in one of the data centres
+-- 1 to 4 data centres of 1 to 8 shards, and 1 to 16 sessions, each at home first in one of the data centres
 abbrev pub is_topology : ℕ → ℕ → List ℕ → Bool
 is_topology dcs shards homes =
     nat_le 1 dcs && nat_le dcs 4 && nat_le 1 shards && nat_le shards 8 && nat_le 1 (length homes) && nat_le (length homes) 16
@@ -51,6 +51,6 @@ is_session top node = nat_le (shard_count top) node && nat_lt node (node_count t
 abbrev pub session_of : TopologyValue → ℕ → Option ℕ
 session_of top node = if is_session top node then Some (node - shard_count top) else None
 
--- the home of the session whose node this is, if it is one
+-- the first home of the session whose node this is, if it is one
 abbrev pub home_of : TopologyValue → ℕ → Option ℕ
 home_of top node = option_and_then (λ i. slice_get top.homes i) (session_of top node)

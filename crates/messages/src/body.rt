@@ -163,14 +163,14 @@ pub enum Body {
     DepCheck {
         /// The dependency.
         dependency: TxnId,
-        /// The write that depends on it.
+        /// The write that depends on it, or the session's move.
         waiter: TxnId,
     },
     /// The dependency is committed in this data centre.
     DepOk {
         /// The dependency.
         dependency: TxnId,
-        /// The write that depends on it.
+        /// The write that depends on it, or the session's move.
         waiter: TxnId,
         /// The commit time of the dependency in this data centre.
         commit: Time,

@@ -13,6 +13,11 @@ pub enum Op {
     Batch(Shared<Batch>),
     /// A read transaction.
     Read(Shared<Read>),
+    /// The session moves to another data centre, which is its home from the end of the move on.
+    Move {
+        /// The number of the new home.
+        dc: u16,
+    },
 }
 
 impl Op {

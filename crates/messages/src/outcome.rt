@@ -10,7 +10,7 @@ use std::alloc::AllocError;
 pub enum Outcome {
     /// A write is committed.
     Wrote {
-        /// The commit time in the session's home.
+        /// The commit time in the data centre where it was submitted.
         commit: Time,
         /// The stamp of the transaction.
         stamp: Stamp,
@@ -24,6 +24,14 @@ pub enum Outcome {
     },
     /// A read ended without an answer, since the versions of its effective time were collected.
     Collected,
+    /// The session moved. What it depends on is committed in its new home.
+    Moved {
+        /// The number of the new home.
+        dc: u16,
+        /// The floor there: the greatest commit time, in the new home, of what the session depends on, and 0 where that is
+        /// nothing.
+        floor: Time,
+    },
 }
 
 impl Outcome {

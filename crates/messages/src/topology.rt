@@ -109,7 +109,7 @@ impl Topology {
         &self.schema
     }
 
-    /// The home of each session, as the number of a data centre.
+    /// The first home of each session, as the number of a data centre.
     pub fn homes(&self) -> &[u16]
         ensures value { result.now ≡ self.now.homes }
         ensures limits { (1 ≤ length result.now) × (length result.now ≤ 16) }

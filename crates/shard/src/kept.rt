@@ -18,7 +18,7 @@ pub(crate) struct Kept {
     pub(crate) transactions: Transactions,
     /// The notices of replicated parts that came early.
     pub(crate) notices: Voters,
-    /// The writes that asked for what isn't decided.
+    /// Who asked for what isn't decided: for writes, and for moves.
     pub(crate) askers: Askers,
     /// The reads that wait.
     pub(crate) waiting: Waits,
