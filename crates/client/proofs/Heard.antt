@@ -41,6 +41,7 @@ still_fits now.Idle k n h = tt
 still_fits (now.Write coordinator) k n h = h
 still_fits (now.First f) k n h = h
 still_fits (now.Second s) k n h = h
+still_fits (now.Move home m) k n h = h
 
 pub calms : (k : Kept) (homes : List ℕ) (n : ℕ) (before : List Envelope) → FitsIn k k.current → IsOrdered k
     → Does (calm n (state_of k)) homes k (steps.calmed n k) before []
@@ -68,6 +69,7 @@ dones_in (now.Write coordinator) k homes n before t commit stamp e fits ordered 
     dones_if (is_same_txn t (record { session = k.node; number = k.count })) k homes n before coordinator t commit stamp fits ordered
 dones_in (now.First f) k homes n before t commit stamp e fits ordered = calms k homes n before fits ordered
 dones_in (now.Second s) k homes n before t commit stamp e fits ordered = calms k homes n before fits ordered
+dones_in (now.Move home m) k homes n before t commit stamp e fits ordered = calms k homes n before fits ordered
 
 -- ## Reads that complete
 
@@ -147,5 +149,6 @@ pub hear_at : (c : Current) (k : Kept) (homes : List ℕ) (n : ℕ) (before : Li
 hear_at now.Idle k homes n before from number answer e fit fits ordered = calms k homes n before fits ordered
 hear_at (now.Write coordinator) k homes n before from number answer e fit fits ordered = calms k homes n before fits ordered
 hear_at (now.First f) k homes n before from number answer e fit fits ordered = calms k homes n before fits ordered
+hear_at (now.Move home m) k homes n before from number answer e fit fits ordered = calms k homes n before fits ordered
 hear_at (now.Second s) k homes n before from number answer e fit fits ordered =
     parts_at (number == k.count) k homes n before s from answer e fits fit.0 fit.1 ordered

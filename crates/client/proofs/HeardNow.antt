@@ -22,6 +22,7 @@ use Rattle.client.specs.State.{state_of}
 use Rattle.client.specs.Steps as steps
 use Rattle.client.proofs.Planned.{mapped_twice}
 use Rattle.client.proofs.Submitted.{kept_in, ticked_some}
+use Rattle.client.proofs.HeardOk.{hear_ok}
 use Rattle.client.proofs.Heard.{asked_of, IsOrdered, Does, calms, completes, dones_in, hear_at}
 
 -- a round that is over, by the shards that are asked again
@@ -97,6 +98,7 @@ hear_now : (c : Current) (k : Kept) (homes : List ℕ) (n : ℕ) (before : List 
 hear_now now.Idle k homes n before from number rows e fit fits ordered = calms k homes n before fits ordered
 hear_now (now.Write coordinator) k homes n before from number rows e fit fits ordered = calms k homes n before fits ordered
 hear_now (now.Second s) k homes n before from number rows e fit fits ordered = calms k homes n before fits ordered
+hear_now (now.Move home m) k homes n before from number rows e fit fits ordered = calms k homes n before fits ordered
 hear_now (now.First f) k homes n before from number rows e fit fits ordered =
     parts_now (number == k.count) k homes n before f from rows e fits fit.0 fit.1 fit.2 ordered
 
@@ -107,6 +109,7 @@ hears : (b : Body) (k : Kept) (homes : List ℕ) (n : ℕ) (before : List Envelo
 hears (body.Done txn commit stamp) k homes n before from fits ordered = dones_in k.current k homes n before txn commit stamp refl fits ordered
 hears (body.PartNow number rows) k homes n before from fits ordered = hear_now k.current k homes n before from number rows refl fits fits ordered
 hears (body.PartAt number time answer) k homes n before from fits ordered = hear_at k.current k homes n before from number answer refl fits fits ordered
+hears (body.DepOk dependency waiter commit) k homes n before from fits ordered = hear_ok k.current k homes n before dependency waiter commit refl fits fits ordered
 hears b k homes n before from fits ordered = calms k homes n before fits ordered
 
 kept_hears : (k : Kept) (homes : List ℕ) (n : ℕ) (before : List Envelope) (e : Envelope) → ticked k.clock e.time ≡ Some n

@@ -1,7 +1,7 @@
 -- An envelope that a session heeds does more than move the clock.
-use Rattle.std.proofs.Common.{◌≡◌, ℕ, Bool, true, false, ap, refl, sym, subst, List, [], ◌∷◌, ◌++◌}
-use Rattle.std.specs.Prelude.{◌==◌, ◌&&◌}
-use Rattle.logical_time.specs.Stamps.{StampValue, TxnValue}
+use Rattle.std.proofs.Common.{◌≡◌, ◌∙◌, ℕ, max, Bool, true, false, ◌||◌, ap, refl, sym, subst, List, [], ◌∷◌, ◌++◌}
+use Rattle.std.specs.Prelude.{◌==◌, ◌&&◌, not, if◌then◌else◌}
+use Rattle.logical_time.specs.Stamps.{StampValue, TxnValue, WriterValue}
 use Rattle.slice.specs.declared.read.Read.{Read}
 use Rattle.messages.specs.declared.rows_now.RowNow.{RowNow}
 use Rattle.messages.specs.declared.rows_at.AtTime.{AtTime}
@@ -19,7 +19,7 @@ use Rattle.client.specs.declared.kept.Kept.{Kept}
 use Rattle.client.specs.declared.current.Current.{Current}
 use Rattle.client.specs.declared.current.Current.TheVariants as now
 use Rattle.client.specs.Current.{open_of}
-use Rattle.client.specs.Ignored.{IsIgnored, heeds_done, heeds_now, heeds_at, heeds}
+use Rattle.client.specs.Ignored.{IsIgnored, heeds_done, heeds_now, heeds_at, heeds_ok, heeds}
 use Rattle.client.specs.Represents.{FitsIn, Represents}
 use Rattle.client.specs.State.{state_of}
 use Rattle.client.proofs.Heard.{asked_of}
@@ -53,6 +53,7 @@ done_rests (now.Write coordinator) k t commit stamp same e =
     done_if_rests (is_same_txn t (record { session = k.node; number = k.count })) (state_of k) coordinator t commit stamp (ap open_of (sym same)) e
 done_rests (now.First f) k t commit stamp same e = refl
 done_rests (now.Second s) k t commit stamp same e = refl
+done_rests (now.Move home m) k t commit stamp same e = refl
 
 -- ## PartNow
 
@@ -87,6 +88,7 @@ now_rests : (c : Current) (k : Kept) (homes : List ℕ) (from number : ℕ) (row
 now_rests now.Idle k homes from number rows same fits e = refl
 now_rests (now.Write coordinator) k homes from number rows same fits e = refl
 now_rests (now.Second s) k homes from number rows same fits e = refl
+now_rests (now.Move home m) k homes from number rows same fits e = refl
 now_rests (now.First f) k homes from number rows same fits e =
     subst (λ nodes. ((number == k.count) && rounds.is_missing nodes f.heard from) ≡ false) (sym fits.1)
     (now_if_rests ((number == k.count) && rounds.is_missing (asked_of k f.read) f.heard from) (kept_in k homes) k.node (state_of k) f.read f.heard from rows
@@ -122,10 +124,54 @@ at_rests : (c : Current) (k : Kept) (homes : List ℕ) (from number : ℕ) (answ
 at_rests now.Idle k homes from number answer same fits e = refl
 at_rests (now.Write coordinator) k homes from number answer same fits e = refl
 at_rests (now.First f) k homes from number answer same fits e = refl
+at_rests (now.Move home m) k homes from number answer same fits e = refl
 at_rests (now.Second s) k homes from number answer same fits e =
     subst (λ nodes. ((number == k.count) && rounds.is_missing_at nodes s.time s.first s.heard from) ≡ false) (sym fits.1)
     (at_if_rests ((number == k.count) && rounds.is_missing_at (asked_of k s.read) s.time s.first s.heard from) (kept_in k homes) (state_of k) s.read s.time s.first s.heard from answer
     (ap open_of (sym same)) e)
+
+-- ## DepOk
+
+-- an answer that was counted isn't missing
+none_again : (d : TxnValue) (ws : List WriterValue) → machine.is_left d (machine.left_after d ws) ≡ false
+none_again d [] = refl
+none_again d (w ∷ ws) = go (is_same_txn w.txn d) refl (none_again d ws)
+  where
+    go : (s : Bool) → is_same_txn w.txn d ≡ s → machine.is_left d (machine.left_after d ws) ≡ false
+        → machine.is_left d (if not s then w ∷ machine.left_after d ws else machine.left_after d ws) ≡ false
+    go true same h = h
+    go false same h = ap (λ b. b || machine.is_left d (machine.left_after d ws)) same ∙ h
+
+on_rests : (left : List WriterValue) (a : SessionState) (d : TxnValue) (dc : ℕ) (before : List WriterValue) (floor later : ℕ) → machine.left_after d before ≡ left
+    → a.current ≡ session.Moving dc before floor → Rests (machine.moving_on left 0 a dc later) a → machine.is_left d before ≡ true → ⊥
+on_rests [] a d dc before floor later is moving e missing =
+    let idle : session.Idle ≡ a.current = open_stays (machine.moving_on [] 0 a dc later) a e in
+    cc
+on_rests (w ∷ ws) a d dc before floor later is moving e missing =
+    let more : session.Moving dc (w ∷ ws) later ≡ a.current = open_stays (machine.moving_on (w ∷ ws) 0 a dc later) a e in
+    let same : (w ∷ ws) ≡ before = cc in
+    let out : machine.is_left d before ≡ false = ap (machine.is_left d) (sym (is ∙ same)) ∙ none_again d before in
+    cc
+
+both : (b c : Bool) → (b && c) ≡ true → c ≡ true
+both true c e = e
+both false c e = absurd (cc)
+
+ok_if_rests : (b : Bool) (a : SessionState) (d : TxnValue) (dc : ℕ) (left : List WriterValue) (floor commit : ℕ) → a.current ≡ session.Moving dc left floor
+    → (b ≡ true → machine.is_left d left ≡ true) → Rests (machine.dep_ok_if b 0 a dc left floor d commit) a → b ≡ false
+ok_if_rests false a d dc left floor commit moving missing e = refl
+ok_if_rests true a d dc left floor commit moving missing e =
+    absurd (on_rests (machine.left_after d left) a d dc left floor (max floor commit) refl moving e (missing refl))
+
+ok_rests : (c : Current) (k : Kept) (d waiter : TxnValue) (commit : ℕ) → c ≡ k.current
+    → Rests (machine.dep_ok_in (open_of c) k.node 0 (state_of k) d waiter commit) (state_of k) → heeds_ok c k d waiter ≡ false
+ok_rests now.Idle k d waiter commit same e = refl
+ok_rests (now.Write coordinator) k d waiter commit same e = refl
+ok_rests (now.First f) k d waiter commit same e = refl
+ok_rests (now.Second s) k d waiter commit same e = refl
+ok_rests (now.Move home m) k d waiter commit same e =
+    let own = is_same_txn waiter (record { session = k.node; number = k.count }) in
+    ok_if_rests (own && machine.is_left d m.left) (state_of k) d home.dc m.left m.floor commit (ap open_of (sym same)) (both own (machine.is_left d m.left)) e
 
 -- ## Every envelope
 
@@ -134,6 +180,7 @@ rests : (b : Body) (k : Kept) (homes : List ℕ) (from : ℕ) → FitsIn k k.cur
 rests (body.Done txn commit stamp) k homes from fits e = done_rests k.current k txn commit stamp refl e
 rests (body.PartNow number rows) k homes from fits e = now_rests k.current k homes from number rows refl fits e
 rests (body.PartAt number time answer) k homes from fits e = at_rests k.current k homes from number answer refl fits e
+rests (body.DepOk dependency waiter commit) k homes from fits e = ok_rests k.current k dependency waiter commit refl e
 rests b k homes from fits e = refl
 
 pub ignored_rests : (k : Kept) (e : Envelope) (top : TopologyValue) (a : SessionState) → Represents k top a → IsIgnored top k.node a e → heeds k e.from e.body ≡ false

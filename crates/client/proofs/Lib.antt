@@ -3,6 +3,7 @@ pub mod Planned
 pub mod Ascending
 pub mod Submitted
 pub mod Heard
+pub mod HeardOk
 pub mod HeardNow
 pub mod Opening
 pub mod RightAnswers

@@ -12,7 +12,8 @@ use Rattle.messages.specs.declared.op.Op.TheVariants as op
 use Rattle.messages.specs.Rounds.{asked_nodes}
 use Rattle.client.specs.declared.kept.Kept.{Kept}
 use Rattle.client.specs.Accepted.{posted}
-use Rattle.client.specs.Envelopes.{node_in, begin_part, prepare_part, read_keys, batch_envelopes}
+use Rattle.client.specs.Envelopes.{node_in, begin_part, prepare_part, check_part, read_keys, batch_envelopes}
+use Rattle.client.specs.Home.{HomeValue}
 use Rattle.client.specs.State.{dependencies_of, state_of, topology_of}
 
 pub mapped_twice : {X Y Z : Type 0} (f : X → Y) (g : Y → Z) (xs : List X) → map g (map f xs) ≡ map (λ x. g (f x)) xs
@@ -57,3 +58,7 @@ pub asked_read : (k : Kept) (read : Read) (asked : List ShardKeys) → asked ≡
 asked_read k read asked e =
     ap (map (λ (s : ShardKeys). node_in k.home s.shard)) e
     ∙ mapped_twice (keys_on k.home.shards read.keys) (λ (s : ShardKeys). node_in k.home s.shard) (shards_asked k.home.shards read.keys)
+
+pub posted_move : (k : Kept) (n dc : ℕ) (home : HomeValue) → home ≡ record k.home { dc = dc }
+    → map (check_part home k.node n (record { session = k.node; number = k.count + 1 })) (dependencies_of k) ≡ posted k n (op.Move dc)
+posted_move k n dc home e = ap (λ (h : HomeValue). map (check_part h k.node n (record { session = k.node; number = k.count + 1 })) (dependencies_of k)) e

@@ -7,6 +7,9 @@ use Rattle.messages.specs.declared.rows_at.AtTime.{AtTime}
 use Rattle.messages.specs.declared.body.Body.{Body}
 use Rattle.messages.specs.declared.body.Body.TheVariants as body
 use Rattle.messages.specs.Words.{is_same_txn}
+use Rattle.dependencies.specs.declared.moving.MoveTaken.{MoveTaken}
+use Rattle.dependencies.specs.declared.moving.MoveTaken.TheVariants as in_move
+use Rattle.dependencies.specs.MoveTaken.{move_taken}
 use Rattle.read_txn.specs.declared.first_round.FirstTaken.{FirstTaken}
 use Rattle.read_txn.specs.declared.first_round.FirstTaken.TheVariants as in_first
 use Rattle.read_txn.specs.declared.second_round.SecondTaken.{SecondTaken}
@@ -15,12 +18,14 @@ use Rattle.read_txn.specs.Taken.{first_taken, second_taken}
 use Rattle.client.specs.declared.kept.Kept.{Kept}
 use Rattle.client.specs.declared.current.Current.{Current}
 use Rattle.client.specs.declared.current.Current.TheVariants as now
+use Rattle.client.specs.Home.{HomeValue}
 use Rattle.client.specs.Steps as steps
 
 done_node : (c : Current) (n : ℕ) (k : Kept) (t : TxnValue) (commit : ℕ) (stamp : StampValue) → (steps.done_in c n k t commit stamp).node ≡ k.node
 done_node now.Idle n k t commit stamp = refl
 done_node (now.First f) n k t commit stamp = refl
 done_node (now.Second s) n k t commit stamp = refl
+done_node (now.Move home m) n k t commit stamp = refl
 done_node (now.Write coordinator) n k t commit stamp = go (is_same_txn t (record { session = k.node; number = k.count }))
   where
     go : (b : Bool) → (steps.done_if b n k coordinator t commit stamp).node ≡ k.node
@@ -36,6 +41,7 @@ at_node : (c : Current) (n : ℕ) (k : Kept) (from number : ℕ) (answer : AtTim
 at_node now.Idle n k from number answer = refl
 at_node (now.Write coordinator) n k from number answer = refl
 at_node (now.First f) n k from number answer = refl
+at_node (now.Move home m) n k from number answer = refl
 at_node (now.Second s) n k from number answer = go (number == k.count)
   where
     go : (b : Bool) → (steps.at_if b n k s from answer).node ≡ k.node
@@ -51,16 +57,33 @@ now_node : (c : Current) (n : ℕ) (k : Kept) (from number : ℕ) (rows : List R
 now_node now.Idle n k from number rows = refl
 now_node (now.Write coordinator) n k from number rows = refl
 now_node (now.Second s) n k from number rows = refl
+now_node (now.Move home m) n k from number rows = refl
 now_node (now.First f) n k from number rows = go (number == k.count)
   where
     go : (b : Bool) → (steps.now_if b n k f from rows).node ≡ k.node
     go true = after_now_node (first_taken f from rows) n k
     go false = refl
 
+after_ok_node : (taken : MoveTaken) (n : ℕ) (k : Kept) (home : HomeValue) → (steps.after_ok taken n k home).node ≡ k.node
+after_ok_node (in_move.More m) n k home = refl
+after_ok_node (in_move.Ended floor) n k home = refl
+
+ok_node : (c : Current) (n : ℕ) (k : Kept) (dependency waiter : TxnValue) (commit : ℕ) → (steps.ok_in c n k dependency waiter commit).node ≡ k.node
+ok_node now.Idle n k dependency waiter commit = refl
+ok_node (now.Write coordinator) n k dependency waiter commit = refl
+ok_node (now.First f) n k dependency waiter commit = refl
+ok_node (now.Second s) n k dependency waiter commit = refl
+ok_node (now.Move home m) n k dependency waiter commit = go (is_same_txn waiter (record { session = k.node; number = k.count }))
+  where
+    go : (b : Bool) → (steps.ok_if b n k home m dependency commit).node ≡ k.node
+    go true = after_ok_node (move_taken m dependency commit) n k home
+    go false = refl
+
 node_kept : (n : ℕ) (k : Kept) (from : ℕ) (b : Body) → (steps.heard_kept n k from b).node ≡ k.node
 node_kept n k from (body.Done txn commit stamp) = done_node k.current n k txn commit stamp
 node_kept n k from (body.PartNow number rows) = now_node k.current n k from number rows
 node_kept n k from (body.PartAt number time answer) = at_node k.current n k from number answer
+node_kept n k from (body.DepOk dependency waiter commit) = ok_node k.current n k dependency waiter commit
 node_kept n k from b = refl
 
 pub node_stays : (k l : Kept) (n from : ℕ) (b : Body) → l ≡ steps.heard_kept n k from b → l.node ≡ k.node

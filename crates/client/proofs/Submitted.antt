@@ -1,9 +1,10 @@
 -- An accepted operation is the machine's step at a submission, and a refused one is refused as by the machine.
-use Rattle.std.proofs.Common.{◌≡◌, ◌∙◌, ℕ, ◌+◌, ◌^◌, ◌<◌, max, Bool, true, false, ap, refl, sym, subst, List, [], ◌++◌, Option, Some, None, append-nil, arith}
+use Rattle.std.proofs.Common.{◌≡◌, ◌∙◌, ℕ, ◌+◌, ◌^◌, ◌<◌, max, Bool, true, false, ap, refl, sym, subst, List, [], ◌∷◌, ◌++◌, map, Option, Some, None, append-nil, arith}
 use Rattle.std.specs.Prelude.{nat_lt, if◌then◌else◌, Result, Ok, Err, ◌≤◌, IsOk, IfErr}
 use Rattle.std.proofs.lemmas.Bool.Decides.{nat_tests}
 use Rattle.std.proofs.lemmas.Bool.{false≢true}
 use Rattle.logical_time.specs.declared.fault.Fault.{Fault}
+use Rattle.logical_time.specs.Stamps.{WriterValue}
 use Rattle.messages.specs.declared.envelope.Envelope.{Envelope}
 use Rattle.messages.specs.declared.op.Op.{Op}
 use Rattle.messages.specs.declared.op.Op.TheVariants as op
@@ -11,17 +12,17 @@ use Rattle.messages.specs.Clock.{ticked, on_clock}
 use Rattle.messages.specs.Topology.{TopologyValue}
 use Rattle.messages.specs.Words.{in_writer_order}
 use Rattle.messages.specs.Session.{SessionState, SessionStep, is_idle}
-use Rattle.messages.specs.Submitting.{begun, busy_or, plan_fault, submit_fault, submit_if, session_submit}
+use Rattle.messages.specs.Submitting.{begun, move_if, check_of, busy_or, plan_fault, submit_fault, submit_if, session_submit}
 use Rattle.client.specs.declared.kept.Kept.{Kept}
-use Rattle.client.specs.Accepted.{fault_of, opened, accepted, posted}
+use Rattle.client.specs.Accepted.{fault_of, settled, leaves, accepted, posted}
 use Rattle.client.specs.Current.{open_of}
-use Rattle.client.specs.Represents.{FitsIn, Represents, IsStep, IsStepOf, IsRefusalOf}
+use Rattle.client.specs.Represents.{Represents, IsStep, IsStepOf, IsRefusalOf}
 use Rattle.client.specs.State.{dependencies_of, state_of, topology_of}
 use Rattle.dependencies.proofs.Ordered.{ordered_stay}
 
 -- a topology with what is kept of it
 abbrev pub kept_in : Kept → List ℕ → TopologyValue
-kept_in k homes = record { dcs = k.dcs; shards = k.home.shards; schema = k.schema; homes = homes }
+kept_in k homes = record { dcs = k.home.dcs; shards = k.home.shards; schema = k.schema; homes = homes }
 
 pub ticked_some : (clock time n : ℕ) → n ≡ max clock time + 1 → n < 2 ^ 48 → ticked clock time ≡ Some n
 ticked_some clock time n e lt = go (nat_lt (max clock time + 1) (2 ^ 48)) (grind (arith, nat_tests))
@@ -30,9 +31,10 @@ ticked_some clock time n e lt = go (nat_lt (max clock time + 1) (2 ^ 48)) (grind
     go true h = ap Some (sym e)
     go false h = absurd (cc)
 
-same_plan : (k : Kept) (homes : List ℕ) (o : Op) → plan_fault (kept_in k homes) o ≡ plan_fault (topology_of k) o
+same_plan : (k : Kept) (homes : List ℕ) (o : Op) → plan_fault (kept_in k homes) k.home.dc o ≡ plan_fault (topology_of k) k.home.dc o
 same_plan k homes (op.Batch batch) = refl
 same_plan k homes (op.Read read) = refl
+same_plan k homes (op.Move dc) = refl
 
 same_fault : (k : Kept) (homes : List ℕ) (o : Op) → submit_fault (kept_in k homes) (state_of k) o ≡ submit_fault (topology_of k) (state_of k) o
 same_fault k homes o = ap (busy_or (is_idle (open_of k.current))) (same_plan k homes o)
@@ -40,19 +42,47 @@ same_fault k homes o = ap (busy_or (is_idle (open_of k.current))) (same_plan k h
 ordered_kept : (k : Kept) → dependencies_of k ≡ in_writer_order (dependencies_of k ++ [])
 ordered_kept k = sym (ap in_writer_order (append-nil (dependencies_of k)) ∙ ordered_stay (k.dependencies ++ k.added))
 
-begun_state : (k : Kept) (homes : List ℕ) (n : ℕ) (o : Op)
-    → (begun (kept_in k homes) k.node n (state_of k) o).state ≡ state_of (accepted k n o)
-begun_state k homes n (op.Batch batch) = ap (λ ds. record (state_of (accepted k n (op.Batch batch))) { dependencies = ds }) (ordered_kept k)
-begun_state k homes n (op.Read read) = ap (λ ds. record (state_of (accepted k n (op.Read read))) { dependencies = ds }) (ordered_kept k)
+-- a move that is accepted, by what it asks for
+left_stands : (ws : List WriterValue) (k : Kept) (homes : List ℕ) (n dc : ℕ)
+    → Represents (leaves ws (settled k) n (record k.home { dc = dc })) (kept_in k homes) (move_if ws (kept_in k homes) k.node n (state_of k) dc).state
+left_stands [] k homes n dc = record {
+  topology = refl;
+  state = ap (λ ds. record (state_of (leaves [] (settled k) n (record k.home { dc = dc }))) { dependencies = ds }) (ordered_kept k);
+  current = tt;
+  ordered = ordered_stay (k.dependencies ++ k.added);
+}
+left_stands (w ∷ ws) k homes n dc = record {
+  topology = refl;
+  state = ap (λ ds. record (state_of (leaves (w ∷ ws) (settled k) n (record k.home { dc = dc }))) { dependencies = ds }) (ordered_kept k);
+  current = (refl, refl, refl);
+  ordered = ordered_stay (k.dependencies ++ k.added);
+}
+
+begun_stands : (k : Kept) (homes : List ℕ) (n : ℕ) (o : Op) → Represents (accepted k n o) (kept_in k homes) (begun (kept_in k homes) k.node n (state_of k) o).state
+begun_stands k homes n (op.Batch batch) = record {
+  topology = refl;
+  state = ap (λ ds. record (state_of (accepted k n (op.Batch batch))) { dependencies = ds }) (ordered_kept k);
+  current = refl;
+  ordered = ordered_stay (k.dependencies ++ k.added);
+}
+begun_stands k homes n (op.Read read) = record {
+  topology = refl;
+  state = ap (λ ds. record (state_of (accepted k n (op.Read read))) { dependencies = ds }) (ordered_kept k);
+  current = (refl, refl, refl);
+  ordered = ordered_stay (k.dependencies ++ k.added);
+}
+begun_stands k homes n (op.Move dc) = left_stands (dependencies_of k) k homes n dc
+
+left_sends : (ws : List WriterValue) (k : Kept) (homes : List ℕ) (n dc : ℕ)
+    → (move_if ws (kept_in k homes) k.node n (state_of k) dc).sends ≡ map (check_of (topology_of k) k.node n (state_of k) dc) ws
+left_sends [] k homes n dc = refl
+left_sends (w ∷ ws) k homes n dc = refl
 
 begun_sends : (k : Kept) (homes : List ℕ) (n : ℕ) (o : Op)
     → (begun (kept_in k homes) k.node n (state_of k) o).sends ≡ posted k n o
 begun_sends k homes n (op.Batch batch) = refl
 begun_sends k homes n (op.Read read) = refl
-
-opened_fits : (k : Kept) (n : ℕ) (o : Op) → FitsIn (accepted k n o) (opened k o)
-opened_fits k n (op.Batch batch) = refl
-opened_fits k n (op.Read read) = (refl, refl, refl)
+begun_sends k homes n (op.Move dc) = left_sends (dependencies_of k) k homes n dc
 
 accepts : (k : Kept) (homes : List ℕ) (n : ℕ) (o : Op) → fault_of k o ≡ None → ticked k.clock k.clock ≡ Some n
     → session_submit (kept_in k homes) k.node (state_of k) o ≡ Ok (begun (kept_in k homes) k.node n (state_of k) o)
@@ -64,12 +94,7 @@ kept_step : (k : Kept) (homes : List ℕ) (n : ℕ) (o : Op) (before : List Enve
     → IsStep (begun (kept_in k homes) k.node n (state_of k) o) (kept_in k homes) (accepted k n o) before (before ++ posted k n o)
 kept_step k homes n o before =
     record {
-      state = record {
-        topology = refl;
-        state = begun_state k homes n o;
-        current = opened_fits k n o;
-        ordered = ordered_stay (k.dependencies ++ k.added);
-      };
+      state = begun_stands k homes n o;
       sends = ap (λ es. before ++ es) (sym (begun_sends k homes n o));
     }
 

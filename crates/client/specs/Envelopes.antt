@@ -6,8 +6,8 @@ use Rattle.planner.specs.declared.batches.ShardPart.{ShardPart}
 use Rattle.planner.specs.declared.reads.ShardKeys.{ShardKeys}
 use Rattle.messages.specs.declared.body.Body.TheVariants as body
 use Rattle.messages.specs.declared.envelope.Envelope.{Envelope}
-use Rattle.messages.specs.Home.{HomeValue}
 use Rattle.messages.specs.Words.{envelope}
+use Rattle.client.specs.Home.{HomeValue}
 
 -- the node of a shard
 abbrev pub node_in : HomeValue → ℕ → ℕ
@@ -22,6 +22,10 @@ prepare_part home node time txn coordinator part =
 abbrev pub read_keys : HomeValue → ℕ → ℕ → ℕ → Read → ShardKeys → Envelope
 read_keys home node time number read share =
     envelope node (node_in home share.shard) time (body.Read number (record read { keys = share.keys }))
+
+-- DepCheck, to the coordinator of a dependency, for what waits for it
+abbrev pub check_part : HomeValue → ℕ → ℕ → TxnValue → WriterValue → Envelope
+check_part home node time waiter w = envelope node (node_in home w.shard) time (body.DepCheck w.txn waiter)
 
 -- Begin, to the coordinator
 abbrev pub begin_part : HomeValue → ℕ → ℕ → TxnValue → List ℕ → List WriterValue → ShardPart → Envelope

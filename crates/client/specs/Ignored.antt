@@ -8,7 +8,7 @@ use Rattle.messages.specs.Topology.{TopologyValue}
 use Rattle.messages.specs.Words.{is_same_txn}
 use Rattle.messages.specs.Session.{SessionState, calm}
 use Rattle.messages.specs.Rounds.{is_missing}
-use Rattle.messages.specs.SessionEvents.{heard}
+use Rattle.messages.specs.SessionEvents.{heard, is_left}
 use Rattle.read_txn.specs.Taken.{is_awaited}
 use Rattle.client.specs.declared.kept.Kept.{Kept}
 use Rattle.client.specs.declared.current.Current.{Current}
@@ -26,6 +26,7 @@ heeds_done (now.Write coordinator) k t = is_same_txn t (record { session = k.nod
 heeds_done now.Idle k t = false
 heeds_done (now.First f) k t = false
 heeds_done (now.Second s) k t = false
+heeds_done (now.Move home m) k t = false
 
 -- whether PartNow of this number is kept
 abbrev pub heeds_now : Current → Kept → ℕ → ℕ → Bool
@@ -33,6 +34,7 @@ heeds_now (now.First f) k from number = (number == k.count) && is_missing f.aske
 heeds_now now.Idle k from number = false
 heeds_now (now.Write coordinator) k from number = false
 heeds_now (now.Second s) k from number = false
+heeds_now (now.Move home m) k from number = false
 
 -- whether PartAt of this number is kept, or ends the read
 abbrev pub heeds_at : Current → Kept → ℕ → ℕ → Bool
@@ -40,10 +42,21 @@ heeds_at (now.Second s) k from number = (number == k.count) && is_awaited s from
 heeds_at now.Idle k from number = false
 heeds_at (now.Write coordinator) k from number = false
 heeds_at (now.First f) k from number = false
+heeds_at (now.Move home m) k from number = false
+
+-- whether DepOk about this dependency, for this waiter, is counted
+abbrev pub heeds_ok : Current → Kept → TxnValue → TxnValue → Bool
+heeds_ok (now.Move home m) k dependency waiter =
+    is_same_txn waiter (record { session = k.node; number = k.count }) && is_left dependency m.left
+heeds_ok now.Idle k dependency waiter = false
+heeds_ok (now.Write coordinator) k dependency waiter = false
+heeds_ok (now.First f) k dependency waiter = false
+heeds_ok (now.Second s) k dependency waiter = false
 
 -- whether a body from a sender does more than move the clock
 abbrev pub heeds : Kept → ℕ → Body → Bool
 heeds k from (body.Done txn commit stamp) = heeds_done k.current k txn
 heeds k from (body.PartNow number rows) = heeds_now k.current k from number
 heeds k from (body.PartAt number time answer) = heeds_at k.current k from number
+heeds k from (body.DepOk dependency waiter commit) = heeds_ok k.current k dependency waiter
 heeds k from b = false

@@ -1,6 +1,7 @@
 pub mod Accepted
 pub mod Current
 pub mod Envelopes
+pub mod Home
 pub mod Ignored
 pub mod Represents
 pub mod Right

@@ -9,20 +9,21 @@ use Rattle.messages.specs.Session.{SessionState, SessionStep}
 use Rattle.messages.specs.Rounds.{asked_nodes}
 use Rattle.client.specs.declared.kept.Kept.{Kept}
 use Rattle.client.specs.declared.current.Current.{Current}
-use Rattle.client.specs.declared.current.Current.TheVariants.{Idle, Write, First, Second}
+use Rattle.client.specs.declared.current.Current.TheVariants.{Idle, Write, First, Second, Move}
 use Rattle.client.specs.State.{state_of, topology_of}
 
--- the rounds of a read ask the shards that hold its keys, and begin at the session's floor. While an operation is open,
--- all writers stand in order
+-- the rounds of a read ask the shards that hold its keys, and begin at the session's floor. A move is to a data centre of the
+-- same topology. While an operation is open, all writers stand in order
 abbrev pub FitsIn : Kept → Current → Type 0
 FitsIn k Idle = Unit {0}
 FitsIn k (Write coordinator) = k.added ≡ []
 FitsIn k (First f) = (k.added ≡ []) × (f.asked ≡ asked_nodes (topology_of k) (state_of k) f.read) × (f.floor ≡ k.floor)
 FitsIn k (Second s) = (k.added ≡ []) × (s.asked ≡ asked_nodes (topology_of k) (state_of k) s.read)
+FitsIn k (Move home m) = (k.added ≡ []) × (home.dcs ≡ k.home.dcs) × (home.shards ≡ k.home.shards)
 
 -- What is kept stands for this state of the machine, in this topology.
 pub record Represents (k : Kept) (top : TopologyValue) (a : SessionState) : Type 0 where
-  pub topology : top ≡ record top { dcs = k.dcs; shards = k.home.shards; schema = k.schema }
+  pub topology : top ≡ record top { dcs = k.home.dcs; shards = k.home.shards; schema = k.schema }
   pub state : a ≡ state_of k
   pub current : FitsIn k k.current
   pub ordered : in_writer_order k.dependencies ≡ k.dependencies

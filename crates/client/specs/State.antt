@@ -31,4 +31,4 @@ state_of k =
 
 -- what is kept of the topology
 abbrev pub topology_of : Kept → TopologyValue
-topology_of k = record { dcs = k.dcs; shards = k.home.shards; schema = k.schema; homes = [] }
+topology_of k = record { dcs = k.home.dcs; shards = k.home.shards; schema = k.schema; homes = [] }

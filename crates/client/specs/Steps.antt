@@ -9,6 +9,10 @@ use Rattle.messages.specs.declared.body.Body.{Body}
 use Rattle.messages.specs.declared.body.Body.TheVariants as body
 use Rattle.messages.specs.declared.envelope.Envelope.{Envelope}
 use Rattle.messages.specs.Words.{is_same_txn, envelope}
+use Rattle.dependencies.specs.declared.moving.MoveTaken.{MoveTaken}
+use Rattle.dependencies.specs.declared.moving.MoveTaken.TheVariants as in_move
+use Rattle.dependencies.specs.Moving.{MoveValue}
+use Rattle.dependencies.specs.MoveTaken.{move_taken}
 use Rattle.read_txn.specs.declared.late.LateShard.{LateShard}
 use Rattle.read_txn.specs.declared.first_round.FirstTaken.{FirstTaken}
 use Rattle.read_txn.specs.declared.first_round.FirstTaken.TheVariants as in_first
@@ -19,6 +23,7 @@ use Rattle.read_txn.specs.Taken.{first_taken, second_taken}
 use Rattle.client.specs.declared.kept.Kept.{Kept}
 use Rattle.client.specs.declared.current.Current.{Current}
 use Rattle.client.specs.declared.current.Current.TheVariants as now
+use Rattle.client.specs.Home.{HomeValue}
 
 -- nothing happens, but that the clock moves
 abbrev pub calmed : ℕ → Kept → Kept
@@ -40,6 +45,10 @@ finished n k floor dependencies added o =
 abbrev pub completed : ℕ → Kept → Completed → Kept
 completed n k c = finished n k c.effective k.dependencies c.writers (outcome.Read c.effective c.answer)
 
+-- a move ends: this home holds with its floor, and the dependencies stay
+abbrev pub moved : ℕ → Kept → HomeValue → ℕ → Kept
+moved n k home floor = finished n (record k { home = home }) floor k.dependencies k.added (outcome.Moved home.dc floor)
+
 -- ## Done
 
 abbrev pub done_if : Bool → ℕ → Kept → ℕ → TxnValue → ℕ → StampValue → Kept
@@ -53,6 +62,7 @@ done_in (now.Write coordinator) n k t commit stamp =
 done_in now.Idle n k t commit stamp = calmed n k
 done_in (now.First f) n k t commit stamp = calmed n k
 done_in (now.Second s) n k t commit stamp = calmed n k
+done_in (now.Move home m) n k t commit stamp = calmed n k
 
 -- ## PartAt
 
@@ -70,6 +80,7 @@ at_in (now.Second s) n k from number answer = at_if (number == k.count) n k s fr
 at_in now.Idle n k from number answer = calmed n k
 at_in (now.Write coordinator) n k from number answer = calmed n k
 at_in (now.First f) n k from number answer = calmed n k
+at_in (now.Move home m) n k from number answer = calmed n k
 
 -- ## PartNow
 
@@ -87,6 +98,7 @@ now_in (now.First f) n k from number rows = now_if (number == k.count) n k f fro
 now_in now.Idle n k from number rows = calmed n k
 now_in (now.Write coordinator) n k from number rows = calmed n k
 now_in (now.Second s) n k from number rows = calmed n k
+now_in (now.Move home m) n k from number rows = calmed n k
 
 -- ReadAt, to a shard with rows that aren't accepted
 abbrev pub read_late : ℕ → Kept → Second → LateShard → Envelope
@@ -107,6 +119,25 @@ sent_in (now.First f) n k from number rows = sent_if (number == k.count) n k f f
 sent_in now.Idle n k from number rows = []
 sent_in (now.Write coordinator) n k from number rows = []
 sent_in (now.Second s) n k from number rows = []
+sent_in (now.Move home m) n k from number rows = []
+
+-- ## DepOk
+
+abbrev pub after_ok : MoveTaken → ℕ → Kept → HomeValue → Kept
+after_ok (in_move.More m) n k home = record k { clock = n; current = now.Move home m }
+after_ok (in_move.Ended floor) n k home = moved n k home floor
+
+abbrev pub ok_if : Bool → ℕ → Kept → HomeValue → MoveValue → TxnValue → ℕ → Kept
+ok_if true n k home m dependency commit = after_ok (move_taken m dependency commit) n k home
+ok_if false n k home m dependency commit = calmed n k
+
+abbrev pub ok_in : Current → ℕ → Kept → TxnValue → TxnValue → ℕ → Kept
+ok_in (now.Move home m) n k dependency waiter commit =
+    ok_if (is_same_txn waiter (record { session = k.node; number = k.count })) n k home m dependency commit
+ok_in now.Idle n k dependency waiter commit = calmed n k
+ok_in (now.Write coordinator) n k dependency waiter commit = calmed n k
+ok_in (now.First f) n k dependency waiter commit = calmed n k
+ok_in (now.Second s) n k dependency waiter commit = calmed n k
 
 -- ## Each body
 
@@ -114,6 +145,7 @@ abbrev pub heard_kept : ℕ → Kept → ℕ → Body → Kept
 heard_kept n k from (body.Done txn commit stamp) = done_in k.current n k txn commit stamp
 heard_kept n k from (body.PartNow number rows) = now_in k.current n k from number rows
 heard_kept n k from (body.PartAt number time answer) = at_in k.current n k from number answer
+heard_kept n k from (body.DepOk dependency waiter commit) = ok_in k.current n k dependency waiter commit
 heard_kept n k from b = calmed n k
 
 abbrev pub heard_sends : ℕ → Kept → ℕ → Body → List Envelope

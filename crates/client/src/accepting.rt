@@ -6,22 +6,26 @@ ghost use Rattle.messages.specs.Clock.{ticked};
 ghost use Rattle.messages.specs.Submitting.{session_submit};
 ghost use Rattle.messages.specs.Rounds.{asked_nodes};
 ghost use Rattle.client.specs.declared.current.Current.TheVariants.{Idle};
-ghost use Rattle.client.specs.Accepted.{fault_of, accepted, posted};
+ghost use Rattle.client.specs.Accepted.{fault_of, accepted, leaves, posted};
 ghost use Rattle.client.specs.State.{dependencies_of, state_of, topology_of};
 ghost use Rattle.client.specs.Represents.{IsRefusalOf, IsSpentOrMemory};
 
 use crate::current::Current;
 use crate::envelopes::{nodes, post_writes, reads};
 use crate::hearing::put;
+use crate::home::Home;
 use crate::kept::Kept;
+use crate::moving::{check_move, end_move, move_checks};
 use column_family::Batch;
-use logical_time::{Clock, Fault, Node, Shard, TxnId, Writers};
+use dependencies::{Missing, OpenMove};
+use logical_time::{Clock, Fault, Node, Shard, Time, TxnId, Writers};
 use messages::{Dependencies, Envelope, Op, Outbox, Shared};
 use planner::{BatchPlan, check_batch, check_read, plan_batch, plan_read};
 use read_txn::FirstRound;
 use slice::Read;
 
-/// Whether the operation may be submitted: refused with `Busy` while another is open, and then as its plan is.
+/// Whether the operation may be submitted: refused with `Busy` while another is open, and then as a plan of it is, or as
+/// `check_move` refuses a move.
 #[inline(always)]
 fn check(kept: &Kept, op: &Op) -> Result<(), Fault>
     ensures { IsRefusedFor (fault_of kept.now op.now) result }
@@ -32,6 +36,7 @@ fn check(kept: &Kept, op: &Op) -> Result<(), Fault>
     match op {
         Op::Batch(batch) => check_batch(&kept.schema, batch.get()),
         Op::Read(read) => check_read(&kept.schema, read.get()),
+        Op::Move { dc } => check_move(kept, *dc),
     }
 }
 
@@ -196,6 +201,44 @@ fn submit_read(kept: &mut Kept, read: &Shared<Read>, outbox: &mut Outbox) -> Res
     Ok(accept(kept, clock, Current::First(round)))
 }
 
+/// Accepts a move to this home that asks for these dependencies, which can't fail, and gives it the next number: without
+/// dependencies it ends at once. The writers of the last read are among the dependencies.
+fn leave(kept: &mut Kept, clock: Clock, home: Home, missing: Missing) -> u64
+    requires counted { kept.old.count < 2 ^ 48 }
+    requires idle { kept.old.current ≡ Idle }
+    ensures number { result ≡ kept.old.count + 1 }
+    ensures state { kept.new ≡ leaves missing kept.old clock home }
+{
+    if missing.is_empty() {
+        let number = accept(kept, clock, Current::Idle);
+        end_move(kept, clock, home, Time::zero());
+        return number;
+    }
+    let open = OpenMove::new(missing);
+    accept(kept, clock, Current::Move { home, open })
+}
+
+/// Submits a move that is allowed.
+#[tactic(auto, using(crate::proofs::Idle::idle_allowed))]
+fn submit_move(kept: &mut Kept, dc: u16, outbox: &mut Outbox) -> Result<u64, Fault>
+    requires counted { kept.old.count ≤ kept.old.clock }
+    requires allowed { fault_of kept.old (op.Move dc) ≡ None }
+    ensures number { IfOk result (λ n. n ≡ kept.old.count + 1) }
+    ensures time { OnOk result (max kept.old.clock kept.old.clock + 1 < 2 ^ 48) }
+    ensures state { OnOk result (kept.new ≡ accepted kept.old (max kept.old.clock kept.old.clock + 1) (op.Move dc)) }
+    ensures sends { OnOk result (outbox.new.sent ≡ outbox.old.sent ++ posted kept.old (max kept.old.clock kept.old.clock + 1) (op.Move dc)) }
+    ensures refused { IfErr result (λ e. IsSpentOrMemory (ticked kept.old.clock kept.old.clock) e) }
+    ensures same { OnErr result (kept.new ≡ kept.old) }
+    ensures unsent { OnErr result (outbox.new.sent ≡ outbox.old.sent) }
+{
+    let clock = moved(kept)?;
+    let home = kept.home.moved(dc);
+    let (missing, checks) = move_checks(kept, clock, home)?;
+    settle(kept, checks.len(), outbox)?;
+    outbox.post_all(checks);
+    Ok(leave(kept, clock, home, missing))
+}
+
 /// Submits an operation. What is kept changes as `accepted` says.
 pub(crate) fn submit(kept: &mut Kept, op: Op, outbox: &mut Outbox) -> Result<u64, (Fault, Op)>
     requires counted { kept.old.count ≤ kept.old.clock }
@@ -216,6 +259,7 @@ pub(crate) fn submit(kept: &mut Kept, op: Op, outbox: &mut Outbox) -> Result<u64
     let submitted = match &op {
         Op::Batch(batch) => submit_batch(kept, batch.get(), outbox),
         Op::Read(read) => submit_read(kept, read, outbox),
+        Op::Move { dc } => submit_move(kept, *dc, outbox),
     };
     match submitted {
         Ok(number) => Ok(number),

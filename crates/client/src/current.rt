@@ -3,10 +3,12 @@ ghost use Rattle.std.specs.Prelude.{◌≡◌};
 ghost use Rattle.messages.specs.Session.{is_idle};
 ghost use Rattle.client.specs.Current.{open_of, coordinator_of};
 
+use crate::home::Home;
+use dependencies::OpenMove;
 use logical_time::Shard;
 use read_txn::{FirstRound, SecondRound};
 
-/// The open operation. A round of a read must be spent.
+/// The open operation. A round of a read and an open move must be spent.
 pub(crate) enum Current {
     /// None.
     Idle,
@@ -16,6 +18,13 @@ pub(crate) enum Current {
     First(FirstRound),
     /// A read in its second round.
     Second(SecondRound),
+    /// A move.
+    Move {
+        /// The new home.
+        home: Home,
+        /// What it misses.
+        open: OpenMove,
+    },
 }
 
 impl Current {
@@ -25,7 +34,8 @@ impl Current {
     {
         match self {
             Current::Idle => true,
-            Current::Write(_) | Current::First(_) | Current::Second(_) => false,
+            Current::Write(_) | Current::First(_) | Current::Second(_) | Current::Move { .. } =>
+                false,
         }
     }
 
@@ -35,7 +45,7 @@ impl Current {
     {
         match self {
             Current::Write(coordinator) => Some(*coordinator),
-            Current::Idle | Current::First(_) | Current::Second(_) => None,
+            Current::Idle | Current::First(_) | Current::Second(_) | Current::Move { .. } => None,
         }
     }
 
@@ -50,6 +60,7 @@ impl Current {
             Current::Second(round) => {
                 drop(round.surrender());
             }
+            Current::Move { home: _, open } => open.surrender(),
         }
     }
 }

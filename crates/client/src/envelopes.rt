@@ -3,9 +3,10 @@ ghost use Rattle.std.specs.Prelude.{◌≡◌, ◌≤◌, ◌+◌, ◌++◌, tru
 ghost use Rattle.std.specs.List.Sorted.{IsStrictlyIncreasing};
 ghost use Rattle.client.specs.Envelopes.{node_in, prepare_part, batch_envelopes, read_keys};
 
+use crate::home::Home;
 use column_family::Key;
 use logical_time::{Fault, Node, Shard, Time, TxnId};
-use messages::{Body, Cohorts, Dependencies, Envelope, Home, Outbox, Shared};
+use messages::{Body, Cohorts, Dependencies, Envelope, Outbox, Shared};
 use planner::{BatchPlan, ShardKeys, ShardPart};
 use slice::{Keys, Read};
 use std::alloc::Global;

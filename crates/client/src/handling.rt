@@ -8,6 +8,7 @@ ghost use Rattle.client.specs.Steps as steps;
 use crate::first_answers::part_now;
 use crate::hearing::{done, part_at};
 use crate::kept::Kept;
+use crate::moving::dep_ok;
 use logical_time::{Clock, Fault, Node};
 use messages::{Body, Envelope, Outbox, Refused};
 
@@ -51,6 +52,14 @@ fn hear(
                 },
             )),
         },
+        Body::DepOk {
+            dependency,
+            waiter,
+            commit,
+        } => {
+            dep_ok(kept, clock, dependency, waiter, commit);
+            Ok(())
+        }
         other => {
             drop(other);
             kept.clock = clock;

@@ -75,7 +75,7 @@ fn written(
 }
 
 /// Whether the transaction is the session's last operation.
-fn is_last(kept: &Kept, txn: TxnId) -> bool
+pub(crate) fn is_last(kept: &Kept, txn: TxnId) -> bool
     ensures { result ≡ is_same_txn txn (record { session = kept.now.node; number = kept.now.count }) }
 {
     let last = TxnId {

@@ -1,9 +1,10 @@
 //! What a session keeps.
 use crate::current::Current;
+use crate::home::Home;
 use column_family::Schema;
 use dependencies::DepSet;
 use logical_time::{Clock, Node, Time, Writers};
-use messages::{Home, Outcome};
+use messages::Outcome;
 use std::alloc::Global;
 
 /// What a session keeps. While an operation is open, no writers are to be added.
@@ -12,9 +13,7 @@ pub(crate) struct Kept {
     pub(crate) alloc: Global,
     /// The session.
     pub(crate) node: Node,
-    /// How many data centres there are, any of which can be a home.
-    pub(crate) dcs: u16,
-    /// Its home.
+    /// Its home, where the last move left it.
     pub(crate) home: Home,
     /// The column families.
     pub(crate) schema: Schema,
@@ -22,7 +21,8 @@ pub(crate) struct Kept {
     pub(crate) clock: Clock,
     /// How many operations were accepted.
     pub(crate) count: u64,
-    /// The greatest commit or effective time of its completed operations.
+    /// The greatest commit or effective time, in its home, of what it depends on and of the operations that it completed
+    /// there.
     pub(crate) floor: Time,
     /// What its next write depends on, but for the writers that are still to be added.
     pub(crate) dependencies: DepSet,

@@ -9,17 +9,18 @@ ghost use Rattle.client.specs.Represents.{Represents, IsStepOf, IsRefusalOf};
 ghost use Rattle.client.specs.Right.{AnswersRight};
 
 use crate::current::Current;
+use crate::home::Home;
 use crate::kept::Kept;
 use crate::{accepting, handling};
 use dependencies::DepSet;
 use logical_time::{Clock, Fault, Node, Time, Writers};
-use messages::{Envelope, Home, Op, Outbox, Outcome, Refused, Topology};
+use messages::{Envelope, Op, Outbox, Outcome, Refused, Topology};
 use std::alloc::Global;
 use std::marker::Model;
 
-/// A session: it submits one operation after the other to the shards of its home, and hears from them. It is the
-/// protocol's machine: for every state of the machine that it stands for, a call does that state's step. It must be
-/// closed.
+/// A session: it submits one operation after the other to the shards of its home, hears from them, and moves to another
+/// data centre. It is the protocol's machine: for every state of the machine that it stands for, a call does that state's
+/// step. It must be closed.
 pub struct Session {
     kept: Kept,
 }
@@ -40,11 +41,12 @@ impl Model for Session {
 fn home(topology: &Topology, node: Node) -> Home
     requires { IsSome (home_of topology.now node) }
     ensures dc { home_of topology.now node ≡ Some result.dc }
+    ensures dcs { result.dcs ≡ topology.now.dcs }
     ensures shards { result.shards ≡ topology.now.shards }
 {
     let _homes = topology.homes();
     match topology.home_of(node) {
-        Some(dc) => topology.home(dc),
+        Some(dc) => Home::new(dc, topology.dcs(), topology.shards()),
         None => unreachable!(),
     }
 }
@@ -63,7 +65,6 @@ impl Session {
         let kept = Kept {
             alloc,
             node,
-            dcs: topology.dcs(),
             home,
             schema,
             clock: Clock::new(),
@@ -77,12 +78,13 @@ impl Session {
         Ok(Session { kept })
     }
 
-    /// Submits an operation: a batch goes, cut by shards, to its coordinator and cohorts, and a read asks each shard that
-    /// holds one of its keys. The answer is the operation's number, from 1. It drops an outcome that wasn't taken. In
-    /// the order of m log m for m mutations or keys, with the dependencies that a batch takes along, and of the writers
-    /// of the read before it, however many came before. Refused with `Busy` while another operation is open, then as
-    /// `plan_batch` and `plan_read` refuse it, then with `ClockSpent`, and with `Memory`; then nothing changes, and the
-    /// operation is handed back.
+    /// Submits an operation: a batch goes, cut by shards, to its coordinator and cohorts, a read asks each shard that
+    /// holds one of its keys, and a move asks the coordinator of each dependency in the new data centre; a move without
+    /// dependencies ends at once. The answer is the operation's number, from 1. It drops an outcome that wasn't taken. In
+    /// the order of m log m for m mutations, keys or dependencies, with the dependencies that a batch takes along, and of
+    /// the writers of the read before it, however many came before. Refused with `Busy` while another operation is open,
+    /// then as `plan_batch` and `plan_read` refuse it, or, for a move, with `UnknownHome` and with `AlreadyHome`, then with
+    /// `ClockSpent`, and with `Memory`; then nothing changes, and the operation is handed back.
     pub fn submit(&mut self, op: Op, outbox: &mut Outbox) -> Result<u64, (Fault, Op)>
         ensures number { IfOk result (λ n. n ≡ self.old.count + 1) }
         ensures step { (top : TopologyValue) (a : SessionState) → Represents self.old top a
@@ -101,7 +103,7 @@ impl Session {
     }
 
     /// Whether the operation would be accepted now, with enough memory: refused as `submit` is otherwise, and never with
-    /// `Memory`. In the order of m log m for m mutations or keys.
+    /// `Memory`. In the order of m log m for m mutations or keys, and constant for a move.
     pub fn check(&self, op: &Op) -> Result<(), Fault>
         ensures allowed { (top : TopologyValue) (a : SessionState) → Represents self.now top a
             → OnOk result (IsOk (session_submit top self.now.node a op.now)) }
@@ -118,9 +120,17 @@ impl Session {
         self.kept.clock
     }
 
-    /// Handles an envelope: Done of the open write, or a shard's answer to the open read; what else comes moves the clock
-    /// alone. A session that completes a write or a read keeps its outcome. In the order of m log m for m rows, with the
-    /// last answer of a round. Refused with `ClockSpent` where the clock would leave its range, and with `Memory`, but not
+    /// The data centre where it is now: after a move it is the new one.
+    pub fn home(&self) -> u16
+        ensures { result ≡ self.now.home.dc }
+    {
+        self.kept.home.dc()
+    }
+
+    /// Handles an envelope: Done of the open write, a shard's answer to the open read, or DepOk of a dependency for the
+    /// open move, each dependency once; what else comes moves the clock alone. A session that completes an operation keeps
+    /// its outcome, and after a move its home is the new one. In the order of m log m for m rows, with the last answer of a
+    /// round, and logarithmic for DepOk. Refused with `ClockSpent` where the clock would leave its range, and with `Memory`, but not
     /// what is ignored; then nothing changes, and the envelope is handed back.
     pub fn handle(&mut self, envelope: Envelope, outbox: &mut Outbox) -> Result<(), Refused>
         ensures step { (top : TopologyValue) (a : SessionState) → Represents self.old top a
@@ -160,7 +170,6 @@ impl Session {
         let Kept {
             alloc: _,
             node: _,
-            dcs: _,
             home: _,
             schema: _,
             clock: _,

@@ -3,3 +3,4 @@ pub mod Txns
 pub mod DepOks
 pub mod Remembered
 pub mod KeptAskers
+pub mod Left

@@ -12,7 +12,7 @@ use Rattle.dependencies.specs.declared.waiters.Waiting.{Waiting}
 abbrev pub AskersValue : Type 0
 AskersValue = List (TxnValue × List Waiting)
 
--- the writes that wait for this dependency, in the order of first asking
+-- what waits for this dependency, in the order of first asking
 abbrev pub waiting_for : AskersValue → TxnValue → List Waiting
 waiting_for es t = unwrap_or (lookup (λ k. is_eq (txn_cmp t k)) es) []
 

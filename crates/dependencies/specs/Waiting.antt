@@ -7,7 +7,7 @@ use Rattle.messages.specs.declared.envelope.Envelope.{Envelope}
 use Rattle.messages.specs.Words.{is_same_txn, envelope}
 use Rattle.dependencies.specs.declared.waiters.Waiting.{Waiting}
 
--- whether the same shard asked for the same write already
+-- whether the same actor asked for the same operation already
 abbrev pub is_among : Waiting → List Waiting → Bool
 is_among one ws = list_any (λ w. is_same_txn w.waiter one.waiter && (w.from == one.from)) ws
 

@@ -81,8 +81,8 @@ fn remove(waiters: &mut BTreeMap<TxnId, Waiters>, dependency: TxnId)
     waiters.remove(&dependency);
 }
 
-/// Who asked whether a dependency is decided before it was, and isn't answered yet: for each dependency the waiting
-/// writes, with the shards that asked, in the order of their first asking. It must be closed.
+/// Who asked whether a dependency is decided before it was, and isn't answered yet: for each dependency what
+/// waits, with who asked, in the order of first asking: shards for writes, sessions for moves. It must be closed.
 pub struct Askers {
     alloc: Global,
     waiters: BTreeMap<TxnId, Waiters>,
@@ -107,7 +107,7 @@ impl Askers {
         }
     }
 
-    /// Keeps that a shard asked for a dependency of a waiting write, unless that is kept already. In the order of m + log n
+    /// Keeps who asked for a dependency of what waits, unless that is kept already. In the order of m + log n
     /// for m that asked for this dependency, and n dependencies. Refused with `Memory`, and then nothing changes.
     pub fn remember(&mut self, dependency: TxnId, waiter: TxnId, from: Node) -> Result<(), Fault>
         ensures ok { OnOk result ((t : TxnValue) → askers_of self.new t ≡ (if is_same_txn dependency t then with_asker (record { dependency = dependency; waiter = waiter; from = from }) (askers_of self.old t) else askers_of self.old t)) }

@@ -7,16 +7,16 @@ use messages::{Body, Envelope};
 use std::alloc::Global;
 use std::marker::Model;
 
-/// A write that waits for a dependency, and the shard that asked for it.
+/// An operation that waits for a dependency, and who asked for it: a shard for a write, a session for its move.
 #[derive(Clone, Copy)]
 pub(crate) struct Waiting {
-    /// The write.
+    /// The operation.
     pub(crate) waiter: TxnId,
-    /// The shard.
+    /// The actor.
     pub(crate) from: Node,
 }
 
-/// Whether this shard asked for this write already.
+/// Whether this actor asked for this operation already.
 fn has(waiting: &[Waiting], waiter: TxnId, from: Node) -> bool
     ensures { result ≡ is_among (record { waiter = waiter; from = from }) waiting.now }
 {
@@ -77,7 +77,7 @@ impl Waiters {
         }
     }
 
-    /// Adds one at the end, unless the same shard asked for the same write already.
+    /// Adds one at the end, unless the same actor asked for the same operation already.
     #[inline(always)]
     pub(crate) fn add(&mut self, one: Waiting) -> Result<(), Fault>
         ensures ok { OnOk result (self.new ≡ with_waiting one self.old) }
