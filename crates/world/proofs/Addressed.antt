@@ -20,7 +20,7 @@ use Rattle.world.proofs.SessionSends.{IsOfSession, AreOfSession, heard_sends, be
 use Rattle.world.proofs.About.{kind_of}
 use Rattle.world.proofs.Underway.{SaysLive, Live}
 use Rattle.world.proofs.Stations.{Stations, opening_stations, step_stations}
-use Rattle.world.proofs.Addresses.{dc_shard, known_shard, to_shard, done_session, stands}
+use Rattle.world.proofs.Addresses.{dc_shard, known_shard, to_shard, who_waits, done_session, stands}
 use Rattle.world.proofs.Runs.{every_run}
 use Rattle.world.proofs.LiveEvents.{run_live}
 
@@ -47,6 +47,7 @@ of_session top from to (Begin t rows cohorts dependencies) i q = q
 of_session top from to (Prepare t rows coordinator) i q = q
 of_session top from to (ReadNow number read) i q = q
 of_session top from to (ReadAt number time read) i q = q
+of_session top from to (DepCheck dependency waiter) i q = tt
 of_session top from to _ i q = absurd i
 
 module _ (top : TopologyValue) (w : Run) (k : Addressed top w) where
@@ -166,7 +167,7 @@ module _ (top : TopologyValue) (w : Run) (some : 0 < top.shards) (inv : Inv top 
   for_actor from to time (PrepareRemote t) s l f = inl (to_shard top w some inv live k.stations from to time (PrepareRemote t) s l refl)
   for_actor from to time (DepCheck dependency waiter) s l f = inl (to_shard top w some inv live k.stations from to time (DepCheck dependency waiter) s l refl)
   for_actor from to time (DepOk dependency waiter commit) s l f =
-      inl (to_shard top w some inv live k.stations from to time (DepOk dependency waiter commit) s l refl)
+      who_waits top w some inv live k.stations (dc_of top from) to waiter dependency l
 
 pub messages_are_for_actors : (top : TopologyValue) (events : List Event) → is_topology top.dcs top.shards top.homes ≡ true
     → MessagesAreForActors top (run top events)

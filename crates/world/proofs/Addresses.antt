@@ -1,5 +1,5 @@
--- Where messages go: what is for a shard goes to one, and Done goes to a session.
-use Rattle.std.proofs.Common.{◌≡◌, ℕ, ◌<◌, Bool, true, false, ◌&&◌, length, slice_get, Option, Some, None, inl, inr, refl, sym, ap, ◌∙◌, subst, arith, leb-true, ltb-true}
+-- Where messages go: what is for a shard goes to one, Done goes to a session, and DepOk to either.
+use Rattle.std.proofs.Common.{◌≡◌, ℕ, ◌<◌, Bool, true, false, ◌&&◌, length, slice_get, Option, Some, None, ◌⊎◌, inl, inr, refl, sym, ap, ◌∙◌, subst, arith, leb-true, ltb-true}
 use Rattle.std.specs.Prelude.{nat_le, nat_lt, option_and_then}
 use Rattle.std.specs.List.{list_all}
 use Rattle.std.specs.Option.{unwrap_or}
@@ -7,7 +7,7 @@ use Rattle.std.proofs.lemmas.Bool.{false≢true, and_parts}
 use Rattle.std.proofs.lemmas.Bool.Decides.{nat_tests}
 use Rattle.logical_time.specs.Stamps.{TxnValue}
 use Rattle.messages.specs.declared.body.Body.{Body}
-use Rattle.messages.specs.declared.body.Body.TheVariants.{Begin, Prepare, Yes, Commit, Read as ReadNow, ReadAt, ReplBegin, ReplPart, Notify, PrepareRemote, DepCheck, DepOk, Done}
+use Rattle.messages.specs.declared.body.Body.TheVariants.{Begin, Prepare, Yes, Commit, Read as ReadNow, ReadAt, ReplBegin, ReplPart, Notify, PrepareRemote, DepCheck, Done}
 use Rattle.messages.specs.Topology.{TopologyValue, is_topology, dc_of, shard_of, is_shard, is_session, session_of}
 use Rattle.messages.specs.Shard.{new_shard}
 use Rattle.messages.proofs.Numbering.{shard_again, shard_is_shard}
@@ -16,7 +16,7 @@ use Rattle.world.proofs.Among.{Among, get_among, all_among}
 use Rattle.world.proofs.Invariant.{home, Says, Inv}
 use Rattle.world.proofs.Near.{shard_below}
 use Rattle.world.proofs.About.{kind_of}
-use Rattle.world.proofs.Underway.{of_ballot, of_moving, no_move, Known, AtOrigin, SaysLive, Live}
+use Rattle.world.proofs.Underway.{WaitsFor, of_ballot, of_moving, Known, AtOrigin, SaysLive, Live}
 use Rattle.world.proofs.LiveHeard.{is_for_shard}
 use Rattle.world.proofs.Stations.{Stations}
 
@@ -95,9 +95,12 @@ module _ (top : TopologyValue) (w : Run) (some : 0 < top.shards) (inv : Inv top 
       dc_shard top to some (subst (λ d. d < top.dcs) k.2 ((live.shards from).entries.kept_parts k.0.0 k.0.1).here)
   to_shard from to time (PrepareRemote t) s k e = dc_shard top to some ((live.shards to).entries.kept_parts k.0.0 k.0.1).here
   to_shard from to time (DepCheck dependency waiter) s k e = dc_shard top to some k.1
-  to_shard from to time (DepOk dependency waiter commit) s (of_ballot k) e = dc_shard top to some ((live.shards to).entries.kept_ballots k.ballot k.among).here
-  to_shard from to time (DepOk dependency waiter commit) s (of_moving b m is own moves k n q) e = absurd (no_move (dc_of top from) b.op moves)
   to_shard from to time _ s k e = absurd (false≢true e)
+
+  -- who waits for a dependency is told: a shard or a session
+  pub who_waits : (dc to : ℕ) (waiter dependency : TxnValue) → WaitsFor top w dc to waiter dependency → (is_shard top to ≡ true) ⊎ (is_session top to ≡ true)
+  who_waits dc to waiter dependency (of_ballot k) = inl (dc_shard top to some ((live.shards to).entries.kept_ballots k.ballot k.among).here)
+  who_waits dc to waiter dependency (of_moving b m is own moves k n q) = inr (sym (ap (is_session top) own) ∙ stations.submitted b m)
 
   -- a session that submitted is told
   pub done_session : (from to time : ℕ) (t : TxnValue) (commit : ℕ) (stamp : _) → Says top w from to time (Done t commit stamp) → to ≡ t.session

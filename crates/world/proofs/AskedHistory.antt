@@ -110,6 +110,7 @@ asked_only top w dc s c e = by_op s.op refl e
         → IsAsked top w dc s c
     by_op (op.Batch batch) is f = by_decision batch is (decision_of (named_by s) (w.shards (lead top dc batch))) refl f
     by_op (op.Read read) is f = absurd (cc)
+    by_op (op.Move there) is f = absurd (cc)
 
 -- the decision of a transaction is found by its number
 found_by : (ds : List Decision) (d : Decision) (t : TxnValue) → Among d ds → d.txn ≡ t → ((e : Decision) → Among e ds → e.txn ≡ d.txn → e ≡ d)

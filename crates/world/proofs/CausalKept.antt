@@ -15,7 +15,8 @@ use Rattle.messages.specs.Shard.{ShardStep}
 use Rattle.messages.specs.Session.{SessionState, SessionStep, Open, Finished, is_idle}
 use Rattle.messages.specs.Rounds.{with_writers}
 use Rattle.messages.specs.SessionEvents.{session_taken}
-use Rattle.world.specs.Run.{Run, Event, Submission, Completed, submission_of, completed_of, ended_by, with_ended, after_shard, after_session, after_submission}
+use Rattle.messages.specs.Actors.{home_after}
+use Rattle.world.specs.Run.{Run, Event, Submission, Completed, submission_of, completed_of, ended_by, with_ended, after_shard, after_session}
 use Rattle.messages.proofs.WritersInOrder.{writers_stay}
 use Rattle.world.specs.Committed.{time_of, IsNotBelow}
 use Rattle.world.proofs.Among.{Among, among_contains, append_first, append_second, last_or_old, contains_among, find_some, same_txn}
@@ -28,6 +29,8 @@ use Rattle.world.proofs.LastingAll.{from_grows}
 use Rattle.world.proofs.ShardSteps.{actor_same, shard_run_grows}
 use Rattle.world.proofs.SessionSteps.{Stays, EndLeaves, Ends, SessionAble, session_run_grows}
 use Rattle.world.proofs.Transcripts.{ended_or_old, old_stays, ended_is_last, nothing_ended, ended_as_told}
+use Rattle.world.proofs.Entries.{submission_found}
+use Rattle.world.proofs.BegunCases.{its_submission, opened_state, opened_run}
 use Rattle.world.proofs.Causal.{txn_ended, Covered, direct, via, LaterCovered, writers_in, EndCausal, EndedOnce, NamedOnce, HomeBetween, HomeSince, Causal}
 
 -- ## What is covered stays so
@@ -48,6 +51,7 @@ end_grows o e top {w} {x} c g f =
       wrote = λ batch commit stamp k. f (txn_ended c) k;
       answered = λ read time answer k. (k.0, from_grows g k.1, λ u m. f u.txn (k.2 u m));
       given_up = λ read k. k;
+      moved = λ dc floor k. k;
     }) o e
 
 -- ## A shard's step
@@ -155,6 +159,7 @@ module _ (top : TopologyValue) (w : Run) (node : ℕ) (st : SessionStep) (ev : E
             answered = λ read time answer v.
                 subst (λ d. Covered w t d) (sym v.1.2) (covered_more (w.sessions node).dependencies (with_writers (w.sessions node).dependencies v.1.0) (old_writers v.1.0 (w.sessions node).dependencies) old);
             given_up = λ read v. subst (λ d. Covered w t d) (sym v) old;
+            moved = λ dc floor v. subst (λ d. Covered w t d) (sym v.1) old;
           })
 
   same_submitted : (b : Submission) → Among b w.submitted → Among b x.submitted
@@ -220,6 +225,7 @@ module _ (top : TopologyValue) (w : Run) (node : ℕ) (st : SessionStep) (ev : E
               λ u m. new_later c e n u.txn (subst (λ d. Covered w u.txn d) (sym v.1.2) (direct (with_writers (w.sessions node).dependencies v.1.0) u (new_writers v.1.0 (w.sessions node).dependencies u m) refl)),
             );
             given_up = λ read v. tt;
+            moved = λ dc floor v. tt;
           })
 
   fits_go : (c : Completed) → Among c w.transcript ⊎ (added ≡ Some c) → Fits c.op c.outcome
@@ -235,23 +241,58 @@ module _ (top : TopologyValue) (w : Run) (node : ℕ) (st : SessionStep) (ev : E
   time_new : (o : Op) (r : Outcome) → Fits o r → EndLeaves o r top w node st.state.floor st.state.dependencies → time_of r ≤ st.state.floor
   time_new =
       end_cases (λ o r. EndLeaves o r top w node st.state.floor st.state.dependencies → time_of r ≤ st.state.floor)
-      (record { wrote = λ batch commit stamp v. v.0; answered = λ read time answer v. let q = v.0 in omega arith; given_up = λ read v. omega arith })
-
-  -- its home stays
-  homes_go : (i : ℕ) (b : Bool) → (i == node) ≡ b → Stays (w.sessions node) st.state ⊎ Ends top w node st.state
-      → (cond b (session_taken st.state) (w.sessions i)).home ≡ (w.sessions i).home
-  homes_go i true e (inl s) = s.home ∙ ap (λ j. (w.sessions j).home) (sym (eqb-true i node e))
-  homes_go i true e (inr s) = s.home ∙ ap (λ j. (w.sessions j).home) (sym (eqb-true i node e))
-  homes_go i false e turn = refl
+      (record { wrote = λ batch commit stamp v. v.0; answered = λ read time answer v. let q = v.0 in omega arith; given_up = λ read v. omega arith; moved = λ dc floor v. omega arith })
 
   still_there : (d : Completed) → Among d w.transcript → Among d x.transcript
   still_there d m = old_stays d w.transcript added m
 
-  home_before : (c : Completed) → HomeSince x c → HomeSince w c
-  home_before c h = (sym (homes_go c.node (c.node == node) refl able.turn) ∙ h.0, λ d m. h.1 d (still_there d m))
+  new_there : (d : Completed) → added ≡ Some d → Among d x.transcript
+  new_there d n = ended_is_last d w.transcript added n
+
+  -- what it ends is an entry
+  abbrev entry : Ends top w node st.state → Submission → Completed
+  entry e s = record { node = node; number = (w.sessions node).count; home = s.home; op = s.op; outcome = e.came }
+
+  adds_one : Ends top w node st.state → (d : Completed) × (added ≡ Some d)
+  adds_one e =
+      let is = submission_found top w e.opened.submission (record { session = node; number = (w.sessions node).count }) inv.submitted e.opened.among
+      (λ j. record { session = e.opened.session j; number = e.opened.number j }) in
+      (entry e e.opened.submission, ended_as_told w.submitted node st (told e) e.untaken ∙ ap (option_map (entry e)) is)
+
+  -- an operation that ended before has a smaller number than the one that ends
+  old_number : (c : Completed) → Among c w.transcript → Ends top w node st.state → c.node ≡ node → c.number < (w.sessions node).count
+  old_number c m e q = subst (λ i. c.number < (w.sessions i).count) q (k.closed c m (ap (λ i. is_idle (w.sessions i).current) q ∙ e.busy))
+
+  -- where the session is still in the home of an entry, it left it at no end
+  ends_at_home : (c : Completed) → Among c w.transcript → c.node ≡ node → HomeSince x c → (e : Ends top w node st.state) → st.state.home ≡ (w.sessions node).home
+  ends_at_home c m q h e =
+      let new = adds_one e in
+      let is = added_new new.0 new.1 in
+      let number = is.1.number in
+      let less = old_number c m e q in
+      let here : new.0.home ≡ c.home = h.1 new.0 (new_there new.0 new.1) (is.1.node_is ∙ sym q) (omega arith) in
+      ap (λ z. z.home) (sym (state_at c q)) ∙ h.0 ∙ sym here ∙ is.1.home
+
+  -- so its home is as it was, and its floor isn't less
+  home_turn : (c : Completed) → Among c w.transcript → c.node ≡ node → HomeSince x c → Stays (w.sessions node) st.state ⊎ Ends top w node st.state
+      → (st.state.home ≡ (w.sessions node).home) × ((w.sessions node).floor ≤ st.state.floor)
+  home_turn c m q h (inl s) = (s.home, let same = s.floor in omega arith)
+  home_turn c m q h (inr e) = let same = ends_at_home c m q h e in (same, e.floor same)
+
+  home_go : (c : Completed) → Among c w.transcript → HomeSince x c → (b : Bool) → (c.node == node) ≡ b
+      → ((cond b (session_taken st.state) (w.sessions c.node)).home ≡ (w.sessions c.node).home)
+      × ((w.sessions c.node).floor ≤ (cond b (session_taken st.state) (w.sessions c.node)).floor)
+  home_go c m h true e =
+      let q = eqb-true c.node node e in
+      let k = home_turn c m q h able.turn in
+      (k.0 ∙ ap (λ j. (w.sessions j).home) (sym q), subst (λ j. (w.sessions j).floor ≤ st.state.floor) (sym q) k.1)
+  home_go c m h false e = (refl, le_refl (w.sessions c.node).floor)
+
+  home_before : (c : Completed) → Among c w.transcript → HomeSince x c → HomeSince w c
+  home_before c m h = (sym (home_go c m h (c.node == node) refl).0 ∙ h.0, λ d i. h.1 d (still_there d i))
 
   floor_go : (c : Completed) → Among c w.transcript ⊎ (added ≡ Some c) → HomeSince x c → time_of c.outcome ≤ (x.sessions c.node).floor
-  floor_go c (inl m) h = le_trans (k.floor c m (home_before c h)) (grows.sessions c.node).floor
+  floor_go c (inl m) h = le_trans (k.floor c m (home_before c m h)) (home_go c m h (c.node == node) refl).1
   floor_go c (inr m) h =
       let e = added_new c m in
       let le = time_new e.0.what e.0.came e.0.fits e.0.leaves in
@@ -272,10 +313,6 @@ module _ (top : TopologyValue) (w : Run) (node : ℕ) (st : SessionStep) (ev : E
       let q = e.0.count in
       let r = e.1.number in
       subst (λ z. c.number ≤ z.count) (sym (state_at c e.1.node_is)) (omega arith)
-
-  -- an operation that ended before has a smaller number than the one that ends
-  old_number : (c : Completed) → Among c w.transcript → Ends top w node st.state → c.node ≡ node → c.number < (w.sessions node).count
-  old_number c m e q = subst (λ i. c.number < (w.sessions i).count) q (k.closed c m (ap (λ i. is_idle (w.sessions i).current) q ∙ e.busy))
 
   above_go : (c : Completed) → Among c w.transcript → (e : Ends top w node st.state) → (d : Completed) → added ≡ Some d → IsNew w node e.what e.came d → c.node ≡ node → HomeSince w c
       → (o : Op) (r : Outcome) → Fits o r → e.what ≡ o → d.outcome ≡ r → EndLeaves o r top w node st.state.floor st.state.dependencies → IsNotBelow r (time_of c.outcome)
@@ -300,14 +337,12 @@ module _ (top : TopologyValue) (w : Run) (node : ℕ) (st : SessionStep) (ev : E
         answered = λ read time answer t p v.
             let le = k.floor c m home in
             let f = ap (λ i. (w.sessions i).floor) q in
-            let up = e.floor in
+            let up = e.floor (e.home ∙ ap (home_after (w.sessions node).home) (sym is.outcome ∙ p)) in
             let same = v.0 in
             omega arith;
         given_up = λ read t p v. tt;
+        moved = λ dc floor t p v. tt;
       })
-
-  new_there : (d : Completed) → added ≡ Some d → Among d x.transcript
-  new_there d n = ended_is_last d w.transcript added n
 
   ordered_go : (c d : Completed) → Among c w.transcript ⊎ (added ≡ Some c) → Among d w.transcript ⊎ (added ≡ Some d) → c.node ≡ d.node → c.number < d.number → HomeBetween x c d
       → IsNotBelow d.outcome (time_of c.outcome)
@@ -406,37 +441,26 @@ module _ (top : TopologyValue) (w : Run) (node : ℕ) (st : SessionStep) (ev : E
 
 -- ## A submission
 
-module _ (top : TopologyValue) (w : Run) (node n : ℕ) (o : Op) (inv : Inv top w) (lt : (w.sessions node).clock < n) (current : Open) (sends : List Envelope) (k : Causal top w) where
-  abbrev opened : SessionStep
-  opened =
-      record {
-        state = record (w.sessions node) { clock = n; count = (w.sessions node).count + 1; current = current; untaken = None };
-        sends = sends;
-      }
+-- What a submission opens, in a run with these events
+module _ (top : TopologyValue) (w : Run) (es : List Event) (node n : ℕ) (o : Op) (inv : Inv top w) (lt : (w.sessions node).clock < n) (current : Open) (sends : List Envelope) (k : Causal top w) where
+  abbrev state_then : SessionState
+  state_then = opened_state w node n current
 
   abbrev then : Run
-  then = after_submission (Ok opened) w node o
+  then = opened_run es w node n o current sends
 
   abbrev its : Submission
-  its =
-      record {
-        session = node;
-        number = (w.sessions node).count + 1;
-        home = (w.sessions node).home;
-        time = n;
-        op = o;
-        dependencies = (w.sessions node).dependencies;
-      }
+  its = its_submission w node n o
 
   more_submitted : (b : Submission) → Among b w.submitted → Among b then.submitted
   more_submitted b m = append_first b w.submitted (its ∷ []) m
 
   -- what a session has but for its clock, count and what is open
-  state_go : {X : Type 0} (f : SessionState → X) → f opened.state ≡ f (w.sessions node) → (i : ℕ) (b : Bool) → (i == node) ≡ b → f (cond b opened.state (w.sessions i)) ≡ f (w.sessions i)
+  state_go : {X : Type 0} (f : SessionState → X) → f state_then ≡ f (w.sessions node) → (i : ℕ) (b : Bool) → (i == node) ≡ b → f (cond b state_then (w.sessions i)) ≡ f (w.sessions i)
   state_go f q i true e = q ∙ ap (λ j. f (w.sessions j)) (sym (eqb-true i node e))
   state_go f q i false e = refl
 
-  count_go : (i : ℕ) (b : Bool) → (i == node) ≡ b → (w.sessions i).count ≤ (cond b opened.state (w.sessions i)).count
+  count_go : (i : ℕ) (b : Bool) → (i == node) ≡ b → (w.sessions i).count ≤ (cond b state_then (w.sessions i)).count
   count_go i true e = let q = ap (λ j. (w.sessions j).count) (eqb-true i node e) in omega arith
   count_go i false e = le_refl (w.sessions i).count
 
@@ -452,7 +476,7 @@ module _ (top : TopologyValue) (w : Run) (node n : ℕ) (o : Op) (inv : Inv top 
         next = subst (λ d. Covered then t d) (sym (state_go (λ s. s.dependencies) refl c.node (c.node == node) refl)) (covered_grows {w = w} {x = then} (w.sessions c.node).dependencies more_submitted l.next);
       }
 
-  closed_then : (c : Completed) → Among c w.transcript → (b : Bool) → (c.node == node) ≡ b → is_idle (cond b opened.state (w.sessions c.node)).current ≡ false → c.number < (cond b opened.state (w.sessions c.node)).count
+  closed_then : (c : Completed) → Among c w.transcript → (b : Bool) → (c.node == node) ≡ b → is_idle (cond b state_then (w.sessions c.node)).current ≡ false → c.number < (cond b state_then (w.sessions c.node)).count
   closed_then c m true e busy =
       let le = k.number c m in
       let q = ap (λ j. (w.sessions j).count) (eqb-true c.node node e) in

@@ -1,11 +1,11 @@
 -- Every run keeps causal order.
-use Rattle.std.proofs.Common.{Ok, List, [], ◌∷◌, map, ◌+◌, ◌≡◌, ℕ, ◌<◌, Bool, true, false, Option, Some, None, refl, le_of_lt, slice_get}
+use Rattle.std.proofs.Common.{Ok, List, [], ◌∷◌, ◌++◌, ◌≡◌, ℕ, ◌<◌, Bool, true, false, Option, Some, None, refl, subst, le_of_lt, slice_get}
 use Rattle.logical_time.specs.declared.fault.Fault.{Fault}
 use Rattle.messages.specs.declared.op.Op.{Op}
 use Rattle.messages.specs.declared.envelope.Envelope.{Envelope}
 use Rattle.messages.specs.Topology.{TopologyValue, is_shard, is_session}
 use Rattle.messages.specs.Clock.{ticked, on_clock}
-use Rattle.messages.specs.Submitting.{begun, submit_fault, submit_if as session_submit_if}
+use Rattle.messages.specs.Submitting.{write_begun, read_begun, begun, plan_fault, submit_fault, submit_if as session_submit_if}
 use Rattle.messages.specs.SessionEvents.{heard, session_handle}
 use Rattle.messages.specs.ShardEvents.{handled, shard_handle, collected}
 use Rattle.world.specs.Run.{Run, Event, Submit, Deliver, Collect, after_shard, after_session, after_submission, submit_if, deliver_if, deliver_for, collect_if, step}
@@ -13,13 +13,12 @@ use Rattle.world.proofs.Among.{Among, get_among}
 use Rattle.world.proofs.Invariant.{Inv}
 use Rattle.world.proofs.HandlesKept.{handle_able, collect_able}
 use Rattle.world.proofs.SessionsKept.{heard_able}
-use Rattle.world.proofs.Submissions.{begun_grows}
-use Rattle.messages.specs.Session.{Writing, FirstRound}
-use Rattle.messages.specs.Submitting.{begin_of, prepare_of, share_of, home_node}
-use Rattle.planner.specs.Plan.{coordinator_of, cohorts_of, shards_asked}
+use Rattle.world.proofs.Events.{accepted}
+use Rattle.world.proofs.Submissions.{move_open_grows, move_open_kept, at_once_able, begun_grows}
+use Rattle.world.proofs.BegunCases.{move_opened, moved_at_once, begun_cases, opened_run, move_open, ends_at_once}
+use Rattle.world.proofs.Growth.{Grows}
+use Rattle.messages.specs.Session.{SessionStep, Moving, moved, is_idle}
 use Rattle.messages.specs.declared.op.Op.TheVariants as op
-use Rattle.messages.specs.declared.body.Body.TheVariants as body
-use Rattle.messages.specs.Words.{envelope}
 use Rattle.world.specs.Run.{opening, continued, run}
 use Rattle.shard.proofs.Handles.{ticked_above}
 use Rattle.world.proofs.Runs.{opening_holds, step_kept}
@@ -65,27 +64,47 @@ module _ (top : TopologyValue) (w : Run) (some : 0 < top.shards) (inv : Inv top 
           let above = ticked_above (w.shards node).clock (w.shards node).clock n q in
           shard_causal top w node (collected n (w.shards node) time) (Collect node time) (collect_able top w node n time inv above.0).grows k
 
-  begun_causal : (node n : ℕ) (o : Op) → (w.sessions node).clock < n → Causal top (after_submission (Ok (begun top node n (w.sessions node) o)) w node o)
-  begun_causal node n (op.Batch batch) lt =
+  -- a submission that leaves its operation open
+  opened_causal : (node n : ℕ) (o : Op) (st : SessionStep) → (w.sessions node).clock < n → Grows top w (opened_run (w.events ++ Submit node o ∷ []) w node n o st.state.current st.sends)
+      → Causal top (opened_run (w.events ++ Submit node o ∷ []) w node n o st.state.current st.sends)
+  opened_causal node n o st lt g = submission_causal top w (w.events ++ Submit node o ∷ []) node n o inv lt st.state.current st.sends k g
+
+  -- a move that ends at once is opened with nothing left, and then ends
+  at_once_causal : (node n dc : ℕ) → (w.sessions node).clock < n → (w.sessions node).dependencies ≡ [] → plan_fault top (w.sessions node).home (op.Move dc) ≡ None
+      → Causal top (after_submission (Ok (moved_at_once n (w.sessions node) dc)) w node (op.Move dc))
+  at_once_causal node n dc lt none plan =
+      let x = move_open w node n dc in
+      let open_inv = move_open_kept top w node n dc inv lt plan none in
+      let open_causal = submission_causal top w w.events node n (op.Move dc) inv lt (Moving dc [] 0) [] k (move_open_grows top w node n dc inv lt plan none) in
+      subst (Causal top) (ends_at_once w node n dc)
+      (session_causal top x node (moved n (x.sessions node) dc 0) (Submit node (op.Move dc)) open_inv (at_once_able top w node n dc inv lt plan none) open_causal)
+
+  begun_causal : (node n : ℕ) (o : Op) → (w.sessions node).clock < n → plan_fault top (w.sessions node).home o ≡ None
+      → Causal top (after_submission (Ok (begun top node n (w.sessions node) o)) w node o)
+  begun_causal node n o lt plan =
       let a = w.sessions node in
-      submission_causal top w node n (op.Batch batch) inv lt (Writing (coordinator_of top.shards batch))
-      (begin_of top node n a batch ∷ map (prepare_of top node n a batch) (cohorts_of top.shards batch)) k (begun_grows top w node n (op.Batch batch) inv lt)
-  begun_causal node n (op.Read read) lt =
-      let a = w.sessions node in
-      submission_causal top w node n (op.Read read) inv lt (FirstRound read [])
-      (map (λ s. envelope node (home_node top a s) n (body.Read (a.count + 1) (share_of top read s))) (shards_asked top.shards read.keys)) k (begun_grows top w node n (op.Read read) inv lt)
+      begun_cases top node n a
+      (λ o st. plan_fault top a.home o ≡ None → Grows top w (after_submission (Ok st) w node o) → Causal top (after_submission (Ok st) w node o))
+      (record {
+        writes = λ batch plan g. opened_causal node n (op.Batch batch) (write_begun top node n a batch) lt g;
+        reads = λ read plan g. opened_causal node n (op.Read read) (read_begun top node n a read) lt g;
+        moves = λ dc d ds e plan g. opened_causal node n (op.Move dc) (move_opened top node n a dc) lt g;
+        at_once = λ dc none plan g. at_once_causal node n dc lt none plan;
+      }) o plan (begun_grows top w node n o inv lt)
 
   submit_go : (b : Bool) (node : ℕ) (o : Op) → Causal top (submit_if b top w node o)
   submit_go false node o = k
-  submit_go true node o = by (submit_fault top (w.sessions node) o)
+  submit_go true node o = by (submit_fault top (w.sessions node) o) refl
     where
-      go : (c : Option ℕ) → ticked (w.sessions node).clock (w.sessions node).clock ≡ c → Causal top (after_submission (on_clock c (λ n. begun top node n (w.sessions node) o)) w node o)
-      go None q = k
-      go (Some n) q = begun_causal node n o (ticked_above (w.sessions node).clock (w.sessions node).clock n q).0
+      go : plan_fault top (w.sessions node).home o ≡ None → (c : Option ℕ) → ticked (w.sessions node).clock (w.sessions node).clock ≡ c
+          → Causal top (after_submission (on_clock c (λ n. begun top node n (w.sessions node) o)) w node o)
+      go plan None q = k
+      go plan (Some n) q = begun_causal node n o (ticked_above (w.sessions node).clock (w.sessions node).clock n q).0 plan
 
-      by : (f : Option Fault) → Causal top (after_submission (session_submit_if f top node (w.sessions node) o) w node o)
-      by (Some e) = k
-      by None = go (ticked (w.sessions node).clock (w.sessions node).clock) refl
+      by : (f : Option Fault) → submit_fault top (w.sessions node) o ≡ f → Causal top (after_submission (session_submit_if f top node (w.sessions node) o) w node o)
+      by (Some e) q = k
+      by None q =
+          go (accepted (plan_fault top (w.sessions node).home o) (is_idle (w.sessions node).current) q) (ticked (w.sessions node).clock (w.sessions node).clock) refl
 
   pub step_causal : (x : Event) → Causal top (step top w x)
   step_causal (Submit node o) = submit_go (is_session top node) node o

@@ -3,7 +3,6 @@ use Rattle.std.proofs.Common.{◌≡◌, ◌∙◌, ℕ, ◌+◌, sym, ap, refl,
 use Rattle.std.specs.Prelude.{filter_map}
 use Rattle.logical_time.specs.declared.fault.Fault.{Fault}
 use Rattle.messages.specs.declared.op.Op.{Op}
-use Rattle.messages.specs.declared.op.Op.TheVariants as op
 use Rattle.messages.specs.declared.body.Body.{Body}
 use Rattle.messages.specs.Topology.{TopologyValue}
 use Rattle.messages.specs.Clock.{ticked, on_clock}
@@ -18,6 +17,7 @@ use Rattle.messages.specs.Actors.{ActorState, OfShard, OfSession, ActorStep, of_
 use Rattle.world.specs.Threads.{op_in}
 use Rattle.world.proofs.Moves.{op_count, shard_took, session_took}
 use Rattle.world.proofs.HeardCases.{heard_kinds}
+use Rattle.world.proofs.BegunCases.{begun_cases}
 
 -- ## A session
 
@@ -27,8 +27,9 @@ heard_count top me n a from b =
     (record { still = refl; goes_on = λ o sends busy open_still. refl; over = λ floor dependencies o busy. refl })
 
 begun_count : (top : TopologyValue) (me n : ℕ) (a : SessionState) (o : Op) → (begun top me n a o).state.count ≡ a.count + 1
-begun_count top me n a (op.Batch batch) = refl
-begun_count top me n a (op.Read read) = refl
+begun_count top me n a o =
+    begun_cases top me n a (λ o st. st.state.count ≡ a.count + 1)
+    (record { writes = λ batch. refl; reads = λ read. refl; moves = λ dc k ks e. refl; at_once = λ dc e. refl }) o
 
 -- ## An actor
 

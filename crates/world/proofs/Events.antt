@@ -30,6 +30,11 @@ Kept top w x = Inv top x × Grows top w x
 same_kept : (top : TopologyValue) (w : Run) → Inv top w → Kept top w w
 same_kept top w inv = (inv, same_run top w)
 
+-- what a session accepts isn't refused for what it asks
+pub accepted : (fault : Option Fault) (b : Bool) → busy_or b fault ≡ None → fault ≡ None
+accepted fault true e = e
+accepted fault false e = absurd (cc)
+
 module _ (top : TopologyValue) (w : Run) (some : 0 < top.shards) (inv : Inv top w) where
   -- ## A message comes
 
@@ -83,15 +88,11 @@ module _ (top : TopologyValue) (w : Run) (some : 0 < top.shards) (inv : Inv top 
 
   -- ## A submission
 
-  accepted : (o : Op) (b : Bool) → busy_or b (plan_fault top o) ≡ None → plan_fault top o ≡ None
-  accepted o true e = e
-  accepted o false e = absurd (cc)
-
   submit_go : (b : Bool) (node : ℕ) (o : Op) → Kept top w (submit_if b top w node o)
   submit_go false node o = same_kept top w inv
   submit_go true node o = by (submit_fault top (w.sessions node) o) refl
     where
-      go : plan_fault top o ≡ None → (c : Option ℕ) → ticked (w.sessions node).clock (w.sessions node).clock ≡ c
+      go : plan_fault top (w.sessions node).home o ≡ None → (c : Option ℕ) → ticked (w.sessions node).clock (w.sessions node).clock ≡ c
           → Kept top w (after_submission (on_clock c (λ n. begun top node n (w.sessions node) o)) w node o)
       go plan None q = same_kept top w inv
       go plan (Some n) q =
@@ -101,7 +102,7 @@ module _ (top : TopologyValue) (w : Run) (some : 0 < top.shards) (inv : Inv top 
       by : (f : Option Fault) → submit_fault top (w.sessions node) o ≡ f
           → Kept top w (after_submission (session_submit_if f top node (w.sessions node) o) w node o)
       by (Some e) q = same_kept top w inv
-      by None q = go (accepted o (is_idle (w.sessions node).current) q) (ticked (w.sessions node).clock (w.sessions node).clock) refl
+      by None q = go (accepted (plan_fault top (w.sessions node).home o) (is_idle (w.sessions node).current) q) (ticked (w.sessions node).clock (w.sessions node).clock) refl
 
   -- ## Every event
 

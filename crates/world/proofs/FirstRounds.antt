@@ -25,7 +25,7 @@ use Rattle.world.proofs.CausalRuns.{every_causal}
 use Rattle.world.proofs.HeardFirst.{HasHeard}
 use Rattle.world.proofs.HeardRuns.{only_sessions, RunHeard, heard_later, kept_at, one_message}
 use Rattle.world.proofs.FreshReads.{IsOf, open_of}
-use Rattle.world.proofs.Completions.{EndsBy, LastFirst, LastSecond, CameAt, came_at}
+use Rattle.world.proofs.Completions.{EndsBy, IsNotMoved, LastFirst, LastSecond, CameAt, came_at}
 use Rattle.world.proofs.Laws.{prefix_grows}
 use Rattle.world.proofs.KeptAnswers.{HasKept, first_heard, kept_later, all_kept}
 
@@ -196,7 +196,7 @@ first_rounds_are_whole top events some c read time answer shard has is end asked
     let w = run top events in
     let replayed = runs_replayed top events in
     let there = contains_among c w.transcript has in
-    let came = came_at top w some replayed c there in
+    let came = came_at top w some replayed c (subst IsNotMoved (sym end) tt) there in
     one_kept top some w replayed c.node c.number (shard_node top c.home shard)
     (each_kept top some w replayed (every_run top events some) c there came read is
     (subst (λ o. EndsBy o top ((run top came.before).sessions c.node) came.brings.message.from came.brings.message.body) end came.brings.ends) shard asked)

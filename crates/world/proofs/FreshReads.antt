@@ -229,6 +229,7 @@ module _ (top : TopologyValue) (some : 0 < top.shards) (every : (events : List E
         answered = λ read time answered is came k e x key name kept was has asked touched.
             shows w replayed inv c m k e kept x was read time answered is came key name has asked touched;
         given_up = λ read is came. tt;
+        moved = λ dc floor is came. tt;
       }) o end
 
   -- whatever a run completed is fresh

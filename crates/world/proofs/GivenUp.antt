@@ -28,7 +28,7 @@ use Rattle.world.proofs.Laws.{prefix_grows}
 use Rattle.world.proofs.FreshReads.{IsOf, open_of}
 use Rattle.world.proofs.Horizons.{horizons_are_of_collections}
 use Rattle.world.proofs.Sendings.{was_sent, sent_then}
-use Rattle.world.proofs.Completions.{EndsBy, SaidCollected, CameAt, came_at}
+use Rattle.world.proofs.Completions.{EndsBy, IsNotMoved, SaidCollected, CameAt, came_at}
 use Rattle.world.proofs.Answers.{hears}
 use Rattle.world.proofs.OwnSends.{handled_low}
 use Rattle.world.proofs.HeardRuns.{changed_actor}
@@ -137,6 +137,6 @@ pub collected_in_runs : (top : TopologyValue) (events : List Event) → 0 < top.
 collected_in_runs top events some c has is =
     let w = run top events in
     let there = contains_among c w.transcript has in
-    let came = came_at top w some (runs_replayed top events) c there in
+    let came = came_at top w some (runs_replayed top events) c (subst IsNotMoved (sym is) tt) there in
     given_up top some w (runs_replayed top events) (every_run top events some) c there came
     (subst (λ o. EndsBy o top ((run top came.before).sessions c.node) came.brings.message.from came.brings.message.body) is came.brings.ends)

@@ -4,7 +4,7 @@ use Rattle.slice.specs.declared.read.Read.{Read}
 use Rattle.store.specs.declared.part.Applied.{Applied}
 use Rattle.messages.specs.Topology.{TopologyValue, shard_of}
 use Rattle.messages.specs.Shard.{ShardState, PreparedPart, Decision}
-use Rattle.messages.specs.Session.{SessionState, Open, Idle, Writing, FirstRound, SecondRound}
+use Rattle.messages.specs.Session.{SessionState, Open, Idle, Writing, FirstRound, SecondRound, Moving}
 use Rattle.messages.specs.Submitting.{share_of}
 use Rattle.messages.specs.Rounds.{late_keys}
 use Rattle.world.specs.Run.{Run, Submission, Completed}
@@ -38,6 +38,7 @@ FirstAsked top (FirstRound read heard) node asked = asked ≡ share_of top read 
 FirstAsked top Idle node asked = Unit {0}
 FirstAsked top (Writing coordinator) node asked = Unit {0}
 FirstAsked top (SecondRound read time first heard) node asked = Unit {0}
+FirstAsked top (Moving dc left floor) node asked = Unit {0}
 
 -- the session asked this of the shard in the first round of its operation of this number
 pub record AskedNow (top : TopologyValue) (a : SessionState) (m node : ℕ) (asked : Read) : Type 0 where
@@ -51,6 +52,7 @@ SecondAsked (SecondRound read effective first heard) time node asked =
 SecondAsked (FirstRound read heard) time node asked = ⊥
 SecondAsked Idle time node asked = Unit {0}
 SecondAsked (Writing coordinator) time node asked = Unit {0}
+SecondAsked (Moving dc left floor) time node asked = Unit {0}
 
 -- the session asked this of the shard in the second round of its operation of this number, at this time
 pub record AskedAt (a : SessionState) (m time node : ℕ) (asked : Read) : Type 0 where
@@ -60,7 +62,6 @@ pub record AskedAt (a : SessionState) (m time node : ℕ) (asked : Read) : Type 
 pub record SessionGrows (top : TopologyValue) (a b : SessionState) : Type 0 where
   pub clock : a.clock ≤ b.clock
   pub count : a.count ≤ b.count
-  pub floor : a.floor ≤ b.floor
   pub asked_now : (number node : ℕ) (asked : Read) → AskedNow top a number node asked → AskedNow top b number node asked
   pub asked_at : (number time node : ℕ) (asked : Read) → AskedAt a number time node asked → AskedAt b number time node asked
 

@@ -1,6 +1,6 @@
 -- What a session kept of a first round stays with the read over a run: its effective time isn't below the earliest valid
 -- time of any row that was kept.
-use Rattle.std.proofs.Common.{◌≡◌, ◌∙◌, ℕ, ◌<◌, ap, sym, refl, subst, arith, Bool, true, false, cond, ◌&&◌, nat_le, nat_lt, inl, inr, List, [], ◌∷◌, ◌++◌, Option, Some, None, Ok, slice_get, eqb-true, eq-eqb}
+use Rattle.std.proofs.Common.{◌≡◌, ◌∙◌, ℕ, ◌<◌, ap, sym, refl, subst, arith, Bool, true, false, cond, ◌&&◌, nat_le, nat_lt, inl, inr, List, [], ◌∷◌, ◌++◌, Option, Some, None, slice_get, eqb-true, eq-eqb}
 use Rattle.std.specs.Prelude.{◌==◌, option_map, option_and_then}
 use Rattle.std.proofs.lemmas.Bool.{false≢true}
 use Rattle.std.proofs.lemmas.Bool.Decides.{nat_tests}
@@ -11,12 +11,12 @@ use Rattle.messages.specs.Session.{SessionState, SessionStep, Open, Idle, FirstR
 use Rattle.messages.specs.Submitting.{begun}
 use Rattle.messages.specs.Rounds.{asked_nodes, is_missing}
 use Rattle.messages.specs.SessionEvents.{heard, session_taken}
-use Rattle.world.specs.Run.{Run, Event, Deliver, Submission, Completed, opening, submission_of, completed_of, ended_by, with_ended, submission_by, with_actor, after_session, step, continued, run}
+use Rattle.world.specs.Run.{Run, Event, Submit, Deliver, Submission, Completed, opening, submission_of, completed_of, ended_by, submission_by, with_actor, with_session, step, continued, run}
 use Rattle.world.specs.Fresh.{IsKept}
 use Rattle.world.proofs.Among.{Among}
 use Rattle.world.proofs.EventCases.{event_cases}
 use Rattle.world.proofs.HeardFirst.{EndsTimely, Heard, StillHeard, part_now_heard, message_still, begun_still}
-use Rattle.world.proofs.Transcripts.{ended_or_old, submission_ends_nothing}
+use Rattle.world.proofs.Transcripts.{ended_or_old}
 use Rattle.world.proofs.Prefixes.{number_later, IsAccepted, not_both, splits, accepted}
 
 -- ## Completed operations
@@ -97,23 +97,23 @@ pub record RunHeard (w : Run) (session number : ℕ) (h : HeardNow) : Type 0 whe
   pub heard : Heard (w.sessions session) number h
   pub ended : (c : Completed) → Among c w.transcript → c.node ≡ session → c.number ≡ number → EndsTimely c.outcome h
 
--- a session's step
-session_after : (w : Run) (x : Event) (node : ℕ) (st : SessionStep) (session number : ℕ) (h : HeardNow)
+-- a session's step, where these operations are accepted by then
+session_after : (w : Run) (x : Event) (node : ℕ) (submitted : List Submission) (st : SessionStep) (session number : ℕ) (h : HeardNow)
     → ((c : Completed) → Among c w.transcript → c.node ≡ session → c.number ≡ number → EndsTimely c.outcome h)
     → (session ≡ node → StillHeard (w.sessions node) st.state number h) → ((session == node) ≡ false → Heard (w.sessions session) number h)
-    → RunHeard (after_session (Ok st) w x node) session number h
-session_after w x node st session number h old own other =
+    → RunHeard (with_session w x node submitted st) session number h
+session_after w x node submitted st session number h old own other =
     record {
       heard = changed_actor (λ (a : SessionState). Heard a number h) w.sessions node (session_taken st.state) session (λ same. (own same).kept) other;
-      ended = λ c m p q. elim (ended_or_old c w.transcript (ended_by w.submitted node st) m) [
+      ended = λ c m p q. elim (ended_or_old c w.transcript (ended_by submitted node st) m) [
         | inl o ↦ old c o p q
         | inr new ↦ newly c new p q
       ];
     }
   where
-    newly : (c : Completed) → ended_by w.submitted node st ≡ Some c → c.node ≡ session → c.number ≡ number → EndsTimely c.outcome h
+    newly : (c : Completed) → ended_by submitted node st ≡ Some c → c.node ≡ session → c.number ≡ number → EndsTimely c.outcome h
     newly c m p q =
-        let f = ended_is_finished w.submitted node st c m in
+        let f = ended_is_finished submitted node st c m in
         subst (λ o. EndsTimely o h) (sym f.outcome) ((own (sym p ∙ f.node_is)).ended f.finished f.told (sym f.number ∙ q))
 
 heard_step : (top : TopologyValue) (w : Run) (x : Event) (session number : ℕ) (h : HeardNow) → RunHeard w session number h
@@ -125,22 +125,14 @@ heard_step top w x session number h k =
       handled = λ j e n is sent to. record { heard = k.heard; ended = k.ended };
       heard =
           λ j e n is sent other to.
-          session_after w x e.to _ session number h k.ended
+          session_after w x e.to w.submitted _ session number h k.ended
           (λ same. message_still top e.to n (w.sessions e.to) e.from e.body number h (subst (λ z. Heard (w.sessions z) number h) same k.heard))
           (λ apart. k.heard);
       begun =
           λ node o n is to.
-          record {
-            heard =
-                changed_actor (λ (a : SessionState). Heard a number h) w.sessions node (session_taken (begun top node n (w.sessions node) o).state) session
-                (λ same. begun_still top node n (w.sessions node) o number h (subst (λ z. Heard (w.sessions z) number h) same k.heard))
-                (λ apart. k.heard);
-            ended =
-                λ c m.
-                let st = begun top node n (w.sessions node) o in
-                let none = submission_ends_nothing top node n (w.sessions node) o (w.submitted ++ submission_by w node o st ∷ []) node in
-                k.ended c (subst (λ z. Among c (with_ended w.transcript z)) none m);
-          };
+          session_after w (Submit node o) node (w.submitted ++ submission_by w node o (begun top node n (w.sessions node) o) ∷ []) (begun top node n (w.sessions node) o) session number h k.ended
+          (λ same. begun_still top node n (w.sessions node) o number h (subst (λ z. Heard (w.sessions z) number h) same k.heard))
+          (λ apart. k.heard);
       collected = λ node time n is. record { heard = k.heard; ended = k.ended };
     })
 
@@ -186,7 +178,7 @@ kept_at top w session number k e kept only taken closed same =
       heard =
           λ j f n is sent other to now.
           let one = same f (ap (slice_get u.sent) (delivered j is) ∙ sent) in
-          session_after u (Deliver k) f.to (heard top f.to n (u.sessions f.to) f.from f.body) session number h old
+          session_after u (Deliver k) f.to u.submitted (heard top f.to n (u.sessions f.to) f.from f.body) session number h old
           (λ here. subst (λ (z : Envelope). StillHeard (u.sessions z.to) (heard top z.to n (u.sessions z.to) z.from z.body).state number h) (sym one)
           (own n))
           (λ apart. absurd (false≢true (sym apart ∙ eq-eqb session f.to (sym (addressed f one)))));

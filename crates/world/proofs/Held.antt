@@ -32,7 +32,7 @@ use Rattle.world.specs.World.{WorldValue, Takes, run_of}
 use Rattle.world.proofs.Replayed.{continued_push}
 use Rattle.world.proofs.Refusals.{allowed_is_added}
 use Rattle.world.proofs.EventCases.{event_cases}
-use Rattle.world.proofs.Opened.{opens}
+use Rattle.world.proofs.Begun.{begins}
 use Rattle.world.proofs.Unhandled.{finds_unhandled}
 use Rattle.world.proofs.Among.{get_among, among_contains}
 use Rattle.world.proofs.Addressed.{messages_are_for_actors}
@@ -196,7 +196,7 @@ writes_last top w node o allowed = by (is_session top node) refl
         ap (λ z. filter_map write_of (after_submission z w node o).submitted)
         (ap (λ z. submitted_if z top node (w.sessions node) o) fault ∙ ap (λ z. on_clock z (λ n. begun top node n (w.sessions node) o)) clock)
         ∙ filter_map-append write_of w.submitted (submission_by w node o (begun top node n (w.sessions node) o) ∷ [])
-        ∙ ap (λ l. filter_map write_of w.submitted ++ l) (one ((w.sessions node).count + 1) (submission_by w node o (begun top node n (w.sessions node) o)) refl (opens top node n (w.sessions node) o).1 refl)
+        ∙ ap (λ l. filter_map write_of w.submitted ++ l) (one ((w.sessions node).count + 1) (submission_by w node o (begun top node n (w.sessions node) o)) refl (begins top node n (w.sessions node) o).count refl)
 
     by : (b : Bool) → is_session top node ≡ b → Last (step top w (Submit node o))
     by false is = absurd (let q = ap (λ b. if b then refused_by (session_submit top node (w.sessions node) o) else Some NoSuchActor) (sym is) ∙ allowed in cc)

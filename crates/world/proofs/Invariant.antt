@@ -1,5 +1,5 @@
 -- What holds of every run: of each envelope, each shard, each session, and each completed operation.
-use Rattle.std.specs.Prelude.{◌≡◌, ℕ, ◌+◌, ◌<◌, ◌≤◌, true, List, map, None, Contains}
+use Rattle.std.specs.Prelude.{◌≡◌, ℕ, ◌+◌, ◌<◌, ◌≤◌, true, List, map, None, Contains, ◌⊎◌}
 use Rattle.std.specs.Option.{unwrap_or}
 use Rattle.logical_time.specs.Stamps.{StampValue, TxnValue, WriterValue}
 use Rattle.column_family.specs.declared.batch.Change.{Change}
@@ -22,7 +22,7 @@ use Rattle.messages.specs.declared.envelope.Envelope.{Envelope}
 use Rattle.messages.specs.declared.event.Event.{Event as ActorEvent}
 use Rattle.messages.specs.Topology.{TopologyValue, dc_of, shard_of, shard_node, home_of}
 use Rattle.messages.specs.Shard.{ShardState, PreparedPart, BegunBallot, Vote, Decision, KeptPart, KeptBallot, Met, Asker}
-use Rattle.messages.specs.Session.{SessionState, Open, Idle, Writing, FirstRound, SecondRound, HeardNow, HeardAt}
+use Rattle.messages.specs.Session.{SessionState, Open, Idle, Writing, FirstRound, SecondRound, Moving, HeardNow, HeardAt}
 use Rattle.messages.specs.Submitting.{share_of, plan_fault}
 use Rattle.messages.specs.Rounds.{asked_nodes, all_heard, effective_time, late_keys, late_nodes, answer_of}
 use Rattle.shard.specs.Events.{shard_run, envelopes_handled}
@@ -71,14 +71,16 @@ pub record TellsDecision (w : Run) (from n : ℕ) (t : TxnValue) (commit : ℕ) 
 abbrev pub TellsCommit : Run → ℕ → ℕ → TxnValue → ℕ → Type 0
 TellsCommit w from n t commit = (stamp : StampValue) × TellsDecision w from n t commit stamp
 
--- the operation moves its session to this data centre; none does yet
+-- the operation moves its session to this data centre
 abbrev pub MovesTo : ℕ → Op → Type 0
 MovesTo dc (op.Batch batch) = ⊥
 MovesTo dc (op.Read read) = ⊥
+MovesTo dc (op.Move there) = there ≡ dc
 
--- who waits for a decision of the shard: a shard of its data centre, or the session whose move to there the waiter is
+-- who waits for a decision of the shard: a shard of its data centre, for a write, or the session whose move to there
+-- the waiter is
 pub data MayWait (top : TopologyValue) (w : Run) (node : ℕ) (waiter : TxnValue) (from : ℕ) : Type 0 where
-  of_shard : dc_of top from ≡ dc_of top node → MayWait top w node waiter from
+  of_shard : (b : Submission) (batch : List Change) → IsWritten w waiter b batch → dc_of top from ≡ dc_of top node → MayWait top w node waiter from
   of_move : (b : Submission) → Among b w.submitted → txn_of b ≡ waiter → b.session ≡ from → MovesTo (dc_of top node) b.op → MayWait top w node waiter from
 
 -- rows that answer what a session asked in its first round
@@ -211,11 +213,22 @@ pub record SecondSound (top : TopologyValue) (w : Run) (node : ℕ) (a : Session
   pub clock : n ≤ a.clock
   pub heard : (h : HeardAt) → Among h hs → HeardAtSound top w a read n fs h
 
+-- an open move: each dependency is still to be answered, or is decided in the new data centre by the greatest time so far
+pub record MovingSound (top : TopologyValue) (w : Run) (node : ℕ) (a : SessionState) (dc : ℕ) (left : List WriterValue) (floor : ℕ) : Type 0 where
+  pub opened : IsOpen w node a.count a.home (op.Move dc)
+  pub depends : opened.submission.dependencies ≡ a.dependencies
+  pub below : dc < top.dcs
+  -- it leaves the present home
+  pub away : dc ≡ a.home → ⊥
+  pub clock : floor ≤ a.clock
+  pub answered : (k : WriterValue) → Among k a.dependencies → Among k left ⊎ IsDone top w dc k.txn (floor + 1)
+
 abbrev pub OpenSound : TopologyValue → Run → ℕ → SessionState → Open → Type 0
 OpenSound top w node a Idle = Unit {0}
 OpenSound top w node a (Writing coordinator) = WritingSound top w node a coordinator
 OpenSound top w node a (FirstRound read heard) = FirstSound top w node a read heard
 OpenSound top w node a (SecondRound read time first heard) = SecondSound top w node a read time first heard
+OpenSound top w node a (Moving dc left floor) = MovingSound top w node a dc left floor
 
 pub record SessionSound (top : TopologyValue) (w : Run) (node : ℕ) (a : SessionState) : Type 0 where
   pub floor : a.floor ≤ a.clock
@@ -229,7 +242,7 @@ pub record SessionSound (top : TopologyValue) (w : Run) (node : ℕ) (a : Sessio
 -- ## Submissions and completed operations
 
 pub record SubmittedSound (top : TopologyValue) (w : Run) : Type 0 where
-  pub accepted : (b : Submission) → Among b w.submitted → plan_fault top b.op ≡ None
+  pub accepted : (b : Submission) → Among b w.submitted → plan_fault top b.home b.op ≡ None
   pub number : (b : Submission) → Among b w.submitted → b.number ≤ (w.sessions b.session).count
   pub one : (b c : Submission) → Among b w.submitted → Among c w.submitted → txn_of b ≡ txn_of c → b ≡ c
   -- each write depends on transactions of shards that there are
@@ -258,6 +271,7 @@ pub record AnsweredSound (top : TopologyValue) (w : Run) (dc : ℕ) (t : TxnValu
 abbrev pub EndSound : Op → Outcome → TopologyValue → Run → ℕ → TxnValue → Type 0
 EndSound (op.Batch batch) (outcome.Wrote commit stamp) top w dc t = IsDecided w (lead top dc batch) t commit stamp
 EndSound (op.Read read) (outcome.Read time answer) top w dc t = AnsweredSound top w dc t read time answer
+EndSound (op.Move to) (outcome.Moved there floor) top w dc t = DependsOnDone top w there t (floor + 1)
 EndSound o r top w dc t = Unit {0}
 
 pub record CompletedSound (top : TopologyValue) (w : Run) (c : Completed) : Type 0 where

@@ -4,10 +4,9 @@ use Rattle.std.proofs.lemmas.List.{append_assoc}
 use Rattle.slice.specs.declared.read.Read.{Read}
 use Rattle.messages.specs.declared.rows_now.RowNow.{RowNow}
 use Rattle.messages.specs.declared.op.Op.{Op}
-use Rattle.messages.specs.declared.op.Op.TheVariants as op
 use Rattle.messages.specs.declared.envelope.Envelope.{Envelope}
 use Rattle.messages.specs.Topology.{TopologyValue}
-use Rattle.messages.specs.Session.{SessionState, SessionStep, Open, Idle, Writing, FirstRound, SecondRound, HeardNow}
+use Rattle.messages.specs.Session.{SessionState, SessionStep, Open, Idle, Writing, FirstRound, SecondRound, Moving, HeardNow}
 use Rattle.messages.specs.Submitting.{begun}
 use Rattle.messages.specs.Rounds.{asked_nodes, is_missing}
 use Rattle.messages.specs.SessionEvents.{heard}
@@ -19,6 +18,7 @@ use Rattle.world.proofs.Prefixes.{get_first}
 use Rattle.world.proofs.Replayed.{step_replayed}
 use Rattle.world.proofs.HeardRuns.{changed_actor}
 use Rattle.world.proofs.HeardCases.{FirstAnswer, heard_cases}
+use Rattle.world.proofs.BegunCases.{begun_cases}
 
 -- ## What is kept stays
 
@@ -71,6 +71,7 @@ first_heard Idle = []
 first_heard (Writing coordinator) = []
 first_heard (FirstRound read hs) = hs
 first_heard (SecondRound read time first hs) = first
+first_heard (Moving dc left floor) = []
 
 -- whatever the session's open read has heard in its first round was kept
 abbrev pub HeardIsKept : TopologyValue → Run → ℕ → SessionState → Type 0
@@ -138,11 +139,14 @@ module _ (top : TopologyValue) (w : Run) (replayed : run top w.events ≡ w) (x 
           kept_at = λ read time first hs rows k some h m. stays (SecondRound read time first hs) k.current h m;
           ends_at = λ read time first hs rows k whole h m. absurd m;
           gives_up = λ read time first hs k h m. absurd m;
+          counted = λ dc left floor dependency commit k u us e h m. absurd m;
+          arrives = λ dc left floor dependency commit k e h m. absurd m;
         })
 
   begins : (node n : ℕ) (o : Op) (z : Run) → HeardIsKept top z node (begun top node n (w.sessions node) o).state
-  begins node n (op.Batch batch) z h m = absurd m
-  begins node n (op.Read read) z h m = absurd m
+  begins node n o z =
+      begun_cases top node n (w.sessions node) (λ o (st : SessionStep). HeardIsKept top z node st.state)
+      (record { writes = λ batch h m. absurd m; reads = λ read h m. absurd m; moves = λ dc k ks e h m. absurd m; at_once = λ dc e h m. absurd m }) o
 
   step_keeps : AllKept top (step top w x)
   step_keeps =

@@ -102,6 +102,7 @@ ended_so top w dc t o e n s =
           (batch, refl, record { decision = d.decision; among = d.among; txn = d.txn; commit = d.commit ∙ times; stamp = d.stamp ∙ stamps });
       answered = λ read m r d e. absurd (cc);
       given_up = λ read d e. absurd (cc);
+      moved = λ dc floor d e. absurd (cc);
     }) o e
 
 decided_entry : (top : TopologyValue) (w : Run) (dc : ℕ) (t : TxnValue) (b : Submission) (batch : List Change) (n : ℕ) (s : StampValue)

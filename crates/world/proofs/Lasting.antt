@@ -32,7 +32,6 @@ same_session_grows top a =
     record {
       clock = le_refl a.clock;
       count = le_refl a.count;
-      floor = le_refl a.floor;
       asked_now = λ number node asked k. k;
       asked_at = λ number time node asked k. k;
     }

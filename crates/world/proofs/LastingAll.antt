@@ -1,5 +1,5 @@
 -- What envelopes say, shards, sessions and completed operations go on being sound.
-use Rattle.std.proofs.Common.{ℕ, List, le_refl}
+use Rattle.std.proofs.Common.{ℕ, List, inl, inr, le_refl}
 use Rattle.logical_time.specs.Stamps.{StampValue, TxnValue}
 use Rattle.slice.specs.declared.read.Read.{Read}
 use Rattle.messages.specs.declared.rows_at.RowAt.{RowAt}
@@ -8,7 +8,7 @@ use Rattle.messages.specs.declared.outcome.Outcome.{Outcome}
 use Rattle.messages.specs.declared.body.Body.{Body}
 use Rattle.messages.specs.declared.body.Body.TheVariants.{Begin, Prepare, Yes, Commit, At, NotBy, Check, Read as ReadNow, ReadAt, ReplBegin, ReplPart, Notify, PrepareRemote, DepCheck, DepOk, Done, PartNow, PartAt}
 use Rattle.messages.specs.Topology.{TopologyValue}
-use Rattle.messages.specs.Session.{SessionState, Open, Idle, Writing, FirstRound, SecondRound, HeardNow, HeardAt}
+use Rattle.messages.specs.Session.{SessionState, Open, Idle, Writing, FirstRound, SecondRound, Moving, HeardNow, HeardAt}
 use Rattle.world.specs.Run.{Run, Completed}
 use Rattle.world.specs.Promises.{Fits}
 use Rattle.world.proofs.EndCases.{end_cases}
@@ -26,7 +26,7 @@ pub tells_grows : {top : TopologyValue} {w x : Run} {from n commit : ℕ} {t : T
 tells_grows g k = record { decided = decided_grows g k.decided; time = k.time }
 
 pub may_wait_grows : {top : TopologyValue} {w x : Run} {node from : ℕ} {t : TxnValue} → Grows top w x → MayWait top w node t from → MayWait top x node t from
-may_wait_grows g (of_shard e) = of_shard e
+may_wait_grows g (of_shard b batch written e) = of_shard b batch (written_grows g written) e
 may_wait_grows g (of_move b m is own to) = of_move b (g.submitted b m) is own to
 
 pub says_grows : (top : TopologyValue) {w x : Run} (from to n : ℕ) → Grows top w x → (b : Body) → Says top w from to n b → Says top x from to n b
@@ -106,6 +106,15 @@ open_grows top node a g (SecondRound read time first heard) k =
       clock = k.clock;
       heard = λ h m. heard_at_grows g (k.heard h m);
     }
+open_grows top node a g (Moving dc left floor) k =
+    record {
+      opened = open_is_grows g k.opened;
+      depends = k.depends;
+      below = k.below;
+      away = k.away;
+      clock = k.clock;
+      answered = λ u m. elim (k.answered u m) [ inl i ↦ inl i | inr d ↦ inr (done_grows g (le_refl _) d) ];
+    }
 
 pub session_grows : {top : TopologyValue} {w x : Run} {node : ℕ} {a : SessionState} → Grows top w x → SessionSound top w node a → SessionSound top x node a
 session_grows {top = top} {node = node} {a = a} g k =
@@ -131,6 +140,7 @@ end_grows {top} {w} {x} o e dc t g =
       wrote = λ batch commit stamp k. decided_grows g k;
       answered = λ read time answer k. record { rows = k.rows; answer = k.answer; from = from_grows g k.from; depends = depends_grow g k.depends };
       given_up = λ read k. k;
+      moved = λ dc floor k. depends_grow g k;
     }) o e
 
 pub completed_grows : {top : TopologyValue} {w x : Run} {c : Completed} → Grows top w x → CompletedSound top w c → CompletedSound top x c

@@ -17,11 +17,11 @@ use Rattle.world.specs.Entries.{named_by, StampsAgree, WritesAreTold, TellsDecid
 use Rattle.world.specs.Quiet.{IsQuiet}
 use Rattle.world.specs.Settled.{Settled}
 use Rattle.world.specs.Each.{EachShardIsRight}
-use Rattle.world.specs.Promises.{number_of, LaterCommitsAreAbove, EntriesAreOfSubmissions, OutcomesAreListed, ReadsShowOneTable, AnswersStay, ReadsShowTheirPast, ReadsAreFresh, StampsFollowCauses, TimesNeverFall, SessionsStayAtHome, OperationsEndOnce, HistoriesGrow, HandledIsHonest}
+use Rattle.world.specs.Promises.{number_of, LaterCommitsAreAbove, EntriesAreOfSubmissions, OutcomesAreListed, ReadsShowOneTable, AnswersStay, ReadsShowTheirPast, MovesBringTheirPast, ReadsAreFresh, StampsFollowCauses, TimesNeverFall, OperationsEndOnce, HistoriesGrow, HandledIsHonest}
 use Rattle.world.proofs.Among.{Among, among_contains, contains_among, append_first}
 use Rattle.world.proofs.Growth.{Grows}
 use Rattle.world.proofs.Facts.{lead, IsDone}
-use Rattle.world.proofs.Invariant.{home as home_at, AnsweredFrom, Inv}
+use Rattle.world.proofs.Invariant.{AnsweredFrom, Inv}
 use Rattle.world.proofs.Near.{shard_below}
 use Rattle.world.proofs.DecidedIn.{in_decisions, decided_in}
 use Rattle.world.proofs.ReadTables.{answered, one_table}
@@ -33,7 +33,6 @@ use Rattle.world.proofs.Causal.{EndedOnce, NamedOnce, writers_in}
 use Rattle.world.proofs.CausalKept.{new_writers}
 use Rattle.world.proofs.CausalRuns.{every_causal}
 use Rattle.world.proofs.Pasts.{past_reached}
-use Rattle.world.proofs.Homes.{every_home, entry_home}
 use Rattle.world.proofs.Grown.{runs_only_grow}
 use Rattle.world.proofs.Runs.{every_run, run_grows, run_after}
 use Rattle.world.proofs.KeptEntries.{history_kept, stamps_agree, writes_are_told}
@@ -82,6 +81,13 @@ reads_show_their_past top events some c read time answer u is past =
     let r = past_reached top w some inv (every_causal top events some) (rests top some w inv) (committed top some w inv) u (record { session = c.node; number = c.number }) past in
     done_committed top some w inv c.home time u (r.read c (contains_among c w.transcript is.completed) refl read time answer is.op is.outcome)
 
+pub moves_bring_their_past : (top : TopologyValue) (events : List Event) → 0 < top.shards → MovesBringTheirPast top (run top events)
+moves_bring_their_past top events some c dc floor u has came past =
+    let w = run top events in
+    let inv = every_run top events some in
+    let r = past_reached top w some inv (every_causal top events some) (rests top some w inv) (committed top some w inv) u (record { session = c.node; number = c.number }) past in
+    done_committed top some w inv dc floor u (r.move c (contains_among c w.transcript has) refl dc floor came)
+
 pub stamps_follow_causes : (top : TopologyValue) (events : List Event) → 0 < top.shards → StampsFollowCauses top (run top events)
 stamps_follow_causes top events some u v dc ec d e past hd qd he qe =
     let w = run top events in
@@ -104,12 +110,6 @@ times_never_fall top events some c e hc he node number stays =
     let w = run top events in
     (every_causal top events some).ordered c e (contains_among c w.transcript hc) (contains_among e w.transcript he) node number
     (λ d m. stays d (among_contains d w.transcript m))
-
-pub sessions_stay_at_home : (top : TopologyValue) (events : List Event) → 0 < top.shards → SessionsStayAtHome (run top events)
-sessions_stay_at_home top events some c e hc he node = at c hc ∙ ap (home_at top) node ∙ sym (at e he)
-  where
-    at : (d : Completed) → Contains (run top events).transcript d → d.home ≡ home_at top d.node
-    at d has = entry_home top (run top events) (every_run top events some) (every_home top events) d (contains_among d (run top events).transcript has)
 
 ended_apart : (cs : List Completed) → EndedOnce cs → AllPairs (λ c e. number_of c ≢ number_of e) cs
 ended_apart [] k = no_pairs (λ c e. number_of c ≢ number_of e)

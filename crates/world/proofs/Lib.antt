@@ -2,6 +2,7 @@ mod Replayed
 mod Closed
 mod WorkedEntries
 mod WorkedPasts
+mod WorkedMove
 mod RefutedReads
 mod RefutedFreshness
 mod RefutedHistories
@@ -146,8 +147,12 @@ mod Marking
 pub mod Running
 pub mod Taking
 pub mod Opened
+pub mod Begun
+pub mod HomesThere
+pub mod Numbers
 pub mod Replacing
 pub mod Held
 pub mod Beginning
+pub mod BegunCases
 pub mod AskedFor
 pub mod Promised

@@ -1,5 +1,5 @@
 -- What a step finishes has its entry in the transcript after it.
-use Rattle.std.proofs.Common.{◌≡◌, ◌∙◌, ℕ, ◌<◌, refl, sym, ap, subst, le_of_lt, Bool, true, false, List, [], map, Option, Some, None, Result, Ok, Err, ◌⊎◌, inl, inr}
+use Rattle.std.proofs.Common.{◌≡◌, ◌∙◌, ℕ, ◌<◌, refl, sym, ap, subst, le_of_lt, Bool, true, false, List, [], ◌∷◌, ◌++◌, map, Option, Some, None, Result, Ok, Err, ◌⊎◌, inl, inr}
 use Rattle.std.specs.Prelude.{if◌then◌else◌, option_map, option_and_then}
 use Rattle.std.specs.List.{cons_option}
 use Rattle.logical_time.specs.declared.fault.Fault.{Fault}
@@ -9,6 +9,7 @@ use Rattle.messages.specs.declared.envelope.Envelope.{Envelope}
 use Rattle.messages.specs.declared.event.Event.{Event as ActorEvent}
 use Rattle.messages.specs.declared.event.Event.TheVariants.{Submit as SubmitHere, Handle, Collect as CollectHere}
 use Rattle.messages.specs.Topology.{TopologyValue, is_shard}
+use Rattle.messages.specs.Words.{is_same_txn}
 use Rattle.messages.specs.Clock.{ticked, on_clock}
 use Rattle.messages.specs.Shard.{ShardStep}
 use Rattle.messages.specs.Session.{SessionStep, Finished}
@@ -16,17 +17,18 @@ use Rattle.messages.specs.ShardEvents.{shard_handle, shard_collect}
 use Rattle.messages.specs.SessionEvents.{heard}
 use Rattle.messages.specs.Submitting.{begun, submit_fault, submit_if as submitted_if}
 use Rattle.messages.specs.Actors.{ActorState, OfShard, OfSession, ActorStep, of_shard, of_session, actor_step}
-use Rattle.world.specs.Run.{Run, Event, Submission, Completed, completed_of, with_ended}
+use Rattle.world.specs.Run.{Run, Event, Submission, Completed, submission_of, completed_of, with_ended}
 use Rattle.world.specs.Journals.{actor_in, finished_as}
-use Rattle.world.proofs.Among.{Among}
+use Rattle.world.proofs.Among.{Among, same_txn_self}
 use Rattle.world.proofs.Facts.{txn_of}
 use Rattle.world.proofs.Invariant.{Inv, Hears}
 use Rattle.shard.proofs.Handles.{ticked_above}
 use Rattle.world.proofs.SessionSteps.{Stays, Ends, SessionAble}
 use Rattle.world.proofs.SessionsKept.{heard_able}
 use Rattle.world.proofs.Entries.{submission_found}
-use Rattle.world.proofs.Transcripts.{submission_tells_nothing}
-use Rattle.world.proofs.Moves.{SubmittedBy, Moves, shard_took, session_took}
+use Rattle.world.proofs.Begun.{begins}
+use Rattle.world.proofs.Numbers.{found_last, number_is_new}
+use Rattle.world.proofs.Moves.{SubmittedBy, Moves, op_count, session_in, session_no_shard, shard_took, session_took}
 use Rattle.world.proofs.Answers.{hears}
 
 -- ## Optional elements
@@ -75,19 +77,37 @@ collection_finishes_none : (top : TopologyValue) (n : ℕ) (a : ActorState) (tim
 collection_finishes_none top n (OfShard a) time s q = shard_finishes_none (shard_collect a time) s q
 collection_finishes_none top n (OfSession a) time s q = absurd (cc)
 
-submission_finishes_none : (top : TopologyValue) (n : ℕ) (a : ActorState) (o : Op) (s : ActorStep) → actor_step top n a (SubmitHere o) ≡ Some s → s.finishes ≡ None
-submission_finishes_none top n (OfShard a) o s q = absurd (cc)
-submission_finishes_none top n (OfSession a) o s q = go (submit_fault top a o) q
+-- what a submission ends at once is its own operation, the last of these submissions
+submission_is_found : (top : TopologyValue) (w : Run) (n : ℕ) (o : Op) (s : ActorStep) (b : Submission) → Inv top w
+    → actor_step top n (OfSession (w.sessions n)) (SubmitHere o) ≡ Some s → b.session ≡ n → b.number ≡ op_count s.state
+    → (f : Finished) → s.finishes ≡ Some f → Found (w.submitted ++ b ∷ []) n f
+submission_is_found top w n o s b inv takes of number f finishes = go (submit_fault top (w.sessions n) o) takes
   where
-    by : (t : Option ℕ) → of_session (on_clock t (λ k. begun top n k a o)) ≡ Some s → s.finishes ≡ None
+    by : (t : Option ℕ) → of_session (on_clock t (λ k. begun top n k (w.sessions n) o)) ≡ Some s → Found (w.submitted ++ b ∷ []) n f
     by None h = absurd (cc)
     by (Some k) h =
-        let is : session_took (begun top n k a o) ≡ s = cc in
-        sym (ap (λ (z : ActorStep). z.finishes) is) ∙ submission_tells_nothing top n k a o
+        let st = begun top n k (w.sessions n) o in
+        let g = begins top n k (w.sessions n) o in
+        let is : session_took st ≡ s = cc in
+        let told : st.state.untaken ≡ Some f = ap (λ (z : ActorStep). z.finishes) is ∙ finishes in
+        let own : b.number ≡ st.state.count = number ∙ sym (ap (λ (z : ActorStep). op_count z.state) is) in
+        let last : f.number ≡ st.state.count = g.number f told ∙ sym g.count in
+        let t : TxnValue = record { session = n; number = st.state.count } in
+        let txn : record { session = b.session; number = b.number } ≡ t = λ j. record { session = of j; number = own j } in
+        let found : submission_of (w.submitted ++ b ∷ []) t ≡ Some b =
+        found_last (λ (z : Submission). is_same_txn (record { session = z.session; number = z.number }) t) w.submitted b
+        (ap (λ z. is_same_txn z t) txn ∙ same_txn_self t) (number_is_new top w n k o inv) in
+        let c : Completed = record { node = n; number = f.number; home = b.home; op = b.op; outcome = f.outcome } in (
+          c,
+          ap (option_map (λ (z : Submission). let r : Completed = record { node = n; number = f.number; home = z.home; op = z.op; outcome = f.outcome } in r))
+              (ap (λ z. submission_of (w.submitted ++ b ∷ []) (record { session = n; number = z })) last ∙ found),
+          refl,
+          refl,
+        )
 
-    go : (f : Option Fault) → of_session (submitted_if f top n a o) ≡ Some s → s.finishes ≡ None
+    go : (e : Option Fault) → of_session (submitted_if e top n (w.sessions n) o) ≡ Some s → Found (w.submitted ++ b ∷ []) n f
     go (Some fault) h = absurd (cc)
-    go None h = by (ticked a.clock a.clock) h
+    go None h = by (ticked (w.sessions n).clock (w.sessions n).clock) h
 
 module _ (top : TopologyValue) (w : Run) (n : ℕ) (some : 0 < top.shards) (inv : Inv top w) where
   heard_is_found : (e : Envelope) → Hears top w e.from n e.time e.body → (t : Option ℕ) → ticked (w.sessions n).clock e.time ≡ t → (s : ActorStep)
@@ -122,7 +142,10 @@ module _ (top : TopologyValue) (w v : Run) (ev : Event) (n : ℕ) (x : ActorEven
     (some : 0 < top.shards) (inv : Inv top w) where
   found_by : (y : ActorEvent) → x ≡ y → actor_step top n (actor_in top w n) y ≡ Some s → SubmittedBy top w v n s y → (g : Finished) → s.finishes ≡ Some g
       → Found v.submitted n g
-  found_by (SubmitHere o) is takes same g q = let none = submission_finishes_none top n (actor_in top w n) o s takes in absurd (cc)
+  found_by (SubmitHere o) is takes same g q =
+      subst (λ l. Found l n g) (sym same.2)
+      (submission_is_found top w n o s same.0 inv
+      (subst (λ z. actor_step top n z (SubmitHere o) ≡ Some s) (session_in top w n (session_no_shard top n same.1)) takes) same.3 same.4 g q)
   found_by (CollectHere time) is takes same g q = let none = collection_finishes_none top n (actor_in top w n) time s takes in absurd (cc)
   found_by (Handle e) is takes same g q =
       let r = f.received e is in

@@ -1,5 +1,5 @@
 -- Every event keeps what is under way, and so does every run.
-use Rattle.std.proofs.Common.{◌≡◌, ℕ, ◌<◌, Bool, true, false, List, [], ◌∷◌, slice_get, Option, Some, None, Ok, refl, sym, ◌∙◌, subst, le_of_lt}
+use Rattle.std.proofs.Common.{◌≡◌, ℕ, Bool, true, false, List, [], ◌∷◌, slice_get, Option, Some, None, Ok, refl, sym, ap, ◌∙◌, subst, le_of_lt}
 use Rattle.std.proofs.lemmas.Bool.{false≢true}
 use Rattle.logical_time.specs.declared.fault.Fault.{Fault}
 use Rattle.messages.specs.declared.op.Op.{Op}
@@ -8,11 +8,12 @@ use Rattle.messages.specs.declared.body.Body.TheVariants.{Done, PartNow, PartAt}
 use Rattle.messages.specs.declared.envelope.Envelope.{Envelope}
 use Rattle.messages.specs.Topology.{TopologyValue, is_topology, is_shard, is_session}
 use Rattle.messages.specs.Clock.{ticked, on_clock}
+use Rattle.messages.specs.Shard.{ShardState, KeptBallot}
 use Rattle.messages.specs.Session.{is_idle}
 use Rattle.messages.specs.Submitting.{begun, busy_or, plan_fault, submit_fault, submit_if as session_submit_if}
 use Rattle.messages.specs.SessionEvents.{heard, session_handle}
 use Rattle.messages.specs.ShardEvents.{handled, shard_handle, collected}
-use Rattle.world.specs.Run.{Run, Event, Submit, Deliver, Collect, opening, after_shard, after_session, after_submission, submit_if, deliver_if, deliver_for, collect_if, step, continued, run}
+use Rattle.world.specs.Run.{Run, Submission, Event, Submit, Deliver, Collect, opening, after_shard, after_session, after_submission, submit_if, deliver_if, deliver_for, collect_if, step, continued, run}
 use Rattle.world.proofs.Among.{Among, get_among}
 use Rattle.world.proofs.Invariant.{Says, Inv}
 use Rattle.world.proofs.HandlesKept.{handle_kept}
@@ -26,7 +27,6 @@ use Rattle.world.proofs.HandledWaits.{handled_wait, collected_wait}
 use Rattle.world.proofs.LiveHandled.{is_for_session, handled_left, collected_left}
 use Rattle.world.proofs.LiveHeard.{is_for_shard, heard_left}
 use Rattle.world.proofs.Stations.{Stations, step_stations, opening_stations}
-use Rattle.world.proofs.Homes.{Homes, step_homes, opening_homes}
 use Rattle.world.proofs.Addresses.{Stands, stands, shard_no_session, to_shard, done_session}
 use Rattle.world.proofs.SteppedLive.{Delivers, shard_onward, shard_here, shard_step_live, session_comes, session_step_live}
 use Rattle.world.proofs.SubmittedLive.{begun_live}
@@ -37,10 +37,7 @@ delivers_it : (top : TopologyValue) (w x : Run) (j : ℕ) (e : Envelope) → sli
     → Delivers top w x (Deliver j)
 delivers_it top w x j e is a i q = let same : j ≡ i = cc in (e, subst (λ z. slice_get w.sent z ≡ Some e) same is, a)
 
-module _ (top : TopologyValue) (ok : Stands top) (w : Run) (inv : Inv top w) (live : Live top w) (stations : Stations top w) (homes : Homes top w) where
-  homed : (node : ℕ) → (w.sessions node).home < top.dcs
-  homed node = subst (λ d. d < top.dcs) (sym (homes.sessions node)) (ok.home node)
-
+module _ (top : TopologyValue) (ok : Stands top) (w : Run) (inv : Inv top w) (live : Live top w) (stations : Stations top w) where
   -- ## A message comes
 
   -- of what is for a session, nothing but an answer comes to a shard, which has no read open
@@ -71,12 +68,15 @@ module _ (top : TopologyValue) (ok : Stands top) (w : Run) (inv : Inv top w) (li
           let ws = handled_wait top e.to n (w.shards e.to) e.from e.body in
           let g = shard_onward top w e.to e.from (kind_of e.body) st ev on ws in
           let later = handle_kept top w e n ev ok.some inv m q in
-          let l = handled_left top w x n ok.some inv later g live e m (shard_here top w e.to e.from (kind_of e.body) st ev on ws) in
+          let l = handled_left top w x n ok.some inv later g live e m no_session (shard_here top w e.to e.from (kind_of e.body) st ev on ws) in
           let acted = by (is_for_session (kind_of e.body)) refl x (λ f. l.1 f) (λ a. acted_on top e.from e.to g (kind_of e.body) a) m in
           shard_step_live top w e.to e.from (kind_of e.body) st ev on ws live (λ number time r. (subst (λ z. SaysLive top w e.from e.to z) r
           (live.sent e m)).0) l.0 stations.handled
           (delivers_it top w x j e found acted)
         where
+          no_session : (b : Submission) → Among b w.submitted → b.session ≡ e.to → ⊥
+          no_session b m own = false≢true (sym (shard_no_session top e.to is) ∙ sym (ap (is_session top) own) ∙ stations.submitted b m)
+
           by : (b : Bool) → is_for_session (kind_of e.body) ≡ b → (x : Run)
               → (is_for_session (kind_of e.body) ≡ false → Acted top x e.from e.to (kind_of e.body))
               → (Acted top w e.from e.to (kind_of e.body) → Acted top x e.from e.to (kind_of e.body)) → Among e w.sent
@@ -88,6 +88,9 @@ module _ (top : TopologyValue) (ok : Stands top) (w : Run) (inv : Inv top w) (li
       → Live top (after_session (session_handle top e.to (w.sessions e.to) e) w (Deliver j) e.to)
   session_hears j e found is = go (ticked (w.sessions e.to).clock e.time) refl
     where
+      no_ballot : (r : KeptBallot) → Among r (w.shards e.to).kept_ballots → ⊥
+      no_ballot r m = absurd (subst (λ (a : ShardState). Among r a.kept_ballots) (stations.shards e.to is) m)
+
       no_shard : (b : Bool) → is_for_shard (kind_of e.body) ≡ b → is_for_shard (kind_of e.body) ≡ false
       no_shard false f = f
       no_shard true f =
@@ -103,7 +106,7 @@ module _ (top : TopologyValue) (ok : Stands top) (w : Run) (inv : Inv top w) (li
           let st = heard top e.to n (w.sessions e.to) e.from e.body in
           let ev = Deliver j in
           let x = after_session (Ok st) w ev e.to in
-          let r = heard_left top w x e.to n ok.some inv (le_of_lt above.0) (homed e.to) live e.from e.time e.body (no_shard _ refl)
+          let r = heard_left top w x e.to n ok.some inv (le_of_lt above.0) live no_ballot e.from e.time e.body (no_shard _ refl)
           (le_of_lt above.1) (hears top w inv e m) (live.sent e m) (session_comes top w e.to st ev) in
           session_step_live top w e.to st ev live r.0 stations.handled (delivers_it top w x j e found r.1)
 
@@ -137,23 +140,23 @@ module _ (top : TopologyValue) (ok : Stands top) (w : Run) (inv : Inv top w) (li
 
   -- ## A submission
 
-  accepted : (o : Op) (b : Bool) → busy_or b (plan_fault top o) ≡ None → (b ≡ true) × (plan_fault top o ≡ None)
-  accepted o true e = (refl, e)
-  accepted o false e = absurd (cc)
+  accepted : (home : ℕ) (o : Op) (b : Bool) → busy_or b (plan_fault top home o) ≡ None → (b ≡ true) × (plan_fault top home o ≡ None)
+  accepted home o true e = (refl, e)
+  accepted home o false e = absurd (cc)
 
   submit_go : (b : Bool) (node : ℕ) (o : Op) → Live top (submit_if b top w node o)
   submit_go false node o = live
   submit_go true node o = by (submit_fault top (w.sessions node) o) refl
     where
-      go : (is_idle (w.sessions node).current ≡ true) × (plan_fault top o ≡ None) → (c : Option ℕ)
+      go : (is_idle (w.sessions node).current ≡ true) × (plan_fault top (w.sessions node).home o ≡ None) → (c : Option ℕ)
           → Live top (after_submission (on_clock c (λ n. begun top node n (w.sessions node) o)) w node o)
       go plan None = live
-      go plan (Some n) = begun_live top w node n ok.some live (homed node) plan.0 stations.handled o plan.1
+      go plan (Some n) = begun_live top w node n ok.some live plan.0 stations.handled o plan.1
 
       by : (f : Option Fault) → submit_fault top (w.sessions node) o ≡ f
           → Live top (after_submission (session_submit_if f top node (w.sessions node) o) w node o)
       by (Some e) q = live
-      by None q = go (accepted o (is_idle (w.sessions node).current) q) (ticked (w.sessions node).clock (w.sessions node).clock)
+      by None q = go (accepted (w.sessions node).home o (is_idle (w.sessions node).current) q) (ticked (w.sessions node).clock (w.sessions node).clock)
 
   -- ## Every event
 
@@ -164,8 +167,8 @@ module _ (top : TopologyValue) (ok : Stands top) (w : Run) (inv : Inv top w) (li
 
 -- ## Every run
 
-pub opening_live : (top : TopologyValue) → Live top (opening top)
-opening_live top =
+pub opening_live : (top : TopologyValue) → Stands top → Live top (opening top)
+opening_live top ok =
     record {
       shards = λ node.
           record {
@@ -192,6 +195,7 @@ opening_live top =
       submitted = λ b batch m. absurd m;
       earlier = tt;
       dependencies = λ node k m. absurd m;
+      homes = ok.home;
       current = λ node. tt;
       waiting = λ node y m. absurd m;
       rounds = λ node y m. absurd m;
@@ -199,11 +203,11 @@ opening_live top =
     }
 
 continued_live : (top : TopologyValue) → Stands top → (events : List Event) (w : Run) → Inv top w → Live top w → Stations top w
-    → Homes top w → Live top (continued top w events)
-continued_live top ok [] w inv live stations homes = live
-continued_live top ok (x ∷ xs) w inv live stations homes =
-    continued_live top ok xs (step top w x) (step_kept top w x ok.some inv) (step_live top ok w inv live stations homes x) (step_stations top w stations x)
-    (step_homes top w homes x)
+    → Live top (continued top w events)
+continued_live top ok [] w inv live stations = live
+continued_live top ok (x ∷ xs) w inv live stations =
+    continued_live top ok xs (step top w x) (step_kept top w x ok.some inv) (step_live top ok w inv live stations x) (step_stations top w stations x)
 
 pub run_live : (top : TopologyValue) (events : List Event) → is_topology top.dcs top.shards top.homes ≡ true → Live top (run top events)
-run_live top events e = continued_live top (stands top e) events (opening top) (opening_holds top) (opening_live top) (opening_stations top) (opening_homes top)
+run_live top events e =
+    let ok = stands top e in continued_live top ok events (opening top) (opening_holds top) (opening_live top ok) (opening_stations top)

@@ -6,12 +6,12 @@ use Rattle.store.specs.declared.part.Applied.{Applied}
 use Rattle.messages.specs.declared.envelope.Envelope.{Envelope}
 use Rattle.messages.specs.Topology.{TopologyValue}
 use Rattle.messages.specs.Shard.{ShardState, Role, Own, Cohort, Replica, PreparedPart, BegunBallot}
-use Rattle.messages.specs.Session.{SessionState, Open, Idle, Writing, FirstRound, SecondRound}
+use Rattle.messages.specs.Session.{SessionState, Open, Idle, Writing, FirstRound, SecondRound, Moving}
 use Rattle.world.specs.Run.{Run, Submission}
 use Rattle.world.proofs.Among.{Among, contains_among, among_contains}
 use Rattle.world.proofs.Facts.{IsWritten, near, Sees}
 use Rattle.world.proofs.About.{Kind, OfBegin, OfPrepare, OfYes, OfCommit, OfAt, OfNotBy, OfCheck, OfRead, OfReadAt, OfReplBegin, OfReplPart, OfNotify, OfPrepareRemote, OfDepCheck, OfDepOk, OfDone, OfPartNow, OfPartAt, Sent}
-use Rattle.world.proofs.Underway.{HasPrepared, HasBallot, HasDecision, HasKeptPart, HasKeptBallot, Known, Awaits, WaitsFor, of_ballot, of_moving, Aside, Away, AtOrigin, Leads, Placed, ShardOnward, Round, SessionOnward, Onward, RoleLive, PreparedLive, BallotLive, AppliedLive, Entries, ShardLive, SaysLive, HasEnded, Acted, SubmissionLive, OpenLive}
+use Rattle.world.proofs.Underway.{HasPrepared, HasBallot, HasDecision, HasKeptPart, HasKeptBallot, Known, Awaits, WaitsFor, of_ballot, of_moving, Aside, Away, AtOrigin, Leads, Placed, ShardOnward, Round, SessionOnward, Onward, RoleLive, PreparedLive, BallotLive, AppliedLive, Entries, ShardLive, SaysLive, HasEnded, WasCounted, by_ballot, by_move, Acted, SubmissionLive, OpenLive}
 use Rattle.shard.specs.Sound.{IsWithin}
 use Rattle.shard.proofs.Within.{within_itself}
 
@@ -136,6 +136,7 @@ open_on top node a Idle g k = tt
 open_on top node a (Writing coordinator) g k = tt
 open_on top node a (FirstRound read heard) g k = record { some = k.some; asked = λ shard m. sent_on g (k.asked shard m) }
 open_on top node a (SecondRound read time first heard) g k = record { some = k.some; asked = λ shard m. sent_on g (k.asked shard m) }
+open_on top node a (Moving dc left floor) g k = record { there = k.there; some = k.some; asked = λ d m. sent_on g (k.asked d m) }
 
 -- ## What messages rest on, and what they left
 
@@ -159,6 +160,10 @@ says_on top from to g (OfDepOk dependency waiter) k = waits_for_on g k
 says_on top from to g (OfDone t) k = k
 says_on top from to g (OfPartNow number) k = le_trans k (g.sessions to).count
 says_on top from to g (OfPartAt number time) k = round_on to number time g k
+
+pub counted_on : {top : TopologyValue} {w x : Run} (to : ℕ) (waiter dependency : TxnValue) → Onward top w x → WasCounted w to waiter dependency → WasCounted x to waiter dependency
+counted_on to waiter dependency g (by_ballot k m) = by_ballot (kept_ballot_on (g.shards to) k) ((g.shards to).met _ m)
+counted_on to waiter dependency g (by_move b m is dc moves k) = by_move b (g.submitted b m) is dc moves ((g.sessions to).left waiter.number dependency k)
 
 pub acted_on : (top : TopologyValue) {w x : Run} (from to : ℕ) → Onward top w x → (k : Kind) → Acted top w from to k → Acted top x from to k
 acted_on top from to g (OfBegin t) k = known_on (g.shards to) k
@@ -188,7 +193,7 @@ acted_on top from to g (OfNotify t) (inr k) = inr (known_on (g.shards to) k)
 acted_on top from to g (OfPrepareRemote t) k = known_on (g.shards to) k
 acted_on top from to g (OfDepCheck dependency waiter) (inl k) = inl (sent_on g k)
 acted_on top from to g (OfDepCheck dependency waiter) (inr k) = inr (k.0, (g.shards to).askers k.0 k.1, k.2, k.3, k.4)
-acted_on top from to g (OfDepOk dependency waiter) k = (g.shards to).met _ k
+acted_on top from to g (OfDepOk dependency waiter) k = counted_on to waiter dependency g k
 acted_on top from to g (OfDone t) k = ended_on g k
 acted_on top from to g (OfPartNow number) k = (g.sessions to).missing number from k
 acted_on top from to g (OfPartAt number time) k = (g.sessions to).awaited number from k
@@ -221,4 +226,4 @@ same_shard_on a = onward_of (within_itself a)
 
 pub same_session_on : (top : TopologyValue) (a : SessionState) → SessionOnward top a a
 same_session_on top a =
-    record { count = le_refl a.count; missing = λ m node k. k; rounds = λ m time k. k; awaited = λ m node k. k }
+    record { count = le_refl a.count; missing = λ m node k. k; rounds = λ m time k. k; awaited = λ m node k. k; left = λ m t k. k }

@@ -8,7 +8,7 @@ use Rattle.messages.specs.declared.envelope.Envelope.{Envelope}
 use Rattle.messages.specs.Topology.{TopologyValue, dc_of}
 use Rattle.messages.specs.Shard.{KeptBallot}
 use Rattle.messages.specs.ShardEvents.{handled, collected}
-use Rattle.world.specs.Run.{Run}
+use Rattle.world.specs.Run.{Run, Submission}
 use Rattle.world.proofs.Among.{Among}
 use Rattle.world.proofs.Facts.{KeptBallotSound}
 use Rattle.world.proofs.Invariant.{Says, Inv}
@@ -33,7 +33,8 @@ is_for_session other = false
 abbrev pub Acts : TopologyValue → Run → ℕ → ℕ → Kind → Type 0
 Acts top x from to k = is_for_session k ≡ false → Acted top x from to k
 
-module _ (top : TopologyValue) (w x : Run) (node n : ℕ) (some : 0 < top.shards) (was : Inv top w) (inv : Inv top x) (g : Onward top w x) (live : Live top w) where
+module _ (top : TopologyValue) (w x : Run) (node n : ℕ) (some : 0 < top.shards) (was : Inv top w) (inv : Inv top x) (g : Onward top w x) (live : Live top w)
+    (none : (b : Submission) → Among b w.submitted → b.session ≡ node → ⊥) where
   here_live : ShardLive top w node (w.shards node)
   here_live = live.shards node
 
@@ -81,17 +82,17 @@ module _ (top : TopologyValue) (w x : Run) (node n : ℕ) (some : 0 < top.shards
       let z = dep_check_left top w x node n some was inv g here_live rounds (record { dependency = dependency; waiter = waiter; from = from }) (leads_on g k.0) k.1 (waits_for_on g k.2) here in
       (z.0, λ e. z.1)
   body_left from time (DepOk dependency waiter commit) old says k here =
-      let z = dep_ok_left top w x node n some was inv g here_live rounds (dc_of top from) dependency waiter k here in (z.0, λ e. z.1)
+      let z = dep_ok_left top w x node n some was inv g here_live rounds (dc_of top from) dependency waiter none k here in (z.0, λ e. z.1)
   body_left from time (Done t commit stamp) old says k here = (quiet_left n (shard_on g (live.shards node)), λ e. absurd (false≢true (sym e)))
   body_left from time (PartNow number rows) old says k here = (quiet_left n (shard_on g (live.shards node)), λ e. absurd (false≢true (sym e)))
   body_left from time (PartAt number bound answer) old says k here = (quiet_left n (shard_on g (live.shards node)), λ e. absurd (false≢true (sym e)))
 
 -- what a message that was sent leaves at the shard that handles it, in a run after the step
 pub handled_left : (top : TopologyValue) (w x : Run) (n : ℕ) → 0 < top.shards → Inv top w → Inv top x → Onward top w x → Live top w → (e : Envelope) → Among e w.sent
-    → Here x e.to (handled top e.to n (w.shards e.to) e.from e.body)
+    → ((b : Submission) → Among b w.submitted → b.session ≡ e.to → ⊥) → Here x e.to (handled top e.to n (w.shards e.to) e.from e.body)
     → Left top x e.to (handled top e.to n (w.shards e.to) e.from e.body) × Acts top x e.from e.to (kind_of e.body)
-handled_left top w x n some was inv g live e m here =
-    body_left top w x e.to n some was inv g live e.from e.time e.body (was.sent e m) (inv.sent e (g.sent e m)) (live.sent e m) here
+handled_left top w x n some was inv g live e m none here =
+    body_left top w x e.to n some was inv g live none e.from e.time e.body (was.sent e m) (inv.sent e (g.sent e m)) (live.sent e m) here
 
 -- what a collection leaves
 pub collected_left : (top : TopologyValue) (w x : Run) (node n time : ℕ) → Onward top w x → Live top w → Left top x node (collected n (w.shards node) time)

@@ -1,14 +1,16 @@
 -- What each message that a session hears leaves under way.
-use Rattle.std.proofs.Common.{◌≡◌, ℕ, ◌<◌, ◌≤◌, Bool, true, false, List, ◌⊎◌, inl, inr, sym, ap, ap₂, ◌∙◌, subst}
+use Rattle.std.proofs.Common.{◌≡◌, ℕ, ◌<◌, ◌≤◌, Bool, true, false, List, ◌⊎◌, inl, inr, sym, ap, ap₂, ◌∙◌, subst, subst₂}
 use Rattle.std.proofs.lemmas.Bool.{false≢true}
 use Rattle.logical_time.specs.Stamps.{StampValue, TxnValue, WriterValue}
 use Rattle.column_family.specs.declared.batch.Change.{Change}
 use Rattle.slice.specs.declared.read.Read.{Read}
+use Rattle.messages.specs.declared.op.Op.{Op}
 use Rattle.messages.specs.declared.op.Op.TheVariants as op
 use Rattle.messages.specs.declared.body.Body.{Body}
-use Rattle.messages.specs.declared.body.Body.TheVariants.{At, NotBy, Check, Done, PartNow, PartAt}
-use Rattle.messages.specs.Topology.{TopologyValue}
-use Rattle.messages.specs.Session.{SessionStep, Open, Idle, Writing, FirstRound, SecondRound, is_idle}
+use Rattle.messages.specs.declared.body.Body.TheVariants.{At, NotBy, Check, DepOk, Done, PartNow, PartAt}
+use Rattle.messages.specs.Topology.{TopologyValue, dc_of}
+use Rattle.messages.specs.Shard.{KeptBallot}
+use Rattle.messages.specs.Session.{SessionStep, Open, Idle, Writing, FirstRound, SecondRound, Moving, is_idle}
 use Rattle.messages.specs.SessionEvents.{heard, session_taken}
 use Rattle.world.specs.Run.{Run, Submission}
 use Rattle.world.proofs.Among.{Among}
@@ -16,9 +18,9 @@ use Rattle.world.proofs.Facts.{txn_of, IsWritten, IsDecided}
 use Rattle.world.proofs.Invariant.{IsOpen, OpenSound, Inv, Hears}
 use Rattle.world.proofs.SessionEnds.{open_txn}
 use Rattle.world.proofs.About.{Kind, OfBegin, OfPrepare, OfYes, OfCommit, OfAt, OfNotBy, OfCheck, OfRead, OfReadAt, OfReplBegin, OfReplPart, OfNotify, OfPrepareRemote, OfDepCheck, OfDepOk, OfDone, OfPartNow, OfPartAt, kind_of}
-use Rattle.world.proofs.Underway.{Placed, NotMissing, NotAwaited, SaysLive, Acted, HasEnded, StillOpen, Live}
+use Rattle.world.proofs.Underway.{WaitsFor, of_ballot, of_moving, Placed, NotMissing, NotAwaited, NotLeft, SaysLive, WasCounted, by_move, Acted, HasEnded, StillOpen, Live}
 use Rattle.world.proofs.LiveSessions.{Comes, Went}
-use Rattle.world.proofs.LiveReads.{IsReading, heard_went, heard_leaves}
+use Rattle.world.proofs.LiveReads.{WritesNothing, heard_went, heard_leaves}
 
 -- a message that leaves something on a shard, or something that a shard sent
 abbrev pub is_for_shard : Kind → Bool
@@ -36,13 +38,13 @@ is_for_shard (OfReplPart t) = true
 is_for_shard (OfNotify t) = true
 is_for_shard (OfPrepareRemote t) = true
 is_for_shard (OfDepCheck dependency waiter) = true
-is_for_shard (OfDepOk dependency waiter) = true
+is_for_shard (OfDepOk dependency waiter) = false
 is_for_shard (OfDone t) = false
 is_for_shard (OfPartNow number) = false
 is_for_shard (OfPartAt number time) = false
 
 module _ (top : TopologyValue) (w x : Run) (node n : ℕ) (some : 0 < top.shards) (inv : Inv top w) (le : (w.sessions node).clock ≤ n)
-    (homed : (w.sessions node).home < top.dcs) (live : Live top w) where
+    (live : Live top w) (no_ballot : (r : KeptBallot) → Among r (w.shards node).kept_ballots → ⊥) where
   abbrev placed : (k : WriterValue) → Among k (w.sessions node).dependencies → Placed top w k
   placed = λ k m. live.dependencies node k m
 
@@ -51,21 +53,28 @@ module _ (top : TopologyValue) (w x : Run) (node n : ℕ) (some : 0 < top.shards
 
   -- ## Done
 
-  -- an open read is no write
+  -- an open read is no write, nor is an open move
+  written_so : (t : TxnValue) (b : Submission) (batch : List Change) → IsWritten w t b batch → t ≡ now → (dc : ℕ) (o : Op)
+      → IsOpen w node (w.sessions node).count dc o → o ≡ op.Batch batch
+  written_so t b batch k e dc o is =
+      let same = inv.submitted.one is.submission b is.among k.among (open_txn is ∙ sym e ∙ sym k.txn) in sym is.op ∙ ap (λ z. z.op) same ∙ k.op
+
   no_read : (t : TxnValue) (b : Submission) (batch : List Change) → IsWritten w t b batch → t ≡ now → (dc : ℕ) (read : Read)
       → IsOpen w node (w.sessions node).count dc (op.Read read) → ⊥
-  no_read t b batch k e dc read o =
-      let same = inv.submitted.one o.submission b o.among k.among (open_txn o ∙ sym e ∙ sym k.txn) in
-      let q : op.Read read ≡ op.Batch batch = sym o.op ∙ ap (λ z. z.op) same ∙ k.op in
-      absurd (cc)
+  no_read t b batch k e dc read o = let q : op.Read read ≡ op.Batch batch = written_so t b batch k e dc (op.Read read) o in absurd (cc)
+
+  no_move : (t : TxnValue) (b : Submission) (batch : List Change) → IsWritten w t b batch → t ≡ now → (dc there : ℕ)
+      → IsOpen w node (w.sessions node).count dc (op.Move there) → ⊥
+  no_move t b batch k e dc there o = let q : op.Move there ≡ op.Batch batch = written_so t b batch k e dc (op.Move there) o in absurd (cc)
 
   -- where the end of the open write is told, it ended
   ended_of : (t : TxnValue) (b : Submission) (batch : List Change) → IsWritten w t b batch → t ≡ now → (o : Open) → OpenSound top w node (w.sessions node) o
-      → IsReading o → ⊥
+      → WritesNothing o → ⊥
   ended_of t b batch k q Idle s r = r
   ended_of t b batch k q (Writing coordinator) s r = r
   ended_of t b batch k q (FirstRound read heard) s r = no_read t b batch k q (w.sessions node).home read s.opened
   ended_of t b batch k q (SecondRound read time first heard) s r = no_read t b batch k q (w.sessions node).home read s.opened
+  ended_of t b batch k q (Moving dc left floor) s r = no_move t b batch k q (w.sessions node).home dc s.opened
 
   done_left : (from : ℕ) (t : TxnValue) (commit : ℕ) (stamp : StampValue) → IsDecided w from t commit stamp → node ≡ t.session
       → Comes w x node (heard top node n (w.sessions node) from (Done t commit stamp))
@@ -97,6 +106,25 @@ module _ (top : TopologyValue) (w x : Run) (node n : ℕ) (some : 0 < top.shards
             | inr h ↦ subst (λ z. HasEnded x z) (sym is) h
           ]
 
+  -- ## DepOk
+
+  counted : (from dc : ℕ) (dependency waiter : TxnValue) (commit : ℕ) → WaitsFor top w dc node waiter dependency
+      → Comes w x node (heard top node n (w.sessions node) from (DepOk dependency waiter commit))
+      → Went top w x node (heard top node n (w.sessions node) from (DepOk dependency waiter commit)) → WasCounted x node waiter dependency
+  counted from dc dependency waiter commit (of_ballot k) c went = absurd (no_ballot k.ballot k.among)
+  counted from dc dependency waiter commit (of_moving b m is own moves k named q) c went =
+      let st = heard top node n (w.sessions node) from (DepOk dependency waiter commit) in
+      let le : b.number ≤ (w.sessions b.session).count = inv.submitted.number b m in
+      let number : waiter.number ≤ (w.sessions node).count = subst₂ (λ i j. i ≤ (w.sessions j).count) (ap (λ (z : TxnValue). z.number) is) own le in
+      let session : waiter.session ≡ node = sym (ap (λ (z : TxnValue). z.session) is) ∙ own in
+      let has : NotLeft (session_taken st.state) waiter.number dependency =
+      record {
+        number = subst (λ i. waiter.number ≤ i) (sym went.count) number;
+        round = λ r. heard_leaves top node n (w.sessions node) from (DepOk dependency waiter commit)
+            (ap₂ (λ i j. let z : TxnValue = record { session = i; number = j } in z) session (r ∙ went.count));
+      } in
+      by_move b (c.submitted b m) is dc moves (subst (λ z. NotLeft z waiter.number dependency) (sym c.state) has)
+
   -- ## Every message
 
   -- what it was about, once its step is right
@@ -120,6 +148,7 @@ module _ (top : TopologyValue) (w x : Run) (node n : ℕ) (some : 0 < top.shards
         round = λ q. heard_leaves top node n (w.sessions node) from (PartAt number bound answer) k.round (q ∙ went.count);
       } in
       subst (λ z. NotAwaited top z number from) (sym c.state) has
+  acted from sent (DepOk dependency waiter commit) e s k c went = counted from (dc_of top from) dependency waiter commit k c went
   acted from sent _ e s k c went = absurd (false≢true (sym e))
 
   pub heard_left : (from sent : ℕ) (b : Body) → is_for_shard (kind_of b) ≡ false → sent ≤ n → Hears top w from node sent b
@@ -127,5 +156,5 @@ module _ (top : TopologyValue) (w x : Run) (node n : ℕ) (some : 0 < top.shards
       → Comes w x node (heard top node n (w.sessions node) from b)
       → Went top w x node (heard top node n (w.sessions node) from b) × Acted top x from node (kind_of b)
   heard_left from sent b e early s k c =
-      let went = heard_went top w x node n some inv le homed placed (live.current node) from sent b early s c in
+      let went = heard_went top w x node n some inv le (live.homes node) placed (live.current node) from sent b early s c in
       (went, acted from sent b e s k c went)

@@ -8,7 +8,7 @@ use Rattle.messages.specs.Words.{is_same_txn}
 use Rattle.messages.specs.Shard.{Vote, KeptBallot, Met}
 use Rattle.messages.specs.Known.{kept_ballot, is_known, has_vote, is_cohort, is_awaited, is_met}
 use Rattle.messages.specs.Replication.{is_ready, with_notice, notice_if, early_notice_if, notify_for, on_notify, is_unmet, with_met, met_if, dep_ok_for, on_dep_ok}
-use Rattle.world.specs.Run.{Run}
+use Rattle.world.specs.Run.{Run, Submission}
 use Rattle.world.proofs.Among.{Among, among_last, last_or_old, any_among, find_some, find_none, same_txn}
 use Rattle.world.proofs.Facts.{near}
 use Rattle.world.proofs.Invariant.{Inv}
@@ -16,7 +16,7 @@ use Rattle.world.proofs.Ables.{absent}
 use Rattle.world.proofs.ReadyKept.{awaited_unready, unmet_unready}
 use Rattle.world.proofs.OneBatch.{written_at, submitted_one, batch_one}
 use Rattle.world.proofs.About.{OfNotify}
-use Rattle.world.proofs.Underway.{NoticeLive, HasPrepared, HasKeptPart, HasKeptBallot, Known, Awaits, WaitsFor, of_ballot, of_moving, no_move, vote_of, met_of, Leads, Onward, Entries, ShardLive, Acted}
+use Rattle.world.proofs.Underway.{NoticeLive, HasPrepared, HasKeptPart, HasKeptBallot, Known, Awaits, WaitsFor, of_ballot, of_moving, vote_of, met_of, Leads, Onward, Entries, ShardLive, WasCounted, by_ballot, Acted}
 use Rattle.world.proofs.LiveGrow.{prepared_on, decision_on, shard_on, onward_of}
 use Rattle.world.proofs.LivePlaces.{not_and, same_at, vote_from, met_from, known_cases, lead_beside, among_cohorts}
 use Rattle.world.proofs.LiveSteps.{Here, Left, quiet_left, Rounds}
@@ -185,7 +185,11 @@ module _ (top : TopologyValue) (w x : Run) (node n : ℕ) (some : 0 < top.shards
       let p = find_some (λ r. is_same_txn r.txn waiter) (w.shards node).kept_ballots r e in
       met_go waiter dependency k r p.0 (same_txn r.txn waiter p.1) _ refl here
 
-  pub dep_ok_left : (dc : ℕ) (dependency waiter : TxnValue) → WaitsFor top w dc node waiter dependency → Here x node (on_dep_ok top node n (w.shards node) dependency waiter)
-      → Left top x node (on_dep_ok top node n (w.shards node) dependency waiter) × Among (met_of waiter dependency) (x.shards node).met
-  dep_ok_left dc dependency waiter (of_ballot k) here = dep_ok_go waiter dependency k _ refl here
-  dep_ok_left dc dependency waiter (of_moving b m is own to k n q) here = absurd (no_move dc b.op to)
+  -- a shard has no move
+  pub dep_ok_left : (dc : ℕ) (dependency waiter : TxnValue) → ((b : Submission) → Among b w.submitted → b.session ≡ node → ⊥) → WaitsFor top w dc node waiter dependency
+      → Here x node (on_dep_ok top node n (w.shards node) dependency waiter)
+      → Left top x node (on_dep_ok top node n (w.shards node) dependency waiter) × WasCounted x node waiter dependency
+  dep_ok_left dc dependency waiter none (of_ballot k) here =
+      let r = dep_ok_go waiter dependency k _ refl here in
+      (r.0, by_ballot (k.ballot, (g.shards node).kept_ballots k.ballot k.among, k.txn) r.1)
+  dep_ok_left dc dependency waiter none (of_moving b m is own to k n q) here = absurd (none b m own)

@@ -11,9 +11,9 @@ use Rattle.messages.specs.declared.outcome.Outcome.{Outcome}
 use Rattle.messages.specs.declared.outcome.Outcome.TheVariants as outcome
 use Rattle.messages.specs.declared.envelope.Envelope.{Envelope}
 use Rattle.messages.specs.Topology.{TopologyValue, shard_node}
-use Rattle.messages.specs.Session.{SessionStep, Open, Idle, Writing, FirstRound, SecondRound, Finished, calm, is_idle}
+use Rattle.messages.specs.Session.{SessionStep, Open, Idle, Writing, FirstRound, SecondRound, Moving, Finished, calm, is_idle, ended, moved}
 use Rattle.messages.specs.Rounds.{with_writers, answer_of}
-use Rattle.messages.specs.SessionEvents.{ended, answered, given_up, session_taken}
+use Rattle.messages.specs.SessionEvents.{answered, given_up, session_taken}
 use Rattle.world.specs.Run.{Run, Submission, Completed, completed_of, ended_by}
 use Rattle.world.proofs.Among.{Among}
 use Rattle.world.proofs.Invariant.{IsOpen, AnsweredFrom, Inv}
@@ -21,7 +21,7 @@ use Rattle.world.proofs.DecidedIn.{found}
 use Rattle.world.proofs.SessionEnds.{open_txn}
 use Rattle.world.proofs.WritersDone.{writer_applied, cases}
 use Rattle.world.proofs.About.{kind_of}
-use Rattle.world.proofs.Underway.{Placed, FirstHas, SecondIs, SecondHas, SessionOnward, SaysLive, HasEnded, OpenLive}
+use Rattle.world.proofs.Underway.{Placed, FirstHas, SecondIs, SecondHas, IsNotLeft, SessionOnward, SaysLive, HasEnded, OpenLive}
 use Rattle.world.proofs.LiveGrow.{sent_in}
 use Rattle.world.proofs.OpenReads.{first_home, second_home, goes_on}
 
@@ -40,6 +40,7 @@ pub record Went (top : TopologyValue) (w x : Run) (node : ℕ) (st : SessionStep
   pub count : st.state.count ≡ (w.sessions node).count
   pub sends : (e : Envelope) → Among e st.sends → SaysLive top x e.from e.to (kind_of e.body)
   pub dependencies : (k : WriterValue) → Among k st.state.dependencies → Placed top x k
+  pub home : st.state.home < top.dcs
   pub current : OpenLive top x node (session_taken st.state) st.state.current
   -- the open operation goes on or ends
   pub ends : (is_idle (w.sessions node).current ≡ false → is_idle st.state.current ≡ false) ⊎ HasEnded x
@@ -56,18 +57,18 @@ placed_later f p =
     }
 
 module _ (top : TopologyValue) (w x : Run) (node n : ℕ) (some : 0 < top.shards) (inv : Inv top w)
-    (placed : (k : WriterValue) → Among k (w.sessions node).dependencies → Placed top w k)
+    (homed : (w.sessions node).home < top.dcs) (placed : (k : WriterValue) → Among k (w.sessions node).dependencies → Placed top w k)
     (live : OpenLive top w node (w.sessions node) (w.sessions node).current) where
   -- ## The operation goes on
 
   pub waits_onward : (o : Open) → ((m : ℕ) → FirstHas top (w.sessions node) (w.sessions node).current m → FirstHas top (w.sessions node) o m)
       → ((time : ℕ) → SecondIs (w.sessions node).current time → SecondIs o time)
       → ((m : ℕ) → SecondHas top (w.sessions node) (w.sessions node).current m → SecondHas top (w.sessions node) o m)
-      → SessionOnward top (w.sessions node) (record (w.sessions node) { clock = n; current = o; untaken = None })
-  waits_onward o first time second =
+      → ((t : TxnValue) → IsNotLeft (w.sessions node).current t → IsNotLeft o t) → SessionOnward top (w.sessions node) (record (w.sessions node) { clock = n; current = o; untaken = None })
+  waits_onward o first time second left =
       let a = w.sessions node in
       let b = record a { clock = n; current = o; untaken = None } in
-      goes_on top a b refl (λ m k. first_home top a b refl o m (first m k)) time (λ m k. second_home top a b refl o m (second m k))
+      goes_on top a b refl (λ m k. first_home top a b refl o m (first m k)) time (λ m k. second_home top a b refl o m (second m k)) left
 
   pub waits_went : (o : Open) (sends : List Envelope)
       → Comes w x node (record { state = record (w.sessions node) { clock = n; current = o }; sends = sends })
@@ -82,6 +83,7 @@ module _ (top : TopologyValue) (w x : Run) (node n : ℕ) (some : 0 < top.shards
         count = refl;
         sends = f;
         dependencies = λ d m. placed_later c.submitted (placed d m);
+        home = homed;
         current = k;
         ends = inl busy;
       }
@@ -93,19 +95,20 @@ module _ (top : TopologyValue) (w x : Run) (node n : ℕ) (some : 0 < top.shards
   open_later now (Writing coordinator) f k = tt
   open_later now (FirstRound read heard) f k = record { some = k.some; asked = λ shard m. sent_in f (k.asked shard m) }
   open_later now (SecondRound read time first heard) f k = record { some = k.some; asked = λ shard m. sent_in f (k.asked shard m) }
+  open_later now (Moving dc left floor) f k = record { there = k.there; some = k.some; asked = λ d m. sent_in f (k.asked d m) }
 
   pub calm_went : Comes w x node (calm n (w.sessions node)) → Went top w x node (calm n (w.sessions node))
   calm_went c =
       let o = (w.sessions node).current in
-      waits_went o [] c (waits_onward o (λ m k. k) (λ m k. k) (λ m k. k)) (λ e m. absurd m) (open_later o o c.sent live) (λ e. e)
+      waits_went o [] c (waits_onward o (λ m k. k) (λ m k. k) (λ m k. k) (λ t k. k)) (λ e m. absurd m) (open_later o o c.sent live) (λ e. e)
 
   -- ## The operation ends
 
   -- it stands in the transcript
-  pub ended_here : (floor : ℕ) (dependencies : List WriterValue) (out : Outcome) (dc : ℕ) (o : Op) → IsOpen w node (w.sessions node).count dc o
-      → Comes w x node (ended n (w.sessions node) floor dependencies out)
+  pub ended_here : (home floor : ℕ) (dependencies : List WriterValue) (out : Outcome) (dc : ℕ) (o : Op) → IsOpen w node (w.sessions node).count dc o
+      → Comes w x node (ended n (record (w.sessions node) { home = home }) floor dependencies out)
       → HasEnded x (record { session = node; number = (w.sessions node).count })
-  ended_here floor dependencies out dc o k c =
+  ended_here home floor dependencies out dc o k c =
       let a = w.sessions node in
       let t : TxnValue = record { session = node; number = a.count } in
       let s = k.submission in
@@ -116,18 +119,33 @@ module _ (top : TopologyValue) (w x : Run) (node n : ℕ) (some : 0 < top.shards
       (found top w inv.submitted s t k.among (open_txn k)) in
       (done, c.ended done is, refl)
 
-  pub ended_went : (floor : ℕ) (dependencies : List WriterValue) (out : Outcome) (dc : ℕ) (o : Op) → IsOpen w node (w.sessions node).count dc o
-      → ((k : WriterValue) → Among k dependencies → Placed top x k)
-      → Comes w x node (ended n (w.sessions node) floor dependencies out) → Went top w x node (ended n (w.sessions node) floor dependencies out)
-  ended_went floor dependencies out dc o k f c =
+  -- at this home
+  pub ended_at_went : (home floor : ℕ) (dependencies : List WriterValue) (out : Outcome) (dc : ℕ) (o : Op) → IsOpen w node (w.sessions node).count dc o
+      → home < top.dcs → ((k : WriterValue) → Among k dependencies → Placed top x k)
+      → Comes w x node (ended n (record (w.sessions node) { home = home }) floor dependencies out)
+      → Went top w x node (ended n (record (w.sessions node) { home = home }) floor dependencies out)
+  ended_at_went home floor dependencies out dc o k there f c =
+      let st = ended n (record (w.sessions node) { home = home }) floor dependencies out in
       record {
-        onward = goes_on top (w.sessions node) (session_taken (ended n (w.sessions node) floor dependencies out).state) refl (λ m q. tt) (λ m q. tt) (λ m q. tt);
+        onward = goes_on top (w.sessions node) (session_taken st.state) refl (λ m q. tt) (λ m q. tt) (λ m q. tt) (λ t q. tt);
         count = refl;
         sends = λ e m. absurd m;
         dependencies = f;
+        home = there;
         current = tt;
-        ends = inr (ended_here floor dependencies out dc o k c);
+        ends = inr (ended_here home floor dependencies out dc o k c);
       }
+
+  pub ended_went : (floor : ℕ) (dependencies : List WriterValue) (out : Outcome) (dc : ℕ) (o : Op) → IsOpen w node (w.sessions node).count dc o
+      → ((k : WriterValue) → Among k dependencies → Placed top x k)
+      → Comes w x node (ended n (w.sessions node) floor dependencies out) → Went top w x node (ended n (w.sessions node) floor dependencies out)
+  ended_went floor dependencies out dc o k f c = ended_at_went (w.sessions node).home floor dependencies out dc o k homed f c
+
+  pub moved_went : (dc floor : ℕ) → dc < top.dcs → IsOpen w node (w.sessions node).count (w.sessions node).home (op.Move dc)
+      → Comes w x node (moved n (w.sessions node) dc floor) → Went top w x node (moved n (w.sessions node) dc floor)
+  moved_went dc floor there opened c =
+      ended_at_went dc floor (w.sessions node).dependencies (outcome.Moved dc floor) (w.sessions node).home (op.Move dc) opened there
+      (λ k m. placed_later c.submitted (placed k m)) c
 
   -- each writer that a read rests on is named with its coordinator
   writers_named : (dc time : ℕ) (read : Read) (rows : List RowAt) → AnsweredFrom top w dc read time rows → (k : WriterValue)

@@ -71,7 +71,7 @@ KnowsNumber w ev = (k : ℕ) → ev ≡ Deliver k → (e : Envelope) × (slice_g
 shard_in : (top : TopologyValue) (w : Run) (n : ℕ) → is_shard top n ≡ true → actor_in top w n ≡ OfShard (w.shards n)
 shard_in top w n is = ap (λ b. if b then OfShard (w.shards n) else OfSession (w.sessions n)) is
 
-session_in : (top : TopologyValue) (w : Run) (n : ℕ) → is_shard top n ≡ false → actor_in top w n ≡ OfSession (w.sessions n)
+pub session_in : (top : TopologyValue) (w : Run) (n : ℕ) → is_shard top n ≡ false → actor_in top w n ≡ OfSession (w.sessions n)
 session_in top w n is = ap (λ b. if b then OfShard (w.shards n) else OfSession (w.sessions n)) is
 
 -- a shard's step, and a session's, as an actor's

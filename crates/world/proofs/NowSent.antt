@@ -4,7 +4,7 @@ use Rattle.std.proofs.lemmas.Bool.{false≢true}
 use Rattle.std.proofs.lemmas.Option.{slice_get_within}
 use Rattle.slice.specs.declared.read.Read.{Read}
 use Rattle.messages.specs.declared.body.Body.{Body}
-use Rattle.messages.specs.declared.body.Body.TheVariants.{Begin, Prepare, Read as ReadNow, ReadAt, PartNow}
+use Rattle.messages.specs.declared.body.Body.TheVariants.{Begin, Prepare, Read as ReadNow, ReadAt, DepCheck, PartNow}
 use Rattle.messages.specs.declared.envelope.Envelope.{Envelope}
 use Rattle.messages.specs.Topology.{TopologyValue}
 use Rattle.messages.specs.Words.{envelope}
@@ -68,6 +68,7 @@ not_now (Begin t rows cohorts dependencies) k is = false≢true is
 not_now (Prepare t rows coordinator) k is = false≢true is
 not_now (ReadNow number read) k is = false≢true is
 not_now (ReadAt number time read) k is = false≢true is
+not_now (DepCheck dependency waiter) k is = false≢true is
 not_now _ k is = absurd k
 
 -- ## Runs

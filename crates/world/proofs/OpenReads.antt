@@ -1,16 +1,19 @@
--- Which answers a read misses, and what a session's step leaves of that.
+-- Which answers a read or a move misses, and what a session's step leaves of that.
 use Rattle.std.proofs.Common.{◌≡◌, ℕ, ◌+◌, ◌≤◌, Bool, true, false, ◌&&◌, ◌||◌, not, List, [], ◌∷◌, ◌++◌, map, ◌⊎◌, inl, inr, refl, sym, ap, ◌∙◌, subst, arith, eq-eqb, le_refl}
 use Rattle.std.specs.Prelude.{◌==◌}
 use Rattle.std.specs.List.{list_any, list_all}
 use Rattle.std.proofs.lemmas.Bool.{false≢true, and_parts, and_from}
 use Rattle.std.proofs.lemmas.List.Folds.{list_any-append}
+use Rattle.logical_time.specs.Stamps.{TxnValue, WriterValue}
 use Rattle.slice.specs.declared.read.Read.{Read}
 use Rattle.planner.specs.Plan.{shards_asked}
 use Rattle.messages.specs.Topology.{TopologyValue, shard_node}
-use Rattle.messages.specs.Session.{SessionState, Open, Idle, Writing, FirstRound, SecondRound, HeardNow, HeardAt}
+use Rattle.messages.specs.Words.{is_same_txn}
+use Rattle.messages.specs.Session.{SessionState, Open, Idle, Writing, FirstRound, SecondRound, Moving, HeardNow, HeardAt}
 use Rattle.messages.specs.Rounds.{was_heard, asked_nodes, is_missing, all_heard, late_nodes, was_heard_at, is_missing_at, all_heard_at}
-use Rattle.world.proofs.Among.{Among, any_among, among_last}
-use Rattle.world.proofs.Underway.{FirstHas, SecondIs, SecondHas, SessionOnward}
+use Rattle.messages.specs.SessionEvents.{left_after, is_left}
+use Rattle.world.proofs.Among.{Among, any_among, any_true, among_last, filter_only, same_txn_self}
+use Rattle.world.proofs.Underway.{FirstHas, SecondIs, SecondHas, IsNotLeft, SessionOnward}
 
 -- ## Tests
 
@@ -105,6 +108,33 @@ heard_at_has asked time first heard h node e =
     let q : was_heard_at (heard ++ h ∷ []) node ≡ true = any_among (λ h. h.from == node) (heard ++ h ∷ []) h (among_last h heard) (eq-eqb h.from node e) in
     ap (λ b. list_any (λ s. s == node) late && not b) q ∙ and_false (list_any (λ s. s == node) late)
 
+-- ## The move
+
+-- what is missing once an answer is there was missing before
+pub left_before : (t : TxnValue) (left : List WriterValue) (k : WriterValue) → Among k (left_after t left) → Among k left
+left_before t left k m = (filter_only (λ w. not (is_same_txn w.txn t)) left k m).0
+
+pub still_left : (left : List WriterValue) (k : WriterValue) → Among k left → is_left k.txn left ≡ true
+still_left left k m = any_among (λ w. is_same_txn w.txn k.txn) left k m (same_txn_self k.txn)
+
+-- the transaction that is answered about is no longer missing
+pub left_now_has : (t : TxnValue) (left : List WriterValue) → is_left t (left_after t left) ≡ false
+left_now_has t left = go (is_left t (left_after t left)) refl
+  where
+    go : (b : Bool) → is_left t (left_after t left) ≡ b → b ≡ false
+    go false e = refl
+    go true e =
+        let r = any_true (λ w. is_same_txn w.txn t) (left_after t left) e in
+        let p = filter_only (λ w. not (is_same_txn w.txn t)) left r.0 r.1 in
+        absurd (false≢true (sym (ap not r.2) ∙ p.1))
+
+pub left_has_after : (t u : TxnValue) (left : List WriterValue) → is_left u left ≡ false → is_left u (left_after t left) ≡ false
+left_has_after t u left e =
+    unless (is_left u left) (is_left u (left_after t left))
+    (λ q.
+    let r = any_true (λ w. is_same_txn w.txn u) (left_after t left) q in
+    any_among (λ w. is_same_txn w.txn u) left r.0 (left_before t left r.0 r.1) r.2) e
+
 -- ## The session's home alone counts
 
 asked_home : (top : TopologyValue) (a b : SessionState) (read : Read) → b.home ≡ a.home → asked_nodes top a read ≡ asked_nodes top b read
@@ -115,6 +145,7 @@ first_home top a b e Idle node k = tt
 first_home top a b e (Writing coordinator) node k = tt
 first_home top a b e (FirstRound read heard) node k = subst (λ asked. is_missing asked heard node ≡ false) (asked_home top a b read e) k
 first_home top a b e (SecondRound read time first heard) node k = tt
+first_home top a b e (Moving dc left floor) node k = tt
 
 pub second_home : (top : TopologyValue) (a b : SessionState) → b.home ≡ a.home → (o : Open) (node : ℕ) → SecondHas top a o node
     → SecondHas top b o node
@@ -123,18 +154,21 @@ second_home top a b e (Writing coordinator) node k = tt
 second_home top a b e (FirstRound read heard) node k = k
 second_home top a b e (SecondRound read time first heard) node k =
     subst (λ asked. is_missing_at asked time first heard node ≡ false) (asked_home top a b read e) k
+second_home top a b e (Moving dc left floor) node k = tt
 
 -- the same operation goes on, or has ended
 pub goes_on : (top : TopologyValue) (a b : SessionState) → b.count ≡ a.count
     → ((node : ℕ) → FirstHas top a a.current node → FirstHas top b b.current node)
     → ((time : ℕ) → SecondIs a.current time → SecondIs b.current time)
-    → ((node : ℕ) → SecondHas top a a.current node → SecondHas top b b.current node) → SessionOnward top a b
-goes_on top a b e first time second =
+    → ((node : ℕ) → SecondHas top a a.current node → SecondHas top b b.current node)
+    → ((t : TxnValue) → IsNotLeft a.current t → IsNotLeft b.current t) → SessionOnward top a b
+goes_on top a b e first time second left =
     record {
       count = subst (λ c. a.count ≤ c) (sym e) (le_refl a.count);
       missing = λ m node k. record { number = subst (λ c. m ≤ c) (sym e) k.number; round = λ q. first node (k.round (q ∙ e)) };
       rounds = λ m t k. record { number = subst (λ c. m ≤ c) (sym e) k.number; round = λ q. time t (k.round (q ∙ e)) };
       awaited = λ m node k. record { number = subst (λ c. m ≤ c) (sym e) k.number; round = λ q. second node (k.round (q ∙ e)) };
+      left = λ m t k. record { number = subst (λ c. m ≤ c) (sym e) k.number; round = λ q. left t (k.round (q ∙ e)) };
     }
 
 -- the next operation is opened
@@ -145,4 +179,5 @@ next_onward top a b e =
       missing = λ m node k. let le = k.number in record { number = omega arith; round = λ q. absurd (omega arith) };
       rounds = λ m t k. let le = k.number in record { number = omega arith; round = λ q. absurd (omega arith) };
       awaited = λ m node k. let le = k.number in record { number = omega arith; round = λ q. absurd (omega arith) };
+      left = λ m t k. let le = k.number in record { number = omega arith; round = λ q. absurd (omega arith) };
     }

@@ -32,6 +32,7 @@ written_at w t k = go (submission_of w.submitted t) refl k.1
     op_go : (b : Submission) (o : Op) → b.op ≡ o → batch_in o ≡ Some k.0 → b.op ≡ op.Batch k.0
     op_go b (op.Batch batch) e q = e ∙ ap op.Batch (cc)
     op_go b (op.Read read) e q = absurd (cc)
+    op_go b (op.Move dc) e q = absurd (cc)
 
     go : (o : Option Submission) → submission_of w.submitted t ≡ o → option_and_then (λ s. batch_in s.op) o ≡ Some k.0 → (b : Submission) × (batch : List Change) × IsWritten w t b batch
     go None e q = absurd (cc)
@@ -44,10 +45,12 @@ module _ (top : TopologyValue) (w : Run) (some : 0 < top.shards) (inv : Inv top 
     (committed : (dc time : ℕ) (read : Read) (rows : List RowAt) → AnsweredFrom top w dc read time rows → (k : WriterValue) → Among k (writers_in rows) → IsDone top w dc k.txn (time + 1)) where
   -- ## What reaches an operation
 
-  -- the transaction is committed before the operation: below each commit time of a write, not above a read's time
+  -- the transaction is committed before the operation: below each commit time of a write, not above a read's time, nor above a
+  -- move's floor in the new home
   pub record Reached (u v : TxnValue) : Type 0 where
     pub write : (node : ℕ) (d : Decision) → Among d (w.shards node).decided → d.txn ≡ v → IsDone top w (dc_of top node) u d.commit
     pub read : (c : Completed) → Among c w.transcript → txn_ended c ≡ v → (r : Read) (time : ℕ) (answer : List AnsweredRow) → c.op ≡ op.Read r → c.outcome ≡ outcome.Read time answer → IsDone top w c.home u (time + 1)
+    pub move : (c : Completed) → Among c w.transcript → txn_ended c ≡ v → (dc floor : ℕ) → c.outcome ≡ outcome.Moved dc floor → IsDone top w dc u (floor + 1)
 
   -- what dependencies cover is committed where they are, before them
   covered_done : (t : TxnValue) (deps : List WriterValue) (dc n : ℕ) → ((k : WriterValue) → Among k deps → IsDone top w dc k.txn n) → Covered w t deps → IsDone top w dc t n
@@ -84,6 +87,29 @@ module _ (top : TopologyValue) (w : Run) (some : 0 < top.shards) (inv : Inv top 
       covered_done t d.submission.dependencies e.home (time + 1) d.done
       (k.submitted d.submission d.among (ap (λ z. z.session) d.txn ∙ es) (omega arith))
 
+  move_go : (e : Completed) (o : Op) (out : Outcome) → Fits o out → EndSound o out top w e.home (txn_ended e) → (dc floor : ℕ) → out ≡ outcome.Moved dc floor
+      → DependsOnDone top w dc (txn_ended e) (floor + 1)
+  move_go e o out =
+      end_cases (λ o out. EndSound o out top w e.home (txn_ended e) → (dc floor : ℕ) → out ≡ outcome.Moved dc floor → DependsOnDone top w dc (txn_ended e) (floor + 1))
+      (record {
+        wrote = λ batch commit stamp k dc floor q. absurd (cc);
+        answered = λ read time answer k dc floor q. absurd (cc);
+        given_up = λ read k dc floor q. absurd (cc);
+        moved = λ there low k dc floor q.
+            let homes : there ≡ dc = cc in
+            let floors : low ≡ floor = cc in
+            subst (λ z. DependsOnDone top w z (txn_ended e) (floor + 1)) homes (subst (λ z. DependsOnDone top w there (txn_ended e) (z + 1)) floors k);
+      }) o out
+
+  later_move : (session m : ℕ) (t : TxnValue) → LaterCovered w session m t → (e : Completed) → Among e w.transcript → e.node ≡ session → m < e.number
+      → (dc floor : ℕ) → e.outcome ≡ outcome.Moved dc floor → IsDone top w dc t (floor + 1)
+  later_move session m t k e among es lt dc floor a =
+      let c = inv.transcript e among in
+      let d = move_go e e.op e.outcome c.fits c.came dc floor a in
+      let number : d.submission.number ≡ e.number = ap (λ z. z.number) d.txn in
+      covered_done t d.submission.dependencies dc (floor + 1) d.done
+      (k.submitted d.submission d.among (ap (λ z. z.session) d.txn ∙ es) (omega arith))
+
   -- what covers the transaction reaches it from all that the session submits later
   later_reached : (session m : ℕ) (t : TxnValue) → LaterCovered w session m t → (y : TxnValue) → session ≡ y.session → m < y.number → Reached t y
   later_reached session m t k y es lt =
@@ -92,6 +118,9 @@ module _ (top : TopologyValue) (w : Run) (some : 0 < top.shards) (inv : Inv top 
         read = λ f i p r time answer o a.
             let number : f.number ≡ y.number = ap (λ z. z.number) p in
             later_read session m t k f i (ap (λ z. z.session) p ∙ sym es) (omega arith) r time answer o a;
+        move = λ f i p dc floor a.
+            let number : f.number ≡ y.number = ap (λ z. z.number) p in
+            later_move session m t k f i (ap (λ z. z.session) p ∙ sym es) (omega arith) dc floor a;
       }
 
   -- the transaction is the operation or is committed before it, and is committed before all that its session submits after
@@ -110,6 +139,7 @@ module _ (top : TopologyValue) (w : Run) (some : 0 < top.shards) (inv : Inv top 
         wrote = λ other commit stamp p l. l;
         answered = λ read time answer p l. let z : op.Batch batch ≡ op.Read read = sym is ∙ same ∙ p in absurd (cc);
         given_up = λ read p l. let z : op.Batch batch ≡ op.Read read = sym is ∙ same ∙ p in absurd (cc);
+        moved = λ dc floor p l. let z : op.Batch batch ≡ op.Move dc = sym is ∙ same ∙ p in absurd (cc);
       }) o e
 
   write_end : (c : Completed) → Among c w.transcript → (b : Submission) (batch : List Change) → IsWritten w (txn_ended c) b batch
@@ -155,6 +185,7 @@ module _ (top : TopologyValue) (w : Run) (some : 0 < top.shards) (inv : Inv top 
               later = subst (λ v. LaterCovered w c.node c.number v) n.2 (k.2 n.0 n.1);
             };
         given_up = λ read p q r k. absurd r;
+        moved = λ dc floor p q r k. absurd r;
       }) o e
 
   read_end : (c : Completed) → Among c w.transcript → (z : TxnValue) → EndRestsOn c.op c.outcome top w c.home z → ReadEnd c z
@@ -189,6 +220,10 @@ module _ (top : TopologyValue) (w : Run) (some : 0 < top.shards) (inv : Inv top 
             let same : f ≡ c = causal.one f c i among (p ∙ sym q) in
             let t : e.time ≡ time = sym e.is ∙ ap (λ v. time_of v.outcome) (sym same) ∙ ap time_of a in
             subst (λ v. IsDone top w v.home u (time + 1)) (sym same) (subst (λ v. IsDone top w c.home u (v + 1)) t done);
+        move = λ f i p dc floor a.
+            let same : f ≡ c = causal.one f c i among (p ∙ sym q) in
+            let fits : Fits c.op (outcome.Moved dc floor) = subst (Fits c.op) (ap (λ v. v.outcome) (sym same) ∙ a) (causal.fits c among) in
+            absurd (subst (λ o. Fits o (outcome.Moved dc floor)) e.op fits);
       }
 
   rests_later : (u z y : TxnValue) → Carries u z → RestsOn top w y z → (v : TxnValue) → y.session ≡ v.session → y.number < v.number → Reached u v
@@ -199,6 +234,7 @@ module _ (top : TopologyValue) (w : Run) (some : 0 < top.shards) (inv : Inv top 
       record {
         write = λ x d i p. through u z k (dc_of top x) d.commit (reached.write x d i p);
         read = λ f i p r time answer o a. through u z k f.home (time + 1) (reached.read f i p r time answer o a);
+        move = λ f i p dc floor a. through u z k dc (floor + 1) (reached.move f i p dc floor a);
       }
 
   -- ## Chains

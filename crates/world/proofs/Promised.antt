@@ -12,11 +12,12 @@ use Rattle.world.specs.Causes.{PastsAreDecided}
 use Rattle.world.specs.Collected.{CollectedIsBelowHorizon}
 use Rattle.world.specs.Entries.{TellsDecided, StampsAgree, WritesAreTold}
 use Rattle.world.specs.Fresh.{FirstRoundsAreWhole}
-use Rattle.world.specs.Promises.{EntriesAreOfSubmissions, LaterCommitsAreAbove, OutcomesAreListed, ReadsShowOneTable, AnswersStay, ReadsShowTheirPast, ReadsAreFresh, StampsFollowCauses, TimesNeverFall, SessionsStayAtHome, OperationsEndOnce, HistoriesGrow}
+use Rattle.world.specs.Promises.{EntriesAreOfSubmissions, LaterCommitsAreAbove, OutcomesAreListed, ReadsShowOneTable, AnswersStay, ReadsShowTheirPast, MovesBringTheirPast, ReadsAreFresh, StampsFollowCauses, TimesNeverFall, HomesAreOfMoves, OperationsEndOnce, HistoriesGrow}
 use Rattle.world.specs.Quiet.{IsQuiet}
 use Rattle.world.specs.Settled.{Settled}
 use Rattle.world.proofs.Addresses.{stands}
-use Rattle.world.proofs.Laws.{reads_show_one_table, answers_stay, reads_show_their_past, reads_are_fresh, histories_tell, histories_grow, later_commits_are_above, stamps_in_runs, stamps_follow_causes, writes_in_runs, times_never_fall, sessions_stay_at_home, operations_end_once, entries_are_of_submissions, outcomes_are_listed, quiet_means_done}
+use Rattle.world.proofs.Homes.{homes_are_of_moves}
+use Rattle.world.proofs.Laws.{reads_show_one_table, answers_stay, reads_show_their_past, moves_bring_their_past, reads_are_fresh, histories_tell, histories_grow, later_commits_are_above, stamps_in_runs, stamps_follow_causes, writes_in_runs, times_never_fall, operations_end_once, entries_are_of_submissions, outcomes_are_listed, quiet_means_done}
 use Rattle.world.proofs.FirstRounds.{first_rounds_are_whole}
 use Rattle.world.proofs.GivenUp.{collected_in_runs}
 use Rattle.world.proofs.PastsDecided.{pasts_are_decided}
@@ -36,6 +37,9 @@ module _ (v : WorldValue) (is : IsOf v) where
 
   pub past : ReadsShowTheirPast v.top (run_of v)
   past = reads_show_their_past v.top v.events is.some
+
+  pub arrived : MovesBringTheirPast v.top (run_of v)
+  arrived = moves_bring_their_past v.top v.events is.some
 
   pub fresh : ReadsAreFresh v.top (run_of v)
   fresh = reads_are_fresh v.top v.events is.some
@@ -58,8 +62,8 @@ module _ (v : WorldValue) (is : IsOf v) where
   pub times : TimesNeverFall (run_of v)
   times = times_never_fall v.top v.events is.some
 
-  pub homes : SessionsStayAtHome (run_of v)
-  homes = sessions_stay_at_home v.top v.events is.some
+  pub homes : HomesAreOfMoves v.top (run_of v)
+  homes = homes_are_of_moves v.top v.events is.some
 
   pub once : OperationsEndOnce (run_of v)
   once = operations_end_once v.top v.events is.some

@@ -96,12 +96,15 @@ causes all =
 abbrev is_read : Op → Bool
 is_read (op.Batch batch) = false
 is_read (op.Read read) = true
+is_read (op.Move dc) = false
 
 only_reads : (o : Op) (end : Outcome) (top : TopologyValue) (w : Run) (home : ℕ) (u : TxnValue) → EndRestsOn o end top w home u → is_read o ≡ true
 only_reads (op.Batch batch) end top w home u rests = absurd rests
 only_reads (op.Read read) (outcome.Wrote commit s) top w home u rests = absurd rests
 only_reads (op.Read read) (outcome.Read time answer) top w home u rests = refl
 only_reads (op.Read read) outcome.Collected top w home u rests = absurd rests
+only_reads (op.Read read) (outcome.Moved dc floor) top w home u rests = absurd rests
+only_reads (op.Move dc) end top w home u rests = absurd rests
 
 -- the second of the writes is the first operation of its session and no read, so no link leads to it
 no_link : (u : TxnValue) → ¬ (IsJustBefore two_centres concurrent_inserts_meet u (operation 3 1))

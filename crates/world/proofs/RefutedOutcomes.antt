@@ -15,7 +15,8 @@ use Rattle.world.specs.Run.{Event, Submission, Completed, run}
 use Rattle.world.specs.Journals.{journal_in}
 use Rattle.world.specs.Histories.{history_of}
 use Rattle.world.specs.Worked.{delete, one_shard, three_at_home, submitted_twice, deletion_is_read, column, row, wrote, insert, key_a, key_b, name_x, two_centres, insert_and_read_back, only_submitted, second_round_collected, read_beside_a_write, concurrent_inserts_meet}
-use Rattle.world.specs.Lookalikes.{RunsKeepAllEvents, WritesAreToldInFirstCentre, CompletedWritesAreEverywhere, TimesRise, TimesOfACentreNeverFall, SessionsEndOnce, SessionsSubmitOnce, NothingIsGivenUp, AllEndAsWrites, SubmissionsEnd, OutcomesAreListedNext}
+use Rattle.world.specs.WorkedMoves.{session_moves, reads_at_earlier_times}
+use Rattle.world.specs.Lookalikes.{RunsKeepAllEvents, WritesAreToldInFirstCentre, CompletedWritesAreEverywhere, TimesRise, TimesNeverFallAnywhere, SessionsStayAtHome, TimesOfACentreNeverFall, SessionsEndOnce, SessionsSubmitOnce, NothingIsGivenUp, AllEndAsWrites, SubmissionsEnd, OutcomesAreListedNext}
 use Rattle.world.proofs.WorkedEntries.{x_of, stamp, accepted, ended}
 use Rattle.world.proofs.RefutedReads.{back}
 
@@ -49,6 +50,31 @@ times_rise all =
     not_above 3 2 refl
     (all first back (at insert_and_read_back.transcript first 0 refl refl) (at insert_and_read_back.transcript back 1 refl refl) refl (below 1 2 refl))
 
+-- a session reads at 3, moves, and reads the same at 2
+abbrev at_home : Completed
+at_home = ended 2 1 0 (op.Read (x_of (key_b ∷ []))) (outcome.Read 3 (row key_b (column name_x 2 ∷ []) ∷ []))
+
+abbrev moved_away : Completed
+moved_away = ended 2 3 1 (op.Read (x_of (key_b ∷ []))) (outcome.Read 2 (row key_b (column name_x 2 ∷ []) ∷ []))
+
+pub times_anywhere : ¬ (TimesNeverFallAnywhere reads_at_earlier_times)
+times_anywhere all =
+    not_above 3 2 refl
+    (all at_home moved_away (at reads_at_earlier_times.transcript at_home 0 refl refl) (at reads_at_earlier_times.transcript moved_away 2 refl refl) refl
+    (below 1 3 refl))
+
+-- a session writes, moves, and reads
+abbrev before_move : Completed
+before_move = ended 2 1 0 (op.Batch (insert key_b name_x 1 ∷ [])) (wrote 2 0)
+
+abbrev after_move : Completed
+after_move = ended 2 3 1 (op.Read (x_of (key_b ∷ []))) (outcome.Read 6 (row key_b (column name_x 1 ∷ []) ∷ []))
+
+pub homes : ¬ (SessionsStayAtHome session_moves)
+homes all =
+    differ (λ (n : ℕ). n) 0 1 refl
+    (all before_move after_move (at session_moves.transcript before_move 0 refl refl) (at session_moves.transcript after_move 2 refl refl) refl)
+
 pub times_of_a_centre : ¬ (TimesOfACentreNeverFall read_beside_a_write)
 times_of_a_centre all = not_above 2 0 refl (all 0 1 back (below 0 1 refl) (below 1 2 refl) refl)
 
@@ -71,6 +97,7 @@ abbrev kind : Outcome → ℕ
 kind (outcome.Wrote commit s) = 0
 kind (outcome.Read time answer) = 1
 kind outcome.Collected = 2
+kind (outcome.Moved dc floor) = 3
 
 pub all_writes : ¬ (AllEndAsWrites insert_and_read_back)
 all_writes all =

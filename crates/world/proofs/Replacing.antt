@@ -67,13 +67,13 @@ if_err (Err e) f p = f e p
 pub refused_as : (r : Result ShardStep Fault) (e : Fault) → r ≡ Err e → shard.IsRefusalOf r e
 refused_as r e q = subst (λ z. shard.IsRefusalOf z e) (sym q) refl
 
--- a session handled an envelope, and what it finished was taken and told
+-- a session did its step, and what it finished was taken and told
 pub station_did : (top : TopologyValue) (r : Result SessionStep Fault) (handled taken : SessionKept) (old new : Station) (before after : List Envelope) (told now : List Completed)
     → session.IsStepOf r top handled before after
     → ((t : TopologyValue) (a : SessionState) → session.Represents handled t a → session.Represents taken t (session_taken a))
     → handled.node ≡ old.session.node → taken.node ≡ handled.node
-    → new ≡ record { node = old.node; home = old.home; session = taken; op = kept_after old.op (finished_of handled.untaken) }
-    → now ≡ with_ended told (ended_as old.node old.home old.op (finished_of handled.untaken))
+    → new ≡ record { node = old.node; session = taken; op = kept_after old.op (finished_of handled.untaken) }
+    → now ≡ with_ended told (ended_as old.node old.session.home.dc old.op (finished_of handled.untaken))
     → DidSessionOf top r old new before after told now
 station_did top (Err e) handled taken old new before after told now did takes same node is ended = did
 station_did top (Ok s) handled taken old new before after told now did takes same node is ended =
@@ -83,8 +83,7 @@ station_did top (Ok s) handled taken old new before after told now did takes sam
       stands = subst (λ (z : Station). session.Represents z.session top (session_taken s.state)) (sym is) stands;
       same = ap (λ (z : Station). z.session.node) is ∙ node ∙ same;
       node = ap (λ (z : Station). z.node) is;
-      home = ap (λ (z : Station). z.home) is;
       op = ap (λ (z : Station). z.op) is ∙ ap (kept_after old.op) (sym untaken);
       sends = did.sends;
-      ended = ended ∙ ap (λ f. with_ended told (ended_as old.node old.home old.op f)) (sym untaken);
+      ended = ended ∙ ap (λ f. with_ended told (ended_as old.node old.session.home.dc old.op f)) (sym untaken);
     }

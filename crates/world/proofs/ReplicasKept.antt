@@ -10,10 +10,11 @@ use Rattle.messages.specs.Known.{kept_ballot, is_known, has_vote, is_awaited}
 use Rattle.messages.specs.Replication.{ready, dep_checks, with_ballot, repl_begin_if, on_repl_begin, with_notice, notice_if, early_notice_if, notify_for, on_notify, is_unmet, with_met, met_if, dep_ok_for, on_dep_ok}
 use Rattle.world.specs.Run.{Run}
 use Rattle.world.proofs.Among.{Among, last_or_old, find_some, map_only, same_txn}
+use Rattle.world.proofs.Growth.{Grows}
 use Rattle.world.proofs.Facts.{IsDone, KeptBallotSound}
 use Rattle.world.proofs.Invariant.{TellsCommit, MovesTo, MayWait, of_shard, of_move, EnvelopeSound, Inv}
 use Rattle.world.proofs.Able.{Fresh, Able}
-use Rattle.world.proofs.Lasting.{done_grows, kept_ballot_grows}
+use Rattle.world.proofs.Lasting.{written_grows, done_grows, kept_ballot_grows}
 use Rattle.world.proofs.Near.{near_dc}
 use Rattle.world.proofs.Ables.{same_run, added, Alike, alike_grows, unbegun, unprepared, undecided, quiet_able, only}
 use Rattle.world.proofs.ReadyKept.{before_able, ready_able, ready_clock, awaited_unready, unmet_unready}
@@ -29,11 +30,11 @@ module _ (top : TopologyValue) (w : Run) (node n : ℕ) (some : 0 < top.shards) 
 
   -- ## ReplBegin
 
-  check_sound : (x : Run) (r : KeptBallot) → KeptBallotSound top w node n r → (e : Envelope) → Among e (dep_checks top node n r) → EnvelopeSound top x e
-  check_sound x r k e m =
+  check_sound : (x : Run) → Grows top w x → (r : KeptBallot) → KeptBallotSound top w node n r → (e : Envelope) → Among e (dep_checks top node n r) → EnvelopeSound top x e
+  check_sound x gr r k e m =
       let q = map_only (λ u. envelope node (shard_node top (dc_of top node) u.shard) n (DepCheck u.txn r.txn)) r.dependencies e m in
       let placed = inv.submitted.placed k.submission q.0 k.written.among (subst (λ l. Among q.0 l) k.dependencies q.1) in
-      subst (λ z. EnvelopeSound top x z) (sym q.2) (of_shard (sym (near_dc top node q.0.shard placed)))
+      subst (λ z. EnvelopeSound top x z) (sym q.2) (of_shard k.submission k.batch (written_grows gr k.written) (sym (near_dc top node q.0.shard placed)))
 
   repl_begin_go : (r : KeptBallot) → KeptBallotSound top w node n r → (known : Bool) → is_known r.txn (w.shards node) ≡ known → Able top w node (w.shards node) (repl_begin_if known top node n (w.shards node) r)
   repl_begin_go r k true e = quiet_able top w node n (w.shards node) lt (inv.shards node).once
@@ -41,7 +42,7 @@ module _ (top : TopologyValue) (w : Run) (node n : ℕ) (some : 0 < top.shards) 
       let a = w.shards node in
       let b = with_ballot a r in
       let like : Alike a b = record { clock = refl; prepared = refl; decided = refl; applied = refl; askers = refl } in
-      before_able top w node a (dep_checks top node n r) (ready top node n b r) (λ x gr i m. check_sound x r k i m)
+      before_able top w node a (dep_checks top node n r) (ready top node n b r) (λ x gr i m. check_sound x gr r k i m)
       (added top w node a b (ready top node n b r) (alike_grows a b like)
       (λ x gr le. record {
         prepared = λ i m. inl m;
@@ -148,7 +149,7 @@ module _ (top : TopologyValue) (w : Run) (node n : ℕ) (some : 0 < top.shards) 
 
   -- what a kept ballot waits for is decided in its data centre
   waits_here : (from : ℕ) (t : TxnValue) → MayWait top w from t node → (r : KeptBallot) → KeptBallotSound top w node n r → r.txn ≡ t → dc_of top from ≡ dc_of top node
-  waits_here from t (of_shard e) r k q = sym e
+  waits_here from t (of_shard b batch written e) r k q = sym e
   waits_here from t (of_move b m is own to) r k q =
       let same : b ≡ k.submission = inv.submitted.one b k.submission m k.written.among (is ∙ sym (k.written.txn ∙ q)) in
       absurd (subst (MovesTo (dc_of top from)) (ap (λ z. z.op) same ∙ k.written.op) to)

@@ -51,7 +51,6 @@ then_session_grows f g =
     record {
       clock = le_trans f.clock g.clock;
       count = le_trans f.count g.count;
-      floor = le_trans f.floor g.floor;
       asked_now = λ number node asked k. g.asked_now number node asked (f.asked_now number node asked k);
       asked_at = λ number time node asked k. g.asked_at number time node asked (f.asked_at number time node asked k);
     }

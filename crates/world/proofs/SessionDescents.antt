@@ -58,4 +58,6 @@ module _ (top : TopologyValue) (s : Sizes) (me n : ℕ) (a : SessionState) where
         kept_at = λ read time first hs rows k some. none;
         ends_at = λ read time first hs rows k all. none;
         gives_up = λ read time first hs k. none;
+        counted = λ dc left floor dependency commit k u us e. none;
+        arrives = λ dc left floor dependency commit k e. none;
       })

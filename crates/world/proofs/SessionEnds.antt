@@ -4,18 +4,20 @@ use Rattle.std.specs.Prelude.{option_map}
 use Rattle.logical_time.specs.Stamps.{TxnValue, WriterValue}
 use Rattle.slice.specs.declared.read.Read.{Read}
 use Rattle.messages.specs.declared.op.Op.{Op}
+use Rattle.messages.specs.declared.op.Op.TheVariants as op
 use Rattle.messages.specs.declared.outcome.Outcome.{Outcome}
+use Rattle.messages.specs.declared.outcome.Outcome.TheVariants as outcome
 use Rattle.messages.specs.declared.envelope.Envelope.{Envelope}
 use Rattle.messages.specs.Topology.{TopologyValue}
 use Rattle.messages.specs.Words.{is_same_txn}
-use Rattle.messages.specs.Session.{SessionState, Open, Idle, Writing, FirstRound, SecondRound, HeardNow, HeardAt, calm, is_idle}
-use Rattle.messages.specs.SessionEvents.{ended}
+use Rattle.messages.specs.Session.{SessionState, Open, Idle, Writing, FirstRound, SecondRound, Moving, HeardNow, HeardAt, calm, ended, moved, is_idle}
+use Rattle.messages.specs.Actors.{home_after}
 use Rattle.world.specs.Run.{Run, Submission, Completed, submission_of, completed_of}
 use Rattle.world.specs.Promises.{Fits}
 use Rattle.world.proofs.Among.{Among, find_some, same_txn}
 use Rattle.world.proofs.Growth.{FirstAsked, SecondAsked, Grows}
 use Rattle.world.proofs.Facts.{txn_of, IsDone}
-use Rattle.world.proofs.Invariant.{EnvelopeSound, IsOpen, HeardNowSound, HeardAtSound, OpenSound, SubmittedSound, EndSound, CompletedSound, Inv}
+use Rattle.world.proofs.Invariant.{EnvelopeSound, IsOpen, HeardNowSound, HeardAtSound, MovingSound, OpenSound, SubmittedSound, EndSound, CompletedSound, Inv}
 use Rattle.world.proofs.Lasting.{answers_now_grow}
 use Rattle.world.proofs.Ables.{same_run}
 use Rattle.world.proofs.SessionSteps.{EndLeaves, SessionAble}
@@ -67,19 +69,18 @@ module _ (top : TopologyValue) (w : Run) (node n : ℕ) (inv : Inv top w) (le : 
   abbrev later : Open → SessionState
   later o = record (w.sessions node) { clock = n; current = o; untaken = None }
 
-  -- the operation ends
-  pub ended_able : (floor : ℕ) (dependencies : List WriterValue) (out : Outcome) (o : Op) → a.floor ≤ floor → floor ≤ n → IsOpen w node a.count a.home o
-      → Fits o out → EndSound o out top w a.home (record { session = node; number = a.count })
-      → ((k : WriterValue) → Among k dependencies → IsDone top w a.home k.txn (floor + 1))
-      → ((k : WriterValue) → Among k dependencies → k.shard < top.shards) → is_idle a.current ≡ false → EndLeaves o out top w node floor dependencies
-      → SessionAble top w node (ended n a floor dependencies out)
-  ended_able floor dependencies out o above below b fits came done placed busy leaves =
+  -- the operation ends, and leaves the session in this home
+  pub ended_able : (home floor : ℕ) (dependencies : List WriterValue) (out : Outcome) (o : Op) → (home ≡ a.home → a.floor ≤ floor) → floor ≤ n
+      → IsOpen w node a.count a.home o → Fits o out → EndSound o out top w a.home (record { session = node; number = a.count })
+      → ((k : WriterValue) → Among k dependencies → IsDone top w home k.txn (floor + 1))
+      → ((k : WriterValue) → Among k dependencies → k.shard < top.shards) → is_idle a.current ≡ false → home ≡ home_after a.home out
+      → EndLeaves o out top w node floor dependencies → SessionAble top w node (ended n (record a { home = home }) floor dependencies out)
+  ended_able home floor dependencies out o above below b fits came done placed busy there leaves =
       record {
         grows =
             record {
               clock = le;
               count = le_refl a.count;
-              floor = above;
               asked_now = λ number m asked k. record { number = k.number; round = λ q. tt };
               asked_at = λ number time m asked k. record { number = k.number; round = λ q. tt };
             };
@@ -96,12 +97,33 @@ module _ (top : TopologyValue) (w : Run) (node n : ℕ) (inv : Inv top w) (le : 
               busy = busy;
               idle = refl;
               count = refl;
-              home = refl;
+              home = there;
               floor = above;
               untaken = refl;
               leaves = leaves;
             });
       }
+
+  -- the open move ends: what the session depends on is decided at the new home
+  pub moved_able : (dc floor : ℕ) → floor ≤ n → (b : IsOpen w node a.count a.home (op.Move dc)) → b.submission.dependencies ≡ a.dependencies
+      → (dc ≡ a.home → ⊥)
+      → ((k : WriterValue) → Among k a.dependencies → IsDone top w dc k.txn (floor + 1)) → is_idle a.current ≡ false
+      → SessionAble top w node (moved n a dc floor)
+  moved_able dc floor below opened depends away done busy =
+      ended_able dc floor a.dependencies (outcome.Moved dc floor) (op.Move dc) (λ same. absurd (away same)) below opened refl
+      (record {
+        submission = opened.submission;
+        among = opened.among;
+        txn = open_txn opened;
+        done = λ k m. done k (subst (λ ds. Among k ds) depends m);
+      }) done
+      (inv.sessions node).placed busy refl (away, refl)
+
+  -- with nothing left it may end
+  pub nothing_left_able : (dc floor : ℕ) → a.current ≡ Moving dc [] floor → SessionAble top w node (moved n a dc floor)
+  nothing_left_able dc floor is =
+      let k : MovingSound top w node a dc [] floor = subst (λ o. OpenSound top w node a o) is (inv.sessions node).current in
+      moved_able dc floor (le_trans k.clock le) k.opened k.depends k.away (λ u m. elim (k.answered u m) [ inl i ↦ absurd i | inr d ↦ d ]) (ap is_idle is)
 
   -- the operation is left open
   pub waits_able : (o : Open) (sends : List Envelope) → ((m : ℕ) (asked : Read) → FirstAsked top a.current m asked → FirstAsked top o m asked)
@@ -114,7 +136,6 @@ module _ (top : TopologyValue) (w : Run) (node n : ℕ) (inv : Inv top w) (le : 
             record {
               clock = le;
               count = le_refl a.count;
-              floor = le_refl a.floor;
               asked_now = λ number m asked k. record { number = k.number; round = λ q. asked_first m asked (k.round q) };
               asked_at = λ number time m asked k. record { number = k.number; round = λ q. asked_second time m asked (k.round q) };
             };
@@ -153,6 +174,8 @@ module _ (top : TopologyValue) (w : Run) (node n : ℕ) (inv : Inv top w) (le : 
         clock = le_trans k.clock le;
         heard = λ h m. heard_at_later now read time first h (k.heard h m);
       }
+  open_later now (Moving dc left floor) k =
+      record { opened = k.opened; depends = k.depends; below = k.below; away = k.away; clock = le_trans k.clock le; answered = k.answered }
 
   -- only the clock moves
   pub calm_able : SessionAble top w node (calm n a)

@@ -12,6 +12,7 @@ use Rattle.messages.specs.declared.envelope.Envelope.{Envelope}
 use Rattle.messages.specs.Topology.{TopologyValue}
 use Rattle.messages.specs.Session.{SessionState, SessionStep, is_idle}
 use Rattle.messages.specs.SessionEvents.{session_taken}
+use Rattle.messages.specs.Actors.{home_after}
 use Rattle.world.specs.Run.{Run, Event, Completed, with_actor, ended_by, after_session}
 use Rattle.world.specs.Promises.{Fits}
 use Rattle.world.proofs.Among.{Among, among_append}
@@ -33,13 +34,16 @@ pub record Stays (a b : SessionState) : Type 0 where
   pub untaken : b.untaken ≡ None
   pub idle : is_idle b.current ≡ is_idle a.current
 
--- what an ended operation leaves: the session depends on its write alone, or on what its read rests on besides
+-- what an ended operation leaves: the session depends on its write alone, or on what its read rests on besides. A move
+-- is away from the home, and what the session depends on stays
 abbrev pub EndLeaves : Op → Outcome → TopologyValue → Run → ℕ → ℕ → List WriterValue → Type 0
 EndLeaves (op.Batch batch) (outcome.Wrote commit stamp) top w node floor dependencies =
     (commit ≤ floor) × ((c : ℕ) × (dependencies ≡ record { txn = record { session = node; number = (w.sessions node).count }; shard = c } ∷ []))
 EndLeaves (op.Read read) (outcome.Read time answer) top w node floor dependencies =
     (time ≡ floor) × ((rows : List RowAt) × AnsweredFrom top w (w.sessions node).home read time rows × (dependencies ≡ with_writers (w.sessions node).dependencies rows))
 EndLeaves (op.Read read) outcome.Collected top w node floor dependencies = dependencies ≡ (w.sessions node).dependencies
+EndLeaves (op.Move dc) (outcome.Moved there low) top w node floor dependencies =
+    (there ≡ (w.sessions node).home → ⊥) × (dependencies ≡ (w.sessions node).dependencies)
 EndLeaves o r top w node floor dependencies = Unit {0}
 
 -- the step ends the open operation
@@ -51,8 +55,9 @@ pub record Ends (top : TopologyValue) (w : Run) (node : ℕ) (b : SessionState) 
   pub busy : is_idle (w.sessions node).current ≡ false
   pub idle : is_idle b.current ≡ true
   pub count : b.count ≡ (w.sessions node).count
-  pub home : b.home ≡ (w.sessions node).home
-  pub floor : (w.sessions node).floor ≤ b.floor
+  pub home : b.home ≡ home_after (w.sessions node).home came
+  -- the floor counts in the times of one home
+  pub floor : b.home ≡ (w.sessions node).home → (w.sessions node).floor ≤ b.floor
   pub untaken : b.untaken ≡ Some (record { number = (w.sessions node).count; outcome = came })
   pub leaves : EndLeaves what came top w node b.floor b.dependencies
 

@@ -1,5 +1,5 @@
 -- Each message that a session hears keeps all.
-use Rattle.std.proofs.Common.{◌≡◌, ℕ, ◌+◌, ◌<◌, ◌≤◌, max, true, false, List, [], ◌∷◌, map, ◌⊎◌, None, inl, inr, refl, sym, ap, ap₂, ◌∙◌, subst, arith, le_refl, le_trans}
+use Rattle.std.proofs.Common.{◌≡◌, ℕ, ◌+◌, ◌<◌, ◌≤◌, max, Bool, true, false, not, List, [], ◌∷◌, map, ◌⊎◌, None, inl, inr, refl, sym, ap, ap₂, ◌∙◌, subst, arith, le_refl, le_trans}
 use Rattle.std.specs.List.{list_all}
 use Rattle.logical_time.specs.Stamps.{StampValue, TxnValue, WriterValue}
 use Rattle.slice.specs.declared.read.Read.{Read}
@@ -11,20 +11,21 @@ use Rattle.messages.specs.declared.outcome.Outcome.TheVariants as outcome
 use Rattle.messages.specs.declared.body.Body.{Body}
 use Rattle.messages.specs.declared.body.Body.TheVariants.{Done}
 use Rattle.messages.specs.Topology.{TopologyValue, dc_of, shard_of}
-use Rattle.messages.specs.Session.{SessionState, Open, Idle, Writing, FirstRound, SecondRound, HeardNow, HeardAt, is_idle}
+use Rattle.messages.specs.Session.{SessionState, Open, Idle, Writing, FirstRound, SecondRound, Moving, HeardNow, HeardAt, moved, is_idle}
 use Rattle.messages.specs.Submitting.{share_of}
+use Rattle.messages.specs.Words.{is_same_txn}
 use Rattle.messages.specs.Rounds.{asked_nodes, all_heard, effective_time, late_keys, late_nodes, was_heard_at, all_heard_at, rows_taken, answer_of, with_writers}
-use Rattle.messages.specs.SessionEvents.{answered, given_up, written, read_at_of, heard}
+use Rattle.messages.specs.SessionEvents.{answered, given_up, written, read_at_of, left_after, heard}
 use Rattle.messages.proofs.Greatest.{effective_above_floor}
-use Rattle.world.specs.Run.{Run}
-use Rattle.world.proofs.Among.{Among, last_or_old, map_only}
+use Rattle.world.specs.Run.{Run, Submission}
+use Rattle.world.proofs.Among.{Among, last_or_old, map_only, filter_among, same_txn}
 use Rattle.world.proofs.Growth.{FirstAsked, SecondAsked, AskedAt}
-use Rattle.world.proofs.Facts.{IsWritten, lead, IsDecided, IsDone, DecisionSound, AnswersNow, AnswersAt}
-use Rattle.world.proofs.Invariant.{IsAtHome, TellsNow, TellsAt, EnvelopeSound, IsOpen, HeardNowSound, HeardAtSound, WritingSound, FirstSound, SecondSound, OpenSound, AnsweredFrom, Inv, Hears}
-use Rattle.world.proofs.Lasting.{done_grows, answers_now_grow}
-use Rattle.world.proofs.HeardCases.{WriteAnswer, FirstAnswer, SecondAnswer, with_rows_now, with_rows_at, opened_as, heard_cases}
+use Rattle.world.proofs.Facts.{txn_of, IsWritten, lead, IsDecided, IsDone, DecisionSound, AnswersNow, AnswersAt}
+use Rattle.world.proofs.Invariant.{IsAtHome, TellsCommit, MovesTo, MayWait, of_shard, of_move, TellsNow, TellsAt, EnvelopeSound, IsOpen, HeardNowSound, HeardAtSound, WritingSound, FirstSound, SecondSound, MovingSound, OpenSound, AnsweredFrom, Inv, Hears}
+use Rattle.world.proofs.Lasting.{done_grows, done_later, answers_now_grow}
+use Rattle.world.proofs.HeardCases.{WriteAnswer, FirstAnswer, SecondAnswer, MoveAnswer, with_rows_now, with_rows_at, opened_as, heard_cases}
 use Rattle.world.proofs.SessionSteps.{SessionAble}
-use Rattle.world.proofs.SessionEnds.{open_txn, ended_able, waits_able, calm_able, heard_now_later, heard_at_later}
+use Rattle.world.proofs.SessionEnds.{open_txn, ended_able, moved_able, waits_able, calm_able, heard_now_later, heard_at_later}
 use Rattle.world.proofs.Asking.{missing_asked, missing_late}
 use Rattle.world.proofs.Near.{coordinator_below}
 use Rattle.world.proofs.OneBatch.{written_at, batch_one}
@@ -74,7 +75,7 @@ module _ (top : TopologyValue) (w : Run) (node n : ℕ) (some : 0 < top.shards) 
         txn = d.txn;
         commit = omega arith;
       } in
-      ended_able top w node n inv le (max a.floor commit) (record { txn = t; shard = c } ∷ []) (outcome.Wrote commit stamp) (op.Batch k.batch) (omega arith) (omega arith) k.opened tt
+      ended_able top w node n inv le a.home (max a.floor commit) (record { txn = t; shard = c } ∷ []) (outcome.Wrote commit stamp) (op.Batch k.batch) (λ same. omega arith) (omega arith) k.opened tt
       (subst (λ m. IsDecided w m (record { session = node; number = a.count }) commit stamp) (decided_lead c from t commit stamp k d here is)
       (subst (λ u. IsDecided w from u commit stamp) is d))
       (λ u m. elim m [ inl q ↦ subst (λ z. IsDone top w a.home z.txn (max a.floor commit + 1)) (sym q) done | inr o ↦ absurd o ])
@@ -82,7 +83,7 @@ module _ (top : TopologyValue) (w : Run) (node n : ℕ) (some : 0 < top.shards) 
         | inl q ↦ subst (λ s. s < top.shards) (sym (ap (λ z. z.shard) q ∙ k.coordinator)) (coordinator_below top.shards k.batch some)
         | inr o ↦ absurd o
       ])
-      (ap is_idle current)
+      (ap is_idle current) refl
       (omega arith, (c, ap (λ (u : TxnValue). let z : WriterValue = record { txn = u; shard = c } in z ∷ []) is))
 
   -- ## The end of a read
@@ -91,7 +92,7 @@ module _ (top : TopologyValue) (w : Run) (node n : ℕ) (some : 0 < top.shards) 
       → k.submission.dependencies ≡ a.dependencies → AnsweredFrom top w a.home read time rows → is_idle a.current ≡ false
       → SessionAble top w node (answered n a read time rows)
   answered_able read time rows above below opened depends from busy =
-      ended_able top w node n inv le time (with_writers a.dependencies rows) (outcome.Read time (answer_of read rows)) (op.Read read) above below opened tt
+      ended_able top w node n inv le a.home time (with_writers a.dependencies rows) (outcome.Read time (answer_of read rows)) (op.Read read) (λ same. above) below opened tt
       (record {
         rows = rows;
         answer = refl;
@@ -107,7 +108,7 @@ module _ (top : TopologyValue) (w : Run) (node n : ℕ) (some : 0 < top.shards) 
       })
       (writers_done top w some inv a.home a.floor time read rows a.dependencies from above (inv.sessions node).dependencies)
       (writers_placed top w some inv a.home time read rows a.dependencies from (inv.sessions node).placed)
-      busy (refl, (rows, from, refl))
+      busy refl (refl, (rows, from, refl))
 
   -- ## A message
 
@@ -247,8 +248,59 @@ module _ (top : TopologyValue) (w : Run) (node n : ℕ) (some : 0 < top.shards) 
 
       gives_up_able : SessionAble top w node (given_up n a)
       gives_up_able =
-          ended_able top w node n inv le a.floor a.dependencies outcome.Collected (op.Read read) (le_refl a.floor)
-          (le_trans (inv.sessions node).floor le) second.opened tt tt (inv.sessions node).dependencies (inv.sessions node).placed (ap is_idle is_open) refl
+          ended_able top w node n inv le a.home a.floor a.dependencies outcome.Collected (op.Read read) (λ same. le_refl a.floor)
+          (le_trans (inv.sessions node).floor le) second.opened tt tt (inv.sessions node).dependencies (inv.sessions node).placed (ap is_idle is_open) refl refl
+
+    -- ## A move
+
+    module _ (dc : ℕ) (left : List WriterValue) (floor : ℕ) (dependency : TxnValue) (commit : ℕ) (answer : MoveAnswer node a b dc left floor dependency commit) where
+      moving : MovingSound top w node a dc left floor
+      moving = open_so {o = Moving dc left floor} answer.current
+
+      tells : TellsCommit w from sent dependency commit × MayWait top w from (record { session = node; number = a.count }) node
+      tells = subst (Hears top w from node sent) answer.body says
+
+      -- the shard that tells it is of the data centre that the session moves to
+      there : dc_of top from ≡ dc
+      there = by tells.1
+        where
+          one : (s : Submission) → Among s w.submitted → txn_of s ≡ record { session = node; number = a.count } → s.op ≡ op.Move dc
+          one s m e = ap (λ z. z.op) (inv.submitted.one s moving.opened.submission m moving.opened.among (e ∙ sym (open_txn moving.opened))) ∙ moving.opened.op
+
+          by : MayWait top w from (record { session = node; number = a.count }) node → dc_of top from ≡ dc
+          by (of_shard s batch written e) = let z : op.Batch batch ≡ op.Move dc = sym written.op ∙ one s written.among written.txn in absurd (cc)
+          by (of_move s m is own to) = sym (subst (MovesTo (dc_of top from)) (one s m is) to)
+
+      told : IsDone top w dc dependency (max floor commit + 1)
+      told =
+          let d = tells.0.1.decided in
+          let same = d.commit in
+          record { node = from; here = there; decision = d.decision; among = d.among; txn = d.txn; commit = omega arith }
+
+      floor_early : max floor commit ≤ n
+      floor_early = let below = moving.clock in let time = tells.0.1.time in omega arith
+
+      -- each dependency is still missing, or decided there by the greatest time so far
+      still_or_done : (u : WriterValue) → Among u a.dependencies → Among u (left_after dependency left) ⊎ IsDone top w dc u.txn (max floor commit + 1)
+      still_or_done u m = go (moving.answered u m) (is_same_txn u.txn dependency) refl
+        where
+          go : Among u left ⊎ IsDone top w dc u.txn (floor + 1) → (s : Bool) → is_same_txn u.txn dependency ≡ s
+              → Among u (left_after dependency left) ⊎ IsDone top w dc u.txn (max floor commit + 1)
+          go (inr d) s e = inr (done_later (omega arith) d)
+          go (inl i) true e = inr (subst (λ t. IsDone top w dc t (max floor commit + 1)) (sym (same_txn u.txn dependency e)) told)
+          go (inl i) false e = inl (filter_among (λ (z : WriterValue). not (is_same_txn z.txn dependency)) left u i (ap not e))
+
+      counted_able : SessionAble top w node (opened_as n a (Moving dc (left_after dependency left) (max floor commit)) [])
+      counted_able =
+          waits_able top w node n inv le (Moving dc (left_after dependency left) (max floor commit)) [] (λ m asked q. tt) (λ t m asked q. tt)
+          (record { opened = moving.opened; depends = moving.depends; below = moving.below; away = moving.away; clock = floor_early; answered = still_or_done })
+          (λ x g is env m. absurd m) (sym (ap is_idle answer.current))
+
+      -- at the last answer all is decided there
+      arrives_able : left_after dependency left ≡ [] → SessionAble top w node (moved n a dc (max floor commit))
+      arrives_able none =
+          moved_able top w node n inv le dc (max floor commit) floor_early moving.opened moving.depends moving.away
+          (λ u m. elim (still_or_done u m) [ inl i ↦ absurd (subst (λ l. Among u l) none i) | inr d ↦ d ]) (ap is_idle answer.current)
 
     -- ## Every message
 
@@ -269,4 +321,6 @@ module _ (top : TopologyValue) (w : Run) (node n : ℕ) (some : 0 < top.shards) 
           kept_at = λ read time first hs rows k more. kept_at_able read time first hs k.current rows k;
           ends_at = λ read time first hs rows k all. ends_at_able read time first hs k.current rows k all;
           gives_up = λ read time first hs k. gives_up_able read time first hs k.current;
+          counted = λ dc left floor dependency commit k u us e. counted_able dc left floor dependency commit k;
+          arrives = λ dc left floor dependency commit k none. arrives_able dc left floor dependency commit k none;
         })

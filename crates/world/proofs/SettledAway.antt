@@ -7,6 +7,7 @@ use Rattle.logical_time.specs.Stamps.{TxnValue, WriterValue}
 use Rattle.column_family.specs.declared.batch.Change.{Change}
 use Rattle.planner.specs.Plan.{coordinator_of, cohorts_of}
 use Rattle.planner.proofs.Members.{contains_below}
+use Rattle.messages.specs.declared.op.Op.TheVariants as op
 use Rattle.messages.specs.Topology.{TopologyValue, dc_of, shard_of, shard_node}
 use Rattle.messages.specs.Words.{other_dcs}
 use Rattle.messages.specs.Shard.{Role, Own, Cohort, Replica, KeptBallot}
@@ -15,11 +16,11 @@ use Rattle.world.specs.Run.{Run, Submission}
 use Rattle.world.specs.Quiet.{IsQuiet}
 use Rattle.world.proofs.Among.{Among, contains_among, filter_among}
 use Rattle.world.proofs.Facts.{txn_of, IsWritten, near, lead, RoleFits}
-use Rattle.world.proofs.Invariant.{Inv}
+use Rattle.world.proofs.Invariant.{MovesTo, Inv}
 use Rattle.world.proofs.OneBatch.{written_at, submitted_one, batch_one}
 use Rattle.world.proofs.Near.{coordinator_below, cohort_below, cohort_other, lead_dc, lead_number}
 use Rattle.world.proofs.About.{OfReplBegin, OfReplPart, OfNotify, OfDepCheck, OfDepOk, Sent}
-use Rattle.world.proofs.Underway.{HasDecision, HasKeptPart, HasKeptBallot, Known, vote_of, met_of, RoleLive, Live}
+use Rattle.world.proofs.Underway.{HasDecision, HasKeptPart, HasKeptBallot, Known, vote_of, met_of, RoleLive, WasCounted, by_ballot, by_move, Live}
 use Rattle.world.proofs.Settling.{each_or, act, cohort_undecided, known_decided, lead_leads, home_decided, cohort_applied}
 
 module _ (top : TopologyValue) (w : Run) (some : 0 < top.shards) (inv : Inv top w) (live : Live top w) (quiet : IsQuiet w)
@@ -146,6 +147,15 @@ module _ (top : TopologyValue) (w : Run) (some : 0 < top.shards) (inv : Inv top 
 
   -- ## Each dependency's answer
 
+  -- who waits here is a ballot, so no move
+  ballot_met : (r : KeptBallot) → Among r (w.shards s).kept_ballots → (u : TxnValue) → WasCounted w s r.txn u → Among (met_of r.txn u) (w.shards s).met
+  ballot_met r m u (by_ballot k i) = i
+  ballot_met r m u (by_move c i is there moves h) =
+      let rs = (inv.shards s).kept_ballots r m in
+      let same = inv.submitted.one c rs.submission i rs.written.among (is ∙ sym rs.written.txn) in
+      let none : MovesTo there (op.Batch rs.batch) = subst (MovesTo there) (ap (λ z. z.op) same ∙ rs.written.op) moves in
+      absurd none
+
   met : (r : KeptBallot) → Among r (w.shards s).kept_ballots → (u : WriterValue) → Among u r.dependencies → Among u b.dependencies
       → Among (met_of r.txn u.txn) (w.shards s).met
   met r m u i j =
@@ -154,10 +164,11 @@ module _ (top : TopologyValue) (w : Run) (some : 0 < top.shards) (inv : Inv top 
       let to : s' ≡ lead top dc p.batch = ap (near top s) p.coordinator ∙ ap (λ d. lead top d p.batch) dc_here in
       let d : HasDecision (w.shards s') u.txn = subst (λ z. HasDecision (w.shards z) u.txn) (sym to) (before u j p.submission p.batch p.written) in
       elim (act top w some inv live quiet s s' (OfDepCheck u.txn r.txn) (((live.shards s).entries.kept_ballots r m).asked u i)) [
-        | inl y ↦ act top w some inv live quiet s' s (OfDepOk u.txn r.txn) y
+        | inl y ↦ ballot_met r m u.txn (act top w some inv live quiet s' s (OfDepOk u.txn r.txn) y)
         | inr z ↦
-            let y = act top w some inv live quiet s' z.0.from (OfDepOk z.0.dependency z.0.waiter) ((live.shards s').entries.told z.0 d.0 z.1 d.1 (d.2 ∙ sym z.2)) in
-            subst (λ n. Among (met_of r.txn u.txn) (w.shards n).met) z.4 (subst₂ (λ x y. Among (met_of y x) (w.shards z.0.from).met) z.2 z.3 y)
+            let y = (live.shards s').entries.told z.0 d.0 z.1 d.1 (d.2 ∙ sym z.2) in
+            let sent = subst (λ n. Sent w.sent s' n (OfDepOk u.txn r.txn)) z.4 (subst₂ (λ x y. Sent w.sent s' z.0.from (OfDepOk x y)) z.2 z.3 y) in
+            ballot_met r m u.txn (act top w some inv live quiet s' s (OfDepOk u.txn r.txn) sent)
       ]
 
   -- ## The coordinator here

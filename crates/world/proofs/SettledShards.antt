@@ -146,7 +146,7 @@ module _ (top : TopologyValue) (w : Run) (some : 0 < top.shards) (inv : Inv top 
       leader_decided node r.txn (record { submission = rs.submission; batch = rs.batch; written = rs.written; here = rs.here })
       ((live.shards node).entries.kept_ballots r m).here
 
-  asked_decided : (node : ℕ) (k : Asker) → Among k (w.shards node).askers → HasDecision (w.shards node) k.dependency
+  pub asked_decided : (node : ℕ) (k : Asker) → Among k (w.shards node).askers → HasDecision (w.shards node) k.dependency
   asked_decided node k m =
       let a = (live.shards node).entries.askers k m in
       leader_decided node k.dependency a.leads a.here

@@ -1,32 +1,35 @@
 -- A quiet run is settled.
-use Rattle.std.proofs.Common.{◌≡◌, ℕ, ◌<◌, List, Some, ◌⊎◌, inl, inr, refl, sym, ap, ◌∙◌, subst, arith}
+use Rattle.std.proofs.Common.{◌≡◌, ℕ, ◌<◌, List, Some, ◌⊎◌, inl, inr, refl, sym, ap, ◌∙◌, subst, subst₂, arith}
 use Rattle.std.specs.Prelude.{false}
 use Rattle.std.proofs.lemmas.Bool.{false≢true}
-use Rattle.logical_time.specs.Stamps.{TxnValue}
+use Rattle.logical_time.specs.Stamps.{TxnValue, WriterValue}
 use Rattle.std.proofs.lemmas.List.Sorted.{Contains-permutation, IsPermutation-sym}
 use Rattle.column_family.specs.declared.batch.Change.{Change}
 use Rattle.column_family.specs.History.{History}
 use Rattle.planner.specs.Plan.{coordinator_of}
-use Rattle.messages.specs.Topology.{TopologyValue}
-use Rattle.messages.specs.Session.{Open, Idle, Writing, FirstRound, SecondRound, is_idle}
+use Rattle.messages.specs.declared.op.Op.TheVariants as op
+use Rattle.messages.specs.Topology.{TopologyValue, shard_node}
+use Rattle.messages.specs.SessionEvents.{is_left}
+use Rattle.messages.specs.Session.{Open, Idle, Writing, FirstRound, SecondRound, Moving, is_idle}
 use Rattle.world.specs.Run.{Run, Submission, Completed}
 use Rattle.world.specs.Histories.{decisions_in, history_of, IsHistory}
 use Rattle.world.specs.Quiet.{IsQuiet}
 use Rattle.world.specs.Settled.{IsOutcomeOf, IsCommittedIn, HasEntry, Settled}
 use Rattle.world.proofs.Among.{Among, among_contains, contains_among}
 use Rattle.world.proofs.Facts.{txn_of, IsWritten, lead}
-use Rattle.world.proofs.Invariant.{OpenSound, Inv}
+use Rattle.world.proofs.Invariant.{MovingSound, OpenSound, Inv}
 use Rattle.world.proofs.Causal.{txn_ended, Causal}
 use Rattle.world.proofs.DecidedIn.{decided_in, in_decisions}
 use Rattle.world.proofs.Entries.{batch_found}
 use Rattle.world.proofs.Histories.{entry_there}
 use Rattle.world.proofs.OneBatch.{written_at, submitted_one, batch_one}
 use Rattle.world.proofs.Near.{coordinator_below, lead_dc}
-use Rattle.world.proofs.About.{OfRead, OfReadAt, OfPartNow, OfPartAt, OfDone}
-use Rattle.world.proofs.Underway.{FirstHas, SecondHas, SecondIs, OpenLive, HasEnded, StillOpen, Live}
+use Rattle.world.proofs.About.{OfRead, OfReadAt, OfDepCheck, OfDepOk, OfPartNow, OfPartAt, OfDone, Sent}
+use Rattle.world.proofs.Underway.{FirstHas, SecondHas, SecondIs, IsNotLeft, WasCounted, by_ballot, by_move, MovingLive, OpenLive, HasEnded, StillOpen, Live}
+use Rattle.world.proofs.OpenReads.{still_left}
 use Rattle.world.proofs.SessionEnds.{open_txn}
 use Rattle.world.proofs.Settling.{act, home_decided}
-use Rattle.world.proofs.SettledShards.{each_decided, no_wait, shard_clear}
+use Rattle.world.proofs.SettledShards.{each_decided, no_wait, asked_decided, shard_clear}
 use Rattle.world.proofs.SettledTables.{equal_tables}
 
 module _ (top : TopologyValue) (w : Run) (some : 0 < top.shards) (inv : Inv top w) (live : Live top w) (causal : Causal top w) (quiet : IsQuiet w) where
@@ -79,6 +82,41 @@ module _ (top : TopologyValue) (w : Run) (some : 0 < top.shards) (inv : Inv top 
       let same : (w.sessions c.node).count ≡ (w.sessions node).count = ap (λ i. (w.sessions i).count) at in
       omega arith
 
+  -- an open move would miss an answer that it was given
+  module _ (node dc : ℕ) (left : List WriterValue) (floor : ℕ) (e : (w.sessions node).current ≡ Moving dc left floor)
+      (s : MovingSound top w node (w.sessions node) dc left floor) (k : MovingLive top w node (w.sessions node) dc left) where
+    abbrev waiter : TxnValue
+    waiter = record { session = node; number = (w.sessions node).count }
+
+    abbrev missing : WriterValue
+    missing = k.some.0
+
+    abbrev shard : ℕ
+    shard = shard_node top dc missing.shard
+
+    not_counted : WasCounted w node waiter missing.txn → ⊥
+    not_counted (by_ballot r m) =
+        let rs = (inv.shards node).kept_ballots r.0 r.1 in
+        let same = inv.submitted.one rs.submission s.opened.submission rs.written.among s.opened.among (rs.written.txn ∙ r.2 ∙ sym (open_txn s.opened)) in
+        let q : op.Batch rs.batch ≡ op.Move dc = sym rs.written.op ∙ ap (λ z. z.op) same ∙ s.opened.op in
+        absurd (cc)
+    not_counted (by_move b m is there moves h) =
+        let has : is_left missing.txn left ≡ false = subst (λ z. IsNotLeft z missing.txn) e (h.round refl) in
+        false≢true (sym has ∙ still_left left missing k.some.1)
+
+    not_told : Sent w.sent shard node (OfDepOk missing.txn waiter) → ⊥
+    not_told sent = not_counted (act top w some inv live quiet shard node (OfDepOk missing.txn waiter) sent)
+
+    not_moving : ⊥
+    not_moving =
+        elim (act top w some inv live quiet node shard (OfDepCheck missing.txn waiter) (k.asked missing k.some.1)) [
+          | inl sent ↦ not_told sent
+          | inr z ↦
+              let d = asked_decided top w some inv live quiet shard z.0 z.1 in
+              let y = (live.shards shard).entries.told z.0 d.0 z.1 d.1 d.2 in
+              not_told (subst (λ n. Sent w.sent shard n (OfDepOk missing.txn waiter)) z.4 (subst₂ (λ t u. Sent w.sent shard z.0.from (OfDepOk t u)) z.2 z.3 y))
+        ]
+
   idle : (node : ℕ) → (w.sessions node).current ≡ Idle
   idle node = go (w.sessions node).current refl (inv.sessions node).current (live.current node)
     where
@@ -108,6 +146,7 @@ module _ (top : TopologyValue) (w : Run) (some : 0 < top.shards) (inv : Inv top 
                 let is : SecondIs (SecondRound read time first heard) y.0 = subst (λ z. SecondIs z y.0) e (y.2.round refl) in
                 absurd (y.1 (sym is))
           ]
+      go (Moving dc left floor) e s k = absurd (not_moving node dc left floor e s k)
 
   outcome : (b : Submission) → Among b w.submitted → (c : Completed) × IsOutcomeOf w b c
   outcome b m = go (live.ends b m)

@@ -118,6 +118,7 @@ module _ (top : TopologyValue) (w : Run) (node from : ℕ) (kind : Kind) (st : S
           submitted = λ b batch m e. submission_on g (live.submitted b batch m e);
           earlier = live.earlier;
           dependencies = λ m k i. placed_on g (live.dependencies m k i);
+          homes = live.homes;
           current = λ m. open_on top m (w.sessions m) (w.sessions m).current g (live.current m);
           waiting = λ m. waiting_go m (m == node) refl;
           rounds = λ m. round_go m (m == node) refl;
@@ -158,6 +159,10 @@ module _ (top : TopologyValue) (w : Run) (node : ℕ) (st : SessionStep) (ev : E
     dependencies_go m true e k i = went.dependencies k i
     dependencies_go m false e k i = placed_on session_onward (live.dependencies m k i)
 
+    home_go : (m : ℕ) (t : Bool) → (m == node) ≡ t → (cond t (session_taken st.state) (w.sessions m)).home < top.dcs
+    home_go m true e = went.home
+    home_go m false e = live.homes m
+
     current_go : (m : ℕ) (t : Bool) → (m == node) ≡ t → OpenLive top xs m (cond t (session_taken st.state) (w.sessions m)) (cond t (session_taken st.state) (w.sessions m)).current
     current_go m true e = subst (λ z. OpenLive top xs z (session_taken st.state) st.state.current) (sym (eqb-true m node e)) went.current
     current_go m false e = open_on top m (w.sessions m) (w.sessions m).current session_onward (live.current m)
@@ -187,6 +192,7 @@ module _ (top : TopologyValue) (w : Run) (node : ℕ) (st : SessionStep) (ev : E
           submitted = λ b batch m e. submission_on g (live.submitted b batch m e);
           earlier = live.earlier;
           dependencies = λ m. dependencies_go m (m == node) refl;
+          homes = λ m. home_go m (m == node) refl;
           current = λ m. current_go m (m == node) refl;
           waiting = live.waiting;
           rounds = λ m y i. round_on y.session y.number y.time g (live.rounds m y i);

@@ -24,7 +24,6 @@ use Rattle.world.specs.Steps.{StaysApart, DidShard, DidSessionOf}
 use Rattle.world.proofs.ShardSteps.{actor_same}
 use Rattle.world.proofs.Runs.{every_run, step_kept}
 use Rattle.world.proofs.Addresses.{stands}
-use Rattle.world.proofs.Homes.{every_home}
 use Rattle.world.proofs.Running.{after_shard_step, after_session_step}
 use Rattle.world.proofs.Answers.{parts_apart}
 
@@ -179,7 +178,7 @@ station_took top events k i e a b s t (Some m) is sent to at lt set clock did to
       allowed = session_refusal top w k e there kind.0 kind.1 ∙ ap refused_by r;
       running =
           subst (λ v. IsRunning top v b) (sym (session_step top w k e there kind.0 kind.1 ∙ ap (λ z. after_session z w (Deliver k) e.to) r))
-          (after_session_step top w (Deliver k) i e.to m e.from e.body a b s t (every_run top events some) (every_home top events) is to at lt set did topology shards);
+          (after_session_step top w (Deliver k) i e.to m e.from e.body a b s t (every_run top events some) is to at lt set did topology shards);
     }
 
 -- the session of a place has its node

@@ -5,15 +5,15 @@ use Rattle.messages.specs.declared.op.Op.TheVariants as op
 use Rattle.messages.specs.declared.outcome.Outcome.TheVariants as outcome
 use Rattle.messages.specs.Topology.{TopologyValue, is_topology}
 use Rattle.messages.specs.Session.{Finished}
-use Rattle.messages.specs.Actors.{finished_in}
+use Rattle.messages.specs.Actors.{finished_in, outcomes_by, opening_home, home_before}
 use Rattle.messages.specs.declared.event.Event.{Event as ActorEvent}
 use Rattle.world.specs.Run.{Completed, run}
 use Rattle.world.specs.Histories.{history_of}
-use Rattle.world.specs.Journals.{finished_as, DoFit}
-use Rattle.world.specs.Threads.{op_numbered, JournalsShowOneTable, ThreadsKeepPromises}
+use Rattle.world.specs.Journals.{finished_as, ended_at, DoFit}
+use Rattle.world.specs.Threads.{op_numbered, home_by, JournalsShowOneTable, ThreadsKeepPromises}
 use Rattle.world.proofs.Among.{Among, among_contains, contains_among, map_only, filter_only}
-use Rattle.world.proofs.Invariant.{home}
-use Rattle.world.proofs.Homes.{every_home}
+use Rattle.world.proofs.Homes.{homes_are_of_moves}
+use Rattle.world.proofs.HomesThere.{home_is_there}
 use Rattle.world.proofs.Addresses.{stands}
 use Rattle.world.proofs.Moves.{session_node_counts}
 use Rattle.world.proofs.Laws.{reads_show_one_table, reads_show_their_past, reads_are_fresh, entries_are_of_submissions}
@@ -42,11 +42,18 @@ show_one_table top journals ok fit node read time answer h here a all =
     let named : Some b.op ≡ Some (op.Read read) =
     sym (operation_there top journals events s.some found.1 b of.submitted) ∙ ap (λ z. op_numbered (journals z) b.number) session ∙ ap (op_numbered (journals node)) number ∙ a.op in
     let same : b.op ≡ op.Read read = cc in
-    let at : c.0.home ≡ home top node =
-    sym of.home ∙ (every_home top events).submitted b (contains_among b w.submitted of.submitted) ∙ ap (home top) session in
+    let outcomes : outcomes_by top node (journals node) ≡ ended_at w node = ap finished_in (told.actors node (session_node_counts top node here)) in
+    let mine : c.0.node ≡ node = eqb-true c.0.node node among.1 in
+    let at : c.0.home ≡ home_by top journals node a.number =
+    homes_are_of_moves top events s.some c.0 is
+    ∙ ap (λ z. home_before (opening_home top z) (ended_at w z) c.0.number) mine
+    ∙ ap (λ l. home_before (opening_home top node) l c.0.number) (sym outcomes)
+    ∙ ap (home_before (opening_home top node) (outcomes_by top node (journals node))) (sym (ap (λ (z : Finished). z.number) c.2)) in
+    let there : home_by top journals node a.number < top.dcs =
+    subst (λ l. home_before (opening_home top node) l a.number < top.dcs) (sym outcomes) (home_is_there top events ok node a.number) in
     reads_show_one_table top events s.some c.0 read time answer h
     (record { completed = is; op = sym of.op ∙ same; outcome = sym (ap (λ (z : Finished). z.outcome) c.2) })
-    (subst (λ l. IsPermutation h l) (sym (told.history (home top node) (s.home node)) ∙ ap (λ d. history_of top w d) (sym at)) all)
+    (subst (λ l. IsPermutation h l) (sym (told.history (home_by top journals node a.number) there) ∙ ap (λ d. history_of top w d) (sym at)) all)
 
 pub keep_promises : (top : TopologyValue) (journals : ℕ → List ActorEvent) → 0 < top.shards → DoFit top journals → ThreadsKeepPromises top journals
 keep_promises top journals some fit =

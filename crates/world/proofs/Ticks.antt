@@ -5,7 +5,6 @@ use Rattle.std.proofs.lemmas.Bool.Decides.{nat_tests}
 use Rattle.logical_time.specs.declared.fault.Fault.{Fault}
 use Rattle.planner.specs.Plan.{cohorts_of, shards_asked}
 use Rattle.messages.specs.declared.op.Op.{Op}
-use Rattle.messages.specs.declared.op.Op.TheVariants as op
 use Rattle.messages.specs.declared.body.Body.{Body}
 use Rattle.messages.specs.declared.body.Body.TheVariants.{Read as ReadNow}
 use Rattle.messages.specs.declared.envelope.Envelope.{Envelope}
@@ -15,7 +14,7 @@ use Rattle.messages.specs.Clock.{ticked, on_clock}
 use Rattle.messages.specs.Shard.{ShardState, ShardStep}
 use Rattle.messages.specs.Session.{SessionState, SessionStep}
 use Rattle.messages.specs.ShardEvents.{handled, collected}
-use Rattle.messages.specs.Submitting.{home_node, begin_of, prepare_of, share_of, begun, submit_fault, submit_if as submitted_if}
+use Rattle.messages.specs.Submitting.{home_node, begin_of, prepare_of, share_of, check_of, begun, submit_fault, submit_if as submitted_if}
 use Rattle.messages.specs.SessionEvents.{read_at_of, heard, session_taken}
 use Rattle.messages.specs.declared.event.Event.{Event as ActorEvent}
 use Rattle.messages.specs.declared.event.Event.TheVariants.{Submit as SubmitHere, Handle, Collect as CollectHere}
@@ -23,6 +22,7 @@ use Rattle.messages.specs.Actors.{ActorState, OfShard, OfSession, clock_of, Acto
 use Rattle.world.specs.Journals.{Ticks, KeepsTime}
 use Rattle.world.proofs.Among.{contains_among}
 use Rattle.world.proofs.HeardCases.{heard_cases}
+use Rattle.world.proofs.BegunCases.{begun_cases}
 use Rattle.world.proofs.OwnSends.{AreOwn, IsOwn, none, first, each, handled_own}
 
 -- the clock after a session's step, and what it sends
@@ -43,16 +43,26 @@ heard_own top me n a from b =
       kept_at = λ read time first hs rows k some. (refl, none);
       ends_at = λ read time first hs rows k all. (refl, none);
       gives_up = λ read time first hs k. (refl, none);
+      counted = λ dc left floor dependency commit k u us e. (refl, none);
+      arrives = λ dc left floor dependency commit k e. (refl, none);
     })
 
 pub begun_own : (top : TopologyValue) (me n : ℕ) (a : SessionState) (o : Op) → IsOwnHere me n (begun top me n a o)
-begun_own top me n a (op.Batch batch) = (
-  refl,
-  first (begin_of top me n a batch) (map (prepare_of top me n a batch) (cohorts_of top.shards batch)) (refl, refl)
-      (each (prepare_of top me n a batch) (cohorts_of top.shards batch) (λ s. (refl, refl))),
-)
-begun_own top me n a (op.Read read) =
-    (refl, each (λ s. envelope me (home_node top a s) n (ReadNow (a.count + 1) (share_of top read s))) (shards_asked top.shards read.keys) (λ s. (refl, refl)))
+begun_own top me n a o =
+    begun_cases top me n a (λ o st. IsOwnHere me n st)
+    (record {
+      writes = λ batch. (
+        refl,
+        first (begin_of top me n a batch) (map (prepare_of top me n a batch) (cohorts_of top.shards batch)) (refl, refl)
+            (each (prepare_of top me n a batch) (cohorts_of top.shards batch) (λ s. (refl, refl))),
+      );
+      reads = λ read. (
+        refl,
+        each (λ s. envelope me (home_node top a s) n (ReadNow (a.count + 1) (share_of top read s))) (shards_asked top.shards read.keys) (λ s. (refl, refl)),
+      );
+      moves = λ dc k ks e. (refl, each (check_of top me n a dc) a.dependencies (λ k. (refl, refl)));
+      at_once = λ dc e. (refl, none);
+    }) o
 
 -- ## The clock of a step
 

@@ -9,6 +9,7 @@ use Rattle.messages.specs.Session.{SessionState, SessionStep, Finished}
 use Rattle.messages.specs.Submitting.{begun}
 use Rattle.world.specs.Run.{Submission, Completed, completed_of, ended_by, with_ended}
 use Rattle.world.proofs.Among.{Among, append_first, among_last, last_or_old}
+use Rattle.world.proofs.BegunCases.{moved_at_once, begun_cases}
 
 pub ended_or_old : (c : Completed) (cs : List Completed) (o : Option Completed) → Among c (with_ended cs o) → Among c cs ⊎ (o ≡ Some c)
 ended_or_old c cs None m = inl m
@@ -39,11 +40,29 @@ pub ended_as_told : (submitted : List Submission) (node : ℕ) (st : SessionStep
     → ended_by submitted node st ≡ completed_of submitted node f
 ended_as_told submitted node st f told = ap (option_and_then (completed_of submitted node)) told
 
--- a submission ends nothing
-pub submission_tells_nothing : (top : TopologyValue) (me n : ℕ) (a : SessionState) (o : Op) → (begun top me n a o).state.untaken ≡ None
-submission_tells_nothing top me n a (op.Batch batch) = refl
-submission_tells_nothing top me n a (op.Read read) = refl
+-- a move that ended where it was submitted
+pub record EndsAtOnce (n : ℕ) (a : SessionState) (o : Op) (st : SessionStep) : Type 0 where
+  pub dc : ℕ
+  pub op : o ≡ op.Move dc
+  pub none : a.dependencies ≡ []
+  pub step : st ≡ moved_at_once n a dc
 
-pub submission_ends_nothing : (top : TopologyValue) (me n : ℕ) (a : SessionState) (o : Op) (submitted : List Submission) (node : ℕ)
-    → ended_by submitted node (begun top me n a o) ≡ None
-submission_ends_nothing top me n a o submitted node = ap (option_and_then (completed_of submitted node)) (submission_tells_nothing top me n a o)
+-- a submission tells nothing, but for a move that ends at once
+pub submission_tells : (top : TopologyValue) (me n : ℕ) (a : SessionState) (o : Op)
+    → ((begun top me n a o).state.untaken ≡ None) ⊎ EndsAtOnce n a o (begun top me n a o)
+submission_tells top me n a o =
+    begun_cases top me n a (λ o st. (st.state.untaken ≡ None) ⊎ EndsAtOnce n a o st)
+    (record {
+      writes = λ batch. inl refl;
+      reads = λ read. inl refl;
+      moves = λ dc k ks e. inl refl;
+      at_once = λ dc e. inr (record { dc = dc; op = refl; none = e; step = refl });
+    }) o
+
+-- so it ends nothing, but for that
+pub submission_ends : (top : TopologyValue) (me n : ℕ) (a : SessionState) (o : Op) (submitted : List Submission) (node : ℕ)
+    → (ended_by submitted node (begun top me n a o) ≡ None) ⊎ EndsAtOnce n a o (begun top me n a o)
+submission_ends top me n a o submitted node = elim (submission_tells top me n a o) [
+  | inl none ↦ inl (ap (option_and_then (completed_of submitted node)) none)
+  | inr once ↦ inr once
+]

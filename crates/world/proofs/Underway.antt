@@ -5,14 +5,14 @@ use Rattle.logical_time.specs.Stamps.{TxnValue, WriterValue}
 use Rattle.column_family.specs.declared.batch.Change.{Change}
 use Rattle.store.specs.declared.part.Applied.{Applied}
 use Rattle.planner.specs.Plan.{coordinator_of, cohorts_of}
-use Rattle.messages.specs.declared.op.Op.{Op}
 use Rattle.messages.specs.declared.op.Op.TheVariants as op
 use Rattle.messages.specs.declared.envelope.Envelope.{Envelope}
 use Rattle.messages.specs.Topology.{TopologyValue, dc_of, shard_of, shard_node}
 use Rattle.messages.specs.Words.{other_dcs}
 use Rattle.messages.specs.Shard.{ShardState, Role, Own, Cohort, Replica, PreparedPart, BegunBallot, Vote, Decision, KeptPart, KeptBallot, Met, Asker, WaitingRead}
-use Rattle.messages.specs.Session.{SessionState, Open, Idle, Writing, FirstRound, SecondRound, is_idle}
+use Rattle.messages.specs.Session.{SessionState, Open, Idle, Writing, FirstRound, SecondRound, Moving, is_idle}
 use Rattle.messages.specs.Rounds.{asked_nodes, is_missing, is_missing_at}
+use Rattle.messages.specs.SessionEvents.{is_left}
 use Rattle.world.specs.Run.{Run, Submission, Completed}
 use Rattle.world.specs.Quiet.{handled}
 use Rattle.world.proofs.Among.{Among}
@@ -57,11 +57,6 @@ pub data WaitsFor (top : TopologyValue) (w : Run) (dc from : ℕ) (waiter depend
   of_ballot : Awaits (w.shards from) waiter dependency → WaitsFor top w dc from waiter dependency
   of_moving : (b : Submission) → Among b w.submitted → txn_of b ≡ waiter → b.session ≡ from → MovesTo dc b.op → (k : WriterValue) → Among k b.dependencies
       → k.txn ≡ dependency → WaitsFor top w dc from waiter dependency
-
--- today nobody moves
-pub no_move : (dc : ℕ) (o : Op) → MovesTo dc o → ⊥
-no_move dc (op.Batch batch) k = k
-no_move dc (op.Read read) k = k
 
 abbrev pub vote_of : TxnValue → ℕ → Vote
 vote_of t node = record { txn = t; node = node }
@@ -123,6 +118,7 @@ FirstHas top a (FirstRound read heard) node = is_missing (asked_nodes top a read
 FirstHas top a Idle node = Unit {0}
 FirstHas top a (Writing coordinator) node = Unit {0}
 FirstHas top a (SecondRound read time first heard) node = Unit {0}
+FirstHas top a (Moving dc left floor) node = Unit {0}
 
 -- the session's operation of this number misses no first answer of this shard, now or later
 pub record NotMissing (top : TopologyValue) (a : SessionState) (m node : ℕ) : Type 0 where
@@ -135,6 +131,7 @@ SecondIs (SecondRound read effective first heard) time = effective ≡ time
 SecondIs (FirstRound read heard) time = ⊥
 SecondIs Idle time = Unit {0}
 SecondIs (Writing coordinator) time = Unit {0}
+SecondIs (Moving dc left floor) time = Unit {0}
 
 -- the session's operation of this number began a second round at this time
 pub record Round (a : SessionState) (m time : ℕ) : Type 0 where
@@ -147,17 +144,32 @@ SecondHas top a (SecondRound read time first heard) node = is_missing_at (asked_
 SecondHas top a (FirstRound read heard) node = ⊥
 SecondHas top a Idle node = Unit {0}
 SecondHas top a (Writing coordinator) node = Unit {0}
+SecondHas top a (Moving dc left floor) node = Unit {0}
 
 -- the session's operation of this number misses no second answer of this shard, now or later
 pub record NotAwaited (top : TopologyValue) (a : SessionState) (m node : ℕ) : Type 0 where
   pub number : m ≤ a.count
   pub round : m ≡ a.count → SecondHas top a a.current node
 
+-- the open move misses no answer about this transaction
+abbrev pub IsNotLeft : Open → TxnValue → Type 0
+IsNotLeft (Moving dc left floor) t = is_left t left ≡ false
+IsNotLeft Idle t = Unit {0}
+IsNotLeft (Writing coordinator) t = Unit {0}
+IsNotLeft (FirstRound read heard) t = Unit {0}
+IsNotLeft (SecondRound read time first heard) t = Unit {0}
+
+-- the session's operation of this number misses no answer about this transaction, now or later
+pub record NotLeft (a : SessionState) (m : ℕ) (t : TxnValue) : Type 0 where
+  pub number : m ≤ a.count
+  pub round : m ≡ a.count → IsNotLeft a.current t
+
 pub record SessionOnward (top : TopologyValue) (a b : SessionState) : Type 0 where
   pub count : a.count ≤ b.count
   pub missing : (m node : ℕ) → NotMissing top a m node → NotMissing top b m node
   pub rounds : (m time : ℕ) → Round a m time → Round b m time
   pub awaited : (m node : ℕ) → NotAwaited top a m node → NotAwaited top b m node
+  pub left : (m : ℕ) (t : TxnValue) → NotLeft a m t → NotLeft b m t
 
 -- the shard keeps this read waiting
 abbrev pub HasWait : ShardState → ℕ → ℕ → ℕ → Type 0
@@ -300,6 +312,12 @@ SaysLive top w from to other = Unit {0}
 abbrev pub HasEnded : Run → TxnValue → Type 0
 HasEnded w t = (c : Completed) × Among c w.transcript × (txn_ended c ≡ t)
 
+-- an answer about a dependency was counted: by the ballot that waited for it, or by the move that did
+pub data WasCounted (w : Run) (to : ℕ) (waiter dependency : TxnValue) : Type 0 where
+  by_ballot : HasKeptBallot (w.shards to) waiter → Among (met_of waiter dependency) (w.shards to).met → WasCounted w to waiter dependency
+  by_move : (b : Submission) → Among b w.submitted → txn_of b ≡ waiter → (dc : ℕ) → MovesTo dc b.op → NotLeft (w.sessions to) waiter.number dependency
+      → WasCounted w to waiter dependency
+
 -- what a handled message left
 abbrev pub Acted : TopologyValue → Run → ℕ → ℕ → Kind → Type 0
 Acted top w from to (OfBegin t) = Known (w.shards to) t
@@ -314,7 +332,7 @@ Acted top w from to (OfPrepareRemote t) = Known (w.shards to) t
 Acted top w from to (OfDepCheck dependency waiter) =
     Sent w.sent to from (OfDepOk dependency waiter)
     ⊎ ((k : Asker) × Among k (w.shards to).askers × (k.dependency ≡ dependency) × (k.waiter ≡ waiter) × (k.from ≡ from))
-Acted top w from to (OfDepOk dependency waiter) = Among (met_of waiter dependency) (w.shards to).met
+Acted top w from to (OfDepOk dependency waiter) = WasCounted w to waiter dependency
 Acted top w from to (OfRead number) = Sent w.sent to from (OfPartNow number)
 Acted top w from to (OfPartNow number) = NotMissing top (w.sessions to) number from
 -- it was answered, or it waits, or that round is over
@@ -343,6 +361,13 @@ pub record FirstLive (top : TopologyValue) (w : Run) (node : ℕ) (missing : ℕ
   pub some : (shard : ℕ) × missing shard
   pub asked : (shard : ℕ) → missing shard → Sent w.sent node shard k
 
+-- the open move misses some answer, and has asked for each that it misses, in a data centre that there is
+pub record MovingLive (top : TopologyValue) (w : Run) (node : ℕ) (a : SessionState) (dc : ℕ) (left : List WriterValue) : Type 0 where
+  pub there : dc < top.dcs
+  pub some : (k : WriterValue) × Among k left
+  pub asked : (k : WriterValue) → Among k left
+      → Sent w.sent node (shard_node top dc k.shard) (OfDepCheck k.txn (record { session = node; number = a.count }))
+
 abbrev pub OpenLive : TopologyValue → Run → ℕ → SessionState → Open → Type 0
 OpenLive top w node a Idle = Unit {0}
 OpenLive top w node a (Writing coordinator) = Unit {0}
@@ -350,6 +375,7 @@ OpenLive top w node a (FirstRound read heard) =
     FirstLive top w node (λ shard. is_missing (asked_nodes top a read) heard shard ≡ true) (OfRead a.count)
 OpenLive top w node a (SecondRound read time first heard) =
     FirstLive top w node (λ shard. is_missing_at (asked_nodes top a read) time first heard shard ≡ true) (OfReadAt a.count time)
+OpenLive top w node a (Moving dc left floor) = MovingLive top w node a dc left
 
 -- the session's operation of this submission is open
 pub record StillOpen (w : Run) (b : Submission) : Type 0 where
@@ -363,6 +389,7 @@ pub record Live (top : TopologyValue) (w : Run) : Type 0 where
   pub submitted : (b : Submission) (batch : List Change) → Among b w.submitted → b.op ≡ op.Batch batch → SubmissionLive top w b batch
   pub earlier : Earlier [] w.submitted
   pub dependencies : (node : ℕ) (k : WriterValue) → Among k (w.sessions node).dependencies → Placed top w k
+  pub homes : (node : ℕ) → (w.sessions node).home < top.dcs
   pub current : (node : ℕ) → OpenLive top w node (w.sessions node) (w.sessions node).current
   pub waiting : (node : ℕ) → Waiting (w.shards node)
   pub rounds : (node : ℕ) (y : WaitingRead) → Among y (w.shards node).waiting → Round (w.sessions y.session) y.number y.time

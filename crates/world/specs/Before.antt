@@ -25,12 +25,13 @@ IsSubmitted w t =
 abbrev pub IsWrite : Run → TxnValue → Type 0
 IsWrite w t = (batch : List Change) × (batch_submitted w t ≡ Some batch)
 
--- whether this completes an operation: a write is committed, or a read is answered. A read that ended with Collected
--- isn't completed
+-- whether this completes an operation: a write is committed, a read is answered, or the session moved. A read that ended
+-- with Collected isn't completed
 abbrev pub completes : Outcome → Bool
 completes (outcome.Wrote commit stamp) = true
 completes (outcome.Read time answer) = true
 completes outcome.Collected = false
+completes (outcome.Moved dc floor) = true
 
 -- this is what came of the operation
 abbrev pub IsEndOf : Run → Completed → TxnValue → Type 0

@@ -61,6 +61,7 @@ decisions_taken top w = total (λ node. length (w.shards node).decided) (shard_c
 abbrev pub is_led : TopologyValue → ℕ → Op → Bool
 is_led top node (op.Batch batch) = coordinator_of top.shards batch == shard_of top node
 is_led top node (op.Read read) = false
+is_led top node (op.Move dc) = false
 
 -- how many decisions all shards can take: of each submitted batch one in each data centre
 abbrev pub decisions_to_take : TopologyValue → List Submission → ℕ

@@ -80,7 +80,7 @@ pub record StampsAgree (top : TopologyValue) (w : Run) : Type 0 where
 
 -- ## Completed writes
 
--- A write that ended with this commit time and this stamp was decided so at its session's home, by its own decision there,
+-- A write that ended with this commit time and this stamp was decided so where it was submitted, by its own decision there,
 -- and stands so in every history of it.
 pub record IsTold (top : TopologyValue) (w : Run) (c : Completed) (commit : ℕ) (stamp : StampValue) : Type 0 where
   pub batch : List Change

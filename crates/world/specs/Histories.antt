@@ -14,6 +14,7 @@ use Rattle.world.specs.Run.{Run, submission_of}
 abbrev pub batch_in : Op → Option (List Change)
 batch_in (op.Batch batch) = Some batch
 batch_in (op.Read read) = None
+batch_in (op.Move dc) = None
 
 -- the batch of a transaction, as its session submitted it
 abbrev pub batch_submitted : Run → TxnValue → Option (List Change)

@@ -1,9 +1,8 @@
 -- When what a world keeps stands for a run.
 use Rattle.std.specs.Prelude.{◌≡◌, ℕ, ◌+◌, true, false, ◌==◌, List, map, length, slice_get, filter_map, Option, Some, None, option_map, option_and_then}
 use Rattle.std.specs.List.{list_any}
-use Rattle.std.specs.Option.{unwrap_or}
 use Rattle.messages.specs.declared.op.Op.{Op}
-use Rattle.messages.specs.Topology.{TopologyValue, shard_count, is_topology, home_of}
+use Rattle.messages.specs.Topology.{TopologyValue, shard_count, is_topology}
 use Rattle.messages.specs.Shard.{ShardState}
 use Rattle.messages.specs.Session.{Finished, is_idle}
 use Rattle.shard.specs.declared.kept.Kept.{Kept}
@@ -23,18 +22,18 @@ pub record AreShards (top : TopologyValue) (states : ℕ → ShardState) (kept :
   pub len : length kept ≡ shard_count top
   pub each : (i : ℕ) (k : Kept) → slice_get kept i ≡ Some k → shard.Represents top i k (states i)
 
--- the operation is the last one that the session submitted
+-- the operation is the last one that the session submitted, at its home
 pub record IsOpOf (w : Run) (node : ℕ) (o : Option Op) : Type 0 where
   pub submission : Submission
   pub found : submission_of w.submitted (record { session = node; number = (w.sessions node).count }) ≡ Some submission
   pub op : o ≡ Some submission.op
+  pub home : submission.home ≡ (w.sessions node).home
 
 -- a session stands for the state of its node, and its operation is kept until it ends
 pub record Sits (w : Run) (top : TopologyValue) (me : ℕ) (s : Station) : Type 0 where
   pub stands : session.Represents s.session top (w.sessions me)
   pub same : s.session.node ≡ me
   pub node : s.node ≡ me
-  pub home : s.home ≡ unwrap_or (home_of top me) 0
   pub op : is_idle (w.sessions me).current ≡ false → IsOpOf w me s.op
 
 -- the sessions follow the shards

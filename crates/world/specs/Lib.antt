@@ -6,6 +6,7 @@ pub mod Met
 pub mod Fresh
 pub mod Worked
 pub mod WorkedTimes
+pub mod WorkedMoves
 pub mod WorkedDrains
 pub mod Committed
 pub mod Events

@@ -240,6 +240,16 @@ TimesRise w =
     (c e : Completed) → Contains w.transcript c → Contains w.transcript e → c.node ≡ e.node → c.number < e.number
     → IsNotBelow e.outcome (time_of c.outcome + 1)
 
+-- the times of a session never fall, wherever it moves
+abbrev pub TimesNeverFallAnywhere : Run → Type 0
+TimesNeverFallAnywhere w =
+    (c e : Completed) → Contains w.transcript c → Contains w.transcript e → c.node ≡ e.node → c.number < e.number
+    → IsNotBelow e.outcome (time_of c.outcome)
+
+-- a session ends all its operations in one home
+abbrev pub SessionsStayAtHome : Run → Type 0
+SessionsStayAtHome w = (c e : Completed) → Contains w.transcript c → Contains w.transcript e → c.node ≡ e.node → c.home ≡ e.home
+
 -- the times of all sessions of a data centre never fall, in the order in which operations end
 abbrev pub TimesOfACentreNeverFall : Run → Type 0
 TimesOfACentreNeverFall w = AllPairs (λ c e. c.home ≡ e.home → IsNotBelow e.outcome (time_of c.outcome)) w.transcript

@@ -16,7 +16,7 @@ use Rattle.messages.specs.declared.outcome.Outcome.TheVariants as outcome
 use Rattle.messages.specs.Topology.{TopologyValue}
 use Rattle.messages.specs.Honest.{IsHonest}
 use Rattle.messages.specs.Shard.{Decision}
-use Rattle.messages.specs.Actors.{outcomes_by}
+use Rattle.messages.specs.Actors.{outcomes_by, opening_home, home_before}
 use Rattle.world.specs.Run.{Run, Event, Submission, Completed, run}
 use Rattle.world.specs.Histories.{batch_submitted, decisions_in, IsHistory}
 use Rattle.world.specs.Before.{Past}
@@ -36,11 +36,12 @@ pub record IsAnswered (w : Run) (c : Completed) (read : Read) (time : ℕ) (answ
   pub op : c.op ≡ op.Read read
   pub outcome : c.outcome ≡ outcome.Read time answer
 
--- what came of an operation fits it: a write is committed, a read is answered or given up
+-- what came of an operation fits it: a write is committed, a read is answered or given up, and a move is to where it was asked
 abbrev pub Fits : Op → Outcome → Type 0
 Fits (op.Batch batch) (outcome.Wrote commit stamp) = Unit {0}
 Fits (op.Read read) (outcome.Read time answer) = Unit {0}
 Fits (op.Read read) outcome.Collected = Unit {0}
+Fits (op.Move dc) (outcome.Moved there floor) = there ≡ dc
 Fits o r = ⊥
 
 -- what completed is a submitted operation of that session, number and home, and its outcome fits it
@@ -105,6 +106,13 @@ ReadsShowTheirPast top w =
     (c : Completed) (read : Read) (time : ℕ) (answer : List AnsweredRow) (u : TxnValue)
     → IsAnswered w c read time answer → Past top w (number_of c) u → IsCommittedBy top w c.home u time
 
+-- A session that moved brings its past: each write before the move is committed in the new home, with a commit time not above
+-- the floor that the move told
+abbrev pub MovesBringTheirPast : TopologyValue → Run → Type 0
+MovesBringTheirPast top w =
+    (c : Completed) (dc floor : ℕ) (u : TxnValue)
+    → Contains w.transcript c → c.outcome ≡ outcome.Moved dc floor → Past top w (number_of c) u → IsCommittedBy top w dc u floor
+
 -- each completed read shows nothing older than the asked shards had applied when they sent what its session kept
 abbrev pub ReadsAreFresh : TopologyValue → Run → Type 0
 ReadsAreFresh top w = (c : Completed) → Contains w.transcript c → IsFresh top w c
@@ -125,9 +133,10 @@ TimesNeverFall w =
     (c e : Completed) → Contains w.transcript c → Contains w.transcript e → c.node ≡ e.node → c.number < e.number → StaysAtHome w c e
     → IsNotBelow e.outcome (time_of c.outcome)
 
--- and today each does: all that a session ended, it ended in one home
-abbrev pub SessionsStayAtHome : Run → Type 0
-SessionsStayAtHome w = (c e : Completed) → Contains w.transcript c → Contains w.transcript e → c.node ≡ e.node → c.home ≡ e.home
+-- sessions change their homes by their moves alone: each entry is of the data centre where the moves that its session ended
+-- before left it
+abbrev pub HomesAreOfMoves : TopologyValue → Run → Type 0
+HomesAreOfMoves top w = (c : Completed) → Contains w.transcript c → c.home ≡ home_before (opening_home top c.node) (ended_at w c.node) c.number
 
 -- an operation ends once: no two entries of the transcript have one number
 abbrev pub OperationsEndOnce : Run → Type 0

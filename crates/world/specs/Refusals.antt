@@ -42,8 +42,8 @@ refusal_of top w (Collect node time) = if is_shard top node then refused_by (sha
 abbrev pub clock_at : TopologyValue → Run → ℕ → ℕ
 clock_at top w node = if is_shard top node then (w.shards node).clock else (w.sessions node).clock
 
--- The reasons of actors: a submission is refused for the session's open operation or for what the planner refuses; if for
--- neither, and any other event at all, only where the actor's clock would leave its range.
+-- The reasons of actors: a submission is refused for the session's open operation or for what it asks; if for neither,
+-- and any other event at all, only where the actor's clock would leave its range.
 pub record HaveReasons (top : TopologyValue) (w : Run) : Type 0 where
   pub submissions : (node : ℕ) (o : Op) (e : Fault) → refusal_of top w (Submit node o) ≡ Some (Refused e)
       → (submit_fault top (w.sessions node) o ≡ Some e)

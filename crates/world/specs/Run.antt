@@ -17,8 +17,8 @@ pub use Rattle.world.specs.declared.run_event.RunEvent.{RunEvent as Event}
 pub use Rattle.world.specs.declared.run_event.RunEvent.TheVariants.{Submit, Deliver, Collect}
 pub use Rattle.world.specs.declared.completed.Completed.{Completed}
 
--- an operation that its session accepted, with its number there, the session's home and its clock, and what a write then
--- depends on
+-- an operation that its session accepted, with its number there, the session's home and its clock then, and what a write then
+-- depends on. Of a move the home is the one that it leaves
 pub record Submission : Type 0 where
   pub session : ℕ
   pub number : ℕ
@@ -43,7 +43,7 @@ pub record Run : Type 0 where
   -- the operations that ended, in order
   pub transcript : List Completed
 
--- a run before its first event: each session is at its home
+-- a run before its first event: each session is at its first home
 abbrev pub opening : TopologyValue → Run
 opening top =
     record {

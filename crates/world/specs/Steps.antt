@@ -24,29 +24,20 @@ abbrev pub DidShard : TopologyValue → (ℕ → ShardState) → ℕ → Result 
 DidShard top states node (Ok s) kept before after = AreShards top (with_actor states node s.state) kept × (after ≡ before ++ s.sends)
 DidShard top states node (Err e) kept before after = ⊥
 
--- A session did this step, and its outcome was taken: what it ended was added to the transcript.
+-- A session did this step, and its outcome was taken: what it ended was added to the transcript, of the home where the session
+-- was before the step.
 pub record DidSession (top : TopologyValue) (step : SessionStep) (old new : Station) (before after : List Envelope) (told now : List Completed) : Type 0 where
   pub stands : session.Represents new.session top (session_taken step.state)
   pub same : new.session.node ≡ old.session.node
   pub node : new.node ≡ old.node
-  pub home : new.home ≡ old.home
   pub op : new.op ≡ kept_after old.op step.state.untaken
   pub sends : after ≡ before ++ step.sends
-  pub ended : now ≡ with_ended told (ended_as old.node old.home old.op step.state.untaken)
+  pub ended : now ≡ with_ended told (ended_as old.node old.session.home.dc old.op step.state.untaken)
 
 abbrev pub DidSessionOf : TopologyValue → Result SessionStep Fault → Station → Station → List Envelope → List Envelope → List Completed → List Completed → Type 0
 DidSessionOf top (Ok step) old new before after told now = DidSession top step old new before after told now
 DidSessionOf top (Err e) old new before after told now = ⊥
 
--- A session accepted an operation, which is kept.
-pub record DidSubmit (top : TopologyValue) (step : SessionStep) (kept : Op) (old new : Station) (before after : List Envelope) : Type 0 where
-  pub stands : session.Represents new.session top step.state
-  pub same : new.session.node ≡ old.session.node
-  pub node : new.node ≡ old.node
-  pub home : new.home ≡ old.home
-  pub op : new.op ≡ Some kept
-  pub sends : after ≡ before ++ step.sends
-
-abbrev pub DidSubmitOf : TopologyValue → Result SessionStep Fault → Op → Station → Station → List Envelope → List Envelope → Type 0
-DidSubmitOf top (Ok step) kept old new before after = DidSubmit top step kept old new before after
-DidSubmitOf top (Err e) kept old new before after = ⊥
+-- A session accepted an operation, which is kept until it ends: a move may end at once.
+abbrev pub DidSubmitOf : TopologyValue → Result SessionStep Fault → Op → Station → Station → List Envelope → List Envelope → List Completed → List Completed → Type 0
+DidSubmitOf top r kept old new before after told now = DidSessionOf top r (record old { op = Some kept }) new before after told now

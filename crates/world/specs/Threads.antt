@@ -1,6 +1,5 @@
 -- What journals tell by themselves, whatever run they are of, and what is promised of them.
 use Rattle.std.specs.Prelude.{◌≡◌, ℕ, zero, suc, ◌<◌, if◌then◌else◌, List, [], true, filter_map, flat_map, slice_get, Option, Some, None, option_map, option_and_then, Contains, IsPermutation}
-use Rattle.std.specs.Option.{unwrap_or}
 use Rattle.std.specs.List.{range_with_len}
 use Rattle.logical_time.specs.Stamps.{TxnValue}
 use Rattle.column_family.specs.declared.batch.Change.{Change}
@@ -14,9 +13,9 @@ use Rattle.messages.specs.declared.op.Op.TheVariants as op
 use Rattle.messages.specs.declared.outcome.Outcome.TheVariants as outcome
 use Rattle.messages.specs.declared.event.Event.{Event as ActorEvent}
 use Rattle.messages.specs.declared.event.Event.TheVariants.{Submit as SubmitHere, Handle, Collect as CollectHere}
-use Rattle.messages.specs.Topology.{TopologyValue, is_session, shard_node, node_count, home_of}
+use Rattle.messages.specs.Topology.{TopologyValue, is_session, shard_node, node_count}
 use Rattle.messages.specs.Shard.{Decision}
-use Rattle.messages.specs.Actors.{ActorState, OfShard, OfSession, Replayed, replay_of, outcomes_by}
+use Rattle.messages.specs.Actors.{ActorState, OfShard, OfSession, Replayed, replay_of, outcomes_by, opening_home, home_before}
 use Rattle.world.specs.Run.{Run, Submission, Event, submission_of, run}
 use Rattle.world.specs.Histories.{batch_in, history_of}
 use Rattle.world.specs.Journals.{held_in, IsRunOf, IsThreadedRun}
@@ -72,18 +71,22 @@ pub record IsToldByJournals (top : TopologyValue) (journals : ℕ → List Actor
 
 -- ## The promises
 
+-- the data centre where a session submitted the operation of this number, by its journal: where the last move before left it
+abbrev pub home_by : TopologyValue → (ℕ → List ActorEvent) → ℕ → ℕ → ℕ
+home_by top journals node number = home_before (opening_home top node) (outcomes_by top node (journals node)) number
+
 -- a read of this session was answered, by its journal: with this effective time and this answer
 pub record IsAnsweredBy (top : TopologyValue) (journals : ℕ → List ActorEvent) (node : ℕ) (read : Read) (time : ℕ) (answer : List AnsweredRow) : Type 0 where
   pub number : ℕ
   pub op : op_numbered (journals node) number ≡ Some (op.Read read)
   pub ended : Contains (outcomes_by top node (journals node)) (record { number = number; outcome = outcome.Read time answer })
 
--- One table, by the journals alone: the answer of each answered read is the meaning of its request on the history of its
--- home, in whatever order, at its effective time.
+-- One table, by the journals alone: the answer of each answered read is the meaning of its request on the history of the data
+-- centre where it was submitted, in whatever order, at its effective time.
 abbrev pub JournalsShowOneTable : TopologyValue → (ℕ → List ActorEvent) → Type 0
 JournalsShowOneTable top journals =
     (node : ℕ) (read : Read) (time : ℕ) (answer : List AnsweredRow) (h : History) → is_session top node ≡ true
-    → IsAnsweredBy top journals node read time answer → IsPermutation h (history_by top journals (unwrap_or (home_of top node) 0))
+    → (k : IsAnsweredBy top journals node read time answer) → IsPermutation h (history_by top journals (home_by top journals node k.number))
     → answer ≡ meaning read h time
 
 -- The threads keep the promises: the journals are a run's, and in each run that has them reads show one table with their

@@ -252,7 +252,18 @@ impl Actors {
         }
     }
 
-    /// A session submits an operation, which is kept beside it.
+    /// Makes room for the entry of an operation that ends at its submission. Refused with `Memory` alone.
+    fn make_room(&mut self) -> Result<(), Fault>
+        ensures room { OnOk result (HasRoom self.new.transcript) }
+        ensures same { self.new ≡ record self.old { transcript = self.new.transcript } }
+        ensures told { self.new.transcript.items ≡ self.old.transcript.items }
+        ensures memory { IfErr result (λ e. e ≡ Fault.Memory) }
+    {
+        self.transcript.reserve(1)?;
+        Ok(())
+    }
+
+    /// A session submits an operation, which is kept beside it until it ends.
     pub fn submit(&mut self, session: Node, op: Op, kept: Op) -> Result<u64, (Fault, Op)>
         requires station { length self.old.shards.items ≤ session }
         requires same { kept ≡ op }
@@ -265,8 +276,28 @@ impl Actors {
         ensures back { IfErr result (λ r. r.1 ≡ op) }
         ensures topology { self.new.topology ≡ self.old.topology }
     {
+        match self.make_room() {
+            Ok(()) => self.accept(session, op, kept),
+            Err(_) => Err((self.submission_without_memory(session, &op), op)),
+        }
+    }
+
+    /// A session submits an operation, where there is room for its end.
+    fn accept(&mut self, session: Node, op: Op, kept: Op) -> Result<u64, (Fault, Op)>
+        requires station { length self.old.shards.items ≤ session }
+        requires same { kept ≡ op }
+        requires stations { session < length self.old.shards.items + length self.old.stations.items }
+        requires room { HasRoom self.old.transcript }
+        ensures ok { (top : TopologyValue) (events : List Event) → IsRunning top (run top events) self.old
+            → IfOk result (λ n. HasTaken top events (Submit session op) self.new × (n ≡ ((run top events).sessions session).count + 1)) }
+        ensures refused { (top : TopologyValue) (events : List Event) → IsRunning top (run top events) self.old
+            → IfErr result (λ r. IsRefusedAs (refusal_of top (run top events) (Submit session op)) r.0) }
+        ensures same { (top : TopologyValue) (events : List Event) → IsRunning top (run top events) self.old → OnErr result (IsRunning top (run top events) self.new) }
+        ensures back { IfErr result (λ r. r.1 ≡ op) }
+        ensures topology { self.new.topology ≡ self.old.topology }
+    {
         let place = usize::from(session.get()) - self.shards.len();
-        match self.stations[place].submit(op, kept, &mut self.network) {
+        match self.stations[place].submit(op, kept, &mut self.network, &mut self.transcript) {
             Ok(number) => Ok(number),
             Err(refused) => Err(refused),
         }

@@ -1,11 +1,15 @@
 //! Laws of runs, and worked runs as laws of the protocol's definitions.
-ghost use Rattle.std.specs.Prelude.{◌≡◌, ◌↔◌, List, [], ◌∷◌, ◌++◌, Some, None};
+ghost use Rattle.std.specs.Prelude.{◌≡◌, ◌↔◌, List, [], ◌∷◌, ◌++◌, slice_get, Some, None};
+ghost use Rattle.logical_time.specs.declared.fault.Fault.TheVariants as fault;
 ghost use Rattle.messages.specs.declared.outcome.Outcome.TheVariants as outcome;
 ghost use Rattle.store.specs.declared.part.Applied.{Applied};
 ghost use Rattle.messages.specs.declared.envelope.Envelope.{Envelope};
+ghost use Rattle.messages.specs.declared.body.Body.TheVariants.{DepCheck};
 ghost use Rattle.messages.specs.Topology.{TopologyValue};
+ghost use Rattle.messages.specs.Words.{envelope};
+ghost use Rattle.messages.specs.Session.{Moving};
 ghost use Rattle.world.specs.Run.{Run, Event, step, run};
-ghost use Rattle.world.specs.Refusals.{Refusal, refusal_of, HaveReasons, IsRun};
+ghost use Rattle.world.specs.Refusals.{Refusal, Refused, refusal_of, HaveReasons, IsRun};
 ghost use Rattle.world.specs.Histories.{history_of};
 ghost use Rattle.world.specs.Fresh.{IsKept, WasApplied};
 ghost use Rattle.world.specs.Quiet.{IsQuiet};
@@ -15,6 +19,7 @@ ghost use Rattle.world.specs.Worked.{operation, outcomes_of, shard_clocks, times
 ghost use Rattle.world.specs.Drains.{deliveries_left};
 ghost use Rattle.world.specs.WorkedDrains.{deliveries_taken, batch_for_both, two_reads_wait};
 ghost use Rattle.world.specs.Worked.{only_submitted, insert_and_read_back, messages_come_again, deletion_is_read, two_shard_write, read_asks_coordinator, second_round_collected, collected_while_waiting, horizon_at_effective_time, late_repeats, undecided_is_excluded, unseen_column_under_mark, concurrent_inserts_meet, older_stamp_arrives_late, dependency_holds_back, read_before_dependency, dependency_through_a_read, write_is_replicated};
+ghost use Rattle.world.specs.WorkedMoves.{move, homes_in, one_mover, session_has_moved, session_moves, session_moves_back, move_without_dependencies, two_writers, move_is_half_answered, move_waits_for_each, reads_behind_a_commit, reads_at_earlier_times};
 ghost use Rattle.world.specs.WorkedTimes.{two_shards_of_three, both_wait, one_is_let_go, reads_wait_at_two_times, times_waited, read_after_a_read, row_without_deletion, row_with_newer_deletion, row_with_older_deletion};
 
 /// The events that a run keeps, which are those that weren't refused, lead to the same run. Does nothing; its contract is
@@ -25,9 +30,9 @@ pub fn refused_events_are_left_out()
 {}
 
 /// An event is refused, for the reason that is told, exactly where a run doesn't add it; then the run stays as it was. Actors
-/// refuse submissions for an open operation and for what the planner refuses, and any event for a spent clock. The lists of
-/// events none of which is refused are those that a run keeps whole; what any run keeps is one, and one goes on by each event
-/// that isn't refused. Does nothing; its contract is the law.
+/// refuse submissions for an open operation and for what they ask, and any event for a spent clock. The lists of events none of
+/// which is refused are those that a run keeps whole; what any run keeps is one, and one goes on by each event that isn't
+/// refused. Does nothing; its contract is the law.
 #[tactic(auto, using(crate::proofs::Refusals::none_if_added, crate::proofs::Refusals::refused_stays, crate::proofs::Refusals::have_reasons, crate::proofs::Refusals::is_run_if_kept, crate::proofs::Refusals::kept_events_are_run, crate::proofs::Refusals::run_goes_on))]
 pub fn refusals_are_told()
     ensures added { (top : TopologyValue) (w : Run) (x : Event) → (refusal_of top w x ≡ None) ↔ ((step top w x).events ≡ w.events ++ x ∷ []) }
@@ -133,6 +138,43 @@ pub fn worked_replication()
     ensures coordinator_there { prepare_times write_is_replicated 2 ≡ 6 ∷ [] }
     ensures cohort_there { prepare_times write_is_replicated 3 ≡ 7 ∷ [] }
     ensures applied_there { times_applied write_is_replicated 3 ≡ 8 ∷ [] }
+{}
+
+/// A session moves to the data centre where its write arrives only then, and reads it there: the floor is the write's commit
+/// time there, its dependencies stay, and an entry is of the data centre where it was submitted. It moves back, to a lower
+/// floor and to reads at earlier times; an answer to its first move counts for nothing then. A move asks for each dependency
+/// in order, counts each answer once, and ends with the greatest commit time told, whichever came last; without dependencies
+/// it ends where it is submitted. What is read right after a move isn't older than the floor. Refused are a move while
+/// another operation is open, wherever to, one to no data centre and one to where the session is. Does nothing; its contract
+/// is the law.
+pub fn worked_moves()
+    ensures outcomes { outcomes_of session_moves 2 ≡ wrote 2 0 ∷ outcome.Moved 1 6 ∷ outcome.Read 6 (row key_b (column name_x 1 ∷ []) ∷ []) ∷ [] }
+    ensures homes { homes_in session_moves ≡ 0 ∷ 0 ∷ 1 ∷ [] }
+    ensures times { times_sent session_moves ≡ 1 ∷ 2 ∷ 2 ∷ 4 ∷ 6 ∷ 8 ∷ 9 ∷ [] }
+    ensures clocks { shard_clocks one_mover session_moves ≡ 2 ∷ 9 ∷ [] }
+    ensures commits_there { commit_times one_mover session_moves 1 ≡ 6 ∷ [] }
+    ensures valid { valid_in session_moves 6 ≡ 6 ∷ 9 ∷ [] }
+    ensures quiet { IsQuiet session_moves }
+    ensures depends_moved { (session_has_moved.sessions 2).dependencies ≡ record { txn = operation 2 1; shard = 0 } ∷ [] }
+    ensures depends { (session_moves.sessions 2).dependencies ≡ record { txn = operation 2 1; shard = 0 } ∷ [] }
+    ensures back { outcomes_of session_moves_back 2 ≡ wrote 2 0 ∷ outcome.Moved 1 6 ∷ outcome.Read 6 (row key_b (column name_x 1 ∷ []) ∷ []) ∷ outcome.Moved 0 2 ∷ outcome.Read 2 (row key_b (column name_x 1 ∷ []) ∷ []) ∷ [] }
+    ensures back_homes { homes_in session_moves_back ≡ 0 ∷ 0 ∷ 1 ∷ 1 ∷ 0 ∷ [] }
+    ensures at_once { outcomes_of move_without_dependencies 2 ≡ outcome.Moved 1 0 ∷ [] }
+    ensures at_once_sends { times_sent move_without_dependencies ≡ [] }
+    ensures first_check { slice_get move_is_half_answered.sent 8 ≡ Some (envelope 2 1 8 (DepCheck (operation 2 1) (operation 2 3))) }
+    ensures second_check { slice_get move_is_half_answered.sent 9 ≡ Some (envelope 2 1 8 (DepCheck (operation 3 1) (operation 2 3))) }
+    ensures half_left { (move_is_half_answered.sessions 2).current ≡ Moving 1 (record { txn = operation 2 1; shard = 0 } ∷ []) 12 }
+    ensures half { outcomes_of move_is_half_answered 2 ≡ wrote 3 0 ∷ outcome.Read 3 (row key_c (column name_y 1 ∷ []) ∷ []) ∷ [] }
+    ensures each { outcomes_of move_waits_for_each 2 ≡ wrote 3 0 ∷ outcome.Read 3 (row key_c (column name_y 1 ∷ []) ∷ []) ∷ outcome.Moved 1 12 ∷ [] }
+    ensures each_depends { (move_waits_for_each.sessions 2).dependencies ≡ record { txn = operation 2 1; shard = 0 } ∷ record { txn = operation 3 1; shard = 0 } ∷ [] }
+    ensures behind { outcomes_of reads_behind_a_commit 4 ≡ wrote 3 0 ∷ outcome.Moved 1 8 ∷ outcome.Read 8 (row key_a (column name_x 2 ∷ []) ∷ []) ∷ [] }
+    ensures behind_valid { valid_in reads_behind_a_commit 14 ≡ 0 ∷ 7 ∷ [] }
+    ensures behind_past { Past two_by_two reads_behind_a_commit (operation 4 3) (operation 4 1) }
+    ensures earlier { outcomes_of reads_at_earlier_times 2 ≡ outcome.Read 3 (row key_b (column name_x 2 ∷ []) ∷ []) ∷ outcome.Moved 1 2 ∷ outcome.Read 2 (row key_b (column name_x 2 ∷ []) ∷ []) ∷ [] }
+    ensures busy { refusal_of two_writers move_is_half_answered (move 2 1) ≡ Some (Refused fault.Busy) }
+    ensures busy_first { refusal_of two_writers move_is_half_answered (move 2 2) ≡ Some (Refused fault.Busy) }
+    ensures nowhere { refusal_of one_mover session_moves (move 2 2) ≡ Some (Refused fault.UnknownHome) }
+    ensures home_again { refusal_of one_mover session_moves (move 2 1) ≡ Some (Refused fault.AlreadyHome) }
 {}
 
 /// A session's earlier write is in the past of its next one, and so is what a session has read before it writes. The

@@ -29,8 +29,8 @@ pub use journals::{
 };
 pub use law::{
     refusals_are_told, refused_events_are_left_out, worked_collections, worked_dependencies,
-    worked_drains, worked_freshness, worked_inserts_that_meet, worked_pasts, worked_reads,
-    worked_replication, worked_times, worked_writes,
+    worked_drains, worked_freshness, worked_inserts_that_meet, worked_moves, worked_pasts,
+    worked_reads, worked_replication, worked_times, worked_writes,
 };
 pub use lookalikes::{
     lookalikes_of_drains_are_false, lookalikes_of_fresh_reads_are_false,
@@ -42,8 +42,8 @@ pub use lookalikes::{
 pub use promises::{
     clocks_count_events, completed_writes_are_in_the_history, deliveries_come_nearer, drains_end,
     each_shard_of_a_run_is_right, handled_envelopes_are_honest, histories_only_grow,
-    histories_tell_what_is_decided, later_commits_are_above_reads, quiet_means_done,
-    reads_are_fresh, reads_are_given_up_below_horizons, reads_show_one_table,
+    histories_tell_what_is_decided, later_commits_are_above_reads, moves_bring_their_past,
+    quiet_means_done, reads_are_fresh, reads_are_given_up_below_horizons, reads_show_one_table,
     reads_show_their_past, runs_can_be_looked_up, runs_only_grow, stamps_agree_everywhere,
     stamps_follow_causal_order, times_of_a_session_never_fall, transcript_tells_what_ended,
 };

@@ -22,13 +22,13 @@ pub struct Log {
     pub delivered: Delivered,
 }
 
-/// A copy of the batch of a write, which shares it; none of a read. Fails by memory alone.
+/// A copy of the batch of a write, which shares it; none of another operation. Fails by memory alone.
 fn batch_of(op: &Op) -> Result<Option<Shared<Batch>>, AllocError>
     ensures { IfOk result (λ batch. batch ≡ batch_in op.now) }
 {
     match op {
         Op::Batch(batch) => Ok(Some(batch.clone()?)),
-        Op::Read(_) => Ok(None),
+        Op::Read(_) | Op::Move { .. } => Ok(None),
     }
 }
 

@@ -4,11 +4,12 @@ ghost use Rattle.world.specs.Run.{run};
 ghost use Rattle.world.specs.Worked.{one_shard, home_is_nowhere, two_shards, three_sessions, two_centres, two_by_two, three_at_home, insert_then_read, submitted_twice, told_before_the_cohort, cohort_is_read, b_is_read, a_is_written, both_are_read, a_is_written_next};
 ghost use Rattle.world.specs.Worked.{insert_and_read_back, only_submitted, sent_to_itself, two_shard_write, second_round_collected, read_beside_a_write, write_after_the_answer, concurrent_inserts_meet, older_stamp_arrives_late, dependency_holds_back, deletion_is_read, write_is_replicated, collected_and_quiet};
 ghost use Rattle.world.specs.WorkedTimes.{two_shards_of_three};
+ghost use Rattle.world.specs.WorkedMoves.{session_moves, reads_at_earlier_times};
 ghost use Rattle.world.specs.WorkedDrains.{one_is_answered, batch_for_two, batch_is_prepared};
 ghost use Rattle.world.specs.Lookalikes.{LowerWithYesAbove, SendsAreLower, FewerWithoutWaiting, UnhandledAreEnough, ClocksAreBelowEvents};
 ghost use Rattle.world.specs.Lookalikes.{ReadsShowEarlierTable, ReadsShowLaterTable, ReadsShowFirstCentre, PastIsBelow, PastIsInFirstCentre, PastIsShown, CommitsAreAbove, LaterCommitsOfAnyRowAreAbove, LaterCommitsAreFarAbove, ReadsAreAboveTheirHome, CompletedWritesAreShown};
 ghost use Rattle.world.specs.Lookalikes.{ReadsAreNewer, OtherRowsAreFresh, OtherColumnsAreFresh, ReadsAreFreshAtDelivery, HistoriesNeverGrow, SubmittedBatchesHaveEntries, EntriesHaveOwnTimes, FirstCentreDecides, CommitTimesAgree, StampsAreCommitTimes, StampsAreBelowCommitTimes, CommitTimesFollowCauses, StampsTellCauses};
-ghost use Rattle.world.specs.Lookalikes.{WritesAreToldInFirstCentre, CompletedWritesAreEverywhere, TimesRise, TimesOfACentreNeverFall, SessionsEndOnce, SessionsSubmitOnce, NothingIsGivenUp, AllEndAsWrites, SubmissionsEnd, OutcomesAreListedNext, RunsKeepAllEvents, SentIsHonest, EnvelopesMakeShards, EachNodeIsRight, NearlyQuietMeansDone, QuietMeansDoneAnywhere, TablesAreEqualOnceOneIsDone, TablesAreEqualOneBefore, QuietMeansCompleted};
+ghost use Rattle.world.specs.Lookalikes.{WritesAreToldInFirstCentre, CompletedWritesAreEverywhere, TimesRise, TimesNeverFallAnywhere, SessionsStayAtHome, TimesOfACentreNeverFall, SessionsEndOnce, SessionsSubmitOnce, NothingIsGivenUp, AllEndAsWrites, SubmissionsEnd, OutcomesAreListedNext, RunsKeepAllEvents, SentIsHonest, EnvelopesMakeShards, EachNodeIsRight, NearlyQuietMeansDone, QuietMeansDoneAnywhere, TablesAreEqualOnceOneIsDone, TablesAreEqualOneBefore, QuietMeansCompleted};
 
 /// A read shows the table of no other time and of no other data centre; its past is committed by its effective time, not
 /// below it, and at home, and what is newer can hide it. Does nothing; its contract is the law.
@@ -61,11 +62,14 @@ pub fn lookalikes_of_stamps_are_false()
 {}
 
 /// A write is told as it is committed at home, before it is elsewhere; a session's times needn't rise, and those of several
-/// can fall; sessions end and submit more than one operation. Does nothing; its contract is the law.
+/// can fall, as do those of one that moves; sessions end and submit more than one operation, and not all in one home. Does
+/// nothing; its contract is the law.
 pub fn lookalikes_of_sessions_are_false()
     ensures told_in_first_centre { ¬ (WritesAreToldInFirstCentre two_centres concurrent_inserts_meet) }
     ensures everywhere { ¬ (CompletedWritesAreEverywhere three_at_home deletion_is_read) }
     ensures times_rise { ¬ (TimesRise insert_and_read_back) }
+    ensures times_anywhere { ¬ (TimesNeverFallAnywhere reads_at_earlier_times) }
+    ensures homes { ¬ (SessionsStayAtHome session_moves) }
     ensures times_of_a_centre { ¬ (TimesOfACentreNeverFall read_beside_a_write) }
     ensures ends_once { ¬ (SessionsEndOnce insert_and_read_back) }
     ensures submits_once { ¬ (SessionsSubmitOnce insert_and_read_back) }

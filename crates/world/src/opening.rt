@@ -57,11 +57,10 @@ fn open_station(alloc: Global, topology: &Topology, session: u16) -> Result<Stat
 {
     let node = topology.session_node(session);
     match topology.home_of(node) {
-        Some(home) => {
+        Some(_) => {
             let session = Session::new(alloc, topology, node)?;
             Ok(Station {
                 node,
-                home,
                 session,
                 op: None,
             })
@@ -145,7 +144,6 @@ pub fn close_stations(mut stations: Vec<Station>) {
     while let Some(station) = stations.pop() {
         let Station {
             node: _,
-            home: _,
             session,
             op: _,
         } = station;

@@ -15,7 +15,7 @@ ghost use Rattle.world.specs.Causes.{PastsAreDecided};
 ghost use Rattle.world.specs.Collected.{CollectedIsBelowHorizon, HorizonsAreOfCollections};
 ghost use Rattle.world.specs.Each.{EachShardIsRight};
 ghost use Rattle.world.specs.Entries.{TellsDecided, AreNamedOnce, CoordinatorsDecide, StampsAgree, WritesAreTold};
-ghost use Rattle.world.specs.Promises.{EntriesAreOfSubmissions, LaterCommitsAreAbove, OutcomesAreListed, RunsGrow, ReadsShowOneTable, AnswersStay, ReadsShowTheirPast, ReadsAreFresh, StampsFollowCauses, TimesNeverFall, SessionsStayAtHome, OperationsEndOnce, HistoriesGrow, HandledIsHonest};
+ghost use Rattle.world.specs.Promises.{EntriesAreOfSubmissions, LaterCommitsAreAbove, OutcomesAreListed, RunsGrow, ReadsShowOneTable, AnswersStay, ReadsShowTheirPast, MovesBringTheirPast, ReadsAreFresh, StampsFollowCauses, TimesNeverFall, HomesAreOfMoves, OperationsEndOnce, HistoriesGrow, HandledIsHonest};
 
 /// In every run each completed read is answered with the meaning of its request on one table: the history of its home at
 /// its effective time, as far as the run has come and however the history is ordered; and so it is at any later moment, of
@@ -30,6 +30,12 @@ pub fn reads_show_one_table()
 /// the law.
 pub fn reads_show_their_past()
     ensures { (top : TopologyValue) (events : List Event) → 0 < top.shards → ReadsShowTheirPast top (run top events) }
+{}
+
+/// In every run a session that moved brings its past: each write before the move, by sessions and by reads, is committed in
+/// the new home, with a commit time not above the floor that the move told. Does nothing; its contract is the law.
+pub fn moves_bring_their_past()
+    ensures { (top : TopologyValue) (events : List Event) → 0 < top.shards → MovesBringTheirPast top (run top events) }
 {}
 
 /// In every run each completed read shows, at each asked location, nothing older than what the asked shard had applied
@@ -93,26 +99,26 @@ pub fn stamps_follow_causal_order()
     ensures there { (top : TopologyValue) (events : List Event) → 0 < top.shards → PastsAreDecided top (run top events) }
 {}
 
-/// In every run each completed write stands in the history of its session's home, with the commit time and the stamp that
-/// the session was told. Does nothing; its contract is the law.
+/// In every run each completed write stands in the history of the data centre where it was submitted, with the commit time and
+/// the stamp that the session was told. Does nothing; its contract is the law.
 #[tactic(auto, using(crate::proofs::Laws::writes_in_runs))]
 pub fn completed_writes_are_in_the_history()
     ensures { (top : TopologyValue) (events : List Event) → 0 < top.shards → WritesAreTold top (run top events) }
 {}
 
 /// In every run each entry of the transcript is of an operation that its session submitted, with an outcome that fits it:
-/// a write is committed, a read is answered or given up; and the entries of a session are exactly what it finished, in that
-/// order. Does nothing; its contract is the law.
+/// a write is committed, a read is answered or given up, and a move is to where it was asked; and the entries of a session are
+/// exactly what it finished, in that order. Does nothing; its contract is the law.
 pub fn transcript_tells_what_ended()
     ensures entries { (top : TopologyValue) (events : List Event) → 0 < top.shards → EntriesAreOfSubmissions (run top events) }
     ensures outcomes { (top : TopologyValue) (events : List Event) → 0 < top.shards → OutcomesAreListed top (run top events) }
 {}
 
-/// In every run the commit and effective times of a session never fall while it stays in one home, as each does today, and
-/// each of its operations ends once. Does nothing; its contract is the law.
+/// In every run the commit and effective times of a session never fall while it stays in one home, its homes are those of its
+/// moves, and each of its operations ends once. Does nothing; its contract is the law.
 pub fn times_of_a_session_never_fall()
     ensures times { (top : TopologyValue) (events : List Event) → 0 < top.shards → TimesNeverFall (run top events) }
-    ensures homes { (top : TopologyValue) (events : List Event) → 0 < top.shards → SessionsStayAtHome (run top events) }
+    ensures homes { (top : TopologyValue) (events : List Event) → 0 < top.shards → HomesAreOfMoves top (run top events) }
     ensures once { (top : TopologyValue) (events : List Event) → 0 < top.shards → OperationsEndOnce (run top events) }
 {}
 

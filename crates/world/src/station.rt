@@ -20,8 +20,6 @@ use messages::{Envelope, Op, Outbox, Outcome};
 pub struct Station {
     /// Its node.
     pub node: Node,
-    /// Its home, as the number of a data centre.
-    pub home: u16,
     /// The session.
     pub session: Session,
     /// The operation that it submitted last, until that ends.
@@ -46,29 +44,30 @@ impl Station {
         ensures unsent { OnErr result (network.new.sent ≡ network.old.sent) }
         ensures untold { OnErr result (transcript.new.items ≡ transcript.old.items) }
     {
+        let home = self.session.home();
         match self.session.handle(envelope, network) {
             Ok(()) => {
                 let ended = self.session.take_answer();
-                self.tell(ended, transcript);
+                self.tell(home, ended, transcript);
                 Ok(())
             }
             Err(refused) => Err(refused.fault),
         }
     }
 
-    /// What the session finished, if it finished something, is added to the transcript. There is room.
-    fn tell(&mut self, ended: Option<(u64, Outcome)>, transcript: &mut Vec<Completed>)
+    /// What the session finished, if it finished something, is added to the transcript, of the home where it was submitted.
+    /// There is room.
+    fn tell(&mut self, home: u16, ended: Option<(u64, Outcome)>, transcript: &mut Vec<Completed>)
         requires { HasRoom transcript.old }
         ensures kept { self.new ≡ record self.old { op = kept_after self.old.op (finished_of ended) } }
-        ensures told { transcript.new.items ≡ with_ended transcript.old.items (ended_as self.old.node self.old.home self.old.op (finished_of ended)) }
+        ensures told { transcript.new.items ≡ with_ended transcript.old.items (ended_as self.old.node home self.old.op (finished_of ended)) }
     {
         match ended {
             None => {}
             Some((number, outcome)) => {
                 if let Some(op) = self.op.take() {
-                    let (node, home) = (self.node, self.home);
                     let ended = Completed {
-                        node,
+                        node: self.node,
                         number,
                         home,
                         op,
@@ -80,20 +79,32 @@ impl Station {
         }
     }
 
-    /// The session submits an operation, which is kept beside it; the answer is its number. Refused as the session refuses
-    /// it; then nothing changes, and the operation is handed back.
-    pub fn submit(&mut self, op: Op, kept: Op, network: &mut Outbox) -> Result<u64, (Fault, Op)>
+    /// The session submits an operation, which is kept beside it until it ends; the answer is its number. A move may end at
+    /// once: then it is added to the transcript, where there is room for it. Refused as the session refuses it; then nothing
+    /// changes, and the operation is handed back.
+    pub fn submit(
+        &mut self,
+        op: Op,
+        kept: Op,
+        network: &mut Outbox,
+        transcript: &mut Vec<Completed>,
+    ) -> Result<u64, (Fault, Op)>
+        requires { HasRoom transcript.old }
         ensures number { IfOk result (λ n. n ≡ self.old.session.count + 1) }
         ensures ok { (top : TopologyValue) (a : SessionState) → Represents self.old.session top a
-            → OnOk result (DidSubmitOf top (session_submit top self.old.session.node a op) kept self.old self.new network.old.sent network.new.sent) }
+            → OnOk result (DidSubmitOf top (session_submit top self.old.session.node a op) kept self.old self.new network.old.sent network.new.sent transcript.old.items transcript.new.items) }
         ensures refused { (top : TopologyValue) (a : SessionState) → Represents self.old.session top a
             → IfErr result (λ e. IsRefusalOf (session_submit top self.old.session.node a op) e.0) }
         ensures same { OnErr result (self.new ≡ self.old) }
         ensures unsent { OnErr result (network.new.sent ≡ network.old.sent) }
+        ensures untold { OnErr result (transcript.new.items ≡ transcript.old.items) }
         ensures back { IfErr result (λ e. e.1 ≡ op) }
     {
+        let home = self.session.home();
         let number = self.session.submit(op, network)?;
         self.op = Some(kept);
+        let ended = self.session.take_answer();
+        self.tell(home, ended, transcript);
         Ok(number)
     }
 }

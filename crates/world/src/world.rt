@@ -7,7 +7,7 @@ ghost use Rattle.world.specs.Causes.{PastsAreDecided};
 ghost use Rattle.world.specs.Collected.{CollectedIsBelowHorizon};
 ghost use Rattle.world.specs.Entries.{TellsDecided, StampsAgree, WritesAreTold};
 ghost use Rattle.world.specs.Fresh.{FirstRoundsAreWhole};
-ghost use Rattle.world.specs.Promises.{EntriesAreOfSubmissions, LaterCommitsAreAbove, OutcomesAreListed, ReadsShowOneTable, AnswersStay, ReadsShowTheirPast, ReadsAreFresh, StampsFollowCauses, TimesNeverFall, SessionsStayAtHome, OperationsEndOnce, HistoriesGrow};
+ghost use Rattle.world.specs.Promises.{EntriesAreOfSubmissions, LaterCommitsAreAbove, OutcomesAreListed, ReadsShowOneTable, AnswersStay, ReadsShowTheirPast, MovesBringTheirPast, ReadsAreFresh, StampsFollowCauses, TimesNeverFall, HomesAreOfMoves, OperationsEndOnce, HistoriesGrow};
 ghost use Rattle.world.specs.Settled.{Settled};
 ghost use Rattle.world.specs.Histories.{IsHistory};
 ghost use Rattle.world.specs.Quiet.{IsQuiet};
@@ -59,8 +59,9 @@ impl World {
 
     /// A session submits an operation; the answer is its number among the session's operations, from 1. That the node is a
     /// session's is the caller's condition. In the order of m log m for m mutations or keys, with the dependencies that a
-    /// batch takes along. Refused with `Busy` while another operation is open, then as `plan_batch` and `plan_read` refuse
-    /// it, then with `ClockSpent`, and with `Memory`; then nothing changes, and the operation is handed back.
+    /// batch or a move takes along; a move of a session that depends on nothing ends at once. Refused with `Busy` while another
+    /// operation is open, then as `plan_batch` and `plan_read` refuse it and a move with `UnknownHome` and `AlreadyHome`, then
+    /// with `ClockSpent`, and with `Memory`; then nothing changes, and the operation is handed back.
     #[tactic(auto, using(crate::proofs::Held::submission_holds, crate::proofs::Held::still_holds, crate::proofs::Held::still_logged, crate::proofs::Held::takes, crate::proofs::Held::station_from, crate::proofs::Held::station_below))]
     pub fn submit(&mut self, session: Node, op: Op) -> Result<u64, (Fault, Op)>
         requires { is_session self.old.top session ≡ true }
@@ -178,6 +179,8 @@ impl World {
         // that table holds each write before the read, and nothing older than the asked shards had applied
         ensures past { ReadsShowTheirPast self.now.top (run_of self.now) }
         ensures fresh { ReadsAreFresh self.now.top (run_of self.now) }
+        // each write before a move is committed in the new home by the floor that the move told
+        ensures arrived { MovesBringTheirPast self.now.top (run_of self.now) }
         ensures whole { FirstRoundsAreWhole self.now.top (run_of self.now) }
         // what is committed there later has a greater commit time
         ensures above { (before after : List Event) → self.now.events ≡ before ++ after → LaterCommitsAreAbove self.now.top before after }
@@ -188,10 +191,10 @@ impl World {
         ensures outcomes { OutcomesAreListed self.now.top (run_of self.now) }
         ensures once { OperationsEndOnce (run_of self.now) }
         // each completed write stands in the history of its home; the times of a session never fall while it stays in one home,
-        // as each does
+        // and its homes are those of its moves
         ensures told { WritesAreTold self.now.top (run_of self.now) }
         ensures times { TimesNeverFall (run_of self.now) }
-        ensures homes { SessionsStayAtHome (run_of self.now) }
+        ensures homes { HomesAreOfMoves self.now.top (run_of self.now) }
     {
         self.actors.transcript.as_slice()
     }

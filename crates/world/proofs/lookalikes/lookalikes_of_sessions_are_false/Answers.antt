@@ -1,4 +1,4 @@
-use Rattle.world.proofs.RefutedOutcomes.{everywhere, told_in_first_centre, times_rise, times_of_a_centre, ends_once, submits_once}
+use Rattle.world.proofs.RefutedOutcomes.{everywhere, told_in_first_centre, times_rise, times_anywhere, homes, times_of_a_centre, ends_once, submits_once}
 use Rattle.world.proofs.lookalikes.lookalikes_of_sessions_are_false.Goals as goal
 
 pub returns-clause-told_in_first_centre : goal.returns-clause-told_in_first_centre
@@ -18,3 +18,9 @@ returns-clause-submits_once c = submits_once
 
 pub returns-clause-everywhere : goal.returns-clause-everywhere
 returns-clause-everywhere c = everywhere
+
+pub returns-clause-times_anywhere : goal.returns-clause-times_anywhere
+returns-clause-times_anywhere c = times_anywhere
+
+pub returns-clause-homes : goal.returns-clause-homes
+returns-clause-homes c = homes

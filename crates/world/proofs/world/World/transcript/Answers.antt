@@ -21,3 +21,6 @@ returns-clause-given_up c = promised.given_up c.args.self.now (promised.is_of c.
 
 pub returns-clause-homes : goal.returns-clause-homes
 returns-clause-homes c = promised.homes c.args.self.now (promised.is_of c.args.self.now c.self.inside.actors c.self.inside.log c.self.invariant c.self.view_is)
+
+pub returns-clause-arrived : goal.returns-clause-arrived
+returns-clause-arrived c = promised.arrived c.args.self.now (promised.is_of c.args.self.now c.self.inside.actors c.self.inside.log c.self.invariant c.self.view_is)
