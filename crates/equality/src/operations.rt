@@ -13,7 +13,7 @@ fn is_batch(b: &Op, batch: &Batch) -> bool
 {
     match b {
         Op::Batch(its_batch) => same_batch(its_batch.get(), batch),
-        Op::Read(_) => false,
+        Op::Read(_) | Op::Move { .. } => false,
     }
 }
 
@@ -21,8 +21,17 @@ fn is_read(b: &Op, read: &Read) -> bool
     ensures { (result ≡ true) ↔ (b.now ≡ op.Read read.now) }
 {
     match b {
-        Op::Batch(_) => false,
         Op::Read(its_read) => same_read(its_read.get(), read),
+        Op::Batch(_) | Op::Move { .. } => false,
+    }
+}
+
+fn is_move(b: &Op, dc: u16) -> bool
+    ensures { (result ≡ true) ↔ (b.now ≡ op.Move dc) }
+{
+    match b {
+        Op::Move { dc: its_dc } => *its_dc == dc,
+        Op::Batch(_) | Op::Read(_) => false,
     }
 }
 
@@ -33,5 +42,6 @@ pub fn same_op(a: &Op, b: &Op) -> bool
     match a {
         Op::Batch(batch) => is_batch(b, batch.get()),
         Op::Read(read) => is_read(b, read.get()),
+        Op::Move { dc } => is_move(b, *dc),
     }
 }

@@ -1,8 +1,9 @@
--- A session's event leaves an operation open as it was, or ends it with an outcome; an accepted operation is open. So a machine
--- waits as its session does.
-use Rattle.std.proofs.Common.{◌≡◌, ◌∙◌, ℕ, Bool, true, false, Option, Some, None, Ok, ◌⊎◌, inl, inr, refl, sym, ap, subst}
+-- A session's event leaves an operation open as it was, or ends it with an outcome; an accepted operation is open, or ended at
+-- once. So a machine waits as its session does.
+use Rattle.std.proofs.Common.{◌≡◌, ◌∙◌, ℕ, Bool, true, false, List, [], ◌∷◌, Option, Some, None, Ok, ◌⊎◌, inl, inr, refl, sym, ap, subst}
 use Rattle.std.specs.Prelude.{not, IsSome}
 use Rattle.logical_time.specs.declared.fault.Fault.{Fault}
+use Rattle.logical_time.specs.Stamps.{WriterValue}
 use Rattle.messages.specs.declared.outcome.Outcome.{Outcome}
 use Rattle.messages.specs.declared.op.Op.{Op}
 use Rattle.messages.specs.declared.op.Op.TheVariants as op
@@ -11,7 +12,7 @@ use Rattle.messages.specs.declared.body.Body.{Body}
 use Rattle.messages.specs.Topology.{TopologyValue}
 use Rattle.messages.specs.Clock.{ticked, on_clock}
 use Rattle.messages.specs.Session.{SessionState, SessionStep, is_idle}
-use Rattle.messages.specs.Submitting.{begun, submit_fault, submit_if, session_submit}
+use Rattle.messages.specs.Submitting.{move_if, begun, submit_fault, submit_if, session_submit}
 use Rattle.messages.specs.SessionEvents.{heard, session_handle}
 use Rattle.messages.specs.Actors.{ActorState, OfShard, OfSession}
 use Rattle.client.specs.declared.kept.Kept.{Kept as SessionKept}
@@ -38,7 +39,7 @@ heard_goes top me n a from b none =
     })
 
 -- what is done on a clock, where there is one
-on_clock_is : {X : Type 0} (P : X → Type 0) (o : Option ℕ) (f : ℕ → X) (s : X) → ((n : ℕ) → P (f n)) → on_clock o f ≡ Ok s → P s
+pub on_clock_is : {X : Type 0} (P : X → Type 0) (o : Option ℕ) (f : ℕ → X) (s : X) → ((n : ℕ) → P (f n)) → on_clock o f ≡ Ok s → P s
 on_clock_is P None f s each q = absurd (cc)
 on_clock_is P (Some n) f s each q = let is : f n ≡ s = cc in subst P is (each n)
 
@@ -46,20 +47,25 @@ handle_goes : (top : TopologyValue) (me : ℕ) (a : SessionState) (e : Envelope)
 handle_goes top me a e s none q =
     on_clock_is (λ (z : SessionStep). Goes a z.state) (ticked a.clock e.time) (λ n. heard top me n a e.from e.body) s (λ n. heard_goes top me n a e.from e.body none) q
 
--- an accepted operation is open
-abbrev pub Opens : SessionState → Type 0
-Opens b = (b.untaken ≡ None) × (is_idle b.current ≡ false)
+-- an accepted operation is open; or it ended at once, with an outcome
+abbrev pub Begins : SessionState → Type 0
+Begins b = ((b.untaken ≡ None) × (is_idle b.current ≡ false)) ⊎ (IsSome b.untaken × (is_idle b.current ≡ true))
 
-begun_opens : (top : TopologyValue) (me n : ℕ) (a : SessionState) (o : Op) → Opens (begun top me n a o).state
-begun_opens top me n a (op.Batch batch) = (refl, refl)
-begun_opens top me n a (op.Read read) = (refl, refl)
-
-submit_opens : (top : TopologyValue) (me : ℕ) (a : SessionState) (o : Op) (s : SessionStep) → session_submit top me a o ≡ Ok s → Opens s.state
-submit_opens top me a o s q = by (submit_fault top a o) q
+begun_begins : (top : TopologyValue) (me n : ℕ) (a : SessionState) (o : Op) → Begins (begun top me n a o).state
+begun_begins top me n a (op.Batch batch) = inl (refl, refl)
+begun_begins top me n a (op.Read read) = inl (refl, refl)
+begun_begins top me n a (op.Move dc) = by a.dependencies
   where
-    by : (f : Option Fault) → submit_if f top me a o ≡ Ok s → Opens s.state
+    by : (ws : List WriterValue) → Begins (move_if ws top me n a dc).state
+    by [] = inr (refl, refl)
+    by (w ∷ ws) = inl (refl, refl)
+
+submit_begins : (top : TopologyValue) (me : ℕ) (a : SessionState) (o : Op) (s : SessionStep) → session_submit top me a o ≡ Ok s → Begins s.state
+submit_begins top me a o s q = by (submit_fault top a o) q
+  where
+    by : (f : Option Fault) → submit_if f top me a o ≡ Ok s → Begins s.state
     by (Some fault) h = absurd (cc)
-    by None h = on_clock_is (λ (z : SessionStep). Opens z.state) (ticked a.clock a.clock) (λ n. begun top me n a o) s (λ n. begun_opens top me n a o) h
+    by None h = on_clock_is (λ (z : SessionStep). Begins z.state) (ticked a.clock a.clock) (λ n. begun top me n a o) s (λ n. begun_begins top me n a o) h
 
 -- ## What the machine does then
 
@@ -90,8 +96,9 @@ module _ (k l m : SessionKept) (w v : Bool) (ended : Option (ℕ × Outcome)) (t
       (took.stays (unfinished l.untaken same.0) ∙ tied ∙ ap not (sym same.1) ∙ ap not (sym open_stays), none_kept)
   waits_on tied (inr over) = (took.over (finished_some l.untaken over.0) ∙ ap not (sym over.1) ∙ ap not (sym open_stays), none_kept)
 
-  waits_more : w ≡ true → Opens (state_of l) → WaitsAsOpen (actor.Session m v ended)
-  waits_more tied opens = (took.stays (unfinished l.untaken opens.0) ∙ tied ∙ ap not (sym opens.1) ∙ ap not (sym open_stays), none_kept)
+  waits_more : w ≡ true → Begins (state_of l) → WaitsAsOpen (actor.Session m v ended)
+  waits_more tied (inl opens) = (took.stays (unfinished l.untaken opens.0) ∙ tied ∙ ap not (sym opens.1) ∙ ap not (sym open_stays), none_kept)
+  waits_more tied (inr over) = (took.over (finished_some l.untaken over.0) ∙ ap not (sym over.1) ∙ ap not (sym open_stays), none_kept)
 
 -- it heard an envelope
 pub waits_heard : (e : Envelope) (top : TopologyValue) (node : ℕ) (k l m : SessionKept) (w v : Bool) (ended : Option (ℕ × Outcome)) → TookOutcome l m w v ended
@@ -106,7 +113,7 @@ waits_heard e top node k l m w v ended took a s tied q is now =
 pub waits_submitted : (o : Op) (top : TopologyValue) (node : ℕ) (l m : SessionKept) (v : Bool) (ended : Option (ℕ × Outcome)) → TookOutcome l m true v ended
     → (a : SessionState) (s : SessionStep) → session_submit top node a o ≡ Ok s → s.state ≡ state_of l → WaitsAsOpen (actor.Session m v ended)
 waits_submitted o top node l m v ended took a s q now =
-    waits_more l l m true v ended took refl (subst (λ (z : SessionState). Opens z) now (submit_opens top node a o s q))
+    waits_more l l m true v ended took refl (subst (λ (z : SessionState). Begins z) now (submit_begins top node a o s q))
 
 -- ## When it is free
 

@@ -1,13 +1,12 @@
 -- Operations are found in a journal by their numbers, and the entries of sessions follow one another.
 use Rattle.std.proofs.Common.{append-nil, ◌≡◌, ◌∙◌, ℕ, zero, suc, ◌+◌, ◌-◌, ◌<◌, ◌≤◌, List, [], ◌∷◌, ◌++◌, length, take, Option, Some, None, refl, sym, ap, arith, slice_get}
-use Rattle.std.specs.Prelude.{filter_map, flat_map, option_map, option_to_list, slice_index_or}
+use Rattle.std.specs.Prelude.{filter_map, flat_map, option_to_list, slice_index_or}
 use Rattle.std.specs.List.{range_with_len, cons_option}
 use Rattle.std.specs.Option.{unwrap_or}
 use Rattle.std.proofs.lemmas.List.{take_more, length-append}
 use Rattle.std.proofs.lemmas.List.Elements.{filter_map-append}
 use Rattle.std.proofs.lemmas.Option.{slice_get_within}
 use Rattle.messages.specs.declared.op.Op.{Op}
-use Rattle.messages.specs.declared.outcome.Outcome.{Outcome}
 use Rattle.messages.specs.declared.event.Event.{Event}
 use Rattle.messages.specs.Topology.{TopologyValue, session_node}
 use Rattle.actors.specs.Seats.{SeatValue}
@@ -16,7 +15,7 @@ use Rattle.world.specs.Threads.{op_in, op_numbered}
 use Rattle.world.proofs.Replacing.{item_at}
 use Rattle.threaded.specs.OneRun.{seat_of}
 use Rattle.threaded.specs.Submitted.{count_of}
-use Rattle.threaded.specs.Entries.{entry_by, entries_at, entries_after, entries_of}
+use Rattle.threaded.specs.Entries.{entries_at, entries_after, entries_of}
 
 -- ## Lists
 
@@ -88,23 +87,6 @@ not_found journal place passed zero le all lt = absurd (omega (arith, lt))
 not_found journal place passed (suc n) le all lt =
     let whole : passed ≡ length (filter_map op_in journal) = all ∙ ap count_of (all_taken journal place le) in
     none_past (filter_map op_in journal) n (omega (arith, whole, lt))
-
--- ## Entries
-
-module _ (node home : ℕ) (journal : List Event) (o : ℕ × Outcome) (os : List (ℕ × Outcome)) where
-  -- the entry of the first outcome
-  pub entry_first : (op : Op) → Some op ≡ op_numbered journal o.0
-      → filter_map (entry_by node home journal) (o ∷ os)
-      ≡ (let c : Completed = record { node = node; number = o.0; home = home; op = op; outcome = o.1 } in c) ∷ filter_map (entry_by node home journal) os
-  entry_first op is =
-      ap (λ p. cons_option (option_map (λ (x : Op). let c : Completed = record { node = node; number = o.0; home = home; op = x; outcome = o.1 } in c) p) (filter_map (entry_by node home journal) os))
-      (sym is)
-
-  -- it has none
-  pub no_entry : None ≡ op_numbered journal o.0 → filter_map (entry_by node home journal) (o ∷ os) ≡ filter_map (entry_by node home journal) os
-  no_entry is =
-      ap (λ p. cons_option (option_map (λ (x : Op). let c : Completed = record { node = node; number = o.0; home = home; op = x; outcome = o.1 } in c) p) (filter_map (entry_by node home journal) os))
-      (sym is)
 
 -- ## Sessions
 

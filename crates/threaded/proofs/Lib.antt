@@ -13,6 +13,7 @@ pub mod Seated
 pub mod Whole
 pub mod Promised
 pub mod Gathering
+pub mod Rising
 pub mod Told
 pub mod Asked
 pub mod AskedFor

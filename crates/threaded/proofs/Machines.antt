@@ -59,7 +59,7 @@ sessions_stay top me (x ∷ xs) a r h =
     let t = sessions_stay top me xs b.0 u.rest (ap (λ z. replay top me z xs) (sym b.1) ∙ u.replays) in
     (t.0, sym (ap (λ (z : Replayed). z.state) u.whole) ∙ t.1)
 
-opens_session : (top : TopologyValue) (node : ℕ) → is_shard top node ≡ false
+pub opens_session : (top : TopologyValue) (node : ℕ) → is_shard top node ≡ false
     → opening_actor top node ≡ OfSession (new_session (unwrap_or (home_of top node) 0))
 opens_session top node away = ap (λ b. if b then OfShard new_shard else OfSession (new_session (unwrap_or (home_of top node) 0))) away
 

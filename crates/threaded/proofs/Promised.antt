@@ -14,7 +14,7 @@ use Rattle.world.specs.Causes.{PastsAreDecided}
 use Rattle.world.specs.Collected.{CollectedIsBelowHorizon}
 use Rattle.world.specs.Entries.{TellsDecided, StampsAgree, WritesAreTold}
 use Rattle.world.specs.Fresh.{FirstRoundsAreWhole}
-use Rattle.world.specs.Promises.{EntriesAreOfSubmissions, OutcomesAreListed, ReadsShowOneTable, AnswersStay, LaterCommitsAreAbove, HistoriesGrow, ReadsShowTheirPast, ReadsAreFresh, StampsFollowCauses, TimesNeverFall, SessionsStayAtHome, OperationsEndOnce}
+use Rattle.world.specs.Promises.{EntriesAreOfSubmissions, OutcomesAreListed, ReadsShowOneTable, AnswersStay, LaterCommitsAreAbove, HistoriesGrow, ReadsShowTheirPast, ReadsAreFresh, StampsFollowCauses, TimesNeverFall, HomesAreOfMoves, OperationsEndOnce}
 use Rattle.world.specs.Histories.{IsHistory}
 use Rattle.world.specs.Journals.{held_in, IsRunOf}
 use Rattle.world.proofs.Promised as promised
@@ -57,7 +57,7 @@ module _ (top : TopologyValue) (seats : List SeatValue) (c : AreConcluded top se
   pub times : InEachRun top seats TimesNeverFall
   times events is = promised.times (record { top = top; events = events }) (is_of events)
 
-  pub homes : InEachRun top seats SessionsStayAtHome
+  pub homes : InEachRun top seats (HomesAreOfMoves top)
   homes events is = promised.homes (record { top = top; events = events }) (is_of events)
 
   pub once : InEachRun top seats OperationsEndOnce

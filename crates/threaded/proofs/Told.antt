@@ -1,61 +1,64 @@
 -- The entries that the seats of sessions tell are those of the run.
-use Rattle.std.proofs.Common.{◌≡◌, ◌∙◌, ℕ, zero, suc, ◌+◌, ◌<◌, true, List, [], ◌∷◌, ◌++◌, map, length, Some, inl, inr, refl, sym, ap, arith, eqb-true}
-use Rattle.std.specs.Prelude.{◌==◌, filter, filter_map, flat_map, option_map}
+use Rattle.std.proofs.Common.{◌≡◌, ◌∙◌, ℕ, zero, suc, ◌+◌, ◌<◌, true, false, List, [], ◌∷◌, ◌++◌, map, length, Some, inl, inr, refl, sym, ap, arith, eqb-true}
+use Rattle.std.specs.Prelude.{◌==◌, filter, flat_map, option_map}
 use Rattle.std.specs.List.{range_with_len, cons_option}
 use Rattle.std.proofs.lemmas.Bool.Decides.{nat_tests}
 use Rattle.messages.specs.declared.op.Op.{Op}
 use Rattle.messages.specs.declared.outcome.Outcome.{Outcome}
 use Rattle.messages.specs.declared.event.Event.{Event}
-use Rattle.messages.specs.Topology.{TopologyValue, is_topology, node_count, session_node}
+use Rattle.messages.specs.Topology.{TopologyValue, is_topology, is_shard, node_count, session_node}
+use Rattle.messages.specs.Actors.{opening_home, home_after, home_before}
 use Rattle.messages.specs.Session.{Finished}
 use Rattle.actors.specs.Seats.{SeatValue}
 use Rattle.world.specs.declared.completed.Completed.{Completed}
 use Rattle.world.specs.declared.run_event.RunEvent.{RunEvent}
 use Rattle.world.specs.Run.{Run, run}
-use Rattle.world.specs.Journals.{finished_as, ended_at, IsRunOf}
+use Rattle.world.specs.Journals.{journal_in, finished_as, ended_at, held_in, IsRunOf}
 use Rattle.world.specs.Threads.{op_numbered}
-use Rattle.world.proofs.Among.{Among, among_contains, contains_among, filter_only}
-use Rattle.world.proofs.Invariant.{home}
-use Rattle.world.proofs.Homes.{every_home}
+use Rattle.world.proofs.Among.{Among, among_contains, filter_only}
+use Rattle.world.proofs.Homes.{homes_are_of_moves}
 use Rattle.world.proofs.Laws.{entries_are_of_submissions}
+use Rattle.world.proofs.OwnJournals.{run_journals}
 use Rattle.world.proofs.Journaled.{operation_there}
 use Rattle.threaded.specs.Machines.{as_finished}
 use Rattle.threaded.specs.OneRun.{seat_of, journal_at, journal_of}
 use Rattle.threaded.specs.Concluded.{by_session}
-use Rattle.threaded.specs.Entries.{entry_by, entries_at, entries_of}
+use Rattle.threaded.specs.Entries.{entry_by, entries_from, entries_at, entries_of}
+use Rattle.threaded.proofs.Rising.{GoHome, outcomes_rise, go_home}
 
 -- ## One session
 
--- the entry is of this session, of its home, and of the operation of its number in this journal
-record IsOf (node dc : ℕ) (journal : List Event) (c : Completed) : Type 0 where
+-- the entry is of this session, and of the operation of its number in this journal
+record IsOf (node : ℕ) (journal : List Event) (c : Completed) : Type 0 where
   pub node_is : c.node ≡ node
-  pub home_is : c.home ≡ dc
   pub op_is : op_numbered journal c.number ≡ Some c.op
 
-module _ (node dc : ℕ) (journal : List Event) where
+module _ (node : ℕ) (journal : List Event) where
   -- the entry of an outcome is the one that the transcript has of it
-  entry_is : (o : ℕ × Outcome) (c : Completed) → as_finished o ≡ finished_as c → IsOf node dc journal c → entry_by node dc journal o ≡ Some c
-  entry_is o c same is =
+  entry_is : (home : ℕ) (o : ℕ × Outcome) (c : Completed) → as_finished o ≡ finished_as c → IsOf node journal c → c.home ≡ home → entry_by node home journal o ≡ Some c
+  entry_is home o c same is here =
       let number : o.0 ≡ c.number = ap (λ (f : Finished). f.number) same in
       let outcome : o.1 ≡ c.outcome = ap (λ (f : Finished). f.outcome) same in
       let found : op_numbered journal o.0 ≡ Some c.op = ap (op_numbered journal) number ∙ is.op_is in
-      ap (option_map (λ (op : Op). let r : Completed = record { node = node; number = o.0; home = dc; op = op; outcome = o.1 } in r)) found
-      ∙ ap (λ (n : ℕ). let r : Completed = record { node = n; number = o.0; home = dc; op = c.op; outcome = o.1 } in Some r) (sym is.node_is)
-      ∙ ap (λ (n : ℕ). let r : Completed = record { node = c.node; number = n; home = dc; op = c.op; outcome = o.1 } in Some r) number
-      ∙ ap (λ (n : ℕ). let r : Completed = record { node = c.node; number = c.number; home = n; op = c.op; outcome = o.1 } in Some r) (sym is.home_is)
+      ap (option_map (λ (op : Op). let r : Completed = record { node = node; number = o.0; home = home; op = op; outcome = o.1 } in r)) found
+      ∙ ap (λ (n : ℕ). let r : Completed = record { node = n; number = o.0; home = home; op = c.op; outcome = o.1 } in Some r) (sym is.node_is)
+      ∙ ap (λ (n : ℕ). let r : Completed = record { node = c.node; number = n; home = home; op = c.op; outcome = o.1 } in Some r) number
+      ∙ ap (λ (n : ℕ). let r : Completed = record { node = c.node; number = c.number; home = n; op = c.op; outcome = o.1 } in Some r) (sym here)
       ∙ ap (λ (z : Outcome). let r : Completed = record { node = c.node; number = c.number; home = c.home; op = c.op; outcome = z } in Some r) outcome
 
   -- so it is of all outcomes, one after the other
-  entries_agree : (os : List (ℕ × Outcome)) (cs : List Completed) → map as_finished os ≡ map finished_as cs → ((c : Completed) → Among c cs → IsOf node dc journal c)
-      → filter_map (entry_by node dc journal) os ≡ cs
-  entries_agree [] [] same each = refl
-  entries_agree [] (c ∷ cs) same each = absurd (cc)
-  entries_agree (o ∷ os) [] same each = absurd (cc)
-  entries_agree (o ∷ os) (c ∷ cs) same each =
+  entries_agree : (home : ℕ) (os : List (ℕ × Outcome)) (cs : List Completed) → map as_finished os ≡ map finished_as cs
+      → ((c : Completed) → Among c cs → IsOf node journal c) → GoHome home cs → entries_from node home journal os ≡ cs
+  entries_agree home [] [] same each homes = refl
+  entries_agree home [] (c ∷ cs) same each homes = absurd (cc)
+  entries_agree home (o ∷ os) [] same each homes = absurd (cc)
+  entries_agree home (o ∷ os) (c ∷ cs) same each homes =
       let first : as_finished o ≡ finished_as c = cc in
       let rest : map as_finished os ≡ map finished_as cs = cc in
-      ap (λ p. cons_option p (filter_map (entry_by node dc journal) os)) (entry_is o c first (each c (inl refl)))
-      ∙ ap (λ l. c ∷ l) (entries_agree os cs rest (λ d m. each d (inr m)))
+      let outcome : o.1 ≡ c.outcome = ap (λ (f : Finished). f.outcome) first in
+      ap (λ p. cons_option p (entries_from node (home_after home o.1) journal os)) (entry_is home o c first (each c (inl refl)) homes.0)
+      ∙ ap (λ (z : Outcome). c ∷ entries_from node (home_after home z) journal os) outcome
+      ∙ ap (λ l. c ∷ l) (entries_agree (home_after home c.outcome) os cs rest (λ d m. each d (inr m)) homes.1)
 
 -- ## All sessions
 
@@ -73,9 +76,12 @@ module _ (top : TopologyValue) (seats : List SeatValue) (events : List RunEvent)
   abbrev w : Run
   w = run top events
 
+  -- what the transcript has of a session
+  abbrev of_node : ℕ → List Completed
+  of_node node = filter (λ (c : Completed). c.node == node) w.transcript
+
   -- each entry of a session in the transcript is of the operation in its seat's journal
-  own_entry : (node : ℕ) (s : SeatValue) → seat_of seats node ≡ Some s → (c : Completed) → Among c (filter (λ (z : Completed). z.node == node) w.transcript)
-      → IsOf node (home top node) s.journal c
+  own_entry : (node : ℕ) (s : SeatValue) → seat_of seats node ≡ Some s → (c : Completed) → Among c (of_node node) → IsOf node s.journal c
   own_entry node s found c m =
       let (listed, here) = filter_only (λ (z : Completed). z.node == node) w.transcript c m in
       let of = entries_are_of_submissions top events some c (among_contains c w.transcript listed) in
@@ -84,7 +90,6 @@ module _ (top : TopologyValue) (seats : List SeatValue) (events : List RunEvent)
       let session : b.session ≡ node = of.session ∙ mine in
       record {
         node_is = mine;
-        home_is = sym of.home ∙ (every_home top events).submitted b (contains_among b w.submitted of.submitted) ∙ ap (home top) session;
         op_is =
             ap (λ o. op_numbered (journal_at o) c.number) (sym found)
             ∙ ap (op_numbered (journal_of seats node)) (sym of.number)
@@ -93,11 +98,22 @@ module _ (top : TopologyValue) (seats : List SeatValue) (events : List RunEvent)
             ∙ ap Some of.op;
       }
 
-  entries_here : (node : ℕ) (s : SeatValue) → seat_of seats node ≡ Some s → map as_finished s.outcomes ≡ ended_at w node
-      → entries_at top node (seat_of seats node) ≡ filter (λ (c : Completed). c.node == node) w.transcript
-  entries_here node s found ended =
-      ap (entries_at top node) found
-      ∙ entries_agree node (home top node) s.journal s.outcomes (filter (λ (c : Completed). c.node == node) w.transcript) ended (own_entry node s found)
+  -- and of the home where the moves before it left the session
+  own_home : (node : ℕ) (c : Completed) → Among c (of_node node) → c.home ≡ home_before (opening_home top node) (ended_at w node) c.number
+  own_home node c m =
+      let (listed, here) = filter_only (λ (z : Completed). z.node == node) w.transcript c m in
+      homes_are_of_moves top events some c (among_contains c w.transcript listed)
+      ∙ ap (λ (n : ℕ). home_before (opening_home top n) (ended_at w n) c.number) (eqb-true c.node node here)
+
+  go_homes : (node : ℕ) → is_shard top node ≡ false → GoHome (opening_home top node) (of_node node)
+  go_homes node away =
+      go_home (opening_home top node) 0 (of_node node)
+      (outcomes_rise top node (journal_in w node) (held_in top w node) away ((run_journals top events some).each node)) (own_home node)
+
+  entries_here : (node : ℕ) (s : SeatValue) → is_shard top node ≡ false → seat_of seats node ≡ Some s → map as_finished s.outcomes ≡ ended_at w node
+      → entries_at top node (seat_of seats node) ≡ of_node node
+  entries_here node s away found ended =
+      ap (entries_at top node) found ∙ entries_agree node s.journal (opening_home top node) s.outcomes (of_node node) ended (own_entry node s found) (go_homes node away)
 
 pub entries_are : (top : TopologyValue) (seats : List SeatValue) → is_topology top.dcs top.shards top.homes ≡ true → (events : List RunEvent) → IsRunOf top (journal_of seats) events
     → ((node : ℕ) → node < node_count top → (s : SeatValue) × (seat_of seats node ≡ Some s))
@@ -114,5 +130,6 @@ entries_are top seats sound events is each outcomes =
     of_session i lt =
         let node = session_node top i in
         let below : node < node_count top = omega (arith, lt) in
+        let away : is_shard top node ≡ false = grind (arith, nat_tests) in
         let seat = each node below in
-        entries_here top seats events (some_shards top sound) is node seat.0 seat.1 (outcomes node seat.0 below seat.1)
+        entries_here top seats events (some_shards top sound) is node seat.0 away seat.1 (outcomes node seat.0 below seat.1)

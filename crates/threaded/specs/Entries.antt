@@ -1,11 +1,11 @@
 -- What the seats of sessions tell of the operations that ended.
-use Rattle.std.specs.Prelude.{ℕ, ◌-◌, List, [], filter_map, flat_map, length, Option, Some, None, option_map}
-use Rattle.std.specs.List.{range_with_len}
-use Rattle.std.specs.Option.{unwrap_or}
+use Rattle.std.specs.Prelude.{ℕ, ◌-◌, List, [], ◌∷◌, flat_map, length, Option, Some, None, option_map}
+use Rattle.std.specs.List.{range_with_len, cons_option}
 use Rattle.messages.specs.declared.op.Op.{Op}
 use Rattle.messages.specs.declared.outcome.Outcome.{Outcome}
 use Rattle.messages.specs.declared.event.Event.{Event}
-use Rattle.messages.specs.Topology.{TopologyValue, session_node, home_of}
+use Rattle.messages.specs.Topology.{TopologyValue, session_node}
+use Rattle.messages.specs.Actors.{opening_home, home_after}
 use Rattle.actors.specs.Seats.{SeatValue}
 use Rattle.world.specs.declared.completed.Completed.{Completed}
 use Rattle.world.specs.Threads.{op_numbered}
@@ -16,15 +16,21 @@ use Rattle.threaded.specs.OneRun.{seat_of}
 abbrev pub completed_of : Ended → Completed
 completed_of e = record { node = e.node; number = e.number; home = e.home; op = e.op.now; outcome = e.outcome.now }
 
--- the entry of an outcome, which stands with the number of its operation: that is the one of this number in the session's journal
+-- the entry of an outcome, which stands with the number of its operation: that is the one of this number in the session's
+-- journal, submitted at this home
 abbrev pub entry_by : ℕ → ℕ → List Event → (ℕ × Outcome) → Option Completed
 entry_by node home journal o =
     option_map (λ (op : Op). record { node = node; number = o.0; home = home; op = op; outcome = o.1 }) (op_numbered journal o.0)
 
+-- the entries of a session's outcomes, where this is its home before the first: each move takes it to its new home
+abbrev pub entries_from : ℕ → ℕ → List Event → List (ℕ × Outcome) → List Completed
+entries_from node home journal [] = []
+entries_from node home journal (o ∷ os) = cons_option (entry_by node home journal o) (entries_from node (home_after home o.1) journal os)
+
 -- the entries of a session's seat, in the order of their outcomes
 abbrev pub entries_at : TopologyValue → ℕ → Option SeatValue → List Completed
 entries_at top node None = []
-entries_at top node (Some s) = filter_map (entry_by node (unwrap_or (home_of top node) 0) s.journal) s.outcomes
+entries_at top node (Some s) = entries_from node (opening_home top node) s.journal s.outcomes
 
 -- the entries of the sessions after the first so many, by their nodes
 abbrev pub entries_after : TopologyValue → List SeatValue → ℕ → List Completed

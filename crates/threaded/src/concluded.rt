@@ -5,7 +5,7 @@ ghost use Rattle.world.specs.Collected.{CollectedIsBelowHorizon};
 ghost use Rattle.world.specs.Entries.{TellsDecided, StampsAgree, WritesAreTold};
 ghost use Rattle.world.specs.Fresh.{FirstRoundsAreWhole};
 ghost use Rattle.world.specs.Quiet.{IsQuiet};
-ghost use Rattle.world.specs.Promises.{EntriesAreOfSubmissions, OutcomesAreListed, ReadsShowOneTable, AnswersStay, LaterCommitsAreAbove, HistoriesGrow, ReadsShowTheirPast, ReadsAreFresh, StampsFollowCauses, TimesNeverFall, SessionsStayAtHome, OperationsEndOnce};
+ghost use Rattle.world.specs.Promises.{EntriesAreOfSubmissions, OutcomesAreListed, ReadsShowOneTable, AnswersStay, LaterCommitsAreAbove, HistoriesGrow, ReadsShowTheirPast, ReadsAreFresh, StampsFollowCauses, TimesNeverFall, HomesAreOfMoves, OperationsEndOnce};
 ghost use Rattle.world.specs.Histories.{IsHistory};
 ghost use Rattle.threaded.specs.OneRun.{seat_of};
 ghost use Rattle.threaded.specs.Concluded.{InEachRun, InEachCut, AreConcluded, by_session};
@@ -93,8 +93,8 @@ impl Concluded {
     pub fn transcript(&self) -> AllEnded<'_>
         ensures run { AreConcluded self.now.top self.now.seats }
         ensures listed { InEachRun self.now.top self.now.seats (λ w. result ≡ by_session self.now.top w.transcript) }
-        // whatever the threads did, each read is answered with the meaning of its request on one table: its home's history at
-        // its effective time
+        // whatever the threads did, each read is answered with the meaning of its request on one table: the history, at its
+        // effective time, of the data centre where it was submitted
         ensures one_table { InEachRun self.now.top self.now.seats (ReadsShowOneTable self.now.top) }
         // now and at each moment before
         ensures stays { InEachCut self.now.top self.now.seats (AnswersStay self.now.top) }
@@ -110,11 +110,11 @@ impl Concluded {
         ensures entries { InEachRun self.now.top self.now.seats EntriesAreOfSubmissions }
         ensures outcomes { InEachRun self.now.top self.now.seats (OutcomesAreListed self.now.top) }
         ensures once { InEachRun self.now.top self.now.seats OperationsEndOnce }
-        // each completed write stands in the history of its home; the times of a session never fall while it stays in one home,
-        // as each does
+        // each completed write stands in the history of its home; the times of a session never fall while it stays in one home;
+        // and it changes its home by its moves alone
         ensures told { InEachRun self.now.top self.now.seats (WritesAreTold self.now.top) }
         ensures times { InEachRun self.now.top self.now.seats TimesNeverFall }
-        ensures homes { InEachRun self.now.top self.now.seats SessionsStayAtHome }
+        ensures homes { InEachRun self.now.top self.now.seats (HomesAreOfMoves self.now.top) }
     {
         AllEnded::over(&self.topology, self.seats.as_slice())
     }

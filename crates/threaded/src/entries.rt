@@ -1,8 +1,9 @@
 //! The entries of a transcript, lent from the seats of sessions.
-ghost use Rattle.std.specs.Prelude.{◌≡◌, ◌<◌, ◌∷◌, [], ℕ, true, List, map, take, filter_map, Some, None, option_copied, IfSome, IfNone};
+ghost use Rattle.std.specs.Prelude.{◌≡◌, ◌<◌, ◌∷◌, [], ℕ, true, List, map, take, Some, None, option_copied, IfSome, IfNone};
 ghost use Rattle.std.specs.Iterator.{YieldsFirstBy, item_count};
 ghost use Rattle.std.specs.Option.{unwrap_or};
 ghost use Rattle.messages.specs.Topology.{TopologyValue, is_topology, node_count};
+ghost use Rattle.messages.specs.Actors as spec;
 ghost use Rattle.actors.specs.Seats.{SeatValue};
 ghost use Rattle.world.specs.declared.run_event.RunEvent.{RunEvent};
 ghost use Rattle.world.specs.Run.{run};
@@ -11,7 +12,7 @@ ghost use Rattle.world.specs.Threads as threads;
 ghost use Rattle.threaded.specs.Machines.{as_finished};
 ghost use Rattle.threaded.specs.OneRun.{seat_of, journal_of};
 ghost use Rattle.threaded.specs.Concluded.{by_session};
-ghost use Rattle.threaded.specs.Entries.{completed_of, entry_by, entries_at, entries_of};
+ghost use Rattle.threaded.specs.Entries.{completed_of, entries_from, entries_at, entries_of};
 ghost use Rattle.threaded.specs.Submitted.{count_of, IsFound};
 
 use crate::actor::Actor;
@@ -119,7 +120,7 @@ pub struct Ended<'a> {
     pub node: Node,
     /// Its number among the session's operations, from 1.
     pub number: u64,
-    /// The home of the session.
+    /// The data centre where it was submitted: the home that a move leaves.
     pub home: u16,
     /// What was asked.
     pub op: &'a Op,
@@ -127,28 +128,39 @@ pub struct Ended<'a> {
     pub outcome: &'a Outcome,
 }
 
+/// The home of a session after an outcome: a move's is the new one.
+fn home_after(home: u16, outcome: &Outcome) -> u16
+    ensures { result ≡ spec.home_after home outcome.now }
+{
+    match outcome {
+        Outcome::Moved { dc, floor: _ } => *dc,
+        Outcome::Wrote { .. } | Outcome::Read { .. } | Outcome::Collected => home,
+    }
+}
+
 /// The operations of a session that ended and are still to come, in the order of their outcomes.
 #[derive(Drop)]
 struct OfSession<'a> {
     node: Node,
+    /// The home after the outcomes that were passed.
     home: u16,
     search: Search<'a>,
     outcomes: &'a [(u64, Outcome)],
 }
 
 impl<'a> Model for OfSession<'a> {
-    ghost use Rattle.std.specs.Prelude.{List, filter_map};
+    ghost use Rattle.std.specs.Prelude.{List};
     ghost use Rattle.world.specs.declared.completed.Completed.{Completed};
-    ghost use Rattle.threaded.specs.Entries.{entry_by};
+    ghost use Rattle.threaded.specs.Entries.{entries_from};
 
     ghost Value = { List Completed };
 
-    ghost view = { λ s. filter_map (entry_by s.node s.home s.search) s.outcomes.now };
+    ghost view = { λ s. entries_from s.node s.home s.search s.outcomes.now };
 }
 
 impl<'a> OfSession<'a> {
     fn new(node: Node, home: u16, seat: &'a Seat<Actor>) -> OfSession<'a>
-        ensures { result ≡ filter_map (entry_by node home seat.now.journal) seat.now.outcomes }
+        ensures { result ≡ entries_from node home seat.now.journal seat.now.outcomes }
     {
         OfSession {
             node,
@@ -164,12 +176,14 @@ impl<'a> OfSession<'a> {
         ensures still { IfNone result (self.new ≡ []) }
     {
         while let Some((first, others)) = self.outcomes.split_first() {
+            let home = self.home;
+            self.home = home_after(home, &first.1);
             self.outcomes = others;
             if let Some(op) = self.search.find(first.0) {
                 return Some(Ended {
                     node: self.node,
                     number: first.0,
-                    home: self.home,
+                    home,
                     op,
                     outcome: &first.1,
                 });

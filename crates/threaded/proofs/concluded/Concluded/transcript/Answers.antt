@@ -2,7 +2,7 @@ use Rattle.std.proofs.Common.{arith, subst}
 use Rattle.threaded.proofs.Whole.{are_told}
 use Rattle.threaded.proofs.Promised.{fresh, given_up, entries, outcomes, once, told, one_table, stays, past, whole, above, times, homes}
 use Rattle.world.specs.Fresh.{FirstRoundsAreWhole}
-use Rattle.world.specs.Promises.{AnswersStay, LaterCommitsAreAbove, ReadsShowOneTable, ReadsShowTheirPast, TimesNeverFall, SessionsStayAtHome}
+use Rattle.world.specs.Promises.{AnswersStay, LaterCommitsAreAbove, ReadsShowOneTable, ReadsShowTheirPast, TimesNeverFall, HomesAreOfMoves}
 use Rattle.threaded.specs.Concluded.{InEachRun, InEachCut, ConcludedValue}
 use Rattle.threaded.proofs.concluded.Concluded.transcript.Goals as goal
 
@@ -28,7 +28,7 @@ returns-clause-times c =
 
 pub returns-clause-homes : goal.returns-clause-homes
 returns-clause-homes c =
-    subst (λ (v : ConcludedValue). InEachRun v.top v.seats SessionsStayAtHome) c.self.view_is
+    subst (λ (v : ConcludedValue). InEachRun v.top v.seats (HomesAreOfMoves v.top)) c.self.view_is
     (homes c.self.inside.topology c.self.inside.seats.items c.self.invariant)
 
 pub returns-clause-stays : goal.returns-clause-stays
