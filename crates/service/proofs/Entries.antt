@@ -3,8 +3,7 @@ use Rattle.std.proofs.Common.{◌≡◌, ◌∙◌, ℕ, ◌+◌, ◌<◌, Bool,
 use Rattle.std.specs.Prelude.{if◌then◌else◌}
 use Rattle.logical_time.specs.declared.fault.Fault.{Fault}
 use Rattle.messages.specs.declared.op.Op.{Op}
-use Rattle.std.specs.Option.{unwrap_or}
-use Rattle.messages.specs.Topology.{TopologyValue, is_session, home_of}
+use Rattle.messages.specs.Topology.{TopologyValue, is_session}
 use Rattle.messages.specs.Clock.{ticked, on_clock}
 use Rattle.messages.specs.Session.{SessionState}
 use Rattle.messages.specs.Submitting.{begun, submit_fault, submit_if as submitted_if, session_submit}
@@ -17,11 +16,11 @@ use Rattle.world.proofs.Among.{Among, contains_among, among_last, append_first}
 use Rattle.world.proofs.Facts.{txn_of}
 use Rattle.world.proofs.Grown.{runs_only_grow}
 use Rattle.world.proofs.Laws.{entries_are_of_submissions}
-use Rattle.world.proofs.Opened.{opens}
-use Rattle.world.proofs.Homes.{every_home}
+use Rattle.world.proofs.Begun.{begins}
+use Rattle.world.proofs.Homes.{homes_are_of_moves}
 use Rattle.world.proofs.Runs.{every_run, run_after}
 use Rattle.service.specs.Port.{IsEndOf}
-use Rattle.service.proofs.Homes.{has_home}
+use Rattle.service.specs.Meaning.{home_in}
 
 -- the operation is submitted, as this one of the session
 pub record IsListed (w : Run) (session number : ℕ) (o : Op) : Type 0 where
@@ -53,10 +52,6 @@ module _ (top : TopologyValue) (w : Run) (node : ℕ) (o : Op) where
   as_session true is none = (is, none)
   as_session false is none = absurd cc
 
-  -- what isn't refused is submitted by a session
-  pub by_session : refusal_of top w (Submit node o) ≡ None → is_session top node ≡ true
-  by_session none = (as_session (is_session top node) refl none).0
-
   pub listed_then : refusal_of top w (Submit node o) ≡ None → IsListed (step top w (Submit node o)) node (a.count + 1) o
   listed_then none =
       let here = as_session (is_session top node) refl none in
@@ -66,7 +61,7 @@ module _ (top : TopologyValue) (w : Run) (node : ℕ) (o : Op) where
       ap (λ b. submit_if b top w node o) here.0 ∙ ap (λ r. after_submission r w node o) took.1 in
       let b : Submission = record { session = node; number = s.state.count; home = a.home; time = s.state.clock; op = o; dependencies = a.dependencies } in
       subst (λ v. IsListed v node (a.count + 1) o) (sym is)
-      (record { submission = b; among = among_last b w.submitted; session_is = refl; numbered = (opens top node took.0 a o).1; op = refl })
+      (record { submission = b; among = among_last b w.submitted; session_is = refl; numbered = (begins top node took.0 a o).count; op = refl })
 
 named : (b c : Submission) (session number : ℕ) → b.session ≡ session → b.number ≡ number → c.session ≡ session → c.number ≡ number → txn_of b ≡ txn_of c
 named b c session number p q s t = cc
@@ -100,11 +95,10 @@ module _ (top : TopologyValue) (some : 0 < top.shards) where
       (named of.submission l.submission session number (of.session ∙ is.node) (of.number ∙ is.numbered) l.session_is l.numbered) in
       sym of.op ∙ (ap (λ (b : Submission). b.op) same ∙ l.op)
 
-  -- an entry of the session is of its home
-  pub own_home : (events : List Event) (session number : ℕ) (c : Completed) → is_session top session ≡ true → IsEndOf (run top events) session number c → home_of top session ≡ Some c.home
-  own_home events session number c here is =
-      let of = entries_are_of_submissions top events some c is.listed in
-      let at : c.home ≡ unwrap_or (home_of top session) 0 =
-      sym of.home ∙ ((every_home top events).submitted of.submission (contains_among of.submission (run top events).submitted of.submitted)
-      ∙ ap (λ n. unwrap_or (home_of top n) 0) (of.session ∙ is.node)) in
-      has_home top session here ∙ ap Some (sym at)
+  -- an entry of the session is of the data centre where its operation was submitted
+  pub own_home : (events : List Event) (session number : ℕ) (c : Completed) → IsEndOf (run top events) session number c → c.home ≡ home_in top (run top events) session number
+  own_home events session number c is =
+      let w = run top events in
+      homes_are_of_moves top events some c is.listed
+      ∙ ap (λ n. home_in top w n c.number) is.node
+      ∙ ap (home_in top w session) is.numbered

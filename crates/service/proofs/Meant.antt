@@ -21,12 +21,12 @@ use Rattle.world.specs.Journals.{IsBeginning}
 use Rattle.world.specs.Promises.{Fits}
 use Rattle.world.proofs.Among.{among_contains, contains_among, append_first, Among}
 use Rattle.world.proofs.Grown.{runs_only_grow}
-use Rattle.world.proofs.Laws.{entries_are_of_submissions, reads_show_one_table, writes_in_runs}
+use Rattle.world.proofs.Laws.{entries_are_of_submissions, moves_bring_their_past, reads_show_one_table, writes_in_runs}
 use Rattle.workload.specs.Drain.{IsDrained, IsDrainedUntil}
 use Rattle.workload.specs.Simulation.{deliveries}
 use Rattle.service.specs.Port.{IsReady, IsSubmitted, IsTurnedAway, IsEndOf, EndedWith, IsHandled, Asks}
 use Rattle.service.specs.Meaning.{Tells, IsMeant, Replies}
-use Rattle.service.proofs.Entries.{IsListed, by_session, listed_still, listed_after, own_op, own_home}
+use Rattle.service.proofs.Entries.{IsListed, listed_still, listed_after, own_op, own_home}
 
 -- ## Events only come
 
@@ -78,6 +78,12 @@ module _ (top : TopologyValue) (session : ℕ) where
     read_of : (what : Op) (time : ℕ) (answer : List AnsweredRow) → Fits what (outcome.Read time answer) → (read : Read) × (what ≡ op.Read read)
     read_of (op.Batch batch) time answer fits = absurd fits
     read_of (op.Read read) time answer fits = (read, refl)
+    read_of (op.Move dc) time answer fits = absurd fits
+
+    move_of : (what : Op) (dc floor : ℕ) → Fits what (outcome.Moved dc floor) → what ≡ op.Move dc
+    move_of (op.Batch batch) dc floor fits = absurd fits
+    move_of (op.Read read) dc floor fits = absurd fits
+    move_of (op.Move there) dc floor fits = ap op.Move (sym fits)
 
     told : (events : List Event) (c : Completed) (o : Op) (result : Outcome) → Contains (run top events).transcript c → c.op ≡ o → c.outcome ≡ result → Tells top (run top events) c o result
     told events c o (outcome.Wrote commit stamp) has is came = writes_in_runs top events some c commit stamp has came
@@ -90,6 +96,11 @@ module _ (top : TopologyValue) (session : ℕ) where
           meant = λ h history. reads_show_one_table top events some c of.0 time answer h (record { completed = has; op = of.1; outcome = came }) history;
         }
     told events c o outcome.Collected has is came = tt
+    told events c o (outcome.Moved dc floor) has is came =
+        record {
+          asked = move_of o dc floor (subst (λ p. Fits p (outcome.Moved dc floor)) is (subst (λ r. Fits c.op r) came (entries_are_of_submissions top events some c has).fits));
+          past = λ u before. moves_bring_their_past top events some c dc floor u has came before;
+        }
 
     meant : (before : List Event) (o : Op) (result : Outcome) (after left : List Event) (number : ℕ) → IsHandled top session o before number after → EndedWith (run top after) session number result
         → IsBeginning after left → IsMeant top (run top left) session number o result
@@ -101,12 +112,11 @@ module _ (top : TopologyValue) (session : ℕ) where
         let w = run top (after ++ begins.0) in
         let still : Contains w.transcript c =
         among_contains c w.transcript (subst (λ l. Among c l) (sym grew.1) (append_first c (run top after).transcript grew.0 (contains_among c (run top after).transcript ended.listed))) in
-        let s = h.is_submitted in
         subst (λ xs. IsMeant top (run top xs) session number o result) (sym begins.1)
         (record {
           entry = c;
           ended = record { listed = still; node = ended.node; numbered = ended.numbered };
-          home = own_home top some after session number c (by_session top (run top s.ready) session o s.allowed) ended;
+          home = own_home top some (after ++ begins.0) session number c (record { listed = still; node = ended.node; numbered = ended.numbered });
           op_is = is;
           outcome_is = e.outcome_is;
           tells = told (after ++ begins.0) c o result still is e.outcome_is;

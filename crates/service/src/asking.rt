@@ -103,6 +103,10 @@ pub(crate) fn ask(world: &mut World, session: Node, op: Op) -> Result<Outcome, F
             stamp: *stamp,
         }),
         Some(Outcome::Collected) => Ok(Outcome::Collected),
+        Some(Outcome::Moved { dc, floor }) => Ok(Outcome::Moved {
+            dc: *dc,
+            floor: *floor,
+        }),
         Some(read) => Ok(read.copied()?),
         None => Err(Fault::Busy),
     }

@@ -7,9 +7,9 @@ use Rattle.column_family.specs.declared.batch.Change.{Change}
 use Rattle.column_family.specs.declared.batch.Mutation.TheVariants.{Insert, DeleteColumn, DeleteRow, DeleteRange}
 use Rattle.slice.specs.declared.predicate.Predicate.TheVariants.{Names, Range}
 use Rattle.messages.specs.declared.op.Op.{Op}
-use Rattle.messages.specs.declared.op.Op.TheVariants.{Batch, Read}
+use Rattle.messages.specs.declared.op.Op.TheVariants.{Batch, Read, Move}
 use Rattle.wire.specs.Fields.{longest}
-use Rattle.wire.specs.Reading.{◌>>=◌, number_at, cut_at, sized_at, list_at, count_at, counted_at, insertion_at, deletion_at, range_deletion_at, mutation_at, change_at, flag_at, names_at, range_at, predicate_at, batch_at, read_at, request_at, whole_of, body_at}
+use Rattle.wire.specs.Reading.{◌>>=◌, number_at, cut_at, sized_at, list_at, count_at, counted_at, insertion_at, deletion_at, range_deletion_at, mutation_at, change_at, flag_at, names_at, range_at, predicate_at, batch_at, read_at, move_at, request_at, whole_of, body_at}
 use Rattle.wire.specs.Frames.{waits, faulty, front_with, front_of, IsFrameFault}
 use Rattle.wire.proofs.Steps.{chosen}
 
@@ -155,6 +155,11 @@ read_fault bytes f e =
     (λ keys. bind_fault (predicate_at keys.1) (λ p. Ok (Read (record { family = family.0; keys = keys.0; predicate = p.0 }), p.1)) f (predicate_fault keys.1)
     (λ p. no_fault (Op × List ℕ) (Read (record { family = family.0; keys = keys.0; predicate = p.0 }), p.1) f))) e
 
+move_fault : AllFault move_at
+unfolding move_at
+move_fault [] f e = err_is _ Truncated f truncated e
+move_fault (dc ∷ rest) f e = no_fault _ (Move dc, rest) f e
+
 request_fault : AllFault request_at
 unfolding request_at
 request_fault [] f e = err_is _ Truncated f truncated e
@@ -163,7 +168,10 @@ request_fault (k ∷ rest) f e =
       | inl a ↦ batch_fault rest f a.1
       | inr b ↦ elim (chosen (k == 2) _ _ _ b.1) [
         | inl a ↦ read_fault rest f a.1
-        | inr none ↦ err_is _ UnknownTag f unknown_tag none.1
+        | inr c ↦ elim (chosen (k == 3) _ _ _ c.1) [
+          | inl a ↦ move_fault rest f a.1
+          | inr none ↦ err_is _ UnknownTag f unknown_tag none.1
+        ]
       ]
     ]
 

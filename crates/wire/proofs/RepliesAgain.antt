@@ -10,7 +10,7 @@ use Rattle.logical_time.specs.Fault.{number_of}
 use Rattle.logical_time.specs.Stamps.{StampValue}
 use Rattle.slice.specs.declared.column.Column.{Column}
 use Rattle.slice.specs.declared.read.AnsweredRow.{AnsweredRow}
-use Rattle.messages.specs.declared.outcome.Outcome.TheVariants.{Wrote, Read, Collected}
+use Rattle.messages.specs.declared.outcome.Outcome.TheVariants.{Wrote, Read, Collected, Moved}
 use Rattle.wire.specs.Fields.{sized, is_sized, counted, is_counted}
 use Rattle.wire.specs.Replies.{Reply, column, fits_column, row, fits_row, commit_and_stamp, fits_commit_and_stamp, reply, fits_reply}
 use Rattle.wire.specs.Reading.{◌>>=◌, number_at, sized_at, counted_at}
@@ -107,6 +107,12 @@ answer_at bytes = do
   rows ← counted_at row_at effective.1
   Ok (Ok (Read effective.0 rows.0), rows.1)
 
+unfoldable moved_at : List ℕ → Result (Reply × List ℕ) Fault
+moved_at [] = Err faults.Truncated
+moved_at (dc ∷ rest) = do
+  floor ← number_at 8 rest
+  Ok (Ok (Moved dc floor.0), floor.1)
+
 unfoldable refusal_at : List ℕ → Result (Reply × List ℕ) Fault
 refusal_at bytes = do
   n ← number_at 2 bytes
@@ -118,7 +124,8 @@ reply_at (kind ∷ rest) =
     if kind == 129 then wrote_at rest
     else (if kind == 130 then answer_at rest
     else (if kind == 131 then Ok (Ok Collected, rest)
-    else refusal_at rest))
+    else (if kind == 133 then moved_at rest
+    else refusal_at rest)))
 
 column_again : AllAgain column_at column fits_column
 unfolding column_at
@@ -163,6 +170,10 @@ answer_again effective rows rest lt fits =
     ∙ ap (λ (r : Result (ℕ × List ℕ) Fault). r >>= one) (number_again 8 effective (counted row rows ++ rest) lt)
     ∙ ap (λ (r : Result (List AnsweredRow × List ℕ) Fault). r >>= last) (counted_again row_at row fits_row row_takes_some row_again rows rest fits)
 
+moved_again : (dc floor : ℕ) (rest : List ℕ) → floor < 256 ^ 8 → moved_at (dc ∷ (big_bytes 8 floor ++ rest)) ≡ Ok (Ok (Moved dc floor), rest)
+unfolding moved_at
+moved_again dc floor rest lt = rw (number_again 8 floor rest lt) refl
+
 refusal_again : (f : Fault) (rest : List ℕ) → refusal_at (big_bytes 2 (number_of f) ++ rest) ≡ Ok (Err f, rest)
 unfolding refusal_at
 refusal_again f rest = rw (number_again 2 (number_of f) rest (number_fits f), with_number f) refl
@@ -174,6 +185,9 @@ reply_again (Ok (Read effective rows)) rest fits =
     let p = and_parts (ltb effective (256 ^ 8)) (is_counted fits_row row rows) fits in
     answer_again effective rows rest (ltb-true _ _ p.0) p.1
 reply_again (Ok Collected) rest fits = refl
+reply_again (Ok (Moved dc floor)) rest fits =
+    let p = and_parts (ltb dc 256) (ltb floor (256 ^ 8)) fits in
+    moved_again dc floor rest (ltb-true _ _ p.1)
 reply_again (Err f) rest fits = refusal_again f rest
 
 read_reply : (x y : Reply × List ℕ) → done x ≡ done y → x.0 ≡ y.0

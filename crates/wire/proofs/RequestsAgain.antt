@@ -9,10 +9,10 @@ use Rattle.column_family.specs.declared.batch.Mutation.TheVariants.{Insert, Dele
 use Rattle.slice.specs.declared.predicate.Predicate.{Predicate}
 use Rattle.slice.specs.declared.predicate.Predicate.TheVariants.{Names, Range}
 use Rattle.messages.specs.declared.op.Op.{Op}
-use Rattle.messages.specs.declared.op.Op.TheVariants.{Batch, Read}
+use Rattle.messages.specs.declared.op.Op.TheVariants.{Batch, Read, Move}
 use Rattle.wire.specs.Fields.{sized, is_sized, counted, is_counted, longest, frame}
 use Rattle.wire.specs.Requests.{mutation, fits_mutation, change, fits_change, flag, predicate, fits_predicate, request, fits_request, is_spelled}
-use Rattle.wire.specs.Reading.{sized_at, counted_at, insertion_at, deletion_at, range_deletion_at, mutation_at, change_at, flag_at, names_at, range_at, predicate_at, batch_at, read_at, request_at, body_at}
+use Rattle.wire.specs.Reading.{sized_at, counted_at, insertion_at, deletion_at, range_deletion_at, mutation_at, change_at, flag_at, names_at, range_at, predicate_at, batch_at, read_at, move_at, request_at, body_at}
 use Rattle.wire.specs.Frames.{whole, front_of}
 use Rattle.wire.proofs.Steps.{AllAgain}
 use Rattle.wire.proofs.FieldsAgain.{number_again, sized_again, counted_again}
@@ -95,6 +95,10 @@ unfolding read_at
 read_again family keys p rest a b c =
     rw (three (sized 1 family) (counted (sized 2) keys) (predicate p) rest, sized_again 1 family (counted (sized 2) keys ++ (predicate p ++ rest)) a, texts_again keys (predicate p ++ rest) b, predicate_again p rest c) refl
 
+move_again : (dc : ℕ) (rest : List ℕ) → move_at (dc ∷ rest) ≡ Ok (Move dc, rest)
+unfolding move_at
+move_again dc rest = refl
+
 request_again : AllAgain request_at request fits_request
 unfolding request_at
 request_again (Batch changes) rest fits = batch_again changes rest fits
@@ -102,6 +106,7 @@ request_again (Read read) rest fits =
     let p = and_parts (is_sized 1 read.family) (is_counted (is_sized 2) (sized 2) read.keys && fits_predicate read.predicate) fits in
     let q = and_parts (is_counted (is_sized 2) (sized 2) read.keys) (fits_predicate read.predicate) p.1 in
     read_again read.family read.keys read.predicate rest p.0 q.0 q.1
+request_again (Move dc) rest fits = move_again dc rest
 
 -- the body of a request is read as that request
 pub body_again : (op : Op) → fits_request op ≡ true → body_at (request op) ≡ Ok op

@@ -9,10 +9,10 @@ use Rattle.column_family.specs.declared.batch.Mutation.TheVariants.{Insert, Dele
 use Rattle.slice.specs.declared.predicate.Predicate.{Predicate}
 use Rattle.slice.specs.declared.predicate.Predicate.TheVariants.{Names, Range}
 use Rattle.messages.specs.declared.op.Op.{Op}
-use Rattle.messages.specs.declared.op.Op.TheVariants.{Batch, Read}
+use Rattle.messages.specs.declared.op.Op.TheVariants.{Batch, Read, Move}
 use Rattle.wire.specs.Fields.{sized, is_sized, counted, is_counted}
 use Rattle.wire.specs.Requests.{mutation, fits_mutation, change, fits_change, flag, predicate, fits_predicate, request, fits_request}
-use Rattle.wire.specs.Reading.{◌>>=◌, number_at, sized_at, counted_at, insertion_at, deletion_at, range_deletion_at, mutation_at, change_at, flag_at, names_at, range_at, predicate_at, batch_at, read_at, request_at, whole_of, body_at}
+use Rattle.wire.specs.Reading.{◌>>=◌, number_at, sized_at, counted_at, insertion_at, deletion_at, range_deletion_at, mutation_at, change_at, flag_at, names_at, range_at, predicate_at, batch_at, read_at, move_at, request_at, whole_of, body_at}
 use Rattle.wire.proofs.Steps.{IsBody, IsBody-rest, bind_ok, ok_is, chosen, ended_ok, Takes, Takes-then, Takes-kind, AllTake, KindTakes}
 use Rattle.wire.proofs.FieldsTaken.{wide1, wide2, wide4, number_takes, sized_takes, counted_take}
 
@@ -151,6 +151,13 @@ read_takes rest x fits e =
     let made : Op × List ℕ = (Read (record { family = a.0.0; keys = b.0.0; predicate = c.0.0 }), c.0.1) in
     subst (λ (y : Op × List ℕ). Takes (2 ∷ rest) (request y.0) y.1 × (fits_request y.0 ≡ true)) {x = made} (ok_is made x c.2) (Takes-kind 2 rest (sized 1 a.0.0 ++ (counted (sized 2) b.0.0 ++ predicate c.0.0)) c.0.1 all, and_from (is_sized 1 a.0.0) (is_counted (is_sized 2) (sized 2) b.0.0 && fits_predicate c.0.0) t.1 (and_from (is_counted (is_sized 2) (sized 2) b.0.0) (fits_predicate c.0.0) u.1 v.1))
 
+move_takes : KindTakes 3 move_at request fits_request
+unfolding move_at
+move_takes [] x fits e = absurd cc
+move_takes (dc ∷ rest) x fits e =
+    subst (λ (y : Op × List ℕ). Takes (3 ∷ dc ∷ rest) (request y.0) y.1 × (fits_request y.0 ≡ true)) {x = (Move dc, rest)} (ok_is (Move dc, rest) x e)
+    (record { parts = refl; rest_fits = IsBody-rest dc rest fits }, lt-ltb dc 256 (fits.small 0))
+
 request_takes : AllTake request_at request fits_request
 unfolding request_at
 request_takes [] x fits e = absurd cc
@@ -160,7 +167,10 @@ request_takes (k ∷ rest) x fits e =
       | inl a ↦ let is : k ≡ 1 = eqb-true k 1 a.0 in rw is (batch_takes rest x tail a.1)
       | inr b ↦ elim (chosen (k == 2) _ _ _ b.1) [
         | inl a ↦ let is : k ≡ 2 = eqb-true k 2 a.0 in rw is (read_takes rest x tail a.1)
-        | inr none ↦ absurd cc
+        | inr c ↦ elim (chosen (k == 3) _ _ _ c.1) [
+          | inl a ↦ let is : k ≡ 3 = eqb-true k 3 a.0 in rw is (move_takes rest x tail a.1)
+          | inr none ↦ absurd cc
+        ]
       ]
     ]
 

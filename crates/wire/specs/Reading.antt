@@ -9,7 +9,7 @@ use Rattle.column_family.specs.declared.batch.Mutation.TheVariants.{Insert, Dele
 use Rattle.slice.specs.declared.predicate.Predicate.{Predicate}
 use Rattle.slice.specs.declared.predicate.Predicate.TheVariants.{Names, Range}
 use Rattle.messages.specs.declared.op.Op.{Op}
-use Rattle.messages.specs.declared.op.Op.TheVariants.{Batch, Read}
+use Rattle.messages.specs.declared.op.Op.TheVariants.{Batch, Read, Move}
 
 infixl 10 ◌>>=◌
 -- the second after the first, unless the first has a fault
@@ -122,13 +122,19 @@ read_at bytes = do
   predicate ← predicate_at keys.1
   Ok (Read (record { family = family.0; keys = keys.0; predicate = predicate.0 }), predicate.1)
 
+-- the data centre that the session moves to
+unfoldable pub move_at : List ℕ → Result (Op × List ℕ) Fault
+move_at [] = Err Truncated
+move_at (dc ∷ rest) = Ok (Move dc, rest)
+
 -- a request, behind its kind; `UnknownTag` where that is none
 unfoldable pub request_at : List ℕ → Result (Op × List ℕ) Fault
 request_at [] = Err Truncated
 request_at (kind ∷ rest) =
     if kind == 1 then batch_at rest
     else (if kind == 2 then read_at rest
-    else Err UnknownTag)
+    else (if kind == 3 then move_at rest
+    else Err UnknownTag))
 
 -- `TrailingBytes` where something is left
 abbrev pub whole_of : {A : Type 0} → A × List ℕ → Result A Fault

@@ -7,7 +7,7 @@ use Rattle.logical_time.specs.Stamps.{StampValue}
 use Rattle.slice.specs.declared.column.Column.{Column}
 use Rattle.slice.specs.declared.read.AnsweredRow.{AnsweredRow}
 use Rattle.messages.specs.declared.outcome.Outcome.{Outcome}
-use Rattle.messages.specs.declared.outcome.Outcome.TheVariants.{Wrote, Read, Collected}
+use Rattle.messages.specs.declared.outcome.Outcome.TheVariants.{Wrote, Read, Collected, Moved}
 use Rattle.wire.specs.Fields.{sized, is_sized, counted, is_counted, longest, frame}
 
 -- what a request is answered: its outcome, or why it was refused
@@ -32,11 +32,13 @@ fits_row r = is_sized 2 r.key && is_counted fits_column column r.columns
 unfoldable pub commit_and_stamp : ℕ → StampValue → List ℕ
 commit_and_stamp commit stamp = big_bytes 8 commit ++ (big_bytes 8 stamp.time ++ big_bytes 2 stamp.node)
 
--- 0x81, the commit time and the stamp; 0x82, the effective time and the rows; 0x83 alone
+-- 0x81, the commit time and the stamp; 0x82, the effective time and the rows; 0x83 alone; 0x85, the new home in one byte, and
+-- the floor there
 abbrev pub outcome : Outcome → List ℕ
 outcome (Wrote commit stamp) = 129 ∷ commit_and_stamp commit stamp
 outcome (Read effective answer) = 130 ∷ (big_bytes 8 effective ++ counted row answer)
 outcome Collected = 131 ∷ []
+outcome (Moved dc floor) = 133 ∷ dc ∷ big_bytes 8 floor
 
 unfoldable pub fits_commit_and_stamp : ℕ → StampValue → Bool
 fits_commit_and_stamp commit stamp = nat_lt commit (256 ^ 8) && (nat_lt stamp.time (256 ^ 8) && nat_lt stamp.node (256 ^ 2))
@@ -46,6 +48,7 @@ abbrev pub fits_outcome : Outcome → Bool
 fits_outcome (Wrote commit stamp) = fits_commit_and_stamp commit stamp
 fits_outcome (Read effective answer) = nat_lt effective (256 ^ 8) && is_counted fits_row row answer
 fits_outcome Collected = true
+fits_outcome (Moved dc floor) = nat_lt dc 256 && nat_lt floor (256 ^ 8)
 
 -- 0x84, and the number of the refusal
 abbrev pub refusal : Fault → List ℕ

@@ -7,7 +7,7 @@ use Rattle.column_family.specs.declared.batch.Mutation.TheVariants.{Insert, Dele
 use Rattle.slice.specs.declared.predicate.Predicate.{Predicate}
 use Rattle.slice.specs.declared.predicate.Predicate.TheVariants.{Names, Range}
 use Rattle.messages.specs.declared.op.Op.{Op}
-use Rattle.messages.specs.declared.op.Op.TheVariants.{Batch, Read}
+use Rattle.messages.specs.declared.op.Op.TheVariants.{Batch, Read, Move}
 use Rattle.wire.specs.Fields.{sized, is_sized, counted, is_counted, longest, frame}
 
 -- names, keys and ends of ranges stand behind two bytes, values behind four
@@ -43,15 +43,18 @@ abbrev pub fits_predicate : Predicate → Bool
 fits_predicate (Names names) = is_counted (is_sized 2) (sized 2) names
 fits_predicate (Range start finish reversed count) = is_sized 2 start && (is_sized 2 finish && nat_lt count (256 ^ 4))
 
--- a batch by its changes; a read by its family, its keys as they were listed, and its predicate
+-- a batch by its changes; a read by its family, its keys as they were listed, and its predicate; a move by the new home, in one
+-- byte
 abbrev pub request : Op → List ℕ
 request (Batch changes) = 1 ∷ counted change changes
 request (Read read) = 2 ∷ (sized 1 read.family ++ (counted (sized 2) read.keys ++ predicate read.predicate))
+request (Move dc) = 3 ∷ dc ∷ []
 
--- whether each length and each count of the request fits where it is written
+-- whether each length, each count and each number of the request fits where it is written
 abbrev pub fits_request : Op → Bool
 fits_request (Batch changes) = is_counted fits_change change changes
 fits_request (Read read) = is_sized 1 read.family && (is_counted (is_sized 2) (sized 2) read.keys && fits_predicate read.predicate)
+fits_request (Move dc) = nat_lt dc 256
 
 -- whether the request has a spelling: nothing in it, and not its body, is too long
 abbrev pub is_spelled : Op → Bool

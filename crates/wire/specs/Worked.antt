@@ -53,6 +53,14 @@ range = read_of (Range (100 ∷ []) [] true 1)
 abbrev pub range_frame : List ℕ
 range_frame = 0 ∷ 0 ∷ 0 ∷ 21 ∷ 2 ∷ 1 ∷ 102 ∷ 0 ∷ 0 ∷ 0 ∷ 1 ∷ 0 ∷ 1 ∷ 98 ∷ 1 ∷ 0 ∷ 1 ∷ 100 ∷ 0 ∷ 0 ∷ 1 ∷ 0 ∷ 0 ∷ 0 ∷ 1 ∷ []
 
+-- the session moves to data centre 1
+abbrev pub move : Op
+move = ops.Move 1
+
+-- 00000002 03 01
+abbrev pub move_frame : List ℕ
+move_frame = 0 ∷ 0 ∷ 0 ∷ 2 ∷ 3 ∷ 1 ∷ []
+
 -- commit time 2, stamp (2, 0)
 abbrev pub wrote : Reply
 wrote = Ok (outcomes.Wrote 2 (record { time = 2; node = 0 }))
@@ -73,9 +81,21 @@ answered_frame = 0 ∷ 0 ∷ 0 ∷ 28 ∷ 130 ∷ 0 ∷ 0 ∷ 0 ∷ 0 ∷ 0 ∷ 
 abbrev pub collected_frame : List ℕ
 collected_frame = 0 ∷ 0 ∷ 0 ∷ 1 ∷ 131 ∷ []
 
+-- it moved to data centre 1, and its floor there is 6
+abbrev pub moved : Reply
+moved = Ok (outcomes.Moved 1 6)
+
+-- 0000000a 85 01 0000000000000006
+abbrev pub moved_frame : List ℕ
+moved_frame = 0 ∷ 0 ∷ 0 ∷ 10 ∷ 133 ∷ 1 ∷ 0 ∷ 0 ∷ 0 ∷ 0 ∷ 0 ∷ 0 ∷ 0 ∷ 6 ∷ []
+
 -- 00000003 84 0007
 abbrev pub refused_frame : List ℕ
 refused_frame = 0 ∷ 0 ∷ 0 ∷ 3 ∷ 132 ∷ 0 ∷ 7 ∷ []
+
+-- 00000003 84 001a
+abbrev pub present_home_frame : List ℕ
+present_home_frame = 0 ∷ 0 ∷ 0 ∷ 3 ∷ 132 ∷ 0 ∷ 26 ∷ []
 
 -- faults, each the first of its bytes
 abbrev pub too_long : List ℕ
@@ -110,6 +130,12 @@ empty_body = 0 ∷ 0 ∷ 0 ∷ 0 ∷ []
 
 abbrev pub cut_count : List ℕ
 cut_count = 0 ∷ 0 ∷ 0 ∷ 4 ∷ 2 ∷ 1 ∷ 102 ∷ 0 ∷ []
+
+abbrev pub cut_move : List ℕ
+cut_move = 0 ∷ 0 ∷ 0 ∷ 1 ∷ 3 ∷ []
+
+abbrev pub long_move : List ℕ
+long_move = 0 ∷ 0 ∷ 0 ∷ 3 ∷ 3 ∷ 1 ∷ 0 ∷ []
 
 -- no whole frame yet: the greatest length and nothing more, and a read without its last byte
 abbrev pub greatest_length : List ℕ

@@ -1,10 +1,12 @@
 //! Laws of frames and of streams of them.
-ghost use Rattle.std.specs.Prelude.{◌≡◌, ◌≤◌, ◌<◌, ℕ, ◌++◌, List, [], ◌∷◌, true, length, take, Some, Ok, Err, All};
+ghost use Rattle.std.specs.Prelude.{◌≡◌, ◌≤◌, ◌<◌, ◌^◌, ℕ, ◌++◌, List, [], ◌∷◌, true, length, take, Some, None, Ok, Err, All};
 ghost use Rattle.std.specs.List.{list_all};
+ghost use Rattle.byteorder.specs.Endian.{big_bytes};
 ghost use Rattle.logical_time.specs.declared.fault.Fault.{Fault};
-ghost use Rattle.logical_time.specs.declared.fault.Fault.TheVariants.{RangeOrder, Oversize, UnknownTag, BadCount, TrailingBytes, Truncated};
+ghost use Rattle.logical_time.specs.declared.fault.Fault.TheVariants.{RangeOrder, AlreadyHome, Oversize, UnknownTag, BadCount, TrailingBytes, Truncated};
 ghost use Rattle.column_family.specs.declared.batch.Mutation.TheVariants.{DeleteColumn, DeleteRow, DeleteRange};
 ghost use Rattle.messages.specs.declared.op.Op.{Op};
+ghost use Rattle.messages.specs.declared.op.Op.TheVariants.{Move};
 ghost use Rattle.messages.specs.declared.outcome.Outcome.TheVariants as outcomes;
 ghost use Rattle.wire.specs.Requests.{spelling, is_spelled};
 ghost use Rattle.wire.specs.Replies.{Reply, reply_spelling};
@@ -45,6 +47,14 @@ pub fn faults_of_frames()
     ensures { (bytes : List ℕ) (f : Fault) → front_of bytes ≡ faulty f → IsFrameFault f }
 {}
 
+/// A move is spelled by one byte for each data centre below 256, and none is spelled to any other. Does nothing; its
+/// contract is the law.
+pub fn moves_are_spelled()
+    ensures each { (dc : ℕ) → dc < 256 → spelling (Move dc) ≡ Some (0 ∷ 0 ∷ 0 ∷ 2 ∷ 3 ∷ dc ∷ []) }
+    ensures none { (dc : ℕ) → 256 ≤ dc → spelling (Move dc) ≡ None }
+    ensures replies { (dc floor : ℕ) → dc < 256 → floor < 2 ^ 48 → reply_spelling (Ok (outcomes.Moved dc floor)) ≡ Some (0 ∷ 0 ∷ 0 ∷ 10 ∷ 133 ∷ dc ∷ big_bytes 8 floor) }
+{}
+
 /// Worked frames: each kind of request and of reply, byte by byte, and one of each fault. Does nothing; its contract is
 /// the law.
 pub fn worked_frames()
@@ -54,12 +64,16 @@ pub fn worked_frames()
     ensures range_deletion { spelling (worked.batch_of (DeleteRange (98 ∷ []) (99 ∷ []))) ≡ Some worked.range_deletion_frame }
     ensures read { spelling worked.read ≡ Some worked.read_frame }
     ensures range { spelling worked.range ≡ Some worked.range_frame }
+    ensures moves { spelling worked.move ≡ Some worked.move_frame }
     ensures wrote { reply_spelling worked.wrote ≡ Some worked.wrote_frame }
     ensures answered { reply_spelling worked.answered ≡ Some worked.answered_frame }
     ensures collected { reply_spelling (Ok outcomes.Collected) ≡ Some worked.collected_frame }
+    ensures moved { reply_spelling worked.moved ≡ Some worked.moved_frame }
     ensures refused { reply_spelling (Err RangeOrder) ≡ Some worked.refused_frame }
+    ensures present_home { reply_spelling (Err AlreadyHome) ≡ Some worked.present_home_frame }
     ensures insertion_read { front_of worked.insertion_frame ≡ whole worked.insertion 23 }
     ensures read_read { front_of worked.read_frame ≡ whole worked.read 22 }
+    ensures move_read { front_of worked.move_frame ≡ whole worked.move 6 }
     ensures too_long { front_of worked.too_long ≡ faulty Oversize }
     ensures unknown_request { front_of worked.unknown_request ≡ faulty UnknownTag }
     ensures unknown_change { front_of worked.unknown_change ≡ faulty UnknownTag }
@@ -71,6 +85,8 @@ pub fn worked_frames()
     ensures trailing_byte { front_of worked.trailing_byte ≡ faulty TrailingBytes }
     ensures empty_body { front_of worked.empty_body ≡ faulty Truncated }
     ensures cut_count { front_of worked.cut_count ≡ faulty Truncated }
+    ensures cut_move { front_of worked.cut_move ≡ faulty Truncated }
+    ensures long_move { front_of worked.long_move ≡ faulty TrailingBytes }
     ensures greatest_length { front_of worked.greatest_length ≡ waits }
     ensures cut_read { front_of worked.cut_read ≡ waits }
 {}

@@ -13,7 +13,7 @@ mod reading;
 mod writing;
 
 pub use law::{
-    faults_of_frames, no_spelling_begins_another, streams_are_read_in_one_way,
+    faults_of_frames, moves_are_spelled, no_spelling_begins_another, streams_are_read_in_one_way,
     what_is_read_is_spelled, what_is_spelled_is_read, worked_frames,
 };
 pub use reader::Reader;

@@ -1,7 +1,7 @@
 //! Requests, read from the bodies of frames.
 ghost use Rattle.std.specs.Prelude.{◌≡◌};
 ghost use Rattle.wire.specs.Answers.{Gives};
-ghost use Rattle.wire.specs.Reading.{insertion_at, deletion_at, range_deletion_at, mutation_at, change_at, flag_at, names_at, range_at, predicate_at, batch_at, read_at, request_at, body_at};
+ghost use Rattle.wire.specs.Reading.{insertion_at, deletion_at, range_deletion_at, mutation_at, change_at, flag_at, names_at, range_at, predicate_at, batch_at, read_at, move_at, request_at, body_at};
 
 use crate::error::FrameError;
 use crate::fields::{Field, counted, number32};
@@ -139,6 +139,19 @@ fn read(alloc: Global, bytes: &[u8]) -> Result<(Op, &[u8]), FrameError>
     Ok((Op::read(alloc, read)?, rest))
 }
 
+#[tactic(auto, unfolding(crate::specs::Reading::move_at))]
+fn new_home(bytes: &[u8]) -> Result<(Op, &[u8]), FrameError>
+    ensures { Gives (λ x. (x.0, x.1.now)) result (move_at bytes.now) }
+{
+    match bytes {
+        [] => Err(FrameError::Frame(Fault::Truncated)),
+        [dc, rest @ ..] => {
+            let dc = u16::from(*dc);
+            Ok((Op::Move { dc }, rest))
+        }
+    }
+}
+
 #[tactic(auto, unfolding(crate::specs::Reading::request_at))]
 fn request(alloc: Global, bytes: &[u8]) -> Result<(Op, &[u8]), FrameError>
     ensures { Gives (λ x. (x.0, x.1.now)) result (request_at bytes.now) }
@@ -147,6 +160,7 @@ fn request(alloc: Global, bytes: &[u8]) -> Result<(Op, &[u8]), FrameError>
         [] => Err(FrameError::Frame(Fault::Truncated)),
         [1, rest @ ..] => batch(alloc, rest),
         [2, rest @ ..] => read(alloc, rest),
+        [3, rest @ ..] => new_home(rest),
         _ => Err(FrameError::Frame(Fault::UnknownTag)),
     }
 }

@@ -1,5 +1,5 @@
 //! Requests and replies, written as frames.
-ghost use Rattle.std.specs.Prelude.{◌≡◌, ◌≤◌, ◌&&◌, ℕ, List, Bool, length, drop, nat_le, true, false, None, Some, Ok, Err, IfOk, IfErr, ◌⊎◌};
+ghost use Rattle.std.specs.Prelude.{◌≡◌, ◌≤◌, ◌&&◌, ◌∷◌, [], ℕ, List, Bool, length, drop, nat_lt, nat_le, true, false, None, Some, Ok, Err, IfOk, IfErr, ◌⊎◌};
 ghost use Rattle.std.specs.List.{flat_map, list_all};
 ghost use Rattle.logical_time.specs.declared.fault.Fault.TheVariants.{Memory, Oversize};
 ghost use Rattle.wire.specs.Answers.{Puts, Closes, Encodes};
@@ -51,6 +51,16 @@ fn put_blob(out: &mut Vec<u8>, bytes: &[u8]) -> Result<(), FrameError>
     out.put_u32(bytes.len() as u32)?;
     out.put_slice(bytes)?;
     Ok(())
+}
+
+// The number of a data centre, which takes one byte.
+fn put_home(out: &mut Vec<u8>, dc: u16) -> Result<(), FrameError>
+    ensures { Puts (nat_lt dc 256) (dc ∷ []) result out.old.items out.new.items }
+{
+    if dc >= 256 {
+        return Err(FrameError::Frame(Fault::Oversize));
+    }
+    Ok(out.put_u8(dc as u8)?)
 }
 
 // What stands in lists.
@@ -194,6 +204,10 @@ fn put_request(out: &mut Vec<u8>, op: &Op) -> Result<(), FrameError>
             put_counted(out, batch.get().as_slice())
         }
         Op::Read(read) => put_read(out, read.get()),
+        Op::Move { dc } => {
+            out.put_u8(3)?;
+            put_home(out, *dc)
+        }
     }
 }
 
@@ -229,6 +243,15 @@ fn put_commit(out: &mut Vec<u8>, commit: Time, stamp: Stamp) -> Result<(), Frame
     Ok(out.put_u16(node)?)
 }
 
+// A new home, and the floor there.
+fn put_moved(out: &mut Vec<u8>, dc: u16, floor: Time) -> Result<(), FrameError>
+    ensures { Puts (replies.fits_outcome (Outcome.Moved dc floor)) (replies.outcome (Outcome.Moved dc floor)) result out.old.items out.new.items }
+{
+    out.put_u8(0x85)?;
+    put_home(out, dc)?;
+    Ok(out.put_u64(floor.get())?)
+}
+
 fn put_outcome(out: &mut Vec<u8>, outcome: &Outcome) -> Result<(), FrameError>
     ensures { Puts (replies.fits_outcome outcome.now) (replies.outcome outcome.now) result out.old.items out.new.items }
 {
@@ -243,6 +266,7 @@ fn put_outcome(out: &mut Vec<u8>, outcome: &Outcome) -> Result<(), FrameError>
             put_counted(out, answer.as_slice())
         }
         Outcome::Collected => Ok(out.put_u8(0x83)?),
+        Outcome::Moved { dc, floor } => put_moved(out, *dc, *floor),
     }
 }
 
@@ -290,8 +314,8 @@ fn frame_of_reply(alloc: Global, reply: &Result<Outcome, Fault>) -> Result<Vec<u
     close(frame)
 }
 
-/// The frame of a request. Refused with `Oversize` where its body would be too long, or a length or a count in it
-/// wouldn't fit where it is written, and with `Memory`. Linear in the frame.
+/// The frame of a request. Refused with `Oversize` where its body would be too long, a length or a count in it wouldn't
+/// fit, or a move is to a data centre that one byte can't name, and with `Memory`. Linear in the frame.
 pub fn encode_op(alloc: Global, op: &Op) -> Result<Vec<u8>, Fault>
     ensures ok { IfOk result (λ frame. requests.spelling op.now ≡ Some frame.items) }
     ensures oversize { result ≡ Err Oversize → requests.spelling op.now ≡ None }
@@ -301,7 +325,8 @@ pub fn encode_op(alloc: Global, op: &Op) -> Result<Vec<u8>, Fault>
 }
 
 /// The frame of a reply: the outcome of a request, or why it was refused. Refused with `Oversize` where its body would
-/// be too long, or a length or a count in it wouldn't fit where it is written, and with `Memory`. Linear in the frame.
+/// be too long, a length or a count in it wouldn't fit, or a new home is one that one byte can't name, and with `Memory`.
+/// Linear in the frame.
 pub fn encode_reply(alloc: Global, reply: &Result<Outcome, Fault>) -> Result<Vec<u8>, Fault>
     ensures ok { IfOk result (λ frame. replies.reply_spelling reply.now ≡ Some frame.items) }
     ensures oversize { result ≡ Err Oversize → replies.reply_spelling reply.now ≡ None }

@@ -11,3 +11,6 @@ returns-in-None-clause-asks c =
 
 pub returns-in-Some-Wrote-clause-asks : goal.returns-in-Some-Wrote-clause-asks
 returns-in-Some-Wrote-clause-asks c = search rules
+
+pub returns-in-Some-Moved-clause-asks : goal.returns-in-Some-Moved-clause-asks
+returns-in-Some-Moved-clause-asks c = search rules
