@@ -3,3 +3,4 @@ pub mod NormalForms
 pub mod Stamps
 pub mod Oks
 pub mod WrongReads
+pub mod Counted

@@ -26,23 +26,27 @@ abbrev pub is_right : Option History → Op → ℕ → List AnsweredRow → Boo
 is_right None o t answer = false
 is_right (Some h) (op.Batch batch) t answer = false
 is_right (Some h) (op.Read read) t answer = pointwise is_same_row answer (meaning read h t)
+is_right (Some h) (op.Move dc) t answer = false
 
--- whether an outcome is the answer of a read: one that ended with Collected has none
+-- whether an outcome is the answer of a read: one that ended with Collected has none, nor has a write or a move
 abbrev pub is_answer : Outcome → Bool
 is_answer (outcome.Wrote commit stamp) = false
 is_answer (outcome.Read effective answer) = true
 is_answer outcome.Collected = false
+is_answer (outcome.Moved dc floor) = false
 
 -- whether an outcome is an answer of what was asked that isn't right
 abbrev pub is_wrong_on : Option History → Op → Outcome → Bool
 is_wrong_on h o (outcome.Wrote commit stamp) = false
 is_wrong_on h o (outcome.Read effective answer) = not (is_right h o effective answer)
 is_wrong_on h o outcome.Collected = false
+is_wrong_on h o (outcome.Moved dc floor) = false
 
 -- whether an operation is a read that was answered
 abbrev pub is_read : Completed → Bool
 is_read c = is_answer c.outcome
 
--- whether it was answered wrong: not with the meaning of its request on the history of its home at its effective time
+-- whether it was answered wrong: not with the meaning of its request on the history of its own home, the data centre where it was
+-- submitted, at its effective time
 abbrev pub is_wrong : List History → Completed → Bool
 is_wrong histories c = is_wrong_on (slice_get histories c.home) c.op c.outcome

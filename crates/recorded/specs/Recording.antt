@@ -16,12 +16,15 @@ use Rattle.workload.specs.Simulation.{run_of}
 use Rattle.recorded.specs.Recorded.{RecordedValue}
 use Rattle.recorded.specs.Performing.{recorded_in}
 
--- what was asked in a data centre and came to this, if it is a read that was answered
+-- what was asked in a data centre and came to this, if it is a read that was answered: a move is none, and has no other part in a
+-- record
 abbrev pub answered_by : ℕ → Op → Outcome → Option Answered
 answered_by home (op.Batch batch) o = None
 answered_by home (op.Read read) (outcome.Wrote commit stamp) = None
 answered_by home (op.Read read) (outcome.Read time answer) = Some (record { home = home; read = read; time = time; answer = answer })
 answered_by home (op.Read read) outcome.Collected = None
+answered_by home (op.Read read) (outcome.Moved dc floor) = None
+answered_by home (op.Move dc) o = None
 
 abbrev pub answered_in : Completed → Option Answered
 answered_in c = answered_by c.home c.op c.outcome

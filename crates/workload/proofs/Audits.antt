@@ -20,9 +20,8 @@ use Rattle.world.specs.Histories.{IsHistory}
 use Rattle.world.specs.Promises.{Fits}
 use Rattle.world.proofs.Addresses.{stands}
 use Rattle.world.proofs.Among.{Among, among_contains}
-use Rattle.world.proofs.Homes.{every_home, entry_home}
-use Rattle.world.proofs.Invariant.{home}
-use Rattle.world.proofs.Runs.{every_run}
+use Rattle.world.proofs.Homes.{homes_are_of_moves}
+use Rattle.world.proofs.HomesThere.{home_is_there}
 use Rattle.world.proofs.Laws.{reads_show_one_table, entries_are_of_submissions}
 use Rattle.audit.specs.declared.found.Audit.{Audit}
 use Rattle.audit.specs.Audit.{is_right, is_wrong_on, is_wrong}
@@ -74,9 +73,9 @@ right_by o a h read time answer there asked means = rw (there, asked) ((right_is
 module _ (top : TopologyValue) (events : List Event) (histories : List History) (is : is_topology top.dcs top.shards top.homes ≡ true) (are : AreFirstHistories top (run top events) top.dcs histories) where
   has_history : (c : Completed) → Among c (run top events).transcript → (h : History) × (slice_get histories c.home ≡ Some h)
   has_history c among =
-      let s = stands top is in
-      let at : c.home ≡ home top c.node = entry_home top (run top events) (every_run top events s.some) (every_home top events) c among in
-      there_is histories c.home (subst (λ n. c.home < n) (sym are.all) (subst (λ h. h < top.dcs) (sym at) (s.home c.node)))
+      let at = homes_are_of_moves top events (stands top is).some c (among_contains c (run top events).transcript among) in
+      let there : c.home < top.dcs = subst (λ h. h < top.dcs) (sym at) (home_is_there top events is c.node c.number) in
+      there_is histories c.home (subst (λ n. c.home < n) (sym are.all) there)
 
   right_there : (c : Completed) → Among c (run top events).transcript → (read : Read) (time : ℕ) (answer : List AnsweredRow) → c.op ≡ op.Read read
       → c.outcome ≡ outcome.Read time answer → is_right (slice_get histories c.home) c.op time answer ≡ true
@@ -98,6 +97,7 @@ module _ (top : TopologyValue) (events : List Event) (histories : List History) 
           let (read, asked) = read_of c.op time answer (subst (Fits c.op) q fits) in
           ap not (right_there c among read time answer asked q)
       by outcome.Collected q = refl
+      by (outcome.Moved dc floor) q = refl
 
 -- an audit that counts in the run finds none
 pub audit_is_clean : (r : Result Audit Fault) (top : TopologyValue) (events : List Event) (histories given : List History) (completed : List Completed)

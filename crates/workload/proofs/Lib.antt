@@ -5,6 +5,7 @@ pub mod Converted
 pub mod Streams
 pub mod Members
 pub mod Told
+pub mod Moves
 pub mod Refused
 pub mod Shown
 pub mod Spelled

@@ -38,11 +38,14 @@ of_read c node number time answer h = by c.outcome refl
         let e : entry.Read node number time answer ≡ entry.Read c.node c.number t a = h ∙ ap (entry_by c.node c.number) q in
         record { by = cc; of = cc; came = cc }
     by outcome.Collected q = (let e : entry.Read node number time answer ≡ entry.Collected c.node c.number = h ∙ ap (entry_by c.node c.number) q in absurd cc)
+    by (outcome.Moved dc floor) q =
+        (let e : entry.Read node number time answer ≡ entry.Moved c.node c.number dc floor = h ∙ ap (entry_by c.node c.number) q in absurd cc)
 
 -- an operation that ended as a read is one
 pub read_of : (o : Op) (time : ℕ) (answer : List AnsweredRow) → Fits o (outcome.Read time answer) → (read : Read) × (o ≡ op.Read read)
 read_of (op.Batch batch) time answer h = absurd h
 read_of (op.Read read) time answer h = (read, refl)
+read_of (op.Move dc) time answer h = absurd h
 
 pub shows : (top : TopologyValue) (events : List Event) → 0 < top.shards → (node number time : ℕ) (answer : List AnsweredRow)
     → Contains (map entry_of (run top events).transcript) (entry.Read node number time answer)

@@ -19,13 +19,13 @@ use Rattle.column_family.specs.Schema.{is_schema}
 use Rattle.slice.specs.declared.predicate.Predicate.{Predicate}
 use Rattle.slice.specs.declared.predicate.Predicate.TheVariants.{Names}
 use Rattle.messages.specs.declared.op.Op.{Op}
-use Rattle.messages.specs.declared.op.Op.TheVariants.{Batch, Read as Asks}
+use Rattle.messages.specs.declared.op.Op.TheVariants.{Batch, Read as Asks, Move}
 use Rattle.messages.specs.Topology.{TopologyValue, shard_count, session_node}
 use Rattle.workload.specs.declared.script.Event.{Event}
 use Rattle.workload.specs.declared.script.Event.TheVariants.{Submit, Deliver, Collect, Drain}
 use Rattle.workload.specs.Gives.{◌>>=◌}
 use Rattle.workload.specs.Shape.{data_of, all_by, list_by, whole_of, whole_below, if_below}
-use Rattle.workload.specs.Script.{insert_of, delete_of, delete_row_of, delete_range_of, mutation_of, change_of, predicate_of, names_of, predicate_in, range_of, read_of, batch_of, op_in, op_of, event_of, submit_of, deliver_of, time_of, collect_of, drain_of, schema_among, families_of}
+use Rattle.workload.specs.Script.{insert_of, delete_of, delete_row_of, delete_range_of, mutation_of, change_of, predicate_of, names_of, predicate_in, range_of, read_of, batch_of, move_of, op_in, op_of, event_of, submit_of, deliver_of, time_of, collect_of, drain_of, schema_among, families_of}
 use Rattle.workload.specs.Streams.{value_at, Reads, ReadsRest, ItemsAre, MembersAre, AreFound, before, SoFar, IsStretch}
 use Rattle.workload.proofs.Lists.{all_by_snoc, all_by_join}
 
@@ -200,11 +200,11 @@ deliver_reads depth ts s r number h end =
     let one = one_item whole_of depth ts s r number h end in
     (item one.0 no_items, one.1, λ j. ap (λ o. o >>= (λ n. Some (Deliver n))) one.2)
 
-pub submit_reads : (top : TopologyValue) (depth : ℕ) (ts s u r : List Token) (session : ℕ) (op : Op) → Reads (whole_below (length top.homes)) depth ts s session → Reads op_of depth s u op → after_end_array u ≡ Some r
+pub submit_reads : (top : TopologyValue) (depth : ℕ) (ts s u r : List Token) (session : ℕ) (op : Op) → Reads (whole_below (length top.homes)) depth ts s session → Reads (op_of top) depth s u op → after_end_array u ≡ Some r
     → ReadsRest (submit_of top) depth ts r (Submit (session_node top session) op)
 unfolding submit_of
 submit_reads top depth ts s u r session op h more end =
-    let two = two_items (whole_below (length top.homes)) op_of depth ts s u r session op h more end in
+    let two = two_items (whole_below (length top.homes)) (op_of top) depth ts s u r session op h more end in
     (item two.0 (item two.1 no_items), two.2, λ j i. (two.3 i) >>= (λ n. (two.4 i) >>= (λ o. Some (Submit (session_node top n) o))))
 
 pub collect_reads : (top : TopologyValue) (depth : ℕ) (ts s u r : List Token) (shard time : ℕ) → Reads (whole_below (shard_count top)) depth ts s shard → Reads time_of depth s u time → after_end_array u ≡ Some r
@@ -309,23 +309,42 @@ module _ (depth : ℕ) (ts s u r : List Token) (t : List ℕ) (some : 0 < depth)
 pub named : (k name : List ℕ) (f : List ℕ → Type 0) → bytes_eq k name ≡ true → f name → f k
 named k name f h x = subst f (sym ((bytes_decides k name).0 h)) x
 
-batch_under : (d : Data) (changes : List Change) → list_by change_of d ≡ Some changes → op_of (object (member (codes "batch") d no_members)) ≡ Some (Batch changes)
-unfolding op_of batch_of
-batch_under d changes e = ap (λ o. o >>= (λ c. Some (Batch c))) e
+module _ (top : TopologyValue) where
+  batch_under : (d : Data) (changes : List Change) → list_by change_of d ≡ Some changes → op_of top (object (member (codes "batch") d no_members)) ≡ Some (Batch changes)
+  unfolding op_of batch_of
+  batch_under d changes e = ap (λ o. o >>= (λ c. Some (Batch c))) e
 
-read_under : (d : Data) → op_of (object (member (codes "read") d no_members)) ≡ read_of d
-unfolding op_of
-read_under d = refl
+  read_under : (d : Data) → op_of top (object (member (codes "read") d no_members)) ≡ read_of d
+  unfolding op_of
+  read_under d = refl
 
-pub batch_reads : (k : List ℕ) (depth : ℕ) (ts r : List Token) (changes : List Change) → bytes_eq k (codes "batch") ≡ true → Reads (list_by change_of) depth ts r changes
-    → Reads (λ d. op_of (object (member k d no_members))) depth ts r (Batch changes)
-batch_reads k depth ts r changes e h =
-    named k (codes "batch") (λ n. Reads (λ d. op_of (object (member n d no_members))) depth ts r (Batch changes)) e (h.0, h.1, batch_under h.0 changes h.2)
+  move_under : (d : Data) → op_of top (object (member (codes "move") d no_members)) ≡ move_of top d
+  unfolding op_of
+  move_under d = refl
 
-pub reads_read : (k : List ℕ) (depth : ℕ) (ts r : List Token) (o : Option Op) → bytes_eq k (codes "read") ≡ true → IfSome o (Reads read_of depth ts r)
-    → IfSome o (Reads (λ d. op_of (object (member k d no_members))) depth ts r)
-reads_read k depth ts r o e h =
-    if_some _ _ o (λ x g. named k (codes "read") (λ n. Reads (λ d. op_of (object (member n d no_members))) depth ts r x) e (g.0, g.1, read_under g.0 ∙ g.2)) h
+  -- the member of a name, as an operation
+  abbrev op_named : List ℕ → Data → Option Op
+  op_named k d = op_of top (object (member k d no_members))
+
+  pub batch_reads : (k : List ℕ) (depth : ℕ) (ts r : List Token) (changes : List Change) → bytes_eq k (codes "batch") ≡ true → Reads (list_by change_of) depth ts r changes
+      → Reads (op_named k) depth ts r (Batch changes)
+  batch_reads k depth ts r changes e h =
+      named k (codes "batch") (λ n. Reads (op_named n) depth ts r (Batch changes)) e (h.0, h.1, batch_under h.0 changes h.2)
+
+  pub reads_read : (k : List ℕ) (depth : ℕ) (ts r : List Token) (o : Option Op) → bytes_eq k (codes "read") ≡ true → IfSome o (Reads read_of depth ts r)
+      → IfSome o (Reads (op_named k) depth ts r)
+  reads_read k depth ts r o e h =
+      if_some _ _ o (λ x g. named k (codes "read") (λ n. Reads (op_named n) depth ts r x) e (g.0, g.1, read_under g.0 ∙ g.2)) h
+
+  pub moves_read : (k : List ℕ) (depth : ℕ) (ts r : List Token) (o : Option Op) → bytes_eq k (codes "move") ≡ true → IfSome o (Reads (move_of top) depth ts r)
+      → IfSome o (Reads (op_named k) depth ts r)
+  moves_read k depth ts r o e h =
+      if_some _ _ o (λ x g. named k (codes "move") (λ n. Reads (op_named n) depth ts r x) e (g.0, g.1, move_under g.0 ∙ g.2)) h
+
+  -- the number of a data centre, as a move there
+  pub move_reads : (depth : ℕ) (ts r : List Token) (dc : ℕ) → Reads (whole_below top.dcs) depth ts r dc → Reads (move_of top) depth ts r (Move dc)
+  unfolding move_of
+  move_reads depth ts r dc h = (h.0, h.1, ap (λ o. o >>= (λ n. Some (Move n))) h.2)
 
 -- an object of one member
 pub member_reads : {A : Type 0} (f : Data → Option A) (depth : ℕ) (ts s u v r : List Token) (k : List ℕ) (x : A) → 0 < depth → ts ≡ Token.begin_object ∷ s → read_key s ≡ Some (Some k, u)

@@ -51,6 +51,7 @@ is_outcome_by : (node number : ℕ) (o : Outcome) → is_refusal (entry_by node 
 is_outcome_by node number (outcome.Wrote commit stamp) = refl
 is_outcome_by node number (outcome.Read time answer) = refl
 is_outcome_by node number outcome.Collected = refl
+is_outcome_by node number (outcome.Moved dc floor) = refl
 
 first_kept : (e : Entry) (es : List Entry) → is_refusal e ≡ false → filter is_outcome (e ∷ es) ≡ e ∷ filter is_outcome es
 first_kept e es q = rw q refl

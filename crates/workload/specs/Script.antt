@@ -10,7 +10,7 @@ use Rattle.column_family.specs.Schema.{is_schema}
 use Rattle.slice.specs.declared.predicate.Predicate.{Predicate}
 use Rattle.slice.specs.declared.predicate.Predicate.TheVariants.{Names, Range}
 use Rattle.messages.specs.declared.op.Op.{Op}
-use Rattle.messages.specs.declared.op.Op.TheVariants.{Batch, Read as Asks}
+use Rattle.messages.specs.declared.op.Op.TheVariants.{Batch, Read as Asks, Move}
 use Rattle.messages.specs.Topology.{TopologyValue, is_topology, shard_count, session_node}
 use Rattle.workload.specs.declared.script.Event.{Event}
 use Rattle.workload.specs.declared.script.Event.TheVariants.{Submit, Deliver, Collect, Drain}
@@ -117,20 +117,27 @@ batch_of d = do
   changes ← list_by change_of d
   Some (Batch changes)
 
-abbrev pub op_in : Option Data → Option Data → Option Op
-op_in (Some batch) read = batch_of batch
-op_in None (Some read) = read_of read
-op_in None None = None
+-- the number of a data centre
+unfoldable pub move_of : TopologyValue → Data → Option Op
+move_of top d = do
+  dc ← whole_below top.dcs d
+  Some (Move dc)
 
--- {"batch": ..} or {"read": ..}
-unfoldable pub op_of : Data → Option Op
-op_of d = if has_members 1 d then op_in (get (codes "batch") d) (get (codes "read") d) else None
+abbrev pub op_in : TopologyValue → Option Data → Option Data → Option Data → Option Op
+op_in top (Some batch) read move = batch_of batch
+op_in top None (Some read) move = read_of read
+op_in top None None (Some move) = move_of top move
+op_in top None None None = None
+
+-- {"batch": ..}, {"read": ..} or {"move": ..}
+unfoldable pub op_of : TopologyValue → Data → Option Op
+op_of top d = if has_members 1 d then op_in top (get (codes "batch") d) (get (codes "read") d) (get (codes "move") d) else None
 
 -- ["submit", session, operation], where sessions are numbered from 0
 unfoldable pub submit_of : TopologyValue → Data → Option Event
 submit_of top d = if has_items 3 d then (do
   session ← part_at (whole_below (length top.homes)) 1 d
-  op ← part_at op_of 2 d
+  op ← part_at (op_of top) 2 d
   Some (Submit (session_node top session) op)) else None
 
 -- ["deliver", message]: whether it was sent is seen when the event comes

@@ -60,6 +60,7 @@ abbrev pub entry_by : ℕ → ℕ → Outcome → Entry
 entry_by node number (outcome.Wrote commit stamp) = entry.Wrote node number commit stamp
 entry_by node number (outcome.Read effective answer) = entry.Read node number effective answer
 entry_by node number outcome.Collected = entry.Collected node number
+entry_by node number (outcome.Moved dc floor) = entry.Moved node number dc floor
 
 -- an operation that ended, as an entry
 abbrev pub entry_of : Completed → Entry
@@ -114,6 +115,7 @@ abbrev pub is_refusal : Entry → Bool
 is_refusal (entry.Wrote node number commit stamp) = false
 is_refusal (entry.Read node number effective answer) = false
 is_refusal (entry.Collected node number) = false
+is_refusal (entry.Moved node number dc floor) = false
 is_refusal (entry.Refused node fault) = true
 
 abbrev pub is_outcome : Entry → Bool
@@ -133,8 +135,8 @@ abbrev pub refusal_entry : Event × Refusal → Option Entry
 refusal_entry (Submit node o, Refused e) = Some (entry.Refused node e)
 refusal_entry (x, r) = None
 
--- the answer is that of a read of this node and number, and is the meaning of its request on the history of its home, in
--- whatever order, at the effective time
+-- the answer is that of a read of this node and number, and is the meaning of its request on the history of its home, the data
+-- centre where it was submitted, in whatever order, at the effective time
 pub record ShowsOneTable (top : TopologyValue) (w : Run) (node number time : ℕ) (answer : List AnsweredRow) : Type 0 where
   pub read : Read
   pub home : ℕ

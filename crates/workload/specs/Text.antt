@@ -8,7 +8,7 @@ use Rattle.logical_time.specs.Stamps.{StampValue}
 use Rattle.slice.specs.declared.column.Column.{Column}
 use Rattle.slice.specs.declared.read.AnsweredRow.{AnsweredRow}
 use Rattle.workload.specs.declared.transcript.Entry.{Entry}
-use Rattle.workload.specs.declared.transcript.Entry.TheVariants.{Wrote, Read, Collected, Refused}
+use Rattle.workload.specs.declared.transcript.Entry.TheVariants.{Wrote, Read, Collected, Moved, Refused}
 
 -- ` NAME=VALUE`
 abbrev pub column_text : Column → List ℕ
@@ -39,6 +39,10 @@ commit_text commit stamp =
 abbrev pub answer_text : ℕ → List AnsweredRow → List ℕ
 answer_text effective answer = codes " read at " ++ decimal effective ++ codes "\n" ++ flat_map row_text answer
 
+-- ` moved to D floor F`, and the end of the line
+abbrev pub move_text : ℕ → ℕ → List ℕ
+move_text dc floor = codes " moved to " ++ decimal dc ++ codes " floor " ++ decimal floor ++ codes "\n"
+
 -- `node N refused R`, and the end of the line
 abbrev pub refusal_text : ℕ → Fault → List ℕ
 refusal_text node fault = codes "node " ++ decimal node ++ codes " refused " ++ decimal (number_of fault) ++ codes "\n"
@@ -48,6 +52,7 @@ abbrev pub entry_text : Entry → List ℕ
 entry_text (Wrote node number commit stamp) = op_text node number ++ commit_text commit stamp
 entry_text (Read node number effective answer) = op_text node number ++ answer_text effective answer
 entry_text (Collected node number) = op_text node number ++ codes " collected\n"
+entry_text (Moved node number dc floor) = op_text node number ++ move_text dc floor
 entry_text (Refused node fault) = refusal_text node fault
 
 abbrev pub text_of : List Entry → List ℕ

@@ -2,7 +2,7 @@
 //!
 //! Nothing rests on this: `reading` says what a script is. It is looked at only after a script was refused.
 use crate::wrong::{
-    Known, Sound, Wrong, either, flag, item, items, listed, member, members, need, tag, text,
+    Known, Sound, Wrong, flag, item, items, listed, member, members, need, one_of, tag, text,
     texts, under, unknown, whole,
 };
 use serde_json::{Error, Value as Json};
@@ -61,7 +61,7 @@ fn range(known: Known, json: &Json) -> Sound {
 }
 
 fn predicate(known: Known, json: &Json) -> Sound {
-    either(known, json, "names", "range")?;
+    one_of(known, json, &["names", "range"], r#""names" and "range""#)?;
     match json.get("names") {
         Some(names) => under(known, ".names", texts(known, names)),
         None => under(known, ".range", range(known, member(json, "range"))),
@@ -76,11 +76,16 @@ fn read(known: Known, json: &Json) -> Sound {
 }
 
 fn op(known: Known, json: &Json) -> Sound {
-    either(known, json, "batch", "read")?;
-    match json.get("batch") {
-        Some(changes) => under(known, ".batch", batch(known, changes)),
-        None => under(known, ".read", read(known, member(json, "read"))),
+    let names = ["batch", "read", "move"];
+    one_of(known, json, &names, r#""batch", "read" and "move""#)?;
+    if let Some(changes) = json.get("batch") {
+        return under(known, ".batch", batch(known, changes));
     }
+    if let Some(asked) = json.get("read") {
+        return under(known, ".read", read(known, asked));
+    }
+    let dc = member(json, "move");
+    under(known, ".move", whole(known, dc, 0, known.dc))
 }
 
 // A whole number from 0 on, at a place.

@@ -10,8 +10,8 @@ ghost use Rattle.workload.specs.Script as form;
 use crate::heading::{COUNT_END, USUAL_COUNT};
 use crate::script::{Event, Events, Script};
 use crate::shape::{
-    Shaped, has_items, has_members, list, list_of, member, member_as, members_named, number_at,
-    part_at, text_at, whole_below,
+    Shaped, has_items, has_members, item, list, list_of, member, member_as, members_named,
+    number_at, part_at, text_at, whole_below,
 };
 use crate::streaming::{self, streamed};
 use column_family::{Batch, Change, Family, Key, Mutation, Name, Row, Schema, Value};
@@ -132,18 +132,6 @@ impl Shaped for Predicate {
 
     fn of_reader(alloc: Global, reader: &mut Reader<'_>, depth: usize) -> Option<Predicate> {
         streaming::predicate(alloc, reader, depth)
-    }
-}
-
-impl Shaped for Op {
-    ghost stands_for = { form.op_of };
-
-    fn of_json(alloc: Global, json: &Json) -> Result<Op, Fault> {
-        op(alloc, json)
-    }
-
-    fn of_reader(alloc: Global, reader: &mut Reader<'_>, depth: usize) -> Option<Op> {
-        streaming::op(alloc, reader, depth)
     }
 }
 
@@ -387,9 +375,18 @@ fn batch(alloc: Global, json: &Json) -> Result<Op, Fault>
     Ok(Op::write(alloc, Batch::from_changes(changes))?)
 }
 
+// A data centre of the topology, to which a session moves.
+#[tactic(auto, unfolding(crate::specs::Script::move_of))]
+fn move_op(topology: &Topology, json: &Json) -> Result<Op, Fault>
+    ensures { Gives result (form.move_of topology.now (view json.now)) }
+{
+    let dc = whole_below(json, u64::from(topology.dcs()))? as u16;
+    Ok(Op::Move { dc })
+}
+
 #[tactic(auto, unfolding(crate::specs::Script::op_of))]
-fn op(alloc: Global, json: &Json) -> Result<Op, Fault>
-    ensures { Gives result (form.op_of (view json.now)) }
+fn op(alloc: Global, topology: &Topology, json: &Json) -> Result<Op, Fault>
+    ensures { Gives result (form.op_of topology.now (view json.now)) }
 {
     if !has_members(json, 1) {
         return Err(Fault::Script);
@@ -397,7 +394,10 @@ fn op(alloc: Global, json: &Json) -> Result<Op, Fault>
     if let Some(changes) = json.get("batch") {
         return batch(alloc, changes);
     }
-    read_op(alloc, member(json, "read")?)
+    if let Some(asked) = json.get("read") {
+        return read_op(alloc, asked);
+    }
+    move_op(topology, member(json, "move")?)
 }
 
 #[tactic(auto, unfolding(crate::specs::Script::submit_of))]
@@ -408,7 +408,7 @@ fn submit(alloc: Global, topology: &Topology, json: &Json) -> Result<Event, Faul
         return Err(Fault::Script);
     }
     let session = number_at(json, 1, topology.homes().len() as u64)? as u16;
-    let op = part_at(alloc, json, 2)?;
+    let op = op(alloc, topology, item(json, 2)?)?;
     Ok(Event::Submit {
         session: topology.session_node(session),
         op,

@@ -221,9 +221,23 @@ fn read(alloc: Global, reader: &mut Reader<'_>, depth: usize) -> Option<Op>
     }
 }
 
+/// The data centre, one of the topology, that comes next, and to which a session moves.
+fn move_to(topology: &Topology, reader: &mut Reader<'_>, depth: usize) -> Option<Op>
+    ensures { IfSome result (Reads (form.move_of topology.now) depth reader.old reader.new) }
+{
+    let dc = number_below(reader, depth, u64::from(topology.dcs()))? as u16;
+    Some(Op::Move { dc })
+}
+
 /// The operation that stands under this name and comes next.
-fn op_under(alloc: Global, name: &str, reader: &mut Reader<'_>, depth: usize) -> Option<Op>
-    ensures { IfSome result (Reads (λ d. form.op_of (object (member name.now d no_members))) depth reader.old reader.new) }
+fn op_under(
+    alloc: Global,
+    topology: &Topology,
+    name: &str,
+    reader: &mut Reader<'_>,
+    depth: usize,
+) -> Option<Op>
+    ensures { IfSome result (Reads (λ d. form.op_of topology.now (object (member name.now d no_members))) depth reader.old reader.new) }
 {
     if name == "batch" {
         let changes = list_in(alloc, reader, depth)?;
@@ -233,14 +247,16 @@ fn op_under(alloc: Global, name: &str, reader: &mut Reader<'_>, depth: usize) ->
         }
     } else if name == "read" {
         read(alloc, reader, depth)
+    } else if name == "move" {
+        move_to(topology, reader, depth)
     } else {
         None
     }
 }
 
 /// The operation that comes next.
-pub(crate) fn op(alloc: Global, reader: &mut Reader<'_>, depth: usize) -> Option<Op>
-    ensures { IfSome result (Reads form.op_of depth reader.old reader.new) }
+fn op(alloc: Global, topology: &Topology, reader: &mut Reader<'_>, depth: usize) -> Option<Op>
+    ensures { IfSome result (Reads (form.op_of topology.now) depth reader.old reader.new) }
 {
     if depth == 0 || !opens_object(reader) {
         return None;
@@ -248,7 +264,7 @@ pub(crate) fn op(alloc: Global, reader: &mut Reader<'_>, depth: usize) -> Option
     let Ok(Some(name)) = reader.next_key() else {
         return None;
     };
-    let op = op_under(alloc, name, reader, depth - 1)?;
+    let op = op_under(alloc, topology, name, reader, depth - 1)?;
     match reader.next_key() {
         Ok(None) => Some(op),
         _ => None,
@@ -302,7 +318,7 @@ fn submit(
 {
     let end = topology.homes().len() as u64;
     let session = number_below(reader, depth, end)? as u16;
-    let op = op(alloc, reader, depth)?;
+    let op = op(alloc, topology, reader, depth)?;
     if !reader.take_end_array() {
         return None;
     }

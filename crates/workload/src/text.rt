@@ -7,7 +7,7 @@ ghost use Rattle.logical_time.specs.declared.fault.Fault.TheVariants as fault;
 ghost use Rattle.logical_time.specs.Fault.{number_of};
 ghost use Rattle.program.specs.Outputs.{Adds, AppendsPart};
 ghost use Rattle.workload.specs.Audited.{told_text};
-ghost use Rattle.workload.specs.Text.{is_short_column, column_text, line_text, row_text, op_text, commit_text, answer_text, refusal_text, entry_text, text_of};
+ghost use Rattle.workload.specs.Text.{is_short_column, column_text, line_text, row_text, op_text, commit_text, answer_text, move_text, refusal_text, entry_text, text_of};
 
 use crate::tail::{Tail, put_tail};
 use crate::transcript::{Entry, Transcript};
@@ -367,6 +367,29 @@ fn lay_read(text: &mut [u8], node: Node, number: u64, effective: Time) -> usize
     end + 1
 }
 
+// Lays ` moved to D floor F`, and the end of the line: how many bytes it has.
+fn lay_move(text: &mut [u8], dc: u16, floor: Time) -> usize
+    requires { 113 ≤ length text.old }
+    ensures laid { take result text.new ≡ move_text dc floor }
+    ensures most { result ≤ 113 }
+    ensures length { length text.new ≡ length text.old }
+{
+    let middle = lay_number(text, b" moved to ", u64::from(dc));
+    let end = middle + lay_number(&mut text[middle..], b" floor ", floor.get());
+    text[end] = b'\n';
+    end + 1
+}
+
+// Lays a move: `node N op M moved to D floor F`, and the end of the line: how many bytes it has.
+fn lay_moved(text: &mut [u8], node: Node, number: u64, dc: u16, floor: Time) -> usize
+    requires { 225 ≤ length text.old }
+    ensures laid { take result text.new ≡ op_text node number ++ move_text dc floor }
+    ensures most { result ≤ length text.new }
+{
+    let middle = lay_op(text, node, number);
+    middle + lay_move(&mut text[middle..], dc, floor)
+}
+
 // Lays a refusal: `node N refused R`, and the end of the line: how many bytes it has.
 fn lay_refusal(text: &mut [u8], node: Node, fault: Fault) -> usize
     requires { 113 ≤ length text.old }
@@ -429,6 +452,21 @@ fn put_collected<W: Write>(output: &mut Output<W>, node: Node, number: u64) -> R
     output.put(b" collected\n")
 }
 
+// A move.
+fn put_moved<W: Write>(
+    output: &mut Output<W>,
+    node: Node,
+    number: u64,
+    dc: u16,
+    floor: Time,
+) -> Result<(), Fault>
+    ensures { Adds W.contents output.old output.new result (op_text node number ++ move_text dc floor) }
+{
+    let mut text = [0; 1 + 4 * NUMBER];
+    let end = lay_moved(&mut text, node, number, dc, floor);
+    output.put(&text[..end])
+}
+
 // An entry, with the rows of a read.
 fn put_entry<W: Write>(output: &mut Output<W>, entry: &Entry) -> Result<(), Fault>
     ensures { Adds W.contents output.old output.new result (entry_text entry.now) }
@@ -447,6 +485,12 @@ fn put_entry<W: Write>(output: &mut Output<W>, entry: &Entry) -> Result<(), Faul
             answer,
         } => put_read(output, *node, *number, *effective, answer.as_slice()),
         Entry::Collected { node, number } => put_collected(output, *node, *number),
+        Entry::Moved {
+            node,
+            number,
+            dc,
+            floor,
+        } => put_moved(output, *node, *number, *dc, *floor),
         Entry::Refused { node, fault } => put_refusal(output, *node, *fault),
     }
 }

@@ -39,6 +39,17 @@ pub enum Entry {
         /// The number of the operation, from 1.
         number: u64,
     },
+    /// A session moved.
+    Moved {
+        /// The session.
+        node: Node,
+        /// The number of the operation, from 1.
+        number: u64,
+        /// The number of the new home.
+        dc: u16,
+        /// The floor there.
+        floor: Time,
+    },
     /// A submission was refused.
     Refused {
         /// The session.
@@ -78,6 +89,12 @@ impl Entry {
                 answer,
             },
             Outcome::Collected => Entry::Collected { node, number },
+            Outcome::Moved { dc, floor } => Entry::Moved {
+                node,
+                number,
+                dc,
+                floor,
+            },
         }
     }
 }

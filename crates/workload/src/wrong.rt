@@ -131,15 +131,14 @@ pub(crate) fn members(known: Known, json: &Json, names: &[&str]) -> Sound {
     Ok(())
 }
 
-/// An object with one of two members.
-pub(crate) fn either(known: Known, json: &Json, first: &str, second: &str) -> Sound {
-    members(known, json, &[first, second])?;
-    let has_one = json.get(first).is_some() != json.get(second).is_some();
-    need(
-        known,
-        has_one,
-        format_args!("not one of {first:?} and {second:?}"),
-    )
+/// An object with one of these members, which are spelled so.
+pub(crate) fn one_of(known: Known, json: &Json, names: &[&str], spelled: &str) -> Sound {
+    members(known, json, names)?;
+    let has_one = match json.as_object() {
+        Some(found) => found.len() == 1,
+        None => false,
+    };
+    need(known, has_one, format_args!("not one of {spelled}"))
 }
 
 /// The item at a place, of a list that has it.
