@@ -18,101 +18,139 @@ use Rattle.world.proofs.Among.{Among, among_append, get_among}
 use Rattle.world.proofs.Replacing.{item_at}
 use Rattle.threaded.proofs.Lists.{take_one_more}
 use Rattle.running.specs.declared.course.Course.{Course}
-use Rattle.running.specs.Asked.{asked_by, asked_in, fault_of, accepted_of, refusals_from, own_events}
+use Rattle.running.specs.Asked.{asked_by, asked_in, fault_of, home_if, home_next, home_through, accepted_one, accepted_of, refusals_from, own_events}
 use Rattle.running.specs.Course.{HasCome}
 
 module _ (top : TopologyValue) where
-  abbrev not_refused : ActorEvent → Bool
-  not_refused x = is_none (fault_of top x)
+  pub accepted_append : (home : ℕ) (xs ys : List ActorEvent) → accepted_of top home (xs ++ ys) ≡ accepted_of top home xs ++ accepted_of top (home_through top home xs) ys
+  accepted_append home [] ys = refl
+  accepted_append home (x ∷ xs) ys =
+      let next = home_next top home x in
+      ap (λ l. accepted_one top home x ++ l) (accepted_append next xs ys)
+      ∙ sym (append_assoc (accepted_one top home x) (accepted_of top next xs) (accepted_of top (home_through top next xs) ys))
 
-  pub accepted_append : (xs ys : List ActorEvent) → accepted_of top (xs ++ ys) ≡ accepted_of top xs ++ accepted_of top ys
-  accepted_append xs ys = filter-append not_refused xs ys
+  -- the home after one more
+  home_more : (home : ℕ) (xs : List ActorEvent) (x : ActorEvent) → home_through top home (xs ++ x ∷ []) ≡ home_next top (home_through top home xs) x
+  home_more home [] x = refl
+  home_more home (y ∷ xs) x = home_more (home_next top home y) xs x
 
-  one_accepted : (x : ActorEvent) → fault_of top x ≡ None → accepted_of top (x ∷ []) ≡ x ∷ []
-  one_accepted x none = ap (λ (o : Option Fault). cond (is_none o) (x ∷ []) []) none
+  pub one_accepted : (home : ℕ) (x : ActorEvent) → fault_of top home x ≡ None → accepted_one top home x ≡ x ∷ []
+  one_accepted home x none = ap (λ (o : Option Fault). cond (is_none o) (x ∷ []) []) none
 
-  one_refused : (x : ActorEvent) (f : Fault) → fault_of top x ≡ Some f → accepted_of top (x ∷ []) ≡ []
-  one_refused x f some = ap (λ (o : Option Fault). cond (is_none o) (x ∷ []) []) some
+  one_refused : (home : ℕ) (x : ActorEvent) (f : Fault) → fault_of top home x ≡ Some f → accepted_one top home x ≡ []
+  one_refused home x f some = ap (λ (o : Option Fault). cond (is_none o) (x ∷ []) []) some
 
   pub submissions_append : (xs ys : List ActorEvent) → submissions (xs ++ ys) ≡ submissions xs + submissions ys
   submissions_append xs ys = ap (λ (l : List _). length l) (filter_map-append op_in xs ys) ∙ length-append (filter_map op_in xs) (filter_map op_in ys)
 
-  abbrev refusal_at : ℕ → ActorEvent → List (ℕ × Fault)
-  refusal_at count x = option_to_list (option_map (λ (f : Fault). (count, f)) (fault_of top x))
+  abbrev pub refusal_at : ℕ → ℕ → ActorEvent → List (ℕ × Fault)
+  refusal_at home count x = option_to_list (option_map (λ (f : Fault). (count, f)) (fault_of top home x))
 
-  refusals_more : (count : ℕ) (xs : List ActorEvent) (x : ActorEvent)
-      → refusals_from top count (xs ++ x ∷ []) ≡ refusals_from top count xs ++ refusal_at (count + submissions (accepted_of top xs)) x
-  refusals_more count [] x = append-nil (refusal_at count x) ∙ ap (λ n. refusal_at n x) (omega arith)
-  refusals_more count (y ∷ xs) x =
-      let next : ℕ = count + submissions (accepted_of top (y ∷ [])) in
-      let all : submissions (accepted_of top (y ∷ xs)) ≡ submissions (accepted_of top (y ∷ [])) + submissions (accepted_of top xs) =
-      ap submissions (accepted_append (y ∷ []) xs) ∙ submissions_append (accepted_of top (y ∷ [])) (accepted_of top xs) in
-      let same : next + submissions (accepted_of top xs) ≡ count + submissions (accepted_of top (y ∷ xs)) = omega (arith, all) in
-      ap (λ l. refusal_at count y ++ l) (refusals_more next xs x)
-      ∙ sym (append_assoc (refusal_at count y) (refusals_from top next xs) (refusal_at (next + submissions (accepted_of top xs)) x))
-      ∙ ap (λ n. (refusal_at count y ++ refusals_from top next xs) ++ refusal_at n x) same
+  -- how many are accepted until later
+  pub counted_on : (home count : ℕ) (x : ActorEvent) (xs : List ActorEvent)
+      → (count + submissions (accepted_one top home x)) + submissions (accepted_of top (home_next top home x) xs) ≡ count + submissions (accepted_of top home (x ∷ xs))
+  counted_on home count x xs =
+      let all : submissions (accepted_of top home (x ∷ xs)) ≡ submissions (accepted_one top home x) + submissions (accepted_of top (home_next top home x) xs) =
+      submissions_append (accepted_one top home x) (accepted_of top (home_next top home x) xs) in
+      omega (arith, all)
+
+  -- the refusals of some, and then of others
+  pub refusals_append : (home count : ℕ) (xs ys : List ActorEvent)
+      → refusals_from top home count (xs ++ ys) ≡ refusals_from top home count xs ++ refusals_from top (home_through top home xs) (count + submissions (accepted_of top home xs)) ys
+  refusals_append home count [] ys = ap (λ n. refusals_from top home n ys) (omega arith)
+  refusals_append home count (x ∷ xs) ys =
+      let next = home_next top home x in
+      let after : ℕ = count + submissions (accepted_one top home x) in
+      let later = home_through top next xs in
+      let here = refusal_at home count x in
+      ap (λ l. here ++ l) (refusals_append next after xs ys)
+      ∙ sym (append_assoc here (refusals_from top next after xs) (refusals_from top later (after + submissions (accepted_of top next xs)) ys))
+      ∙ ap (λ n. (here ++ refusals_from top next after xs) ++ refusals_from top later n ys) (counted_on home count x xs)
+
+  refusals_more : (home : ℕ) (xs : List ActorEvent) (x : ActorEvent)
+      → refusals_from top home 0 (xs ++ x ∷ []) ≡ refusals_from top home 0 xs ++ refusal_at (home_through top home xs) (submissions (accepted_of top home xs)) x
+  refusals_more home xs x =
+      refusals_append home 0 xs (x ∷ [])
+      ∙ ap (λ n. refusals_from top home 0 xs ++ refusals_from top (home_through top home xs) n (x ∷ [])) (omega arith)
+      ∙ ap (λ l. refusals_from top home 0 xs ++ l) (append-nil (refusal_at (home_through top home xs) (submissions (accepted_of top home xs)) x))
 
   -- ## One event more
 
-  -- one that was accepted
-  accepted_more : (xs : List ActorEvent) (x : ActorEvent) → fault_of top x ≡ None → accepted_of top (xs ++ x ∷ []) ≡ accepted_of top xs ++ x ∷ []
-  accepted_more xs x none = accepted_append xs (x ∷ []) ∙ ap (λ l. accepted_of top xs ++ l) (one_accepted x none)
+  module _ (home : ℕ) (xs : List ActorEvent) (x : ActorEvent) where
+    -- the home when it is reached
+    abbrev home_then : ℕ
+    home_then = home_through top home xs
 
-  no_refusal_more : (xs : List ActorEvent) (x : ActorEvent) → fault_of top x ≡ None → refusals_from top 0 (xs ++ x ∷ []) ≡ refusals_from top 0 xs
-  no_refusal_more xs x none =
-      refusals_more 0 xs x ∙ ap (λ (o : Option Fault). refusals_from top 0 xs ++ option_to_list (option_map (λ (f : Fault). (0 + submissions (accepted_of top xs), f)) o)) none
-      ∙ append-nil (refusals_from top 0 xs)
+    -- one that was accepted
+    accepted_more : fault_of top home_then x ≡ None → accepted_of top home (xs ++ x ∷ []) ≡ accepted_of top home xs ++ x ∷ []
+    accepted_more none = accepted_append home xs (x ∷ []) ∙ ap (λ l. accepted_of top home xs ++ (l ++ [])) (one_accepted home_then x none)
 
-  -- one that was refused
-  accepted_same : (xs : List ActorEvent) (x : ActorEvent) (f : Fault) → fault_of top x ≡ Some f → accepted_of top (xs ++ x ∷ []) ≡ accepted_of top xs
-  accepted_same xs x f some = accepted_append xs (x ∷ []) ∙ ap (λ l. accepted_of top xs ++ l) (one_refused x f some) ∙ append-nil (accepted_of top xs)
+    no_refusal_more : fault_of top home_then x ≡ None → refusals_from top home 0 (xs ++ x ∷ []) ≡ refusals_from top home 0 xs
+    no_refusal_more none =
+        refusals_more home xs x
+        ∙ ap (λ (o : Option Fault). refusals_from top home 0 xs ++ option_to_list (option_map (λ (f : Fault). (submissions (accepted_of top home xs), f)) o)) none
+        ∙ append-nil (refusals_from top home 0 xs)
 
-  refusal_more : (xs : List ActorEvent) (x : ActorEvent) (f : Fault) → fault_of top x ≡ Some f
-      → refusals_from top 0 (xs ++ x ∷ []) ≡ refusals_from top 0 xs ++ (submissions (accepted_of top xs), f) ∷ []
-  refusal_more xs x f some =
-      refusals_more 0 xs x
-      ∙ ap (λ (o : Option Fault). refusals_from top 0 xs ++ option_to_list (option_map (λ (f : Fault). (0 + submissions (accepted_of top xs), f)) o)) some
-      ∙ ap (λ n. refusals_from top 0 xs ++ (n, f) ∷ []) (omega arith)
+    home_moved : fault_of top home_then x ≡ None → home_through top home (xs ++ x ∷ []) ≡ home_if None home_then x
+    home_moved none = home_more home xs x ∙ ap (λ (o : Option Fault). home_if o home_then x) none
+
+    -- one that was refused
+    accepted_same : (f : Fault) → fault_of top home_then x ≡ Some f → accepted_of top home (xs ++ x ∷ []) ≡ accepted_of top home xs
+    accepted_same f some =
+        accepted_append home xs (x ∷ []) ∙ ap (λ l. accepted_of top home xs ++ (l ++ [])) (one_refused home_then x f some) ∙ append-nil (accepted_of top home xs)
+
+    refusal_more : (f : Fault) → fault_of top home_then x ≡ Some f
+        → refusals_from top home 0 (xs ++ x ∷ []) ≡ refusals_from top home 0 xs ++ (submissions (accepted_of top home xs), f) ∷ []
+    refusal_more f some =
+        refusals_more home xs x
+        ∙ ap (λ (o : Option Fault). refusals_from top home 0 xs ++ option_to_list (option_map (λ (f : Fault). (submissions (accepted_of top home xs), f)) o)) some
+
+    home_stays : (f : Fault) → fault_of top home_then x ≡ Some f → home_through top home (xs ++ x ∷ []) ≡ home_then
+    home_stays f some = home_more home xs x ∙ ap (λ (o : Option Fault). home_if o home_then x) some
 
   -- ## How far it came
 
   -- what the actor did next of its own is what is asked next
-  pub came_by_own : (s : SeatValue) (c d : Course) (done : List ActorEvent) (x : ActorEvent) (place : ℕ) → HasCome top s c done → fault_of top x ≡ None → IsOwn x
+  pub came_by_own : (first : ℕ) (s : SeatValue) (c d : Course) (done : List ActorEvent) (x : ActorEvent) (place : ℕ) → HasCome top first s c done → fault_of top c.home x ≡ None → IsOwn x
       → own_events (take place s.journal) ≡ own_events (take c.events s.journal) → slice_get s.journal place ≡ Some x
-      → d.events ≡ place + 1 → d.refusals ≡ c.refusals → d.accepted ≡ c.accepted + submissions (x ∷ []) → HasCome top s d (done ++ x ∷ [])
-  came_by_own s c d done x place come none own passed at events refusals accepted =
+      → d.events ≡ place + 1 → d.refusals ≡ c.refusals → d.accepted ≡ c.accepted + submissions (x ∷ []) → d.home ≡ home_if None c.home x → HasCome top first s d (done ++ x ∷ [])
+  came_by_own first s c d done x place come now own passed at events refusals accepted home =
+      let none : fault_of top (home_through top first done) x ≡ None = ap (λ h. fault_of top h x) (sym come.home) ∙ now in
       let next : place + 1 ≡ suc place = omega arith in
       let one : own_events (x ∷ []) ≡ x ∷ [] = ap (λ (o : Option _). cond (is_none o) (x ∷ []) []) own in
       record {
         own =
             ap (λ n. own_events (take n s.journal)) (events ∙ next) ∙ ap own_events (take_one_more s.journal place x at)
             ∙ filter-append (λ y. is_none (envelope_of y)) (take place s.journal) (x ∷ []) ∙ ap (λ l. own_events (take place s.journal) ++ l) one
-            ∙ ap (λ l. l ++ x ∷ []) (passed ∙ come.own) ∙ sym (accepted_more done x none);
-        refused = ap (λ n. take n s.refusals) refusals ∙ come.refused ∙ sym (no_refusal_more done x none);
+            ∙ ap (λ l. l ++ x ∷ []) (passed ∙ come.own) ∙ sym (accepted_more first done x none);
+        refused = ap (λ n. take n s.refusals) refusals ∙ come.refused ∙ sym (no_refusal_more first done x none);
         counted =
-            accepted ∙ ap (λ n. n + submissions (x ∷ [])) come.counted ∙ sym (submissions_append (accepted_of top done) (x ∷ []))
-            ∙ ap submissions (sym (accepted_more done x none));
+            accepted ∙ ap (λ n. n + submissions (x ∷ [])) come.counted ∙ sym (submissions_append (accepted_of top first done) (x ∷ []))
+            ∙ ap submissions (sym (accepted_more first done x none));
+        home = home ∙ ap (λ h. home_if None h x) come.home ∙ sym (home_moved first done x none);
       }
 
   -- what is asked next was refused
-  pub came_by_refusal : (s : SeatValue) (c d : Course) (done : List ActorEvent) (x : ActorEvent) (r : ℕ × Fault) → HasCome top s c done → fault_of top x ≡ Some r.1
+  pub came_by_refusal : (first : ℕ) (s : SeatValue) (c d : Course) (done : List ActorEvent) (x : ActorEvent) (r : ℕ × Fault) → HasCome top first s c done → fault_of top c.home x ≡ Some r.1
       → r.0 ≡ c.accepted → slice_get s.refusals c.refusals ≡ Some r
-      → d.events ≡ c.events → d.refusals ≡ c.refusals + 1 → d.accepted ≡ c.accepted → HasCome top s d (done ++ x ∷ [])
-  came_by_refusal s c d done x r come some count at events refusals accepted =
+      → d.events ≡ c.events → d.refusals ≡ c.refusals + 1 → d.accepted ≡ c.accepted → d.home ≡ c.home → HasCome top first s d (done ++ x ∷ [])
+  came_by_refusal first s c d done x r come now count at events refusals accepted home =
+      let some : fault_of top (home_through top first done) x ≡ Some r.1 = ap (λ h. fault_of top h x) (sym come.home) ∙ now in
       let next : c.refusals + 1 ≡ suc c.refusals = omega arith in
-      let same : r ≡ (submissions (accepted_of top done), r.1) = ap (λ n. (n, r.1)) (count ∙ come.counted) in
+      let same : r ≡ (submissions (accepted_of top first done), r.1) = ap (λ n. (n, r.1)) (count ∙ come.counted) in
       record {
-        own = ap (λ n. own_events (take n s.journal)) events ∙ come.own ∙ sym (accepted_same done x r.1 some);
+        own = ap (λ n. own_events (take n s.journal)) events ∙ come.own ∙ sym (accepted_same first done x r.1 some);
         refused =
             ap (λ n. take n s.refusals) (refusals ∙ next) ∙ take_one_more s.refusals c.refusals r at ∙ ap (λ l. l ++ r ∷ []) come.refused
-            ∙ ap (λ z. refusals_from top 0 done ++ z ∷ []) same ∙ sym (refusal_more done x r.1 some);
-        counted = accepted ∙ come.counted ∙ ap submissions (sym (accepted_same done x r.1 some));
+            ∙ ap (λ z. refusals_from top first 0 done ++ z ∷ []) same ∙ sym (refusal_more first done x r.1 some);
+        counted = accepted ∙ come.counted ∙ ap submissions (sym (accepted_same first done x r.1 some));
+        home = home ∙ come.home ∙ sym (home_stays first done x r.1 some);
       }
 
   -- nothing was done, and nothing asked
-  pub come_first : (s : SeatValue) (c : Course) → c.events ≡ 0 → c.refusals ≡ 0 → c.accepted ≡ 0 → HasCome top s c []
-  come_first s c events refusals accepted =
-      record { own = ap (λ n. own_events (take n s.journal)) events; refused = ap (λ n. take n s.refusals) refusals; counted = accepted }
+  pub come_first : (first : ℕ) (s : SeatValue) (c : Course) → c.events ≡ 0 → c.refusals ≡ 0 → c.accepted ≡ 0 → c.home ≡ first → HasCome top first s c []
+  come_first first s c events refusals accepted home =
+      record { own = ap (λ n. own_events (take n s.journal)) events; refused = ap (λ n. take n s.refusals) refusals; counted = accepted; home = home }
 
 -- ## Places
 

@@ -29,7 +29,7 @@ use Rattle.workload.specs.declared.transcript.Entry.{Entry}
 use Rattle.workload.specs.declared.transcript.Entry.TheVariants as entry
 use Rattle.workload.specs.Simulation.{entry_by, entry_of, is_outcome, ShowsOneTable}
 use Rattle.workload.proofs.Shown.{shows}
-use Rattle.running.specs.Asked.{asked_of, HasTaken}
+use Rattle.running.specs.Asked.{DidAsked}
 use Rattle.running.specs.Faults.{HaveTaken, AreOfScript, CanEnd, IsToldAs, IsEndedBy}
 use Rattle.running.specs.Told.{count_before, refusal_by, told_before, left_after, told_by, told_at, told_of}
 use Rattle.running.specs.Running.{IsToldOf}
@@ -44,6 +44,7 @@ module _ (node : ℕ) where
   is_one number (outcome.Wrote commit stamp) = refl
   is_one number (outcome.Read time answer) = refl
   is_one number outcome.Collected = refl
+  is_one number (outcome.Moved dc floor) = refl
 
   no_outcome : (rs : List (ℕ × Fault)) → filter is_outcome (map (refusal_by node) rs) ≡ []
   no_outcome [] = refl
@@ -161,12 +162,12 @@ module _ (top : TopologyValue) (entries : List Entry) (seats : List SeatValue) (
 -- ## Seats of a script
 
 module _ (s : Script) (seats : List SeatValue) where
-  each_took : HaveTaken s seats → (node : ℕ) (seat : SeatValue) → node < node_count s.topology → seat_of seats node ≡ Some seat → HasTaken s.topology (asked_of s node) seat
+  each_took : HaveTaken s seats → (node : ℕ) (seat : SeatValue) → node < node_count s.topology → seat_of seats node ≡ Some seat → DidAsked s node seat
   each_took took node seat lt at =
       let here = took node lt in
       let both : Some here.0 ≡ Some seat = sym here.1 ∙ at in
       let same : here.0 ≡ seat = cc in
-      subst (λ z. HasTaken s.topology (asked_of s node) z) same here.2
+      subst (λ z. DidAsked s node z) same here.2
 
   pub is_transcript : (entries : List Entry) (top : TopologyValue) → top ≡ s.topology → AreConcluded top seats → All IsResting seats → HaveTaken s seats
       → AreOfQuietRun top seats → entries ≡ told_of top seats → IsToldOf s (record { top = top; seats = seats }) entries

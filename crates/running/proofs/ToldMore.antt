@@ -14,7 +14,7 @@ use Rattle.threaded.proofs.Lists.{flat_more, range_more}
 use Rattle.workload.specs.declared.script.Script.{Script}
 use Rattle.workload.specs.declared.transcript.Entry.{Entry}
 use Rattle.workload.specs.Simulation.{entry_by}
-use Rattle.running.specs.Asked.{asked_of, HasTaken}
+use Rattle.running.specs.Asked.{DidAsked}
 use Rattle.running.specs.Faults.{TookIn, HaveTaken}
 use Rattle.running.specs.Told.{count_before, refusal_by, told_before, left_after, told_by, told_at}
 
@@ -182,12 +182,12 @@ module _ (script : Script) (seats : List SeatValue) where
   pub no_seat_took : (node : ℕ) → seat_of seats node ≡ None → TookIn script seats node → ⊥
   no_seat_took node none took = let no : None ≡ Some took.0 = sym none ∙ took.1 in absurd (cc)
 
-  pub seat_took : (node : ℕ) (s : SeatValue) (b : Bool) → seat_of seats node ≡ Some s → (b ≡ true) ↔ HasTaken script.topology (asked_of script node) s
+  pub seat_took : (node : ℕ) (s : SeatValue) (b : Bool) → seat_of seats node ≡ Some s → (b ≡ true) ↔ DidAsked script node s
       → (b ≡ true) ↔ TookIn script seats node
   seat_took node s b at tells = (
     λ is. (s, at, tells.0 is),
     λ took.
         let both : Some took.0 ≡ Some s = sym took.1 ∙ at in
         let same : took.0 ≡ s = cc in
-        tells.1 (subst (λ z. HasTaken script.topology (asked_of script node) z) same took.2),
+        tells.1 (subst (λ z. DidAsked script node z) same took.2),
   )

@@ -14,7 +14,7 @@ use Rattle.threaded.specs.Machines.{Refuses}
 use Rattle.threaded.specs.OneRun.{seat_of, AreSeatsOf}
 use Rattle.threaded.specs.Quiet.{AreAllReceived}
 use Rattle.workload.specs.declared.script.Script.{Script}
-use Rattle.running.specs.Asked.{asked_of, HasTaken}
+use Rattle.running.specs.Asked.{DidAsked}
 use Rattle.running.specs.Loaded.{AreLoadedSeats}
 
 -- ## What workers report
@@ -34,7 +34,7 @@ first_fault (s ∷ shifts) = option_or (fault_at s.end) (first_fault shifts)
 
 -- the actor with this node has a seat, and did all that the script asks of it
 abbrev pub TookIn : Script → List SeatValue → ℕ → Type 0
-TookIn s seats node = (seat : SeatValue) × (seat_of seats node ≡ Some seat) × HasTaken s.topology (asked_of s node) seat
+TookIn s seats node = (seat : SeatValue) × (seat_of seats node ≡ Some seat) × DidAsked s node seat
 
 -- so it is of each actor
 abbrev pub HaveTaken : Script → List SeatValue → Type 0

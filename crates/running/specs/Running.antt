@@ -13,7 +13,7 @@ use Rattle.workload.specs.declared.transcript.Entry.TheVariants as entry
 use Rattle.audit.specs.declared.found.Audit.{Audit}
 use Rattle.workload.specs.Audited.{IsAuditOf}
 use Rattle.workload.specs.Simulation.{entry_of, is_outcome, ShowsOneTable}
-use Rattle.running.specs.Asked.{asked_of, HasTaken}
+use Rattle.running.specs.Asked.{DidAsked}
 use Rattle.running.specs.Told.{told_of}
 
 -- The entries are told of seats that did what the script asks of their actors, and whose journals are those of a run.
@@ -24,7 +24,7 @@ pub record IsThreadTranscriptOf (s : Script) (entries : List Entry) : Type 0 whe
   -- no seat had anything left to do
   pub resting : All IsResting seats
   -- each actor did all that the script asks of it
-  pub taken : (node : ℕ) (seat : SeatValue) → node < node_count s.topology → seat_of seats node ≡ Some seat → HasTaken s.topology (asked_of s node) seat
+  pub taken : (node : ℕ) (seat : SeatValue) → node < node_count s.topology → seat_of seats node ≡ Some seat → DidAsked s node seat
   -- they received all that was sent: the run is quiet, so every operation ended, and all data centres have one table
   pub quiet : AreOfQuietRun s.topology seats
   -- what is told of the sessions, one after the other

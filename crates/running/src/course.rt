@@ -1,21 +1,20 @@
 //! How far an actor came with what was asked of it.
-ghost use Rattle.std.specs.Prelude.{◌≡◌, ◌↔◌, ◌≤◌, ◌++◌, ◌∷◌, [], List, true, false, not, take, length, slice_get, Some, None, option_copied, option_to_list};
+ghost use Rattle.std.specs.Prelude.{◌≡◌, ◌↔◌, ◌≤◌, ◌++◌, ◌∷◌, [], ℕ, List, true, false, not, take, length, slice_get, Some, None, option_copied, option_to_list};
 ghost use Rattle.std.specs.Option.{is_none};
 ghost use Rattle.logical_time.specs.Fault.{IsRefusedFor};
 ghost use Rattle.messages.specs.declared.event.Event.{Event as ActorEvent};
 ghost use Rattle.messages.specs.declared.event.Event.TheVariants as event;
-ghost use Rattle.messages.specs.Actors.{envelope_of};
-ghost use Rattle.messages.specs.Submitting.{plan_fault};
+ghost use Rattle.messages.specs.Actors.{envelope_of, opening_home};
+ghost use Rattle.messages.specs.Submitting.{move_fault, plan_fault};
 ghost use Rattle.messages.specs.Topology.{TopologyValue};
 ghost use Rattle.actors.specs.Journals.{IsOwn};
-ghost use Rattle.running.specs.Asked.{asked_by, asked_of, fault_of, own_events, HasTaken};
+ghost use Rattle.running.specs.Asked.{asked_by, fault_of, home_by, own_events, HasTaken, DidAsked};
 ghost use Rattle.running.specs.Course.{IsWithin, HasCome, DidNotDo, HasStopped};
 
 use actors::Seat;
-use column_family::Schema;
 use equality::same_op;
 use logical_time::{Fault, Node, Time};
-use messages::{Event, Op};
+use messages::{Event, Op, Topology};
 use planner::{check_batch, check_read};
 use threaded::Actor;
 use workload::{Event as ScriptEvent, Script};
@@ -29,15 +28,51 @@ pub struct Course {
     pub refusals: usize,
     /// How many operations it accepted until there.
     pub accepted: usize,
+    /// Its home after these: where the last accepted move takes it.
+    pub home: u16,
 }
 
-/// Whether an operation is refused for what it asks.
-fn check(schema: &Schema, op: &Op) -> Result<(), Fault>
-    ensures { (top : TopologyValue) → top.schema ≡ schema.now → IsRefusedFor (plan_fault top op.now) result }
+/// Whether a move of a session is refused: to a data centre that isn't there, or to where the session is.
+fn check_move(topology: &Topology, home: u16, dc: u16) -> Result<(), Fault>
+    ensures { IsRefusedFor (move_fault topology.now home dc) result }
+{
+    if dc >= topology.dcs() {
+        return Err(Fault::UnknownHome);
+    }
+    if dc == home {
+        return Err(Fault::AlreadyHome);
+    }
+    Ok(())
+}
+
+/// Whether an operation of a session at this home is refused for what it asks.
+fn check(topology: &Topology, home: u16, op: &Op) -> Result<(), Fault>
+    ensures { IsRefusedFor (plan_fault topology.now home op.now) result }
 {
     match op {
-        Op::Batch(batch) => check_batch(schema, batch.get()),
-        Op::Read(read) => check_read(schema, read.get()),
+        Op::Batch(batch) => check_batch(topology.schema(), batch.get()),
+        Op::Read(read) => check_read(topology.schema(), read.get()),
+        Op::Move { dc } => check_move(topology, home, *dc),
+    }
+}
+
+/// The home after an operation that is accepted.
+fn home_after(home: u16, op: &Op) -> u16
+    ensures { result ≡ home_by home op.now }
+{
+    match op {
+        Op::Batch(_) | Op::Read(_) => home,
+        Op::Move { dc } => *dc,
+    }
+}
+
+/// The home of the session with this node before its first event.
+fn first_home(topology: &Topology, node: Node) -> u16
+    ensures { result ≡ opening_home topology.now node }
+{
+    match topology.home_of(node) {
+        Some(home) => home,
+        None => 0,
     }
 }
 
@@ -109,10 +144,10 @@ impl Course {
     fn submits(&mut self, seat: &Seat<Actor>, op: &Op) -> bool
         requires { IsWithin seat.now self.old }
         ensures within { IsWithin seat.now self.new }
-        ensures came { (top : TopologyValue) (done : List ActorEvent) → plan_fault top op.now ≡ None → HasCome top seat.now self.old done
-            → result ≡ true → HasCome top seat.now self.new (done ++ event.Submit op.now ∷ []) }
-        ensures stopped { (top : TopologyValue) (done : List ActorEvent) → plan_fault top op.now ≡ None → HasCome top seat.now self.old done
-            → result ≡ false → DidNotDo top seat.now done (event.Submit op.now) }
+        ensures came { (top : TopologyValue) (first : ℕ) (done : List ActorEvent) → plan_fault top self.old.home op.now ≡ None → HasCome top first seat.now self.old done
+            → result ≡ true → HasCome top first seat.now self.new (done ++ event.Submit op.now ∷ []) }
+        ensures stopped { (top : TopologyValue) (first : ℕ) (done : List ActorEvent) → plan_fault top self.old.home op.now ≡ None → HasCome top first seat.now self.old done
+            → result ≡ false → DidNotDo top first seat.now done (event.Submit op.now) }
     {
         let journal = seat.journal();
         self.events = next_own(journal, self.events);
@@ -121,6 +156,7 @@ impl Course {
         }
         self.events += 1;
         self.accepted += 1;
+        self.home = home_after(self.home, op);
         true
     }
 
@@ -128,10 +164,10 @@ impl Course {
     fn collects(&mut self, seat: &Seat<Actor>, time: Time) -> bool
         requires { IsWithin seat.now self.old }
         ensures within { IsWithin seat.now self.new }
-        ensures came { (top : TopologyValue) (done : List ActorEvent) → HasCome top seat.now self.old done
-            → result ≡ true → HasCome top seat.now self.new (done ++ event.Collect time ∷ []) }
-        ensures stopped { (top : TopologyValue) (done : List ActorEvent) → HasCome top seat.now self.old done
-            → result ≡ false → DidNotDo top seat.now done (event.Collect time) }
+        ensures came { (top : TopologyValue) (first : ℕ) (done : List ActorEvent) → HasCome top first seat.now self.old done
+            → result ≡ true → HasCome top first seat.now self.new (done ++ event.Collect time ∷ []) }
+        ensures stopped { (top : TopologyValue) (first : ℕ) (done : List ActorEvent) → HasCome top first seat.now self.old done
+            → result ≡ false → DidNotDo top first seat.now done (event.Collect time) }
     {
         let journal = seat.journal();
         self.events = next_own(journal, self.events);
@@ -146,10 +182,10 @@ impl Course {
     fn refuses(&mut self, seat: &Seat<Actor>, fault: Fault) -> bool
         requires { IsWithin seat.now self.old }
         ensures within { IsWithin seat.now self.new }
-        ensures came { (top : TopologyValue) (x : ActorEvent) (done : List ActorEvent) → fault_of top x ≡ Some fault → HasCome top seat.now self.old done
-            → result ≡ true → HasCome top seat.now self.new (done ++ x ∷ []) }
-        ensures stopped { (top : TopologyValue) (x : ActorEvent) (done : List ActorEvent) → fault_of top x ≡ Some fault → HasCome top seat.now self.old done
-            → result ≡ false → DidNotDo top seat.now done x }
+        ensures came { (top : TopologyValue) (first : ℕ) (x : ActorEvent) (done : List ActorEvent) → fault_of top self.old.home x ≡ Some fault → HasCome top first seat.now self.old done
+            → result ≡ true → HasCome top first seat.now self.new (done ++ x ∷ []) }
+        ensures stopped { (top : TopologyValue) (first : ℕ) (x : ActorEvent) (done : List ActorEvent) → fault_of top self.old.home x ≡ Some fault → HasCome top first seat.now self.old done
+            → result ≡ false → DidNotDo top first seat.now done x }
     {
         let refusals = seat.refusals();
         if !is_refusal(
@@ -168,21 +204,23 @@ impl Course {
         &mut self,
         seat: &Seat<Actor>,
         node: Node,
-        schema: &Schema,
+        topology: &Topology,
         event: &ScriptEvent,
     ) -> bool
         requires { IsWithin seat.now self.old }
         ensures within { IsWithin seat.now self.new }
-        ensures came { (top : TopologyValue) (done : List ActorEvent) → top.schema ≡ schema.now → HasCome top seat.now self.old done
-            → result ≡ true → HasCome top seat.now self.new (done ++ option_to_list (asked_by node event.now)) }
-        ensures stopped { (top : TopologyValue) (done : List ActorEvent) → top.schema ≡ schema.now → HasCome top seat.now self.old done
-            → result ≡ false → HasStopped top seat.now done (asked_by node event.now) }
+        ensures came { (first : ℕ) (done : List ActorEvent) → HasCome topology.now first seat.now self.old done
+            → result ≡ true → HasCome topology.now first seat.now self.new (done ++ option_to_list (asked_by node event.now)) }
+        ensures stopped { (first : ℕ) (done : List ActorEvent) → HasCome topology.now first seat.now self.old done
+            → result ≡ false → HasStopped topology.now first seat.now done (asked_by node event.now) }
     {
         match event {
-            ScriptEvent::Submit { session, op } if *session == node => match check(schema, op) {
-                Ok(()) => self.submits(seat, op),
-                Err(fault) => self.refuses(seat, fault),
-            },
+            ScriptEvent::Submit { session, op } if *session == node => {
+                match check(topology, self.home, op) {
+                    Ok(()) => self.submits(seat, op),
+                    Err(fault) => self.refuses(seat, fault),
+                }
+            }
             ScriptEvent::Collect { shard, time } if *shard == node => self.collects(seat, *time),
             _ => true,
         }
@@ -191,7 +229,7 @@ impl Course {
     /// Whether the actor did nothing else of its own, and nothing else was refused.
     fn is_whole(&self, seat: &Seat<Actor>) -> bool
         requires { IsWithin seat.now self.now }
-        ensures { (top : TopologyValue) (done : List ActorEvent) → HasCome top seat.now self.now done → (result ≡ true) ↔ HasTaken top done seat.now }
+        ensures { (top : TopologyValue) (first : ℕ) (done : List ActorEvent) → HasCome top first seat.now self.now done → (result ≡ true) ↔ HasTaken top first done seat.now }
     {
         let journal = seat.journal();
         if next_own(journal, self.events) < journal.len() {
@@ -207,16 +245,17 @@ impl Course {
 /// Whether the actor of a seat did all that the script asks of the actor with this node, and nothing else of its own. Linear in
 /// the script and the journal, beside what operations are long.
 pub(crate) fn has_taken(script: &Script, node: Node, seat: &Seat<Actor>) -> bool
-    ensures { (result ≡ true) ↔ HasTaken script.now.topology (asked_of script.now node) seat.now }
+    ensures { (result ≡ true) ↔ DidAsked script.now node seat.now }
 {
     let events = script.events.as_slice();
     let mut course = Course {
         events: 0,
         refusals: 0,
         accepted: 0,
+        home: first_home(&script.topology, node),
     };
     for place in 0..events.len() {
-        if !course.goes_on(seat, node, script.topology.schema(), &events[place]) {
+        if !course.goes_on(seat, node, &script.topology, &events[place]) {
             return false;
         }
     }
