@@ -17,6 +17,11 @@ pub(crate) fn time(word: &str) -> Time {
     Time::new(number(word)).unwrap_or(Time::zero())
 }
 
+/// The number of a data centre.
+pub(crate) fn centre(word: &str) -> u16 {
+    word.parse().unwrap_or(0)
+}
+
 /// `TIME.NODE`.
 pub(crate) fn stamp(word: &str) -> Stamp {
     let (first, second) = word.split_once('.').unwrap_or((word, ""));

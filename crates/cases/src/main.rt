@@ -28,7 +28,7 @@ use std::io;
 use std::thread::Threads;
 use table::History;
 
-fn tell_steps(rt: &HostRuntime) -> Result<(), Fault> {
+fn tell_steps<T: Threads + Sync>(rt: &HostRuntime, threads: &T) -> Result<(), Fault> {
     let alloc = rt.alloc();
     steps::tell(rt, "command_lines.steps", &mut command_lines::Line)?;
     steps::tell(rt, "normal_forms.steps", &mut normal_forms::Normal)?;
@@ -40,7 +40,7 @@ fn tell_steps(rt: &HostRuntime) -> Result<(), Fault> {
     worlds::tell(rt)?;
     parts::tell(rt)?;
     spent_clocks::tell(rt)?;
-    schedules::tell(rt)
+    schedules::tell(rt, threads)
 }
 
 fn tell_scripts<T: Threads + Sync>(rt: &HostRuntime, threads: &T) -> io::Result<()> {
@@ -51,7 +51,7 @@ fn tell_scripts<T: Threads + Sync>(rt: &HostRuntime, threads: &T) -> io::Result<
 }
 
 fn main(rt: HostRuntime) -> Result<(), Fault> {
-    tell_steps(&rt)?;
+    tell_steps(&rt, &rt)?;
     match tell_scripts(&rt, &rt) {
         Ok(()) => Ok(()),
         Err(_) => Err(Fault::ReadFailed),

@@ -1,14 +1,16 @@
 //! Schedules: operations are submitted and messages delivered as random numbers say, and then all that is left. Each
-//! completed read has to be answered with its meaning on the history of its home.
-use crate::building::{batch, number, range, read, topology};
+//! completed read has to be answered with its meaning on the history of the home where it was submitted, and in the end
+//! nothing is open, and both data centres hold one table. In some schedules the sessions move between the two.
+use crate::building::{batch, number, range, read, time, topology};
 use crate::worlds::{deliver, history, submit};
 use logical_time::{Fault, Node, Time};
 use messages::{Op, Outcome};
 use slice::{Answer, Read};
 use std::alloc::Global;
 use std::fs;
-use table::answer;
-use workload::drain;
+use std::thread::Threads;
+use table::{History, answer};
+use workload::{audit, drain};
 use world::{Completed, World};
 
 /// How many sessions there are.
@@ -32,24 +34,48 @@ fn insertions(alloc: Global, number: u64) -> Result<Op, Fault> {
     Ok(Op::write(alloc, batch(alloc, &[first.as_str(), second.as_str()])?)?)
 }
 
-/// The operation of this number of a session: insertions, if it is odd, and else a read of what they write.
-fn operation(alloc: Global, number: u64) -> Result<Op, Fault> {
-    if number % 2 == 1 {
-        return insertions(alloc, number);
-    }
+/// A read of all columns of these rows.
+fn all_columns(alloc: Global) -> Result<Read, Fault> {
     let all = range(alloc, "-", "-", "100", false)?;
-    Ok(Op::read(alloc, read(alloc, "ab", all)?)?)
+    read(alloc, "ab", all)
 }
 
-/// The session whose turn it is submits its next operation. While it is busy, it keeps that for its next turn.
-fn submit_next(alloc: Global, world: &mut World, next: &mut [u64], turn: u16) -> Result<(), Fault> {
+/// Whether sessions stay in their data centres.
+#[derive(Clone, Copy, PartialEq, Eq)]
+enum Sessions {
+    Stay,
+    Move,
+}
+
+/// The operation of this number of a session that stays: insertions, if it is odd, and else a read of what they write. One that
+/// moves does so at even numbers, to the one data centre and the other, and inserts and reads between.
+fn operation(alloc: Global, sessions: Sessions, number: u64) -> Result<Op, Fault> {
+    if sessions == Sessions::Move && number % 2 == 0 {
+        let dc = (number / 2 % 2) as u16;
+        return Ok(Op::Move { dc });
+    }
+    if number % 4 == 1 || (sessions == Sessions::Stay && number % 2 == 1) {
+        return insertions(alloc, number);
+    }
+    Ok(Op::read(alloc, all_columns(alloc)?)?)
+}
+
+/// The session whose turn it is submits its next operation. While it is busy, it keeps that for its next turn. A move to the data
+/// centre where it is is refused, and not made again.
+fn submit_next(
+    alloc: Global,
+    world: &mut World,
+    sessions: Sessions,
+    next: &mut [u64],
+    turn: u16,
+) -> Result<(), Fault> {
     let session = turn % SESSIONS;
     let Some(number) = next.get_mut(session as usize) else {
         return Err(Fault::Script);
     };
-    let op = operation(alloc, *number)?;
+    let op = operation(alloc, sessions, *number)?;
     match submit(world, Node::new(FIRST_SESSION + session), op) {
-        Ok(()) => {
+        Ok(()) | Err(Fault::AlreadyHome) => {
             *number = number.wrapping_add(1);
             Ok(())
         }
@@ -67,13 +93,13 @@ fn deliver_one(world: &mut World, number: u64) -> Result<(), Fault> {
 }
 
 /// Plays the schedule of this seed, and then drains the world.
-fn play(alloc: Global, world: &mut World, seed: u64) -> Result<(), Fault> {
+fn play(alloc: Global, world: &mut World, sessions: Sessions, seed: u64) -> Result<(), Fault> {
     let mut next = [1u64; SESSIONS as usize];
     let mut number = seed;
     for step in 1..=LENGTH {
         number = following(number);
         if step % 10 == 0 {
-            submit_next(alloc, world, &mut next, step / 10)?;
+            submit_next(alloc, world, sessions, &mut next, step / 10)?;
         }
         deliver_one(world, number / 65_536)?;
     }
@@ -112,60 +138,156 @@ fn judged(alloc: Global, world: &World, ended: &Completed) -> Result<Option<bool
     }
 }
 
-/// How many reads completed, and how many of them with another answer than they mean.
+/// The history of each data centre.
+fn histories(alloc: Global, world: &World) -> Result<Vec<History>, Fault> {
+    let mut histories = Vec::new(alloc);
+    for dc in 0..world.topology().dcs() {
+        histories.push(history(alloc, world, dc)?)?;
+    }
+    Ok(histories)
+}
+
+/// Whether all these histories have one table at the greatest time.
+fn agree(alloc: Global, histories: &[History]) -> Result<bool, Fault> {
+    let (read, last) = (all_columns(alloc)?, time("281474976710655"));
+    for history in histories {
+        for other in histories {
+            let first = answer(alloc, history, last, &read)?;
+            if !are_same(&first, &answer(alloc, other, last, &read)?) {
+                return Ok(false);
+            }
+        }
+    }
+    Ok(true)
+}
+
+/// How many moves and reads completed, how many reads with another answer than they mean, how many the audit finds and how
+/// many wrong ones, and after how many schedules nothing was open, and all data centres held one table.
 #[derive(Drop)]
 struct Count {
+    moves: u64,
     reads: u64,
     wrong: u64,
+    audited: u64,
+    misread: u64,
+    quiet: u64,
+    agreed: u64,
+}
+
+fn add(count: &mut u64, is_one: bool) {
+    if is_one {
+        *count = count.wrapping_add(1);
+    }
 }
 
 impl Count {
-    fn add(&mut self, is_right: bool) {
-        self.reads = self.reads.wrapping_add(1);
-        if !is_right {
-            self.wrong = self.wrong.wrapping_add(1);
+    fn new() -> Count {
+        Count {
+            moves: 0,
+            reads: 0,
+            wrong: 0,
+            audited: 0,
+            misread: 0,
+            quiet: 0,
+            agreed: 0,
         }
     }
 
-    fn add_all(&mut self, alloc: Global, world: &World) -> Result<(), Fault> {
+    /// Adds what ended.
+    fn add_ended(&mut self, alloc: Global, world: &World) -> Result<(), Fault> {
         for ended in world.transcript() {
+            add(
+                &mut self.moves,
+                matches!(&ended.outcome, Outcome::Moved { .. }),
+            );
             if let Some(is_right) = judged(alloc, world, ended)? {
-                self.add(is_right);
+                add(&mut self.reads, true);
+                add(&mut self.wrong, !is_right);
             }
         }
         Ok(())
     }
 
-    /// Adds the reads of the schedule of this seed.
-    fn add_schedule(&mut self, alloc: Global, seed: u64) -> Result<(), Fault> {
+    /// Adds what the audit finds, and how the world was left.
+    fn add_left<T: Threads + Sync>(
+        &mut self,
+        threads: &T,
+        alloc: Global,
+        world: &World,
+    ) -> Result<(), Fault> {
+        let histories = histories(alloc, world)?;
+        let found = audit(threads, alloc, histories.as_slice(), world.transcript())?;
+        self.audited = self.audited.wrapping_add(found.reads);
+        self.misread = self.misread.wrapping_add(found.wrong);
+        add(&mut self.quiet, world.is_quiet());
+        add(&mut self.agreed, agree(alloc, histories.as_slice())?);
+        Ok(())
+    }
+
+    /// Adds all of a world in which the schedule of this seed was played.
+    fn add_played<T: Threads + Sync>(
+        &mut self,
+        threads: &T,
+        alloc: Global,
+        world: &mut World,
+        (sessions, seed): (Sessions, u64),
+    ) -> Result<(), Fault> {
+        play(alloc, world, sessions, seed)?;
+        self.add_ended(alloc, world)?;
+        self.add_left(threads, alloc, world)
+    }
+
+    /// Adds the schedule of this seed.
+    fn add_schedule<T: Threads + Sync>(
+        &mut self,
+        threads: &T,
+        alloc: Global,
+        schedule: (Sessions, u64),
+    ) -> Result<(), Fault> {
         let topology = topology(alloc, (2, 2), &[0, 1, 0])?;
         let mut world = World::new(alloc, &topology)?;
-        let added = match play(alloc, &mut world, seed) {
-            Ok(()) => self.add_all(alloc, &world),
-            Err(fault) => Err(fault),
-        };
+        let added = self.add_played(threads, alloc, &mut world, schedule);
         world.close();
         added
     }
 }
 
-/// How many schedules are to be played.
-fn schedules(rt: &HostRuntime) -> Result<u64, Fault> {
-    match fs::read_to_string(rt, "schedules.txt") {
-        Ok(text) => Ok(number(text.trim())),
-        Err(_) => Err(Fault::ReadFailed),
+/// Plays so many schedules, and tells what came of them.
+fn tell_all<T: Threads + Sync>(
+    rt: &HostRuntime,
+    threads: &T,
+    sessions: Sessions,
+    schedules: u64,
+) -> Result<(), Fault> {
+    let mut count = Count::new();
+    for seed in 1..=schedules {
+        count.add_schedule(threads, rt.alloc(), (sessions, seed))?;
     }
+    let Count {
+        moves,
+        reads,
+        wrong,
+        audited,
+        misread,
+        quiet,
+        agreed,
+    } = count;
+    let word = if sessions == Sessions::Move {
+        " with moves"
+    } else {
+        ""
+    };
+    println!(rt;
+        "schedules {schedules}{word}: moves {moves}, reads {reads}, wrong {wrong}, audit {audited} wrong {misread}, quiet {quiet}, agreed {agreed}"
+    ).map_err(|_| Fault::WriteFailed)
 }
 
-pub(crate) fn tell(rt: &HostRuntime) -> Result<(), Fault> {
-    let schedules = schedules(rt)?;
-    let mut count = Count { reads: 0, wrong: 0 };
-    for seed in 1..=schedules {
-        count.add_schedule(rt.alloc(), seed)?;
-    }
-    let Count { reads, wrong } = count;
-    match println!(rt; "schedules {schedules}: reads {reads}, wrong {wrong}") {
-        Ok(()) => Ok(()),
-        Err(_) => Err(Fault::WriteFailed),
-    }
+/// Plays as many schedules as the file says in its first line, and in its second with moves.
+pub(crate) fn tell<T: Threads + Sync>(rt: &HostRuntime, threads: &T) -> Result<(), Fault> {
+    let Ok(text) = fs::read_to_string(rt, "schedules.txt") else {
+        return Err(Fault::ReadFailed);
+    };
+    let (staying, moving) = text.split_once('\n').unwrap_or((text.as_str(), ""));
+    tell_all(rt, threads, Sessions::Stay, number(staying.trim()))?;
+    tell_all(rt, threads, Sessions::Move, number(moving.trim()))
 }

@@ -9,16 +9,21 @@ use std::{fs, io};
 use workload::perform;
 
 /// The names of the scripts with a transcript.
-const SCRIPTS: [&str; 29] = [
+const SCRIPTS: [&str; 37] = [
     "collected_while_waiting",
     "concurrent_inserts_meet",
     "count_after_deletion",
     "dependency_holds_back",
     "dependency_through_a_read",
     "each_message_twice",
+    "floor_falls",
     "horizon_at_effective_time",
     "insert_and_read_back",
     "late_repeats",
+    "move_and_back",
+    "move_waits_for_each",
+    "move_where_collected",
+    "move_without_dependencies",
     "older_insert_under_range",
     "older_stamp_arrives_late",
     "range_deletion",
@@ -35,9 +40,12 @@ const SCRIPTS: [&str; 29] = [
     "reversed_ranges",
     "row_deletion_inside_batch",
     "second_round_collected",
+    "session_moves",
+    "sessions_meet",
     "two_shard_write",
     "undecided_is_excluded",
     "unseen_column_under_mark",
+    "write_after_move",
     "write_is_replicated",
 ];
 

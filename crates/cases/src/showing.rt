@@ -162,5 +162,9 @@ pub(crate) fn add_outcome(seen: &mut String, outcome: &Outcome) -> Result<(), Fa
             add_answer(seen, answer)
         }
         Outcome::Collected => Ok(seen.push_str("collected")?),
+        Outcome::Moved { dc, floor } => {
+            let floor = floor.get();
+            Ok(write!(seen, "moved to {dc} floor {floor}")?)
+        }
     }
 }

@@ -1,5 +1,5 @@
 //! A world that the steps move: what ends and what is sent at each step, and what its data centres hold.
-use crate::building::{batch, columns_named, node, number, range, read, time, topology};
+use crate::building::{batch, centre, columns_named, node, number, range, read, time, topology};
 use crate::showing::{add_commit, add_outcome, add_sent, add_space};
 use crate::steps::{Subject, tell as tell_steps};
 use crate::tables::add_read;
@@ -78,6 +78,7 @@ fn happen(alloc: Global, world: &mut World, words: &[&str]) -> Result<(), Fault>
             let predicate = range(alloc, start, finish, count, false)?;
             submit_read(alloc, world, session, rows, predicate)
         }
+        ["move", session, dc] => submit(world, node(session), Op::Move { dc: centre(dc) }),
         ["deliver", numbers @ ..] => deliver_all(world, numbers),
         ["collect", shard, until] => collect(world, node(shard), time(until)),
         _ => Err(Fault::Script),
@@ -144,10 +145,11 @@ fn tell_each(
 }
 
 /// Files of steps in one data centre of one shard.
-const OF_ONE_SHARD: [&str; 3] = [
+const OF_ONE_SHARD: [&str; 4] = [
     "insert_and_read_back.steps",
     "read_of_nothing.steps",
     "count_after_deletion.steps",
+    "range_deletion.steps",
 ];
 
 /// Files of steps in one data centre of two shards.
@@ -180,5 +182,6 @@ pub(crate) fn tell(rt: &HostRuntime) -> Result<(), Fault> {
     tell_each(rt, &OF_TWO_SHARDS, (1, 2), &[0, 0, 0])?;
     tell_each(rt, &OF_TWO_CENTRES, (2, 1), &[0, 1])?;
     tell_in(rt, "dependency_through_a_read.steps", (2, 1), &[0, 0, 0])?;
+    tell_in(rt, "session_moves.steps", (2, 1), &[0])?;
     tell_in(rt, "write_is_replicated.steps", (2, 2), &[0, 1])
 }

@@ -73,6 +73,10 @@ pub(crate) fn add_ended(
             add_answer(seen, answer)
         }
         Outcome::Collected => Ok(seen.push_str(" collected;")?),
+        Outcome::Moved { dc, floor } => {
+            let floor = floor.get();
+            Ok(write!(seen, " moved to {dc} floor {floor};")?)
+        }
     }
 }
 

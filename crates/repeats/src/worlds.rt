@@ -1,5 +1,7 @@
 //! Worlds that steps move, with each refused call made again.
-use crate::building::{batch, first_word, node, number, read, reading, time, topology};
+use crate::building::{
+    batch, centre, columns_named, first_word, node, number, read, reading, time, topology, walking,
+};
 use crate::showing::{add_answer, add_ended, add_history, add_sent, print, tell_refused};
 use logical_time::{Fault, Node, Time};
 use messages::Op;
@@ -75,10 +77,14 @@ fn happen(rt: &HostRuntime, world: &mut World, step: &str) -> Result<(), Fault> 
             submit(rt, world, node(actor), op)
         }
         "read" => {
-            let (rows, columns) = first_word(more);
-            let op = again!(rt; reading(rt.alloc(), rows, columns))?;
+            let op = again!(rt; reading(rt.alloc(), more))?;
             submit(rt, world, node(actor), op)
         }
+        "range" => {
+            let op = again!(rt; walking(rt.alloc(), more))?;
+            submit(rt, world, node(actor), op)
+        }
+        "move" => submit(rt, world, node(actor), Op::Move { dc: centre(more) }),
         "deliver" => deliver_all(rt, world, words),
         "collect" => again!(rt; collect_once(world, node(actor), time(more))),
         _ => Err(Fault::Script),
@@ -105,10 +111,8 @@ fn entries(alloc: Global, history: &History) -> Result<String, Fault> {
 /// What column x of the rows b, a and b is on the history at a time.
 fn table_at(alloc: Global, history: &History, at: Time) -> Result<String, Fault> {
     let mut seen = String::new(alloc);
-    add_answer(
-        &mut seen,
-        &answer(alloc, history, at, &read(alloc, "bab", "x")?)?,
-    )?;
+    let read = read(alloc, "bab", columns_named(alloc, "x")?)?;
+    add_answer(&mut seen, &answer(alloc, history, at, &read)?)?;
     Ok(seen)
 }
 
@@ -165,8 +169,10 @@ fn tell_in(rt: &HostRuntime, file: &str, size: (u16, u16), homes: &[u16]) -> Res
 }
 
 pub(crate) fn tell(rt: &HostRuntime) -> Result<(), Fault> {
+    tell_in(rt, "range_deletion.steps", (1, 1), &[0])?;
     tell_in(rt, "read_asks_coordinator.steps", (1, 2), &[0, 0])?;
     tell_in(rt, "dependency_holds_back.steps", (2, 1), &[0, 1])?;
     tell_in(rt, "second_round_collected.steps", (1, 2), &[0, 0])?;
+    tell_in(rt, "session_moves.steps", (2, 1), &[0])?;
     tell_in(rt, "write_is_replicated.steps", (2, 2), &[0, 1])
 }

@@ -16,16 +16,19 @@ use threaded::{Actor, Concluded, conclude};
 use workload::{Event as ScriptEvent, Script, Transcript, read_script};
 
 /// The names of the scripts.
-const SCRIPTS: [&str; 5] = [
+const SCRIPTS: [&str; 8] = [
     "insert_and_read_back",
     "two_shard_write",
     "write_is_replicated",
     "rows_apart",
     "range_deletion",
+    "session_moves",
+    "move_and_back",
+    "move_without_dependencies",
 ];
 
 /// The names of scripts in which the schedule decides what is told: how many operations end is all that is printed.
-const RACES: [&str; 8] = [
+const RACES: [&str; 12] = [
     "read_asks_coordinator",
     "undecided_is_excluded",
     "concurrent_inserts_meet",
@@ -34,6 +37,10 @@ const RACES: [&str; 8] = [
     "unseen_column_under_mark",
     "one_row",
     "range_deletion_is_waited_for",
+    "move_waits_for_each",
+    "sessions_meet",
+    "write_after_move",
+    "floor_falls",
 ];
 
 /// The names of scripts of which one answer is changed.

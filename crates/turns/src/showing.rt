@@ -94,6 +94,10 @@ fn add_outcome(seen: &mut String, outcome: &Outcome) -> Result<(), Fault> {
             add_answer(seen, answer)
         }
         Outcome::Collected => Ok(seen.push_str("collected; ")?),
+        Outcome::Moved { dc, floor } => {
+            let floor = floor.get();
+            Ok(write!(seen, "moved to {dc} floor {floor}; ")?)
+        }
     }
 }
 
@@ -142,6 +146,15 @@ pub(crate) fn add_entry(seen: &mut String, entry: &Entry) -> Result<(), Fault> {
         Entry::Collected { node, number } => {
             add_place(seen, *node, *number)?;
             seen.push_str("collected\n")?;
+        }
+        Entry::Moved {
+            node,
+            number,
+            dc,
+            ..
+        } => {
+            add_place(seen, *node, *number)?;
+            write!(seen, "moved to {dc}\n")?;
         }
         Entry::Refused { node, fault } => {
             let (node, number) = (node.get(), fault.number());

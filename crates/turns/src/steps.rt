@@ -10,11 +10,12 @@ use std::fs;
 use threaded::Actor;
 
 /// The files of steps.
-const FILES: [&str; 4] = [
+const FILES: [&str; 5] = [
     "by_hand.steps",
     "ring_of_one.steps",
     "ring_of_one_then_its_reader.steps",
     "journal_of_three.steps",
+    "move_by_hand.steps",
 ];
 
 /// How many envelopes of a seat are counted at most.
@@ -73,6 +74,7 @@ fn step_seat(
 ) -> Result<(), Fault> {
     match words {
         ["submit", changes @ ..] => add_number(seen, submit(seat, batch(alloc, changes)?)),
+        ["move", dc] => add_number(seen, submit(seat, Op::Move { dc: small(dc) })),
         ["collect", until] => add_done(seen, seat.collect(time(until))),
         ["is", "to", "submit", changes @ ..] => {
             load(alloc, seat, Event::Submit(batch(alloc, changes)?))

@@ -3,7 +3,7 @@ use super::lines::{Served, serve};
 use super::showing::{bytes_of, digits, number_of, word_of};
 use crate::showing::print;
 use front::Failing;
-use logical_time::Fault;
+use logical_time::{Fault, Time};
 use messages::Outcome;
 use std::alloc::Global;
 use std::fs;
@@ -121,6 +121,13 @@ fn tell_served(rt: &HostRuntime, stream: Vec<u8>) -> Result<(), Fault> {
     )
 }
 
+/// Tells the reply of an outcome.
+fn tell_reply(rt: &HostRuntime, name: &str, outcome: Outcome) -> Result<(), Fault> {
+    let reply = encode_reply(rt.alloc(), &Ok(outcome))?;
+    let shown = digits(rt.alloc(), &reply)?;
+    print(rt, format!(in rt.alloc(); "{name}: {shown}")?.as_str())
+}
+
 /// Tells what is read of each stream of the file, a name and its bytes, and what is answered to it.
 pub(crate) fn tell(rt: &HostRuntime) -> Result<(), Fault> {
     let Ok(text) = fs::read_to_string(rt, "frames.txt") else {
@@ -132,7 +139,7 @@ pub(crate) fn tell(rt: &HostRuntime) -> Result<(), Fault> {
         tell_read(rt, name, &stream)?;
         tell_served(rt, stream)?;
     }
-    let collected = encode_reply(rt.alloc(), &Ok(Outcome::Collected))?;
-    let shown = digits(rt.alloc(), &collected)?;
-    print(rt, format!(in rt.alloc(); "collected: {shown}")?.as_str())
+    tell_reply(rt, "collected", Outcome::Collected)?;
+    let floor = Time::new(6).unwrap_or(Time::zero());
+    tell_reply(rt, "moved", Outcome::Moved { dc: 1, floor })
 }

@@ -28,7 +28,7 @@ fn serve_in(
     step: usize,
     failing: Failing,
 ) -> Result<Served, Fault> {
-    let session = Node::new(1);
+    let session = Node::new(2);
     if world.topology().session_of(session).is_none() {
         return Err(Fault::Script);
     }

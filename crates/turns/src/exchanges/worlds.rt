@@ -9,7 +9,7 @@ use world::World;
 pub(crate) const REQUESTS: &str =
     "000000130100000001016600016200000178000000013100000012020166000000010001620000000001000178";
 
-/// A world of one shard with so many sessions.
+/// A world of two data centres of one shard, with so many sessions, all at home in the first.
 pub(crate) fn world(alloc: Global, sessions: u16) -> Result<World, Fault> {
     let mut families = Vec::new(alloc);
     families.push(Family::from_slice(alloc, b"f")?)?;
@@ -18,6 +18,6 @@ pub(crate) fn world(alloc: Global, sessions: u16) -> Result<World, Fault> {
     for _ in 0..sessions {
         homes.push(0)?;
     }
-    let topology = Topology::new(1, 1, schema, homes)?;
+    let topology = Topology::new(2, 1, schema, homes)?;
     World::new(alloc, &topology)
 }
