@@ -4,7 +4,7 @@ ghost use Rattle.std.specs.Prelude.{◌≡◌, ◌+◌, ◌*◌, ◌<◌, ◌≤
 use logical_time::{Node, Shard, Shards};
 use std::marker::Model;
 
-/// A data centre, as its shards and the sessions at home there see it: its shards are nodes in a row.
+/// A data centre, as its shards see it: they are nodes in a row.
 #[derive(Clone, Copy)]
 pub struct Home {
     dc: u16,
