@@ -19,8 +19,8 @@ use Rattle.table.specs.Meaning.{shown_row}
 use Rattle.store.specs.declared.part.Part.{Part}
 use Rattle.store.specs.Part.{IsRightPart, committed_of, history_of, applied_by}
 use Rattle.store.specs.Keeps.{AreApart, IsNewStamp}
-use Rattle.store.proofs.Apart.{new_stamp}
-use Rattle.store.proofs.Newer.{same_itself}
+use Rattle.store.proofs.newest.Apart.{new_stamp}
+use Rattle.store.proofs.newest.Newer.{same_itself}
 use Rattle.audit.specs.Laid.{applied_of, all_applied}
 
 -- ---- elements of lists

@@ -10,7 +10,7 @@ use Rattle.logical_time.specs.Stamps.{StampValue, stamp_cmp}
 use Rattle.column_family.specs.declared.batch.Committed.{Committed}
 use Rattle.column_family.specs.History.{History}
 use Rattle.store.specs.declared.part.Applied.{Applied}
-use Rattle.store.specs.Kept.{Kept}
+use Rattle.store.specs.Stored.{StoreValue}
 use Rattle.store.specs.Keeps.{Keeps}
 use Rattle.audit.specs.Laid.{applied_of, all_applied, IsApplied, IsAppliedIn, IsLaidIn}
 
@@ -48,12 +48,12 @@ seen_more es i c s before after lt e so_far added =
     ∙ ap (λ b. b || (is_eq (stamp_cmp s c.stamp) || false)) so_far
     ∙ sym (ap (list_any (λ a. is_eq (stamp_cmp s a.stamp))) (taken_more es i c lt e) ∙ list_any-append (λ (a : Applied). is_eq (stamp_cmp s a.stamp)) (all_applied (take i es)) (applied_of c ∷ []))
 
-pub applied_more : (es : History) (i : ℕ) (c : Committed) (before after : Kept) → i < length es → c ≡ get_or es i c → IsApplied before (take i es)
+pub applied_more : (es : History) (i : ℕ) (c : Committed) (before after : StoreValue) → i < length es → c ≡ get_or es i c → IsApplied before (take i es)
     → Keeps after (all_applied (take i es) ++ applied_of c ∷ []) → after.low ≡ before.low → IsApplied after (take (i + 1) es)
 applied_more es i c before after lt e applied keeps low =
     record { keeps = subst (λ parts. Keeps after parts) (sym (taken_more es i c lt e)) keeps; low = low ∙ applied.low }
 
 -- what is applied in another order is laid out
-pub laid_in : (o : Option Kept) (h order : History) → IsPermutation h order → IsAppliedIn o order → IsLaidIn o h
+pub laid_in : (o : Option StoreValue) (h order : History) → IsPermutation h order → IsAppliedIn o order → IsLaidIn o h
 laid_in None h order same applied = tt
 laid_in (Some s) h order same applied = record { order = order; same = same; applied = applied }

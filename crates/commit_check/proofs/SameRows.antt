@@ -5,10 +5,10 @@ use Rattle.logical_time.specs.Stamps.{WriterValue}
 use Rattle.slice.specs.declared.read.Read.{Read}
 use Rattle.slice.specs.declared.column.Column.{Column}
 use Rattle.store.specs.declared.part.Part.{Part}
-use Rattle.store.specs.Kept.{Kept}
+use Rattle.store.specs.Stored.{StoreValue}
 use Rattle.store.specs.Keeps.{Keeps}
 use Rattle.store.specs.Part.{applied_by}
-use Rattle.store.proofs.SameParts.{same_part}
+use Rattle.store.proofs.newest.SameParts.{same_part}
 use Rattle.pending.specs.Marks.{MarkList}
 use Rattle.messages.specs.declared.rows_at.RowAt.{RowAt}
 use Rattle.messages.specs.declared.rows_now.RowNow.{RowNow}
@@ -23,7 +23,7 @@ use Rattle.commit_check.specs.Marked.{AreMarksOf}
 use Rattle.messages.specs.Known.{AreOnce}
 use Rattle.commit_check.proofs.LeastMarks.{latest_is}
 
-pub found_now : (s : Kept) (ms : MarkList) (a : ShardState) (n : ℕ) (read : Read) (key : List ℕ) (r : RowNow) → Keeps s a.applied → AreMarksOf ms a → AreOnce (λ (x : PreparedPart). x.txn) a.prepared
+pub found_now : (s : StoreValue) (ms : MarkList) (a : ShardState) (n : ℕ) (read : Read) (key : List ℕ) (r : RowNow) → Keeps s a.applied → AreMarksOf ms a → AreOnce (λ (x : PreparedPart). x.txn) a.prepared
     → IsFoundNow s ms n read key r → r ≡ row_now n a read key
 found_now s ms a n read key r keeps marked once found =
     let w = row_now n a read key in
@@ -36,7 +36,7 @@ found_now s ms a n read key r keeps marked once found =
     ∙ ap (λ (x : ℕ). record { key = key; columns = w.columns; writers = w.writers; evt = x; lvt = r.lvt }) (newest.evt ∙ sym shown.evt)
     ∙ ap (λ (x : ℕ). record { key = key; columns = w.columns; writers = w.writers; evt = w.evt; lvt = x }) (latest_is ms a (row_of read key) n r.lvt marked once found.lvt_is))
 
-pub found_at : (s : Kept) (coming : Option ComingPart) (a : ShardState) (time : ℕ) (read : Read) (key : List ℕ) (part : Part) (r : RowAt) → Keeps s a.applied
+pub found_at : (s : StoreValue) (coming : Option ComingPart) (a : ShardState) (time : ℕ) (read : Read) (key : List ℕ) (part : Part) (r : RowAt) → Keeps s a.applied
     → MayCome coming a.applied → IsFoundAt s coming time read key part → r ≡ record { key = key; columns = part.columns; writers = part.writers }
     → r ≡ row_at time (after coming a) read key
 found_at s coming a time read key part r keeps may found is =

@@ -6,7 +6,7 @@ use Rattle.std.specs.List.{AllByRecursion}
 use Rattle.std.specs.Prelude.{◌↔◌, Contains}
 use Rattle.std.specs.List.Sorted.{IsStrictlySortedBy}
 use Rattle.logical_time.specs.Stamps.{WriterValue, writer_cmp}
-use Rattle.store.proofs.SameParts.{same_sorted}
+use Rattle.store.proofs.newest.SameParts.{same_sorted}
 use Rattle.logical_time.proofs.WriterOrder.{exact_writer, writer_total}
 use Rattle.messages.specs.Words.{placed_writer, with_writer, in_writer_order}
 use Rattle.messages.proofs.WritersInOrder.{writers_ascend, writers_stay}

@@ -7,7 +7,7 @@ use Rattle.slice.specs.declared.predicate.Predicate.{Predicate}
 use Rattle.slice.specs.declared.read.Read.{Read}
 use Rattle.store.specs.declared.part.Applied.{Applied}
 use Rattle.store.specs.Part.{history_of, applied_by, IsRestedOn, IsPartOf, IsRightPart, IsNewestPart}
-use Rattle.store.proofs.Lists.{kept, kept_only}
+use Rattle.store.proofs.lists.Lists.{kept, kept_only}
 use Rattle.planner.proofs.Members.{contains_map, map_contains}
 use Rattle.messages.specs.Shard.{ShardState}
 use Rattle.slice.specs.Rows.{row_of}

@@ -12,19 +12,19 @@ use Rattle.messages.specs.Shard.{ShardState, PreparedPart}
 -- ## What envelopes say
 
 -- a commit time and a stamp that an envelope of this time names for a transaction
-pub record Told : Type 0 where
+pub record ToldCommit : Type 0 where
   pub txn : TxnValue
   pub commit : ℕ
   pub stamp : StampValue
   pub time : ℕ
 
-abbrev pub told_in : ℕ → Body → Option Told
+abbrev pub told_in : ℕ → Body → Option ToldCommit
 told_in time (body.Commit t commit stamp) = Some (record { txn = t; commit = commit; stamp = stamp; time = time })
 told_in time (body.At t commit stamp) = Some (record { txn = t; commit = commit; stamp = stamp; time = time })
 told_in time other = None
 
 -- what Commit and At tell among these envelopes
-abbrev pub all_told : List Envelope → List Told
+abbrev pub all_told : List Envelope → List ToldCommit
 all_told es = filter_map (λ e. told_in e.time e.body) es
 
 -- the part that Begin, Prepare, ReplBegin and ReplPart carry; none in others
@@ -49,14 +49,14 @@ stamps_met a es =
 -- other and with what the shard itself did.
 pub record IsHonest (a : ShardState) (es : List Envelope) : Type 0 where
   -- all Commit and At of a transaction name the same commit time and the same stamp
-  pub commit : (x y : Told) → Contains (all_told es) x → Contains (all_told es) y → x.txn ≡ y.txn → x.commit ≡ y.commit
-  pub stamp : (x y : Told) → Contains (all_told es) x → Contains (all_told es) y → x.txn ≡ y.txn → x.stamp ≡ y.stamp
+  pub commit : (x y : ToldCommit) → Contains (all_told es) x → Contains (all_told es) y → x.txn ≡ y.txn → x.commit ≡ y.commit
+  pub stamp : (x y : ToldCommit) → Contains (all_told es) x → Contains (all_told es) y → x.txn ≡ y.txn → x.stamp ≡ y.stamp
   -- that commit time is above the prepare time that this shard gave the transaction
-  pub prepared : (x : Told) (p : PreparedPart) → Contains (all_told es) x → Contains a.prepared p → p.txn ≡ x.txn → p.time < x.commit
+  pub prepared : (x : ToldCommit) (p : PreparedPart) → Contains (all_told es) x → Contains a.prepared p → p.txn ≡ x.txn → p.time < x.commit
   -- and not above the envelope's time
-  pub told : (x : Told) → Contains (all_told es) x → x.commit ≤ x.time
+  pub told : (x : ToldCommit) → Contains (all_told es) x → x.commit ≤ x.time
   -- no NotBy of the transaction names a time at or above it
-  pub excluded : (x : Told) (e : Envelope) (time : ℕ) → Contains (all_told es) x → Contains es e → e.body ≡ body.NotBy x.txn time → time < x.commit
+  pub excluded : (x : ToldCommit) (e : Envelope) (time : ℕ) → Contains (all_told es) x → Contains es e → e.body ≡ body.NotBy x.txn time → time < x.commit
   -- two transactions have two stamps
   pub stamps : (x y : StampedTxn) → Contains (stamps_met a es) x → Contains (stamps_met a es) y → x.stamp ≡ y.stamp → x.txn ≡ y.txn
   -- a ReadAt names a time not above its envelope's

@@ -7,7 +7,7 @@ use Rattle.logical_time.specs.Stamps.{TxnValue, stamp_cmp}
 use Rattle.column_family.specs.Normal.{IsNormal}
 use Rattle.store.specs.declared.part.Applied.{Applied}
 use Rattle.store.specs.Keeps.{IsNewStamp}
-use Rattle.store.proofs.Apart.{apart_more}
+use Rattle.store.proofs.newest.Apart.{apart_more}
 use Rattle.messages.specs.Topology.{TopologyValue}
 use Rattle.messages.specs.Words.{is_same_txn}
 use Rattle.messages.specs.Shard.{ShardState, Own, PreparedPart, BegunBallot, Decision, KeptBallot}

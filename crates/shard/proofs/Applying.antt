@@ -3,7 +3,7 @@ use Rattle.std.proofs.Common.{◌≡◌, ◌∙◌, sym, ap, subst, refl, ℕ, B
 use Rattle.logical_time.specs.Stamps.{StampValue, TxnValue}
 use Rattle.column_family.specs.declared.batch.Row.{Row}
 use Rattle.store.specs.declared.part.Applied.{Applied}
-use Rattle.store.specs.Kept.{Chains, HasRoom}
+use Rattle.store.specs.Stored.{Chains, HasRoom}
 use Rattle.txn_state.specs.Prepared.{PreparedValue}
 use Rattle.store.specs.Keeps.{AreApart}
 use Rattle.messages.specs.declared.envelope.Envelope.{Envelope}

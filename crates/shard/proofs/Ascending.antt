@@ -6,7 +6,7 @@ use Rattle.std.specs.List.Sorted.{IsStrictlySortedBy}
 use Rattle.std.specs.declared.cmp.Ordering.TheVariants.{Less}
 use Rattle.std.proofs.lemmas.Bool.Decides.{nat_tests}
 use Rattle.logical_time.specs.Stamps.{TxnValue, txn_cmp, WriterValue, writer_cmp}
-use Rattle.store.proofs.Lists.{none_in_empty, contains_first, contains_rest, first_or_rest, given, given_only}
+use Rattle.store.proofs.lists.Lists.{none_in_empty, contains_first, contains_rest, first_or_rest, given, given_only}
 use Rattle.messages.specs.Words.{in_writer_order}
 use Rattle.messages.proofs.WritersInOrder.{writers_ascend, writers_stay}
 use Rattle.shard.proofs.Lists.{each_contained}

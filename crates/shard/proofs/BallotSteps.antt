@@ -5,7 +5,7 @@ use Rattle.logical_time.specs.Stamps.{TxnValue}
 use Rattle.column_family.proofs.Options.{by_cases}
 use Rattle.store.specs.declared.part.Applied.{Applied}
 use Rattle.store.specs.Keeps.{Keeps, AreApart}
-use Rattle.store.specs.Kept as in_store
+use Rattle.store.specs.Stored as in_store
 use Rattle.txn_state.specs.declared.part.WritePart.{WritePart}
 use Rattle.txn_state.specs.Ballot.{CompleteValue}
 use Rattle.txn_state.specs.Ready.{ready_for}
@@ -76,9 +76,9 @@ under_way_after : (t : TxnValue) (s : State) (n : ℕ) (k : Kept) (room ts : Tra
 under_way_after t s n k room ts l grown ledger room_early becomes store early u = record {
   place = u.place;
   clock = u.clock;
-  low = ap (λ (x : in_store.Kept). x.low) (u.store ∙ store) ∙ grown.low;
+  low = ap (λ (x : in_store.StoreValue). x.low) (u.store ∙ store) ∙ grown.low;
   state = λ x. ap (λ (y : LedgerValue). state_of y x) u.ledger ∙ subst (λ (z : LedgerValue). Becomes t (Some s) z ts.ledger) ledger becomes x;
-  store = λ all keeps. subst (λ (y : in_store.Kept). Keeps y all) (sym (u.store ∙ store)) (grown.keeps all keeps);
+  store = λ all keeps. subst (λ (y : in_store.StoreValue). Keeps y all) (sym (u.store ∙ store)) (grown.keeps all keeps);
   early = λ x other. u.early x ∙ (ap (λ (b : Bool). if b then [] else voters_of ts.early x) other ∙ ap (λ (es : VoterList). voters_of es x) (early ∙ room_early));
   notices = λ x other. u.notices x ∙ ap (λ (b : Bool). if b then [] else voters_of k.notices x) other;
   own_early = λ gone. u.early t ∙ ap (λ (b : Bool). if b then [] else voters_of ts.early t) (own_txn t);

@@ -7,7 +7,7 @@ use Rattle.logical_time.specs.Stamps.{TxnValue, WriterValue}
 use Rattle.column_family.specs.declared.batch.Row.{Row}
 use Rattle.column_family.proofs.Options.{both_true}
 use Rattle.slice.specs.declared.read.Read.{Read}
-use Rattle.store.proofs.Lists.{kept, kept_only}
+use Rattle.store.proofs.lists.Lists.{kept, kept_only}
 use Rattle.planner.proofs.Members.{contains_map, map_contains}
 use Rattle.pending.specs.Marks.{MarkList, time_at}
 use Rattle.pending.specs.Marked.{AreBelow}

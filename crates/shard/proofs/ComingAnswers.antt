@@ -5,7 +5,7 @@ use Rattle.logical_time.specs.Stamps.{TxnValue}
 use Rattle.slice.specs.declared.read.Read.{Read}
 use Rattle.column_family.specs.Normal.{IsNormal}
 use Rattle.store.specs.declared.part.Applied.{Applied}
-use Rattle.store.specs.Kept as in_store
+use Rattle.store.specs.Stored as in_store
 use Rattle.store.specs.Keeps.{Keeps, IsNewStamp, AreApart}
 use Rattle.messages.specs.declared.rows_at.AtTime.{AtTime}
 use Rattle.messages.specs.declared.envelope.Envelope.{Envelope}
@@ -17,7 +17,7 @@ use Rattle.shard.specs.Coming.{with_applied}
 use Rattle.shard.proofs.Standing.{apart_last}
 
 -- what is answered for each state, for whatever result
-pub answered_with : (s : in_store.Kept) (x : Applied) (time : ℕ) (read : Read) (r : Result AtTime Fault)
+pub answered_with : (s : in_store.StoreValue) (x : Applied) (time : ℕ) (read : Read) (r : Result AtTime Fault)
     → ((a : ShardState) → Keeps s a.applied → a.low ≡ s.low → IsNormal x.part.batch → IsNewStamp x.stamp a.applied → IfOk r (λ z. z ≡ at_time (with_applied a x) time read))
     → IfOk r (λ z. (a : ShardState) → Keeps s a.applied → a.low ≡ s.low → AreApart (with_applied a x).applied → z ≡ at_time (with_applied a x) time read)
 answered_with s x time read (Ok z) h = λ a keeps low apart. let p = apart_last a.applied x apart in h a keeps low p.0 p.1

@@ -15,7 +15,7 @@ use Rattle.messages.specs.Words.{is_same_txn, other_dcs}
 use Rattle.messages.specs.Shard.{ShardState, Role, Own, Cohort, PreparedPart, BegunBallot, Vote, Decision, KeptPart, KeptBallot, Asker}
 use Rattle.messages.specs.Known.{decision_of, prepared_part, kept_part, kept_ballot, is_known, is_applied, all_voted}
 use Rattle.messages.specs.Commits.{applied_part, commits, stamp_for, announcements, dep_oks, decide, hold, begin_if, prepare_part, prepare_if, on_begin, on_prepare}
-use Rattle.messages.specs.Honest.{Told, all_told, IsHonest, StampedTxn}
+use Rattle.messages.specs.Honest.{ToldCommit, all_told, IsHonest, StampedTxn}
 use Rattle.shard.specs.Sound.{Seen, IsDecided, IsCohorts, IsLed, IsFollowed, BodySound, Holds, Able, IsWithin}
 use Rattle.shard.proofs.Lists.{no_truth, same_txn, same_if_equal, any_has, any_none, found_some, each_joined, each_mapped}
 use Rattle.shard.proofs.Grow.{with_prepared, with_applied}
@@ -102,7 +102,7 @@ decide_able {top = top} {me = me} {last = last} {es = es} a n b honest lt normal
     able_after (decide_one a d unfollowed ready h)
     (λ h1. able_after
     (apply_one (with_decision a d) x honest normal
-    (Contains-append_right (map (λ (z : Told). let s : StampedTxn = record { txn = z.txn; stamp = z.stamp } in s) (all_told es.envelopes)) _ (stamped_txn x) own)
+    (Contains-append_right (map (λ (z : ToldCommit). let s : StampedTxn = record { txn = z.txn; stamp = z.stamp } in s) (all_told es.envelopes)) _ (stamped_txn x) own)
     (inl (d, Contains-push a.decided d, refl)) (inr (d, within.decided d (Contains-push a.decided d), refl, refl, refl)) new (inl lt) h1)
     (λ h2. let_go_able (with_applied (with_decision a d) x) n b.txn (λ y. true) sends (omega (arith, lt))
     (λ y has is. inl (is_applied_now (with_decision a d) x)) plain h2))

@@ -2,7 +2,7 @@
 use Rattle.std.proofs.Common.{◌≡◌, ◌∙◌, sym, ap, subst, refl, ℕ, Bool, true, false, if◌then◌else◌, List, [], ◌∷◌, ◌++◌, Option, None, is_some, append-nil}
 use Rattle.logical_time.specs.Stamps.{TxnValue}
 use Rattle.column_family.proofs.Options.{by_cases}
-use Rattle.store.specs.Kept as in_store
+use Rattle.store.specs.Stored as in_store
 use Rattle.store.specs.Keeps.{Keeps}
 use Rattle.txn_state.specs.Votes.{is_among}
 use Rattle.messages.specs.declared.envelope.Envelope.{Envelope}
@@ -44,7 +44,7 @@ stays_unknown : (top : TopologyValue) (me n : ℕ) (t : TxnValue) (k : Kept) (ts
 stays_unknown top me n t k ts ns a es os r unknown ledger store about own_early other_early own_notices other_notices = record {
   place = r.place;
   clock = refl;
-  low = r.low ∙ ap (λ (x : in_store.Kept). x.low) (sym store);
+  low = r.low ∙ ap (λ (x : in_store.StoreValue). x.low) (sym store);
   store = subst (λ x. Keeps x a.applied) (sym store) r.store;
   stands = λ u. subst (λ (l : LedgerValue). Stands top me u (view_of u (with_lists a n es os)) (state_of l u)) (sym ledger) (by_cases (is_same_txn t u)
       (λ yes. subst (λ (v : TxnValue). Stands top me v (view_of v (with_lists a n es os)) (state_of k.transactions.ledger v)) (same_txn t u yes) own)

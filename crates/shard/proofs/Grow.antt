@@ -8,7 +8,7 @@ use Rattle.logical_time.specs.Stamps.{TxnValue}
 use Rattle.column_family.specs.declared.batch.Row.{Row}
 use Rattle.slice.specs.declared.read.Read.{Read}
 use Rattle.store.specs.declared.part.Applied.{Applied}
-use Rattle.store.proofs.Lists.{none_in_empty}
+use Rattle.store.proofs.lists.Lists.{none_in_empty}
 use Rattle.messages.specs.declared.rows_now.RowNow.{RowNow}
 use Rattle.messages.specs.declared.rows_at.RowAt.{RowAt}
 use Rattle.messages.specs.declared.rows_at.AtTime.TheVariants as at_time
@@ -19,7 +19,7 @@ use Rattle.messages.specs.Words.{is_same_txn}
 use Rattle.messages.specs.Shard.{ShardState, PreparedPart, WaitingRead}
 use Rattle.messages.specs.Known.{is_applied}
 use Rattle.slice.specs.Rows.{row_of}
-use Rattle.messages.specs.Honest.{Told, all_told}
+use Rattle.messages.specs.Honest.{ToldCommit, all_told}
 use Rattle.store.specs.Part.{has_row}
 use Rattle.shard.specs.Sound.{Seen, IsSettled, Grows, RowNowSound, RowAtSound, BodySound, WaitSound}
 use Rattle.shard.proofs.Lists.{any_more, no_truth}
@@ -100,7 +100,7 @@ abbrev pub IsLate : List Envelope → ShardState → Applied → Type 0
 IsLate es a x =
     (a.clock < x.commit)
     ⊎ ((p : PreparedPart) × Contains a.prepared p × (p.txn ≡ x.part.writer.txn) × (p.rows ≡ x.part.batch) × (p.time < x.commit)
-    × ((t : Told) × Contains (all_told es) t × (t.txn ≡ p.txn) × (t.commit ≡ x.commit)))
+    × ((t : ToldCommit) × Contains (all_told es) t × (t.txn ≡ p.txn) × (t.commit ≡ x.commit)))
 
 -- it commits above each time that is settled in a row that it touches
 late_above : (es : List Envelope) (a : ShardState) (x : Applied) → is_applied x.part.writer.txn a ≡ false → IsLate es a x → (r : Row) (time : ℕ)

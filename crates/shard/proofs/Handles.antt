@@ -4,7 +4,7 @@ use Rattle.std.specs.Prelude.{if◌then◌else◌, Contains}
 use Rattle.std.proofs.lemmas.List.Elements.{Contains-append_left}
 use Rattle.column_family.specs.Normal.{IsNormal}
 use Rattle.logical_time.specs.declared.fault.Fault.{Fault}
-use Rattle.store.proofs.Lists.{given, given_only}
+use Rattle.store.proofs.lists.Lists.{given, given_only}
 use Rattle.messages.specs.declared.body.Body.{Body}
 use Rattle.messages.specs.declared.body.Body.TheVariants as body
 use Rattle.messages.specs.declared.envelope.Envelope.{Envelope}

@@ -3,7 +3,7 @@ use Rattle.std.proofs.Common.{◌≡◌, ◌∙◌, sym, ap, subst, refl, ℕ, B
 use Rattle.std.specs.Prelude.{find, option_map}
 use Rattle.logical_time.specs.Stamps.{TxnValue, StampValue, WriterValue}
 use Rattle.column_family.specs.declared.batch.Row.{Row}
-use Rattle.store.proofs.Lists.{none_in_empty, first_or_rest}
+use Rattle.store.proofs.lists.Lists.{none_in_empty, first_or_rest}
 use Rattle.messages.specs.Topology.{TopologyValue}
 use Rattle.messages.specs.Words.{is_same_txn}
 use Rattle.messages.specs.Shard.{ShardState, PreparedPart, Decision}

@@ -2,7 +2,7 @@
 use Rattle.std.proofs.Common.{◌≡◌, ◌∙◌, sym, ap, subst, refl, ℕ, Bool, true, false, if◌then◌else◌, List, [], ◌++◌, Option, Some, None, is_some, Result, Ok, Err, OnOk}
 use Rattle.logical_time.specs.Stamps.{TxnValue}
 use Rattle.store.specs.Keeps.{Keeps, AreApart}
-use Rattle.store.specs.Kept as in_store
+use Rattle.store.specs.Stored as in_store
 use Rattle.messages.specs.declared.envelope.Envelope.{Envelope}
 use Rattle.messages.specs.Topology.{TopologyValue}
 use Rattle.messages.specs.Shard.{ShardState, ShardStep}
@@ -28,7 +28,7 @@ pub after_in_place : (t : TxnValue) (s : State) (n : ℕ) (k : Kept) (ts : Trans
 after_in_place t s n k ts known becomes store early = record {
   place = refl;
   clock = refl;
-  low = ap (λ (x : in_store.Kept). x.low) store;
+  low = ap (λ (x : in_store.StoreValue). x.low) store;
   state = becomes;
   store = λ all keeps. subst (λ x. Keeps x all) (sym store) keeps;
   early = λ u e. ap (λ v. voters_of v u) early;
@@ -52,9 +52,9 @@ pub after_forgetting : (t : TxnValue) (s : State) (n : ℕ) (k : Kept) (held ts 
 after_forgetting t s n k held ts ns becomes store early same_ledger same_store forgotten notices = record {
   place = refl;
   clock = refl;
-  low = ap (λ (x : in_store.Kept). x.low) (same_store ∙ store);
+  low = ap (λ (x : in_store.StoreValue). x.low) (same_store ∙ store);
   state = λ u. ap (λ (l : LedgerValue). state_of l u) same_ledger ∙ becomes u;
-  store = λ all keeps. subst (λ (x : in_store.Kept). Keeps x all) (sym (same_store ∙ store)) keeps;
+  store = λ all keeps. subst (λ (x : in_store.StoreValue). Keeps x all) (sym (same_store ∙ store)) keeps;
   early = λ u other. forgotten u ∙ (ap (λ (b : Bool). if b then [] else voters_of held.early u) other ∙ ap (λ (es : VoterList). voters_of es u) early);
   notices = λ u other. notices u ∙ ap (λ (b : Bool). if b then [] else voters_of k.notices u) other;
   own_early = λ gone. forgotten t ∙ ap (λ (b : Bool). if b then [] else voters_of held.early t) (own_txn t);
@@ -78,7 +78,7 @@ pub goes_on : (k : Kept) (ts : TransactionsValue) → HaveSameStates k.transacti
 goes_on k ts states store early = spared k (record k { transactions = ts }) (record {
   place = refl;
   clock = refl;
-  low = ap (λ (x : in_store.Kept). x.low) store;
+  low = ap (λ (x : in_store.StoreValue). x.low) store;
   states = states;
   store = λ all keeps. subst (λ x. Keeps x all) (sym store) keeps;
   early = λ u. ap (λ v. voters_of v u) early;

@@ -3,7 +3,7 @@ use Rattle.std.proofs.Common.{◌≡◌, ◌∙◌, sym, ap, subst, refl, ℕ, B
 use Rattle.logical_time.specs.Stamps.{StampValue, TxnValue}
 use Rattle.column_family.specs.declared.batch.Row.{Row}
 use Rattle.column_family.proofs.Options.{by_cases}
-use Rattle.store.specs.Kept as in_store
+use Rattle.store.specs.Stored as in_store
 use Rattle.store.specs.Keeps.{Keeps, AreApart}
 use Rattle.txn_state.specs.Ballot.{CompleteValue}
 use Rattle.txn_state.specs.Votes.{counted, are_all_there}
@@ -141,7 +141,7 @@ pub decides_by_vote : (top : TopologyValue) (me n node here : ℕ) (t : TxnValue
     → IsStep top me (on_yes top me n a node t) l before after
 decides_by_vote top me n node here t k room ts l a own stamp before es after r apart last same grown room_early here_is voted stays early is stamp_is es_are settled sent =
     last_vote_so top me n node t k ts l a w.led before es after r w.held w.all apart becomes
-    (record { low = ap (λ (s : in_store.Kept). s.low) stays ∙ grown.low; keeps = λ all keeps. subst (λ (s : in_store.Kept). Keeps s all) (sym stays) (grown.keeps all keeps) }) (early ∙ room_early)
+    (record { low = ap (λ (s : in_store.StoreValue). s.low) stays ∙ grown.low; keeps = λ all keeps. subst (λ (s : in_store.StoreValue). Keeps s all) (sym stays) (grown.keeps all keeps) }) (early ∙ room_early)
     (subst (λ s. IsSettled t w.led.ballot.own n s (record k { transactions = ts }) l) stamped (subst (λ (x : CompleteValue). IsSettled t x.own n stamp (record k { transactions = ts }) l) own_is settled))
     (es_are w.led w.held)
     (sent ∙ (ap (λ (s : StampValue). (before ++ map (commit_to me n t n s) own.cohorts) ++ es) stamped ∙ ap (λ (x : CompleteValue). (before ++ map (commit_to me n t n (stamp_for me n w.led.stamp)) x.cohorts) ++ es) own_is))

@@ -5,7 +5,7 @@ use Rattle.std.proofs.lemmas.Bool.Decides.{nat_tests}
 use Rattle.logical_time.specs.Stamps.{TxnValue}
 use Rattle.column_family.specs.declared.batch.Row.{Row}
 use Rattle.planner.proofs.Members.{map_contains}
-use Rattle.store.proofs.Lists.{none_in_empty, kept, kept_only}
+use Rattle.store.proofs.lists.Lists.{none_in_empty, kept, kept_only}
 use Rattle.messages.specs.declared.rows_at.RowAt.{RowAt}
 use Rattle.messages.specs.declared.rows_at.AtTime.TheVariants as at_time
 use Rattle.messages.specs.declared.body.Body.TheVariants as body

@@ -7,8 +7,8 @@ use Rattle.std.proofs.lemmas.Bool.Decides.{nat_tests}
 use Rattle.std.proofs.lemmas.List.Folds.{list_any-append}
 use Rattle.logical_time.specs.Stamps.{TxnValue, StampValue, stamp_cmp}
 use Rattle.column_family.proofs.Options.{both_true, either_true}
-use Rattle.store.proofs.Lists.{none_in_empty, first_or_rest, contains_first, contains_rest}
-pub use Rattle.store.proofs.Lists.{no_truth, or_left, or_right, any_has, each_from}
+use Rattle.store.proofs.lists.Lists.{none_in_empty, first_or_rest, contains_first, contains_rest}
+pub use Rattle.store.proofs.lists.Lists.{no_truth, or_left, or_right, any_has, each_from}
 use Rattle.messages.specs.Words.{is_same_txn}
 
 -- ## Tests

@@ -4,8 +4,8 @@ use Rattle.std.specs.Prelude.{◌==◌, ◌&&◌}
 use Rattle.std.proofs.lemmas.Bool.Decides.{nat_tests}
 use Rattle.logical_time.specs.Stamps.{StampValue, TxnValue}
 use Rattle.store.specs.Keeps.{AreApart}
-use Rattle.store.specs.Kept.{HasRoom}
-use Rattle.store.specs.Kept as in_store
+use Rattle.store.specs.Stored.{HasRoom}
+use Rattle.store.specs.Stored as in_store
 use Rattle.txn_state.specs.Ballot.{CompleteValue}
 use Rattle.txn_state.specs.RemoteBallot.{missing_in}
 use Rattle.messages.specs.declared.body.Body.TheVariants.{PrepareRemote}
@@ -190,4 +190,4 @@ pub ready_room : (t : TxnValue) (r : Remote) (ledger : LedgerValue) (room ts : T
     → (b ≡ true → (o : Open) → open_in (state_of ledger t) ≡ Some o → HasRoom room.store.rows (part_of o).batch)
     → c ≡ true → HasRoom ts.store.rows r.ballot.part.batch
 ready_room t r ledger room ts b c same is store made e =
-    subst (λ (x : in_store.Kept). HasRoom x.rows r.ballot.part.batch) (sym store) (made (same ∙ e) (in_open.Remote r) is)
+    subst (λ (x : in_store.StoreValue). HasRoom x.rows r.ballot.part.batch) (sym store) (made (same ∙ e) (in_open.Remote r) is)

@@ -7,7 +7,7 @@ use Rattle.slice.specs.declared.read.Read.{Read}
 use Rattle.store.specs.declared.part.Applied.{Applied}
 use Rattle.store.specs.Part.{IsRightPart}
 use Rattle.store.specs.Keeps.{AreApart}
-use Rattle.store.proofs.FromEvt.{right_from_evt}
+use Rattle.store.proofs.times.FromEvt.{right_from_evt}
 use Rattle.messages.specs.declared.rows_now.RowNow.{RowNow}
 use Rattle.messages.specs.declared.rows_at.RowAt.{RowAt}
 use Rattle.messages.specs.declared.envelope.Envelope.{Envelope}
@@ -19,7 +19,7 @@ use Rattle.messages.specs.declared.rows_at.AtTime.TheVariants as at_time
 use Rattle.messages.specs.declared.body.Body.{Body}
 use Rattle.messages.specs.declared.body.Body.TheVariants as body
 use Rattle.messages.specs.Actors.{envelope_of}
-use Rattle.store.proofs.Lists.{none_in_empty, contains_first, given}
+use Rattle.store.proofs.lists.Lists.{none_in_empty, contains_first, given}
 use Rattle.messages.specs.declared.event.Event.{Event}
 use Rattle.messages.specs.declared.event.Event.TheVariants.{Handle}
 use Rattle.shard.specs.Events.{ShardRun, fresh_shard, shard_run, envelopes_handled}
@@ -27,7 +27,7 @@ use Rattle.shard.specs.Right.{part_now, part_then, IsRightNow, IsRightAt, IsSent
 use Rattle.shard.specs.Sound.{Seen, RowNowSound, RowAtSound, NowSound, AtSound, BodySound, Holds, GivenUpSound}
 use Rattle.shard.proofs.Grow.{now_grows, at_grows}
 use Rattle.shard.proofs.Lists.{each_contained}
-use Rattle.store.proofs.Untouched.{right_stays}
+use Rattle.store.proofs.newest.Untouched.{right_stays}
 use Rattle.shard.proofs.Within.{within_itself}
 use Rattle.shard.proofs.Handles.{AreAmong}
 use Rattle.shard.proofs.Asked.{IsWaitingFor, IsTaken, seen_at, asked_so}

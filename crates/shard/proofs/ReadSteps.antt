@@ -7,7 +7,7 @@ use Rattle.std.proofs.lemmas.List.Elements.{Contains-push_cases}
 use Rattle.logical_time.specs.Stamps.{WriterValue}
 use Rattle.slice.specs.declared.read.Read.{Read}
 use Rattle.planner.proofs.Members.{contains_map, map_contains}
-use Rattle.store.proofs.Lists.{none_in_empty, kept}
+use Rattle.store.proofs.lists.Lists.{none_in_empty, kept}
 use Rattle.messages.specs.declared.rows_now.RowNow.{RowNow}
 use Rattle.messages.specs.declared.rows_at.AtTime.TheVariants as at_time
 use Rattle.messages.specs.declared.body.Body.TheVariants as body

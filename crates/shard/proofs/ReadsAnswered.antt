@@ -6,7 +6,7 @@ use Rattle.logical_time.specs.declared.fault.Fault.{Fault}
 use Rattle.logical_time.specs.Stamps.{TxnValue, WriterValue}
 use Rattle.column_family.specs.declared.batch.Row.{Row}
 use Rattle.slice.specs.declared.read.Read.{Read}
-use Rattle.store.specs.Kept as store
+use Rattle.store.specs.Stored as store
 use Rattle.store.specs.Keeps.{Keeps, AreApart}
 use Rattle.pending.specs.Marks.{MarkList, time_at}
 use Rattle.messages.specs.declared.rows_at.AtTime.{AtTime}
@@ -32,7 +32,7 @@ use Rattle.shard.proofs.MarksOn.{marks_are}
 use Rattle.shard.proofs.Standing.{moves_on}
 
 -- an answer by the store is that of each state that the store keeps
-pub each_answer : (s : store.Kept) (time : ℕ) (read : Read) (r : Result AtTime Fault)
+pub each_answer : (s : store.StoreValue) (time : ℕ) (read : Read) (r : Result AtTime Fault)
     → ((a : ShardState) → Keeps s a.applied → a.low ≡ s.low → IfOk r (λ x. x ≡ at_time a time read))
     → IfOk r (λ x. (a : ShardState) → Keeps s a.applied → a.low ≡ s.low → x ≡ at_time a time read)
 each_answer s time read (Ok x) h = h

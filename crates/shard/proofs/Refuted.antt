@@ -11,7 +11,7 @@ use Rattle.slice.specs.Slice.{slice_of}
 use Rattle.store.specs.declared.part.Applied.{Applied}
 use Rattle.store.specs.declared.part.Part.{Part}
 use Rattle.store.specs.Part.{history_of, applied_by, IsRightPart}
-use Rattle.store.proofs.Lists.{none_in_empty, contains_first, given}
+use Rattle.store.proofs.lists.Lists.{none_in_empty, contains_first, given}
 use Rattle.messages.specs.declared.rows_now.RowNow.{RowNow}
 use Rattle.messages.specs.declared.rows_at.RowAt.{RowAt}
 use Rattle.messages.specs.declared.rows_at.AtTime.TheVariants as at_time

@@ -4,7 +4,7 @@ use Rattle.std.specs.Prelude.{◌==◌, Contains}
 use Rattle.std.proofs.lemmas.List.Elements.{Contains-append_cases, Contains-push}
 use Rattle.std.proofs.lemmas.List.{append_assoc}
 use Rattle.logical_time.specs.declared.fault.Fault.{Fault}
-use Rattle.store.proofs.Lists.{none_in_empty, given}
+use Rattle.store.proofs.lists.Lists.{none_in_empty, given}
 use Rattle.messages.specs.declared.envelope.Envelope.{Envelope}
 use Rattle.messages.specs.Topology.{TopologyValue}
 use Rattle.messages.specs.Actors.{envelope_of}

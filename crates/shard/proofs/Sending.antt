@@ -7,7 +7,7 @@ use Rattle.logical_time.specs.Stamps.{StampValue, TxnValue, WriterValue}
 use Rattle.column_family.specs.declared.batch.Change.{Change}
 use Rattle.slice.specs.declared.read.Read.{Read}
 use Rattle.planner.proofs.Members.{map_contains}
-use Rattle.store.proofs.Lists.{kept_only}
+use Rattle.store.proofs.lists.Lists.{kept_only}
 use Rattle.messages.specs.declared.rows_at.AtTime.TheVariants as at
 use Rattle.messages.specs.declared.body.Body.{Body}
 use Rattle.messages.specs.declared.body.Body.TheVariants as body

@@ -6,7 +6,7 @@ use Rattle.std.specs.Ordering.{is_eq}
 use Rattle.std.proofs.lemmas.List.Elements.{Contains-append_cases}
 use Rattle.std.proofs.lemmas.Option.{slice_get_within, get_or_from_slice_get}
 use Rattle.logical_time.specs.Stamps.{TxnValue, txn_cmp}
-use Rattle.store.proofs.Lists.{none_in_empty, first_or_rest}
+use Rattle.store.proofs.lists.Lists.{none_in_empty, first_or_rest}
 use Rattle.write_txn.specs.declared.open.Open.{Open}
 use Rattle.write_txn.specs.Ledger.{txn_of}
 use Rattle.write_txn.proofs.Finds.{own_txn}

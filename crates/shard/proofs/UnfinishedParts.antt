@@ -4,7 +4,7 @@ use Rattle.std.specs.Prelude.{filter_map, find, option_map}
 use Rattle.std.specs.List.{cons_option}
 use Rattle.std.specs.List.Sorted.{IsStrictlySortedBy}
 use Rattle.logical_time.specs.Stamps.{TxnValue, txn_cmp, WriterValue}
-use Rattle.store.proofs.Lists.{kept_only}
+use Rattle.store.proofs.lists.Lists.{kept_only}
 use Rattle.planner.proofs.Members.{contains_map, map_contains}
 use Rattle.txn_state.specs.declared.part.WritePart.{WritePart}
 use Rattle.messages.specs.Topology.{TopologyValue, shard_of}

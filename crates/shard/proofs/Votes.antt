@@ -12,7 +12,7 @@ use Rattle.messages.specs.Words.{is_same_txn, envelope, other_dcs}
 use Rattle.messages.specs.Shard.{ShardState, Role, Own, Cohort, Replica, PreparedPart, BegunBallot, Decision}
 use Rattle.messages.specs.Known.{decision_of, prepared_part, standing_ballot, is_known, is_applied, has_vote, is_awaited, all_voted}
 use Rattle.messages.specs.Commits.{applied_part, with_vote, counted_if, vote_if, early_if, yes_for, repl_parts, apply_part, commit_if, commit_for, check_for, on_yes, on_commit, on_not_by, on_check}
-use Rattle.messages.specs.Honest.{Told, all_told, IsHonest, StampedTxn}
+use Rattle.messages.specs.Honest.{ToldCommit, all_told, IsHonest, StampedTxn}
 use Rattle.shard.specs.Sound.{Seen, BodySound, Holds, Able, IsWithin}
 use Rattle.shard.proofs.Lists.{same_txn, found, each_mapped}
 use Rattle.shard.proofs.Grow.{with_applied}
@@ -87,8 +87,8 @@ apply_able : {top : TopologyValue} {me : ℕ} {last : ShardState} {es : Seen} (a
     → IsWithin a last → Holds top me last es a → Able top me last es a (apply_part top me n a p commit stamp)
 apply_able {top = top} {me = me} {last = last} {es = es} a n p commit stamp honest lt has not_own new told within h =
     let x = applied_part p.txn p.coordinator p.rows commit stamp in
-    let t : Told = record { txn = p.txn; commit = commit; stamp = stamp; time = told.0 } in
-    let met = contains_map (λ (z : Told). let s : StampedTxn = record { txn = z.txn; stamp = z.stamp } in s) (all_told es.envelopes) t told.1 in
+    let t : ToldCommit = record { txn = p.txn; commit = commit; stamp = stamp; time = told.0 } in
+    let met = contains_map (λ (z : ToldCommit). let s : StampedTxn = record { txn = z.txn; stamp = z.stamp } in s) (all_told es.envelopes) t told.1 in
     let own = map (λ (d : Decision). let s : StampedTxn = record { txn = d.txn; stamp = d.stamp } in s) last.decided in
     able_after
     (apply_one a x honest (h.prepared p has) (Contains-append_left _ own (stamped_txn x) met) (inr (p, has, refl, not_own)) (inl (t, told.1, refl, refl, refl)) new

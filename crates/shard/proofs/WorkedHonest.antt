@@ -9,7 +9,7 @@ use Rattle.messages.specs.declared.body.Body.{Body}
 use Rattle.messages.specs.declared.body.Body.TheVariants as body
 use Rattle.messages.specs.declared.envelope.Envelope.{Envelope}
 use Rattle.messages.specs.Shard.{ShardState, PreparedPart}
-use Rattle.messages.specs.Honest.{Told, StampedTxn, all_told, part_in, stamps_met, IsHonest}
+use Rattle.messages.specs.Honest.{ToldCommit, StampedTxn, all_told, part_in, stamps_met, IsHonest}
 use Rattle.shard.specs.Events.{envelopes_handled}
 use Rattle.shard.specs.Worked.{key_a, key_b, x_gets, first_of, stamp, written_then_read, read_then_written, read_at_its_mark, collected_then_read, commit_at_its_mark, excluded_at_its_commit_time, read_above_its_time, two_of_one_stamp}
 use Rattle.shard.specs.Lookalikes.{Clause, Marks, Exclusions, TimesOfReads, Stamps, IsHonestBut}
@@ -27,7 +27,7 @@ is_not_by (body.NotBy t time) = true
 is_not_by other = false
 
 -- told with this stamp, at a commit time that the transaction gives, and not too early
-abbrev IsToldAs : (TxnValue → ℕ) → StampValue → Told → Type 0
+abbrev IsToldAs : (TxnValue → ℕ) → StampValue → ToldCommit → Type 0
 IsToldAs commit_of s x = (x.commit ≡ commit_of x.txn) × (x.stamp ≡ s) × (x.commit ≤ x.time)
 
 -- the stamps that were met are of one transaction

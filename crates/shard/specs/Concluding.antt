@@ -1,7 +1,7 @@
 -- What the event of a ballot makes of what is kept, where nothing or the last thing is missing.
 use Rattle.std.specs.Prelude.{◌≡◌, ℕ, [], Option, Some, None}
 use Rattle.logical_time.specs.Stamps.{StampValue, TxnValue}
-use Rattle.store.specs.Kept.{HasRoom}
+use Rattle.store.specs.Stored.{HasRoom}
 use Rattle.txn_state.specs.Ballot.{CompleteValue}
 use Rattle.write_txn.specs.Ledger.{state_of, decided_in}
 use Rattle.shard.specs.declared.kept.Kept.{Kept}

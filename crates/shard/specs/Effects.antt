@@ -3,7 +3,7 @@ use Rattle.std.specs.Prelude.{◌≡◌, ℕ, true, false, if◌then◌else◌, 
 use Rattle.logical_time.specs.Stamps.{TxnValue}
 use Rattle.column_family.specs.Normal.{IsNormal}
 use Rattle.store.specs.declared.part.Applied.{Applied}
-use Rattle.store.specs.Kept as store
+use Rattle.store.specs.Stored as store
 use Rattle.store.specs.Keeps.{Keeps, IsNewStamp}
 use Rattle.dependencies.specs.Askers.{askers_of}
 use Rattle.messages.specs.Words.{is_same_txn}
@@ -13,7 +13,7 @@ use Rattle.write_txn.specs.Voters.{VoterList, voters_of}
 use Rattle.shard.specs.declared.kept.Kept.{Kept}
 
 -- the store keeps what it kept, and what is applied, if something is
-abbrev pub IsStored : Option Applied → store.Kept → store.Kept → Type 0
+abbrev pub IsStored : Option Applied → store.StoreValue → store.StoreValue → Type 0
 IsStored None old new = (all : List Applied) → Keeps old all → Keeps new all
 IsStored (Some x) old new = (all : List Applied) → Keeps old all → IsNormal x.part.batch → IsNewStamp x.stamp all → Keeps new (all ++ x ∷ [])
 

@@ -12,7 +12,7 @@ use Rattle.messages.specs.declared.body.Body.TheVariants as body
 use Rattle.messages.specs.declared.envelope.Envelope.{Envelope}
 use Rattle.messages.specs.Shard.{ShardState, PreparedPart, Decision}
 use Rattle.messages.specs.Topology.{TopologyValue}
-use Rattle.messages.specs.Honest.{Told, StampedTxn, all_told, part_in, stamps_met, IsHonest}
+use Rattle.messages.specs.Honest.{ToldCommit, StampedTxn, all_told, part_in, stamps_met, IsHonest}
 use Rattle.slice.specs.Rows.{row_of}
 use Rattle.shard.specs.Events.{ShardRun, envelopes_handled}
 use Rattle.shard.specs.Right.{part_now, IsRightAt, IsRightShard}
@@ -84,7 +84,7 @@ RowsAtATimeAreRightLater w = RowsAreRightAt (λ time. time + 1) w
 abbrev pub PartsAreAppliedAbove : ShardRun → Type 0
 PartsAreAppliedAbove w =
     IsHonest w.state (envelopes_handled w) → (x : Applied) → Contains w.state.applied x
-    → ((y : Told) × Contains (all_told (envelopes_handled w)) y × (y.txn ≡ x.part.writer.txn) × (y.commit < x.commit) × (y.stamp ≡ x.stamp))
+    → ((y : ToldCommit) × Contains (all_told (envelopes_handled w)) y × (y.txn ≡ x.part.writer.txn) × (y.commit < x.commit) × (y.stamp ≡ x.stamp))
     ⊎ ((d : Decision) × Contains w.state.decided d × (d.txn ≡ x.part.writer.txn) × (d.commit ≡ x.commit) × (d.stamp ≡ x.stamp))
 
 -- a read is given up only where its time is below the horizon by more than one
@@ -105,13 +105,13 @@ pub data Clause : Type 0 where
 
 -- envelopes are honest, but for this clause
 pub record IsHonestBut (left_out : Clause) (a : ShardState) (es : List Envelope) : Type 0 where
-  pub commit : (x y : Told) → Contains (all_told es) x → Contains (all_told es) y → x.txn ≡ y.txn → x.commit ≡ y.commit
-  pub stamp : (x y : Told) → Contains (all_told es) x → Contains (all_told es) y → x.txn ≡ y.txn → x.stamp ≡ y.stamp
+  pub commit : (x y : ToldCommit) → Contains (all_told es) x → Contains (all_told es) y → x.txn ≡ y.txn → x.commit ≡ y.commit
+  pub stamp : (x y : ToldCommit) → Contains (all_told es) x → Contains (all_told es) y → x.txn ≡ y.txn → x.stamp ≡ y.stamp
   pub prepared : left_out ≢ Marks
-      → (x : Told) (p : PreparedPart) → Contains (all_told es) x → Contains a.prepared p → p.txn ≡ x.txn → p.time < x.commit
-  pub told : (x : Told) → Contains (all_told es) x → x.commit ≤ x.time
+      → (x : ToldCommit) (p : PreparedPart) → Contains (all_told es) x → Contains a.prepared p → p.txn ≡ x.txn → p.time < x.commit
+  pub told : (x : ToldCommit) → Contains (all_told es) x → x.commit ≤ x.time
   pub excluded : left_out ≢ Exclusions
-      → (x : Told) (e : Envelope) (time : ℕ) → Contains (all_told es) x → Contains es e → e.body ≡ body.NotBy x.txn time → time < x.commit
+      → (x : ToldCommit) (e : Envelope) (time : ℕ) → Contains (all_told es) x → Contains es e → e.body ≡ body.NotBy x.txn time → time < x.commit
   pub stamps : left_out ≢ Stamps
       → (x y : StampedTxn) → Contains (stamps_met a es) x → Contains (stamps_met a es) y → x.stamp ≡ y.stamp → x.txn ≡ y.txn
   pub read : left_out ≢ TimesOfReads

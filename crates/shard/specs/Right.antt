@@ -13,7 +13,7 @@ use Rattle.messages.specs.declared.envelope.Envelope.{Envelope}
 use Rattle.messages.specs.Topology.{TopologyValue}
 use Rattle.messages.specs.Shard.{ShardState, Decision}
 use Rattle.messages.specs.Reads.{is_waiting}
-use Rattle.messages.specs.Honest.{Told, all_told}
+use Rattle.messages.specs.Honest.{ToldCommit, all_told}
 use Rattle.slice.specs.Rows.{row_of}
 use Rattle.messages.specs.declared.event.Event.{Event}
 use Rattle.messages.specs.declared.event.Event.TheVariants.{Handle}
@@ -98,7 +98,7 @@ pub record AnswersAt (top : TopologyValue) (me : ℕ) (w : ShardRun) (e : Envelo
 -- itself decided
 abbrev pub IsAppliedAsDecided : ShardState → List Envelope → Applied → Type 0
 IsAppliedAsDecided a envelopes x =
-    ((y : Told) × Contains (all_told envelopes) y × (y.txn ≡ x.part.writer.txn) × (y.commit ≡ x.commit) × (y.stamp ≡ x.stamp))
+    ((y : ToldCommit) × Contains (all_told envelopes) y × (y.txn ≡ x.part.writer.txn) × (y.commit ≡ x.commit) × (y.stamp ≡ x.stamp))
     ⊎ ((d : Decision) × Contains a.decided d × (d.txn ≡ x.part.writer.txn) × (d.commit ≡ x.commit) × (d.stamp ≡ x.stamp))
 
 -- The shard is right: of all that it sent, each answer of a first round is right at each time for which it says so, each

@@ -21,7 +21,7 @@ use Rattle.messages.specs.Known.{is_applied}
 use Rattle.slice.specs.Rows.{row_of}
 use Rattle.messages.specs.Rows.{touches_row}
 use Rattle.messages.specs.Replication.{is_ready}
-use Rattle.messages.specs.Honest.{Told, all_told, stamps_met}
+use Rattle.messages.specs.Honest.{ToldCommit, all_told, stamps_met}
 use Rattle.shard.specs.Right.{part_now, part_then, IsAppliedAsDecided}
 
 -- ## What is complete
@@ -33,7 +33,7 @@ pub record IsExcluded (es : List Envelope) (t : TxnValue) (time : ℕ) : Type 0 
   pub bound : ℕ
   pub body : told.body ≡ body.NotBy t bound
   pub bounded : time ≤ bound
-  pub above : (x : Told) → Contains (all_told es) x → x.txn ≡ t → time < x.commit
+  pub above : (x : ToldCommit) → Contains (all_told es) x → x.txn ≡ t → time < x.commit
 
 -- Each part that is prepared in the row is applied, or marked at or after the time, or excluded at it, or one of these
 -- transactions.

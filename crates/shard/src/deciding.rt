@@ -2,7 +2,7 @@
 ghost use Rattle.std.specs.Prelude.{◌≡◌, ◌+◌, ◌≤◌, ◌++◌, ℕ, length, map, None, Some, IfOk, IfErr};
 ghost use Rattle.logical_time.specs.declared.fault.Fault.TheVariants as fault;
 ghost use Rattle.store.specs.Keeps.{AreApart};
-ghost use Rattle.store.specs.Kept.{HasRoom};
+ghost use Rattle.store.specs.Stored.{HasRoom};
 ghost use Rattle.messages.specs.Topology.{TopologyValue};
 ghost use Rattle.messages.specs.Place.{IsPlace};
 ghost use Rattle.messages.specs.Posting.{commit_to};

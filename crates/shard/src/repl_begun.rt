@@ -3,7 +3,7 @@ ghost use Rattle.std.specs.Prelude.{◌≡◌, ℕ, true, None, IsOk, IfOk, OnOk
 ghost use Rattle.logical_time.specs.Stamps.{TxnValue};
 ghost use Rattle.logical_time.specs.declared.fault.Fault.TheVariants as fault;
 ghost use Rattle.store.specs.Keeps.{AreApart};
-ghost use Rattle.store.specs.Kept.{HasRoom};
+ghost use Rattle.store.specs.Stored.{HasRoom};
 ghost use Rattle.txn_state.specs.Votes.{votes_after};
 ghost use Rattle.txn_state.specs.Answers.{is_unanswered, is_dependency};
 ghost use Rattle.messages.specs.Topology.{TopologyValue};

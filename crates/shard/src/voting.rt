@@ -23,7 +23,7 @@ use messages::{Envelope, Outbox};
 use write_txn::{Led as Held, Open, stamp_of};
 
 /// What a decision is going to send, with the transaction's stamp.
-struct Told {
+struct Announcing {
     /// The stamp.
     stamp: Stamp,
     /// How many Commits.
@@ -43,7 +43,7 @@ fn is_last(kept: &Kept, txn: TxnId, node: Node) -> bool
 }
 
 /// What the decision of this ballot is going to send.
-fn told_with(kept: &Kept, clock: Clock, txn: TxnId, led: &Held) -> Result<Told, Fault>
+fn told_with(kept: &Kept, clock: Clock, txn: TxnId, led: &Held) -> Result<Announcing, Fault>
     requires { led.now.ballot.own.part.writer.txn ≡ txn }
     ensures ok { (top : TopologyValue) (me : ℕ) (a : ShardState) → Represents top me kept.now a → state_of kept.now.transactions.ledger txn ≡ Some (Holds (in_open.Led led.now))
         → AreApart (decide top me clock a (begun_of led.now)).state.applied
@@ -61,7 +61,7 @@ fn told_with(kept: &Kept, clock: Clock, txn: TxnId, led: &Held) -> Result<Told, 
         stamp: led.stamp,
     };
     let envelopes = tell(kept, clock.now(), &deciding)?;
-    Ok(Told {
+    Ok(Announcing {
         stamp: stamp_of(kept.place.node(), clock.now(), &led.stamp),
         commits: led.ballot.votes().cohorts().len(),
         envelopes,
@@ -69,7 +69,7 @@ fn told_with(kept: &Kept, clock: Clock, txn: TxnId, led: &Held) -> Result<Told, 
 }
 
 /// What the decision of the transaction's ballot is going to send.
-fn told_of(kept: &Kept, clock: Clock, txn: TxnId, node: Node) -> Result<Told, Fault>
+fn told_of(kept: &Kept, clock: Clock, txn: TxnId, node: Node) -> Result<Announcing, Fault>
     requires { is_some (completed_by node (state_of kept.now.transactions.ledger txn)) ≡ true }
     ensures ok { (top : TopologyValue) (me : ℕ) (a : ShardState) (l : Led) → Represents top me kept.now a → state_of kept.now.transactions.ledger txn ≡ Some (Holds (in_open.Led l))
         → AreApart (decide top me clock a (begun_of l)).state.applied
@@ -99,7 +99,7 @@ fn decide_by(
     ensures unsent { OnErr result (outbox.new.sent ≡ outbox.old.sent) }
     ensures memory { IfErr result (λ e. e ≡ fault.Memory) }
 {
-    let Told {
+    let Announcing {
         stamp,
         commits,
         envelopes,

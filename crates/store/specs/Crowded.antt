@@ -4,7 +4,7 @@ use Rattle.std.specs.List.{list_any}
 use Rattle.column_family.specs.declared.batch.Row.{Row}
 use Rattle.column_family.specs.Places.{is_listed, row_cmp}
 use Rattle.versions.specs.Chain.{Held}
-use Rattle.store.specs.Kept.{Place, Chains, chain_at, ranges_in, held_by, no_row}
+use Rattle.store.specs.Stored.{Place, Chains, chain_at, ranges_in, held_by, no_row}
 
 -- the rows that are listed, and whether all are that have to be
 pub record Listed : Type 0 where

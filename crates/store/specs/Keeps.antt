@@ -14,7 +14,7 @@ use Rattle.versions.specs.declared.range.RangeDeletion.{RangeDeletion}
 use Rattle.versions.specs.Chain.{IsFalling, at_of}
 use Rattle.store.specs.declared.part.Applied.{Applied}
 use Rattle.store.specs.Part.{history_of, applied_by}
-use Rattle.store.specs.Kept.{Place, Kept, chain_at, ranges_in, is_at}
+use Rattle.store.specs.Stored.{Place, StoreValue, chain_at, ranges_in, is_at}
 
 -- nothing of these was applied with the stamp
 abbrev pub IsNewStamp : StampValue → List Applied → Type 0
@@ -53,7 +53,7 @@ is_row_newer applied r s = is_older_than (newest_of (is_row_deletion r) (history
 -- The store keeps all of this, which is everything that was ever applied to it: from its horizon on it sees at
 -- each place the newest mutation of what was applied by then, in each row every deletion of a range that is newer than the
 -- newest deletion of the row by then, and what it holds came from there. What it dropped can't be seen from the horizon on.
-pub record Keeps (s : Kept) (all : List Applied) : Type 0 where
+pub record Keeps (s : StoreValue) (all : List Applied) : Type 0 where
   pub apart : AreApart all
   pub falling : (r : Row) (p : Place) → IsFalling (chain_at s.rows r p).versions
   pub seen : (r : Row) (p : Place) (t : ℕ) → s.low ≤ t

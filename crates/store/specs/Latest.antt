@@ -1,7 +1,7 @@
 -- The latest EVT of a row's columns.
 use Rattle.std.specs.Prelude.{◌≡◌, ℕ, ◌≤◌, ◌<◌, ◌⊎◌, List, slice_get}
 use Rattle.versions.specs.Chain.{Held}
-use Rattle.store.specs.Kept.{column_held}
+use Rattle.store.specs.Stored.{column_held}
 use Rattle.store.specs.Sight.{evt_or_0}
 
 -- the EVT of the newest version of a column, 0 without one

@@ -17,7 +17,7 @@ use Rattle.slice.specs.Rests.{is_within}
 use Rattle.store.specs.declared.sight.Moment.{Moment}
 use Rattle.store.specs.declared.sight.Moment.TheVariants.{Now, At}
 use Rattle.store.specs.declared.sight.Seen.{Seen}
-use Rattle.store.specs.Kept.{Place, Chains, chain_of, column_held, name_cmp}
+use Rattle.store.specs.Stored.{Place, Chains, chain_of, column_held, name_cmp}
 use Rattle.store.specs.declared.part.Part.{Part}
 use Rattle.store.specs.Part.{greatest_of}
 

@@ -15,7 +15,7 @@ use Rattle.store.specs.declared.part.Part.{Part}
 use Rattle.store.specs.declared.sight.Moment.{Moment}
 use Rattle.store.specs.declared.striking.Standing.{Standing}
 use Rattle.store.specs.declared.sight.Moment.TheVariants.{Now, At}
-use Rattle.store.specs.Kept.{Chains}
+use Rattle.store.specs.Stored.{Chains}
 use Rattle.store.specs.Part.{greatest_of}
 use Rattle.store.specs.Sight.{Sight, NamedVersion, AreSeen, live_of, evt_of_sight, writers_of, seen_in, newer_seen}
 

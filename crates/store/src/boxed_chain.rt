@@ -4,7 +4,7 @@ ghost use Rattle.logical_time.specs.declared.fault.Fault.TheVariants as fault;
 ghost use Rattle.versions.specs.Chain.{put_of};
 ghost use Rattle.versions.specs.Newest.{has_stamp};
 ghost use Rattle.store.specs.Crowded.{comes_to_more};
-ghost use Rattle.store.specs.Kept.{collected_held};
+ghost use Rattle.store.specs.Stored.{collected_held};
 
 use logical_time::{Fault, Time};
 use std::alloc::Global;

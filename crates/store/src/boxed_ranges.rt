@@ -2,7 +2,7 @@
 ghost use Rattle.std.specs.Prelude.{◌≡◌, ◌+◌, ◌≤◌, ◌<◌, [], IfOk, IfErr, OnOk, IsOk};
 ghost use Rattle.logical_time.specs.declared.fault.Fault.TheVariants as fault;
 ghost use Rattle.versions.specs.Ranges.{put_range};
-ghost use Rattle.store.specs.Kept.{collected_ranges};
+ghost use Rattle.store.specs.Stored.{collected_ranges};
 
 use logical_time::{Fault, Time};
 use std::alloc::Global;
@@ -67,7 +67,7 @@ impl BoxedRanges {
     }
 
     /// Drops those that are in force at no time from this one on, below these deletions of the row.
-    #[tactic(auto, using(crate::proofs::Collected::ranges_held_collected))]
+    #[tactic(auto, using(crate::proofs::applied::Collected::ranges_held_collected))]
     pub(crate) fn collect(&mut self, deletions: &Chain, time: Time)
         ensures { self.new ≡ collected_ranges time deletions.now.versions self.old }
     {

@@ -5,7 +5,7 @@ ghost use Rattle.column_family.specs.declared.batch.Row.{Row};
 ghost use Rattle.column_family.specs.Places.{is_listed, row_cmp};
 ghost use Rattle.versions.specs.Chain.{kept_from};
 ghost use Rattle.versions.specs.Ranges.{kept_ranges};
-ghost use Rattle.store.specs.Kept.{Place, chain_at, ranges_in, HaveKept, HaveKeptRanges};
+ghost use Rattle.store.specs.Stored.{Place, chain_at, ranges_in, HaveKept, HaveKeptRanges};
 ghost use Rattle.store.specs.Crowded.{AreListed, is_crowded_in};
 
 use crate::row::RowChains;

@@ -9,7 +9,7 @@ ghost use Rattle.logical_time.specs.declared.fault.Fault.TheVariants as fault;
 ghost use Rattle.slice.specs.declared.predicate.Predicate.TheVariants.{Names, Range};
 ghost use Rattle.slice.specs.Live.{in_name_order};
 ghost use Rattle.store.specs.Gathering.{IsLeft, writers_gathered};
-ghost use Rattle.store.specs.Kept.{name_cmp};
+ghost use Rattle.store.specs.Stored.{name_cmp};
 ghost use Rattle.store.specs.Sight as sight;
 ghost use Rattle.store.specs.Sight.{HaveSameWriters, NamedVersion, named};
 

@@ -2,7 +2,7 @@
 ghost use Rattle.std.specs.Prelude.{◌≡◌, ◌≤◌, ◌+◌, ◌++◌, IfOk, OnOk, map};
 ghost use Rattle.std.specs.Option.{option_copied};
 ghost use Rattle.store.specs.Sight as sight;
-ghost use Rattle.store.specs.Kept.{name_cmp};
+ghost use Rattle.store.specs.Stored.{name_cmp};
 ghost use Rattle.store.specs.Sight.{named, first_by};
 
 use crate::sight::Seen;

@@ -9,7 +9,7 @@ ghost use Rattle.slice.specs.Slice.{first_of_walk, name_le, walked};
 ghost use Rattle.slice.specs.Rests.{is_reached, is_within};
 ghost use Rattle.logical_time.specs.declared.fault.Fault.TheVariants as fault;
 ghost use Rattle.column_family.specs.Places.{row_cmp};
-ghost use Rattle.store.specs.Kept.{held_by, name_cmp, no_row};
+ghost use Rattle.store.specs.Stored.{held_by, name_cmp, no_row};
 ghost use Rattle.store.specs.Latest.{IsLatest};
 ghost use Rattle.store.specs.declared.sight.Moment.TheVariants.{Now};
 ghost use Rattle.slice.specs.declared.predicate.Predicate.TheVariants.{Names, Range};

@@ -9,7 +9,7 @@ ghost use Rattle.column_family.specs.declared.batch.Row.{Row};
 ghost use Rattle.column_family.specs.Location as location;
 ghost use Rattle.column_family.specs.Places.{row_cmp};
 ghost use Rattle.store.specs.Counts.{AreCounts, count_at};
-ghost use Rattle.store.specs.Kept.{Place, chain_at, ranges_in, HasRoomForRanges, HaveKeptRangeRoom, HaveSameRanges};
+ghost use Rattle.store.specs.Stored.{Place, chain_at, ranges_in, HasRoomForRanges, HaveKeptRangeRoom, HaveSameRanges};
 
 use crate::row::RowChains;
 use column_family::{Change, Mutation, Row};

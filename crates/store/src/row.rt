@@ -13,8 +13,8 @@ ghost use Rattle.store.specs.Crowded as crowded;
 ghost use Rattle.store.specs.Crowded.{comes_to_more, holds_more};
 ghost use Rattle.store.specs.Latest.{IsLatest, IsLatestAfter};
 ghost use Rattle.store.specs.Sight.{evt_or_0};
-ghost use Rattle.store.specs.Kept as kept;
-ghost use Rattle.store.specs.Kept.{Place, chain_of, collected_held, collected_ranges, collected_row, column_held, is_of_place, name_cmp, no_ranges, nothing_held, put_all, written, IsRangeLeft, IsRangeWritten};
+ghost use Rattle.store.specs.Stored as kept;
+ghost use Rattle.store.specs.Stored.{Place, chain_of, collected_held, collected_ranges, collected_row, column_held, is_of_place, name_cmp, no_ranges, nothing_held, put_all, written, IsRangeLeft, IsRangeWritten};
 ghost use Rattle.versions.specs.declared.range.RangeDeletion.{RangeDeletion};
 
 use crate::boxed_chain::BoxedChain;
@@ -41,7 +41,7 @@ pub(crate) struct RowChains {
 
 impl Model for RowChains {
     ghost use Rattle.std.specs.Prelude.{IfSome, unwrap_or};
-    ghost use Rattle.store.specs.Kept.{Chains, no_ranges, nothing_held};
+    ghost use Rattle.store.specs.Stored.{Chains, no_ranges, nothing_held};
     ghost use Rattle.store.specs.Latest.{IsLatest};
 
     ghost Value = { Chains };
@@ -252,7 +252,7 @@ fn collect_below(ranges: &mut Option<BoxedRanges>, deletions: &Chain, time: Time
 }
 
 // The same where there may be no deletion of the row: then all stay.
-#[tactic(auto, using(crate::proofs::Collected::all_collected))]
+#[tactic(auto, using(crate::proofs::applied::Collected::all_collected))]
 fn collect_ranges(ranges: &mut Option<BoxedRanges>, deletions: Option<&Chain>, time: Time)
     ensures { unwrap_or ranges.new no_ranges ≡ collected_ranges time (unwrap_or (option_copied deletions.entry) nothing_held).versions (unwrap_or ranges.old no_ranges) }
 {

@@ -9,12 +9,12 @@ ghost use Rattle.column_family.specs.Location.{deletes_range, is_same_row};
 ghost use Rattle.versions.specs.Chain.{put_of, kept_from};
 ghost use Rattle.versions.specs.Newest.{has_stamp};
 ghost use Rattle.store.specs.Crowded.{AreListed, is_crowded_in};
-ghost use Rattle.store.specs.Kept as kept;
+ghost use Rattle.store.specs.Stored as kept;
 ghost use Rattle.column_family.specs.Normal.{ranges_of};
 ghost use Rattle.versions.specs.declared.range.RangeDeletion.{RangeDeletion};
 ghost use Rattle.versions.specs.Ranges as in_ranges;
 ghost use Rattle.versions.specs.Ranges.{kept_ranges};
-ghost use Rattle.store.specs.Kept.{Place, chain_at, ranges_in, is_at, is_of_place, HasRoom, HasRoomAtPlaces, HaveKept, HaveKeptRanges, HaveKeptRoom, HaveKeptRangeRoom, HaveSameVersions, HaveSameRanges, HavePut, HavePutRanges, IsRangeWritten};
+ghost use Rattle.store.specs.Stored.{Place, chain_at, ranges_in, is_at, is_of_place, HasRoom, HasRoomAtPlaces, HaveKept, HaveKeptRanges, HaveKeptRoom, HaveKeptRangeRoom, HaveSameVersions, HaveSameRanges, HavePut, HavePutRanges, IsRangeWritten};
 
 use crate::crowded::Crowded;
 use crate::origin::Origin;

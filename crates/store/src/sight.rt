@@ -6,7 +6,7 @@ ghost use Rattle.std.specs.Range.Bound.{bound_map};
 ghost use Rattle.slice.specs.Live.{in_name_order};
 ghost use Rattle.slice.specs.Slice as slice_words;
 ghost use Rattle.logical_time.specs.declared.fault.Fault.TheVariants as fault;
-ghost use Rattle.store.specs.Kept.{name_cmp};
+ghost use Rattle.store.specs.Stored.{name_cmp};
 ghost use Rattle.store.specs.Sight as sight;
 ghost use Rattle.store.specs.Sight.{AreSeen, named, sight_of};
 

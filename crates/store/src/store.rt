@@ -5,7 +5,7 @@ ghost use Rattle.column_family.specs.Location.{Location};
 ghost use Rattle.column_family.specs.Normal.{IsNormal};
 ghost use Rattle.store.specs.declared.part.Applied.{Applied};
 ghost use Rattle.store.specs.Crowded.{AreListed};
-ghost use Rattle.store.specs.Kept.{HasRoom, HaveKept, HaveKeptRanges, HaveKeptRoom, HaveKeptRangeRoom, HaveSameVersions, HaveSameRanges, HavePut, HavePutRanges};
+ghost use Rattle.store.specs.Stored.{HasRoom, HaveKept, HaveKeptRanges, HaveKeptRoom, HaveKeptRangeRoom, HaveSameVersions, HaveSameRanges, HavePut, HavePutRanges};
 ghost use Rattle.store.specs.Keeps.{Keeps, IsNewStamp, IsOvertaken};
 ghost use Rattle.column_family.specs.History.{newest_at};
 ghost use Rattle.store.specs.declared.sight.Moment.TheVariants.{At};
@@ -57,10 +57,10 @@ pub struct Store {
 }
 
 impl Model for Store {
-    ghost use Rattle.store.specs.Kept.{Kept};
+    ghost use Rattle.store.specs.Stored.{StoreValue};
     ghost use Rattle.store.specs.Crowded.{AreListed};
 
-    ghost Value = { Kept };
+    ghost Value = { StoreValue };
 
     ghost view = { λ store. record { rows = store.rows.entries; low = store.low } };
 
@@ -71,7 +71,7 @@ impl Store {
     ghost use Rattle.column_family.specs.declared.batch.Row.{Row};
 
     /// A store to which nothing was applied, with the horizon at 0.
-    #[tactic(auto, using(crate::proofs::Lasting::keeps_nothing))]
+    #[tactic(auto, using(crate::proofs::applied::Lasting::keeps_nothing))]
     pub fn new(alloc: Global) -> Store
         ensures keeps { Keeps result [] }
         ensures low { result.low ≡ 0 }
@@ -89,7 +89,7 @@ impl Store {
     /// `Memory` alone.
     /// Logarithmic for each change in the rows and in the columns of its row, and linear in the batch for each range of
     /// columns that it deletes.
-    #[tactic(auto, using(crate::proofs::Lasting::keeps_same))]
+    #[tactic(auto, using(crate::proofs::applied::Lasting::keeps_same))]
     pub fn make_room(&mut self, batch: &Batch) -> Result<(), Fault>
         ensures same { HaveSameVersions self.old.rows self.new.rows }
         ensures same_ranges { HaveSameRanges self.old.rows self.new.rows }
@@ -110,7 +110,7 @@ impl Store {
     /// and the room for more stay, and the part is handed back. Logarithmic for each change in the rows and in the columns of its row;
     /// in the chain it costs what a put does. For `collect` it notes each row of which a chain holds more than one
     /// version then; where there is no memory for that, nothing is refused.
-    #[tactic(auto, using(crate::proofs::KeepsApplied::keeps_applied, crate::proofs::Lasting::keeps_same, crate::proofs::Overtaken::overtaken))]
+    #[tactic(auto, using(crate::proofs::applied::KeepsApplied::keeps_applied, crate::proofs::applied::Lasting::keeps_same, crate::proofs::newest::Overtaken::overtaken))]
     pub fn apply(
         &mut self,
         prepared: Prepared,
@@ -144,7 +144,7 @@ impl Store {
     /// Applies a part as `apply` does, where there is room for its batch: so it isn't refused, and looks for each place
     /// once. It takes memory only to list a row that is crowded then; where there is none, the next collection looks at
     /// all rows.
-    #[tactic(auto, using(crate::proofs::KeepsApplied::keeps_applied, crate::proofs::Overtaken::overtaken))]
+    #[tactic(auto, using(crate::proofs::applied::KeepsApplied::keeps_applied, crate::proofs::newest::Overtaken::overtaken))]
     pub fn apply_in_room(&mut self, prepared: Prepared, commit: Time, stamp: Stamp)
         requires { HasRoom self.old.rows prepared.part.batch }
         ensures put { HavePut (record { writer = prepared.part.writer; stamp = stamp; evt = commit }) prepared.part.batch self.old.rows self.new.rows }
@@ -164,7 +164,7 @@ impl Store {
     /// columns, each found in the order of their logarithm, after the row in that of the rows. Where `k` deletions of ranges
     /// are held of the row: for `n` asked columns as many as `n + k` more, each logarithmic in `k` and in the names of a
     /// list. Refused with `Memory` alone.
-    #[tactic(auto, using(crate::proofs::PartAt::part_now, crate::proofs::FromEvt::right_from_evt))]
+    #[tactic(auto, using(crate::proofs::seen::PartAt::part_now, crate::proofs::times::FromEvt::right_from_evt))]
     pub fn read_now(&self, row: &Row, predicate: &Predicate) -> Result<Part, Fault>
         ensures newest { (all : List Applied) → Keeps self.now all → IfOk result (IsNewestPart all row.now predicate.now) }
         ensures right { (all : List Applied) (t : ℕ) → Keeps self.now all → IfOk result (λ part. part.evt ≤ t → IsRightPart all row.now predicate.now t part) }
@@ -189,7 +189,7 @@ impl Store {
     /// everything that was ever applied, and by whatever is applied later with a greater commit time. Refused with
     /// `Collected` exactly where the time lies below the horizon, else with `Memory` alone. Costs what `read_now`
     /// does, and the logarithm of each chain.
-    #[tactic(auto, using(crate::proofs::PartAt::part_at, crate::proofs::Later::right_lasts))]
+    #[tactic(auto, using(crate::proofs::seen::PartAt::part_at, crate::proofs::newest::Later::right_lasts))]
     pub fn read_at(&self, row: &Row, predicate: &Predicate, time: Time) -> Result<Part, Fault>
         ensures right { (all : List Applied) → Keeps self.now all → IfOk result (IsRightPart all row.now predicate.now time) }
         ensures lasts { (all later : List Applied) → Keeps self.now all → All (λ a. time < a.commit) later → IfOk result (IsRightPart (all ++ later) row.now predicate.now time) }
@@ -209,7 +209,7 @@ impl Store {
     /// the part is in normal form and its stamp is new; nothing is applied. Refused as `read_at` is. Costs what
     /// `read_at` does, and is linear in the batch: the versions that the part leaves in the row are laid over those
     /// that the read finds, without touching a chain.
-    #[tactic(auto, using(crate::proofs::ReadWith::part_with))]
+    #[tactic(auto, using(crate::proofs::laid_over::ReadWith::part_with))]
     pub fn read_with(
         &self,
         writer: Writer,

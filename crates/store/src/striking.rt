@@ -6,7 +6,7 @@ ghost use Rattle.std.specs.List.Sorted.{IsStrictlySortedBy};
 ghost use Rattle.logical_time.specs.declared.fault.Fault.TheVariants as fault;
 ghost use Rattle.logical_time.specs.Stamps.{writer_cmp};
 ghost use Rattle.versions.specs.Ranges as ranges;
-ghost use Rattle.store.specs.Kept.{name_cmp};
+ghost use Rattle.store.specs.Stored.{name_cmp};
 ghost use Rattle.store.specs.Sight.{AreAskedFor, HaveSameWriters, laid_over, named, sight_of, uncovered_writer};
 ghost use Rattle.store.specs.Struck as struck;
 ghost use Rattle.store.specs.Struck.{IsMadeUnder, IsPartUnder, ranged, ranges_over, ranges_seen, standing};

@@ -4,7 +4,7 @@ ghost use Rattle.std.specs.Option.{option_copied};
 ghost use Rattle.std.specs.BTreeMap.{IsOrdered};
 ghost use Rattle.versions.specs.Chain.{Held};
 ghost use Rattle.slice.specs.Slice.{walked};
-ghost use Rattle.store.specs.Kept.{name_cmp};
+ghost use Rattle.store.specs.Stored.{name_cmp};
 ghost use Rattle.store.specs.Sight.{named};
 ghost use Rattle.store.specs.Walk.{seen_until};
 

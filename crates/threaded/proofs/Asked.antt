@@ -9,7 +9,7 @@ use Rattle.logical_time.specs.Stamps.{TxnValue}
 use Rattle.column_family.specs.declared.batch.Change.{Change}
 use Rattle.column_family.specs.declared.batch.Committed.{Committed}
 use Rattle.messages.specs.declared.op.Op.{Op}
-use Rattle.store.proofs.Lists.{given}
+use Rattle.store.proofs.lists.Lists.{given}
 use Rattle.messages.specs.Words.{is_same_txn}
 use Rattle.messages.specs.Topology.{TopologyValue, is_topology, is_session, shard_count, session_node}
 use Rattle.actors.specs.Seats.{SeatValue}

@@ -12,7 +12,7 @@ use Rattle.messages.specs.declared.event.Event.TheVariants.{Submit as SubmitHere
 use Rattle.messages.specs.Topology.{TopologyValue, is_shard, node_count}
 use Rattle.messages.specs.Session.{is_idle}
 use Rattle.messages.specs.Actors.{OfShard, OfSession, sent_in, sent_by}
-use Rattle.store.proofs.Lists.{given, given_only}
+use Rattle.store.proofs.lists.Lists.{given, given_only}
 use Rattle.actors.specs.Journals.{receipts_from, sends_to}
 use Rattle.actors.specs.Seats.{SeatValue}
 use Rattle.world.specs.declared.run_event.RunEvent.{RunEvent as Event}

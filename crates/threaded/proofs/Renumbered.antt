@@ -16,7 +16,7 @@ use Rattle.messages.specs.ShardEvents.{shard_handle}
 use Rattle.messages.specs.SessionEvents.{session_handle}
 use Rattle.messages.specs.Actors.{OfShard, OfSession, clock_of, envelope_of, opening_actor, ActorStep, of_shard, of_session, actor_step, replay_of}
 use Rattle.logical_time.specs.declared.fault.Fault.{Fault}
-use Rattle.store.proofs.Lists.{given}
+use Rattle.store.proofs.lists.Lists.{given}
 use Rattle.world.specs.Quiet.{number_delivered, IsQuiet}
 use Rattle.world.specs.Refusals.{IsRun}
 use Rattle.world.specs.declared.run_event.RunEvent.{RunEvent as Event}

@@ -13,7 +13,7 @@ use Rattle.messages.specs.declared.event.Event.{Event}
 use Rattle.messages.specs.declared.event.Event.TheVariants.{Handle}
 use Rattle.messages.specs.Topology.{TopologyValue, node_count}
 use Rattle.messages.specs.Actors.{clock_of, envelope_of, opening_actor, Replayed, replay_of, sent_in, sent_by}
-use Rattle.store.proofs.Lists.{given}
+use Rattle.store.proofs.lists.Lists.{given}
 use Rattle.actors.specs.Journals.{receipts_from, sends_to}
 use Rattle.world.specs.declared.run_event.RunEvent.{RunEvent}
 use Rattle.world.specs.Run.{Run, run}

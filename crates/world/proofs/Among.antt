@@ -7,7 +7,7 @@ use Rattle.std.proofs.lemmas.Bool.Decides.{nat_tests}
 use Rattle.std.proofs.lemmas.Bool.{false≢true, and_parts, or_parts, or_cases}
 use Rattle.logical_time.specs.Stamps.{TxnValue}
 use Rattle.messages.specs.Words.{is_same_txn}
-use Rattle.store.proofs.Lists.{none_in_empty, contains_first, contains_rest, first_or_rest}
+use Rattle.store.proofs.lists.Lists.{none_in_empty, contains_first, contains_rest, first_or_rest}
 
 -- x is one of the list's elements
 abbrev pub Among : {X : Type 0} → X → List X → Type 0

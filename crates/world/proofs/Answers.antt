@@ -11,7 +11,7 @@ use Rattle.slice.specs.Rows.{row_of}
 use Rattle.store.specs.declared.part.Applied.{Applied}
 use Rattle.store.specs.Part.{has_row}
 use Rattle.store.specs.Keeps.{AreApart}
-use Rattle.store.proofs.Lists.{none_in_empty, kept}
+use Rattle.store.proofs.lists.Lists.{none_in_empty, kept}
 use Rattle.planner.specs.Plan.{coordinator_of}
 use Rattle.messages.specs.declared.rows_at.AtTime.TheVariants as at
 use Rattle.messages.specs.declared.body.Body.{Body}

@@ -8,7 +8,7 @@ use Rattle.column_family.specs.declared.batch.Change.{Change}
 use Rattle.column_family.specs.declared.batch.Committed.{Committed}
 use Rattle.column_family.specs.Normal.{committed}
 use Rattle.planner.specs.Plan.{coordinator_of}
-use Rattle.store.proofs.Lists.{given, given_only}
+use Rattle.store.proofs.lists.Lists.{given, given_only}
 use Rattle.messages.specs.declared.op.Op.{Op}
 use Rattle.messages.specs.declared.op.Op.TheVariants as op
 use Rattle.messages.specs.Topology.{TopologyValue, shard_node}

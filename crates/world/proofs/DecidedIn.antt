@@ -8,7 +8,7 @@ use Rattle.column_family.specs.declared.batch.Change.{Change}
 use Rattle.column_family.specs.declared.batch.Committed.{Committed}
 use Rattle.slice.specs.Parts.{AreStampedApart}
 use Rattle.store.specs.declared.part.Applied.{Applied}
-use Rattle.store.proofs.Lists.{given, given_only}
+use Rattle.store.proofs.lists.Lists.{given, given_only}
 use Rattle.planner.proofs.Members.{contains_flat, flat_contains, contains_below}
 use Rattle.messages.specs.declared.op.Op.{Op}
 use Rattle.messages.specs.Topology.{TopologyValue, dc_of, shard_node}

@@ -10,7 +10,7 @@ use Rattle.messages.specs.Session.{SessionState, SessionStep}
 use Rattle.messages.specs.SessionEvents.{heard, session_taken}
 use Rattle.messages.specs.ShardEvents.{handled, collected}
 use Rattle.messages.specs.Submitting.{begun}
-use Rattle.store.proofs.Lists.{none_in_empty}
+use Rattle.store.proofs.lists.Lists.{none_in_empty}
 use Rattle.world.specs.Run.{Run, Event, Submit, Submission, submission_by, opening, after_shard, with_session, step, continued, run}
 use Rattle.world.specs.Drains.{ClocksCountEvents}
 use Rattle.world.proofs.Among.{among_append, get_among, among_contains, contains_among}

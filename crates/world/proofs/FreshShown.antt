@@ -20,8 +20,8 @@ use Rattle.store.specs.declared.part.Applied.{Applied}
 use Rattle.store.specs.Part.{committed_of as part_entry, history_of as parts_of, applied_by, evt_of}
 use Rattle.store.specs.Keeps.{AreApart}
 use Rattle.slice.proofs.Changed.{some_last}
-use Rattle.store.proofs.FromEvt.{touch_agrees}
-use Rattle.store.proofs.Newer.{not_older_trans}
+use Rattle.store.proofs.times.FromEvt.{touch_agrees}
+use Rattle.store.proofs.newest.Newer.{not_older_trans}
 use Rattle.planner.specs.Partition.{shard_of as shard_of_key}
 use Rattle.messages.specs.Topology.{TopologyValue, dc_of, shard_of}
 use Rattle.world.specs.Run.{Run}

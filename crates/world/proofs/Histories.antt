@@ -9,7 +9,7 @@ use Rattle.logical_time.specs.Stamps.{StampValue, stamp_cmp}
 use Rattle.column_family.specs.declared.batch.Committed.{Committed}
 use Rattle.column_family.specs.History.{History}
 use Rattle.column_family.specs.Normal.{committed}
-use Rattle.store.proofs.Lists.{given, given_only}
+use Rattle.store.proofs.lists.Lists.{given, given_only}
 use Rattle.messages.specs.Topology.{TopologyValue, shard_node}
 use Rattle.messages.specs.Shard.{Decision}
 use Rattle.world.specs.Run.{Run}

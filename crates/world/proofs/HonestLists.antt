@@ -10,7 +10,7 @@ use Rattle.messages.specs.declared.body.Body.{Body}
 use Rattle.messages.specs.declared.body.Body.TheVariants.{Begin, Prepare, Yes, Commit, At, NotBy, Check, Read as ReadNow, ReadAt, ReplBegin, ReplPart, Notify, PrepareRemote, DepCheck, DepOk, Done, PartNow, PartAt}
 use Rattle.messages.specs.declared.envelope.Envelope.{Envelope}
 use Rattle.messages.specs.Topology.{TopologyValue, shard_of}
-use Rattle.messages.specs.Honest.{IsHonest, Told, all_told, part_in}
+use Rattle.messages.specs.Honest.{IsHonest, ToldCommit, all_told, part_in}
 use Rattle.world.specs.Run.{Run}
 use Rattle.world.specs.Met.{envelopes_to}
 use Rattle.world.proofs.Among.{contains_among}
@@ -52,10 +52,10 @@ module _ (top : TopologyValue) (w : Run) (node : ℕ) (inv : Inv top w) (es : Li
   it_says : (e : Envelope) → Contains es e → Says top w e.from node e.time e.body
   it_says e has = said top w node es sent e inv has
 
-  is_true : (x : Told) → Contains (all_told es) x → IsTrue top w node x
+  is_true : (x : ToldCommit) → Contains (all_told es) x → IsTrue top w node x
   is_true x has = told_true top w node es sent x inv has
 
-  excluded_above : (x : Told) (e : Envelope) (time : ℕ) → Contains (all_told es) x → Contains es e → e.body ≡ NotBy x.txn time → time < x.commit
+  excluded_above : (x : ToldCommit) (e : Envelope) (time : ℕ) → Contains (all_told es) x → Contains es e → e.body ≡ NotBy x.txn time → time < x.commit
   excluded_above x e time told has body =
       let h = subst (Says top w e.from node e.time) body (it_says e has) in told_excluded top w e.from node time x inv (is_true x told) h.0 h.1
 

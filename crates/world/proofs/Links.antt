@@ -6,7 +6,7 @@ use Rattle.messages.specs.Topology.{TopologyValue}
 use Rattle.messages.specs.declared.event.Event.{Event as ActorEvent}
 use Rattle.messages.specs.declared.event.Event.TheVariants.{Handle}
 use Rattle.messages.specs.Actors.{envelope_of, sent_by}
-use Rattle.store.proofs.Lists.{given}
+use Rattle.store.proofs.lists.Lists.{given}
 use Rattle.world.specs.Journals.{receipts_from, DoFit, DoLinksFit, IsThreadedRun}
 use Rattle.world.proofs.Among.{Among, among_contains, contains_among, append_first, filter_only, filter_among}
 use Rattle.world.proofs.Merged.{are_a_run}

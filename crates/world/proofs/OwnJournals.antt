@@ -9,7 +9,7 @@ use Rattle.messages.specs.Topology.{TopologyValue, node_count}
 use Rattle.messages.specs.declared.event.Event.{Event as ActorEvent}
 use Rattle.messages.specs.declared.event.Event.TheVariants.{Submit as SubmitHere, Handle, Collect as CollectHere}
 use Rattle.messages.specs.Actors.{ActorStep, opening_actor, replay_of, sent_in, sent_by}
-use Rattle.store.proofs.Lists.{given_only}
+use Rattle.store.proofs.lists.Lists.{given_only}
 use Rattle.world.specs.Run.{Run, Completed, Event, Submit, Deliver, Collect, opening, step, continued, run}
 use Rattle.world.specs.Journals.{actor_in, event_at, journal_in, finished_as, sent_from, ended_at, held_in, IsRunOf, DoFit, IsItsJournal}
 use Rattle.world.proofs.Among.{Among, among_contains, contains_among, among_append, get_among, filter_among}

@@ -4,7 +4,7 @@ use Rattle.std.specs.Prelude.{AllPairs, filter_map}
 use Rattle.std.specs.List.{cons_option}
 use Rattle.std.proofs.lemmas.List.Kept.{AllPairs-cons}
 use Rattle.planner.proofs.Members.{all_members}
-use Rattle.store.proofs.Lists.{given_only}
+use Rattle.store.proofs.lists.Lists.{given_only}
 use Rattle.world.proofs.Among.{Among, among_contains, contains_among, among_append}
 
 -- of the first element and each later one

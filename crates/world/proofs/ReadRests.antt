@@ -14,7 +14,7 @@ use Rattle.slice.specs.Parts.{HaveSameOf}
 use Rattle.slice.proofs.RowAlike.{rest_alike, rested_entry}
 use Rattle.store.specs.declared.part.Applied.{Applied}
 use Rattle.store.specs.Part.{committed_of as part_entry, history_of as parts_of, applied_by}
-use Rattle.store.proofs.Lists.{kept_only}
+use Rattle.store.proofs.lists.Lists.{kept_only}
 use Rattle.slice.specs.Rows.{row_of}
 use Rattle.planner.proofs.Members.{map_contains, contains_flat}
 use Rattle.messages.specs.declared.rows_at.RowAt.{RowAt}

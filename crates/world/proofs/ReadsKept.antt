@@ -4,7 +4,7 @@ use Rattle.std.specs.Prelude.{nat_lt}
 use Rattle.logical_time.specs.Stamps.{WriterValue}
 use Rattle.slice.specs.declared.read.Read.{Read}
 use Rattle.slice.specs.Rows.{row_of}
-use Rattle.store.proofs.EvtBelow.{evt_early}
+use Rattle.store.proofs.times.EvtBelow.{evt_early}
 use Rattle.messages.specs.declared.rows_now.RowNow.{RowNow}
 use Rattle.messages.specs.Topology.{TopologyValue}
 use Rattle.messages.specs.Rows.{row_now}

@@ -6,7 +6,7 @@ use Rattle.logical_time.specs.Stamps.{TxnValue}
 use Rattle.column_family.specs.declared.batch.Change.{Change}
 use Rattle.column_family.specs.Normal.{committed}
 use Rattle.planner.specs.Plan.{coordinator_of}
-use Rattle.store.proofs.Lists.{none_in_empty}
+use Rattle.store.proofs.lists.Lists.{none_in_empty}
 use Rattle.messages.specs.declared.op.Op.{Op}
 use Rattle.messages.specs.declared.op.Op.TheVariants as op
 use Rattle.messages.specs.declared.outcome.Outcome.{Outcome}

@@ -3,7 +3,7 @@ use Rattle.std.proofs.Common.{List, length, refl, ℕ, [], ◌∷◌}
 use Rattle.std.specs.Prelude.{◌&&◌, ◌==◌}
 use Rattle.std.proofs.lemmas.List.Sorted.{IsPermutation-refl}
 use Rattle.column_family.specs.Normal.{committed}
-use Rattle.store.proofs.Lists.{none_in_empty}
+use Rattle.store.proofs.lists.Lists.{none_in_empty}
 use Rattle.messages.specs.declared.op.Op.TheVariants as op
 use Rattle.messages.specs.declared.outcome.Outcome.{Outcome}
 use Rattle.messages.specs.declared.outcome.Outcome.TheVariants as outcome

@@ -5,11 +5,11 @@ use Rattle.std.proofs.lemmas.List.Sorted.{IsPermutation-refl}
 use Rattle.column_family.specs.declared.batch.Mutation.{Mutation}
 use Rattle.column_family.specs.Location.{Location}
 use Rattle.column_family.specs.History.{table_at}
-use Rattle.store.proofs.Lists.{none_in_empty}
+use Rattle.store.proofs.lists.Lists.{none_in_empty}
 use Rattle.messages.specs.declared.op.Op.TheVariants as op
 use Rattle.messages.specs.declared.outcome.Outcome.TheVariants as outcome
 use Rattle.messages.specs.Shard.{new_shard}
-use Rattle.messages.specs.Honest.{Told, all_told}
+use Rattle.messages.specs.Honest.{ToldCommit, all_told}
 use Rattle.messages.specs.declared.event.Event.TheVariants.{Handle}
 use Rattle.shard.specs.Events.{shard_run}
 use Rattle.shard.proofs.Lists.{no_truth}
@@ -28,7 +28,7 @@ use Rattle.world.proofs.WorkedPasts.{quiet}
 -- ## Shards
 
 -- what the two data centres tell their cohorts of one transaction
-abbrev told : ℕ → Told
+abbrev told : ℕ → ToldCommit
 told time = record { txn = operation 4 1; commit = time; stamp = stamp 3 0; time = time }
 
 pub all_that_was_sent : ¬ (SentIsHonest two_by_two write_is_replicated)

@@ -1,6 +1,6 @@
 -- All holds of every run, and a run grows with each event.
 use Rattle.std.proofs.Common.{◌≡◌, ◌<◌, List, [], ◌∷◌, ◌++◌, refl, le_refl, le_trans}
-use Rattle.store.proofs.Lists.{none_in_empty}
+use Rattle.store.proofs.lists.Lists.{none_in_empty}
 use Rattle.messages.specs.Topology.{TopologyValue}
 use Rattle.messages.specs.Session.{SessionState}
 use Rattle.world.specs.Run.{Run, Event, opening, step, continued, run}

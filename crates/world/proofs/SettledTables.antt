@@ -11,7 +11,7 @@ use Rattle.column_family.specs.Location.{Location, touches}
 use Rattle.column_family.specs.History.{History, Stamped, up_to, last_of, newest_of}
 use Rattle.slice.specs.Parts.{AreStampedApart}
 use Rattle.slice.proofs.SameNewest.{IsNewest, neither_older, newest_none, newest_some}
-use Rattle.store.proofs.Lists.{kept, kept_only}
+use Rattle.store.proofs.lists.Lists.{kept, kept_only}
 use Rattle.messages.specs.Topology.{TopologyValue}
 use Rattle.messages.specs.Shard.{Decision}
 use Rattle.world.specs.Run.{Run, Submission}

@@ -12,7 +12,7 @@ use Rattle.column_family.specs.Places.{normal_of}
 use Rattle.slice.specs.Parts.{has_row, changes_of, AgreesOn, AreStampedApart, HaveSameOf}
 use Rattle.store.specs.declared.part.Applied.{Applied}
 use Rattle.store.specs.Part.{committed_of as part_entry, history_of as parts_of, applied_by}
-use Rattle.store.proofs.Lists.{kept_only}
+use Rattle.store.proofs.lists.Lists.{kept_only}
 use Rattle.planner.specs.Partition.{shard_of as shard_of_key}
 use Rattle.planner.specs.Plan.{coordinator_of}
 use Rattle.messages.specs.Topology.{TopologyValue, dc_of, shard_of, shard_node}

@@ -5,7 +5,7 @@ use Rattle.std.proofs.lemmas.Bool.Decides.{nat_tests}
 use Rattle.column_family.specs.declared.batch.Row.{Row}
 use Rattle.slice.specs.declared.read.Read.{Read}
 use Rattle.store.specs.declared.part.Applied.{Applied}
-use Rattle.store.proofs.FromEvt.{right_from_evt}
+use Rattle.store.proofs.times.FromEvt.{right_from_evt}
 use Rattle.planner.specs.Partition.{shard_of as shard_of_key}
 use Rattle.planner.specs.Plan.{keys_for}
 use Rattle.messages.specs.declared.rows_now.RowNow.{RowNow}

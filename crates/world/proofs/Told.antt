@@ -4,13 +4,13 @@ use Rattle.std.specs.Prelude.{Contains, filter_map, filter}
 use Rattle.logical_time.specs.Stamps.{StampValue, TxnValue}
 use Rattle.column_family.specs.declared.batch.Change.{Change}
 use Rattle.planner.specs.Plan.{coordinator_of, cohorts_of}
-use Rattle.store.proofs.Lists.{given_only, kept_only}
+use Rattle.store.proofs.lists.Lists.{given_only, kept_only}
 use Rattle.messages.specs.declared.body.Body.{Body}
 use Rattle.messages.specs.declared.body.Body.TheVariants.{Begin, Prepare, Yes, Commit, At, NotBy, Check, Read as ReadNow, ReadAt, ReplBegin, ReplPart, Notify, PrepareRemote, DepCheck, DepOk, Done, PartNow, PartAt}
 use Rattle.messages.specs.declared.envelope.Envelope.{Envelope}
 use Rattle.messages.specs.Topology.{TopologyValue, dc_of, shard_of, shard_node}
 use Rattle.messages.specs.Shard.{Role, Own, Cohort, Replica, PreparedPart, Decision}
-use Rattle.messages.specs.Honest.{Told, told_in, all_told, StampedTxn, stamps_met}
+use Rattle.messages.specs.Honest.{ToldCommit, told_in, all_told, StampedTxn, stamps_met}
 use Rattle.messages.proofs.Numbering.{shard_again}
 use Rattle.world.specs.Run.{Run}
 use Rattle.world.specs.Quiet.{handled}
@@ -45,20 +45,20 @@ pub said : (top : TopologyValue) (w : Run) (node : ℕ) (es : List Envelope) →
 said top w node es sent e inv has = let r = sent e has in subst (λ z. Says top w e.from z e.time e.body) r.1 (inv.sent e r.0)
 
 -- a shard of this one's data centre decided what is told, not above the time of the envelope
-pub record IsTrue (top : TopologyValue) (w : Run) (node : ℕ) (x : Told) : Type 0 where
+pub record IsTrue (top : TopologyValue) (w : Run) (node : ℕ) (x : ToldCommit) : Type 0 where
   pub from : ℕ
   pub near : dc_of top from ≡ dc_of top node
   pub decided : IsDecided w from x.txn x.commit x.stamp
   pub time : x.commit ≤ x.time
 
-true_told : (top : TopologyValue) (w : Run) (from node time n : ℕ) (t : TxnValue) (s : StampValue) (x : Told) → dc_of top from ≡ dc_of top node
+true_told : (top : TopologyValue) (w : Run) (from node time n : ℕ) (t : TxnValue) (s : StampValue) (x : ToldCommit) → dc_of top from ≡ dc_of top node
     → IsDecided w from t n s → n ≤ time
     → Some (record { txn = t; commit = n; stamp = s; time = time }) ≡ Some x → IsTrue top w node x
 true_told top w from node time n t s x here d le e =
     let is : record { txn = t; commit = n; stamp = s; time = time } ≡ x = cc in
     subst (IsTrue top w node) is (record { from = from; near = here; decided = d; time = le })
 
-says_true : (top : TopologyValue) (w : Run) (from node time : ℕ) (b : Body) (x : Told) → Says top w from node time b → told_in time b ≡ Some x
+says_true : (top : TopologyValue) (w : Run) (from node time : ℕ) (b : Body) (x : ToldCommit) → Says top w from node time b → told_in time b ≡ Some x
     → IsTrue top w node x
 says_true top w from node time (Commit t n s) x h e = true_told top w from node time n t s x h.1 h.0.decided h.0.time e
 says_true top w from node time (At t n s) x h e = true_told top w from node time n t s x h.1 h.0.decided h.0.time e
@@ -79,7 +79,7 @@ says_true top w from node time (Done t commit stamp) x h e = absurd (cc)
 says_true top w from node time (PartNow number rows) x h e = absurd (cc)
 says_true top w from node time (PartAt number bound rows) x h e = absurd (cc)
 
-pub told_true : (top : TopologyValue) (w : Run) (node : ℕ) (es : List Envelope) → WereSent w node es → (x : Told) → Inv top w → Contains (all_told es) x
+pub told_true : (top : TopologyValue) (w : Run) (node : ℕ) (es : List Envelope) → WereSent w node es → (x : ToldCommit) → Inv top w → Contains (all_told es) x
     → IsTrue top w node x
 told_true top w node es sent x inv has =
     let r = given_only (λ e. told_in e.time e.body) es x has in
@@ -87,18 +87,18 @@ told_true top w node es sent x inv has =
 
 -- ## What is told agrees
 
-told_once : (top : TopologyValue) (w : Run) (node : ℕ) (x y : Told) → Inv top w → (p : IsTrue top w node x) → (q : IsTrue top w node y)
+told_once : (top : TopologyValue) (w : Run) (node : ℕ) (x y : ToldCommit) → Inv top w → (p : IsTrue top w node x) → (q : IsTrue top w node y)
     → x.txn ≡ y.txn → p.decided.decision ≡ q.decided.decision
 told_once top w node x y inv p q same =
     one_decision top w p.from q.from p.decided.decision q.decided.decision inv p.decided.among q.decided.among
     (p.decided.txn ∙ same ∙ sym q.decided.txn) (p.near ∙ sym q.near)
 
-pub told_commit : (top : TopologyValue) (w : Run) (node : ℕ) (x y : Told) → Inv top w → IsTrue top w node x → IsTrue top w node y → x.txn ≡ y.txn
+pub told_commit : (top : TopologyValue) (w : Run) (node : ℕ) (x y : ToldCommit) → Inv top w → IsTrue top w node x → IsTrue top w node y → x.txn ≡ y.txn
     → x.commit ≡ y.commit
 told_commit top w node x y inv p q same =
     sym p.decided.commit ∙ ap (λ (d : Decision). d.commit) (told_once top w node x y inv p q same) ∙ q.decided.commit
 
-pub told_stamp : (top : TopologyValue) (w : Run) (node : ℕ) (x y : Told) → Inv top w → IsTrue top w node x → IsTrue top w node y → x.txn ≡ y.txn
+pub told_stamp : (top : TopologyValue) (w : Run) (node : ℕ) (x y : ToldCommit) → Inv top w → IsTrue top w node x → IsTrue top w node y → x.txn ≡ y.txn
     → x.stamp ≡ y.stamp
 told_stamp top w node x y inv p q same =
     sym p.decided.stamp ∙ ap (λ (d : Decision). d.stamp) (told_once top w node x y inv p q same) ∙ q.decided.stamp
@@ -114,7 +114,7 @@ led_by top from node batch here own is =
 near_itself : (top : TopologyValue) (from node : ℕ) → dc_of top from ≡ dc_of top node → near top from (shard_of top node) ≡ node
 near_itself top from node here = ap (λ z. shard_node top z (shard_of top node)) here ∙ shard_again top node
 
-cohort_before : (top : TopologyValue) (w : Run) (node : ℕ) (p : PreparedPart) (x : Told) → Inv top w → (s : PreparedSound top w node p)
+cohort_before : (top : TopologyValue) (w : Run) (node : ℕ) (p : PreparedPart) (x : ToldCommit) → Inv top w → (s : PreparedSound top w node p)
     → IsTrue top w node x → p.txn ≡ x.txn
     → Among (shard_of top node) (cohorts_of top.shards s.batch) → p.time < x.commit
 cohort_before top w node p x inv s q same cohort =
@@ -126,7 +126,7 @@ cohort_before top w node p x inv s q same cohort =
     let one : b.part ≡ p = s.one b.part here (b.txn ∙ d.txn ∙ sym same) in
     subst (λ z. p.time < z) d.commit (subst (λ (z : PreparedPart). z.time < d.decision.commit) one b.time)
 
-own_before : (top : TopologyValue) (w : Run) (node : ℕ) (p : PreparedPart) (x : Told) → Inv top w → (s : PreparedSound top w node p)
+own_before : (top : TopologyValue) (w : Run) (node : ℕ) (p : PreparedPart) (x : ToldCommit) → Inv top w → (s : PreparedSound top w node p)
     → IsTrue top w node x → p.txn ≡ x.txn
     → p.role ≡ Own → shard_of top node ≡ coordinator_of top.shards s.batch → p.time < x.commit
 own_before top w node p x inv s q same role own =
@@ -136,21 +136,21 @@ own_before top w node p x inv s q same role own =
     let at = led_by top q.from node k.batch q.near (own ∙ ap (coordinator_of top.shards) batches.1) k.here in
     subst (λ z. p.time < z) d.commit (s.below d.decision (subst (λ z. Among d.decision (w.shards z).decided) at d.among) (d.txn ∙ sym same))
 
-told_after : (top : TopologyValue) (w : Run) (node : ℕ) (p : PreparedPart) (x : Told) → Inv top w → (s : PreparedSound top w node p)
+told_after : (top : TopologyValue) (w : Run) (node : ℕ) (p : PreparedPart) (x : ToldCommit) → Inv top w → (s : PreparedSound top w node p)
     → IsTrue top w node x → p.txn ≡ x.txn
     → (r : Role) → p.role ≡ r → RoleFits r top s.batch node → p.time < x.commit
 told_after top w node p x inv s q same Own role fits = own_before top w node p x inv s q same role fits
 told_after top w node p x inv s q same Cohort role fits = cohort_before top w node p x inv s q same fits
 told_after top w node p x inv s q same Replica role fits = cohort_before top w node p x inv s q same fits
 
-pub told_above : (top : TopologyValue) (w : Run) (node : ℕ) (p : PreparedPart) (x : Told) → Inv top w → Among p (w.shards node).prepared
+pub told_above : (top : TopologyValue) (w : Run) (node : ℕ) (p : PreparedPart) (x : ToldCommit) → Inv top w → Among p (w.shards node).prepared
     → IsTrue top w node x → p.txn ≡ x.txn → p.time < x.commit
 told_above top w node p x inv m q same =
     let s = (inv.shards node).prepared p m in told_after top w node p x inv s q same p.role refl s.role
 
 -- ## Exclusions
 
-pub told_excluded : (top : TopologyValue) (w : Run) (from node time : ℕ) (x : Told) → Inv top w → IsTrue top w node x → Excluded w from x.txn time
+pub told_excluded : (top : TopologyValue) (w : Run) (from node time : ℕ) (x : ToldCommit) → Inv top w → IsTrue top w node x → Excluded w from x.txn time
     → IsLead top w (dc_of top node) from x.txn → time < x.commit
 told_excluded top w from node time x inv q out is =
     let d = q.decided in
@@ -176,13 +176,13 @@ stamp_met top w node es sent z inv has = elim (among_append z (map told_stamped 
   | inr m ↦ (let r = map_only decided_stamped (w.shards node).decided z m in by_itself r.0 r.1 r.2)
 ]
   where
-    told_stamped : Told → StampedTxn
+    told_stamped : ToldCommit → StampedTxn
     told_stamped x = record { txn = x.txn; stamp = x.stamp }
 
     decided_stamped : Decision → StampedTxn
     decided_stamped d = record { txn = d.txn; stamp = d.stamp }
 
-    by_told : (x : Told) → z ≡ told_stamped x → IsTrue top w node x → IsMet w z
+    by_told : (x : ToldCommit) → z ≡ told_stamped x → IsTrue top w node x → IsMet w z
     by_told x e q = record {
       node = q.from;
       decision = q.decided.decision;

@@ -12,7 +12,7 @@ use Rattle.std.proofs.lemmas.Bool.Decides.{nat_tests}
 use Rattle.logical_time.specs.Stamps.{TxnValue, WriterValue, txn_cmp, writer_cmp}
 use Rattle.column_family.specs.declared.batch.Change.{Change}
 use Rattle.txn_state.specs.declared.part.WritePart.{WritePart}
-use Rattle.store.proofs.Lists.{given, given_only}
+use Rattle.store.proofs.lists.Lists.{given, given_only}
 use Rattle.planner.specs.Plan.{coordinator_of}
 use Rattle.messages.specs.Topology.{TopologyValue, dc_of, shard_of}
 use Rattle.messages.specs.Words.{is_same_txn, in_writer_order}

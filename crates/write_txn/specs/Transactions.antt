@@ -4,7 +4,7 @@ use Rattle.logical_time.specs.Stamps.{StampValue, TxnValue}
 use Rattle.column_family.specs.declared.batch.Row.{Row}
 use Rattle.column_family.specs.Normal.{IsNormal}
 use Rattle.store.specs.declared.part.Applied.{Applied}
-use Rattle.store.specs.Kept.{Kept}
+use Rattle.store.specs.Stored.{StoreValue}
 use Rattle.store.specs.Keeps.{Keeps, IsNewStamp}
 use Rattle.pending.specs.Marks.{MarkList, time_at}
 use Rattle.txn_state.specs.declared.part.WritePart.{WritePart}
@@ -16,7 +16,7 @@ use Rattle.write_txn.specs.Voters.{VoterList, voters_of}
 
 pub record TransactionsValue : Type 0 where
   pub ledger : LedgerValue
-  pub store : Kept
+  pub store : StoreValue
   pub early : VoterList
 
 -- the marks are those of the parts under way
@@ -29,19 +29,19 @@ cohorts_part part time =
     record { txn = part.writer.txn; rows = part.batch; coordinator = part.writer.shard; time = time; role = Cohort }
 
 -- what the store keeps it goes on keeping, and its horizon stays
-pub record GoesOnKeeping (old new : Kept) : Type 0 where
+pub record GoesOnKeeping (old new : StoreValue) : Type 0 where
   pub low : new.low ≡ old.low
   pub keeps : (all : List Applied) → Keeps old all → Keeps new all
 
 -- a part with this commit time and this stamp was applied: the store keeps it too, if it is in normal form and its stamp
 -- is new
-pub record KeepsAlso (part : PreparedValue) (commit : ℕ) (stamp : StampValue) (old new : Kept) : Type 0 where
+pub record KeepsAlso (part : PreparedValue) (commit : ℕ) (stamp : StampValue) (old new : StoreValue) : Type 0 where
   pub low : new.low ≡ old.low
   pub keeps : (all : List Applied) → Keeps old all → IsNormal part.part.batch → IsNewStamp stamp all
       → Keeps new (all ++ record { part = part.part; commit = commit; stamp = stamp } ∷ [])
 
 -- the prepared part was applied, if there is one
-abbrev pub KeepsIf : Option PreparedValue → ℕ → StampValue → Kept → Kept → Type 0
+abbrev pub KeepsIf : Option PreparedValue → ℕ → StampValue → StoreValue → StoreValue → Type 0
 KeepsIf None commit stamp old new = GoesOnKeeping old new
 KeepsIf (Some part) commit stamp old new = KeepsAlso part commit stamp old new
 

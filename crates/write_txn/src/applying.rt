@@ -1,7 +1,7 @@
 //! Parts that are applied.
 ghost use Rattle.std.specs.Prelude.{◌≡◌, ◌≤◌, ◌+◌, ◌++◌, length, map, Some};
 ghost use Rattle.messages.specs.Posting.{commit_to};
-ghost use Rattle.store.specs.Kept.{HasRoom};
+ghost use Rattle.store.specs.Stored.{HasRoom};
 ghost use Rattle.txn_state.specs.Prepared.{PreparedValue};
 ghost use Rattle.write_txn.specs.Ledger.{state_of, part_in, Becomes, state_applied};
 ghost use Rattle.write_txn.specs.Transactions.{AreMarksOf, KeepsAlso, KeepsIf};

@@ -8,7 +8,7 @@ ghost use Rattle.messages.specs.Posting.{commit_to};
 ghost use Rattle.pending.specs.Marks.{time_at};
 ghost use Rattle.store.specs.declared.part.Applied.{Applied};
 ghost use Rattle.store.specs.Keeps.{Keeps};
-ghost use Rattle.store.specs.Kept.{HasRoom};
+ghost use Rattle.store.specs.Stored.{HasRoom};
 ghost use Rattle.txn_state.specs.Prepared.{PreparedValue};
 ghost use Rattle.txn_state.specs.Votes.{is_among};
 ghost use Rattle.write_txn.specs.declared.open.Open.{Open};

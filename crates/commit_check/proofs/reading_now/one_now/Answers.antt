@@ -1,4 +1,4 @@
-use Rattle.store.proofs.Assembled.{if_ok}
+use Rattle.store.proofs.seen.Assembled.{if_ok}
 use Rattle.commit_check.proofs.SameRows.{found_now}
 use Rattle.commit_check.proofs.reading_now.one_now.Goals as goal
 

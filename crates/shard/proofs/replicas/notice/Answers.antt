@@ -1,5 +1,5 @@
 use Rattle.std.proofs.Common.{rules}
-use Rattle.store.proofs.Places.{on_ok}
+use Rattle.store.proofs.newest.Places.{on_ok}
 use Rattle.write_txn.specs.Ledger.{state_of}
 use Rattle.shard.proofs.InPlace.{nothing_known}
 use Rattle.shard.proofs.QuietSteps.{noticed_before}

@@ -1,6 +1,6 @@
 use Rattle.std.proofs.Common.{sym, subst}
 use Rattle.store.specs.Crowded.{Listed, AreListed}
-use Rattle.store.proofs.Listed.{all_kept, all_ranges_kept, crowded_listed}
+use Rattle.store.proofs.applied.Listed.{all_kept, all_ranges_kept, crowded_listed}
 use Rattle.store.proofs.crowded.collect_crowded.Goals as goal
 
 pub returns-then-crowded-clause-kept : goal.returns-then-crowded-clause-kept

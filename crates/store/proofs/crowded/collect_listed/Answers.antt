@@ -1,7 +1,7 @@
 use Rattle.column_family.specs.Places.{is_listed}
 use Rattle.std.specs.Prelude.{None}
-use Rattle.store.specs.Kept.{chain_at, ranges_in}
-use Rattle.store.proofs.Listed.{if_collected, collected_more, ranges_if_collected, ranges_collected_more}
+use Rattle.store.specs.Stored.{chain_at, ranges_in}
+use Rattle.store.proofs.applied.Listed.{if_collected, collected_more, ranges_if_collected, ranges_collected_more}
 use Rattle.store.proofs.crowded.collect_listed.Goals as goal
 
 pub loop-row-preserved : goal.loop-row-preserved

@@ -1,8 +1,8 @@
 use Rattle.std.proofs.Common.{◌≡◌, None}
 use Rattle.column_family.specs.declared.batch.Row.{Row}
 use Rattle.column_family.specs.Places.{is_listed}
-use Rattle.store.specs.Kept.{Place, chain_at, ranges_in}
-use Rattle.store.proofs.Listed.{if_collected, ranges_if_collected}
+use Rattle.store.specs.Stored.{Place, chain_at, ranges_in}
+use Rattle.store.proofs.applied.Listed.{if_collected, ranges_if_collected}
 use Rattle.store.proofs.crowded.collect_listed.Given as goal
 
 -- with the rows that are left all are collected

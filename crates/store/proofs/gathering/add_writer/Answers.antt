@@ -1,5 +1,5 @@
 use Rattle.std.proofs.Common.{rules, ◌≡◌, [], ◌∷◌, ◌++◌, None}
-use Rattle.store.proofs.Gatherings.{at_either_end, other_way}
+use Rattle.store.proofs.seen.Gatherings.{at_either_end, other_way}
 use Rattle.store.proofs.gathering.add_writer.Goals as goal
 
 pub returns-in_default : goal.returns-in_default

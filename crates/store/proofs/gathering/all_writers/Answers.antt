@@ -1,10 +1,10 @@
 use Rattle.std.proofs.Common.{subst, sym, [], ◌∷◌, ◌++◌}
 use Rattle.std.specs.List.Sorted.{IsStrictlySortedBy}
 use Rattle.logical_time.specs.Stamps.{writer_cmp}
-use Rattle.store.proofs.Assembled.{if_ok}
-use Rattle.store.proofs.Gathered.{then_same}
-use Rattle.store.proofs.Gatherings.{at_either_end}
-use Rattle.store.proofs.OneWriter.{alone_in_order}
+use Rattle.store.proofs.seen.Assembled.{if_ok}
+use Rattle.store.proofs.seen.Gathered.{then_same}
+use Rattle.store.proofs.seen.Gatherings.{at_either_end}
+use Rattle.store.proofs.newest.OneWriter.{alone_in_order}
 use Rattle.store.proofs.gathering.all_writers.Goals as goal
 
 pub returns-in-None-clause-same : goal.returns-in-None-clause-same

@@ -1,7 +1,7 @@
 use Rattle.std.proofs.Common.{rules, ◌≡◌, ◌∙◌, ap, refl, List, ℕ, [], ◌∷◌}
 use Rattle.std.specs.declared.cmp.Ordering.TheVariants.{Greater}
-use Rattle.store.specs.Kept.{name_cmp}
-use Rattle.store.proofs.Gatherings.{no_items}
+use Rattle.store.specs.Stored.{name_cmp}
+use Rattle.store.proofs.seen.Gatherings.{no_items}
 use Rattle.store.proofs.gathering.turned.Goals as goal
 
 pub returns-in-None-Greater : goal.returns-in-None-Greater

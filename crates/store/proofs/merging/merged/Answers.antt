@@ -2,7 +2,7 @@ use Rattle.std.proofs.Common.{rules, ◌≡◌, ◌∙◌, sym, ap, map, drop, �
 use Rattle.std.proofs.lemmas.List.{drop_all, take_rest, append_assoc}
 use Rattle.store.specs.declared.sight.Seen.{Seen}
 use Rattle.store.specs.Sight.{named, merged}
-use Rattle.store.proofs.MergeSteps.{first_taken, used_up}
+use Rattle.store.proofs.laid_over.MergeSteps.{first_taken, used_up}
 use Rattle.store.proofs.merging.merged.Goals as goal
 use Rattle.store.proofs.merging.merged.Goals.{then-loop-i-test+else-j-others, else-loop-i-test}
 

@@ -1,6 +1,6 @@
 use Rattle.std.proofs.Common.{◌≡◌, ◌+◌, ◌-◌, ◌≤◌, length, map}
 use Rattle.store.specs.Sight.{named, merged}
-use Rattle.store.proofs.MergeSteps.{with_left}
+use Rattle.store.proofs.laid_over.MergeSteps.{with_left}
 use Rattle.store.proofs.merging.merged.Given as goal
 
 -- what is added and what is left of both completes the whole

@@ -4,7 +4,7 @@ use Rattle.std.proofs.lemmas.List.{take_all}
 use Rattle.slice.proofs.FilterMap.{filter_map_kept, filter_map_left}
 use Rattle.store.specs.declared.sight.Seen.{Seen}
 use Rattle.store.specs.Sight.{HaveSameWriters, named, uncovered_writer}
-use Rattle.store.proofs.Gathered.{all_there, one_added, then_same}
+use Rattle.store.proofs.seen.Gathered.{all_there, one_added, then_same}
 use Rattle.store.proofs.reading.column_writers.Goals.{in-Some+in_ok-add_noted, in_default}
 use Rattle.store.proofs.reading.column_writers.Goals as goal
 

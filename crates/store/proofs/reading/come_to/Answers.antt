@@ -2,7 +2,7 @@ use Rattle.std.proofs.Common.{◌≡◌, ◌∙◌, ap, sym, ◌-◌, length, No
 use Rattle.std.specs.Prelude.{slice_get}
 use Rattle.std.specs.Option.{option_copied}
 use Rattle.slice.specs.Rests.{is_reached}
-use Rattle.store.proofs.CameTo.{none_left}
+use Rattle.store.proofs.lists.CameTo.{none_left}
 use Rattle.store.proofs.reading.come_to.Goals as goal
 
 pub returns-in-None : goal.returns-in-None

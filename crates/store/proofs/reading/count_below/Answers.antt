@@ -3,8 +3,8 @@ use Rattle.std.specs.Ordering.{is_lt}
 use Rattle.std.proofs.lemmas.Fn.{always_returns_same}
 use Rattle.slice.specs.Slice.{name_le}
 use Rattle.store.specs.declared.sight.Seen.{Seen}
-use Rattle.store.specs.Kept.{name_cmp}
-use Rattle.store.proofs.CameTo.{below_first, back_kept, is_below, not_below}
+use Rattle.store.specs.Stored.{name_cmp}
+use Rattle.store.proofs.lists.CameTo.{below_first, back_kept, is_below, not_below}
 use Rattle.store.proofs.reading.count_below.Goals as goal
 
 pub returns-clause-below : goal.returns-clause-below

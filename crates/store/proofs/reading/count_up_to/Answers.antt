@@ -2,7 +2,7 @@ use Rattle.std.proofs.Common.{rules, of_calls, arith}
 use Rattle.std.proofs.lemmas.Fn.{always_returns_same}
 use Rattle.slice.specs.Slice.{name_le}
 use Rattle.store.specs.declared.sight.Seen.{Seen}
-use Rattle.store.proofs.CameTo.{up_to_first, front_kept}
+use Rattle.store.proofs.lists.CameTo.{up_to_first, front_kept}
 use Rattle.store.proofs.reading.count_up_to.Goals as goal
 
 pub returns-clause-up_to : goal.returns-clause-up_to

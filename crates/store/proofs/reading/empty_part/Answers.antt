@@ -1,8 +1,8 @@
 use Rattle.std.proofs.Common.{◌∙◌, [], refl}
-use Rattle.store.specs.Kept.{no_row}
+use Rattle.store.specs.Stored.{no_row}
 use Rattle.store.specs.Sight.{sight_of}
-use Rattle.store.proofs.Sights.{nothing_kept}
-use Rattle.store.proofs.Strikes.{under_none}
+use Rattle.store.proofs.seen.Sights.{nothing_kept}
+use Rattle.store.proofs.seen.Strikes.{under_none}
 use Rattle.store.proofs.reading.empty_part.Goals as goal
 
 pub returns : goal.returns

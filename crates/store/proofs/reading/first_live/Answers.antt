@@ -8,7 +8,7 @@ use Rattle.slice.specs.Slice.{walked}
 use Rattle.slice.proofs.Selected.{filter_reverse}
 use Rattle.store.specs.declared.sight.Seen.{Seen}
 use Rattle.store.specs.Sight.{named, live_of}
-use Rattle.store.proofs.Assembled.{if_ok}
+use Rattle.store.proofs.seen.Assembled.{if_ok}
 use Rattle.store.proofs.reading.first_live.Goals as goal
 
 pub returns-then-reversed : goal.returns-then-reversed

@@ -10,8 +10,8 @@ use Rattle.store.specs.declared.part.Part.{Part}
 use Rattle.store.specs.declared.sight.Seen.{Seen}
 use Rattle.store.specs.Part.{greatest_of}
 use Rattle.store.specs.Sight.{HaveSameWriters, named, live_of, evt_or_0, uncovered_writer, writer_of}
-use Rattle.store.proofs.Assembled.{part_made}
-use Rattle.store.proofs.Gathered.{came_to_writers}
+use Rattle.store.proofs.seen.Assembled.{part_made}
+use Rattle.store.proofs.seen.Gathered.{came_to_writers}
 use Rattle.store.proofs.reading.made_of.Goals as goal
 
 pub returns-clause-ok : goal.returns-clause-ok

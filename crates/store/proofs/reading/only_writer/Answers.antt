@@ -2,7 +2,7 @@ use Rattle.std.proofs.Common.{rules, ◌≡◌, true}
 use Rattle.std.specs.List.{list_all}
 use Rattle.std.specs.Option.{option_copied}
 use Rattle.store.specs.Sight.{has_no_other, named, uncovered_writer}
-use Rattle.store.proofs.OneWriter.{one_writer}
+use Rattle.store.proofs.newest.OneWriter.{one_writer}
 use Rattle.store.proofs.reading.only_writer.Goals as goal
 
 pub returns-then-have_no_other : goal.returns-then-have_no_other

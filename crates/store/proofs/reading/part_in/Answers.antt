@@ -1,9 +1,9 @@
 use Rattle.std.proofs.Common.{rules, sym, subst, IfOk}
 use Rattle.column_family.specs.Places.{row_cmp}
-use Rattle.store.specs.Kept.{Chains, no_row}
+use Rattle.store.specs.Stored.{Chains, no_row}
 use Rattle.store.specs.Sight.{sight_of}
 use Rattle.store.specs.Struck.{ranges_seen, IsPartUnder}
-use Rattle.store.proofs.Maps.{found, not_found}
+use Rattle.store.proofs.lists.Maps.{found, not_found}
 use Rattle.store.proofs.reading.part_in.Goals as goal
 
 pub returns-in-Some-clause-ok : goal.returns-in-Some-clause-ok

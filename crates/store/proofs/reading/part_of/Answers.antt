@@ -2,10 +2,10 @@ use Rattle.std.proofs.Common.{rules, ◌≡◌, subst, List, map, IfOk, None}
 use Rattle.std.specs.Option.{option_copied}
 use Rattle.store.specs.declared.sight.Seen.{Seen}
 use Rattle.std.specs.List.Sorted.{IsStrictlySortedBy}
-use Rattle.store.specs.Kept.{name_cmp}
+use Rattle.store.specs.Stored.{name_cmp}
 use Rattle.store.specs.Sight.{NamedVersion, named, sight_of, AreAskedFor, IsMadeOf}
-use Rattle.store.proofs.Lists.{map_of_map}
-use Rattle.store.proofs.Assembled.{if_ok, made_seen}
+use Rattle.store.proofs.lists.Lists.{map_of_map}
+use Rattle.store.proofs.seen.Assembled.{if_ok, made_seen}
 use Rattle.store.proofs.reading.part_of.Goals as goal
 
 pub returns-clause-ok : goal.returns-clause-ok

@@ -3,10 +3,10 @@ use Rattle.std.specs.Option.{option_copied}
 use Rattle.slice.specs.declared.predicate.Predicate.TheVariants.{Names}
 use Rattle.versions.specs.Chain.{Held}
 use Rattle.store.specs.Gathering.{IsLeft}
-use Rattle.store.specs.Kept.{Chains}
+use Rattle.store.specs.Stored.{Chains}
 use Rattle.store.specs.Sight.{seen_at, sight_of}
-use Rattle.store.proofs.Gatherings.{gathered_part, each_field}
-use Rattle.store.proofs.Sights.{names_seen}
+use Rattle.store.proofs.seen.Gatherings.{gathered_part, each_field}
+use Rattle.store.proofs.seen.Sights.{names_seen}
 use Rattle.store.proofs.reading.part_of_two.Goals as goal
 
 pub returns-clause-ok : goal.returns-clause-ok

@@ -6,10 +6,10 @@ use Rattle.slice.specs.Slice.{walked}
 use Rattle.versions.specs.declared.version.Version.{Version}
 use Rattle.versions.specs.Chain.{Held}
 use Rattle.store.specs.declared.sight.Seen.{Seen}
-use Rattle.store.specs.Kept.{Chains, name_cmp}
+use Rattle.store.specs.Stored.{Chains, name_cmp}
 use Rattle.store.specs.Sight.{HaveSameWriters, named, live_of, uncovered_writer}
 use Rattle.store.specs.Walk.{seen_until}
-use Rattle.store.proofs.WalkedParts.{walked_part}
+use Rattle.store.proofs.seen.WalkedParts.{walked_part}
 use Rattle.store.proofs.reading.part_walked.Goals as goal
 
 pub returns-clause-ok : goal.returns-clause-ok

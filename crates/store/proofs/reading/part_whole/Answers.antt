@@ -3,9 +3,9 @@ use Rattle.std.specs.Option.{option_copied}
 use Rattle.std.specs.List.Sorted.{IsStrictlySortedBy}
 use Rattle.versions.specs.Chain.{Held}
 use Rattle.store.specs.Gathering.{IsLeft}
-use Rattle.store.specs.Kept.{Chains, name_cmp}
+use Rattle.store.specs.Stored.{Chains, name_cmp}
 use Rattle.store.specs.Sight.{seen_entry}
-use Rattle.store.proofs.Gatherings.{each_field, whole_part}
+use Rattle.store.proofs.seen.Gatherings.{each_field, whole_part}
 use Rattle.store.proofs.reading.part_whole.Goals as goal
 
 pub returns-clause-ok : goal.returns-clause-ok

@@ -1,11 +1,11 @@
 use Rattle.std.proofs.Common.{rules, ◌≡◌, sym, subst, IfOk}
 use Rattle.column_family.specs.Places.{row_cmp}
-use Rattle.store.specs.Kept.{Chains, no_row, held_by}
+use Rattle.store.specs.Stored.{Chains, no_row, held_by}
 use Rattle.store.specs.Sight.{sight_of, laid_over}
 use Rattle.store.specs.Struck.{ranges_over, IsPartUnder}
-use Rattle.store.proofs.Assembled.{if_ok}
-use Rattle.store.proofs.Maps.{found, not_found}
-use Rattle.store.proofs.Sights.{under_over_nothing}
+use Rattle.store.proofs.seen.Assembled.{if_ok}
+use Rattle.store.proofs.lists.Maps.{found, not_found}
+use Rattle.store.proofs.seen.Sights.{under_over_nothing}
 use Rattle.store.proofs.reading.part_with.Goals as goal
 
 pub returns-in-None-clause-ok : goal.returns-in-None-clause-ok

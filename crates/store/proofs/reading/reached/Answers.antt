@@ -1,7 +1,7 @@
 use Rattle.std.proofs.Common.{rules, sym, refl, arith}
 use Rattle.std.proofs.lemmas.Bool.Decides.{nat_tests}
 use Rattle.slice.specs.Rests.{is_within}
-use Rattle.store.proofs.CameTo.{all_left}
+use Rattle.store.proofs.lists.CameTo.{all_left}
 use Rattle.store.proofs.reading.reached.Goals as goal
 
 pub returns-in_default : goal.returns-in_default

@@ -5,9 +5,9 @@ use Rattle.std.specs.List.Sorted.{IsStrictlySortedBy}
 use Rattle.logical_time.specs.Stamps.{writer_cmp}
 use Rattle.versions.specs.declared.version.Version.{Version}
 use Rattle.store.specs.Sight.{HaveSameWriters, named, uncovered_writer}
-use Rattle.store.proofs.Assembled.{if_ok}
-use Rattle.store.proofs.Gathered.{then_same}
-use Rattle.store.proofs.OneWriter.{alone_in_order}
+use Rattle.store.proofs.seen.Assembled.{if_ok}
+use Rattle.store.proofs.seen.Gathered.{then_same}
+use Rattle.store.proofs.newest.OneWriter.{alone_in_order}
 use Rattle.store.proofs.reading.rested_on.Goals as goal
 
 pub returns-in-Some-clause-same : goal.returns-in-Some-clause-same

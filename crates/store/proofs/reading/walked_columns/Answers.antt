@@ -6,7 +6,7 @@ use Rattle.slice.specs.declared.predicate.Predicate.TheVariants.{Range}
 use Rattle.slice.proofs.Chosen.{chosen_first}
 use Rattle.store.specs.declared.sight.Seen.{Seen}
 use Rattle.store.specs.Sight.{named, live_of}
-use Rattle.store.proofs.Assembled.{if_ok, not_more}
+use Rattle.store.proofs.seen.Assembled.{if_ok, not_more}
 use Rattle.store.proofs.reading.walked_columns.Goals as goal
 
 pub returns-then-seen-most-clause-ok : goal.returns-then-seen-most-clause-ok

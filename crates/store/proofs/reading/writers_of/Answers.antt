@@ -3,7 +3,7 @@ use Rattle.std.specs.Prelude.{option_to_list}
 use Rattle.std.specs.Option.{option_copied}
 use Rattle.versions.specs.declared.version.Version.{Version}
 use Rattle.store.specs.Sight.{HaveSameWriters, named, uncovered_writer}
-use Rattle.store.proofs.Gathered.{one_added}
+use Rattle.store.proofs.seen.Gathered.{one_added}
 use Rattle.store.proofs.reading.writers_of.Goals.{in-Some+in_ok-push-in-Some, in-None}
 use Rattle.store.proofs.reading.writers_of.Goals as goal
 

@@ -3,9 +3,9 @@ use Rattle.column_family.specs.declared.batch.Row.{Row}
 use Rattle.column_family.specs.Places.{row_cmp}
 use Rattle.versions.specs.Ranges.{HeldRanges}
 use Rattle.versions.specs.Chain.{Held}
-use Rattle.store.specs.Kept.{Place, no_row, chain_of, ranges_in}
-use Rattle.store.proofs.Maps.{each_row, not_found}
-use Rattle.store.proofs.Passing.{own_row}
+use Rattle.store.specs.Stored.{Place, no_row, chain_of, ranges_in}
+use Rattle.store.proofs.lists.Maps.{each_row, not_found}
+use Rattle.store.proofs.newest.Passing.{own_row}
 use Rattle.store.proofs.room.add_row.Goals as goal
 
 pub returns-clause-places : goal.returns-clause-places

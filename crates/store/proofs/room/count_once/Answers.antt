@@ -2,7 +2,7 @@ use Rattle.std.proofs.Common.{rules, ◌≡◌, ◌+◌, ℕ, Some, subst}
 use Rattle.std.specs.BTreeMap.{Updates}
 use Rattle.column_family.specs.Places.{row_cmp}
 use Rattle.store.specs.Counts.{count_at}
-use Rattle.store.proofs.Counts.{count_more}
+use Rattle.store.proofs.applied.Counts.{count_more}
 use Rattle.store.proofs.room.count_once.Goals as goal
 
 pub returns-clause-ok : goal.returns-clause-ok

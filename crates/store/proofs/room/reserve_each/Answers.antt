@@ -5,8 +5,8 @@ use Rattle.column_family.specs.declared.batch.Row.{Row}
 use Rattle.column_family.specs.declared.batch.Change.{Change}
 use Rattle.column_family.specs.Location.{deletes_range}
 use Rattle.column_family.specs.Normal.{ranges_of}
-use Rattle.store.specs.Kept.{ranges_in}
-use Rattle.store.proofs.Written.{is_range_of, range_done, room_for_all}
+use Rattle.store.specs.Stored.{ranges_in}
+use Rattle.store.proofs.applied.Written.{is_range_of, range_done, room_for_all}
 use Rattle.store.proofs.room.reserve_each.Goals as goal
 
 pub loop-change-preserved : goal.loop-change-preserved

@@ -2,8 +2,8 @@ use Rattle.std.proofs.Common.{◌≡◌, ◌≤◌, length, true, take}
 use Rattle.std.specs.List.{list_any}
 use Rattle.column_family.specs.declared.batch.Row.{Row}
 use Rattle.column_family.specs.Normal.{ranges_of}
-use Rattle.store.specs.Kept.{Place, chain_at, ranges_in, HaveKeptRangeRoom, HaveSameRanges}
-use Rattle.store.proofs.Written.{is_range_of}
+use Rattle.store.specs.Stored.{Place, chain_at, ranges_in, HaveKeptRangeRoom, HaveSameRanges}
+use Rattle.store.proofs.applied.Written.{is_range_of}
 use Rattle.store.proofs.room.reserve_each.Given as goal
 
 -- there is room in the rows of which the changes so far delete a range

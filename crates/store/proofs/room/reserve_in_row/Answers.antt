@@ -1,10 +1,10 @@
 use Rattle.std.proofs.Common.{rules, ◌≡◌, ◌≤◌, ◌<◌, ap, refl, subst, true, arith}
 use Rattle.column_family.specs.Places.{row_cmp}
 use Rattle.versions.specs.Chain.{Held}
-use Rattle.store.specs.Kept.{Place, Chains, no_row, chain_of}
-use Rattle.store.proofs.Maps.{each_row, found, not_found}
-use Rattle.store.proofs.Places.{on_ok}
-use Rattle.store.proofs.Passing.{own_row}
+use Rattle.store.specs.Stored.{Place, Chains, no_row, chain_of}
+use Rattle.store.proofs.lists.Maps.{each_row, found, not_found}
+use Rattle.store.proofs.newest.Places.{on_ok}
+use Rattle.store.proofs.newest.Passing.{own_row}
 use Rattle.store.proofs.room.reserve_in_row.Goals as goal
 
 pub returns-in-Some-clause-places : goal.returns-in-Some-clause-places

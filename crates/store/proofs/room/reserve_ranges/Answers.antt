@@ -1,7 +1,7 @@
 use Rattle.std.proofs.Common.{rules, ◌≡◌, false, arith}
 use Rattle.std.specs.List.{list_any}
 use Rattle.column_family.specs.Location.{deletes_range}
-use Rattle.store.proofs.Counts.{none_deleted}
+use Rattle.store.proofs.applied.Counts.{none_deleted}
 use Rattle.store.proofs.room.reserve_ranges.Goals as goal
 
 pub returns-then-not-delete_ranges-clause-ok : goal.returns-then-not-delete_ranges-clause-ok

@@ -1,6 +1,6 @@
 use Rattle.std.proofs.Common.{rules, ◌≡◌, ◌≤◌, refl, arith}
-use Rattle.store.specs.Kept.{name_cmp, nothing_held}
-use Rattle.store.proofs.Maps.{each_column, not_found}
+use Rattle.store.specs.Stored.{name_cmp, nothing_held}
+use Rattle.store.proofs.lists.Maps.{each_column, not_found}
 use Rattle.store.proofs.row.add_column.Goals as goal
 
 pub returns-clause-versions : goal.returns-clause-versions

@@ -1,7 +1,7 @@
 use Rattle.std.proofs.Common.{rules}
 use Rattle.std.proofs.lemmas.Map.Made.{map_same_pairs}
-use Rattle.store.specs.Kept.{collected_held}
-use Rattle.store.proofs.Collected.{held_collected}
+use Rattle.store.specs.Stored.{collected_held}
+use Rattle.store.proofs.applied.Collected.{held_collected}
 use Rattle.store.proofs.row.collect_columns.Goals as goal
 
 pub returns : goal.returns

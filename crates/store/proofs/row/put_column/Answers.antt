@@ -1,11 +1,11 @@
 use Rattle.std.proofs.Common.{rules, ◌≡◌, ◌≤◌, ◌+◌, ◌∙◌, ap, sym, refl, true, false, arith}
 use Rattle.std.specs.Prelude.{if◌then◌else◌, slice_get}
 use Rattle.versions.specs.Chain.{Held, put_of}
-use Rattle.store.specs.Kept.{column_held, name_cmp, nothing_held}
+use Rattle.store.specs.Stored.{column_held, name_cmp, nothing_held}
 use Rattle.store.specs.Sight.{evt_or_0}
-use Rattle.store.proofs.Latest.{latest_put}
-use Rattle.store.proofs.Maps.{each_column, found}
-use Rattle.store.proofs.Places.{same_bytes}
+use Rattle.store.proofs.times.Latest.{latest_put}
+use Rattle.store.proofs.lists.Maps.{each_column, found}
+use Rattle.store.proofs.newest.Places.{same_bytes}
 use Rattle.store.proofs.row.put_column.Goals as goal
 
 pub returns-in-Some-clause-versions : goal.returns-in-Some-clause-versions

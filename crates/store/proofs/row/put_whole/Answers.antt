@@ -1,7 +1,7 @@
 use Rattle.std.proofs.Common.{rules, ◌≡◌, ◌∙◌, ap, List, ℕ}
 use Rattle.versions.specs.declared.range.RangeDeletion.{RangeDeletion}
 use Rattle.versions.specs.Ranges.{put_range}
-use Rattle.store.proofs.Written.{range_of, left_put}
+use Rattle.store.proofs.applied.Written.{range_of, left_put}
 use Rattle.store.proofs.row.put_whole.Goals as goal
 
 pub returns-in-DeleteRange-clause-ranges : goal.returns-in-DeleteRange-clause-ranges

@@ -4,9 +4,9 @@ use Rattle.std.proofs.lemmas.List.{take_more, take_all}
 use Rattle.column_family.specs.declared.batch.Change.{Change}
 use Rattle.column_family.specs.Location.{is_same_row}
 use Rattle.versions.specs.Ranges.{HeldRanges}
-use Rattle.store.specs.Kept.{put_all, written, IsRangeWritten}
-use Rattle.store.proofs.Changes.{none_left, own_left, other_left}
-use Rattle.store.proofs.Written.{none_of_none, own_ranges, other_ranges}
+use Rattle.store.specs.Stored.{put_all, written, IsRangeWritten}
+use Rattle.store.proofs.applied.Changes.{none_left, own_left, other_left}
+use Rattle.store.proofs.applied.Written.{none_of_none, own_ranges, other_ranges}
 use Rattle.store.proofs.row.row_written.Goals as goal
 use Rattle.store.proofs.row.row_written.Goals.{then-eq+in_ok-put_whole, else-eq}
 

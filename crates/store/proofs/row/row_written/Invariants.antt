@@ -1,7 +1,7 @@
 use Rattle.std.proofs.Common.{◌≡◌, [], take}
 use Rattle.std.specs.Prelude.{Contains, ◌↔◌}
 use Rattle.versions.specs.declared.range.RangeDeletion.{RangeDeletion}
-use Rattle.store.specs.Kept.{Place, chain_of, put_all, written, IsRangeWritten}
+use Rattle.store.specs.Stored.{Place, chain_of, put_all, written, IsRangeWritten}
 use Rattle.store.proofs.row.row_written.Given as goal
 
 -- what the changes so far leave in the row

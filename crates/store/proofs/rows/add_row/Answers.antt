@@ -3,8 +3,8 @@ use Rattle.std.specs.Prelude.{◌&&◌}
 use Rattle.column_family.specs.declared.batch.Row.{Row}
 use Rattle.column_family.specs.Location.{is_same_row}
 use Rattle.column_family.specs.Places.{row_cmp}
-use Rattle.store.specs.Kept.{Place, no_row, chain_of, chain_at, is_of_place}
-use Rattle.store.proofs.Maps.{each_row, not_found}
+use Rattle.store.specs.Stored.{Place, no_row, chain_of, chain_at, is_of_place}
+use Rattle.store.proofs.lists.Maps.{each_row, not_found}
 use Rattle.store.proofs.rows.add_row.Goals as goal
 
 pub returns-clause-versions : goal.returns-clause-versions

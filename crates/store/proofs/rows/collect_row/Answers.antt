@@ -1,10 +1,10 @@
 use Rattle.std.proofs.Common.{rules, ◌≡◌, ◌∙◌, ap, refl}
 use Rattle.column_family.specs.Places.{row_cmp}
-use Rattle.store.specs.Kept.{Place, Chains, no_row, chain_of}
-use Rattle.store.proofs.Collected.{row_collected}
-use Rattle.store.proofs.Listed.{if_collected, none_collected, ranges_if_collected, no_ranges_collected}
+use Rattle.store.specs.Stored.{Place, Chains, no_row, chain_of}
+use Rattle.store.proofs.applied.Collected.{row_collected}
+use Rattle.store.proofs.applied.Listed.{if_collected, none_collected, ranges_if_collected, no_ranges_collected}
 use Rattle.column_family.proofs.RowOrder.{same_row}
-use Rattle.store.proofs.Maps.{step_each, found}
+use Rattle.store.proofs.lists.Maps.{step_each, found}
 use Rattle.store.proofs.rows.collect_row.Goals as goal
 
 pub returns-in-Some-clause-versions : goal.returns-in-Some-clause-versions

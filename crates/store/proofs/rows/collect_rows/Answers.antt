@@ -1,7 +1,7 @@
 use Rattle.std.proofs.Common.{rules}
 use Rattle.std.proofs.lemmas.Map.Made.{map_same_pairs}
-use Rattle.store.specs.Kept.{collected_row}
-use Rattle.store.proofs.Collected.{rows_collected, ranges_collected}
+use Rattle.store.specs.Stored.{collected_row}
+use Rattle.store.proofs.applied.Collected.{rows_collected, ranges_collected}
 use Rattle.store.proofs.rows.collect_rows.Goals as goal
 
 pub returns-clause-versions : goal.returns-clause-versions

@@ -1,9 +1,9 @@
 use Rattle.std.proofs.Common.{rules, ◌∙◌, sym, ap}
 use Rattle.column_family.specs.Places.{row_cmp}
-use Rattle.store.specs.Kept.{Chains, no_row}
+use Rattle.store.specs.Stored.{Chains, no_row}
 use Rattle.store.specs.Crowded.{is_crowded}
-use Rattle.store.proofs.Maps.{found}
-use Rattle.store.proofs.Listed.{none_crowded}
+use Rattle.store.proofs.lists.Maps.{found}
+use Rattle.store.proofs.applied.Listed.{none_crowded}
 use Rattle.store.proofs.rows.is_crowded.Goals as goal
 
 pub returns-in-Some : goal.returns-in-Some

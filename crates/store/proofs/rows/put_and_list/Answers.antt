@@ -1,5 +1,5 @@
 use Rattle.std.proofs.Common.{◌∙◌, refl}
-use Rattle.store.proofs.Listed.{listed_range}
+use Rattle.store.proofs.applied.Listed.{listed_range}
 use Rattle.store.proofs.rows.put_and_list.Goals as goal
 
 pub returns-clause-listed : goal.returns-clause-listed

@@ -1,7 +1,7 @@
 use Rattle.versions.specs.Chain.{put_of}
-use Rattle.store.specs.Kept.{chain_at, version_of}
-use Rattle.store.proofs.Listed.{listed_added, listed_unless}
-use Rattle.store.proofs.Places.{own_at}
+use Rattle.store.specs.Stored.{chain_at, version_of}
+use Rattle.store.proofs.applied.Listed.{listed_added, listed_unless}
+use Rattle.store.proofs.newest.Places.{own_at}
 use Rattle.store.proofs.rows.put_at_place.Goals as goal
 
 pub put_mutation-requires : goal.put_mutation-requires

@@ -1,5 +1,5 @@
-use Rattle.store.specs.Kept.{ranges_in}
-use Rattle.store.proofs.Written.{range_put}
+use Rattle.store.specs.Stored.{ranges_in}
+use Rattle.store.proofs.applied.Written.{range_put}
 use Rattle.store.proofs.rows.put_change.Goals as goal
 
 pub returns-in-DeleteRange-clause-held : goal.returns-in-DeleteRange-clause-held

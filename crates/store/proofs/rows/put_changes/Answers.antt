@@ -3,9 +3,9 @@ use Rattle.std.specs.Prelude.{Contains, ◌⊎◌, ◌↔◌}
 use Rattle.std.proofs.lemmas.List.{nil_from_length}
 use Rattle.column_family.specs.Normal.{ranges_of}
 use Rattle.column_family.specs.declared.batch.Change.{Change}
-use Rattle.store.specs.Kept.{chain_at, ranges_in, written, put_all, IsRangeWritten}
-use Rattle.store.proofs.Changes.{AreReady, ready_rest, put_rest}
-use Rattle.store.proofs.Written.{count_first, held_rest, all_put}
+use Rattle.store.specs.Stored.{chain_at, ranges_in, written, put_all, IsRangeWritten}
+use Rattle.store.proofs.applied.Changes.{AreReady, ready_rest, put_rest}
+use Rattle.store.proofs.applied.Written.{count_first, held_rest, all_put}
 use Rattle.store.proofs.rows.put_changes.Goals as goal
 
 pub loop-change-preserved : goal.loop-change-preserved

@@ -4,8 +4,8 @@ use Rattle.column_family.specs.Normal.{ranges_of}
 use Rattle.versions.specs.declared.range.RangeDeletion.{RangeDeletion}
 use Rattle.column_family.specs.declared.batch.Row.{Row}
 use Rattle.store.specs.Crowded.{AreListed}
-use Rattle.store.specs.Kept.{Place, chain_at, ranges_in, written, put_all, IsRangeWritten}
-use Rattle.store.proofs.Changes.{AreReady}
+use Rattle.store.specs.Stored.{Place, chain_at, ranges_in, written, put_all, IsRangeWritten}
+use Rattle.store.proofs.applied.Changes.{AreReady}
 use Rattle.store.proofs.rows.put_changes.Given as goal
 
 -- what is left completes what is put

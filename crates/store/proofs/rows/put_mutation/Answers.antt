@@ -2,9 +2,9 @@ use Rattle.std.proofs.Common.{rules, ◌≡◌, ◌≤◌, ◌+◌, refl, subst,
 use Rattle.std.specs.Prelude.{if◌then◌else◌, ◌&&◌}
 use Rattle.column_family.specs.Places.{row_cmp}
 use Rattle.versions.specs.Chain.{put_of}
-use Rattle.store.specs.Kept.{Place, Chains, no_row, chain_of, is_of_place, version_of}
-use Rattle.store.proofs.Maps.{each_row, found, not_found}
-use Rattle.store.proofs.Places.{IsReady, nowhere, nothing_there}
+use Rattle.store.specs.Stored.{Place, Chains, no_row, chain_of, is_of_place, version_of}
+use Rattle.store.proofs.lists.Maps.{each_row, found, not_found}
+use Rattle.store.proofs.newest.Places.{IsReady, nowhere, nothing_there}
 use Rattle.store.proofs.rows.put_mutation.Goals as goal
 
 pub put-requires : goal.put-requires

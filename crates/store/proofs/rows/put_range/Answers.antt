@@ -2,9 +2,9 @@ use Rattle.std.proofs.Common.{rules, ◌≡◌, ◌≤◌, ◌<◌, ◌+◌, ref
 use Rattle.std.specs.Prelude.{if◌then◌else◌}
 use Rattle.column_family.specs.Places.{row_cmp}
 use Rattle.versions.specs.Ranges.{put_range}
-use Rattle.store.specs.Kept.{Place, Chains, no_row, chain_of}
-use Rattle.store.proofs.Maps.{each_row, found, not_found}
-use Rattle.store.proofs.Written.{range_of, no_room_there}
+use Rattle.store.specs.Stored.{Place, Chains, no_row, chain_of}
+use Rattle.store.proofs.lists.Maps.{each_row, found, not_found}
+use Rattle.store.proofs.applied.Written.{range_of, no_room_there}
 use Rattle.store.proofs.rows.put_range.Goals as goal
 
 pub put_range-requires : goal.put_range-requires

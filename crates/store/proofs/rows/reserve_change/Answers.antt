@@ -1,9 +1,9 @@
 use Rattle.std.proofs.Common.{rules, ◌≡◌, ◌≤◌, ◌<◌, refl, subst, true, arith}
 use Rattle.std.specs.Prelude.{◌&&◌}
 use Rattle.column_family.specs.Places.{row_cmp}
-use Rattle.store.specs.Kept.{Place, Chains, no_row, chain_of, is_of_place}
-use Rattle.store.proofs.Maps.{each_row, found, not_found}
-use Rattle.store.proofs.Places.{own_at, no_room_missing, on_ok}
+use Rattle.store.specs.Stored.{Place, Chains, no_row, chain_of, is_of_place}
+use Rattle.store.proofs.lists.Maps.{each_row, found, not_found}
+use Rattle.store.proofs.newest.Places.{own_at, no_room_missing, on_ok}
 use Rattle.store.proofs.rows.reserve_change.Goals as goal
 
 pub returns-in-None-clause-succeeds : goal.returns-in-None-clause-succeeds

@@ -1,8 +1,8 @@
 use Rattle.std.proofs.Common.{◌≡◌, ◌<◌, true, arith}
 use Rattle.std.specs.List.{list_any}
 use Rattle.column_family.specs.declared.batch.Row.{Row}
-use Rattle.store.specs.Kept.{Place, chain_at, is_at}
-use Rattle.store.proofs.Places.{on_ok}
+use Rattle.store.specs.Stored.{Place, chain_at, is_at}
+use Rattle.store.proofs.newest.Places.{on_ok}
 use Rattle.store.proofs.rows.reserve_changes.Goals as goal
 
 pub returns-clause-ok : goal.returns-clause-ok

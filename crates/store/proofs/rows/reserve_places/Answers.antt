@@ -2,8 +2,8 @@ use Rattle.std.proofs.Common.{rules, ◌≡◌, ◌∙◌, subst, take, ◌++◌
 use Rattle.std.proofs.lemmas.List.{take_more}
 use Rattle.column_family.specs.declared.batch.Row.{Row}
 use Rattle.column_family.specs.declared.batch.Change.{Change}
-use Rattle.store.specs.Kept.{Place, chain_at, is_at, HasRoomAtPlaces}
-use Rattle.store.proofs.Changes.{room_more, room_at}
+use Rattle.store.specs.Stored.{Place, chain_at, is_at, HasRoomAtPlaces}
+use Rattle.store.proofs.applied.Changes.{room_more, room_at}
 use Rattle.store.proofs.rows.reserve_places.Goals as goal
 
 pub returns-in_err-reserve_change-clause-versions : goal.returns-in_err-reserve_change-clause-versions

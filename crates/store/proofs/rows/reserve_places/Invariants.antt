@@ -1,6 +1,6 @@
 use Rattle.std.proofs.Common.{◌≡◌, take}
 use Rattle.column_family.specs.declared.batch.Row.{Row}
-use Rattle.store.specs.Kept.{HasRoomAtPlaces, HaveKeptRoom, HaveSameVersions, ranges_in}
+use Rattle.store.specs.Stored.{HasRoomAtPlaces, HaveKeptRoom, HaveSameVersions, ranges_in}
 use Rattle.store.proofs.rows.reserve_places.Given as goal
 
 -- there is room for the changes so far

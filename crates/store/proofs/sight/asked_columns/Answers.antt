@@ -5,9 +5,9 @@ use Rattle.std.specs.List.Sorted.{IsStrictlySortedBy}
 use Rattle.slice.specs.Slice.{is_between}
 use Rattle.slice.specs.Live.{in_name_order}
 use Rattle.versions.specs.Chain.{Held}
-use Rattle.store.specs.Kept.{Chains, name_cmp}
+use Rattle.store.specs.Stored.{Chains, name_cmp}
 use Rattle.store.specs.Sight.{named, seen_at, seen_entry, sight_of, AreSeen, is_backwards}
-use Rattle.store.proofs.Sights.{names_seen, range_seen}
+use Rattle.store.proofs.seen.Sights.{names_seen, range_seen}
 use Rattle.store.proofs.sight.asked_columns.Goals as goal
 
 pub returns-in_ok-seen_by_names-in-Names-clause-ok : goal.returns-in_ok-seen_by_names-in-Names-clause-ok

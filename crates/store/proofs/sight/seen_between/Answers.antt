@@ -2,10 +2,10 @@ use Rattle.std.proofs.Common.{rules, ◌≡◌, ◌∙◌, ap, sym, List, ◌++�
 use Rattle.std.specs.BTreeMap.Range.{entries_between}
 use Rattle.slice.specs.Slice.{is_between}
 use Rattle.store.specs.declared.sight.Seen.{Seen}
-use Rattle.store.specs.Kept.{name_cmp}
+use Rattle.store.specs.Stored.{name_cmp}
 use Rattle.store.specs.Sight.{named, seen_entry, is_backwards, bound_at}
-use Rattle.store.proofs.Bounds.{forward, in_range, none_between}
-use Rattle.store.proofs.Sights.{none_kept}
+use Rattle.store.proofs.lists.Bounds.{forward, in_range, none_between}
+use Rattle.store.proofs.seen.Sights.{none_kept}
 use Rattle.store.proofs.sight.seen_between.Goals as goal
 
 pub returns-then-is_backwards-clause-between : goal.returns-then-is_backwards-clause-between

@@ -1,8 +1,8 @@
 use Rattle.std.proofs.Common.{rules, ◌≡◌, ◌∙◌, ap, sym, ℕ, List}
 use Rattle.versions.specs.Chain.{Held}
-use Rattle.store.specs.Kept.{name_cmp, nothing_held}
+use Rattle.store.specs.Stored.{name_cmp, nothing_held}
 use Rattle.store.specs.Sight.{seen_entry}
-use Rattle.store.proofs.Maps.{found, exact_name}
+use Rattle.store.proofs.lists.Maps.{found, exact_name}
 use Rattle.store.proofs.sight.seen_named.Goals as goal
 
 pub returns : goal.returns

@@ -3,7 +3,7 @@ use Rattle.std.specs.Prelude.{Contains, ◌⊎◌, ◌↔◌}
 use Rattle.column_family.specs.declared.batch.Change.{Change}
 use Rattle.txn_state.specs.declared.part.WritePart.{WritePart}
 use Rattle.store.specs.declared.origin.Origin.{Origin}
-use Rattle.store.specs.Kept.{ranges_in, IsRangeWritten}
+use Rattle.store.specs.Stored.{ranges_in, IsRangeWritten}
 use Rattle.store.proofs.store.put_part.Goals as goal
 
 pub returns-clause-put : goal.returns-clause-put

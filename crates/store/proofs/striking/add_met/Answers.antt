@@ -4,7 +4,7 @@ use Rattle.logical_time.specs.Stamps.{WriterValue}
 use Rattle.slice.specs.Meeting.{meets}
 use Rattle.slice.proofs.FilterMap.{filter_map_kept, filter_map_left}
 use Rattle.store.specs.declared.striking.Standing.{Standing}
-use Rattle.store.proofs.Strikes.{met_writer, writers_given}
+use Rattle.store.proofs.seen.Strikes.{met_writer, writers_given}
 use Rattle.store.proofs.striking.add_met.Goals as goal
 use Rattle.store.proofs.striking.add_met.Goals.{then-meets+in_ok-push, else-meets}
 

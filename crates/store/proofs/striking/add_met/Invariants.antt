@@ -1,5 +1,5 @@
 use Rattle.std.proofs.Common.{◌≡◌, ◌++◌, filter_map, take}
-use Rattle.store.proofs.Strikes.{met_writer}
+use Rattle.store.proofs.seen.Strikes.{met_writer}
 use Rattle.store.proofs.striking.add_met.Given as goal
 
 -- the writers so far

@@ -5,7 +5,7 @@ use Rattle.std.proofs.lemmas.List.{append_assoc}
 use Rattle.versions.specs.declared.range.RangeDeletion.{RangeDeletion}
 use Rattle.versions.specs.Ranges.{is_under}
 use Rattle.store.specs.Struck.{is_range_seen, ranged, standing}
-use Rattle.store.proofs.Strikes.{standing_more, one_there}
+use Rattle.store.proofs.seen.Strikes.{standing_more, one_there}
 use Rattle.store.proofs.striking.add_standing.Goals as goal
 use Rattle.store.proofs.striking.add_standing.Goals.{in-Some+in_ok-add_one, in_default}
 

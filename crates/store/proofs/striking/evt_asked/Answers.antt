@@ -2,7 +2,7 @@ use Rattle.std.proofs.Common.{rules, ◌≡◌, ◌∙◌, ◌∷◌, ◌+◌, a
 use Rattle.std.proofs.lemmas.List.{drop_more}
 use Rattle.store.specs.declared.striking.Standing.{Standing}
 use Rattle.store.specs.Struck.{ranged, evt_asked}
-use Rattle.store.proofs.Strikes.{evt_step}
+use Rattle.store.proofs.seen.Strikes.{evt_step}
 use Rattle.store.proofs.striking.evt_asked.Goals as goal
 
 pub loop-one-preserved : goal.loop-one-preserved

@@ -11,12 +11,12 @@ use Rattle.slice.proofs.Selected.{cut_of_asked}
 use Rattle.versions.specs.declared.version.Version.{Version}
 use Rattle.store.specs.declared.part.Part.{Part}
 use Rattle.store.specs.declared.sight.Seen.{Seen}
-use Rattle.store.specs.Kept.{name_cmp}
+use Rattle.store.specs.Stored.{name_cmp}
 use Rattle.store.specs.Part.{greatest_of}
 use Rattle.store.specs.Sight.{HaveSameWriters, named, live_of, evt_or_0, uncovered_writer, writer_of}
 use Rattle.store.specs.Struck.{ranged, strikes, writers_met, evt_asked}
-use Rattle.store.proofs.Gathered.{came_to_writers}
-use Rattle.store.proofs.Strikes.{made_under, sorted_kept}
+use Rattle.store.proofs.seen.Gathered.{came_to_writers}
+use Rattle.store.proofs.seen.Strikes.{made_under, sorted_kept}
 use Rattle.store.proofs.striking.made_under.Goals as goal
 
 pub returns-clause-ok : goal.returns-clause-ok

@@ -6,12 +6,12 @@ use Rattle.std.specs.List.{list_any}
 use Rattle.std.specs.List.Sorted.{IsStrictlySortedBy}
 use Rattle.store.specs.declared.sight.Seen.{Seen}
 use Rattle.store.specs.declared.striking.Standing.{Standing}
-use Rattle.store.specs.Kept.{name_cmp}
+use Rattle.store.specs.Stored.{name_cmp}
 use Rattle.store.specs.Sight.{NamedVersion, named, sight_of, AreAskedFor}
 use Rattle.store.specs.Struck.{ranged, ranges_seen, standing, strikes, IsMadeUnder}
-use Rattle.store.proofs.Lists.{map_of_map}
-use Rattle.store.proofs.Assembled.{if_ok}
-use Rattle.store.proofs.Strikes.{under_none, under_seen}
+use Rattle.store.proofs.lists.Lists.{map_of_map}
+use Rattle.store.proofs.seen.Assembled.{if_ok}
+use Rattle.store.proofs.seen.Strikes.{under_none, under_seen}
 use Rattle.store.proofs.striking.part_under.Goals as goal
 
 pub returns-then-is_empty-clause-ok : goal.returns-then-is_empty-clause-ok

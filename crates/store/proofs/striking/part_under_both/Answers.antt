@@ -7,13 +7,13 @@ use Rattle.std.specs.List.Sorted.{IsStrictlySortedBy}
 use Rattle.versions.specs.declared.version.Version.{Version}
 use Rattle.store.specs.declared.sight.Seen.{Seen}
 use Rattle.store.specs.declared.striking.Standing.{Standing}
-use Rattle.store.specs.Kept.{name_cmp}
+use Rattle.store.specs.Stored.{name_cmp}
 use Rattle.store.specs.Sight.{NamedVersion, named, sight_of, newer_seen, laid_over, merged, AreAskedFor}
 use Rattle.store.specs.Struck.{ranged, standing, ranges_over, IsMadeUnder, strikes}
-use Rattle.store.proofs.Lists.{map_of_map}
-use Rattle.store.proofs.Assembled.{if_ok}
-use Rattle.store.proofs.Merged.{merged_seen}
-use Rattle.store.proofs.Strikes.{under_none, under_seen, standing_both}
+use Rattle.store.proofs.lists.Lists.{map_of_map}
+use Rattle.store.proofs.seen.Assembled.{if_ok}
+use Rattle.store.proofs.laid_over.Merged.{merged_seen}
+use Rattle.store.proofs.seen.Strikes.{under_none, under_seen, standing_both}
 use Rattle.store.proofs.striking.part_under_both.Goals as goal
 
 pub returns-then-is_empty-clause-ok : goal.returns-then-is_empty-clause-ok

@@ -5,8 +5,8 @@ use Rattle.logical_time.specs.Stamps.{WriterValue}
 use Rattle.versions.specs.declared.version.Version.{Version}
 use Rattle.store.specs.Sight.{named, uncovered_writer}
 use Rattle.store.specs.Struck.{ranged, writers_met}
-use Rattle.store.proofs.Assembled.{if_ok}
-use Rattle.store.proofs.Strikes.{writers_sorted}
+use Rattle.store.proofs.seen.Assembled.{if_ok}
+use Rattle.store.proofs.seen.Strikes.{writers_sorted}
 use Rattle.store.proofs.striking.writers_under.Goals as goal
 
 pub returns-clause-same : goal.returns-clause-same

@@ -1,7 +1,7 @@
 use Rattle.std.proofs.Common.{◌∙◌, map}
 use Rattle.std.specs.Option.{option_copied}
 use Rattle.store.specs.Struck.{ranged}
-use Rattle.store.proofs.Struck.{standing_seen, unstruck_by_newest}
+use Rattle.store.proofs.seen.Struck.{standing_seen, unstruck_by_newest}
 use Rattle.store.proofs.sweeping.unstruck.Goals as goal
 
 pub walk_time-time-requires : goal.walk_time-time-requires

@@ -1,6 +1,6 @@
 use Rattle.std.proofs.Common.{rules, ◌≡◌, ◌∙◌, []}
 use Rattle.std.specs.Option.{option_copied}
-use Rattle.store.proofs.Struck.{none_left}
+use Rattle.store.proofs.seen.Struck.{none_left}
 use Rattle.store.proofs.sweeping.unstruck_in.Goals as goal
 
 pub returns-in_ok-all_of-in-None-clause-ok : goal.returns-in_ok-all_of-in-None-clause-ok

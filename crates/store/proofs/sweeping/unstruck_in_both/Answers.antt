@@ -4,7 +4,7 @@ use Rattle.store.specs.declared.sight.Seen.{Seen}
 use Rattle.store.specs.Sight.{named}
 use Rattle.store.specs.Struck.{ranged}
 use Rattle.store.specs.Sweeping.{newest_strikes}
-use Rattle.store.proofs.Struck.{standing_seen, unstruck_by_both}
+use Rattle.store.proofs.seen.Struck.{standing_seen, unstruck_by_both}
 use Rattle.store.proofs.sweeping.unstruck_in_both.Goals as goal
 
 pub walk_time-time-requires : goal.walk_time-time-requires

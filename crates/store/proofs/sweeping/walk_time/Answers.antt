@@ -1,5 +1,5 @@
 use Rattle.std.proofs.Common.{rules}
-use Rattle.store.proofs.Struck.{time_of_all, time_of_moment}
+use Rattle.store.proofs.seen.Struck.{time_of_all, time_of_moment}
 use Rattle.store.proofs.sweeping.walk_time.Goals as goal
 
 pub returns-in-Now : goal.returns-in-Now

@@ -3,8 +3,8 @@ use Rattle.std.specs.Option.{option_copied}
 use Rattle.store.specs.declared.gathering.Gathered.{Gathered}
 use Rattle.store.specs.Gathering.{writers_gathered}
 use Rattle.store.specs.Sight.{HaveSameWriters, is_covered, named}
-use Rattle.store.proofs.Gathered.{all_there}
-use Rattle.store.proofs.Gatherings.{one_gathered, on_ok}
+use Rattle.store.proofs.seen.Gathered.{all_there}
+use Rattle.store.proofs.seen.Gatherings.{one_gathered, on_ok}
 use Rattle.store.proofs.gathering.Gathered.add.Goals as goal
 
 pub returns-then-is_covered-clause-ok : goal.returns-then-is_covered-clause-ok

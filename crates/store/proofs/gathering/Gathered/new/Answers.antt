@@ -1,7 +1,7 @@
 use Rattle.std.proofs.Common.{rules, ◌≡◌, option_map}
 use Rattle.std.specs.Option.{option_copied}
 use Rattle.versions.specs.declared.version.Version.{Version}
-use Rattle.store.proofs.Gatherings.{none_gathered}
+use Rattle.store.proofs.seen.Gatherings.{none_gathered}
 use Rattle.store.proofs.gathering.Gathered.new.Goals as goal
 use Rattle.store.proofs.gathering.Gathered.new.Goals.{in-None, in-Some}
 

@@ -1,4 +1,4 @@
-use Rattle.store.proofs.Latest.{latest_collected}
+use Rattle.store.proofs.times.Latest.{latest_collected}
 use Rattle.store.proofs.row.RowChains.collect.Goals as goal
 
 pub invariant_of-self : goal.invariant_of-self

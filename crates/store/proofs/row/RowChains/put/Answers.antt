@@ -1,6 +1,6 @@
 use Rattle.std.proofs.Common.{sym, subst}
-use Rattle.store.specs.Kept.{Chains, column_held}
-use Rattle.store.proofs.Places.{IsReady, at_insertion, at_deletion, at_row_deletion}
+use Rattle.store.specs.Stored.{Chains, column_held}
+use Rattle.store.proofs.newest.Places.{IsReady, at_insertion, at_deletion, at_row_deletion}
 use Rattle.store.proofs.row.RowChains.put.Goals as goal
 
 pub put_column-requires : goal.put_column-requires

@@ -1,6 +1,6 @@
 use Rattle.std.proofs.Common.{◌<◌, sym, subst, inl, inr}
-use Rattle.store.specs.Kept.{Chains, column_held}
-use Rattle.store.proofs.Places.{at_insertion, at_deletion, at_row_deletion}
+use Rattle.store.specs.Stored.{Chains, column_held}
+use Rattle.store.proofs.newest.Places.{at_insertion, at_deletion, at_row_deletion}
 use Rattle.store.proofs.row.RowChains.reserve.Goals as goal
 
 pub returns-in-DeleteRow-clause-succeeds : goal.returns-in-DeleteRow-clause-succeeds

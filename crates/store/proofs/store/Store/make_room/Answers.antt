@@ -1,14 +1,14 @@
 use Rattle.std.proofs.Common.{rules, ap, subst}
-use Rattle.store.specs.Kept.{Kept, HaveSameVersions, HaveSameRanges}
-use Rattle.store.proofs.Lasting.{keeps_same}
+use Rattle.store.specs.Stored.{StoreValue, HaveSameVersions, HaveSameRanges}
+use Rattle.store.proofs.applied.Lasting.{keeps_same}
 use Rattle.store.proofs.store.Store.make_room.Goals as goal
 
 pub returns-clause-keeps : goal.returns-clause-keeps
 returns-clause-keeps c = λ all keeps.
-    let new : Kept = record { rows = c.reserve_changes.new.rows.entries; low = c.self.inside.low } in
-    keeps_same c.args.self.now new all (ap (λ (k : Kept). k.low) c.self.view_is)
-    (subst (λ (k : Kept). HaveSameVersions k.rows new.rows) c.self.view_is c.reserve_changes.ensures.versions)
-    (subst (λ (k : Kept). HaveSameRanges k.rows new.rows) c.self.view_is c.reserve_changes.ensures.ranges) keeps
+    let new : StoreValue = record { rows = c.reserve_changes.new.rows.entries; low = c.self.inside.low } in
+    keeps_same c.args.self.now new all (ap (λ (k : StoreValue). k.low) c.self.view_is)
+    (subst (λ (k : StoreValue). HaveSameVersions k.rows new.rows) c.self.view_is c.reserve_changes.ensures.versions)
+    (subst (λ (k : StoreValue). HaveSameRanges k.rows new.rows) c.self.view_is c.reserve_changes.ensures.ranges) keeps
 
 pub returns-clause-ok : goal.returns-clause-ok
 returns-clause-ok c = search rules

@@ -3,13 +3,13 @@ use Rattle.column_family.specs.Places.{row_cmp}
 use Rattle.store.specs.declared.part.Part.{Part}
 use Rattle.store.specs.declared.sight.Moment.{Moment}
 use Rattle.store.specs.declared.sight.Moment.TheVariants.{At}
-use Rattle.store.specs.Kept.{Kept, held_by, no_row}
+use Rattle.store.specs.Stored.{StoreValue, held_by, no_row}
 use Rattle.store.specs.Part.{applied_by}
 use Rattle.store.specs.Sight.{sight_of}
 use Rattle.store.specs.Struck.{ranges_seen, IsPartUnder}
-use Rattle.store.proofs.Assembled.{any_evt}
-use Rattle.store.proofs.Later.{right_lasts}
-use Rattle.store.proofs.PartAt.{part_at}
+use Rattle.store.proofs.seen.Assembled.{any_evt}
+use Rattle.store.proofs.newest.Later.{right_lasts}
+use Rattle.store.proofs.seen.PartAt.{part_at}
 use Rattle.store.proofs.store.Store.read_at.Goals as goal
 
 pub returns-clause-right : goal.returns-clause-right
@@ -21,7 +21,7 @@ returns-clause-right c = λ all keeps.
     let is = c.in_ok-moment.ensures.ok in
     any_evt (applied_by c.args.time all) r p part c.zero.result
     (part_at s all r p c.args.time part keeps is.1
-    (subst (λ (k : Kept). IsPartUnder (sight_of (At c.args.time) (held_by row_cmp no_row k.rows r)) (ranges_seen (At c.args.time) (held_by row_cmp no_row k.rows r)) p part) c.self.view_is
+    (subst (λ (k : StoreValue). IsPartUnder (sight_of (At c.args.time) (held_by row_cmp no_row k.rows r)) (ranges_seen (At c.args.time) (held_by row_cmp no_row k.rows r)) p part) c.self.view_is
     (subst (λ (m : Moment). IsPartUnder (sight_of m (held_by row_cmp no_row c.self.inside.rows.entries r)) (ranges_seen m (held_by row_cmp no_row c.self.inside.rows.entries r)) p part) is.0 c.in_ok-part.ensures.ok)))
 
 pub returns-clause-lasts : goal.returns-clause-lasts

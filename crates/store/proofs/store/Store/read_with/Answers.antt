@@ -5,14 +5,14 @@ use Rattle.store.specs.declared.origin.Origin.{Origin}
 use Rattle.store.specs.declared.part.Applied.{Applied}
 use Rattle.store.specs.declared.sight.Moment.{Moment}
 use Rattle.store.specs.declared.sight.Moment.TheVariants.{At}
-use Rattle.store.specs.Kept.{Place, Kept, chain_of, held_by, no_row, put_all, written, IsRangeWritten}
+use Rattle.store.specs.Stored.{Place, StoreValue, chain_of, held_by, no_row, put_all, written, IsRangeWritten}
 use Rattle.versions.specs.declared.range.RangeDeletion.{RangeDeletion}
 use Rattle.std.specs.Prelude.{Contains, ◌↔◌}
 use Rattle.store.specs.Part.{applied_by}
 use Rattle.store.specs.Sight.{sight_of, laid_over}
 use Rattle.store.specs.Struck.{ranges_over, IsPartUnder}
-use Rattle.store.proofs.Assembled.{any_evt}
-use Rattle.store.proofs.ReadWith.{part_with}
+use Rattle.store.proofs.seen.Assembled.{any_evt}
+use Rattle.store.proofs.laid_over.ReadWith.{part_with}
 use Rattle.store.proofs.store.Store.read_with.Goals as goal
 
 pub returns-clause-right : goal.returns-clause-right
@@ -35,5 +35,5 @@ returns-clause-right c = λ all keeps normal fresh.
     let is = c.in_ok-moment.ensures.ok in
     any_evt (applied_by t (all ++ a ∷ [])) r p part c.zero.result
     (part_with s all a over r p t part keeps is.1 normal fresh left left_also
-    (subst (λ (k : Kept). IsPartUnder (laid_over (sight_of (At t) (held_by row_cmp no_row k.rows r)) (sight_of (At t) over)) (ranges_over (At t) (held_by row_cmp no_row k.rows r) over) p part) c.self.view_is
+    (subst (λ (k : StoreValue). IsPartUnder (laid_over (sight_of (At t) (held_by row_cmp no_row k.rows r)) (sight_of (At t) over)) (ranges_over (At t) (held_by row_cmp no_row k.rows r) over) p part) c.self.view_is
     (subst (λ (m : Moment). IsPartUnder (laid_over (sight_of m (held_by row_cmp no_row c.self.inside.rows.entries r)) (sight_of m over)) (ranges_over m (held_by row_cmp no_row c.self.inside.rows.entries r) over) p part) is.0 c.in_ok-part.ensures.ok)))

@@ -1,4 +1,4 @@
-use Rattle.store.proofs.Assembled.{if_ok}
+use Rattle.store.proofs.seen.Assembled.{if_ok}
 use Rattle.world.proofs.AskedFor.{listed}
 use Rattle.world.proofs.Promised as promised
 use Rattle.world.proofs.world.World.history.Goals as goal
