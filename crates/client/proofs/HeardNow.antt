@@ -13,7 +13,7 @@ use Rattle.messages.specs.Rounds as rounds
 use Rattle.messages.specs.SessionEvents as machine
 use Rattle.read_txn.specs.States.{First, Second, late_shard}
 use Rattle.read_txn.specs.Taken as taken
-use Rattle.client.specs.declared.kept.Kept.{Kept}
+use Rattle.client.specs.declared.kept.SessionKept.{SessionKept}
 use Rattle.client.specs.declared.current.Current.{Current}
 use Rattle.client.specs.declared.current.Current.TheVariants as now
 use Rattle.client.specs.Current.{open_of}
@@ -26,7 +26,7 @@ use Rattle.client.proofs.HeardOk.{hear_ok}
 use Rattle.client.proofs.Heard.{asked_of, IsOrdered, Does, calms, completes, dones_in, hear_at}
 
 -- a round that is over, by the shards that are asked again
-asks_again : (nodes : List ℕ) (k : Kept) (homes : List ℕ) (n : ℕ) (before : List Envelope) (f : First) (time : ℕ) → k.added ≡ []
+asks_again : (nodes : List ℕ) (k : SessionKept) (homes : List ℕ) (n : ℕ) (before : List Envelope) (f : First) (time : ℕ) → k.added ≡ []
     → f.asked ≡ asked_of k f.read → IsOrdered k → rounds.late_nodes f.asked time f.heard ≡ nodes
     → Does (machine.second_if nodes k.node n (state_of k) f.read time f.heard) homes k (steps.after_now (taken.second_if nodes f time) n k) before
     (steps.sent_now (taken.second_if nodes f time) n k)
@@ -42,7 +42,7 @@ asks_again (s ∷ ss) k homes n before f time none asked ordered e =
           ∙ ap (map (machine.read_at_of k.node n (state_of k) f.read time f.heard)) e);
     }
 
-hears_now : (b : Bool) (k : Kept) (homes : List ℕ) (n : ℕ) (before : List Envelope) (f : First) → k.added ≡ []
+hears_now : (b : Bool) (k : SessionKept) (homes : List ℕ) (n : ℕ) (before : List Envelope) (f : First) → k.added ≡ []
     → f.asked ≡ asked_of k f.read → f.floor ≡ k.floor → IsOrdered k
     → Does (machine.heard_if b (kept_in k homes) k.node n (state_of k) f.read f.heard) homes k (steps.after_now (taken.heard_if b f) n k) before
     (steps.sent_now (taken.heard_if b f) n k)
@@ -60,7 +60,7 @@ hears_now false k homes n before f none asked floor ordered = record {
   sends = refl;
 }
 
-awaits_now : (b : Bool) (k : Kept) (homes : List ℕ) (n : ℕ) (before : List Envelope) (f : First) (from : ℕ) (rows : List RowNow) → now.First f ≡ k.current
+awaits_now : (b : Bool) (k : SessionKept) (homes : List ℕ) (n : ℕ) (before : List Envelope) (f : First) (from : ℕ) (rows : List RowNow) → now.First f ≡ k.current
     → k.added ≡ [] → f.asked ≡ asked_of k f.read → f.floor ≡ k.floor → IsOrdered k
     → Does (machine.part_now_if b (kept_in k homes) k.node n (state_of k) f.read f.heard from rows) homes k
     (steps.after_now (taken.first_taken_if b f from rows) n k) before (steps.sent_now (taken.first_taken_if b f from rows) n k)
@@ -80,7 +80,7 @@ awaits_now false k homes n before f from rows e none asked floor ordered = recor
   sends = refl;
 }
 
-parts_now : (b : Bool) (k : Kept) (homes : List ℕ) (n : ℕ) (before : List Envelope) (f : First) (from : ℕ) (rows : List RowNow) → now.First f ≡ k.current
+parts_now : (b : Bool) (k : SessionKept) (homes : List ℕ) (n : ℕ) (before : List Envelope) (f : First) (from : ℕ) (rows : List RowNow) → now.First f ≡ k.current
     → FitsIn k k.current → k.added ≡ [] → f.asked ≡ asked_of k f.read → f.floor ≡ k.floor → IsOrdered k
     → Does (machine.part_now_if (b && rounds.is_missing (asked_of k f.read) f.heard from) (kept_in k homes) k.node n (state_of k) f.read f.heard from rows) homes k
     (steps.now_if b n k f from rows) before (steps.sent_if b n k f from rows)
@@ -91,7 +91,7 @@ parts_now true k homes n before f from rows e fits none asked floor ordered =
     asked
     (awaits_now (rounds.is_missing f.asked f.heard from) k homes n before f from rows e none asked floor ordered)
 
-hear_now : (c : Current) (k : Kept) (homes : List ℕ) (n : ℕ) (before : List Envelope) (from number : ℕ) (rows : List RowNow) → c ≡ k.current
+hear_now : (c : Current) (k : SessionKept) (homes : List ℕ) (n : ℕ) (before : List Envelope) (from number : ℕ) (rows : List RowNow) → c ≡ k.current
     → FitsIn k c → FitsIn k k.current → IsOrdered k
     → Does (machine.part_now_in (open_of c) (kept_in k homes) k.node n (state_of k) from number rows) homes k (steps.now_in c n k from number rows) before
     (steps.sent_in c n k from number rows)
@@ -104,7 +104,7 @@ hear_now (now.First f) k homes n before from number rows e fit fits ordered =
 
 -- ## Every envelope
 
-hears : (b : Body) (k : Kept) (homes : List ℕ) (n : ℕ) (before : List Envelope) (from : ℕ) → FitsIn k k.current → IsOrdered k
+hears : (b : Body) (k : SessionKept) (homes : List ℕ) (n : ℕ) (before : List Envelope) (from : ℕ) → FitsIn k k.current → IsOrdered k
     → Does (machine.heard (kept_in k homes) k.node n (state_of k) from b) homes k (steps.heard_kept n k from b) before (steps.heard_sends n k from b)
 hears (body.Done txn commit stamp) k homes n before from fits ordered = dones_in k.current k homes n before txn commit stamp refl fits ordered
 hears (body.PartNow number rows) k homes n before from fits ordered = hear_now k.current k homes n before from number rows refl fits fits ordered
@@ -112,7 +112,7 @@ hears (body.PartAt number time answer) k homes n before from fits ordered = hear
 hears (body.DepOk dependency waiter commit) k homes n before from fits ordered = hear_ok k.current k homes n before dependency waiter commit refl fits fits ordered
 hears b k homes n before from fits ordered = calms k homes n before fits ordered
 
-kept_hears : (k : Kept) (homes : List ℕ) (n : ℕ) (before : List Envelope) (e : Envelope) → ticked k.clock e.time ≡ Some n
+kept_hears : (k : SessionKept) (homes : List ℕ) (n : ℕ) (before : List Envelope) (e : Envelope) → ticked k.clock e.time ≡ Some n
     → FitsIn k k.current → IsOrdered k
     → IsStepOf (machine.session_handle (kept_in k homes) k.node (state_of k) e) (kept_in k homes) (steps.heard_kept n k e.from e.body) before
     (before ++ steps.heard_sends n k e.from e.body)
@@ -121,7 +121,7 @@ kept_hears k homes n before e time fits ordered =
     (before ++ steps.heard_sends n k e.from e.body))
     (sym time) (hears e.body k homes n before e.from fits ordered)
 
-pub handled : (k l : Kept) (before after : List Envelope) (e : Envelope) (n : ℕ) → n ≡ max k.clock e.time + 1 → n < 2 ^ 48 → l ≡ steps.heard_kept n k e.from e.body
+pub handled : (k l : SessionKept) (before after : List Envelope) (e : Envelope) (n : ℕ) → n ≡ max k.clock e.time + 1 → n < 2 ^ 48 → l ≡ steps.heard_kept n k e.from e.body
     → after ≡ before ++ steps.heard_sends n k e.from e.body → (top : TopologyValue) (a : SessionState) → Represents k top a
     → IsStepOf (machine.session_handle top k.node a e) top l before after
 handled k l before after e n same lt state sends top a r =
@@ -136,7 +136,7 @@ refused_on : (t : Option ℕ) (f : Fault) (step : ℕ → SessionStep) → IsSpe
 refused_on None f step h = h
 refused_on (Some n) f step h = h
 
-pub handle_refused : (k : Kept) (e : Envelope) (f : Fault) → IsSpentOrMemory (ticked k.clock e.time) f → (top : TopologyValue) (a : SessionState) → Represents k top a
+pub handle_refused : (k : SessionKept) (e : Envelope) (f : Fault) → IsSpentOrMemory (ticked k.clock e.time) f → (top : TopologyValue) (a : SessionState) → Represents k top a
     → IsRefusalOf (machine.session_handle top k.node a e) f
 handle_refused k e f h top a r =
     subst (λ t. IsRefusalOf (on_clock t (λ m. machine.heard top k.node m a e.from e.body)) f)

@@ -15,7 +15,7 @@ use Rattle.messages.specs.Session.{SessionState, SessionStep, HeardNow, HeardAt,
 use Rattle.messages.specs.Session as session
 use Rattle.messages.specs.Rounds as rounds
 use Rattle.messages.specs.SessionEvents as machine
-use Rattle.client.specs.declared.kept.Kept.{Kept}
+use Rattle.client.specs.declared.kept.SessionKept.{SessionKept}
 use Rattle.client.specs.declared.current.Current.{Current}
 use Rattle.client.specs.declared.current.Current.TheVariants as now
 use Rattle.client.specs.Current.{open_of}
@@ -46,7 +46,7 @@ done_if_rests true a coordinator t commit stamp writing e =
     let idle : session.Idle ≡ a.current = open_stays (machine.done_if true 0 a coordinator t commit stamp) a e in
     absurd (cc)
 
-done_rests : (c : Current) (k : Kept) (t : TxnValue) (commit : ℕ) (stamp : StampValue) → c ≡ k.current
+done_rests : (c : Current) (k : SessionKept) (t : TxnValue) (commit : ℕ) (stamp : StampValue) → c ≡ k.current
     → Rests (machine.done_in (open_of c) k.node 0 (state_of k) t commit stamp) (state_of k) → heeds_done c k t ≡ false
 done_rests now.Idle k t commit stamp same e = refl
 done_rests (now.Write coordinator) k t commit stamp same e =
@@ -83,7 +83,7 @@ now_if_rests true top me a read before from rows first e =
     let h : HeardNow = record { from = from; rows = rows } in
     absurd (heard_rests (rounds.all_heard (rounds.asked_nodes top a read) (before ++ h ∷ [])) top me a read before h first e)
 
-now_rests : (c : Current) (k : Kept) (homes : List ℕ) (from number : ℕ) (rows : List RowNow) → c ≡ k.current → FitsIn k c
+now_rests : (c : Current) (k : SessionKept) (homes : List ℕ) (from number : ℕ) (rows : List RowNow) → c ≡ k.current → FitsIn k c
     → Rests (machine.part_now_in (open_of c) (kept_in k homes) k.node 0 (state_of k) from number rows) (state_of k) → heeds_now c k from number ≡ false
 now_rests now.Idle k homes from number rows same fits e = refl
 now_rests (now.Write coordinator) k homes from number rows same fits e = refl
@@ -119,7 +119,7 @@ at_if_rests : (b : Bool) (top : TopologyValue) (a : SessionState) (read : Read) 
 at_if_rests false top a read time first before from answer second e = refl
 at_if_rests true top a read time first before from answer second e = absurd (taken_rests answer top a read time first before from second e)
 
-at_rests : (c : Current) (k : Kept) (homes : List ℕ) (from number : ℕ) (answer : AtTime) → c ≡ k.current → FitsIn k c
+at_rests : (c : Current) (k : SessionKept) (homes : List ℕ) (from number : ℕ) (answer : AtTime) → c ≡ k.current → FitsIn k c
     → Rests (machine.part_at_in (open_of c) (kept_in k homes) 0 (state_of k) from number answer) (state_of k) → heeds_at c k from number ≡ false
 at_rests now.Idle k homes from number answer same fits e = refl
 at_rests (now.Write coordinator) k homes from number answer same fits e = refl
@@ -163,7 +163,7 @@ ok_if_rests false a d dc left floor commit moving missing e = refl
 ok_if_rests true a d dc left floor commit moving missing e =
     absurd (on_rests (machine.left_after d left) a d dc left floor (max floor commit) refl moving e (missing refl))
 
-ok_rests : (c : Current) (k : Kept) (d waiter : TxnValue) (commit : ℕ) → c ≡ k.current
+ok_rests : (c : Current) (k : SessionKept) (d waiter : TxnValue) (commit : ℕ) → c ≡ k.current
     → Rests (machine.dep_ok_in (open_of c) k.node 0 (state_of k) d waiter commit) (state_of k) → heeds_ok c k d waiter ≡ false
 ok_rests now.Idle k d waiter commit same e = refl
 ok_rests (now.Write coordinator) k d waiter commit same e = refl
@@ -175,7 +175,7 @@ ok_rests (now.Move home m) k d waiter commit same e =
 
 -- ## Every envelope
 
-rests : (b : Body) (k : Kept) (homes : List ℕ) (from : ℕ) → FitsIn k k.current
+rests : (b : Body) (k : SessionKept) (homes : List ℕ) (from : ℕ) → FitsIn k k.current
     → Rests (machine.heard (kept_in k homes) k.node 0 (state_of k) from b) (state_of k) → heeds k from b ≡ false
 rests (body.Done txn commit stamp) k homes from fits e = done_rests k.current k txn commit stamp refl e
 rests (body.PartNow number rows) k homes from fits e = now_rests k.current k homes from number rows refl fits e
@@ -183,7 +183,7 @@ rests (body.PartAt number time answer) k homes from fits e = at_rests k.current 
 rests (body.DepOk dependency waiter commit) k homes from fits e = ok_rests k.current k dependency waiter commit refl e
 rests b k homes from fits e = refl
 
-pub ignored_rests : (k : Kept) (e : Envelope) (top : TopologyValue) (a : SessionState) → Represents k top a → IsIgnored top k.node a e → heeds k e.from e.body ≡ false
+pub ignored_rests : (k : SessionKept) (e : Envelope) (top : TopologyValue) (a : SessionState) → Represents k top a → IsIgnored top k.node a e → heeds k e.from e.body ≡ false
 ignored_rests k e top a r ignored =
     rests e.body k top.homes e.from r.current
     (subst (λ t. Rests (machine.heard t k.node 0 (state_of k) e.from e.body) (state_of k)) r.topology

@@ -5,13 +5,13 @@ use Rattle.messages.specs.declared.outcome.Outcome.TheVariants as outcome
 use Rattle.messages.specs.Rounds.{answer_of}
 use Rattle.planner.proofs.Right.{right_joined}
 use Rattle.read_txn.specs.Completed.{shown}
-use Rattle.client.specs.declared.kept.Kept.{Kept}
+use Rattle.client.specs.declared.kept.SessionKept.{SessionKept}
 use Rattle.client.specs.Steps.{heard_kept}
 use Rattle.client.specs.Right.{AnswersRight}
 
-pub answers_right : (k l : Kept) (e : Envelope) → l ≡ heard_kept (max k.clock e.time + 1) k e.from e.body → AnswersRight k e l.untaken
+pub answers_right : (k l : SessionKept) (e : Envelope) → l ≡ heard_kept (max k.clock e.time + 1) k e.from e.body → AnswersRight k e l.untaken
 answers_right k l e state = record {
   right = λ read time rows history completes right.
-      ap (λ (m : Kept). m.untaken) (state ∙ completes)
+      ap (λ (m : SessionKept). m.untaken) (state ∙ completes)
       ∙ ap (λ answer. Some (k.count, outcome.Read time answer)) (right_joined read (map shown rows) (answer_of read rows) refl history time right);
 }

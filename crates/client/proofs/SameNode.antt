@@ -15,13 +15,13 @@ use Rattle.read_txn.specs.declared.first_round.FirstTaken.TheVariants as in_firs
 use Rattle.read_txn.specs.declared.second_round.SecondTaken.{SecondTaken}
 use Rattle.read_txn.specs.declared.second_round.SecondTaken.TheVariants as in_second
 use Rattle.read_txn.specs.Taken.{first_taken, second_taken}
-use Rattle.client.specs.declared.kept.Kept.{Kept}
+use Rattle.client.specs.declared.kept.SessionKept.{SessionKept}
 use Rattle.client.specs.declared.current.Current.{Current}
 use Rattle.client.specs.declared.current.Current.TheVariants as now
 use Rattle.client.specs.Home.{HomeValue}
 use Rattle.client.specs.Steps as steps
 
-done_node : (c : Current) (n : ℕ) (k : Kept) (t : TxnValue) (commit : ℕ) (stamp : StampValue) → (steps.done_in c n k t commit stamp).node ≡ k.node
+done_node : (c : Current) (n : ℕ) (k : SessionKept) (t : TxnValue) (commit : ℕ) (stamp : StampValue) → (steps.done_in c n k t commit stamp).node ≡ k.node
 done_node now.Idle n k t commit stamp = refl
 done_node (now.First f) n k t commit stamp = refl
 done_node (now.Second s) n k t commit stamp = refl
@@ -32,12 +32,12 @@ done_node (now.Write coordinator) n k t commit stamp = go (is_same_txn t (record
     go true = refl
     go false = refl
 
-after_at_node : (taken : SecondTaken) (n : ℕ) (k : Kept) → (steps.after_at taken n k).node ≡ k.node
+after_at_node : (taken : SecondTaken) (n : ℕ) (k : SessionKept) → (steps.after_at taken n k).node ≡ k.node
 after_at_node (in_second.More s) n k = refl
 after_at_node (in_second.Done c) n k = refl
 after_at_node in_second.Collected n k = refl
 
-at_node : (c : Current) (n : ℕ) (k : Kept) (from number : ℕ) (answer : AtTime) → (steps.at_in c n k from number answer).node ≡ k.node
+at_node : (c : Current) (n : ℕ) (k : SessionKept) (from number : ℕ) (answer : AtTime) → (steps.at_in c n k from number answer).node ≡ k.node
 at_node now.Idle n k from number answer = refl
 at_node (now.Write coordinator) n k from number answer = refl
 at_node (now.First f) n k from number answer = refl
@@ -48,12 +48,12 @@ at_node (now.Second s) n k from number answer = go (number == k.count)
     go true = after_at_node (second_taken s from answer) n k
     go false = refl
 
-after_now_node : (taken : FirstTaken) (n : ℕ) (k : Kept) → (steps.after_now taken n k).node ≡ k.node
+after_now_node : (taken : FirstTaken) (n : ℕ) (k : SessionKept) → (steps.after_now taken n k).node ≡ k.node
 after_now_node (in_first.More f) n k = refl
 after_now_node (in_first.Second s) n k = refl
 after_now_node (in_first.Done c) n k = refl
 
-now_node : (c : Current) (n : ℕ) (k : Kept) (from number : ℕ) (rows : List RowNow) → (steps.now_in c n k from number rows).node ≡ k.node
+now_node : (c : Current) (n : ℕ) (k : SessionKept) (from number : ℕ) (rows : List RowNow) → (steps.now_in c n k from number rows).node ≡ k.node
 now_node now.Idle n k from number rows = refl
 now_node (now.Write coordinator) n k from number rows = refl
 now_node (now.Second s) n k from number rows = refl
@@ -64,11 +64,11 @@ now_node (now.First f) n k from number rows = go (number == k.count)
     go true = after_now_node (first_taken f from rows) n k
     go false = refl
 
-after_ok_node : (taken : MoveTaken) (n : ℕ) (k : Kept) (home : HomeValue) → (steps.after_ok taken n k home).node ≡ k.node
+after_ok_node : (taken : MoveTaken) (n : ℕ) (k : SessionKept) (home : HomeValue) → (steps.after_ok taken n k home).node ≡ k.node
 after_ok_node (in_move.More m) n k home = refl
 after_ok_node (in_move.Ended floor) n k home = refl
 
-ok_node : (c : Current) (n : ℕ) (k : Kept) (dependency waiter : TxnValue) (commit : ℕ) → (steps.ok_in c n k dependency waiter commit).node ≡ k.node
+ok_node : (c : Current) (n : ℕ) (k : SessionKept) (dependency waiter : TxnValue) (commit : ℕ) → (steps.ok_in c n k dependency waiter commit).node ≡ k.node
 ok_node now.Idle n k dependency waiter commit = refl
 ok_node (now.Write coordinator) n k dependency waiter commit = refl
 ok_node (now.First f) n k dependency waiter commit = refl
@@ -79,12 +79,12 @@ ok_node (now.Move home m) n k dependency waiter commit = go (is_same_txn waiter 
     go true = after_ok_node (move_taken m dependency commit) n k home
     go false = refl
 
-node_kept : (n : ℕ) (k : Kept) (from : ℕ) (b : Body) → (steps.heard_kept n k from b).node ≡ k.node
+node_kept : (n : ℕ) (k : SessionKept) (from : ℕ) (b : Body) → (steps.heard_kept n k from b).node ≡ k.node
 node_kept n k from (body.Done txn commit stamp) = done_node k.current n k txn commit stamp
 node_kept n k from (body.PartNow number rows) = now_node k.current n k from number rows
 node_kept n k from (body.PartAt number time answer) = at_node k.current n k from number answer
 node_kept n k from (body.DepOk dependency waiter commit) = ok_node k.current n k dependency waiter commit
 node_kept n k from b = refl
 
-pub node_stays : (k l : Kept) (n from : ℕ) (b : Body) → l ≡ steps.heard_kept n k from b → l.node ≡ k.node
-node_stays k l n from b e = ap (λ (m : Kept). m.node) e ∙ node_kept n k from b
+pub node_stays : (k l : SessionKept) (n from : ℕ) (b : Body) → l ≡ steps.heard_kept n k from b → l.node ≡ k.node
+node_stays k l n from b e = ap (λ (m : SessionKept). m.node) e ∙ node_kept n k from b

@@ -7,14 +7,14 @@ use Rattle.messages.specs.Topology.{TopologyValue}
 use Rattle.messages.specs.Words.{in_writer_order}
 use Rattle.messages.specs.Session.{SessionState, SessionStep}
 use Rattle.messages.specs.Rounds.{asked_nodes}
-use Rattle.client.specs.declared.kept.Kept.{Kept}
+use Rattle.client.specs.declared.kept.SessionKept.{SessionKept}
 use Rattle.client.specs.declared.current.Current.{Current}
 use Rattle.client.specs.declared.current.Current.TheVariants.{Idle, Write, First, Second, Move}
 use Rattle.client.specs.State.{state_of, topology_of}
 
 -- the rounds of a read ask the shards that hold its keys, and begin at the session's floor. A move is to a data centre of the
 -- same topology. While an operation is open, all writers stand in order
-abbrev pub FitsIn : Kept → Current → Type 0
+abbrev pub FitsIn : SessionKept → Current → Type 0
 FitsIn k Idle = Unit {0}
 FitsIn k (Write coordinator) = k.added ≡ []
 FitsIn k (First f) = (k.added ≡ []) × (f.asked ≡ asked_nodes (topology_of k) (state_of k) f.read) × (f.floor ≡ k.floor)
@@ -22,18 +22,18 @@ FitsIn k (Second s) = (k.added ≡ []) × (s.asked ≡ asked_nodes (topology_of 
 FitsIn k (Move home m) = (k.added ≡ []) × (home.dcs ≡ k.home.dcs) × (home.shards ≡ k.home.shards)
 
 -- What is kept stands for this state of the machine, in this topology.
-pub record Represents (k : Kept) (top : TopologyValue) (a : SessionState) : Type 0 where
+pub record Represents (k : SessionKept) (top : TopologyValue) (a : SessionState) : Type 0 where
   pub topology : top ≡ record top { dcs = k.home.dcs; shards = k.home.shards; schema = k.schema }
   pub state : a ≡ state_of k
   pub current : FitsIn k k.current
   pub ordered : in_writer_order k.dependencies ≡ k.dependencies
 
 -- a call did this step of the machine: what is kept then stands for its state, and its envelopes were sent, in order
-pub record IsStep (step : SessionStep) (top : TopologyValue) (k : Kept) (before after : List Envelope) : Type 0 where
+pub record IsStep (step : SessionStep) (top : TopologyValue) (k : SessionKept) (before after : List Envelope) : Type 0 where
   pub state : Represents k top step.state
   pub sends : after ≡ before ++ step.sends
 
-abbrev pub IsStepOf : Result SessionStep Fault → TopologyValue → Kept → List Envelope → List Envelope → Type 0
+abbrev pub IsStepOf : Result SessionStep Fault → TopologyValue → SessionKept → List Envelope → List Envelope → Type 0
 IsStepOf (Ok step) top k before after = IsStep step top k before after
 IsStepOf (Err e) top k before after = ⊥
 

@@ -14,7 +14,7 @@ use crate::current::Current;
 use crate::envelopes::{nodes, post_writes, reads};
 use crate::hearing::put;
 use crate::home::Home;
-use crate::kept::Kept;
+use crate::kept::SessionKept;
 use crate::moving::{check_move, end_move, move_checks};
 use column_family::Batch;
 use dependencies::{Missing, OpenMove};
@@ -27,7 +27,7 @@ use slice::Read;
 /// Whether the operation may be submitted: refused with `Busy` while another is open, and then as a plan of it is, or as
 /// `check_move` refuses a move.
 #[inline(always)]
-fn check(kept: &Kept, op: &Op) -> Result<(), Fault>
+fn check(kept: &SessionKept, op: &Op) -> Result<(), Fault>
     ensures { IsRefusedFor (fault_of kept.now op.now) result }
 {
     if !kept.current.is_idle() {
@@ -41,7 +41,7 @@ fn check(kept: &Kept, op: &Op) -> Result<(), Fault>
 }
 
 /// Whether the operation would be accepted now, with enough memory: refused as `submit` is otherwise.
-pub(crate) fn would_accept(kept: &Kept, op: &Op) -> Result<(), Fault>
+pub(crate) fn would_accept(kept: &SessionKept, op: &Op) -> Result<(), Fault>
     ensures allowed { OnOk result (IsOk (session_submit (topology_of kept.now) kept.now.node (state_of kept.now) op.now)) }
     ensures refused { IfErr result (λ e. session_submit (topology_of kept.now) kept.now.node (state_of kept.now) op.now ≡ Err e) }
 {
@@ -52,7 +52,7 @@ pub(crate) fn would_accept(kept: &Kept, op: &Op) -> Result<(), Fault>
 }
 
 /// The clock that a submission moves to.
-fn moved(kept: &Kept) -> Result<Clock, Fault>
+fn moved(kept: &SessionKept) -> Result<Clock, Fault>
     ensures clock { IfOk result (λ c. (c ≡ max kept.now.clock kept.now.clock + 1) × (c < 2 ^ 48)) }
     ensures refused { IfErr result (λ e. IsSpentOrMemory (ticked kept.now.clock kept.now.clock) e) }
 {
@@ -64,7 +64,7 @@ fn moved(kept: &Kept) -> Result<Clock, Fault>
 /// Makes all the room that a submission needs which sends so many envelopes, and puts the writers of the last read among the
 /// dependencies.
 #[inline]
-fn settle(kept: &mut Kept, sends: usize, outbox: &mut Outbox) -> Result<(), Fault>
+fn settle(kept: &mut SessionKept, sends: usize, outbox: &mut Outbox) -> Result<(), Fault>
     ensures state { OnOk result (kept.new ≡ record kept.old { dependencies = dependencies_of kept.old }) }
     ensures room { OnOk result (sends ≤ outbox.new.room) }
     ensures unsent { outbox.new.sent ≡ outbox.old.sent }
@@ -79,7 +79,7 @@ fn settle(kept: &mut Kept, sends: usize, outbox: &mut Outbox) -> Result<(), Faul
 /// Accepts an operation, which can't fail, and gives it the next number. The writers of the last read are among the
 /// dependencies.
 #[inline]
-fn accept(kept: &mut Kept, clock: Clock, current: Current) -> u64
+fn accept(kept: &mut SessionKept, clock: Clock, current: Current) -> u64
     requires counted { kept.old.count < 2 ^ 48 }
     requires idle { kept.old.current ≡ Idle }
     ensures number { result ≡ kept.old.count + 1 }
@@ -103,7 +103,7 @@ fn coordinator_of(plan: &BatchPlan) -> Shard
 /// Submits a batch that is allowed.
 #[tactic(auto, using(crate::proofs::Idle::idle_allowed))]
 #[inline(always)]
-fn submit_batch(kept: &mut Kept, batch: &Batch, outbox: &mut Outbox) -> Result<u64, Fault>
+fn submit_batch(kept: &mut SessionKept, batch: &Batch, outbox: &mut Outbox) -> Result<u64, Fault>
     requires counted { kept.old.count ≤ kept.old.clock }
     requires allowed { fault_of kept.old (op.Batch batch.now) ≡ None }
     ensures number { IfOk result (λ n. n ≡ kept.old.count + 1) }
@@ -137,7 +137,11 @@ fn submit_batch(kept: &mut Kept, batch: &Batch, outbox: &mut Outbox) -> Result<u
 }
 
 /// What a read asks: the shards, and the envelopes to them.
-fn asks(kept: &Kept, clock: Clock, read: &Shared<Read>) -> Result<(Vec<Node>, Vec<Envelope>), Fault>
+fn asks(
+    kept: &SessionKept,
+    clock: Clock,
+    read: &Shared<Read>,
+) -> Result<(Vec<Node>, Vec<Envelope>), Fault>
     requires counted { kept.now.count < 2 ^ 48 }
     requires allowed { fault_of kept.now (op.Read read.now) ≡ None }
     ensures asked { IfOk result (λ asks. asks.0.items ≡ asked_nodes (topology_of kept.now) (state_of kept.now) read.now) }
@@ -160,7 +164,7 @@ fn asks(kept: &Kept, clock: Clock, read: &Shared<Read>) -> Result<(Vec<Node>, Ve
 
 /// Moves the clock, sends what a read asks, and gives the clock, a copy of the read, and the shards that it asks.
 fn ask(
-    kept: &mut Kept,
+    kept: &mut SessionKept,
     read: &Shared<Read>,
     outbox: &mut Outbox,
 ) -> Result<(Clock, Read, Vec<Node>), Fault>
@@ -185,7 +189,11 @@ fn ask(
 
 /// Submits a read that is allowed.
 #[tactic(auto, using(crate::proofs::Idle::idle_allowed))]
-fn submit_read(kept: &mut Kept, read: &Shared<Read>, outbox: &mut Outbox) -> Result<u64, Fault>
+fn submit_read(
+    kept: &mut SessionKept,
+    read: &Shared<Read>,
+    outbox: &mut Outbox,
+) -> Result<u64, Fault>
     requires counted { kept.old.count ≤ kept.old.clock }
     requires allowed { fault_of kept.old (op.Read read.now) ≡ None }
     ensures number { IfOk result (λ n. n ≡ kept.old.count + 1) }
@@ -203,7 +211,7 @@ fn submit_read(kept: &mut Kept, read: &Shared<Read>, outbox: &mut Outbox) -> Res
 
 /// Accepts a move to this home that asks for these dependencies, which can't fail, and gives it the next number: without
 /// dependencies it ends at once. The writers of the last read are among the dependencies.
-fn leave(kept: &mut Kept, clock: Clock, home: Home, missing: Missing) -> u64
+fn leave(kept: &mut SessionKept, clock: Clock, home: Home, missing: Missing) -> u64
     requires counted { kept.old.count < 2 ^ 48 }
     requires idle { kept.old.current ≡ Idle }
     ensures number { result ≡ kept.old.count + 1 }
@@ -220,7 +228,7 @@ fn leave(kept: &mut Kept, clock: Clock, home: Home, missing: Missing) -> u64
 
 /// Submits a move that is allowed.
 #[tactic(auto, using(crate::proofs::Idle::idle_allowed))]
-fn submit_move(kept: &mut Kept, dc: u16, outbox: &mut Outbox) -> Result<u64, Fault>
+fn submit_move(kept: &mut SessionKept, dc: u16, outbox: &mut Outbox) -> Result<u64, Fault>
     requires counted { kept.old.count ≤ kept.old.clock }
     requires allowed { fault_of kept.old (op.Move dc) ≡ None }
     ensures number { IfOk result (λ n. n ≡ kept.old.count + 1) }
@@ -240,7 +248,11 @@ fn submit_move(kept: &mut Kept, dc: u16, outbox: &mut Outbox) -> Result<u64, Fau
 }
 
 /// Submits an operation. What is kept changes as `accepted` says.
-pub(crate) fn submit(kept: &mut Kept, op: Op, outbox: &mut Outbox) -> Result<u64, (Fault, Op)>
+pub(crate) fn submit(
+    kept: &mut SessionKept,
+    op: Op,
+    outbox: &mut Outbox,
+) -> Result<u64, (Fault, Op)>
     requires counted { kept.old.count ≤ kept.old.clock }
     ensures number { IfOk result (λ n. n ≡ kept.old.count + 1) }
     ensures allowed { OnOk result (fault_of kept.old op ≡ None) }

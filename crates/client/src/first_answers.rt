@@ -11,7 +11,7 @@ ghost use Rattle.client.specs.Steps as steps;
 use crate::current::Current;
 use crate::envelopes::{send, share_of};
 use crate::hearing::{complete, put};
-use crate::kept::Kept;
+use crate::kept::SessionKept;
 use logical_time::{Clock, Fault, Node, Time};
 use messages::{Body, Envelope, Outbox, RowsNow, Shared};
 use read_txn::{FirstRound, FirstTaken, LateShard, SecondRound};
@@ -28,7 +28,7 @@ fn late_read(round: &SecondRound, late: &LateShard) -> Result<Read, Fault>
 }
 
 /// A ReadAt for each shard that the second round asks.
-fn late_reads(kept: &Kept, time: Time, round: &SecondRound) -> Result<Vec<Envelope>, Fault>
+fn late_reads(kept: &SessionKept, time: Time, round: &SecondRound) -> Result<Vec<Envelope>, Fault>
     ensures ok { IfOk result (λ envelopes. envelopes.items ≡ map (steps.read_late time kept.now round.now) (asked_again round.now.asked round.now.time round.now.first)) }
     ensures memory { IfErr result (λ e. e ≡ Fault.Memory) }
 {
@@ -52,7 +52,12 @@ fn late_reads(kept: &Kept, time: Time, round: &SecondRound) -> Result<Vec<Envelo
 }
 
 /// Sends what the second round asks.
-fn ask_again(kept: &Kept, time: Time, round: &SecondRound, outbox: &mut Outbox) -> Result<(), Fault>
+fn ask_again(
+    kept: &SessionKept,
+    time: Time,
+    round: &SecondRound,
+    outbox: &mut Outbox,
+) -> Result<(), Fault>
     ensures sends { OnOk result (outbox.new.sent ≡ outbox.old.sent ++ map (steps.read_late time kept.now round.now) (asked_again round.now.asked round.now.time round.now.first)) }
     ensures unsent { OnErr result (outbox.new.sent ≡ outbox.old.sent) }
     ensures memory { IfErr result (λ e. e ≡ Fault.Memory) }
@@ -65,7 +70,7 @@ fn ask_again(kept: &Kept, time: Time, round: &SecondRound, outbox: &mut Outbox) 
 /// Opens a second round and sends what it asks. Where that fails, the first round, of this floor, is open again as it was
 /// before its last answer, and the rows of that are handed back.
 fn open_second(
-    kept: &mut Kept,
+    kept: &mut SessionKept,
     clock: Clock,
     round: SecondRound,
     floor: Time,
@@ -97,7 +102,7 @@ fn open_second(
 
 /// PartNow in a first round, which was taken out: it is heard if it is of the open read.
 fn first(
-    kept: &mut Kept,
+    kept: &mut SessionKept,
     clock: Clock,
     round: FirstRound,
     from: Node,
@@ -134,7 +139,7 @@ fn first(
 
 /// PartNow: heard where it is of the open read in its first round.
 pub(crate) fn part_now(
-    kept: &mut Kept,
+    kept: &mut SessionKept,
     clock: Clock,
     from: Node,
     number: u64,

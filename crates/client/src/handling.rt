@@ -7,14 +7,14 @@ ghost use Rattle.client.specs.Steps as steps;
 
 use crate::first_answers::part_now;
 use crate::hearing::{done, part_at};
-use crate::kept::Kept;
+use crate::kept::SessionKept;
 use crate::moving::dep_ok;
 use logical_time::{Clock, Fault, Node};
 use messages::{Body, Envelope, Outbox, Refused};
 
 /// Hears what an envelope says.
 fn hear(
-    kept: &mut Kept,
+    kept: &mut SessionKept,
     clock: Clock,
     from: Node,
     body: Body,
@@ -70,7 +70,7 @@ fn hear(
 
 /// Handles an envelope. What is kept changes as `heard_kept` says.
 pub(crate) fn handle(
-    kept: &mut Kept,
+    kept: &mut SessionKept,
     envelope: Envelope,
     outbox: &mut Outbox,
 ) -> Result<(), Refused>

@@ -8,7 +8,7 @@ ghost use Rattle.client.specs.Ignored.{heeds_at};
 ghost use Rattle.client.specs.Steps as steps;
 
 use crate::current::Current;
-use crate::kept::Kept;
+use crate::kept::SessionKept;
 use logical_time::{Clock, Fault, Node, Shard, Stamp, Time, TxnId, Writer, Writers};
 use messages::{AtTime, Outcome};
 use read_txn::{Answered, SecondRound, SecondTaken};
@@ -16,7 +16,7 @@ use std::mem;
 
 /// Opens what is given, while nothing is open: so what was there needn't be moved out, to be closed.
 #[inline]
-pub(crate) fn put(kept: &mut Kept, current: Current)
+pub(crate) fn put(kept: &mut SessionKept, current: Current)
     requires { kept.old.current ≡ Idle }
     ensures { kept.new ≡ record kept.old { current = current } }
 {
@@ -28,7 +28,7 @@ pub(crate) fn put(kept: &mut Kept, current: Current)
 
 /// Takes the open write out.
 #[inline]
-fn end_write(kept: &mut Kept)
+fn end_write(kept: &mut SessionKept)
     requires { IsSome (coordinator_of kept.old.current) }
     ensures { kept.new ≡ record kept.old { current = Idle } }
 {
@@ -40,7 +40,7 @@ fn end_write(kept: &mut Kept)
 
 /// Ends the last operation, which was taken out, with this outcome.
 #[inline(always)]
-fn finish(kept: &mut Kept, clock: Clock, floor: Time, added: Writers, outcome: Outcome)
+fn finish(kept: &mut SessionKept, clock: Clock, floor: Time, added: Writers, outcome: Outcome)
     requires { kept.old.current ≡ Idle }
     ensures { kept.new ≡ steps.finished clock kept.old floor kept.old.dependencies added outcome }
 {
@@ -52,7 +52,7 @@ fn finish(kept: &mut Kept, clock: Clock, floor: Time, added: Writers, outcome: O
 
 /// Ends the open write.
 fn written(
-    kept: &mut Kept,
+    kept: &mut SessionKept,
     clock: Clock,
     coordinator: Shard,
     txn: TxnId,
@@ -75,7 +75,7 @@ fn written(
 }
 
 /// Whether the transaction is the session's last operation.
-pub(crate) fn is_last(kept: &Kept, txn: TxnId) -> bool
+pub(crate) fn is_last(kept: &SessionKept, txn: TxnId) -> bool
     ensures { result ≡ is_same_txn txn (record { session = kept.now.node; number = kept.now.count }) }
 {
     let last = TxnId {
@@ -86,7 +86,7 @@ pub(crate) fn is_last(kept: &Kept, txn: TxnId) -> bool
 }
 
 /// Done: ends the open write, if it is of this one.
-pub(crate) fn done(kept: &mut Kept, clock: Clock, txn: TxnId, commit: Time, stamp: Stamp)
+pub(crate) fn done(kept: &mut SessionKept, clock: Clock, txn: TxnId, commit: Time, stamp: Stamp)
     ensures { kept.new ≡ steps.done_in kept.old.current clock kept.old txn commit stamp }
 {
     let Some(coordinator) = kept.current.coordinator() else {
@@ -102,7 +102,7 @@ pub(crate) fn done(kept: &mut Kept, clock: Clock, txn: TxnId, commit: Time, stam
 
 /// Completes the last read, whose round was taken out.
 #[inline(always)]
-pub(crate) fn complete(kept: &mut Kept, clock: Clock, answered: Answered)
+pub(crate) fn complete(kept: &mut SessionKept, clock: Clock, answered: Answered)
     requires { kept.old.current ≡ Idle }
     ensures { kept.new ≡ steps.completed clock kept.old answered }
 {
@@ -121,7 +121,7 @@ pub(crate) fn complete(kept: &mut Kept, clock: Clock, answered: Answered)
 }
 
 /// Goes on with what an answer made of the second round, which was taken out.
-fn after_at(kept: &mut Kept, clock: Clock, taken: SecondTaken)
+fn after_at(kept: &mut SessionKept, clock: Clock, taken: SecondTaken)
     requires { kept.old.current ≡ Idle }
     ensures { kept.new ≡ steps.after_at taken clock kept.old }
 {
@@ -140,7 +140,7 @@ fn after_at(kept: &mut Kept, clock: Clock, taken: SecondTaken)
 
 /// PartAt in a second round, which was taken out: it is heard if it is of the open read.
 fn second(
-    kept: &mut Kept,
+    kept: &mut SessionKept,
     clock: Clock,
     round: SecondRound,
     from: Node,
@@ -167,7 +167,7 @@ fn second(
 
 /// PartAt: heard where it is of the open read in its second round.
 pub(crate) fn part_at(
-    kept: &mut Kept,
+    kept: &mut SessionKept,
     clock: Clock,
     from: Node,
     number: u64,

@@ -8,7 +8,7 @@ use messages::Outcome;
 use std::alloc::Global;
 
 /// What a session keeps. While an operation is open, no writers are to be added.
-pub(crate) struct Kept {
+pub(crate) struct SessionKept {
     /// Where growths come from.
     pub(crate) alloc: Global,
     /// The session.

@@ -10,7 +10,7 @@ ghost use Rattle.client.specs.Steps as steps;
 use crate::current::Current;
 use crate::hearing::{is_last, put};
 use crate::home::Home;
-use crate::kept::Kept;
+use crate::kept::SessionKept;
 use dependencies::{Missing, MoveTaken};
 use logical_time::{Clock, Fault, Node, Time, TxnId, Writer};
 use messages::{Body, Envelope, Outcome};
@@ -19,7 +19,7 @@ use std::mem;
 
 /// Whether the session may move to this data centre: refused with `UnknownHome` where there is none, then with
 /// `AlreadyHome` where the session is there.
-pub(crate) fn check_move(kept: &Kept, dc: u16) -> Result<(), Fault>
+pub(crate) fn check_move(kept: &SessionKept, dc: u16) -> Result<(), Fault>
     ensures { IsRefusedFor (move_fault (topology_of kept.now) kept.now.home.dc dc) result }
 {
     if kept.home.dcs() <= dc {
@@ -60,7 +60,7 @@ fn checks_of(
 
 /// What a move asks for, and the envelopes that ask.
 pub(crate) fn move_checks(
-    kept: &Kept,
+    kept: &SessionKept,
     clock: Clock,
     home: Home,
 ) -> Result<(Missing, Vec<Envelope>), Fault>
@@ -88,7 +88,7 @@ pub(crate) fn move_checks(
 
 /// Ends the last operation, a move to this home, which was taken out.
 #[inline]
-pub(crate) fn end_move(kept: &mut Kept, clock: Clock, home: Home, floor: Time)
+pub(crate) fn end_move(kept: &mut SessionKept, clock: Clock, home: Home, floor: Time)
     requires { kept.old.current ≡ Idle }
     ensures { kept.new ≡ steps.moved clock kept.old home floor }
 {
@@ -100,7 +100,7 @@ pub(crate) fn end_move(kept: &mut Kept, clock: Clock, home: Home, floor: Time)
 }
 
 /// Goes on with what an answer made of the open move to this home, which was taken out.
-fn after_ok(kept: &mut Kept, clock: Clock, home: Home, taken: MoveTaken)
+fn after_ok(kept: &mut SessionKept, clock: Clock, home: Home, taken: MoveTaken)
     requires { kept.old.current ≡ Idle }
     ensures { kept.new ≡ steps.after_ok taken clock kept.old home }
 {
@@ -114,7 +114,13 @@ fn after_ok(kept: &mut Kept, clock: Clock, home: Home, taken: MoveTaken)
 }
 
 /// DepOk: counted where it is for the open move. Takes no memory.
-pub(crate) fn dep_ok(kept: &mut Kept, clock: Clock, dependency: TxnId, waiter: TxnId, commit: Time)
+pub(crate) fn dep_ok(
+    kept: &mut SessionKept,
+    clock: Clock,
+    dependency: TxnId,
+    waiter: TxnId,
+    commit: Time,
+)
     ensures { kept.new ≡ steps.ok_in kept.old.current clock kept.old dependency waiter commit }
 {
     if !is_last(kept, waiter) {

@@ -10,7 +10,7 @@ ghost use Rattle.client.specs.Right.{AnswersRight};
 
 use crate::current::Current;
 use crate::home::Home;
-use crate::kept::Kept;
+use crate::kept::SessionKept;
 use crate::{accepting, handling};
 use dependencies::DepSet;
 use logical_time::{Clock, Fault, Node, Time, Writers};
@@ -22,14 +22,14 @@ use std::marker::Model;
 /// data centre. It is the protocol's machine: for every state of the machine that it stands for, a call does that state's
 /// step. It must be closed.
 pub struct Session {
-    kept: Kept,
+    kept: SessionKept,
 }
 
 impl Model for Session {
     ghost use Rattle.std.specs.Prelude.{◌≤◌};
-    ghost use Rattle.client.specs.declared.kept.Kept.{Kept};
+    ghost use Rattle.client.specs.declared.kept.SessionKept.{SessionKept};
 
-    ghost Value = { Kept };
+    ghost Value = { SessionKept };
 
     ghost view = { λ s. s.kept };
 
@@ -62,7 +62,7 @@ impl Session {
     {
         let home = home(topology, node);
         let schema = topology.schema().copied()?;
-        let kept = Kept {
+        let kept = SessionKept {
             alloc,
             node,
             home,
@@ -167,7 +167,7 @@ impl Session {
     /// Ends the session, and gives up its open operation.
     pub fn close(self) {
         let Session { kept } = self;
-        let Kept {
+        let SessionKept {
             alloc: _,
             node: _,
             home: _,

@@ -23,7 +23,7 @@ use Rattle.write_txn.specs.Stands.{StandsPart}
 use Rattle.write_txn.proofs.Finds.{found_txn}
 use Rattle.write_txn.proofs.CohortSteps.{cohort_applies}
 use Rattle.write_txn.proofs.Bodies.{is_part, commit_applies, commit_ignored}
-use Rattle.shard.specs.declared.kept.Kept.{Kept}
+use Rattle.shard.specs.declared.kept.ShardKept.{ShardKept}
 use Rattle.shard.specs.Kept.{Represents, IsStep}
 use Rattle.shard.specs.Effects.{IsAfter}
 use Rattle.shard.specs.Coming.{with_applied}
@@ -80,10 +80,10 @@ application_sends top me n a p commit stamp x es fs all x_is es_is fs_is all_is 
     (fs_is ∙ ap (λ (y : Applied). map (part_at me n (with_applied a y)) (freed y.part.writer.txn cause.Applied a.waiting)) x_is))
 
 -- what a call leaves by which a part is applied
-abbrev pub applied_kept : Kept → TransactionsValue → ℕ → List WaitingRead → Kept
+abbrev pub applied_kept : ShardKept → TransactionsValue → ℕ → List WaitingRead → ShardKept
 applied_kept k ts n waits = record k { clock = n; transactions = ts; waiting = waits }
 
-pub applies_so : (top : TopologyValue) (me n : ℕ) (t : TxnValue) (p : PreparedPart) (commit : ℕ) (stamp : StampValue) (k : Kept) (room ts : TransactionsValue) (waits : List WaitingRead) (a : ShardState) (before after : List Envelope)
+pub applies_so : (top : TopologyValue) (me n : ℕ) (t : TxnValue) (p : PreparedPart) (commit : ℕ) (stamp : StampValue) (k : ShardKept) (room ts : TransactionsValue) (waits : List WaitingRead) (a : ShardState) (before after : List Envelope)
     → Represents top me k a → state_of k.transactions.ledger t ≡ Some (Holds (in_open.Part p)) → AreApart (on_commit top me n a t commit stamp).state.applied
     → GoesOnKeeping k.transactions.store room.store → room.ledger ≡ k.transactions.ledger → room.early ≡ k.transactions.early
     → Becomes t (state_applied (state_of room.ledger t)) room.ledger ts.ledger → KeepsIf (part_in (state_of room.ledger t)) commit stamp room.store ts.store → ts.early ≡ room.early → waits ≡ still t cause.Applied k.waiting
@@ -155,7 +155,7 @@ has_room l m t rows same room p e = go (state_of l t) room (subst (λ (x : Ledge
     go (Some (IsDecided commit stamp)) h f = absurd (cc)
 
 -- without a prepared part a commit is ignored
-pub commit_passes : (top : TopologyValue) (me n : ℕ) (t : TxnValue) (commit : ℕ) (stamp : StampValue) (k : Kept) (a : ShardState) (before : List Envelope)
+pub commit_passes : (top : TopologyValue) (me n : ℕ) (t : TxnValue) (commit : ℕ) (stamp : StampValue) (k : ShardKept) (a : ShardState) (before : List Envelope)
     → Represents top me k a → is_some (part_in (state_of k.transactions.ledger t)) ≡ false
     → IsStep top me (on_commit top me n a t commit stamp) (record k { clock = n }) before before
 commit_passes top me n t commit stamp k a before r none = is_quiet top me n k a (on_commit top me n a t commit stamp) before r

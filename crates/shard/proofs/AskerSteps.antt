@@ -14,14 +14,14 @@ use Rattle.messages.specs.Replication.{remember_if, dep_check_for, on_dep_check}
 use Rattle.write_txn.specs.Ledger.{state_of, decided_in}
 use Rattle.write_txn.proofs.Finds.{own_txn, same_txn, filter_extended, adds, of_another}
 use Rattle.write_txn.proofs.Bodies.{decision_if}
-use Rattle.shard.specs.declared.kept.Kept.{Kept}
+use Rattle.shard.specs.declared.kept.ShardKept.{ShardKept}
 use Rattle.shard.specs.Kept.{Represents, IsStep}
 use Rattle.shard.proofs.Standing.{moves_on}
 
 -- ## Decided
 
 -- an asker for what is decided is answered
-pub answers_asker : (top : TopologyValue) (me n : ℕ) (k : Kept) (a : ShardState) (q : Asker) (commit : ℕ) (stamp : StampValue) (before after : List Envelope)
+pub answers_asker : (top : TopologyValue) (me n : ℕ) (k : ShardKept) (a : ShardState) (q : Asker) (commit : ℕ) (stamp : StampValue) (before after : List Envelope)
     → Represents top me k a → decided_in (state_of k.transactions.ledger q.dependency) ≡ Some (commit, stamp)
     → after ≡ before ++ envelope me q.from n (DepOk q.dependency q.waiter commit) ∷ []
     → IsStep top me (on_dep_check me n a q) (record k { clock = n }) before after
@@ -66,10 +66,10 @@ with_others ks q false t e =
     (adds (λ z. is_same_txn z.dependency q.dependency) ks q (own_txn q.dependency)))
 
 -- what is kept, with these askers, at this clock
-abbrev pub with_askers : Kept → AskersValue → ℕ → Kept
+abbrev pub with_askers : ShardKept → AskersValue → ℕ → ShardKept
 with_askers k es n = record k { clock = n; askers = es }
 
-keeps_askers : (k : Kept) (es : AskersValue) (a : ShardState) (q : Asker) (b : Bool) → is_asker a.askers q.dependency q.waiter q.from ≡ b → KeepsAskers k.askers a → decision_of q.dependency a ≡ None
+keeps_askers : (k : ShardKept) (es : AskersValue) (a : ShardState) (q : Asker) (b : Bool) → is_asker a.askers q.dependency q.waiter q.from ≡ b → KeepsAskers k.askers a → decision_of q.dependency a ≡ None
     → ((t : TxnValue) → askers_of es t ≡ (if is_same_txn q.dependency t then with_asker q (askers_of k.askers t) else askers_of k.askers t))
     → (t : TxnValue) → decision_of t a ≡ None → askers_of es t ≡ filter (λ z. is_same_txn z.dependency t) (with_this b a.askers q)
 keeps_askers k es a q b e keeps undecided is t none = by_cases (is_same_txn q.dependency t)
@@ -78,7 +78,7 @@ keeps_askers k es a q b e keeps undecided is t none = by_cases (is_same_txn q.de
     (λ no. is t ∙ (rw no (keeps t none ∙ with_others a.askers q b t no)))
 
 -- an asker for what isn't decided is remembered, once
-pub remembers_asker : (top : TopologyValue) (me n : ℕ) (k : Kept) (es : AskersValue) (a : ShardState) (q : Asker) (before : List Envelope)
+pub remembers_asker : (top : TopologyValue) (me n : ℕ) (k : ShardKept) (es : AskersValue) (a : ShardState) (q : Asker) (before : List Envelope)
     → Represents top me k a → decided_in (state_of k.transactions.ledger q.dependency) ≡ None
     → ((t : TxnValue) → askers_of es t ≡ (if is_same_txn q.dependency t then with_asker q (askers_of k.askers t) else askers_of k.askers t))
     → IsStep top me (on_dep_check me n a q) (with_askers k es n) before before

@@ -31,7 +31,7 @@ use Rattle.write_txn.proofs.Finds.{own_txn}
 use Rattle.write_txn.proofs.Leading.{MayDecide, decides}
 use Rattle.write_txn.proofs.Replicas.{ready_if_none}
 use Rattle.write_txn.proofs.Readying.{KeepsBallot, ready_decides, is_alone, led_by, state_alone, state_with_cohorts, readies_alone, readies_with_cohorts, readied_is_held, readies_later, waits_on}
-use Rattle.shard.specs.declared.kept.Kept.{Kept}
+use Rattle.shard.specs.declared.kept.ShardKept.{ShardKept}
 use Rattle.shard.specs.Kept.{Represents, IsStep}
 use Rattle.shard.specs.Effects.{IsAfter}
 use Rattle.shard.specs.Deciding.{told}
@@ -69,7 +69,7 @@ same_applied top me n a c r true e = go r.cohorts
 -- ## What is kept
 
 -- what comes to be known of the transaction, where nothing of it is applied
-under_way_after : (t : TxnValue) (s : State) (n : ℕ) (k : Kept) (room ts : TransactionsValue) (l : Kept)
+under_way_after : (t : TxnValue) (s : State) (n : ℕ) (k : ShardKept) (room ts : TransactionsValue) (l : ShardKept)
     → GoesOnKeeping k.transactions.store room.store → room.ledger ≡ k.transactions.ledger → room.early ≡ k.transactions.early
     → Becomes t (Some s) room.ledger ts.ledger → ts.store ≡ room.store → ts.early ≡ room.early → IsUnderWay t n (record k { transactions = ts }) l
     → IsAfter t s None n k.waiting k l
@@ -145,7 +145,7 @@ alone_at_once true (x ∷ xs) e f = absurd (cc)
 alone_at_once false cs e f = absurd (cc)
 
 -- a ballot that is completed may be settled
-pub may_settle : (t : TxnValue) (n : ℕ) (r : Remote) (k : Kept) (room : LedgerValue) (complete : Option CompleteValue) → (kept_ballot_of r).txn ≡ t
+pub may_settle : (t : TxnValue) (n : ℕ) (r : Remote) (k : ShardKept) (room : LedgerValue) (complete : Option CompleteValue) → (kept_ballot_of r).txn ≡ t
     → complete ≡ readied_by n (Some (Holds (in_open.Remote r))) → Becomes t (state_ready n (Some (Holds (in_open.Remote r)))) room k.transactions.ledger
     → (((missing_in r.ballot == 0) && (length r.ballot.notices.cohorts == 0)) ≡ true → in_store.HasRoom k.transactions.store.rows r.ballot.part.batch)
     → IfSome complete (λ c. MaySettle t n r.ballot.stamp k c)
@@ -170,7 +170,7 @@ may_settle t n r k room complete is completes becomes has_room = by_cases (missi
 -- ## The step
 
 -- the state of the step that makes a ballot ready, or goes on waiting
-readied_state : (top : TopologyValue) (me n : ℕ) (t : TxnValue) (r : Remote) (k : Kept) (room ts : TransactionsValue) (complete : Option CompleteValue) (l : Kept) (a c : ShardState)
+readied_state : (top : TopologyValue) (me n : ℕ) (t : TxnValue) (r : Remote) (k : ShardKept) (room ts : TransactionsValue) (complete : Option CompleteValue) (l : ShardKept) (a c : ShardState)
     → Represents top me k a → KeepsBallot top me t r a c → c.waiting ≡ a.waiting → AreApart (ready top me n c (kept_ballot_of r)).state.applied
     → GoesOnKeeping k.transactions.store room.store → room.ledger ≡ k.transactions.ledger → room.early ≡ k.transactions.early
     → Becomes t (state_ready n (Some (Holds (in_open.Remote r)))) room.ledger ts.ledger → ts.store ≡ room.store → ts.early ≡ room.early
@@ -227,7 +227,7 @@ readied_state top me n t r k room ts complete l a c represents keeps waiting apa
         moved top me n t (IsDecided n r.ballot.stamp) (Some applied) (still t cause.Applied k.waiting) k l a (decide top me n c (ballot_of kr)).state represents (decided_after e f) (decided_moves e) refl
         (ap (λ (u : TxnValue). still u cause.Applied c.waiting) keeps.is ∙ ap (λ (ws : List WaitingRead). still t cause.Applied ws) (waiting ∙ represents.waiting)) p)
 
-pub readies_so : (top : TopologyValue) (me n : ℕ) (t : TxnValue) (r : Remote) (k : Kept) (room ts : TransactionsValue) (complete : Option CompleteValue) (l : Kept) (a c : ShardState) (before after : List Envelope)
+pub readies_so : (top : TopologyValue) (me n : ℕ) (t : TxnValue) (r : Remote) (k : ShardKept) (room ts : TransactionsValue) (complete : Option CompleteValue) (l : ShardKept) (a c : ShardState) (before after : List Envelope)
     → Represents top me k a → KeepsBallot top me t r a c → c.waiting ≡ a.waiting → AreApart (ready top me n c (kept_ballot_of r)).state.applied
     → GoesOnKeeping k.transactions.store room.store → room.ledger ≡ k.transactions.ledger → room.early ≡ k.transactions.early
     → Becomes t (state_ready n (Some (Holds (in_open.Remote r)))) room.ledger ts.ledger → ts.store ≡ room.store → ts.early ≡ room.early

@@ -26,7 +26,7 @@ use Rattle.write_txn.specs.Stands.{IsUnknown}
 use Rattle.write_txn.specs.Moves.{Moves}
 use Rattle.write_txn.proofs.Leading.{holds}
 use Rattle.write_txn.proofs.Bodies.{begin_voted, begin_unvoted, early_nodes, unknown_decides, unknown_holds}
-use Rattle.shard.specs.declared.kept.Kept.{Kept}
+use Rattle.shard.specs.declared.kept.ShardKept.{ShardKept}
 use Rattle.shard.specs.declared.begun.Begun.{Begun}
 use Rattle.shard.specs.Kept.{Represents, IsStep}
 use Rattle.shard.specs.Effects.{IsWithout, IsAfter}
@@ -37,7 +37,7 @@ use Rattle.shard.proofs.InPlace.{with_both, after_forgetting, stands_so}
 use Rattle.shard.proofs.Decisions.{decides_so, settled_after}
 
 -- the ballot that is held of what a Begin says
-abbrev pub led_of : Kept → ℕ → Begun → VotesValue → Led
+abbrev pub led_of : ShardKept → ℕ → Begun → VotesValue → Led
 led_of k n b votes =
     record {
       ballot = record { own = record { part = record { writer = record { txn = b.txn; shard = k.place.shard }; batch = b.rows }; time = n }; votes = votes };
@@ -55,7 +55,7 @@ some_missing ns h = grind (arith, nat_tests)
 
 -- ## A ballot is held
 
-pub holds_begun : (top : TopologyValue) (me n : ℕ) (k : Kept) (held ts : TransactionsValue) (ns : VoterList) (a : ShardState) (b : Begun) (votes : VotesValue) (sent : List Envelope)
+pub holds_begun : (top : TopologyValue) (me n : ℕ) (k : ShardKept) (held ts : TransactionsValue) (ns : VoterList) (a : ShardState) (b : Begun) (votes : VotesValue) (sent : List Envelope)
     → Represents top me k a → AreApart (on_begin top me n a (ballot_of b)).state.applied → state_of k.transactions.ledger b.txn ≡ None
     → votes ≡ votes_after (near_nodes top me b.cohorts) (voters_of k.transactions.early b.txn) → 0 < length votes.missing
     → Becomes b.txn (Some (Holds (in_open.Led (led_of k n b votes)))) k.transactions.ledger held.ledger → held.store ≡ k.transactions.store → held.early ≡ k.transactions.early
@@ -99,7 +99,7 @@ holds_begun top me n k held ts ns a b votes sent r apart unknown votes_are missi
 none_missing : (ns : List ℕ) → ns ≡ [] → (length ns == 0) ≡ true
 none_missing ns e = ap (λ (xs : List ℕ). length xs == 0) e
 
-pub decides_begun : (top : TopologyValue) (me n : ℕ) (k noted l : Kept) (a : ShardState) (b : Begun) (votes : VotesValue) (own : CompleteValue) (before es after : List Envelope)
+pub decides_begun : (top : TopologyValue) (me n : ℕ) (k noted l : ShardKept) (a : ShardState) (b : Begun) (votes : VotesValue) (own : CompleteValue) (before es after : List Envelope)
     → Represents top me k a → AreApart (on_begin top me n a (ballot_of b)).state.applied → state_of k.transactions.ledger b.txn ≡ None
     → votes ≡ votes_after (near_nodes top me b.cohorts) (voters_of k.transactions.early b.txn) → votes.missing ≡ []
     → IsDecidedNow b.txn n (record { time = n; node = node_at k.place }) k noted
@@ -115,7 +115,7 @@ decides_begun top me n k noted l a b votes own before es after r apart unknown v
     (settled_after b.txn own.own n (record { time = n; node = me }) k noted.transactions l
     (subst (λ (m : ℕ). Becomes b.txn (Some (IsDecided n (record { time = n; node = m }))) k.transactions.ledger noted.transactions.ledger) at_me now.becomes) now.store now.early
     (subst (λ (m : ℕ). IsSettled b.txn own.own n (record { time = n; node = m }) (record k { transactions = noted.transactions }) l) at_me
-    (subst (λ (x : Kept). IsSettled b.txn own.own n (record { time = n; node = node_at k.place }) x l) now.rest settled)))
+    (subst (λ (x : ShardKept). IsSettled b.txn own.own n (record { time = n; node = node_at k.place }) x l) now.rest settled)))
     (ap (λ (x : CompleteValue). x.cohorts) own_is ∙ ap (λ (v : VotesValue). v.cohorts) votes_are) (es_are stands.unled.decision there)
     (sent ∙ ap (λ (m : ℕ). (before ++ map (commit_to me n b.txn n (record { time = n; node = m })) own.cohorts) ++ es) at_me))
   where

@@ -19,7 +19,7 @@ use Rattle.write_txn.specs.Voters.{VoterList, voters_of}
 use Rattle.write_txn.proofs.Finds.{found_ballot, same_txn}
 use Rattle.write_txn.proofs.Txns.{by_txn}
 use Rattle.write_txn.proofs.Unready.{unready_state, none_complete}
-use Rattle.shard.specs.declared.kept.Kept.{Kept}
+use Rattle.shard.specs.declared.kept.ShardKept.{ShardKept}
 use Rattle.shard.specs.Kept.{Represents, IsStep}
 use Rattle.shard.specs.Concluding.{IsUnderWay}
 use Rattle.shard.specs.Effects.{IsWithout}
@@ -41,10 +41,10 @@ without t es none u = by_cases (is_same_txn t u)
     (λ yes. subst (λ (v : TxnValue). voters_of es v ≡ []) (same_txn t u yes) none ∙ sym (ap (λ (b : Bool). if b then [] else voters_of es u) yes))
     (λ no. sym (ap (λ (b : Bool). if b then [] else voters_of es u) no))
 
-module _ (missing : Missing) (top : TopologyValue) (me n : ℕ) (t : TxnValue) (k : Kept) (ts : TransactionsValue) (a : ShardState) (before : List Envelope)
+module _ (missing : Missing) (top : TopologyValue) (me n : ℕ) (t : TxnValue) (k : ShardKept) (ts : TransactionsValue) (a : ShardState) (before : List Envelope)
     (r : Represents top me k a) (in_time : IsInTime missing (state_of k.transactions.ledger t)) (apart : AreApart (on_missing missing top me n a t).state.applied)
     (store : ts.store ≡ k.transactions.store) (early : ts.early ≡ k.transactions.early) where
-  abbrev counted : Kept
+  abbrev counted : ShardKept
   counted = record k { transactions = ts }
 
   -- where none waits, nothing is counted
@@ -103,7 +103,7 @@ module _ (missing : Missing) (top : TopologyValue) (me n : ℕ) (t : TxnValue) (
   by_state (Some (IsDecided commit stamp)) is more becomes = none_counted (Some (IsDecided commit stamp)) is refl refl becomes
 
 -- what isn't the last missing thing is counted, if a ballot waits for it, and nothing is sent
-pub counts_early : (missing : Missing) (top : TopologyValue) (me n : ℕ) (t : TxnValue) (k : Kept) (ts : TransactionsValue) (a : ShardState) (before : List Envelope)
+pub counts_early : (missing : Missing) (top : TopologyValue) (me n : ℕ) (t : TxnValue) (k : ShardKept) (ts : TransactionsValue) (a : ShardState) (before : List Envelope)
     → Represents top me k a → IsInTime missing (state_of k.transactions.ledger t) → AreApart (on_missing missing top me n a t).state.applied
     → ts.store ≡ k.transactions.store → ts.early ≡ k.transactions.early → lacks_nothing (state_with missing (state_of k.transactions.ledger t)) ≡ false
     → Becomes t (state_with missing (state_of k.transactions.ledger t)) k.transactions.ledger ts.ledger

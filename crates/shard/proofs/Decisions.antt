@@ -23,7 +23,7 @@ use Rattle.write_txn.specs.View.{near_nodes}
 use Rattle.write_txn.specs.Moves.{Moves}
 use Rattle.write_txn.proofs.Finds.{own_txn}
 use Rattle.write_txn.proofs.Leading.{MayDecide, decides}
-use Rattle.shard.specs.declared.kept.Kept.{Kept}
+use Rattle.shard.specs.declared.kept.ShardKept.{ShardKept}
 use Rattle.shard.specs.Kept.{Represents, IsStep}
 use Rattle.shard.specs.Effects.{IsAfter}
 use Rattle.shard.specs.Coming.{with_applied}
@@ -77,7 +77,7 @@ commits_are top me n t stamp (s ∷ ss) = ap (λ (es : List Envelope). envelope 
 
 -- ## What is kept
 
-pub settled_after : (t : TxnValue) (own : PreparedValue) (n : ℕ) (stamp : StampValue) (k : Kept) (ts : TransactionsValue) (l : Kept)
+pub settled_after : (t : TxnValue) (own : PreparedValue) (n : ℕ) (stamp : StampValue) (k : ShardKept) (ts : TransactionsValue) (l : ShardKept)
     → Becomes t (Some (IsDecided n stamp)) k.transactions.ledger ts.ledger → GoesOnKeeping k.transactions.store ts.store → ts.early ≡ k.transactions.early
     → IsSettled t own n stamp (record k { transactions = ts }) l
     → IsAfter t (IsDecided n stamp) (Some (record { part = own.part; commit = n; stamp = stamp })) n (still t cause.Applied k.waiting) k l
@@ -98,7 +98,7 @@ settled_after t own n stamp k ts l becomes stores early s = record {
 
 -- ## The step
 
-pub decides_so : (top : TopologyValue) (me n : ℕ) (k l : Kept) (a c : ShardState) (b : BegunBallot) (own : PreparedValue) (nodes : List ℕ) (before es after : List Envelope)
+pub decides_so : (top : TopologyValue) (me n : ℕ) (k l : ShardKept) (a c : ShardState) (b : BegunBallot) (own : PreparedValue) (nodes : List ℕ) (before es after : List Envelope)
     → Represents top me k a → MayDecide top me b.txn a c → c.waiting ≡ a.waiting → AreApart (decide top me n c b).state.applied
     → own.part ≡ record { writer = record { txn = b.txn; shard = shard_of top me }; batch = b.rows }
     → IsAfter b.txn (IsDecided n (stamp_for me n b.stamp)) (Some (record { part = own.part; commit = n; stamp = stamp_for me n b.stamp })) n (still b.txn cause.Applied k.waiting) k l

@@ -22,13 +22,13 @@ use Rattle.write_txn.proofs.Views.{view_of_others}
 use Rattle.write_txn.proofs.Leading.{same_about}
 use Rattle.write_txn.proofs.Bodies.{yes_early}
 use Rattle.write_txn.proofs.Answering.{notice_early}
-use Rattle.shard.specs.declared.kept.Kept.{Kept}
+use Rattle.shard.specs.declared.kept.ShardKept.{ShardKept}
 use Rattle.shard.specs.Kept.{Represents, IsStep}
 use Rattle.shard.specs.Effects.{OthersHaveSameVoters}
 use Rattle.shard.proofs.InPlace.{stands_so}
 
 -- what is kept, with these transactions and these notices, at this clock
-abbrev with_voters : Kept → ℕ → TransactionsValue → VoterList → Kept
+abbrev with_voters : ShardKept → ℕ → TransactionsValue → VoterList → ShardKept
 with_voters k n ts ns = record k { clock = n; transactions = ts; notices = ns }
 
 -- a state with these early votes and these notices, at this clock
@@ -36,7 +36,7 @@ abbrev with_lists : ShardState → ℕ → List Vote → List Vote → ShardStat
 with_lists a n es os = record a { clock = n; early = es; notices = os }
 
 -- nothing but early votes and notices of an unknown transaction changes
-stays_unknown : (top : TopologyValue) (me n : ℕ) (t : TxnValue) (k : Kept) (ts : TransactionsValue) (ns : VoterList) (a : ShardState) (es os : List Vote)
+stays_unknown : (top : TopologyValue) (me n : ℕ) (t : TxnValue) (k : ShardKept) (ts : TransactionsValue) (ns : VoterList) (a : ShardState) (es os : List Vote)
     → Represents top me k a → state_of k.transactions.ledger t ≡ None → ts.ledger ≡ k.transactions.ledger → ts.store ≡ k.transactions.store → IsAbout t a (with_lists a n es os)
     → voters_of ts.early t ≡ nodes_for es t → OthersHaveSameVoters t k.transactions.early ts.early
     → voters_of ns t ≡ nodes_for os t → OthersHaveSameVoters t k.notices ns
@@ -137,7 +137,7 @@ extended_by true vs t node = stays (λ v. is_same_txn v.txn t) vs
 extended_by false vs t node = adds (λ v. is_same_txn v.txn t) vs (record { txn = t; node = node }) (own_txn t)
 
 -- an early vote is kept, once
-pub notes_vote : (top : TopologyValue) (me n : ℕ) (k : Kept) (ts : TransactionsValue) (a : ShardState) (t : TxnValue) (node : ℕ) (sent : List Envelope)
+pub notes_vote : (top : TopologyValue) (me n : ℕ) (k : ShardKept) (ts : TransactionsValue) (a : ShardState) (t : TxnValue) (node : ℕ) (sent : List Envelope)
     → Represents top me k a → state_of k.transactions.ledger t ≡ None → AreWith t node k.transactions.early ts.early → ts.ledger ≡ k.transactions.ledger → ts.store ≡ k.transactions.store
     → IsStep top me (on_yes top me n a node t) (with_voters k n ts k.notices) sent sent
 notes_vote top me n k ts a t node sent r unknown is ledger store =
@@ -155,7 +155,7 @@ notes_vote top me n k ts a t node sent r unknown is ledger store =
     go false e = record { state = state false e; sends = sym (append-nil sent) }
 
 -- an early notice is kept, once
-pub notes_notice : (top : TopologyValue) (me n : ℕ) (k : Kept) (ns : VoterList) (a : ShardState) (t : TxnValue) (node : ℕ) (sent : List Envelope)
+pub notes_notice : (top : TopologyValue) (me n : ℕ) (k : ShardKept) (ns : VoterList) (a : ShardState) (t : TxnValue) (node : ℕ) (sent : List Envelope)
     → Represents top me k a → state_of k.transactions.ledger t ≡ None → AreWith t node k.notices ns
     → IsStep top me (on_notify top me n a node t) (with_voters k n k.transactions ns) sent sent
 notes_notice top me n k ns a t node sent r unknown is =

@@ -13,17 +13,17 @@ use Rattle.write_txn.specs.Moves.{Moves}
 use Rattle.write_txn.specs.Voters.{VoterList, voters_of}
 use Rattle.write_txn.specs.Transactions.{TransactionsValue}
 use Rattle.write_txn.proofs.Finds.{own_txn}
-use Rattle.shard.specs.declared.kept.Kept.{Kept}
+use Rattle.shard.specs.declared.kept.ShardKept.{ShardKept}
 use Rattle.shard.specs.Kept.{Represents, IsStep, GoesOn}
 use Rattle.shard.specs.Effects.{IsWithout, IsAfter}
 use Rattle.shard.proofs.Standing.{spared, moved}
 
 -- what is kept with these transactions, at this clock
-abbrev pub with_transactions : Kept → TransactionsValue → ℕ → Kept
+abbrev pub with_transactions : ShardKept → TransactionsValue → ℕ → ShardKept
 with_transactions k ts n = record k { clock = n; transactions = ts }
 
 -- a transaction that is known comes to stand so
-pub after_in_place : (t : TxnValue) (s : State) (n : ℕ) (k : Kept) (ts : TransactionsValue) → is_some (state_of k.transactions.ledger t) ≡ true → Becomes t (Some s) k.transactions.ledger ts.ledger → ts.store ≡ k.transactions.store → ts.early ≡ k.transactions.early
+pub after_in_place : (t : TxnValue) (s : State) (n : ℕ) (k : ShardKept) (ts : TransactionsValue) → is_some (state_of k.transactions.ledger t) ≡ true → Becomes t (Some s) k.transactions.ledger ts.ledger → ts.store ≡ k.transactions.store → ts.early ≡ k.transactions.early
     → IsAfter t s None n k.waiting k (with_transactions k ts n)
 after_in_place t s n k ts known becomes store early = record {
   place = refl;
@@ -41,11 +41,11 @@ after_in_place t s n k ts known becomes store early = record {
 }
 
 -- what is kept with these transactions and these notices, at this clock
-abbrev pub with_both : Kept → TransactionsValue → VoterList → ℕ → Kept
+abbrev pub with_both : ShardKept → TransactionsValue → VoterList → ℕ → ShardKept
 with_both k ts ns n = record k { clock = n; transactions = ts; notices = ns }
 
 -- a transaction comes to stand so, and what came early of it is forgotten
-pub after_forgetting : (t : TxnValue) (s : State) (n : ℕ) (k : Kept) (held ts : TransactionsValue) (ns : VoterList)
+pub after_forgetting : (t : TxnValue) (s : State) (n : ℕ) (k : ShardKept) (held ts : TransactionsValue) (ns : VoterList)
     → Becomes t (Some s) k.transactions.ledger held.ledger → held.store ≡ k.transactions.store → held.early ≡ k.transactions.early
     → ts.ledger ≡ held.ledger → ts.store ≡ held.store → IsWithout t held.early ts.early → IsWithout t k.notices ns
     → IsAfter t s None n k.waiting k (with_both k ts ns n)
@@ -65,7 +65,7 @@ after_forgetting t s n k held ts ns becomes store early same_ledger same_store f
 }
 
 -- the step of a transaction that comes to stand so in place
-pub moves_so : (top : TopologyValue) (me n : ℕ) (t : TxnValue) (s : State) (k : Kept) (ts : TransactionsValue) (a b : ShardState)
+pub moves_so : (top : TopologyValue) (me n : ℕ) (t : TxnValue) (s : State) (k : ShardKept) (ts : TransactionsValue) (a b : ShardState)
     → Represents top me k a → is_some (state_of k.transactions.ledger t) ≡ true → Becomes t (Some s) k.transactions.ledger ts.ledger → ts.store ≡ k.transactions.store → ts.early ≡ k.transactions.early
     → Moves top me t (Some s) [] a b → b.clock ≡ n → b.waiting ≡ a.waiting → AreApart b.applied
     → Represents top me (with_transactions k ts n) b
@@ -73,7 +73,7 @@ moves_so top me n t s k ts a b r known becomes store early m clock waiting apart
     moved top me n t s None k.waiting k (with_transactions k ts n) a b r (after_in_place t s n k ts known becomes store early) m clock (waiting ∙ r.waiting) apart
 
 -- where the transactions stay, all goes on
-pub goes_on : (k : Kept) (ts : TransactionsValue) → HaveSameStates k.transactions.ledger ts.ledger → ts.store ≡ k.transactions.store → ts.early ≡ k.transactions.early
+pub goes_on : (k : ShardKept) (ts : TransactionsValue) → HaveSameStates k.transactions.ledger ts.ledger → ts.store ≡ k.transactions.store → ts.early ≡ k.transactions.early
     → GoesOn k (record k { transactions = ts })
 goes_on k ts states store early = spared k (record k { transactions = ts }) (record {
   place = refl;
@@ -88,7 +88,7 @@ goes_on k ts states store early = spared k (record k { transactions = ts }) (rec
 })
 
 -- the step of a call by which a transaction comes to stand so in place
-pub step_in_place : (top : TopologyValue) (me n : ℕ) (t : TxnValue) (s : State) (k : Kept) (ts : TransactionsValue) (a : ShardState) (step : ShardStep) (before after : List Envelope)
+pub step_in_place : (top : TopologyValue) (me n : ℕ) (t : TxnValue) (s : State) (k : ShardKept) (ts : TransactionsValue) (a : ShardState) (step : ShardStep) (before after : List Envelope)
     → Represents top me k a → is_some (state_of k.transactions.ledger t) ≡ true → Becomes t (Some s) k.transactions.ledger ts.ledger → ts.store ≡ k.transactions.store → ts.early ≡ k.transactions.early
     → Moves top me t (Some s) [] a step.state → step.state.clock ≡ n → step.state.waiting ≡ a.waiting → AreApart step.state.applied → after ≡ before ++ step.sends
     → IsStep top me step (with_transactions k ts n) before after
@@ -96,7 +96,7 @@ step_in_place top me n t s k ts a step before after r known becomes store early 
     record { state = moves_so top me n t s k ts a step.state r known becomes store early m clock waiting apart; sends = sends }
 
 -- the step of a call by which a transaction comes to stand so, and what came early of it is forgotten
-pub step_forgetting : (top : TopologyValue) (me n : ℕ) (t : TxnValue) (s : State) (k : Kept) (held ts : TransactionsValue) (ns : VoterList) (a : ShardState) (step : ShardStep) (before after : List Envelope)
+pub step_forgetting : (top : TopologyValue) (me n : ℕ) (t : TxnValue) (s : State) (k : ShardKept) (held ts : TransactionsValue) (ns : VoterList) (a : ShardState) (step : ShardStep) (before after : List Envelope)
     → Represents top me k a → Becomes t (Some s) k.transactions.ledger held.ledger → held.store ≡ k.transactions.store → held.early ≡ k.transactions.early
     → ts.ledger ≡ held.ledger → ts.store ≡ held.store → IsWithout t held.early ts.early → IsWithout t k.notices ns
     → Moves top me t (Some s) [] a step.state → step.state.clock ≡ n → step.state.waiting ≡ a.waiting → AreApart step.state.applied → after ≡ before ++ step.sends
@@ -107,7 +107,7 @@ step_forgetting top me n t s k held ts ns a step before after r becomes store ea
 }
 
 -- how a transaction stands whose state is this
-pub stands_so : (top : TopologyValue) (me : ℕ) (k : Kept) (a : ShardState) (t : TxnValue) (o : Option State) → Represents top me k a → state_of k.transactions.ledger t ≡ o → Stands top me t (view_of t a) o
+pub stands_so : (top : TopologyValue) (me : ℕ) (k : ShardKept) (a : ShardState) (t : TxnValue) (o : Option State) → Represents top me k a → state_of k.transactions.ledger t ≡ o → Stands top me t (view_of t a) o
 stands_so top me k a t o r e = subst (Stands top me t (view_of t a)) e (r.stands t)
 
 -- what follows from what a success gives

@@ -25,7 +25,7 @@ use Rattle.write_txn.specs.Moves.{Moves}
 use Rattle.write_txn.proofs.Finds.{own_txn, same_txn, found_txn}
 use Rattle.write_txn.proofs.Leading.{counts}
 use Rattle.write_txn.proofs.Bodies.{yes_decides, yes_ignored, voted_decides, is_led}
-use Rattle.shard.specs.declared.kept.Kept.{Kept}
+use Rattle.shard.specs.declared.kept.ShardKept.{ShardKept}
 use Rattle.shard.specs.Kept.{Represents, IsStep}
 use Rattle.shard.specs.Deciding.{node_at, told, IsSettled}
 use Rattle.shard.proofs.Standing.{is_quiet}
@@ -70,7 +70,7 @@ pub decided_so : (t : TxnValue) (n : ℕ) (stamp : StampValue) (l m : LedgerValu
 decided_so t n stamp l m becomes = ap decided_in (becomes t ∙ ap (λ (b : Bool). if b then Some (IsDecided n stamp) else state_of l t) (own_txn t))
 
 -- the step of the last vote, where the transaction is named by its ballot
-core : (top : TopologyValue) (me n node : ℕ) (k : Kept) (ts : TransactionsValue) (l : Kept) (a : ShardState) (led : Led) (before es after : List Envelope)
+core : (top : TopologyValue) (me n node : ℕ) (k : ShardKept) (ts : TransactionsValue) (l : ShardKept) (a : ShardState) (led : Led) (before es after : List Envelope)
     → Represents top me k a → state_of k.transactions.ledger (begun_of led).txn ≡ Some (Holds (in_open.Led led)) → are_all_there (counted led.ballot.votes node) ≡ true
     → AreApart (on_yes top me n a node (begun_of led).txn).state.applied
     → Becomes (begun_of led).txn (Some (IsDecided n (stamp_for me n led.stamp))) k.transactions.ledger ts.ledger → GoesOnKeeping k.transactions.store ts.store → ts.early ≡ k.transactions.early
@@ -96,7 +96,7 @@ core top me n node k ts l a led before es after r held all apart becomes stores 
     there : AreApart (decide top me n (with_vote a t node) (begun_of led)).state.applied
     there = subst (λ (s : ShardStep). AreApart s.state.applied) step_is apart
 
-pub last_vote_so : (top : TopologyValue) (me n node : ℕ) (t : TxnValue) (k : Kept) (ts : TransactionsValue) (l : Kept) (a : ShardState) (led : Led) (before es after : List Envelope)
+pub last_vote_so : (top : TopologyValue) (me n node : ℕ) (t : TxnValue) (k : ShardKept) (ts : TransactionsValue) (l : ShardKept) (a : ShardState) (led : Led) (before es after : List Envelope)
     → Represents top me k a → state_of k.transactions.ledger t ≡ Some (Holds (in_open.Led led)) → are_all_there (counted led.ballot.votes node) ≡ true
     → AreApart (on_yes top me n a node t).state.applied
     → Becomes t (Some (IsDecided n (stamp_for me n led.stamp))) k.transactions.ledger ts.ledger → GoesOnKeeping k.transactions.store ts.store → ts.early ≡ k.transactions.early
@@ -129,7 +129,7 @@ room_for_own l m t node own rows kept_rows last same is stays room =
     (subst (λ rs. in_store.HasRoom rs w.0.ballot.own.part.batch) (sym stays) (room (in_open.Led w.0) (ap open_in w.1)))
 
 -- the whole step of the last vote, by what the calls did
-pub decides_by_vote : (top : TopologyValue) (me n node here : ℕ) (t : TxnValue) (k : Kept) (room ts : TransactionsValue) (l : Kept) (a : ShardState) (own : CompleteValue) (stamp : StampValue) (before es after : List Envelope)
+pub decides_by_vote : (top : TopologyValue) (me n node here : ℕ) (t : TxnValue) (k : ShardKept) (room ts : TransactionsValue) (l : ShardKept) (a : ShardState) (own : CompleteValue) (stamp : StampValue) (before es after : List Envelope)
     → Represents top me k a → AreApart (on_yes top me n a node t).state.applied → is_some (completed_by node (state_of k.transactions.ledger t)) ≡ true
     → room.ledger ≡ k.transactions.ledger → GoesOnKeeping k.transactions.store room.store → room.early ≡ k.transactions.early
     → here ≡ node_at k.place → Becomes t (state_voted here n node (state_of room.ledger t)) room.ledger ts.ledger → ts.store ≡ room.store → ts.early ≡ room.early
@@ -187,13 +187,13 @@ same_states t s l m is becomes u = by_cases (is_same_txn t u)
     (λ other. becomes u ∙ ap (λ (b : Bool). if b then Some s else state_of l u) other)
 
 -- what is ignored changes nothing but the clock
-passes : (top : TopologyValue) (me n : ℕ) (t : TxnValue) (s : State) (k : Kept) (ts : TransactionsValue) (a : ShardState) (step : ShardStep) (sent : List Envelope)
+passes : (top : TopologyValue) (me n : ℕ) (t : TxnValue) (s : State) (k : ShardKept) (ts : TransactionsValue) (a : ShardState) (step : ShardStep) (sent : List Envelope)
     → Represents top me k a → state_of k.transactions.ledger t ≡ Some s → Becomes t (Some s) k.transactions.ledger ts.ledger → ts.store ≡ k.transactions.store → ts.early ≡ k.transactions.early
     → step ≡ quiet n a → IsStep top me step (with_transactions k ts n) sent sent
 passes top me n t s k ts a step sent r is becomes stays early e =
     is_quiet top me n (record k { transactions = ts }) a step sent (goes_on k ts (same_states t s k.transactions.ledger ts.ledger is becomes) stays early top me a r) e
 
-pub counts_so : (top : TopologyValue) (me n node here : ℕ) (t : TxnValue) (k : Kept) (ts : TransactionsValue) (a : ShardState) (sent : List Envelope)
+pub counts_so : (top : TopologyValue) (me n node here : ℕ) (t : TxnValue) (k : ShardKept) (ts : TransactionsValue) (a : ShardState) (sent : List Envelope)
     → Represents top me k a → AreApart (on_yes top me n a node t).state.applied → is_some (state_of k.transactions.ledger t) ≡ true → is_some (completed_by node (state_of k.transactions.ledger t)) ≡ false
     → Becomes t (state_voted here n node (state_of k.transactions.ledger t)) k.transactions.ledger ts.ledger → ts.store ≡ k.transactions.store → ts.early ≡ k.transactions.early
     → IsStep top me (on_yes top me n a node t) (with_transactions k ts n) sent sent

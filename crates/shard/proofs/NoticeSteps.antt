@@ -27,7 +27,7 @@ use Rattle.write_txn.specs.Stands.{IsWaiting, StandsRemote, kept_ballot_of}
 use Rattle.write_txn.specs.View.{view_of}
 use Rattle.write_txn.proofs.Readying.{KeepsBallot, notice_counts}
 use Rattle.write_txn.proofs.Answering.{is_remote, notice_ignored, answer_ignored, answer_counts}
-use Rattle.shard.specs.declared.kept.Kept.{Kept}
+use Rattle.shard.specs.declared.kept.ShardKept.{ShardKept}
 use Rattle.shard.specs.Kept.{Represents, IsStep}
 use Rattle.shard.specs.Deciding.{told}
 use Rattle.shard.specs.Concluding.{MaySettle, IsConcluded}
@@ -76,7 +76,7 @@ alone_sent f cohorts before es after none sent =
 -- ## One more notice or answer
 
 -- what a ballot completes that has one more may be settled
-pub counted_settles : (t : TxnValue) (n m : ℕ) (r : Remote) (k : Kept) (room : LedgerValue) (s : Option State) (stamp : StampValue) (complete : Option CompleteValue)
+pub counted_settles : (t : TxnValue) (n m : ℕ) (r : Remote) (k : ShardKept) (room : LedgerValue) (s : Option State) (stamp : StampValue) (complete : Option CompleteValue)
     → (kept_ballot_of r).txn ≡ t → m ≡ n → s ≡ Some (Holds (in_open.Remote r)) → stamp ≡ r.ballot.stamp
     → complete ≡ readied_by m s → Becomes t (state_ready m s) room k.transactions.ledger → (((missing_in r.ballot == 0) && (length r.ballot.notices.cohorts == 0)) ≡ true → HasRoom k.transactions.store.rows r.ballot.part.batch)
     → IfSome complete (λ c. MaySettle t n stamp k c)
@@ -87,7 +87,7 @@ counted_settles t n m r k room s stamp complete own same_time is same_stamp comp
     (subst (λ (o : Option State). Becomes t (state_ready m o) room k.transactions.ledger) is becomes)) has_room)
 
 -- the step of a ballot that has one more
-pub counts_so : (top : TopologyValue) (me n m : ℕ) (t : TxnValue) (r : Remote) (k : Kept) (room ts : TransactionsValue) (s : Option State) (stamp : StampValue) (b : Bool) (complete : Option CompleteValue) (l : Kept) (a c : ShardState) (step : ShardStep) (before after : List Envelope)
+pub counts_so : (top : TopologyValue) (me n m : ℕ) (t : TxnValue) (r : Remote) (k : ShardKept) (room ts : TransactionsValue) (s : Option State) (stamp : StampValue) (b : Bool) (complete : Option CompleteValue) (l : ShardKept) (a c : ShardState) (step : ShardStep) (before after : List Envelope)
     → step ≡ ready top me n c (kept_ballot_of r) → m ≡ n → s ≡ Some (Holds (in_open.Remote r)) → stamp ≡ r.ballot.stamp → b ≡ (missing_in r.ballot == 0)
     → Represents top me k a → KeepsBallot top me t r a c → c.waiting ≡ a.waiting → AreApart step.state.applied
     → GoesOnKeeping k.transactions.store room.store → room.ledger ≡ k.transactions.ledger → room.early ≡ k.transactions.early
@@ -115,14 +115,14 @@ missing_counts (in_missing.Notice node) top me n a t r own h waits = notice_coun
 missing_counts (in_missing.Answer dependency) top me n a t r own h waits = answer_counts top me n a t dependency r own h waits
 
 -- what it completes may be settled
-pub missing_settles : (missing : Missing) (t : TxnValue) (n m : ℕ) (r : Remote) (k : Kept) (room : LedgerValue) (s : Option State) (stamp : StampValue) (complete : Option CompleteValue)
+pub missing_settles : (missing : Missing) (t : TxnValue) (n m : ℕ) (r : Remote) (k : ShardKept) (room : LedgerValue) (s : Option State) (stamp : StampValue) (complete : Option CompleteValue)
     → (kept_ballot_of r).txn ≡ t → m ≡ n → s ≡ state_with missing (Some (Holds (in_open.Remote r))) → stamp ≡ r.ballot.stamp
     → complete ≡ readied_by m s → Becomes t (state_ready m s) room k.transactions.ledger → (((missing_in (remote_with r missing).ballot == 0) && (length r.ballot.notices.cohorts == 0)) ≡ true → HasRoom k.transactions.store.rows r.ballot.part.batch)
     → IfSome complete (λ c. MaySettle t n stamp k c)
 missing_settles (in_missing.Notice node) t n m r = counted_settles t n m (remote_with r (in_missing.Notice node))
 missing_settles (in_missing.Answer dependency) t n m r = counted_settles t n m (remote_with r (in_missing.Answer dependency))
 
-pub missing_so : (missing : Missing) (top : TopologyValue) (me n m : ℕ) (t : TxnValue) (r : Remote) (k : Kept) (room ts : TransactionsValue) (stamp : StampValue) (b : Bool) (complete : Option CompleteValue) (l : Kept) (a : ShardState) (before es after : List Envelope)
+pub missing_so : (missing : Missing) (top : TopologyValue) (me n m : ℕ) (t : TxnValue) (r : Remote) (k : ShardKept) (room ts : TransactionsValue) (stamp : StampValue) (b : Bool) (complete : Option CompleteValue) (l : ShardKept) (a : ShardState) (before es after : List Envelope)
     → m ≡ n → (kept_ballot_of r).txn ≡ t → open_in (state_of k.transactions.ledger t) ≡ Some (in_open.Remote r) → stamp ≡ r.ballot.stamp → b ≡ (missing_in (remote_with r missing).ballot == 0)
     → Represents top me k a → AreApart (on_missing missing top me n a t).state.applied
     → GoesOnKeeping k.transactions.store room.store → room.ledger ≡ k.transactions.ledger → room.early ≡ k.transactions.early
@@ -161,7 +161,7 @@ none_waits (Some IsApplied) e = refl
 none_waits (Some (IsDecided commit stamp)) e = refl
 
 -- where the transaction is known and none waits, the clock alone moves
-pub notice_passes : (top : TopologyValue) (me n : ℕ) (k : Kept) (a : ShardState) (t : TxnValue) (node : ℕ) (before : List Envelope)
+pub notice_passes : (top : TopologyValue) (me n : ℕ) (k : ShardKept) (a : ShardState) (t : TxnValue) (node : ℕ) (before : List Envelope)
     → Represents top me k a → is_some (state_of k.transactions.ledger t) ≡ true → is_remote_open (open_in (state_of k.transactions.ledger t)) ≡ false
     → IsStep top me (on_notify top me n a node t) (record k { clock = n }) before before
 notice_passes top me n k a t node before r known e = go (state_of k.transactions.ledger t) refl known (none_waits (state_of k.transactions.ledger t) e)
@@ -171,13 +171,13 @@ notice_passes top me n k a t node before r known e = go (state_of k.transactions
     go (Some s) f g h = is_quiet top me n k a (on_notify top me n a node t) before r (notice_ignored top me n a t node s (stands_so top me k a t (Some s) r f) h)
 
 -- where none waits, the clock alone moves
-pub answer_passes : (top : TopologyValue) (me n : ℕ) (k : Kept) (a : ShardState) (t d : TxnValue) (before : List Envelope)
+pub answer_passes : (top : TopologyValue) (me n : ℕ) (k : ShardKept) (a : ShardState) (t d : TxnValue) (before : List Envelope)
     → Represents top me k a → is_remote_open (open_in (state_of k.transactions.ledger t)) ≡ false
     → IsStep top me (on_dep_ok top me n a d t) (record k { clock = n }) before before
 answer_passes top me n k a t d before r e =
     is_quiet top me n k a (on_dep_ok top me n a d t) before r (answer_ignored top me n a t d (state_of k.transactions.ledger t) (r.stands t) (none_waits (state_of k.transactions.ledger t) e))
 
-pub missing_passes : (missing : Missing) (top : TopologyValue) (me n : ℕ) (k : Kept) (a : ShardState) (t : TxnValue) (before : List Envelope)
+pub missing_passes : (missing : Missing) (top : TopologyValue) (me n : ℕ) (k : ShardKept) (a : ShardState) (t : TxnValue) (before : List Envelope)
     → Represents top me k a → IsInTime missing (state_of k.transactions.ledger t) → is_remote_open (open_in (state_of k.transactions.ledger t)) ≡ false
     → IsStep top me (on_missing missing top me n a t) (record k { clock = n }) before before
 missing_passes (in_missing.Notice node) top me n k a t before r known e = notice_passes top me n k a t node before r known e

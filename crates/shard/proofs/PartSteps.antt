@@ -11,7 +11,7 @@ use Rattle.messages.specs.Shard.{ShardState, ShardStep, Cohort, Replica}
 use Rattle.messages.specs.Commits.{on_prepare, prepare_part}
 use Rattle.messages.specs.Reads.{answer}
 use Rattle.messages.specs.Replication.{repl_part_if, on_repl_part, on_prepare_remote}
-use Rattle.write_txn.specs.declared.open.Kept as in_write
+use Rattle.write_txn.specs.declared.open.ReplicatedPart as in_write
 use Rattle.write_txn.specs.declared.open.Open.{Open}
 use Rattle.write_txn.specs.declared.open.Open.TheVariants as in_open
 use Rattle.write_txn.specs.Ledger.{State, Holds, IsApplied, IsDecided, state_of, Becomes, open_in, state_prepared, replica_of}
@@ -21,14 +21,14 @@ use Rattle.write_txn.specs.Voters.{VoterList}
 use Rattle.write_txn.proofs.CohortSteps.{known_if, cohort_prepares}
 use Rattle.write_txn.proofs.Bodies.{prepare_unknown}
 use Rattle.write_txn.proofs.Replicas.{repl_part_unknown, part_is_kept, prepare_remote_kept, kept_is_prepared, is_kept, prepare_remote_ignored}
-use Rattle.shard.specs.declared.kept.Kept.{Kept}
+use Rattle.shard.specs.declared.kept.ShardKept.{ShardKept}
 use Rattle.shard.specs.Kept.{Represents, IsStep}
 use Rattle.shard.specs.Effects.{IsWithout}
 use Rattle.shard.proofs.Standing.{is_quiet}
 use Rattle.shard.proofs.InPlace.{with_transactions, with_both, step_in_place, step_forgetting, stands_so}
 
 -- a part of an unknown transaction is prepared
-pub prepares : (top : TopologyValue) (me n : ℕ) (k : Kept) (held ts : TransactionsValue) (ns : VoterList) (a : ShardState) (p : WritePart) (before after : List Envelope)
+pub prepares : (top : TopologyValue) (me n : ℕ) (k : ShardKept) (held ts : TransactionsValue) (ns : VoterList) (a : ShardState) (p : WritePart) (before after : List Envelope)
     → Represents top me k a → AreApart (on_prepare top me n a p.writer.txn p.batch p.writer.shard).state.applied
     → state_of k.transactions.ledger p.writer.txn ≡ None
     → Becomes p.writer.txn (Some (Holds (in_open.Part (cohorts_part p n)))) k.transactions.ledger held.ledger → held.store ≡ k.transactions.store → held.early ≡ k.transactions.early
@@ -46,7 +46,7 @@ prepares top me n k held ts ns a p before after r apart unknown becomes store ea
 -- ## Parts of other data centres' writes
 
 -- a part of an unknown transaction is kept
-pub keeps_part : (top : TopologyValue) (me n : ℕ) (k : Kept) (held ts : TransactionsValue) (ns : VoterList) (a : ShardState) (h : in_write.Kept) (before after : List Envelope)
+pub keeps_part : (top : TopologyValue) (me n : ℕ) (k : ShardKept) (held ts : TransactionsValue) (ns : VoterList) (a : ShardState) (h : in_write.ReplicatedPart) (before after : List Envelope)
     → Represents top me k a → AreApart (on_repl_part top me n a (kept_part_of h)).state.applied
     → state_of k.transactions.ledger h.part.writer.txn ≡ None
     → Becomes h.part.writer.txn (Some (Holds (in_open.Kept h))) k.transactions.ledger held.ledger → held.store ≡ k.transactions.store → held.early ≡ k.transactions.early
@@ -62,7 +62,7 @@ keeps_part top me n k held ts ns a h before after r apart unknown becomes store 
     before after r becomes store early same_ledger same_store forgotten notices (part_is_kept top me n a h u) refl refl (subst (λ (s : ShardStep). AreApart s.state.applied) is apart) sends)
 
 -- one of a known transaction is dropped
-pub drops_part : (top : TopologyValue) (me n : ℕ) (k : Kept) (a : ShardState) (h : in_write.Kept) (before : List Envelope)
+pub drops_part : (top : TopologyValue) (me n : ℕ) (k : ShardKept) (a : ShardState) (h : in_write.ReplicatedPart) (before : List Envelope)
     → Represents top me k a → is_some (state_of k.transactions.ledger h.part.writer.txn) ≡ true
     → IsStep top me (on_repl_part top me n a (kept_part_of h)) (record k { clock = n }) before before
 drops_part top me n k a h before r known =
@@ -76,7 +76,7 @@ known_open (Some (Holds held)) o e = let same : held ≡ o = cc in ap (λ (x : O
 known_open (Some IsApplied) o e = absurd (cc)
 known_open (Some (IsDecided commit stamp)) o e = absurd (cc)
 
-replica_prepares : (top : TopologyValue) (me n : ℕ) (k : Kept) (ts : TransactionsValue) (a : ShardState) (h : in_write.Kept) (before after : List Envelope)
+replica_prepares : (top : TopologyValue) (me n : ℕ) (k : ShardKept) (ts : TransactionsValue) (a : ShardState) (h : in_write.ReplicatedPart) (before after : List Envelope)
     → Represents top me k a → AreApart (on_prepare_remote top me n a h.part.writer.txn).state.applied
     → open_in (state_of k.transactions.ledger h.part.writer.txn) ≡ Some (in_open.Kept h)
     → Becomes h.part.writer.txn (state_prepared n (state_of k.transactions.ledger h.part.writer.txn)) k.transactions.ledger ts.ledger → ts.store ≡ k.transactions.store → ts.early ≡ k.transactions.early
@@ -92,7 +92,7 @@ replica_prepares top me n k ts a h before after r apart held becomes store early
     (kept_is_prepared top me n a h u) refl refl (subst (λ (s : ShardStep). AreApart s.state.applied) is apart) sends)
 
 -- a part that is kept is prepared
-pub prepares_kept : (top : TopologyValue) (me n : ℕ) (k : Kept) (ts : TransactionsValue) (a : ShardState) (t : TxnValue) (h : in_write.Kept) (before after : List Envelope)
+pub prepares_kept : (top : TopologyValue) (me n : ℕ) (k : ShardKept) (ts : TransactionsValue) (a : ShardState) (t : TxnValue) (h : in_write.ReplicatedPart) (before after : List Envelope)
     → Represents top me k a → h.part.writer.txn ≡ t → AreApart (on_prepare_remote top me n a t).state.applied
     → open_in (state_of k.transactions.ledger t) ≡ Some (in_open.Kept h)
     → Becomes t (state_prepared n (state_of k.transactions.ledger t)) k.transactions.ledger ts.ledger → ts.store ≡ k.transactions.store → ts.early ≡ k.transactions.early
@@ -125,7 +125,7 @@ none_kept (Some IsApplied) e = refl
 none_kept (Some (IsDecided commit stamp)) e = refl
 
 -- without one the clock alone moves
-pub prepares_nothing : (top : TopologyValue) (me n : ℕ) (k : Kept) (a : ShardState) (t : TxnValue) (before : List Envelope)
+pub prepares_nothing : (top : TopologyValue) (me n : ℕ) (k : ShardKept) (a : ShardState) (t : TxnValue) (before : List Envelope)
     → Represents top me k a → is_kept_open (open_in (state_of k.transactions.ledger t)) ≡ false
     → IsStep top me (on_prepare_remote top me n a t) (record k { clock = n }) before before
 prepares_nothing top me n k a t before r e =

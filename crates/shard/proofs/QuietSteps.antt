@@ -30,7 +30,7 @@ use Rattle.write_txn.proofs.Bodies.{begin_unvoted, begin_voted, commit_applies, 
 use Rattle.write_txn.proofs.Answering.{notice_early}
 use Rattle.write_txn.proofs.Readying.{KeepsBallot, is_alone, readies_alone, readies_with_cohorts, repl_begin_unknown}
 use Rattle.write_txn.proofs.Replicas.{is_kept, prepare_remote_kept, repl_part_unknown}
-use Rattle.shard.specs.declared.kept.Kept.{Kept}
+use Rattle.shard.specs.declared.kept.ShardKept.{ShardKept}
 use Rattle.shard.specs.Counting.{on_missing}
 use Rattle.shard.specs.Kept.{Represents}
 use Rattle.shard.proofs.Applying.{which_part}
@@ -68,21 +68,21 @@ none_mapped f (x ∷ xs) e = absurd (cc)
 -- ## Parts
 
 -- Prepare of an unknown transaction sends a Yes
-pub prepared_before : (top : TopologyValue) (me n : ℕ) (k : Kept) (a : ShardState) (t : TxnValue) (rows : List Change) (coordinator : ℕ)
+pub prepared_before : (top : TopologyValue) (me n : ℕ) (k : ShardKept) (a : ShardState) (t : TxnValue) (rows : List Change) (coordinator : ℕ)
     → Represents top me k a → on_prepare top me n a t rows coordinator ≡ quiet n a → is_some (state_of k.transactions.ledger t) ≡ true
 prepared_before top me n k a t rows coordinator r e = known_else (state_of k.transactions.ledger t)
     (λ unknown. let is = prepare_unknown top me n a t rows coordinator (stands_so top me k a t None r unknown) in
     let f = ap (λ (s : ShardStep). s.sends) (sym is ∙ e) in cc)
 
 -- ReplPart of an unknown transaction sends a Notify
-pub kept_before : (top : TopologyValue) (me n : ℕ) (k : Kept) (a : ShardState) (p : KeptPart)
+pub kept_before : (top : TopologyValue) (me n : ℕ) (k : ShardKept) (a : ShardState) (p : KeptPart)
     → Represents top me k a → on_repl_part top me n a p ≡ quiet n a → is_some (state_of k.transactions.ledger p.txn) ≡ true
 kept_before top me n k a p r e = known_else (state_of k.transactions.ledger p.txn)
     (λ unknown. let is = repl_part_unknown top me n a p (stands_so top me k a p.txn None r unknown) in
     let f = ap (λ (s : ShardStep). s.sends) (sym is ∙ e) in cc)
 
 -- PrepareRemote of a part that is kept sends a Yes
-pub unkept : (top : TopologyValue) (me n : ℕ) (k : Kept) (a : ShardState) (t : TxnValue)
+pub unkept : (top : TopologyValue) (me n : ℕ) (k : ShardKept) (a : ShardState) (t : TxnValue)
     → Represents top me k a → on_prepare_remote top me n a t ≡ quiet n a → is_kept (state_of k.transactions.ledger t) ≡ false
 unkept top me n k a t r e = go (state_of k.transactions.ledger t) refl
   where
@@ -100,7 +100,7 @@ unkept top me n k a t r e = go (state_of k.transactions.ledger t) refl
 -- ## Commit, and At
 
 -- a part that is prepared is applied
-pub unprepared : (top : TopologyValue) (me n : ℕ) (k : Kept) (a : ShardState) (t : TxnValue) (commit : ℕ) (stamp : StampValue)
+pub unprepared : (top : TopologyValue) (me n : ℕ) (k : ShardKept) (a : ShardState) (t : TxnValue) (commit : ℕ) (stamp : StampValue)
     → Represents top me k a → on_commit top me n a t commit stamp ≡ quiet n a → is_some (part_in (state_of k.transactions.ledger t)) ≡ false
 unprepared top me n k a t commit stamp r e = false_else (is_some (part_in (state_of k.transactions.ledger t))) impossible
   where
@@ -114,7 +114,7 @@ unprepared top me n k a t commit stamp r e = false_else (is_some (part_in (state
 -- ## Begin
 
 -- Begin of an unknown transaction decides it, or prepares the coordinator's own part
-pub begun_before : (top : TopologyValue) (me n : ℕ) (k : Kept) (a : ShardState) (b : BegunBallot)
+pub begun_before : (top : TopologyValue) (me n : ℕ) (k : ShardKept) (a : ShardState) (b : BegunBallot)
     → Represents top me k a → on_begin top me n a b ≡ quiet n a → is_some (state_of k.transactions.ledger b.txn) ≡ true
 begun_before top me n k a b r e = known_else (state_of k.transactions.ledger b.txn) impossible
   where
@@ -130,7 +130,7 @@ begun_before top me n k a b r e = known_else (state_of k.transactions.ledger b.t
 -- ## Yes
 
 -- the last vote decides
-pub not_last : (top : TopologyValue) (me n node : ℕ) (k : Kept) (a : ShardState) (t : TxnValue)
+pub not_last : (top : TopologyValue) (me n node : ℕ) (k : ShardKept) (a : ShardState) (t : TxnValue)
     → Represents top me k a → on_yes top me n a node t ≡ quiet n a → is_some (completed_by node (state_of k.transactions.ledger t)) ≡ false
 not_last top me n node k a t r e = false_else (is_some (completed_by node (state_of k.transactions.ledger t))) impossible
   where
@@ -142,7 +142,7 @@ not_last top me n node k a t r e = false_else (is_some (completed_by node (state
         grown a.decided (record { txn = (begun_of w.0).txn; commit = n; stamp = stamp_for me n w.0.stamp }) (ap (λ (s : ShardStep). s.state.decided) (sym is ∙ e))
 
 -- an early vote is kept, once
-pub voted_before : (top : TopologyValue) (me n node : ℕ) (k : Kept) (a : ShardState) (t : TxnValue)
+pub voted_before : (top : TopologyValue) (me n node : ℕ) (k : ShardKept) (a : ShardState) (t : TxnValue)
     → Represents top me k a → on_yes top me n a node t ≡ quiet n a → state_of k.transactions.ledger t ≡ None → is_among (voters_of k.transactions.early t) node ≡ true
 voted_before top me n node k a t r e unknown =
     ap (λ (ns : List ℕ). is_among ns node) (r.early t unknown)
@@ -155,7 +155,7 @@ voted_before top me n node k a t r e unknown =
 -- ## Notify
 
 -- an early notice is kept, once
-pub noticed_before : (top : TopologyValue) (me n node : ℕ) (k : Kept) (a : ShardState) (t : TxnValue)
+pub noticed_before : (top : TopologyValue) (me n node : ℕ) (k : ShardKept) (a : ShardState) (t : TxnValue)
     → Represents top me k a → on_notify top me n a node t ≡ quiet n a → state_of k.transactions.ledger t ≡ None → is_among (voters_of k.notices t) node ≡ true
 noticed_before top me n node k a t r e unknown =
     ap (λ (ns : List ℕ). is_among ns node) (r.notices t unknown)
@@ -186,7 +186,7 @@ not_readied top me n t r a c keeps e = false_else (missing_in r.ballot == 0) imp
         ∙ ap (λ (s : ShardStep). s.state.prepared) (sym (readies_with_cohorts top me n t r a c keeps none more) ∙ e)))
 
 -- the last missing thing readies the ballot
-pub not_last_missing : (missing : Missing) (top : TopologyValue) (me n : ℕ) (k : Kept) (a : ShardState) (t : TxnValue) (r : Remote)
+pub not_last_missing : (missing : Missing) (top : TopologyValue) (me n : ℕ) (k : ShardKept) (a : ShardState) (t : TxnValue) (r : Remote)
     → Represents top me k a → on_missing missing top me n a t ≡ quiet n a → (kept_ballot_of r).txn ≡ t → open_in (state_of k.transactions.ledger t) ≡ Some (in_open.Remote r)
     → (missing_in (remote_with r missing).ballot == 0) ≡ false
 not_last_missing missing top me n k a t r represents e own is =
@@ -211,7 +211,7 @@ ballots_stay true top me n c r = go r.cohorts
     go (x ∷ xs) = refl
 
 -- the ballot of an unknown transaction is kept
-pub ballot_before : (top : TopologyValue) (me n : ℕ) (k : Kept) (a : ShardState) (b : KeptBallot)
+pub ballot_before : (top : TopologyValue) (me n : ℕ) (k : ShardKept) (a : ShardState) (b : KeptBallot)
     → Represents top me k a → on_repl_begin top me n a b ≡ quiet n a → is_some (state_of k.transactions.ledger b.txn) ≡ true
 ballot_before top me n k a b r e = known_else (state_of k.transactions.ledger b.txn)
     (λ unknown. let is = repl_begin_unknown top me n a b (stands_so top me k a b.txn None r unknown) in
@@ -221,7 +221,7 @@ ballot_before top me n k a b r e = known_else (state_of k.transactions.ledger b.
 -- ## Reads
 
 -- ReadAt is answered, or comes to wait
-pub waits_before : (top : TopologyValue) (me n : ℕ) (k : Kept) (a : ShardState) (from number time : ℕ) (read : Read)
+pub waits_before : (top : TopologyValue) (me n : ℕ) (k : ShardKept) (a : ShardState) (from number time : ℕ) (read : Read)
     → Represents top me k a → on_read_at top me n a from number time read ≡ quiet n a → in_waiting.is_among from number k.waiting ≡ true
 waits_before top me n k a from number time read r e =
     sym (ap (in_waiting.is_among from number) r.waiting) ∙ go (in_waiting.is_among from number a.waiting) (nat_lt time a.low) e
@@ -242,14 +242,14 @@ read_answers me n a from number read e = let f = ap (λ (s : ShardStep). s.sends
 -- ## NotBy
 
 -- a read that is let go is answered
-pub none_let_go : (top : TopologyValue) (me n : ℕ) (k : Kept) (a : ShardState) (t : TxnValue) (time : ℕ)
+pub none_let_go : (top : TopologyValue) (me n : ℕ) (k : ShardKept) (a : ShardState) (t : TxnValue) (time : ℕ)
     → Represents top me k a → on_not_by me n a t time ≡ quiet n a → in_waiting.freed t (NotBy time) k.waiting ≡ []
 none_let_go top me n k a t time r e =
     ap (in_waiting.freed t (NotBy time)) (sym r.waiting)
     ∙ none_mapped (part_at me n a) (in_waiting.freed t (NotBy time) a.waiting) (ap (λ (s : ShardStep). s.sends) e)
 
 -- so no answer is sent
-pub nothing_sent : (top : TopologyValue) (me n m : ℕ) (k : Kept) (a : ShardState) (t : TxnValue) (time : ℕ) (es : List Envelope)
+pub nothing_sent : (top : TopologyValue) (me n m : ℕ) (k : ShardKept) (a : ShardState) (t : TxnValue) (time : ℕ) (es : List Envelope)
     → Represents top me k a → on_not_by me n a t time ≡ quiet n a → es ≡ map (in_waiting.reply me m (at_time a)) (in_waiting.freed t (NotBy time) a.waiting) → es ≡ []
 nothing_sent top me n m k a t time es r e is =
     is ∙ ap (map (in_waiting.reply me m (at_time a))) (none_mapped (part_at me n a) (in_waiting.freed t (NotBy time) a.waiting) (ap (λ (s : ShardStep). s.sends) e))
@@ -269,11 +269,11 @@ check_answers {P} me n a from t time e = go (decision_of t a) e
     go None f = let g = ap (λ (s : ShardStep). s.sends) f in absurd (cc)
 
 -- what a DepCheck finds where it changes nothing: its dependency isn't decided, and it is kept already
-pub record IsAsked (k : Kept) (q : Asker) : Type 0 where
+pub record IsAsked (k : ShardKept) (q : Asker) : Type 0 where
   pub undecided : decided_in (state_of k.transactions.ledger q.dependency) ≡ None
   pub kept : is_asker (askers_of k.askers q.dependency) q.dependency q.waiter q.from ≡ true
 
-pub asked_before : (top : TopologyValue) (me n : ℕ) (k : Kept) (a : ShardState) (q : Asker) → Represents top me k a → on_dep_check me n a q ≡ quiet n a → IsAsked k q
+pub asked_before : (top : TopologyValue) (me n : ℕ) (k : ShardKept) (a : ShardState) (q : Asker) → Represents top me k a → on_dep_check me n a q ≡ quiet n a → IsAsked k q
 asked_before top me n k a q r e = record {
   undecided = not_decided (decided_in (state_of k.transactions.ledger q.dependency)) (sym none ∙ known);
   kept = ap (λ (ks : List Asker). is_asker ks q.dependency q.waiter q.from) (r.askers q.dependency none)

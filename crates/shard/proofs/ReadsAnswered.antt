@@ -26,7 +26,7 @@ use Rattle.write_txn.specs.Stands.{mark_of}
 use Rattle.commit_check.specs.declared.cause.Cause.TheVariants.{NotBy}
 use Rattle.commit_check.specs.Marked.{AreMarksOf}
 use Rattle.commit_check.specs.Waiting.{freed, is_among, reply, still}
-use Rattle.shard.specs.declared.kept.Kept.{Kept}
+use Rattle.shard.specs.declared.kept.ShardKept.{ShardKept}
 use Rattle.shard.specs.Kept.{Represents, IsStep, Does}
 use Rattle.shard.proofs.MarksOn.{marks_are}
 use Rattle.shard.proofs.Standing.{moves_on}
@@ -39,7 +39,7 @@ each_answer s time read (Ok x) h = h
 each_answer s time read (Err e) h = tt
 
 -- rows by the newest versions are answered
-pub reads : (top : TopologyValue) (me n : ℕ) (k : Kept) (a : ShardState) (from number : ℕ) (asked : Read) (ms : MarkList) (rows : List RowNow) (before after : List Envelope)
+pub reads : (top : TopologyValue) (me n : ℕ) (k : ShardKept) (a : ShardState) (from number : ℕ) (asked : Read) (ms : MarkList) (rows : List RowNow) (before after : List Envelope)
     → Represents top me k a → ((r : Row) (t : TxnValue) → time_at ms r t ≡ mark_of (state_of k.transactions.ledger t) r)
     → ((b : ShardState) → Keeps k.transactions.store b.applied → AreMarksOf ms b → AreOnce (λ p. p.txn) b.prepared → rows ≡ map (row_now n b asked) asked.keys)
     → after ≡ before ++ envelope me from n (PartNow number rows) ∷ []
@@ -50,7 +50,7 @@ reads top me n k a from number asked ms rows before after r marks found sent = r
 }
 
 -- the clock moves, and these reads wait
-pub waits_so : (top : TopologyValue) (me n : ℕ) (k : Kept) (a : ShardState) (ws vs : List WaitingRead) → Represents top me k a → ws ≡ vs
+pub waits_so : (top : TopologyValue) (me n : ℕ) (k : ShardKept) (a : ShardState) (ws vs : List WaitingRead) → Represents top me k a → ws ≡ vs
     → Represents top me (record k { clock = n; waiting = vs }) (record a { clock = n; waiting = ws })
 waits_so top me n k a ws vs r e = record {
   place = r.place;
@@ -69,7 +69,7 @@ waits_so top me n k a ws vs r e = record {
 }
 
 -- a transaction that isn't committed by a time lets reads go
-pub excludes : (top : TopologyValue) (me n : ℕ) (k : Kept) (a : ShardState) (t : TxnValue) (time : ℕ) (waiting : List WaitingRead) (answers before after : List Envelope)
+pub excludes : (top : TopologyValue) (me n : ℕ) (k : ShardKept) (a : ShardState) (t : TxnValue) (time : ℕ) (waiting : List WaitingRead) (answers before after : List Envelope)
     → Represents top me k a → answers ≡ map (reply me n (at_time a)) (freed t (NotBy time) a.waiting) → waiting ≡ still t (NotBy time) k.waiting → after ≡ before ++ answers
     → IsStep top me (on_not_by me n a t time) (record k { clock = n; waiting = waiting }) before after
 excludes top me n k a t time waiting answers before after r freed_so still_so sent = record {
@@ -80,13 +80,13 @@ excludes top me n k a t time waiting answers before after r freed_so still_so se
 -- ## A read at a time
 
 -- a call that does a step does each step that is the same
-does_as : (f g : TopologyValue → ℕ → ShardState → ShardStep) (k l : Kept) (before after : List Envelope) → ((top : TopologyValue) (me : ℕ) (a : ShardState) → Represents top me k a → g top me a ≡ f top me a)
+does_as : (f g : TopologyValue → ℕ → ShardState → ShardStep) (k l : ShardKept) (before after : List Envelope) → ((top : TopologyValue) (me : ℕ) (a : ShardState) → Represents top me k a → g top me a ≡ f top me a)
     → Does f k l before after → Does g k l before after
 does_as f g k l before after same does top me a r apart =
     subst (λ (s : ShardStep). IsStep top me s l before after) (sym (same top me a r))
     (does top me a r (subst (λ (s : ShardStep). AreApart s.state.applied) (same top me a r) apart))
 
-does_if : {T E : Type 0} (result : Result T E) (f g : TopologyValue → ℕ → ShardState → ShardStep) (k l : Kept) (before after : List Envelope)
+does_if : {T E : Type 0} (result : Result T E) (f g : TopologyValue → ℕ → ShardState → ShardStep) (k l : ShardKept) (before after : List Envelope)
     → ((top : TopologyValue) (me : ℕ) (a : ShardState) → Represents top me k a → g top me a ≡ f top me a) → OnOk result (Does f k l before after) → OnOk result (Does g k l before after)
 does_if (Ok x) f g k l before after same does = does_as f g k l before after same does
 does_if (Err e) f g k l before after same does = tt
@@ -104,7 +104,7 @@ wait_step n from number time asked ws top me a = record {
   sends = map (check_of top me n time) ws;
 }
 
-unwaited : (top : TopologyValue) (me : ℕ) (k : Kept) (a : ShardState) (from number : ℕ) → Represents top me k a → is_among from number k.waiting ≡ false → is_waiting a from number ≡ false
+unwaited : (top : TopologyValue) (me : ℕ) (k : ShardKept) (a : ShardState) (from number : ℕ) → Represents top me k a → is_among from number k.waiting ≡ false → is_waiting a from number ≡ false
 unwaited top me k a from number r e = ap (is_among from number) r.waiting ∙ e
 
 is_answered : (top : TopologyValue) (me n : ℕ) (a : ShardState) (from number time : ℕ) (asked : Read) (ws : List WriterValue) → ws ≡ writers_for a time asked → (length ws == 0) ≡ true
@@ -128,7 +128,7 @@ is_held top me n a from number time asked ws is some = go (nat_lt time a.low) ws
     go false (v ∷ vs) e some = ap (λ vs. read_at_of vs top me n a from number time asked) (sym e)
 
 -- a read that waits for nothing is answered
-pub answers_at : (n from number time : ℕ) (asked : Read) (ws : List WriterValue) (k l : Kept) (before after : List Envelope) → is_among from number k.waiting ≡ false
+pub answers_at : (n from number time : ℕ) (asked : Read) (ws : List WriterValue) (k l : ShardKept) (before after : List Envelope) → is_among from number k.waiting ≡ false
     → ((top : TopologyValue) (me : ℕ) (a : ShardState) → Represents top me k a → ws ≡ writers_for a time asked) → (length ws == 0) ≡ true
     → Does (answer_step n from number time asked) k l before after → Does (λ top me a. on_read_at top me n a from number time asked) k l before after
 answers_at n from number time asked ws k l before after unasked is nothing =
@@ -137,7 +137,7 @@ answers_at n from number time asked ws k l before after unasked is nothing =
     ∙ is_answered top me n a from number time asked ws (is top me a r) nothing)
 
 -- a read that waits for transactions is kept, and they are asked for
-pub waits_at : {T E : Type 0} (result : Result T E) (n from number time : ℕ) (asked : Read) (ws : List WriterValue) (k l : Kept) (before after : List Envelope) → is_among from number k.waiting ≡ false
+pub waits_at : {T E : Type 0} (result : Result T E) (n from number time : ℕ) (asked : Read) (ws : List WriterValue) (k l : ShardKept) (before after : List Envelope) → is_among from number k.waiting ≡ false
     → ((top : TopologyValue) (me : ℕ) (a : ShardState) → Represents top me k a → ws ≡ writers_for a time asked) → (length ws == 0) ≡ false
     → OnOk result (Does (wait_step n from number time asked ws) k l before after) → OnOk result (Does (λ top me a. on_read_at top me n a from number time asked) k l before after)
 waits_at result n from number time asked ws k l before after unasked is some =

@@ -21,7 +21,7 @@ use Rattle.write_txn.specs.View.{near_nodes, left_of}
 use Rattle.write_txn.specs.Voters.{voters_of}
 use Rattle.write_txn.proofs.CohortSteps.{known_if}
 use Rattle.write_txn.proofs.Readying.{KeepsBallot, repl_begin_unknown, ballot_is_kept}
-use Rattle.shard.specs.declared.kept.Kept.{Kept}
+use Rattle.shard.specs.declared.kept.ShardKept.{ShardKept}
 use Rattle.shard.specs.Kept.{Represents, IsStep}
 use Rattle.shard.specs.ReplBegun.{IsBegun}
 use Rattle.shard.specs.Concluding.{IsConcluded}
@@ -30,7 +30,7 @@ use Rattle.shard.proofs.InPlace.{stands_so}
 use Rattle.shard.proofs.NoticeSteps.{counts_so}
 
 -- one of a known transaction is dropped
-pub drops_ballot : (top : TopologyValue) (me n : ℕ) (k : Kept) (a : ShardState) (r : KeptBallot) (before : List Envelope)
+pub drops_ballot : (top : TopologyValue) (me n : ℕ) (k : ShardKept) (a : ShardState) (r : KeptBallot) (before : List Envelope)
     → Represents top me k a → is_some (state_of k.transactions.ledger r.txn) ≡ true
     → IsStep top me (on_repl_begin top me n a r) (record k { clock = n }) before before
 drops_ballot top me n k a r before represents known =
@@ -38,7 +38,7 @@ drops_ballot top me n k a r before represents known =
     (ap (λ (b : Bool). repl_begin_if b top me n a r) (known_if top me r.txn a (state_of k.transactions.ledger r.txn) (represents.stands r.txn) ∙ known))
 
 -- one of an unknown transaction is kept
-pub begins_so : (top : TopologyValue) (me n m : ℕ) (r : Remote) (k : Kept) (room ts : TransactionsValue) (stamp : StampValue) (b : Bool) (complete : Option CompleteValue) (l : Kept) (a : ShardState) (before es after : List Envelope)
+pub begins_so : (top : TopologyValue) (me n m : ℕ) (r : Remote) (k : ShardKept) (room ts : TransactionsValue) (stamp : StampValue) (b : Bool) (complete : Option CompleteValue) (l : ShardKept) (a : ShardState) (before es after : List Envelope)
     → m ≡ n → state_of k.transactions.ledger (kept_ballot_of r).txn ≡ None → IsBegun top me (voters_of k.notices (kept_ballot_of r).txn) r → stamp ≡ r.ballot.stamp → b ≡ (missing_in r.ballot == 0)
     → Represents top me k a → AreApart (on_repl_begin top me n a (kept_ballot_of r)).state.applied
     → GoesOnKeeping k.transactions.store room.store → room.ledger ≡ k.transactions.ledger → room.early ≡ k.transactions.early

@@ -11,7 +11,7 @@ use Rattle.messages.specs.Topology.{TopologyValue}
 use Rattle.messages.specs.Shard.{ShardStep}
 use Rattle.messages.specs.ShardEvents.{shard_handle}
 use Rattle.messages.specs.Honest.{IsHonest}
-use Rattle.shard.specs.declared.kept.Kept.{Kept}
+use Rattle.shard.specs.declared.kept.ShardKept.{ShardKept}
 use Rattle.shard.specs.Events.{ShardRun, fresh_shard, after_step, after_event, shard_continued, shard_run, envelopes_handled}
 use Rattle.shard.specs.Kept.{Represents, IsStepOf}
 use Rattle.shard.specs.Right.{IsRightShard, IsRightlySent, SendsRight}
@@ -75,11 +75,11 @@ module _ (top : TopologyValue) (me : ℕ) (before after : List Event) (x : Envel
       (fresh_ran top me last.state (envelopes_handled last))).ran.holds.stamped_apart
 
   -- what a step of the run leads to
-  pub record IsOnward (l : Kept) (old new : List Envelope) : Type 0 where
+  pub record IsOnward (l : ShardKept) (old new : List Envelope) : Type 0 where
     pub state : Represents top me l next.state
     pub sends : SendsRight top me last old new
 
-  onward : (r : Result ShardStep Fault) (l : Kept) (old new : List Envelope) → IsHonest last.state (envelopes_handled last)
+  onward : (r : Result ShardStep Fault) (l : ShardKept) (old new : List Envelope) → IsHonest last.state (envelopes_handled last)
       → next ≡ after_step r earlier (Handle x) → IsStepOf top me r l old new → IsOnward l old new
   onward (Err f) l old new honest is step = absurd step
   onward (Ok st) l old new honest is step =
@@ -96,6 +96,6 @@ module _ (top : TopologyValue) (me : ℕ) (before after : List Event) (x : Envel
         };
       }
 
-  pub handles_right : (l : Kept) (old new : List Envelope) → IsHonest last.state (envelopes_handled last)
+  pub handles_right : (l : ShardKept) (old new : List Envelope) → IsHonest last.state (envelopes_handled last)
       → IsStepOf top me (shard_handle top me earlier.state x) l old new → IsOnward l old new
   handles_right l old new honest step = onward (shard_handle top me earlier.state x) l old new honest stepped step

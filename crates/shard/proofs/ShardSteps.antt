@@ -19,14 +19,14 @@ use Rattle.write_txn.specs.Ledger.{state_of}
 use Rattle.write_txn.specs.Voters.{voters_of}
 use Rattle.write_txn.specs.View.{view_of}
 use Rattle.write_txn.specs.Stands.{Stands}
-use Rattle.shard.specs.declared.kept.Kept.{Kept}
+use Rattle.shard.specs.declared.kept.ShardKept.{ShardKept}
 use Rattle.shard.specs.Events.{ShardRun, fresh_shard, after_step, after_event, shard_run}
 use Rattle.shard.proofs.Handles.{run_push}
 use Rattle.shard.specs.Kept.{Represents, IsStepOf, IsRefusalOf, IsSpentOrMemory, Does}
 
 -- ## Before the first event
 
-pub opens : (top : TopologyValue) (me : ℕ) (k : Kept) → IsPlace top me k.place → k.clock ≡ 0 → ((t : TxnValue) → state_of k.transactions.ledger t ≡ None)
+pub opens : (top : TopologyValue) (me : ℕ) (k : ShardKept) → IsPlace top me k.place → k.clock ≡ 0 → ((t : TxnValue) → state_of k.transactions.ledger t ≡ None)
     → Keeps k.transactions.store [] → k.transactions.store.low ≡ 0 → ((t : TxnValue) → voters_of k.transactions.early t ≡ [])
     → ((t : TxnValue) → voters_of k.notices t ≡ []) → ((t : TxnValue) → askers_of k.askers t ≡ []) → k.waiting ≡ []
     → Represents top me k new_shard
@@ -79,7 +79,7 @@ if_err (Err e) f h = f e h
 
 -- ## An envelope
 
-pub handles : (k l : Kept) (e : Envelope) (before after : List Envelope) → max k.clock e.time + 1 < 2 ^ 48
+pub handles : (k l : ShardKept) (e : Envelope) (before after : List Envelope) → max k.clock e.time + 1 < 2 ^ 48
     → Does (λ top me a. handled top me (max k.clock e.time + 1) a e.from e.body) k l before after
     → (top : TopologyValue) (me : ℕ) (a : ShardState) → Represents top me k a → IsStepOf top me (shard_handle top me a e) l before after
 handles k l e before after lt does top me a r =
@@ -90,7 +90,7 @@ refused_on : (t : Option ℕ) (f : Fault) (step : ℕ → ShardStep) → IsSpent
 refused_on None f step h = h
 refused_on (Some n) f step h = h
 
-pub refuses : (k : Kept) (e : Envelope) (f : Fault) → IsSpentOrMemory (ticked k.clock e.time) f → (top : TopologyValue) (me : ℕ) (a : ShardState) → Represents top me k a
+pub refuses : (k : ShardKept) (e : Envelope) (f : Fault) → IsSpentOrMemory (ticked k.clock e.time) f → (top : TopologyValue) (me : ℕ) (a : ShardState) → Represents top me k a
     → IsRefusalOf (shard_handle top me a e) f
 refuses k e f h top me a r =
     refused_on (ticked a.clock e.time) f (λ n. handled top me n a e.from e.body) (subst (λ clock. IsSpentOrMemory (ticked clock e.time) f) (sym r.clock) h)
@@ -98,7 +98,7 @@ refuses k e f h top me a r =
 -- ## A collection
 
 -- what the horizon and the clock become stands for the machine's state
-collects_at : (n : ℕ) (k l : Kept) (time : ℕ) → l.place ≡ k.place → l.clock ≡ n → l.transactions.store.low ≡ max k.transactions.store.low time
+collects_at : (n : ℕ) (k l : ShardKept) (time : ℕ) → l.place ≡ k.place → l.clock ≡ n → l.transactions.store.low ≡ max k.transactions.store.low time
     → ((all : List Applied) → Keeps k.transactions.store all → Keeps l.transactions.store all) → l.transactions.ledger ≡ k.transactions.ledger
     → l.transactions.early ≡ k.transactions.early → l.notices ≡ k.notices → l.askers ≡ k.askers → l.waiting ≡ k.waiting
     → (top : TopologyValue) (me : ℕ) (a : ShardState) → Represents top me k a → Represents top me l (collected n a time).state
@@ -119,7 +119,7 @@ collects_at n k l time place clock low keeps ledger early notices askers waiting
 }
 
 -- a shard whose horizon and clock become so goes on to the run's state
-pub collects : (n : ℕ) (k l : Kept) (time : ℕ) → n ≡ max k.clock k.clock + 1 → n < 2 ^ 48 → l.place ≡ k.place → l.clock ≡ n → l.transactions.store.low ≡ max k.transactions.store.low time
+pub collects : (n : ℕ) (k l : ShardKept) (time : ℕ) → n ≡ max k.clock k.clock + 1 → n < 2 ^ 48 → l.place ≡ k.place → l.clock ≡ n → l.transactions.store.low ≡ max k.transactions.store.low time
     → ((all : List Applied) → Keeps k.transactions.store all → Keeps l.transactions.store all) → l.transactions.ledger ≡ k.transactions.ledger
     → l.transactions.early ≡ k.transactions.early → l.notices ≡ k.notices → l.askers ≡ k.askers → l.waiting ≡ k.waiting
     → (top : TopologyValue) (me : ℕ) (before : List Event) → Represents top me k (shard_run top me before).state

@@ -25,13 +25,13 @@ use Rattle.write_txn.specs.Moves.{Moves}
 use Rattle.write_txn.proofs.Finds.{own_txn, same_txn}
 use Rattle.write_txn.proofs.Views.{view_of_others}
 use Rattle.write_txn.proofs.Bodies.{decision_if}
-use Rattle.shard.specs.declared.kept.Kept.{Kept}
+use Rattle.shard.specs.declared.kept.ShardKept.{ShardKept}
 use Rattle.shard.specs.Kept.{Represents, IsStep, GoesOn}
 use Rattle.shard.specs.Effects.{IsAfter, IsSpared, IsStored}
 
 -- ## Nothing changes
 
-pub spared : (k l : Kept) → IsSpared k l → GoesOn k l
+pub spared : (k l : ShardKept) → IsSpared k l → GoesOn k l
 spared k l i top me a r = record {
   place = subst (IsPlace top me) (sym i.place) r.place;
   clock = r.clock ∙ sym i.clock;
@@ -49,7 +49,7 @@ spared k l i top me a r = record {
 }
 
 -- only the clock moves
-pub moves_on : (top : TopologyValue) (me n : ℕ) (k : Kept) (a : ShardState) → Represents top me k a → Represents top me (record k { clock = n }) (record a { clock = n })
+pub moves_on : (top : TopologyValue) (me n : ℕ) (k : ShardKept) (a : ShardState) → Represents top me k a → Represents top me (record k { clock = n }) (record a { clock = n })
 moves_on top me n k a r = record {
   place = r.place;
   clock = refl;
@@ -67,7 +67,7 @@ moves_on top me n k a r = record {
 }
 
 -- what only moves the clock is such a step
-pub is_quiet : (top : TopologyValue) (me n : ℕ) (k : Kept) (a : ShardState) (step : ShardStep) (before : List Envelope) → Represents top me k a → step ≡ quiet n a
+pub is_quiet : (top : TopologyValue) (me n : ℕ) (k : ShardKept) (a : ShardState) (step : ShardStep) (before : List Envelope) → Represents top me k a → step ≡ quiet n a
     → IsStep top me step (record k { clock = n }) before before
 is_quiet top me n k a step before r e = subst (λ (s : ShardStep). IsStep top me s (record k { clock = n }) before before) (sym e)
     (record { state = moves_on top me n k a r; sends = sym (append-nil before) })
@@ -89,7 +89,7 @@ abbrev pub listed : Option Applied → List Applied
 listed None = []
 listed (Some x) = x ∷ []
 
-stored : (k l : Kept) (a b : ShardState) (x : Option Applied) → b.applied ≡ a.applied ++ listed x → IsStored x k.transactions.store l.transactions.store → Keeps k.transactions.store a.applied → AreApart b.applied
+stored : (k l : ShardKept) (a b : ShardState) (x : Option Applied) → b.applied ≡ a.applied ++ listed x → IsStored x k.transactions.store l.transactions.store → Keeps k.transactions.store a.applied → AreApart b.applied
     → Keeps l.transactions.store b.applied
 stored k l a b None e i h p = subst (Keeps l.transactions.store) (sym (e ∙ append-nil a.applied)) (i a.applied h)
 stored k l a b (Some x) e i h p = let q = apart_last a.applied x (subst AreApart e p) in subst (Keeps l.transactions.store) (sym e) (i a.applied h q.0 q.1)
@@ -106,7 +106,7 @@ find_before q (x ∷ xs) ys e = by_cases (q x)
     (λ yes. absurd (let f : Some x ≡ None = rw yes at e in cc))
     (λ no. rw no (find_before q xs ys (rw no at e)))
 
-pub moved : (top : TopologyValue) (me n : ℕ) (t : TxnValue) (s : State) (x : Option Applied) (waits : List WaitingRead) (k l : Kept) (a b : ShardState)
+pub moved : (top : TopologyValue) (me n : ℕ) (t : TxnValue) (s : State) (x : Option Applied) (waits : List WaitingRead) (k l : ShardKept) (a b : ShardState)
     → Represents top me k a → IsAfter t s x n waits k l → Moves top me t (Some s) (listed x) a b → b.clock ≡ n → b.waiting ≡ waits → AreApart b.applied
     → Represents top me l b
 moved top me n t s x waits k l a b r i m clock waiting apart = record {

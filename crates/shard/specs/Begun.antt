@@ -9,7 +9,7 @@ use Rattle.write_txn.specs.Ledger.{IsDecided, Becomes}
 use Rattle.write_txn.specs.Transactions.{GoesOnKeeping}
 use Rattle.write_txn.specs.View.{near_nodes}
 use Rattle.write_txn.specs.Voters.{voters_of}
-use Rattle.shard.specs.declared.kept.Kept.{Kept}
+use Rattle.shard.specs.declared.kept.ShardKept.{ShardKept}
 use Rattle.shard.specs.declared.begun.Begun.{Begun}
 
 -- the ballot of a write that was submitted here
@@ -17,11 +17,11 @@ abbrev pub ballot_of : Begun → BegunBallot
 ballot_of b = record { txn = b.txn; rows = b.rows; cohorts = b.cohorts; dependencies = b.dependencies; stamp = None }
 
 -- the votes are those of the transaction's cohorts, those that came early counted
-abbrev pub AreVotes : Kept → Begun → VotesValue → Type 0
+abbrev pub AreVotes : ShardKept → Begun → VotesValue → Type 0
 AreVotes k b votes = (top : TopologyValue) (me : ℕ) → IsPlace top me k.place → votes ≡ votes_after (near_nodes top me b.cohorts) (voters_of k.transactions.early b.txn)
 
 -- the transaction is noted as decided with this commit time and this stamp; room may have been made, and nothing else changed
-pub record IsDecidedNow (t : TxnValue) (commit : ℕ) (stamp : StampValue) (k l : Kept) : Type 0 where
+pub record IsDecidedNow (t : TxnValue) (commit : ℕ) (stamp : StampValue) (k l : ShardKept) : Type 0 where
   pub rest : l ≡ record k { transactions = l.transactions }
   pub becomes : Becomes t (Some (IsDecided commit stamp)) k.transactions.ledger l.transactions.ledger
   pub store : GoesOnKeeping k.transactions.store l.transactions.store

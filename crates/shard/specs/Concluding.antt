@@ -4,19 +4,19 @@ use Rattle.logical_time.specs.Stamps.{StampValue, TxnValue}
 use Rattle.store.specs.Stored.{HasRoom}
 use Rattle.txn_state.specs.Ballot.{CompleteValue}
 use Rattle.write_txn.specs.Ledger.{state_of, decided_in}
-use Rattle.shard.specs.declared.kept.Kept.{Kept}
+use Rattle.shard.specs.declared.kept.ShardKept.{ShardKept}
 use Rattle.shard.specs.Deciding.{IsSettled}
 use Rattle.shard.specs.Effects.{IsWithout}
 
 -- the transaction is decided with this commit time and this stamp, it has no cohorts, and there is room for its part
-pub record MaySettle (t : TxnValue) (commit : ℕ) (stamp : StampValue) (k : Kept) (c : CompleteValue) : Type 0 where
+pub record MaySettle (t : TxnValue) (commit : ℕ) (stamp : StampValue) (k : ShardKept) (c : CompleteValue) : Type 0 where
   pub own : c.own.part.writer.txn ≡ t
   pub alone : c.cohorts ≡ []
   pub decided : decided_in (state_of k.transactions.ledger t) ≡ Some (commit, stamp)
   pub room : HasRoom k.transactions.store.rows c.own.part.batch
 
 -- the transaction goes on being under way: what came early of it is forgotten, and the clock shows this
-pub record IsUnderWay (t : TxnValue) (n : ℕ) (k l : Kept) : Type 0 where
+pub record IsUnderWay (t : TxnValue) (n : ℕ) (k l : ShardKept) : Type 0 where
   pub place : l.place ≡ k.place
   pub clock : l.clock ≡ n
   pub ledger : l.transactions.ledger ≡ k.transactions.ledger
@@ -27,6 +27,6 @@ pub record IsUnderWay (t : TxnValue) (n : ℕ) (k l : Kept) : Type 0 where
   pub waiting : l.waiting ≡ k.waiting
 
 -- the event is concluded, by what it completed
-abbrev pub IsConcluded : TxnValue → StampValue → ℕ → Option CompleteValue → Kept → Kept → Type 0
+abbrev pub IsConcluded : TxnValue → StampValue → ℕ → Option CompleteValue → ShardKept → ShardKept → Type 0
 IsConcluded t stamp n None k l = IsUnderWay t n k l
 IsConcluded t stamp n (Some c) k l = IsSettled t c.own n stamp k l

@@ -14,7 +14,7 @@ use Rattle.messages.specs.Reads.{part_at}
 use Rattle.commit_check.specs.declared.cause.Cause.TheVariants as cause
 use Rattle.commit_check.specs.Waiting.{freed, still}
 use Rattle.write_txn.specs.Transactions.{KeepsAlso}
-use Rattle.shard.specs.declared.kept.Kept.{Kept}
+use Rattle.shard.specs.declared.kept.ShardKept.{ShardKept}
 use Rattle.shard.specs.declared.deciding.Deciding.{Deciding}
 use Rattle.shard.specs.Coming.{with_applied}
 use Rattle.shard.specs.Effects.{IsWithout}
@@ -39,7 +39,7 @@ told top me n a b =
 
 -- A transaction that was decided is settled: its own part is applied with this commit time and this stamp, nothing is kept of
 -- it that came early, nor who asked for it, and no read waits for it.
-pub record IsSettled (t : TxnValue) (own : PreparedValue) (commit : ℕ) (stamp : StampValue) (k l : Kept) : Type 0 where
+pub record IsSettled (t : TxnValue) (own : PreparedValue) (commit : ℕ) (stamp : StampValue) (k l : ShardKept) : Type 0 where
   pub place : l.place ≡ k.place
   pub clock : l.clock ≡ commit
   pub ledger : l.transactions.ledger ≡ k.transactions.ledger

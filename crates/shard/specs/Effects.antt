@@ -10,7 +10,7 @@ use Rattle.messages.specs.Words.{is_same_txn}
 use Rattle.messages.specs.Shard.{WaitingRead}
 use Rattle.write_txn.specs.Ledger.{LedgerValue, State, state_of, Becomes, decided_in}
 use Rattle.write_txn.specs.Voters.{VoterList, voters_of}
-use Rattle.shard.specs.declared.kept.Kept.{Kept}
+use Rattle.shard.specs.declared.kept.ShardKept.{ShardKept}
 
 -- the store keeps what it kept, and what is applied, if something is
 abbrev pub IsStored : Option Applied → store.StoreValue → store.StoreValue → Type 0
@@ -32,7 +32,7 @@ HasNoVoters t known old new = (is_some (state_of known t) ≡ true → voters_of
 -- This transaction comes to be known so, and this part is applied, if one is; the clock shows this and these reads wait. What
 -- came early of it is forgotten. Nothing of another transaction changes, nor who asked for one; who asked for this one is kept
 -- until it is decided.
-pub record IsAfter (t : TxnValue) (s : State) (x : Option Applied) (n : ℕ) (waits : List WaitingRead) (k l : Kept) : Type 0 where
+pub record IsAfter (t : TxnValue) (s : State) (x : Option Applied) (n : ℕ) (waits : List WaitingRead) (k l : ShardKept) : Type 0 where
   pub place : l.place ≡ k.place
   pub clock : l.clock ≡ n
   pub low : l.transactions.store.low ≡ k.transactions.store.low
@@ -47,7 +47,7 @@ pub record IsAfter (t : TxnValue) (s : State) (x : Option Applied) (n : ℕ) (wa
   pub waiting : l.waiting ≡ waits
 
 -- nothing changed that matters: rooms may have been made
-pub record IsSpared (k l : Kept) : Type 0 where
+pub record IsSpared (k l : ShardKept) : Type 0 where
   pub place : l.place ≡ k.place
   pub clock : l.clock ≡ k.clock
   pub low : l.transactions.store.low ≡ k.transactions.store.low

@@ -15,14 +15,14 @@ use Rattle.write_txn.specs.Ledger.{LedgerValue, state_of}
 use Rattle.write_txn.specs.Voters.{VoterList, voters_of}
 use Rattle.write_txn.specs.View.{view_of}
 use Rattle.write_txn.specs.Stands.{Stands}
-use Rattle.shard.specs.declared.kept.Kept.{Kept}
+use Rattle.shard.specs.declared.kept.ShardKept.{ShardKept}
 
 -- nothing is kept of a known transaction that came early
 abbrev pub AreForgotten : VoterList → LedgerValue → Type 0
 AreForgotten voters l = (t : TxnValue) → is_some (state_of l t) ≡ true → voters_of voters t ≡ []
 
 -- What is kept stands for this state of the shard with this node.
-pub record Represents (top : TopologyValue) (me : ℕ) (k : Kept) (a : ShardState) : Type 0 where
+pub record Represents (top : TopologyValue) (me : ℕ) (k : ShardKept) (a : ShardState) : Type 0 where
   pub place : IsPlace top me k.place
   pub clock : a.clock ≡ k.clock
   pub low : a.low ≡ k.transactions.store.low
@@ -43,23 +43,23 @@ pub record Represents (top : TopologyValue) (me : ℕ) (k : Kept) (a : ShardStat
   pub kept_once : AreOnce (λ p. p.txn) a.kept_parts
 
 -- a call did this step of the machine: what is kept then stands for its state, and its envelopes were sent, in order
-pub record IsStep (top : TopologyValue) (me : ℕ) (step : ShardStep) (k : Kept) (before after : List Envelope) : Type 0 where
+pub record IsStep (top : TopologyValue) (me : ℕ) (step : ShardStep) (k : ShardKept) (before after : List Envelope) : Type 0 where
   pub state : Represents top me k step.state
   pub sends : after ≡ before ++ step.sends
 
 -- For each state that what is kept stands for, a call does this step of it; where the step applies a part, that is in normal
 -- form and its stamp is new.
-abbrev pub Does : (TopologyValue → ℕ → ShardState → ShardStep) → Kept → Kept → List Envelope → List Envelope → Type 0
+abbrev pub Does : (TopologyValue → ℕ → ShardState → ShardStep) → ShardKept → ShardKept → List Envelope → List Envelope → Type 0
 Does step k l before after = (top : TopologyValue) (me : ℕ) (a : ShardState) → Represents top me k a → AreApart (step top me a).state.applied
     → IsStep top me (step top me a) l before after
 
 -- what is kept stands for each state that it stood for
-abbrev pub GoesOn : Kept → Kept → Type 0
+abbrev pub GoesOn : ShardKept → ShardKept → Type 0
 GoesOn k l = (top : TopologyValue) (me : ℕ) (a : ShardState) → Represents top me k a → Represents top me l a
 
 -- a call did this step of the machine, where the step's state has its applied parts apart; where the step is refused, so is
 -- the call
-abbrev pub IsStepOf : TopologyValue → ℕ → Result ShardStep Fault → Kept → List Envelope → List Envelope → Type 0
+abbrev pub IsStepOf : TopologyValue → ℕ → Result ShardStep Fault → ShardKept → List Envelope → List Envelope → Type 0
 IsStepOf top me (Ok step) k before after = AreApart step.state.applied → IsStep top me step k before after
 IsStepOf top me (Err e) k before after = ⊥
 

@@ -10,7 +10,7 @@ ghost use Rattle.messages.specs.Reads.{at_time};
 ghost use Rattle.commit_check.specs.Waiting.{freed, reply};
 ghost use Rattle.shard.specs.Kept.{Represents};
 
-use crate::kept::Kept;
+use crate::kept::ShardKept;
 use commit_check::{AnswersAt, Cause, answer_at, freed_answers};
 use logical_time::{Fault, Time, TxnId};
 use messages::{AtTime, Envelope};
@@ -36,7 +36,7 @@ impl AnswersAt for AsItIs<'_> {
 /// The answers at this time, by the store as it is, to the reads that this cause lets go, in the order of their arrival. Costs
 /// what `freed_answers` costs. Refused with `Memory` alone.
 pub(crate) fn answers_as_it_is(
-    kept: &Kept,
+    kept: &ShardKept,
     time: Time,
     txn: TxnId,
     cause: &Cause,

@@ -16,7 +16,7 @@ ghost use Rattle.shard.specs.Deciding.{node_at, told};
 ghost use Rattle.shard.specs.Begun.{ballot_of, IsDecidedNow, AreVotes};
 
 use crate::deciding::{Deciding, settle, tell};
-use crate::kept::Kept;
+use crate::kept::ShardKept;
 use column_family::Batch;
 use logical_time::{Clock, Fault, Stamp, TxnId, Writer};
 use messages::{Cohorts, Dependencies, Envelope, Outbox};
@@ -38,7 +38,7 @@ pub(crate) struct Begun {
 }
 
 /// The votes of a transaction's cohorts, those that came early counted.
-fn votes_of(kept: &Kept, begun: &Begun) -> Result<Votes, Fault>
+fn votes_of(kept: &ShardKept, begun: &Begun) -> Result<Votes, Fault>
     ensures ok { IfOk result (AreVotes kept.now begun.now) }
     ensures memory { IfErr result (λ e. e ≡ fault.Memory) }
 {
@@ -66,7 +66,7 @@ fn begun_again(led: Led) -> Begun
 }
 
 /// The coordinator's own part, prepared.
-fn own_part(kept: &Kept, clock: Clock, txn: TxnId, rows: Batch) -> Prepared
+fn own_part(kept: &ShardKept, clock: Clock, txn: TxnId, rows: Batch) -> Prepared
     ensures { result ≡ record { part = record { writer = record { txn = txn; shard = kept.now.place.shard }; batch = rows }; time = clock } }
 {
     let writer = Writer::new(txn, kept.place.shard());
@@ -78,7 +78,12 @@ fn own_part(kept: &Kept, clock: Clock, txn: TxnId, rows: Batch) -> Prepared
 }
 
 /// Begin, where votes are missing: the ballot is held, and the rows of the coordinator's own part are marked.
-fn hold(kept: &mut Kept, clock: Clock, begun: Begun, votes: Votes) -> Result<(), (Fault, Begun)>
+fn hold(
+    kept: &mut ShardKept,
+    clock: Clock,
+    begun: Begun,
+    votes: Votes,
+) -> Result<(), (Fault, Begun)>
     requires unknown { state_of kept.old.transactions.ledger begun.txn ≡ None }
     requires votes { AreVotes kept.old begun votes }
     requires missing { 0 < length votes.missing }
@@ -111,7 +116,7 @@ fn hold(kept: &mut Kept, clock: Clock, begun: Begun, votes: Votes) -> Result<(),
 
 /// Makes all the room that a decision needs, notes it, and gives what is sent after the Commits.
 fn note_decision(
-    kept: &mut Kept,
+    kept: &mut ShardKept,
     clock: Clock,
     begun: &Begun,
     commits: usize,
@@ -147,7 +152,7 @@ fn note_decision(
 
 /// Begin, where no vote is missing: the transaction is decided.
 fn decide_now(
-    kept: &mut Kept,
+    kept: &mut ShardKept,
     clock: Clock,
     begun: Begun,
     votes: Votes,
@@ -181,7 +186,7 @@ fn decide_now(
 /// Begin: ignored where the transaction is known. Where all cohorts have voted, or there are none, it is decided; else its
 /// ballot is held, with the early votes counted. Refused with `Memory` alone, and then what it says comes back.
 pub(crate) fn begin(
-    kept: &mut Kept,
+    kept: &mut ShardKept,
     clock: Clock,
     begun: Begun,
     outbox: &mut Outbox,

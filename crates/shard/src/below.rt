@@ -7,7 +7,7 @@ ghost use Rattle.messages.specs.Reads.{asked_below};
 ghost use Rattle.shard.specs.Kept.{Represents};
 ghost use Rattle.shard.specs.UnderWay.{writer_under_way};
 
-use crate::kept::Kept;
+use crate::kept::ShardKept;
 use commit_check::rows_of;
 use logical_time::{Fault, Time, TxnId, Writer};
 use slice::Read;
@@ -30,7 +30,7 @@ fn writers_of(alloc: Global, ledger: &Ledger, txns: &[TxnId]) -> Result<Vec<Writ
 
 /// The transactions with a mark below the time in an asked row, with their coordinators, in the order of their numbers.
 /// In the order of (k + m) log n for k rows with m marks among n. Refused with `Memory` alone.
-pub(crate) fn writers_below(kept: &Kept, time: Time, read: &Read) -> Result<Vec<Writer>, Fault>
+pub(crate) fn writers_below(kept: &ShardKept, time: Time, read: &Read) -> Result<Vec<Writer>, Fault>
     ensures ok { (top : TopologyValue) (me : ℕ) (a : ShardState) → Represents top me kept.now a → IfOk result (λ writers. writers.items ≡ asked_below a time read.now) }
     ensures memory { IfErr result (λ e. e ≡ fault.Memory) }
 {

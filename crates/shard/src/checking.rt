@@ -7,7 +7,7 @@ ghost use Rattle.shard.specs.Kept.{Does};
 ghost use Rattle.shard.specs.Effects.{IsSpared};
 ghost use Rattle.shard.specs.Ignored.{IfIgnored};
 
-use crate::kept::Kept;
+use crate::kept::ShardKept;
 use logical_time::{Clock, Fault, Node, Time, TxnId};
 use messages::{Body, Envelope, Outbox};
 
@@ -15,7 +15,7 @@ use messages::{Body, Envelope, Outbox};
 /// time. Refused with `Memory` alone.
 #[inline(always)]
 pub(crate) fn check(
-    kept: &mut Kept,
+    kept: &mut ShardKept,
     clock: Clock,
     from: Node,
     txn: TxnId,
@@ -48,7 +48,7 @@ pub(crate) fn check(
 /// DepCheck: a DepOk where the dependency is decided here; else the asker is remembered, once for each dependency,
 /// sender and waiter. Refused with `Memory` alone.
 pub(crate) fn dep_check(
-    kept: &mut Kept,
+    kept: &mut ShardKept,
     clock: Clock,
     from: Node,
     dependency: TxnId,

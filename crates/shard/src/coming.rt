@@ -10,7 +10,7 @@ ghost use Rattle.commit_check.specs.Waiting.{freed};
 ghost use Rattle.shard.specs.Kept.{Represents};
 ghost use Rattle.shard.specs.Coming.{applied_of, with_applied};
 
-use crate::kept::Kept;
+use crate::kept::ShardKept;
 use column_family::Batch;
 use commit_check::{AnswersAt, Cause, answer_with, freed_answers};
 use logical_time::{Fault, Stamp, Time, Writer};
@@ -67,7 +67,11 @@ impl AnswersAt for StoreWith<'_> {
 /// The answers to the reads that wait for the transaction of a part alone, as they will be once the part is applied, at the
 /// event at which it is and when the clock shows this time.
 #[inline(always)]
-pub(crate) fn answers_with(kept: &Kept, time: Time, coming: &Coming) -> Result<Vec<Envelope>, Fault>
+pub(crate) fn answers_with(
+    kept: &ShardKept,
+    time: Time,
+    coming: &Coming,
+) -> Result<Vec<Envelope>, Fault>
     ensures ok { (top : TopologyValue) (me : ℕ) (a : ShardState) → Represents top me kept.now a → AreApart (with_applied a (applied_of coming.now)).applied
         → IfOk result (λ envelopes. envelopes.items ≡ map (part_at me time (with_applied a (applied_of coming.now))) (freed coming.now.writer.txn cause.Applied a.waiting)) }
     ensures memory { IfErr result (λ e. e ≡ fault.Memory) }

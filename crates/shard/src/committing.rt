@@ -10,19 +10,19 @@ ghost use Rattle.shard.specs.Effects.{IsSpared};
 ghost use Rattle.shard.specs.Ignored.{IfIgnored};
 
 use crate::coming::{Coming, answers_with};
-use crate::kept::Kept;
+use crate::kept::ShardKept;
 use commit_check::Cause;
 use logical_time::{Clock, Fault, Stamp, Time, TxnId};
 use messages::{Envelope, Outbox};
 use replicator::repl_parts;
-use write_txn::{Open, Part};
+use write_txn::{CohortPart, Open};
 
 /// What is sent once this part is applied: where the write was submitted here a ReplPart to each other data centre, and
 /// the answers to the reads that it lets go.
 fn told_with(
-    kept: &Kept,
+    kept: &ShardKept,
     time: Time,
-    part: &Part,
+    part: &CohortPart,
     commit: Time,
     stamp: Stamp,
 ) -> Result<Vec<Envelope>, Fault>
@@ -54,7 +54,7 @@ fn told_with(
 /// Commit, and At in the same way: the transaction's part is applied with this commit time and this stamp, if a cohort's
 /// is prepared, and the reads that wait for it alone are answered; else ignored. Refused with `Memory` alone.
 pub(crate) fn commit(
-    kept: &mut Kept,
+    kept: &mut ShardKept,
     clock: Clock,
     txn: TxnId,
     commit: Time,

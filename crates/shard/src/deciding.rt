@@ -15,7 +15,7 @@ ghost use Rattle.shard.specs.Coming.{applied_of};
 ghost use Rattle.shard.specs.Deciding.{ballot_in, own_applied, told, IsSettled};
 
 use crate::coming::{Coming, answers_with};
-use crate::kept::Kept;
+use crate::kept::ShardKept;
 use column_family::Batch;
 use commit_check::Cause;
 use logical_time::{Clock, Fault, Stamp, Time, TxnId, Writer};
@@ -40,7 +40,7 @@ pub(crate) struct Deciding<'b> {
 }
 
 /// The coordinator's own part, as it is going to be applied.
-fn own_part<'b>(kept: &Kept, time: Time, deciding: &Deciding<'b>) -> Coming<'b>
+fn own_part<'b>(kept: &ShardKept, time: Time, deciding: &Deciding<'b>) -> Coming<'b>
     ensures { (top : TopologyValue) (me : ℕ) → IsPlace top me kept.now.place → applied_of result ≡ own_applied top me time (ballot_in deciding.now) }
 {
     let stamp = stamp_of(kept.place.node(), time, &deciding.stamp);
@@ -56,7 +56,11 @@ fn own_part<'b>(kept: &Kept, time: Time, deciding: &Deciding<'b>) -> Coming<'b>
 /// What a decision at this time tells beside `Commit`: Done and ReplBegin where the write was submitted here, a DepOk to
 /// each that asked for the transaction, and the answers to the reads that it lets go. Refused with `Memory` alone.
 #[inline]
-pub(crate) fn tell(kept: &Kept, time: Time, deciding: &Deciding) -> Result<Vec<Envelope>, Fault>
+pub(crate) fn tell(
+    kept: &ShardKept,
+    time: Time,
+    deciding: &Deciding,
+) -> Result<Vec<Envelope>, Fault>
     ensures ok { (top : TopologyValue) (me : ℕ) (a : ShardState) → Represents top me kept.now a → decision_of deciding.now.txn a ≡ None
         → AreApart (decide top me time a (ballot_in deciding.now)).state.applied
         → IfOk result (λ envelopes. envelopes.items ≡ told top me time a (ballot_in deciding.now)) }
@@ -85,7 +89,7 @@ pub(crate) fn tell(kept: &Kept, time: Time, deciding: &Deciding) -> Result<Vec<E
 /// `Store::apply_in_room` does, and isn't refused for it.
 #[inline]
 pub(crate) fn settle(
-    kept: &mut Kept,
+    kept: &mut ShardKept,
     clock: Clock,
     txn: TxnId,
     complete: Complete,

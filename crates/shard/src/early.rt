@@ -12,11 +12,16 @@ ghost use Rattle.write_txn.specs.Voters.{voters_of};
 ghost use Rattle.shard.specs.Kept.{Represents, IsStep};
 ghost use Rattle.shard.specs.Effects.{IsSpared};
 
-use crate::kept::Kept;
+use crate::kept::ShardKept;
 use logical_time::{Clock, Fault, Node, TxnId};
 
 /// Yes, where nothing is known of the transaction: the vote is kept, once for each node. Refused with `Memory` alone.
-pub(crate) fn note_vote(kept: &mut Kept, clock: Clock, txn: TxnId, node: Node) -> Result<(), Fault>
+pub(crate) fn note_vote(
+    kept: &mut ShardKept,
+    clock: Clock,
+    txn: TxnId,
+    node: Node,
+) -> Result<(), Fault>
     ensures step { OnOk result ((top : TopologyValue) (me : ℕ) (a : ShardState) (sent : List Envelope) → Represents top me kept.old a → state_of kept.old.transactions.ledger txn ≡ None
         → IsStep top me (on_yes top me clock a node txn) kept.new sent sent) }
     // it takes no memory where it is there
@@ -32,7 +37,7 @@ pub(crate) fn note_vote(kept: &mut Kept, clock: Clock, txn: TxnId, node: Node) -
 /// Notify, where nothing is known of the transaction: the notice is kept, once for each node. Refused with `Memory`
 /// alone.
 pub(crate) fn note_notice(
-    kept: &mut Kept,
+    kept: &mut ShardKept,
     clock: Clock,
     txn: TxnId,
     node: Node,

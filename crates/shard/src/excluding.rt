@@ -7,7 +7,7 @@ ghost use Rattle.shard.specs.Effects.{IsSpared};
 ghost use Rattle.shard.specs.Ignored.{IfIgnored};
 
 use crate::answers::answers_as_it_is;
-use crate::kept::Kept;
+use crate::kept::ShardKept;
 use commit_check::Cause;
 use logical_time::{Clock, Fault, Time, TxnId};
 use messages::Outbox;
@@ -15,7 +15,7 @@ use messages::Outbox;
 /// NotBy: the transaction isn't committed by this time, so the reads whose time isn't above it no longer wait for it, and
 /// those that wait for nothing more are answered, in the order of their arrival. Refused with `Memory` alone.
 pub(crate) fn not_by(
-    kept: &mut Kept,
+    kept: &mut ShardKept,
     clock: Clock,
     txn: TxnId,
     time: Time,

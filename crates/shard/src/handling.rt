@@ -15,7 +15,7 @@ use crate::begun::{Begun, begin};
 use crate::checking::{check, dep_check};
 use crate::committing::commit;
 use crate::excluding::not_by;
-use crate::kept::Kept;
+use crate::kept::ShardKept;
 use crate::parts::{prepare, prepare_remote, repl_part};
 use crate::reading::{read, read_at};
 use crate::repl_begun::{ReplBegun, repl_begin};
@@ -27,12 +27,12 @@ use messages::{Body, Cohorts, Dependencies, Envelope, Outbox, Refused, Shared};
 use slice::Read;
 use std::alloc::AllocError;
 use txn_state::WritePart;
-use write_txn::Kept as KeptPart;
+use write_txn::ReplicatedPart;
 
 /// Hears a body of which nothing is kept but numbers. What is for a session moves the clock alone. Refused with `Memory`
 /// alone.
 #[rattlefmt::skip]
-fn hear(kept: &mut Kept, clock: Clock, from: Node, body: &Body, outbox: &mut Outbox) -> Result<(), Fault>
+fn hear(kept: &mut ShardKept, clock: Clock, from: Node, body: &Body, outbox: &mut Outbox) -> Result<(), Fault>
     requires { is_handed_over body.now ≡ false }
     ensures step { OnOk result (Does (λ top me a. handled top me clock a from body.now) kept.old kept.new outbox.old.sent outbox.new.sent) }
     ensures same { OnErr result (IsSpared kept.old kept.new) }
@@ -61,7 +61,7 @@ fn hear(kept: &mut Kept, clock: Clock, from: Node, body: &Body, outbox: &mut Out
 
 /// Does what a body makes of the shard at this clock. Refused with `Memory` alone, and then the body comes back.
 #[rattlefmt::skip]
-fn act(kept: &mut Kept, clock: Clock, from: Node, body: Body, outbox: &mut Outbox) -> Result<(), (Fault, Body)>
+fn act(kept: &mut ShardKept, clock: Clock, from: Node, body: Body, outbox: &mut Outbox) -> Result<(), (Fault, Body)>
     ensures step { OnOk result (Does (λ top me a. handled top me clock a from body) kept.old kept.new outbox.old.sent outbox.new.sent) }
     ensures same { OnErr result (IsSpared kept.old kept.new) }
     ensures unsent { OnErr result (outbox.new.sent ≡ outbox.old.sent) }
@@ -91,9 +91,9 @@ fn act(kept: &mut Kept, clock: Clock, from: Node, body: Body, outbox: &mut Outbo
         },
         Body::ReplPart { txn, rows, stamp, coordinator } => {
             let part = WritePart { writer: Writer::new(txn, coordinator), batch: rows };
-            match repl_part(kept, clock, KeptPart { part, stamp }, outbox) {
+            match repl_part(kept, clock, ReplicatedPart { part, stamp }, outbox) {
                 Ok(()) => Ok(()),
-                Err((fault, KeptPart { part, stamp })) => Err((fault, Body::ReplPart { txn, rows: part.batch, stamp, coordinator })),
+                Err((fault, ReplicatedPart { part, stamp })) => Err((fault, Body::ReplPart { txn, rows: part.batch, stamp, coordinator })),
             }
         }
         other => match hear(kept, clock, from, &other, outbox) {
@@ -159,7 +159,7 @@ fn copy_of(asked: &Shared<Read>) -> Result<Shared<Read>, AllocError>
 /// Hears the envelope of this number, which stays in the outbox, where something is kept of its body: that is copied.
 /// Refused with `Memory` alone.
 #[rattlefmt::skip]
-fn keep_at(kept: &mut Kept, clock: Clock, number: usize, outbox: &mut Outbox) -> Result<(), Fault>
+fn keep_at(kept: &mut ShardKept, clock: Clock, number: usize, outbox: &mut Outbox) -> Result<(), Fault>
     requires sent { number < length outbox.old.sent }
     requires handed { (e : Envelope) → slice_get outbox.old.sent number ≡ Some e → is_handed_over e.body ≡ true }
     ensures step { (e : Envelope) → slice_get outbox.old.sent number ≡ Some e
@@ -189,7 +189,7 @@ fn keep_at(kept: &mut Kept, clock: Clock, number: usize, outbox: &mut Outbox) ->
         }
         Body::ReplPart { txn, ref rows, stamp, coordinator } => {
             let part = part_of(txn, rows, coordinator)?;
-            match repl_part(kept, clock, KeptPart { part, stamp }, outbox) { Ok(()) => Ok(()), Err((fault, KeptPart { part: _, stamp: _ })) => Err(fault) }
+            match repl_part(kept, clock, ReplicatedPart { part, stamp }, outbox) { Ok(()) => Ok(()), Err((fault, ReplicatedPart { part: _, stamp: _ })) => Err(fault) }
         }
         _ => unreachable!(),
     }
@@ -198,7 +198,7 @@ fn keep_at(kept: &mut Kept, clock: Clock, number: usize, outbox: &mut Outbox) ->
 /// Does what the envelope of this number, which stays in the outbox, makes of the shard at this clock. What is for a session
 /// moves the clock alone. Refused with `Memory` alone.
 #[rattlefmt::skip]
-fn act_at(kept: &mut Kept, clock: Clock, number: usize, outbox: &mut Outbox) -> Result<(), Fault>
+fn act_at(kept: &mut ShardKept, clock: Clock, number: usize, outbox: &mut Outbox) -> Result<(), Fault>
     requires { number < length outbox.old.sent }
     ensures step { (e : Envelope) → slice_get outbox.old.sent number ≡ Some e
         → OnOk result (Does (λ top me a. handled top me clock a e.from e.body) kept.old kept.new outbox.old.sent outbox.new.sent) }
@@ -232,7 +232,7 @@ fn act_at(kept: &mut Kept, clock: Clock, number: usize, outbox: &mut Outbox) -> 
 
 /// Handles the envelope of this number, which stays in the outbox, at one past the later of the shard's clock and its time.
 /// Refused where that is no time, and with `Memory`.
-pub(crate) fn hear_at(kept: &mut Kept, number: usize, outbox: &mut Outbox) -> Result<(), Fault>
+pub(crate) fn hear_at(kept: &mut ShardKept, number: usize, outbox: &mut Outbox) -> Result<(), Fault>
     requires { number < length outbox.old.sent }
     ensures time { (e : Envelope) → slice_get outbox.old.sent number ≡ Some e → OnOk result (max kept.old.clock e.time + 1 < 2 ^ 48) }
     ensures step { (e : Envelope) → slice_get outbox.old.sent number ≡ Some e
@@ -252,7 +252,7 @@ pub(crate) fn hear_at(kept: &mut Kept, number: usize, outbox: &mut Outbox) -> Re
 /// Handles an envelope, at one past the later of the shard's clock and its time. Refused where that is no time, and with
 /// `Memory`, and then the envelope comes back.
 pub(crate) fn handle(
-    kept: &mut Kept,
+    kept: &mut ShardKept,
     envelope: Envelope,
     outbox: &mut Outbox,
 ) -> Result<(), Refused>

@@ -7,7 +7,7 @@ use std::alloc::Global;
 use write_txn::{Transactions, Voters};
 
 /// What a shard keeps.
-pub(crate) struct Kept {
+pub(crate) struct ShardKept {
     /// Where growths come from.
     pub(crate) alloc: Global,
     /// Where the shard stands.
@@ -24,7 +24,7 @@ pub(crate) struct Kept {
     pub(crate) waiting: Waits,
 }
 
-impl Kept {
+impl ShardKept {
     ghost use Rattle.std.specs.Prelude.{◌≡◌, is_some};
     ghost use Rattle.write_txn.specs.Ledger.{state_of};
 

@@ -8,17 +8,17 @@ ghost use Rattle.shard.specs.Kept.{Does};
 ghost use Rattle.shard.specs.Effects.{IsSpared};
 ghost use Rattle.shard.specs.Ignored.{IfIgnored};
 
-use crate::kept::Kept;
+use crate::kept::ShardKept;
 use logical_time::{Clock, Fault, TxnId};
 use messages::Outbox;
 use replicator::{notify, yes};
 use txn_state::WritePart;
-use write_txn::{Kept as KeptPart, Open};
+use write_txn::{Open, ReplicatedPart};
 
 /// Prepare: ignored where the transaction is known; else the part is prepared and its rows are marked, and a Yes goes to
 /// its coordinator. Refused with `Memory` alone, and then the part comes back.
 pub(crate) fn prepare(
-    kept: &mut Kept,
+    kept: &mut ShardKept,
     clock: Clock,
     part: WritePart,
     outbox: &mut Outbox,
@@ -55,11 +55,11 @@ pub(crate) fn prepare(
 /// ReplPart: ignored where the transaction is known; else the part is kept, without a mark, and a Notify goes to its
 /// coordinator in this data centre. Refused with `Memory` alone, and then the part comes back.
 pub(crate) fn repl_part(
-    kept: &mut Kept,
+    kept: &mut ShardKept,
     clock: Clock,
-    held: KeptPart,
+    held: ReplicatedPart,
     outbox: &mut Outbox,
-) -> Result<(), (Fault, KeptPart)>
+) -> Result<(), (Fault, ReplicatedPart)>
     ensures step { OnOk result (Does (λ top me a. on_repl_part top me clock a (kept_part_of held)) kept.old kept.new outbox.old.sent outbox.new.sent) }
     ensures same { OnErr result (IsSpared kept.old kept.new) }
     ensures unsent { OnErr result (outbox.new.sent ≡ outbox.old.sent) }
@@ -67,7 +67,7 @@ pub(crate) fn repl_part(
     ensures quiet { IfIgnored (λ top me a. on_repl_part top me clock a (kept_part_of held)) clock kept.old (IsOk result) }
     ensures memory { IfErr result (λ e. (e.0 ≡ fault.Memory) × (e.1 ≡ held)) }
 {
-    let KeptPart { part, stamp } = held;
+    let ReplicatedPart { part, stamp } = held;
     let writer = part.writer;
     if kept.knows(writer.txn()) {
         drop(part);
@@ -76,9 +76,9 @@ pub(crate) fn repl_part(
     }
     match outbox.reserve(1) {
         Ok(()) => {}
-        Err(fault) => return Err((fault, KeptPart { part, stamp })),
+        Err(fault) => return Err((fault, ReplicatedPart { part, stamp })),
     }
-    kept.transactions.keep(KeptPart { part, stamp })?;
+    kept.transactions.keep(ReplicatedPart { part, stamp })?;
     kept.transactions.forget_votes(writer.txn());
     kept.notices.forget(writer.txn());
     outbox
@@ -91,7 +91,7 @@ pub(crate) fn repl_part(
 /// PrepareRemote: a part that is kept is prepared and its rows are marked, and a Yes goes to its coordinator; else
 /// ignored. Refused with `Memory` alone.
 pub(crate) fn prepare_remote(
-    kept: &mut Kept,
+    kept: &mut ShardKept,
     clock: Clock,
     txn: TxnId,
     outbox: &mut Outbox,

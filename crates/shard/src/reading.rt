@@ -10,7 +10,7 @@ ghost use Rattle.shard.specs.Kept.{Does, Represents};
 ghost use Rattle.shard.specs.Effects.{IsSpared};
 
 use crate::below::writers_below;
-use crate::kept::Kept;
+use crate::kept::ShardKept;
 use commit_check::{Wait, answer_at, rows_now};
 use logical_time::{Clock, Fault, Node, Time, TxnId, Writer};
 use messages::{Body, Envelope, Outbox, Shared};
@@ -20,7 +20,7 @@ use slice::Read;
 /// Read: the rows by the newest versions, with how long they are known to be valid, go to the session. Refused with
 /// `Memory` alone.
 pub(crate) fn read(
-    kept: &mut Kept,
+    kept: &mut ShardKept,
     clock: Clock,
     from: Node,
     number: u64,
@@ -58,7 +58,7 @@ pub(crate) fn read(
 /// The answer to a read at a time, which may be that the versions of that time are collected, goes to the session. Refused
 /// with `Memory` alone.
 fn answered(
-    kept: &mut Kept,
+    kept: &mut ShardKept,
     clock: Clock,
     from: Node,
     number: u64,
@@ -90,7 +90,7 @@ fn answered(
 
 /// The transactions of these writers, and a Check of each at this time, for a read at another. Refused with `Memory` alone.
 fn asking(
-    kept: &Kept,
+    kept: &ShardKept,
     now: Time,
     time: Time,
     writers: &[Writer],
@@ -110,7 +110,7 @@ fn asking(
 /// A read at a time waits for the transactions of these writers, and each one's coordinator is asked. Refused with `Memory`
 /// alone, and then the read comes back.
 fn waits(
-    kept: &mut Kept,
+    kept: &mut ShardKept,
     clock: Clock,
     from: Node,
     number: u64,
@@ -150,7 +150,7 @@ fn waits(
 
 /// The writers whose transactions a read at a time waits for: none where the horizon is above the time, since it is answered
 /// then. Refused with `Memory` alone.
-fn waited_for(kept: &Kept, time: Time, read: &Shared<Read>) -> Result<Vec<Writer>, Fault>
+fn waited_for(kept: &ShardKept, time: Time, read: &Shared<Read>) -> Result<Vec<Writer>, Fault>
     ensures ok { (top : TopologyValue) (me : ℕ) (a : ShardState) → Represents top me kept.now a → IfOk result (λ writers. writers.items ≡ (if nat_lt time a.low then [] else asked_below a time read.now)) }
     ensures memory { IfErr result (λ e. e ≡ fault.Memory) }
 {
@@ -164,7 +164,7 @@ fn waited_for(kept: &Kept, time: Time, read: &Shared<Read>) -> Result<Vec<Writer
 /// its time in an asked row; else it waits, and a Check goes to the coordinator of each such transaction. Refused with
 /// `Memory` alone, and then the read comes back.
 pub(crate) fn read_at(
-    kept: &mut Kept,
+    kept: &mut ShardKept,
     clock: Clock,
     from: Node,
     number: u64,

@@ -20,7 +20,7 @@ ghost use Rattle.shard.specs.Effects.{IsSpared};
 ghost use Rattle.shard.specs.Ignored.{IfIgnored};
 ghost use Rattle.shard.specs.ReplBegun.{ballot_begun, IsBegun};
 
-use crate::kept::Kept;
+use crate::kept::ShardKept;
 use crate::replicas::{conclude, is_decided, told_by};
 use column_family::Batch;
 use logical_time::{Clock, Fault, Stamp, TxnId, Writer};
@@ -45,7 +45,7 @@ pub(crate) struct ReplBegun {
 }
 
 /// What is missing of a ballot that has just come: notices, of which some may have come early, and all answers.
-fn missing_of(kept: &Kept, begun: &ReplBegun) -> Result<(Votes, Answers), Fault>
+fn missing_of(kept: &ShardKept, begun: &ReplBegun) -> Result<(Votes, Answers), Fault>
     ensures notices { (top : TopologyValue) (me : ℕ) → IsPlace top me kept.now.place
         → IfOk result (λ missing. missing.0 ≡ votes_after (view.near_nodes top me begun.now.cohorts) (voters_of kept.now.notices begun.now.txn)) }
     ensures answers { IfOk result (λ missing. (t : TxnValue) → is_unanswered missing.1 t ≡ is_dependency begun.now.dependencies t) }
@@ -58,7 +58,7 @@ fn missing_of(kept: &Kept, begun: &ReplBegun) -> Result<(Votes, Answers), Fault>
 }
 
 /// The ballot as it has just come. Refused with `Memory` alone, and then all comes back.
-fn remote_of(kept: &Kept, begun: ReplBegun) -> Result<Remote, (Fault, ReplBegun)>
+fn remote_of(kept: &ShardKept, begun: ReplBegun) -> Result<Remote, (Fault, ReplBegun)>
     ensures begun { (top : TopologyValue) (me : ℕ) → IsPlace top me kept.now.place → IfOk result (λ remote. IsBegun top me (voters_of kept.now.notices begun.txn) remote) }
     ensures ballot { IfOk result (λ remote. kept_ballot_of remote ≡ ballot_begun begun) }
     ensures memory { IfErr result (λ e. (e.0 ≡ fault.Memory) × (e.1 ≡ begun)) }
@@ -127,7 +127,7 @@ fn make_room_if(
 /// Keeps a ballot of an unknown transaction, and makes it ready if nothing is missing. Refused with `Memory` alone, and then
 /// the ballot comes back.
 fn begin(
-    kept: &mut Kept,
+    kept: &mut ShardKept,
     clock: Clock,
     remote: Remote,
     outbox: &mut Outbox,
@@ -171,7 +171,7 @@ fn begin(
 /// DepCheck goes to each dependency, and if nothing is missing it is made ready. Refused with `Memory` alone, and then
 /// all comes back.
 pub(crate) fn repl_begin(
-    kept: &mut Kept,
+    kept: &mut ShardKept,
     clock: Clock,
     begun: ReplBegun,
     outbox: &mut Outbox,

@@ -20,7 +20,7 @@ ghost use Rattle.shard.specs.Counting.{IsInTime, on_missing};
 
 use crate::deciding::{Deciding, settle, tell};
 use crate::early::note_notice;
-use crate::kept::Kept;
+use crate::kept::ShardKept;
 use logical_time::{Clock, Fault, Node, Stamp, Time, TxnId};
 use messages::{Envelope, Outbox};
 use replicator::prepare_remotes;
@@ -30,7 +30,7 @@ use write_txn::{Missing, Open, Remote, Transactions};
 /// What a ballot that waits sends, by whether it becomes ready: PrepareRemote to each cohort, or without any what its
 /// decision tells; while something is missing nothing.
 pub(crate) fn told_by(
-    kept: &Kept,
+    kept: &ShardKept,
     time: Time,
     remote: &Remote,
     is_ready: bool,
@@ -85,7 +85,7 @@ fn make_room_if(transactions: &mut Transactions, is_decided: bool, txn: TxnId) -
 /// Concludes an event of a ballot: sends these envelopes, and settles the transaction where that decided it. What came early
 /// of it is forgotten. There is room for all. Takes memory only as `Store::apply_in_room` does, and isn't refused for it.
 pub(crate) fn conclude(
-    kept: &mut Kept,
+    kept: &mut ShardKept,
     clock: Clock,
     txn: TxnId,
     complete: Option<Complete>,
@@ -111,7 +111,7 @@ pub(crate) fn conclude(
 
 /// A notice or an answer that may be the last missing thing, as `count` counts it. Refused with `Memory` alone.
 fn count_last(
-    kept: &mut Kept,
+    kept: &mut ShardKept,
     clock: Clock,
     txn: TxnId,
     missing: Missing,
@@ -152,7 +152,7 @@ fn count_last(
 /// ballot ready; else ignored. Refused with `Memory` alone.
 #[inline]
 fn count(
-    kept: &mut Kept,
+    kept: &mut ShardKept,
     clock: Clock,
     txn: TxnId,
     missing: Missing,
@@ -177,7 +177,7 @@ fn count(
 /// Notify: an early notice is kept, once for each node; one of a cohort that isn't yet counted is counted, and the last
 /// missing thing makes the ballot ready; else ignored. Refused with `Memory` alone.
 pub(crate) fn notice(
-    kept: &mut Kept,
+    kept: &mut ShardKept,
     clock: Clock,
     txn: TxnId,
     node: Node,
@@ -199,7 +199,7 @@ pub(crate) fn notice(
 /// DepOk: a missing answer of the waiter is counted, and the last missing thing makes its ballot ready; else ignored.
 /// Refused with `Memory` alone.
 pub(crate) fn dep_ok(
-    kept: &mut Kept,
+    kept: &mut ShardKept,
     clock: Clock,
     dependency: TxnId,
     waiter: TxnId,

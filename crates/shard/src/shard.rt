@@ -17,7 +17,7 @@ ghost use Rattle.shard.specs.Kept.{Represents, IsStepOf, IsRefusalOf, IsSpentOrM
 ghost use Rattle.shard.specs.Right.{SendsRight};
 ghost use Rattle.shard.specs.Unfinished.{unfinished_of};
 
-use crate::kept::Kept;
+use crate::kept::ShardKept;
 use crate::{handling, unfinished};
 use commit_check::Waits;
 use dependencies::Askers;
@@ -32,13 +32,13 @@ use write_txn::{Transactions, Voters};
 /// protocol's machine: for every state of the machine that it stands for, a call does that state's step. It must be
 /// closed.
 pub struct Shard {
-    kept: Kept,
+    kept: ShardKept,
 }
 
 impl Model for Shard {
-    ghost use Rattle.shard.specs.declared.kept.Kept.{Kept};
+    ghost use Rattle.shard.specs.declared.kept.ShardKept.{ShardKept};
 
-    ghost Value = { Kept };
+    ghost Value = { ShardKept };
 
     ghost view = { λ s. s.kept };
 }
@@ -50,7 +50,7 @@ impl Shard {
         ensures state { IfSome result (λ s. Represents topology.now node s new_shard) }
     {
         let place = Place::new(topology, node)?;
-        let kept = Kept {
+        let kept = ShardKept {
             alloc,
             place,
             clock: Clock::new(),
@@ -163,7 +163,7 @@ impl Shard {
     /// Ends the shard, and gives up what it hasn't finished.
     pub fn close(self) {
         let Shard { kept } = self;
-        let Kept {
+        let ShardKept {
             alloc: _,
             place: _,
             clock: _,
@@ -180,7 +180,7 @@ impl Shard {
     /// The same for a program that ends with it: the memory of its rows is given back with that of the process.
     pub fn leave(self) {
         let Shard { kept } = self;
-        let Kept {
+        let ShardKept {
             alloc: _,
             place: _,
             clock: _,

@@ -13,7 +13,7 @@ ghost use Rattle.shard.specs.Kept.{Represents};
 ghost use Rattle.shard.specs.UnderWay.{part_under_way};
 ghost use Rattle.shard.specs.Unfinished.{unfinished_of};
 
-use crate::kept::Kept;
+use crate::kept::ShardKept;
 use logical_time::{Fault, Stamp, Time, TxnId};
 use std::alloc::{AllocError, Global};
 use std::collections::BTreeSet;
@@ -60,7 +60,7 @@ fn parts_of(alloc: Global, ledger: &Ledger, txns: &BTreeSet<TxnId>) -> Result<Ve
 /// The parts that are kept or prepared and not applied, in the order of their transactions' numbers. They share the
 /// bytes of keys, names and values. In the order of m log m for m of them, beside their copies. Refused with `Memory`
 /// alone.
-pub(crate) fn unfinished(kept: &Kept) -> Result<Vec<WritePart>, Fault>
+pub(crate) fn unfinished(kept: &ShardKept) -> Result<Vec<WritePart>, Fault>
     ensures ok { (top : TopologyValue) (me : ℕ) (a : ShardState) → Represents top me kept.now a → IfOk result (λ parts. parts.items ≡ unfinished_of top me a) }
     ensures memory { IfErr result (λ e. e ≡ fault.Memory) }
 {
@@ -71,7 +71,7 @@ pub(crate) fn unfinished(kept: &Kept) -> Result<Vec<WritePart>, Fault>
 
 /// The commit time and the stamp with which the shard decided the transaction, if it did. Constant on average, however
 /// many transactions are known.
-pub(crate) fn decided(kept: &Kept, txn: TxnId) -> Option<(Time, Stamp)>
+pub(crate) fn decided(kept: &ShardKept, txn: TxnId) -> Option<(Time, Stamp)>
     ensures { (top : TopologyValue) (me : ℕ) (a : ShardState) → Represents top me kept.now a → option_map (λ (d : Decision). (d.commit, d.stamp)) (decision_of txn a) ≡ result }
 {
     kept.transactions.ledger().decided(txn)

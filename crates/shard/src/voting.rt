@@ -17,7 +17,7 @@ ghost use Rattle.shard.specs.Deciding.{node_at, told};
 
 use crate::deciding::{Deciding, settle, tell};
 use crate::early::note_vote;
-use crate::kept::Kept;
+use crate::kept::ShardKept;
 use logical_time::{Clock, Fault, Node, Stamp, TxnId};
 use messages::{Envelope, Outbox};
 use write_txn::{Led as Held, Open, stamp_of};
@@ -33,7 +33,7 @@ struct Announcing {
 }
 
 /// Whether the vote of the node is the last that a ballot of the transaction misses.
-fn is_last(kept: &Kept, txn: TxnId, node: Node) -> bool
+fn is_last(kept: &ShardKept, txn: TxnId, node: Node) -> bool
     ensures { result ≡ is_some (completed_by node (state_of kept.now.transactions.ledger txn)) }
 {
     match kept.transactions.ledger().open(txn) {
@@ -43,7 +43,7 @@ fn is_last(kept: &Kept, txn: TxnId, node: Node) -> bool
 }
 
 /// What the decision of this ballot is going to send.
-fn told_with(kept: &Kept, clock: Clock, txn: TxnId, led: &Held) -> Result<Announcing, Fault>
+fn told_with(kept: &ShardKept, clock: Clock, txn: TxnId, led: &Held) -> Result<Announcing, Fault>
     requires { led.now.ballot.own.part.writer.txn ≡ txn }
     ensures ok { (top : TopologyValue) (me : ℕ) (a : ShardState) → Represents top me kept.now a → state_of kept.now.transactions.ledger txn ≡ Some (Holds (in_open.Led led.now))
         → AreApart (decide top me clock a (begun_of led.now)).state.applied
@@ -69,7 +69,7 @@ fn told_with(kept: &Kept, clock: Clock, txn: TxnId, led: &Held) -> Result<Announ
 }
 
 /// What the decision of the transaction's ballot is going to send.
-fn told_of(kept: &Kept, clock: Clock, txn: TxnId, node: Node) -> Result<Announcing, Fault>
+fn told_of(kept: &ShardKept, clock: Clock, txn: TxnId, node: Node) -> Result<Announcing, Fault>
     requires { is_some (completed_by node (state_of kept.now.transactions.ledger txn)) ≡ true }
     ensures ok { (top : TopologyValue) (me : ℕ) (a : ShardState) (l : Led) → Represents top me kept.now a → state_of kept.now.transactions.ledger txn ≡ Some (Holds (in_open.Led l))
         → AreApart (decide top me clock a (begun_of l)).state.applied
@@ -87,7 +87,7 @@ fn told_of(kept: &Kept, clock: Clock, txn: TxnId, node: Node) -> Result<Announci
 
 /// The last vote that a ballot misses: the transaction is decided.
 fn decide_by(
-    kept: &mut Kept,
+    kept: &mut ShardKept,
     clock: Clock,
     txn: TxnId,
     node: Node,
@@ -115,7 +115,7 @@ fn decide_by(
 }
 
 /// A vote that isn't the last: it is counted if a ballot misses it, else ignored. Takes no memory.
-fn count(kept: &mut Kept, clock: Clock, txn: TxnId, node: Node)
+fn count(kept: &mut ShardKept, clock: Clock, txn: TxnId, node: Node)
     requires known { is_some (state_of kept.old.transactions.ledger txn) ≡ true }
     requires not_last { is_some (completed_by node (state_of kept.old.transactions.ledger txn)) ≡ false }
     ensures { (sent : List Envelope) → Does (λ top me a. on_yes top me clock a node txn) kept.old kept.new sent sent }
@@ -133,7 +133,7 @@ fn count(kept: &mut Kept, clock: Clock, txn: TxnId, node: Node)
 /// Yes: the vote of a cohort is counted once, and the last one decides; before Begin it is kept; else ignored. Refused with
 /// `Memory` alone, and only where it is kept or decides.
 pub(crate) fn yes(
-    kept: &mut Kept,
+    kept: &mut ShardKept,
     clock: Clock,
     txn: TxnId,
     node: Node,

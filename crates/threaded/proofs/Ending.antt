@@ -15,7 +15,7 @@ use Rattle.messages.specs.Session.{SessionState, SessionStep, is_idle}
 use Rattle.messages.specs.Submitting.{move_if, begun, submit_fault, submit_if, session_submit}
 use Rattle.messages.specs.SessionEvents.{heard, session_handle}
 use Rattle.messages.specs.Actors.{ActorState, OfShard, OfSession}
-use Rattle.client.specs.declared.kept.Kept.{Kept as SessionKept}
+use Rattle.client.specs.declared.kept.SessionKept.{SessionKept}
 use Rattle.client.specs.Current.{open_of}
 use Rattle.client.specs.State.{state_of, finished_of}
 use Rattle.world.proofs.HeardCases.{heard_kinds}

@@ -19,9 +19,9 @@ use Rattle.messages.specs.ShardEvents.{shard_handle, shard_collect}
 use Rattle.messages.specs.SessionEvents.{session_handle, session_taken}
 use Rattle.messages.specs.Submitting.{session_submit}
 use Rattle.messages.specs.Actors.{ActorState, OfShard, OfSession, opening_actor, ActorStep, of_shard, of_session, actor_step, Replayed, replay, replay_of}
-use Rattle.shard.specs.declared.kept.Kept.{Kept as ShardKept}
+use Rattle.shard.specs.declared.kept.ShardKept.{ShardKept}
 use Rattle.shard.specs.Kept as shard
-use Rattle.client.specs.declared.kept.Kept.{Kept as SessionKept}
+use Rattle.client.specs.declared.kept.SessionKept.{SessionKept}
 use Rattle.client.specs.Represents as session
 use Rattle.client.specs.State.{state_of, finished_of}
 use Rattle.actors.specs.Journals.{op_in, submissions, sends_to, followed_by}

@@ -15,9 +15,9 @@ use Rattle.messages.specs.ShardEvents.{shard_handle, shard_collect}
 use Rattle.messages.specs.SessionEvents.{session_handle}
 use Rattle.messages.specs.Submitting.{session_submit}
 use Rattle.messages.specs.Actors.{ActorState, OfShard, OfSession}
-use Rattle.shard.specs.declared.kept.Kept.{Kept as ShardKept}
+use Rattle.shard.specs.declared.kept.ShardKept.{ShardKept}
 use Rattle.shard.specs.Kept as shard
-use Rattle.client.specs.declared.kept.Kept.{Kept as SessionKept}
+use Rattle.client.specs.declared.kept.SessionKept.{SessionKept}
 use Rattle.client.specs.Represents as session
 use Rattle.threaded.specs.declared.actor.Actor.{Actor}
 use Rattle.threaded.specs.declared.actor.Actor.TheVariants as actor

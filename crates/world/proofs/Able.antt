@@ -11,7 +11,7 @@ use Rattle.world.proofs.Facts.{IsDone, DecidedOnce, PreparedBefore, PreparedSoun
 use Rattle.world.proofs.Invariant.{MayWait, EnvelopeSound}
 
 -- each entry of the step's state is old or sound in the run, and each envelope that it sends is sound there
-pub record Fresh (top : TopologyValue) (x : Run) (node : ℕ) (a : ShardState) (st : ShardStep) : Type 0 where
+pub record AddsSound (top : TopologyValue) (x : Run) (node : ℕ) (a : ShardState) (st : ShardStep) : Type 0 where
   pub prepared : (p : PreparedPart) → Among p st.state.prepared → Among p a.prepared ⊎ PreparedSound top x node p
   pub ballots : (b : BegunBallot) → Among b st.state.ballots → Among b a.ballots ⊎ BallotSound top x node (x.shards node).clock b
   pub early : (v : Vote) → Among v st.state.early → Among v a.early ⊎ PreparedBefore x v.node v.txn (x.shards node).clock
@@ -29,4 +29,4 @@ pub record Fresh (top : TopologyValue) (x : Run) (node : ℕ) (a : ShardState) (
 -- leaves it
 pub record Able (top : TopologyValue) (w : Run) (node : ℕ) (a : ShardState) (st : ShardStep) : Type 0 where
   pub grows : ShardGrows a st.state
-  pub fresh : (x : Run) → Grows top w x → x.shards node ≡ st.state → Fresh top x node a st
+  pub fresh : (x : Run) → Grows top w x → x.shards node ≡ st.state → AddsSound top x node a st

@@ -18,7 +18,7 @@ use Rattle.world.proofs.Among.{Among, among_append, append_first, among_last, la
 use Rattle.world.proofs.Growth.{NewPrepared, NewDecision, ShardGrows, Grows}
 use Rattle.world.proofs.Facts.{IsWritten, part_on, DecidedOnce, PreparedBefore, RoleFits, PreparedSound, BallotSound}
 use Rattle.world.proofs.Invariant.{EnvelopeSound}
-use Rattle.world.proofs.Able.{Fresh, Able}
+use Rattle.world.proofs.Able.{AddsSound, Able}
 use Rattle.world.proofs.Near.{lead_number}
 use Rattle.world.proofs.Lasting.{same_shard_grows, same_session_grows, written_grows, before_grows, ballot_grows}
 
@@ -50,7 +50,7 @@ then_grows {a} {b} {c} f g =
 abbrev pub only : ShardState → ShardStep
 only b = record { state = b; sends = [] }
 
-pub then_fresh : (top : TopologyValue) (x : Run) (node : ℕ) (a b : ShardState) (st : ShardStep) → Fresh top x node a (only b) → Fresh top x node b st → Fresh top x node a st
+pub then_fresh : (top : TopologyValue) (x : Run) (node : ℕ) (a b : ShardState) (st : ShardStep) → AddsSound top x node a (only b) → AddsSound top x node b st → AddsSound top x node a st
 then_fresh top x node a b st f g =
     record {
       prepared = λ e m. elim (g.prepared e m) [ inl o ↦ f.prepared e o | inr n ↦ inr n ];
@@ -69,7 +69,7 @@ then_fresh top x node a b st f g =
 
 -- an input is stored first, and then the step is made
 pub added : (top : TopologyValue) (w : Run) (node : ℕ) (a b : ShardState) (st : ShardStep) → ShardGrows a b
-    → ((x : Run) → Grows top w x → st.state.clock ≤ (x.shards node).clock → Fresh top x node a (only b)) → Able top w node b st → Able top w node a st
+    → ((x : Run) → Grows top w x → st.state.clock ≤ (x.shards node).clock → AddsSound top x node a (only b)) → Able top w node b st → Able top w node a st
 added top w node a b st g f k =
     record {
       grows = then_grows g k.grows;

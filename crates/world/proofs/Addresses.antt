@@ -16,7 +16,7 @@ use Rattle.world.proofs.Among.{Among, get_among, all_among}
 use Rattle.world.proofs.Invariant.{home, Says, Inv}
 use Rattle.world.proofs.Near.{shard_below}
 use Rattle.world.proofs.About.{kind_of}
-use Rattle.world.proofs.Underway.{WaitsFor, of_ballot, of_moving, Known, AtOrigin, SaysLive, Live}
+use Rattle.world.proofs.Underway.{WaitsFor, of_ballot, of_moving, Knows, AtOrigin, SaysLive, Live}
 use Rattle.world.proofs.LiveHeard.{is_for_shard}
 use Rattle.world.proofs.Stations.{Stations}
 
@@ -68,16 +68,16 @@ module _ (top : TopologyValue) (w : Run) (some : 0 < top.shards) (inv : Inv top 
       dc_shard top node some (subst (λ d. d < top.dcs) (sym o.here) (live.submitted o.submission o.batch o.written.among o.written.op).home)
 
   -- only shards have prepared or decided something
-  pub known_shard : (node : ℕ) (t : TxnValue) → Known (w.shards node) t → is_shard top node ≡ true
+  pub known_shard : (node : ℕ) (t : TxnValue) → Knows (w.shards node) t → is_shard top node ≡ true
   known_shard node t k = go (is_shard top node) refl
     where
-      none : Known new_shard t → ⊥
+      none : Knows new_shard t → ⊥
       none (inl p) = absurd p.1
       none (inr d) = absurd d.1
 
       go : (b : Bool) → is_shard top node ≡ b → is_shard top node ≡ true
       go true e = e
-      go false e = absurd (none (subst (λ a. Known a t) (stations.shards node e) k))
+      go false e = absurd (none (subst (λ a. Knows a t) (stations.shards node e) k))
 
   -- what is for a shard goes to one
   pub to_shard : (from to time : ℕ) (b : Body) → Says top w from to time b → SaysLive top w from to (kind_of b) → is_for_shard (kind_of b) ≡ true

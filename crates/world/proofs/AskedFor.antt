@@ -12,7 +12,7 @@ use Rattle.messages.specs.Home.{HomeValue}
 use Rattle.messages.specs.Topology.{TopologyValue, shard_node}
 use Rattle.messages.specs.Shard.{ShardState, Decision}
 use Rattle.messages.specs.Known.{decision_of}
-use Rattle.shard.specs.declared.kept.Kept.{Kept}
+use Rattle.shard.specs.declared.kept.ShardKept.{ShardKept}
 use Rattle.shard.specs.Kept as shard
 use Rattle.world.specs.declared.actors.Actors.{Actors}
 use Rattle.world.specs.declared.log.Log.{Log}
@@ -89,7 +89,7 @@ asked_is_history a l dc h holds is =
     (histories_are_asked a.topology l.events.items (stands a.topology holds.running.sound).some dc)
 
 -- what the shard at the coordinator's place tells
-pub decided_there : (top : TopologyValue) (states : ℕ → ShardState) (home : HomeValue) (xs : List Kept) (batch : List Change) (txn : TxnValue) (place number : ℕ) (k : Kept) (told : Option (ℕ × StampValue))
+pub decided_there : (top : TopologyValue) (states : ℕ → ShardState) (home : HomeValue) (xs : List ShardKept) (batch : List Change) (txn : TxnValue) (place number : ℕ) (k : ShardKept) (told : Option (ℕ × StampValue))
     → top.shards ≡ home.shards → AreShards top states xs → place ≡ home.dc * home.shards + number → number ≡ coordinator_of home.shards batch → slice_get xs place ≡ Some k
     → ((t : TopologyValue) (me : ℕ) (a : ShardState) → shard.Represents t me k a → option_map (λ (d : Decision). (d.commit, d.stamp)) (decision_of txn a) ≡ told)
     → option_map (λ (d : Decision). (d.commit, d.stamp)) (decision_of txn (states (shard_node top home.dc (coordinator_of top.shards batch)))) ≡ told
@@ -99,7 +99,7 @@ decided_there top states home xs batch txn place number k told e are at is there
     ap (λ n. option_map (λ (d : Decision). (d.commit, d.stamp)) (decision_of txn (states n))) node ∙ decides top place (states place) (are.each place k there)
 
 -- what is asked of a world is the history of its run
-pub listed : (v : WorldValue) (a : Actors) (l : Log) (dc : ℕ) (home : HomeValue) (xs : List Kept) (ws : List Written) (r : Result (List Committed) Fault) → Holds a.topology a l
+pub listed : (v : WorldValue) (a : Actors) (l : Log) (dc : ℕ) (home : HomeValue) (xs : List ShardKept) (ws : List Written) (r : Result (List Committed) Fault) → Holds a.topology a l
     → record { top = a.topology; events = l.events.items } ≡ v → home ≡ record { dc = dc; shards = a.topology.shards } → xs ≡ a.shards.items → ws ≡ l.writes.items
     → ((top : TopologyValue) (states : ℕ → ShardState) → top.shards ≡ home.shards → AreShards top states xs → IfOk r (λ h. h ≡ filter_map (entry_at top states home.dc) ws))
     → IfOk r (λ h. IsHistory v.top (run_of v) dc h)

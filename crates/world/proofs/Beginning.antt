@@ -8,7 +8,7 @@ use Rattle.logical_time.specs.declared.fault.Fault.{Fault}
 use Rattle.logical_time.specs.declared.fault.Fault.TheVariants.{Memory, Script}
 use Rattle.messages.specs.Topology.{TopologyValue, is_topology, is_shard, shard_count}
 use Rattle.messages.specs.Shard.{new_shard}
-use Rattle.shard.specs.declared.kept.Kept.{Kept}
+use Rattle.shard.specs.declared.kept.ShardKept.{ShardKept}
 use Rattle.shard.specs.Kept as shard
 use Rattle.world.specs.declared.station.Station.{Station}
 use Rattle.world.specs.Run.{opening}
@@ -40,10 +40,10 @@ one_more P n xs x are is =
 
 -- ## Shards
 
-abbrev pub Begins : TopologyValue → ℕ → Kept → Type 0
+abbrev pub Begins : TopologyValue → ℕ → ShardKept → Type 0
 Begins top i k = shard.Represents top i k new_shard
 
-pub shards_begin : (top : TopologyValue) (n : ℕ) (xs : List Kept) → n ≡ shard_count top → AreFirst (Begins top) n xs → AreShards top (λ node. new_shard) xs
+pub shards_begin : (top : TopologyValue) (n : ℕ) (xs : List ShardKept) → n ≡ shard_count top → AreFirst (Begins top) n xs → AreShards top (λ node. new_shard) xs
 shards_begin top n xs e are = record { len = are.len ∙ e; each = are.each }
 
 pub node_is_shard : (top : TopologyValue) (node n : ℕ) → n ≡ shard_count top → node < n → is_shard top node ≡ true

@@ -15,7 +15,7 @@ use Rattle.world.proofs.Among.{Among, among_append, append_first, among_last, la
 use Rattle.world.proofs.Growth.{NewDecision, ShardGrows}
 use Rattle.world.proofs.Facts.{near, lead, IsDecided, IsStamp, DecidedOnce, PreparedBefore, StampFits, BallotSound, KeptBallotSound, DecisionSound, AppliedSound}
 use Rattle.world.proofs.Invariant.{MayWait, EnvelopeSound, Inv}
-use Rattle.world.proofs.Able.{Fresh, Able}
+use Rattle.world.proofs.Able.{AddsSound, Able}
 use Rattle.world.proofs.Lasting.{before_grows, ballot_grows}
 use Rattle.world.proofs.LastingAll.{may_wait_grows}
 use Rattle.world.proofs.Near.{cohort_below, near_dc, lead_number, peer_dc, peer_part}
@@ -176,7 +176,7 @@ module _ (top : TopologyValue) (x : Run) (node n : ℕ) (a : ShardState) (b : Be
         | inr r ↦ told_sound top x node n (record a { decided = a.decided ++ decision node n b ∷ []; applied = a.applied ++ part top node n b ∷ [] }) _ e r
       ]
 
-  pub decide_fresh : Fresh top x node a (decide top node n a b)
+  pub decide_fresh : AddsSound top x node a (decide top node n a b)
   decide_fresh =
       record {
         prepared = λ e m. inl m;

@@ -17,7 +17,7 @@ use Rattle.world.proofs.Invariant.{Inv}
 use Rattle.world.proofs.Near.{peer_dc}
 use Rattle.world.proofs.OneBatch.{batch_one}
 use Rattle.world.proofs.About.{OfCommit, OfReplBegin, OfDepOk, OfDone, Sent}
-use Rattle.world.proofs.Underway.{HasDecision, Known, WaitsFor, vote_of, met_of, Away, DecisionLive, Entries, EarlyCounted}
+use Rattle.world.proofs.Underway.{HasDecision, Knows, WaitsFor, vote_of, met_of, Away, DecisionLive, Entries, EarlyCounted}
 use Rattle.world.proofs.LivePlaces.{same_at, other_dc, away_home, cohort_aside}
 use Rattle.world.proofs.LiveSteps.{Here, Fine, Left, Rounds, let_go_sends, BallotAt, some_none}
 
@@ -166,7 +166,7 @@ module _ (top : TopologyValue) (x : Run) (node n : ℕ) (some : 0 < top.shards) 
   pub decide_left : EarlyCounted a
       → ((u : BegunBallot) → Among u a.ballots → ((c : ℕ) → Among c u.cohorts → Among (vote_of u.txn (near top node c)) a.votes) → HasDecision a u.txn ⊎ (u.txn ≡ b.txn))
       → ((r : KeptBallot) → Among r a.kept_ballots → ((c : ℕ) → Among c r.cohorts → Among (vote_of r.txn (near top node c)) a.notices)
-      → ((k : WriterValue) → Among k r.dependencies → Among (met_of r.txn k.txn) a.met) → Known a r.txn ⊎ (r.txn ≡ b.txn))
+      → ((k : WriterValue) → Among k r.dependencies → Among (met_of r.txn k.txn) a.met) → Knows a r.txn ⊎ (r.txn ≡ b.txn))
       → Left top x node (decide top node n a b)
   decide_left counted f g =
       record {

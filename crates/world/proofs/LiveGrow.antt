@@ -11,7 +11,7 @@ use Rattle.world.specs.Run.{Run, Submission}
 use Rattle.world.proofs.Among.{Among, contains_among, among_contains}
 use Rattle.world.proofs.Facts.{IsWritten, near, Sees}
 use Rattle.world.proofs.About.{Kind, OfBegin, OfPrepare, OfYes, OfCommit, OfAt, OfNotBy, OfCheck, OfRead, OfReadAt, OfReplBegin, OfReplPart, OfNotify, OfPrepareRemote, OfDepCheck, OfDepOk, OfDone, OfPartNow, OfPartAt, Sent}
-use Rattle.world.proofs.Underway.{HasPrepared, HasBallot, HasDecision, HasKeptPart, HasKeptBallot, Known, Awaits, WaitsFor, of_ballot, of_moving, Aside, Away, AtOrigin, Leads, Placed, ShardOnward, Round, SessionOnward, Onward, RoleLive, PreparedLive, BallotLive, AppliedLive, Entries, ShardLive, SaysLive, HasEnded, WasCounted, by_ballot, by_move, Acted, SubmissionLive, OpenLive}
+use Rattle.world.proofs.Underway.{HasPrepared, HasBallot, HasDecision, HasKeptPart, HasKeptBallot, Knows, Awaits, WaitsFor, of_ballot, of_moving, Aside, Away, AtOrigin, Leads, Placed, ShardOnward, Round, SessionOnward, Onward, RoleLive, PreparedLive, BallotLive, AppliedLive, Entries, ShardLive, SaysLive, HasEnded, WasCounted, by_ballot, by_move, Acted, SubmissionLive, OpenLive}
 use Rattle.shard.specs.Sound.{IsWithin}
 use Rattle.shard.proofs.Within.{within_itself}
 
@@ -40,7 +40,7 @@ kept_part_on g k = (k.0, g.kept_parts k.0 k.1, k.2)
 pub kept_ballot_on : {a b : ShardState} {t : TxnValue} → ShardOnward a b → HasKeptBallot a t → HasKeptBallot b t
 kept_ballot_on g k = (k.0, g.kept_ballots k.0 k.1, k.2)
 
-pub known_on : {a b : ShardState} {t : TxnValue} → ShardOnward a b → Known a t → Known b t
+pub known_on : {a b : ShardState} {t : TxnValue} → ShardOnward a b → Knows a t → Knows b t
 known_on g (inl k) = inl (prepared_on g k)
 known_on g (inr k) = inr (decision_on g k)
 

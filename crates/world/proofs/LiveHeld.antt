@@ -10,7 +10,7 @@ use Rattle.world.specs.Run.{Run}
 use Rattle.world.proofs.Among.{Among, among_append, append_first, append_second, among_last, last_or_old}
 use Rattle.world.proofs.Facts.{near}
 use Rattle.world.proofs.About.{OfYes, OfPrepareRemote, Sent}
-use Rattle.world.proofs.Underway.{HasPrepared, HasBallot, HasDecision, Known, vote_of, met_of, Away, RoleLive, PreparedLive, BallotLive, Entries, EarlyCounted, Voted, ShardLive, SaysLive}
+use Rattle.world.proofs.Underway.{HasPrepared, HasBallot, HasDecision, Knows, vote_of, met_of, Away, RoleLive, PreparedLive, BallotLive, Entries, EarlyCounted, Voted, ShardLive, SaysLive}
 use Rattle.world.proofs.LiveSteps.{Here, Fine, Left}
 
 -- ## A ballot is kept
@@ -66,7 +66,7 @@ module _ (top : TopologyValue) (x : Run) (node n : ℕ) (a : ShardState) (b : Be
 
   pub hold_left : ((u : BegunBallot) → Among u a.ballots → ((c : ℕ) → Among c u.cohorts → Among (vote_of u.txn (near top node c)) (a.votes ++ counted)) → HasDecision a u.txn)
       → ((r : KeptBallot) → Among r a.kept_ballots → ((c : ℕ) → Among c r.cohorts → Among (vote_of r.txn (near top node c)) a.notices)
-      → ((k : WriterValue) → Among k r.dependencies → Among (met_of r.txn k.txn) a.met) → Known a r.txn ⊎ (r.txn ≡ b.txn))
+      → ((k : WriterValue) → Among k r.dependencies → Among (met_of r.txn k.txn) a.met) → Knows a r.txn ⊎ (r.txn ≡ b.txn))
       → ((e : Envelope) → Among e sends → Fine top x e)
       → Left top x node (hold top node n a b counted sends)
   hold_left old g fine =
@@ -90,7 +90,7 @@ module _ (top : TopologyValue) (x : Run) (node n : ℕ) (a : ShardState) (b : Be
 pub prepare_left : (top : TopologyValue) (x : Run) (node n : ℕ) (a : ShardState) (t : TxnValue) (rows : List Change) (c : ℕ) (role : Role) → ShardLive top x node a
     → (Sent x.sent node (near top node c) (OfYes t) → RoleLive role x node (near top node c) t) → SaysLive top x node (near top node c) (OfYes t)
     → Here x node (prepare_part top node n a t rows c role)
-    → Left top x node (prepare_part top node n a t rows c role) × Known (x.shards node) t
+    → Left top x node (prepare_part top node n a t rows c role) × Knows (x.shards node) t
 prepare_left top x node n a t rows c role k live says here =
     let e = k.entries in
     let p : PreparedPart = record { txn = t; rows = rows; coordinator = c; time = n; role = role } in

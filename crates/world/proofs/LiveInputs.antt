@@ -16,7 +16,7 @@ use Rattle.world.proofs.Ables.{absent}
 use Rattle.world.proofs.ReadyKept.{awaited_unready, unmet_unready}
 use Rattle.world.proofs.OneBatch.{written_at, submitted_one, batch_one}
 use Rattle.world.proofs.About.{OfNotify}
-use Rattle.world.proofs.Underway.{NoticeLive, HasPrepared, HasKeptPart, HasKeptBallot, Known, Awaits, WaitsFor, of_ballot, of_moving, vote_of, met_of, Leads, Onward, Entries, ShardLive, WasCounted, by_ballot, Acted}
+use Rattle.world.proofs.Underway.{NoticeLive, HasPrepared, HasKeptPart, HasKeptBallot, Knows, Awaits, WaitsFor, of_ballot, of_moving, vote_of, met_of, Leads, Onward, Entries, ShardLive, WasCounted, by_ballot, Acted}
 use Rattle.world.proofs.LiveGrow.{prepared_on, decision_on, shard_on, onward_of}
 use Rattle.world.proofs.LivePlaces.{not_and, same_at, vote_from, met_from, known_cases, lead_beside, among_cohorts}
 use Rattle.world.proofs.LiveSteps.{Here, Left, quiet_left, Rounds}
@@ -40,7 +40,7 @@ module _ (top : TopologyValue) (w x : Run) (node n : ℕ) (some : 0 < top.shards
       lead_beside top x some inv.submitted node t leads (record { submission = s.submission; batch = s.batch; written = written_at k.2 s.written; cohort = s.cohort })
 
   -- what a coordinator knows of a replicated transaction
-  pub known_replica : (t : TxnValue) → Leads top x node t → is_known t (w.shards node) ≡ true → HasKeptBallot (w.shards node) t ⊎ Known (x.shards node) t
+  pub known_replica : (t : TxnValue) → Leads top x node t → is_known t (w.shards node) ≡ true → HasKeptBallot (w.shards node) t ⊎ Knows (x.shards node) t
   unfolding kx
   known_replica t leads e =
       elim (known_cases t (w.shards node) e) [

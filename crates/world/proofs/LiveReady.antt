@@ -17,7 +17,7 @@ use Rattle.world.proofs.Invariant.{Inv}
 use Rattle.world.proofs.Near.{near_dc, cohort_below}
 use Rattle.world.proofs.OneBatch.{written_at, submitted_one, batch_one}
 use Rattle.world.proofs.About.{OfPrepareRemote, Sent}
-use Rattle.world.proofs.Underway.{Known, vote_of, met_of, Away, Entries, EarlyCounted, Voted}
+use Rattle.world.proofs.Underway.{Knows, vote_of, met_of, Away, Entries, EarlyCounted, Voted}
 use Rattle.world.proofs.LivePlaces.{txn_split, vote_from, all_voted_from, all_met_from}
 use Rattle.world.proofs.LiveSteps.{Here, Fine, Left, quiet_left, Rounds, BallotAt, kept_at, ballot_leads, some_none}
 use Rattle.world.proofs.LiveDecides.{decide_left}
@@ -31,7 +31,7 @@ module _ (top : TopologyValue) (x : Run) (node n : ℕ) (some : 0 < top.shards) 
     (here : Here x node (ready top node n a r))
     -- the other ballots with nothing missing are known, and nobody voted for this one
     (rest : (u : KeptBallot) → Among u a.kept_ballots → (u.txn ≡ r.txn → ⊥) → ((c : ℕ) → Among c u.cohorts → Among (vote_of u.txn (near top node c)) a.notices)
-    → ((k : WriterValue) → Among k u.dependencies → Among (met_of u.txn k.txn) a.met) → Known a u.txn)
+    → ((k : WriterValue) → Among k u.dependencies → Among (met_of u.txn k.txn) a.met) → Knows a u.txn)
     (unvoted : (v : Vote) → Among v a.votes → v.txn ≡ r.txn → ⊥) where
   sound : (u : KeptBallot) → Among u a.kept_ballots → KeptBallotSound top x node (x.shards node).clock u
   sound u m = (inv.shards node).kept_ballots u (subst (λ z. Among u z.kept_ballots) (sym here.state) ((onward_of (ready_in top node n a r)).kept_ballots u m))
@@ -40,7 +40,7 @@ module _ (top : TopologyValue) (x : Run) (node n : ℕ) (some : 0 < top.shards) 
   kept_ballot_at = kept_at (sound r kept)
 
   ready_or_this : (u : KeptBallot) → Among u a.kept_ballots → ((c : ℕ) → Among c u.cohorts → Among (vote_of u.txn (near top node c)) a.notices)
-      → ((k : WriterValue) → Among k u.dependencies → Among (met_of u.txn k.txn) a.met) → Known a u.txn ⊎ (u.txn ≡ r.txn)
+      → ((k : WriterValue) → Among k u.dependencies → Among (met_of u.txn k.txn) a.met) → Knows a u.txn ⊎ (u.txn ≡ r.txn)
   ready_or_this u m f g = elim (txn_split u.txn r.txn) [ inl e ↦ inr e | inr ne ↦ inl (rest u m ne f g) ]
 
   -- a kept ballot of the same transaction needs the same
@@ -58,7 +58,7 @@ module _ (top : TopologyValue) (x : Run) (node n : ℕ) (some : 0 < top.shards) 
 
   -- ## It prepares
 
-  prepare_remote_fine : all_voted top node r.cohorts a.notices r.txn ≡ true → Known (x.shards node) r.txn → (cs : List ℕ) → r.cohorts ≡ cs
+  prepare_remote_fine : all_voted top node r.cohorts a.notices r.txn ≡ true → Knows (x.shards node) r.txn → (cs : List ℕ) → r.cohorts ≡ cs
       → (e : Envelope) → Among e (map (λ s. envelope node (shard_node top (dc_of top node) s) n (PrepareRemote r.txn)) cs) → Fine top x e
   prepare_remote_fine all known cs q e m =
       let p = map_only (λ s. envelope node (shard_node top (dc_of top node) s) n (PrepareRemote r.txn)) cs e m in

@@ -18,7 +18,7 @@ use Rattle.world.proofs.Ables.{absent, unbegun}
 use Rattle.world.proofs.Near.{near_dc, coordinator_below}
 use Rattle.world.proofs.OneBatch.{written_at, batch_one}
 use Rattle.world.proofs.About.{OfDepCheck}
-use Rattle.world.proofs.Underway.{HasPrepared, HasKeptPart, HasKeptBallot, Known, WaitsFor, of_ballot, Away, Leads, Placed, Onward, KeptPartLive, KeptBallotLive, AskerLive, Entries, ShardLive, Acted}
+use Rattle.world.proofs.Underway.{HasPrepared, HasKeptPart, HasKeptBallot, Knows, WaitsFor, of_ballot, Away, Leads, Placed, Onward, KeptPartLive, KeptBallotLive, AskerLive, Entries, ShardLive, Acted}
 use Rattle.world.proofs.LiveGrow.{written_on, prepared_on, decision_on, kept_part_on, kept_ballot_on, shard_on, onward_of}
 use Rattle.world.proofs.LivePlaces.{known_cases, prepared_found, near_leads}
 use Rattle.world.proofs.LiveSteps.{Here, Fine, Left, quiet_left, answer_left, Rounds}
@@ -36,7 +36,7 @@ module _ (top : TopologyValue) (w x : Run) (node n : ℕ) (some : 0 < top.shards
 
   repl_begin_go : (r : KeptBallot) (time : ℕ) → KeptBallotSound top w node time r → Away top x node r.txn → dc_of top node < top.dcs → ((k : WriterValue) → Among k r.dependencies → Placed top x k)
       → (known : Bool) → is_known r.txn (w.shards node) ≡ known → Here x node (repl_begin_if known top node n (w.shards node) r)
-      → Left top x node (repl_begin_if known top node n (w.shards node) r) × (HasKeptBallot (x.shards node) r.txn ⊎ Known (x.shards node) r.txn)
+      → Left top x node (repl_begin_if known top node n (w.shards node) r) × (HasKeptBallot (x.shards node) r.txn ⊎ Knows (x.shards node) r.txn)
   unfolding kx
   repl_begin_go r time k away dc placed true e here = (
     quiet_left n kx,
@@ -95,14 +95,14 @@ module _ (top : TopologyValue) (w x : Run) (node n : ℕ) (some : 0 < top.shards
 
   pub repl_begin_left : (r : KeptBallot) (time : ℕ) → KeptBallotSound top w node time r → Away top x node r.txn → dc_of top node < top.dcs → ((k : WriterValue) → Among k r.dependencies → Placed top x k)
       → Here x node (on_repl_begin top node n (w.shards node) r)
-      → Left top x node (on_repl_begin top node n (w.shards node) r) × (HasKeptBallot (x.shards node) r.txn ⊎ Known (x.shards node) r.txn)
+      → Left top x node (on_repl_begin top node n (w.shards node) r) × (HasKeptBallot (x.shards node) r.txn ⊎ Knows (x.shards node) r.txn)
   repl_begin_left r time k away dc placed here = repl_begin_go r time k away dc placed _ refl here
 
   -- ## ReplPart
 
   repl_part_go : (k : KeptPart) → KeptPartSound top x node k → Away top x node k.txn → dc_of top node < top.dcs → (known : Bool) → is_known k.txn (w.shards node) ≡ known
       → Here x node (repl_part_if known top node n (w.shards node) k)
-      → Left top x node (repl_part_if known top node n (w.shards node) k) × (HasKeptPart (x.shards node) k.txn ⊎ HasKeptBallot (x.shards node) k.txn ⊎ Known (x.shards node) k.txn)
+      → Left top x node (repl_part_if known top node n (w.shards node) k) × (HasKeptPart (x.shards node) k.txn ⊎ HasKeptBallot (x.shards node) k.txn ⊎ Knows (x.shards node) k.txn)
   unfolding kx
   repl_part_go k s away dc true e here = (
     quiet_left n kx,
@@ -153,14 +153,14 @@ module _ (top : TopologyValue) (w x : Run) (node n : ℕ) (some : 0 < top.shards
       )
 
   pub repl_part_left : (k : KeptPart) → KeptPartSound top x node k → Away top x node k.txn → dc_of top node < top.dcs → Here x node (on_repl_part top node n (w.shards node) k)
-      → Left top x node (on_repl_part top node n (w.shards node) k) × (HasKeptPart (x.shards node) k.txn ⊎ HasKeptBallot (x.shards node) k.txn ⊎ Known (x.shards node) k.txn)
+      → Left top x node (on_repl_part top node n (w.shards node) k) × (HasKeptPart (x.shards node) k.txn ⊎ HasKeptBallot (x.shards node) k.txn ⊎ Knows (x.shards node) k.txn)
   repl_part_left k s away dc here = repl_part_go k s away dc _ refl here
 
   -- ## PrepareRemote
 
-  prepare_remote_go : (from : ℕ) (t : TxnValue) → HasKeptPart (w.shards node) t → Known (x.shards from) t → Leads top x from t → dc_of top from ≡ dc_of top node
+  prepare_remote_go : (from : ℕ) (t : TxnValue) → HasKeptPart (w.shards node) t → Knows (x.shards from) t → Leads top x from t → dc_of top from ≡ dc_of top node
       → (o : Option KeptPart) → kept_part t (w.shards node) ≡ o → (prepared : Bool) → is_some (prepared_part t (w.shards node)) ≡ prepared → Here x node (prepare_remote_for o prepared top node n (w.shards node))
-      → Left top x node (prepare_remote_for o prepared top node n (w.shards node)) × Known (x.shards node) t
+      → Left top x node (prepare_remote_for o prepared top node n (w.shards node)) × Knows (x.shards node) t
   unfolding kx
   prepare_remote_go from t p known leads dc None e prepared f here =
       absurd (absent (λ k. k.txn) t (w.shards node).kept_parts (find_none (λ k. is_same_txn k.txn t) (w.shards node).kept_parts e) p.0 p.1 p.2)
@@ -174,16 +174,16 @@ module _ (top : TopologyValue) (w x : Run) (node n : ℕ) (some : 0 < top.shards
       let below : k.coordinator < top.shards = subst (λ z. z < top.shards) (sym s.coordinator) (coordinator_below top.shards s.batch some) in
       let r =
       prepare_left top x node n (w.shards node) k.txn k.rows k.coordinator Replica kx (λ y. (y, (k, (g.shards node).kept_parts k q.0, refl))) (
-        inr (subst₂ (λ c z. Known (x.shards c) z) from_there (sym kt) known),
+        inr (subst₂ (λ c z. Knows (x.shards c) z) from_there (sym kt) known),
         record { submission = s.submission; batch = s.batch; written = s.written; cohort = s.cohort },
         near_leads top x some inv.submitted node k.coordinator k.txn s.submission s.batch s.written s.coordinator below,
         sym (near_dc top node k.coordinator below),
       ) here in
-      (r.0, subst (λ z. Known (x.shards node) z) kt r.1)
+      (r.0, subst (λ z. Knows (x.shards node) z) kt r.1)
 
-  pub prepare_remote_left : (from : ℕ) (t : TxnValue) → HasKeptPart (w.shards node) t → Known (x.shards from) t → Leads top x from t → dc_of top from ≡ dc_of top node
+  pub prepare_remote_left : (from : ℕ) (t : TxnValue) → HasKeptPart (w.shards node) t → Knows (x.shards from) t → Leads top x from t → dc_of top from ≡ dc_of top node
       → Here x node (on_prepare_remote top node n (w.shards node) t)
-      → Left top x node (on_prepare_remote top node n (w.shards node) t) × Known (x.shards node) t
+      → Left top x node (on_prepare_remote top node n (w.shards node) t) × Knows (x.shards node) t
   prepare_remote_left from t p known leads dc here = prepare_remote_go from t p known leads dc _ refl _ refl here
 
   -- ## DepCheck

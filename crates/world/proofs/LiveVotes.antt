@@ -15,7 +15,7 @@ use Rattle.world.proofs.Facts.{near}
 use Rattle.world.proofs.Invariant.{PrepareSound, Inv}
 use Rattle.world.proofs.Ables.{absent, unbegun}
 use Rattle.world.proofs.Near.{near_dc, coordinator_below}
-use Rattle.world.proofs.Underway.{HasPrepared, HasDecision, Known, vote_of, Away, AtOrigin, Onward, ShardLive}
+use Rattle.world.proofs.Underway.{HasPrepared, HasDecision, Knows, vote_of, Away, AtOrigin, Onward, ShardLive}
 use Rattle.world.proofs.LiveGrow.{prepared_on, decision_on, shard_on}
 use Rattle.world.proofs.LivePlaces.{same_at, all_voted_from, known_cases, decision_found, away_origin, near_leads}
 use Rattle.world.proofs.LiveSteps.{Here, Left, quiet_left, Rounds, BallotAt}
@@ -43,7 +43,7 @@ module _ (top : TopologyValue) (w x : Run) (node n : ℕ) (some : 0 < top.shards
   kx = shard_on g live
 
   -- what is known at its origin is prepared or decided
-  known_at_origin : (t : TxnValue) → AtOrigin top x node t → is_known t (w.shards node) ≡ true → Known (x.shards node) t
+  known_at_origin : (t : TxnValue) → AtOrigin top x node t → is_known t (w.shards node) ≡ true → Knows (x.shards node) t
   unfolding kx
   known_at_origin t o e =
       elim (known_cases t (w.shards node) e) [
@@ -58,7 +58,7 @@ module _ (top : TopologyValue) (w x : Run) (node n : ℕ) (some : 0 < top.shards
 
   begin_go : (b : BegunBallot) → b.stamp ≡ None → BallotAt top x node b → (known voted : Bool) → is_known b.txn (w.shards node) ≡ known
       → all_voted top node b.cohorts (w.shards node).early b.txn ≡ voted → Here x node (begin_if known voted top node n (w.shards node) b)
-      → Left top x node (begin_if known voted top node n (w.shards node) b) × Known (x.shards node) b.txn
+      → Left top x node (begin_if known voted top node n (w.shards node) b) × Knows (x.shards node) b.txn
   unfolding kx
   begin_go b none k true voted e f here =
       (quiet_left n kx, known_at_origin b.txn (record { submission = k.submission; batch = k.batch; written = k.written; here = k.origin none }) e)
@@ -89,14 +89,14 @@ module _ (top : TopologyValue) (w x : Run) (node n : ℕ) (some : 0 < top.shards
 
   pub begin_left : (b : BegunBallot) → b.stamp ≡ None → BallotAt top x node b
       → Here x node (begin_if (is_known b.txn (w.shards node)) (all_voted top node b.cohorts (w.shards node).early b.txn) top node n (w.shards node) b)
-      → Left top x node (begin_if (is_known b.txn (w.shards node)) (all_voted top node b.cohorts (w.shards node).early b.txn) top node n (w.shards node) b) × Known (x.shards node) b.txn
+      → Left top x node (begin_if (is_known b.txn (w.shards node)) (all_voted top node b.cohorts (w.shards node).early b.txn) top node n (w.shards node) b) × Knows (x.shards node) b.txn
   begin_left b none k here = begin_go b none k _ _ refl refl here
 
   -- ## Prepare
 
   prepare_go : (t : TxnValue) (rows : List Change) (c : ℕ) → PrepareSound top x node t rows c → (known : Bool) → is_known t (w.shards node) ≡ known
       → Here x node (prepare_if known top node n (w.shards node) t rows c)
-      → Left top x node (prepare_if known top node n (w.shards node) t rows c) × Known (x.shards node) t
+      → Left top x node (prepare_if known top node n (w.shards node) t rows c) × Knows (x.shards node) t
   unfolding kx
   prepare_go t rows c k true e here =
       (quiet_left n kx, known_at_origin t (record { submission = k.submission; batch = k.batch; written = k.written; here = k.origin }) e)
@@ -112,5 +112,5 @@ module _ (top : TopologyValue) (w x : Run) (node n : ℕ) (some : 0 < top.shards
 
   pub prepared_left : (t : TxnValue) (rows : List Change) (c : ℕ) → PrepareSound top x node t rows c
       → Here x node (prepare_if (is_known t (w.shards node)) top node n (w.shards node) t rows c)
-      → Left top x node (prepare_if (is_known t (w.shards node)) top node n (w.shards node) t rows c) × Known (x.shards node) t
+      → Left top x node (prepare_if (is_known t (w.shards node)) top node n (w.shards node) t rows c) × Knows (x.shards node) t
   prepared_left t rows c k here = prepare_go t rows c k _ refl here

@@ -14,7 +14,7 @@ use Rattle.world.proofs.Invariant.{Inv}
 use Rattle.world.proofs.Ables.{unbegun, unprepared, undecided}
 use Rattle.world.proofs.OneBatch.{written_at, batch_one}
 use Rattle.world.proofs.About.{OfYes}
-use Rattle.world.proofs.Underway.{EarlyLive, HasBallot, HasDecision, Known, vote_of, Aside, Away, AtOrigin, Leads, Onward, RoleLive, Entries, EarlyCounted, ShardLive, Acted}
+use Rattle.world.proofs.Underway.{EarlyLive, HasBallot, HasDecision, Knows, vote_of, Aside, Away, AtOrigin, Leads, Onward, RoleLive, Entries, EarlyCounted, ShardLive, Acted}
 use Rattle.world.proofs.LiveGrow.{decision_on, shard_on}
 use Rattle.world.proofs.LivePlaces.{not_and, txn_split, vote_from, all_voted_from, known_cases, lead_beside, away_origin, among_cohorts}
 use Rattle.world.proofs.LiveSteps.{Here, Left, quiet_left, Rounds, BallotAt, ballot_at}
@@ -37,7 +37,7 @@ module _ (top : TopologyValue) (w x : Run) (node n : ℕ) (some : 0 < top.shards
       l.cohorts ∙ ap (cohorts_of top.shards) (batch_one inv.submitted l.written (written_at e k.written)) ∙ sym k.cohorts
 
   -- where a vote for a coordinator is neither for a ballot nor early, the transaction is decided
-  unstanding : (t : TxnValue) → Leads top x node t → AtOrigin top x node t ⊎ Known (w.shards node) t → ((b : BegunBallot) → Among b (w.shards node).ballots → b.txn ≡ t → ⊥) → is_known t (w.shards node) ≡ true → HasDecision (w.shards node) t
+  unstanding : (t : TxnValue) → Leads top x node t → AtOrigin top x node t ⊎ Knows (w.shards node) t → ((b : BegunBallot) → Among b (w.shards node).ballots → b.txn ≡ t → ⊥) → is_known t (w.shards node) ≡ true → HasDecision (w.shards node) t
   unfolding kx
   unstanding t leads says none e =
       elim (known_cases t (w.shards node) e) [
@@ -66,7 +66,7 @@ module _ (top : TopologyValue) (w x : Run) (node n : ℕ) (some : 0 < top.shards
       part_go : (p : PreparedPart) → Among p (w.shards node).prepared → p.txn ≡ t → ⊥
       part_go p m q = role_go p p.role refl m q
 
-  module _ (t : TxnValue) (from : ℕ) (says : AtOrigin top x node t ⊎ Known (w.shards node) t) (aside : Aside top x from t) (leads : Leads top x node t)
+  module _ (t : TxnValue) (from : ℕ) (says : AtOrigin top x node t ⊎ Knows (w.shards node) t) (aside : Aside top x from t) (leads : Leads top x node t)
       (dc : dc_of top from ≡ dc_of top node) where
     -- ## A vote for a ballot
 

@@ -6,11 +6,11 @@ use Rattle.logical_time.specs.declared.fault.Fault.{Fault}
 use Rattle.messages.specs.declared.envelope.Envelope.{Envelope}
 use Rattle.messages.specs.Topology.{TopologyValue}
 use Rattle.messages.specs.Shard.{ShardState, ShardStep}
-use Rattle.shard.specs.declared.kept.Kept.{Kept}
+use Rattle.shard.specs.declared.kept.ShardKept.{ShardKept}
 use Rattle.shard.specs.Kept as shard
 use Rattle.messages.specs.Session.{SessionState, SessionStep}
 use Rattle.messages.specs.SessionEvents.{session_taken}
-use Rattle.client.specs.declared.kept.Kept.{Kept as SessionKept}
+use Rattle.client.specs.declared.kept.SessionKept.{SessionKept}
 use Rattle.client.specs.Represents as session
 use Rattle.client.specs.State.{finished_of}
 use Rattle.world.specs.declared.station.Station.{Station}
@@ -22,12 +22,12 @@ use Rattle.world.proofs.Running.{length_set, by_place, shards_go_on}
 pub item_at : {X : Type 0} (xs : List X) (place : ℕ) (x : X) → place < length xs → x ≡ slice_index_or xs place x → slice_get xs place ≡ Some x
 item_at xs place x lt at = slice_get-get_or xs place x lt ∙ ap Some (sym at)
 
-pub shard_stands : (top : TopologyValue) (states : ℕ → ShardState) (xs : List Kept) (place : ℕ) (k : Kept) → place < length xs → k ≡ slice_index_or xs place k
+pub shard_stands : (top : TopologyValue) (states : ℕ → ShardState) (xs : List ShardKept) (place : ℕ) (k : ShardKept) → place < length xs → k ≡ slice_index_or xs place k
     → AreShards top states xs → shard.Represents top place k (states place)
 shard_stands top states xs place k lt at are = are.each place k (item_at xs place k lt at)
 
 -- its step is done in the list
-pub shard_did : (top : TopologyValue) (states : ℕ → ShardState) (xs : List Kept) (place : ℕ) (l : Kept) (r : Result ShardStep Fault) (before after : List Envelope)
+pub shard_did : (top : TopologyValue) (states : ℕ → ShardState) (xs : List ShardKept) (place : ℕ) (l : ShardKept) (r : Result ShardStep Fault) (before after : List Envelope)
     → place < length xs → AreShards top states xs → StaysApart r → shard.IsStepOf top place r l before after → DidShard top states place r (slice_set xs place l) before after
 shard_did top states xs place l (Err e) before after lt are apart did = did
 shard_did top states xs place l (Ok s) before after lt are apart did =
@@ -49,7 +49,7 @@ at_place (x ∷ xs) zero lt = (x, refl)
 at_place (x ∷ xs) (suc n) lt = at_place xs n (omega (arith, lt))
 
 -- a shard that goes on to stand for what it stood for is one of them still
-pub shard_still : (top : TopologyValue) (states : ℕ → ShardState) (xs : List Kept) (place : ℕ) (k l : Kept) → place < length xs → k ≡ slice_index_or xs place k
+pub shard_still : (top : TopologyValue) (states : ℕ → ShardState) (xs : List ShardKept) (place : ℕ) (k l : ShardKept) → place < length xs → k ≡ slice_index_or xs place k
     → AreShards top states xs → shard.GoesOn k l → AreShards top states (slice_set xs place l)
 shard_still top states xs place k l lt at are goes =
     record {

@@ -13,7 +13,7 @@ use Rattle.world.proofs.Among.{Among, last_or_old, find_some, map_only, same_txn
 use Rattle.world.proofs.Growth.{Grows}
 use Rattle.world.proofs.Facts.{IsDone, KeptBallotSound}
 use Rattle.world.proofs.Invariant.{TellsCommit, MovesTo, MayWait, of_shard, of_move, EnvelopeSound, Inv}
-use Rattle.world.proofs.Able.{Fresh, Able}
+use Rattle.world.proofs.Able.{AddsSound, Able}
 use Rattle.world.proofs.Lasting.{written_grows, done_grows, kept_ballot_grows}
 use Rattle.world.proofs.Near.{near_dc}
 use Rattle.world.proofs.Ables.{same_run, added, Alike, alike_grows, unbegun, unprepared, undecided, quiet_able, only}
@@ -69,7 +69,7 @@ module _ (top : TopologyValue) (w : Run) (node n : ℕ) (some : 0 < top.shards) 
 
   -- ## Notify
 
-  notice_added : (x : Run) (t : TxnValue) (from : ℕ) → Fresh top x node (w.shards node) (only (with_notice (w.shards node) t from))
+  notice_added : (x : Run) (t : TxnValue) (from : ℕ) → AddsSound top x node (w.shards node) (only (with_notice (w.shards node) t from))
   notice_added x t from =
       record {
         prepared = λ i m. inl m;

@@ -13,7 +13,7 @@ use Rattle.messages.specs.Shard.{ShardState, ShardStep}
 use Rattle.messages.specs.Session.{SessionState, SessionStep, Finished, Open, ended, is_idle}
 use Rattle.messages.specs.SessionEvents.{heard, session_taken}
 use Rattle.messages.specs.Actors.{home_after}
-use Rattle.shard.specs.declared.kept.Kept.{Kept}
+use Rattle.shard.specs.declared.kept.ShardKept.{ShardKept}
 use Rattle.shard.specs.Kept as shard
 use Rattle.client.specs.Represents as session
 use Rattle.world.specs.declared.actors.Actors.{Actors}
@@ -69,7 +69,7 @@ by_place xs k x P lt here there j y at = go (j == k) refl
 
 -- ## Shards
 
-pub shards_go_on : (top : TopologyValue) (states : ℕ → ShardState) (xs : List Kept) (node : ℕ) (k : Kept) (b : ShardState) → AreShards top states xs
+pub shards_go_on : (top : TopologyValue) (states : ℕ → ShardState) (xs : List ShardKept) (node : ℕ) (k : ShardKept) (b : ShardState) → AreShards top states xs
     → node < length xs → shard.Represents top node k b → AreShards top (with_actor states node b) (slice_set xs node k)
 shards_go_on top states xs node k b are lt here =
     record {

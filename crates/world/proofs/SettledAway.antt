@@ -20,7 +20,7 @@ use Rattle.world.proofs.Invariant.{MovesTo, Inv}
 use Rattle.world.proofs.OneBatch.{written_at, submitted_one, batch_one}
 use Rattle.world.proofs.Near.{coordinator_below, cohort_below, cohort_other, lead_dc, lead_number}
 use Rattle.world.proofs.About.{OfReplBegin, OfReplPart, OfNotify, OfDepCheck, OfDepOk, Sent}
-use Rattle.world.proofs.Underway.{HasDecision, HasKeptPart, HasKeptBallot, Known, vote_of, met_of, RoleLive, WasCounted, by_ballot, by_move, Live}
+use Rattle.world.proofs.Underway.{HasDecision, HasKeptPart, HasKeptBallot, Knows, vote_of, met_of, RoleLive, WasCounted, by_ballot, by_move, Live}
 use Rattle.world.proofs.Settling.{each_or, act, cohort_undecided, known_decided, lead_leads, home_decided, cohort_applied}
 
 module _ (top : TopologyValue) (w : Run) (some : 0 < top.shards) (inv : Inv top w) (live : Live top w) (quiet : IsQuiet w)
@@ -56,7 +56,7 @@ module _ (top : TopologyValue) (w : Run) (some : 0 < top.shards) (inv : Inv top 
   decided_there : HasDecision (w.shards s0) t
   decided_there = home_decided top w some inv live quiet t b batch k
 
-  ballot_came : HasKeptBallot (w.shards s) t ⊎ Known (w.shards s) t
+  ballot_came : HasKeptBallot (w.shards s) t ⊎ Knows (w.shards s) t
   ballot_came =
       let d = decided_there in
       let l = (live.shards s0).entries.decided d.0 d.1 in
@@ -98,7 +98,7 @@ module _ (top : TopologyValue) (w : Run) (some : 0 < top.shards) (inv : Inv top 
     cohort_here = subst (λ z. Among z (cohorts_of top.shards batch)) (sym number_c1) m
 
     abbrev Noticed : Type 0
-    Noticed = Among (vote_of t c1) (w.shards s).notices ⊎ Known (w.shards s) t
+    Noticed = Among (vote_of t c1) (w.shards s).notices ⊎ Knows (w.shards s) t
 
     kept_notice : HasKeptPart (w.shards c1) t → Noticed
     kept_notice (p, i, e) =
@@ -113,7 +113,7 @@ module _ (top : TopologyValue) (w : Run) (some : 0 < top.shards) (inv : Inv top 
     prepared_notice Cohort fits l home = absurd (ne (sym dc_c1 ∙ home refl))
     prepared_notice Replica fits l home = kept_notice l.1
 
-    part_notice : HasKeptPart (w.shards c1) t ⊎ HasKeptBallot (w.shards c1) t ⊎ Known (w.shards c1) t → Noticed
+    part_notice : HasKeptPart (w.shards c1) t ⊎ HasKeptBallot (w.shards c1) t ⊎ Knows (w.shards c1) t → Noticed
     part_notice (inl p) = kept_notice p
     part_notice (inr (inl (r, i, e))) =
         let rs = (inv.shards c1).kept_ballots r i in
@@ -173,7 +173,7 @@ module _ (top : TopologyValue) (w : Run) (some : 0 < top.shards) (inv : Inv top 
 
   -- ## The coordinator here
 
-  come : HasKeptBallot (w.shards s) t ⊎ Known (w.shards s) t → Known (w.shards s) t
+  come : HasKeptBallot (w.shards s) t ⊎ Knows (w.shards s) t → Knows (w.shards s) t
   come (inr y) = y
   come (inl (r, i, e)) =
       let rs = (inv.shards s).kept_ballots r i in
@@ -182,7 +182,7 @@ module _ (top : TopologyValue) (w : Run) (some : 0 < top.shards) (inv : Inv top 
       let ds : r.dependencies ≡ b.dependencies = rs.dependencies ∙ ap (λ z. z.dependencies) (submitted_one inv.submitted k' k) in
       elim (each_or r.cohorts (λ c m. notice c (subst (λ l. Among c l) cs m))) [
         | inl all ↦
-            subst (λ u. Known (w.shards s) u) e
+            subst (λ u. Knows (w.shards s) u) e
             ((live.shards s).ready r i (λ c m. subst (λ u. Among (vote_of u (near top s c)) (w.shards s).notices) (sym e) (all c m))
             (λ u m. met r i u m (subst (λ l. Among u l) ds m)))
         | inr y ↦ y

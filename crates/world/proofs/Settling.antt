@@ -14,7 +14,7 @@ use Rattle.world.proofs.Invariant.{Inv}
 use Rattle.world.proofs.OneBatch.{written_at, submitted_one, batch_one}
 use Rattle.world.proofs.Near.{cohort_below, cohort_other, near_dc, lead_dc, lead_number}
 use Rattle.world.proofs.About.{Kind, OfBegin, OfPrepare, OfYes, OfCommit, OfPrepareRemote, kind_of, Sent}
-use Rattle.world.proofs.Underway.{HasDecision, Known, vote_of, Leads, RoleLive, Acted, Live}
+use Rattle.world.proofs.Underway.{HasDecision, Knows, vote_of, Leads, RoleLive, Acted, Live}
 
 -- ## Lists
 
@@ -63,7 +63,7 @@ module _ (top : TopologyValue) (w : Run) (some : 0 < top.shards) (inv : Inv top 
   role_vote Replica c s t batch m fits k = act c s (OfYes t) k.0
 
   cohort_vote : (c s : ℕ) (t : TxnValue) (b : Submission) (batch : List Change) → IsWritten w t b batch → s ≡ lead top (dc_of top c) batch
-      → Among (shard_of top c) (cohorts_of top.shards batch) → Known (w.shards c) t
+      → Among (shard_of top c) (cohorts_of top.shards batch) → Knows (w.shards c) t
       → Acted top w c s (OfYes t)
   cohort_vote c s t b batch k here m (inr d) = absurd (cohort_undecided c t b batch k m d)
   cohort_vote c s t b batch k here m (inl (p, i, e)) =
@@ -74,7 +74,7 @@ module _ (top : TopologyValue) (w : Run) (some : 0 < top.shards) (inv : Inv top 
       (subst₂ (λ n u. RoleLive p.role w c n u) to e ((live.shards c).entries.prepared p i))
 
   -- each cohort of a ballot was asked
-  asked : (s : ℕ) (u : BegunBallot) → Among u (w.shards s).ballots → (c : ℕ) → Among c u.cohorts → Known (w.shards (near top s c)) u.txn
+  asked : (s : ℕ) (u : BegunBallot) → Among u (w.shards s).ballots → (c : ℕ) → Among c u.cohorts → Knows (w.shards (near top s c)) u.txn
   asked s u m c i =
       let bs = (inv.shards s).ballots u m in
       elim ((live.shards s).entries.ballots u m).1 [
@@ -82,7 +82,7 @@ module _ (top : TopologyValue) (w : Run) (some : 0 < top.shards) (inv : Inv top 
             let home : dc_of top s ≡ bs.submission.home = subst (λ z. StampFits top w s (w.shards s).clock bs.submission bs.batch z) none bs.stamp in
             let p = (live.submitted bs.submission bs.batch bs.written.among bs.written.op).prepared c (subst (λ l. Among c l) bs.cohorts i) in
             let q = subst (λ d. Sent w.sent bs.submission.session (shard_node top d c) (OfPrepare (txn_of bs.submission))) (sym home) p in
-            subst (λ t. Known (w.shards (near top s c)) t) bs.written.txn (act bs.submission.session (near top s c) (OfPrepare (txn_of bs.submission)) q)
+            subst (λ t. Knows (w.shards (near top s c)) t) bs.written.txn (act bs.submission.session (near top s c) (OfPrepare (txn_of bs.submission)) q)
         | inr y ↦ act s (near top s c) (OfPrepareRemote u.txn) (y.1 c i)
       ]
 
@@ -127,7 +127,7 @@ module _ (top : TopologyValue) (w : Run) (some : 0 < top.shards) (inv : Inv top 
   own_decided Cohort s c t batch e fits k = absurd (cohort_other top.shards batch (shard_of top s) fits e)
   own_decided Replica s c t batch e fits k = absurd (cohort_other top.shards batch (shard_of top s) fits e)
 
-  pub known_decided : (s : ℕ) (t : TxnValue) → Leads top w s t → Known (w.shards s) t → HasDecision (w.shards s) t
+  pub known_decided : (s : ℕ) (t : TxnValue) → Leads top w s t → Knows (w.shards s) t → HasDecision (w.shards s) t
   known_decided s t l (inr d) = d
   known_decided s t l (inl (p, i, e)) =
       let ps = (inv.shards s).prepared p i in
@@ -145,7 +145,7 @@ module _ (top : TopologyValue) (w : Run) (some : 0 < top.shards) (inv : Inv top 
   home_decided t b batch k =
       let s = lead top b.home batch in
       known_decided s t (lead_leads b.home t b batch k)
-      (subst (λ u. Known (w.shards s) u) k.txn (act b.session s (OfBegin (txn_of b)) (live.submitted b batch k.among k.op).begun))
+      (subst (λ u. Knows (w.shards s) u) k.txn (act b.session s (OfBegin (txn_of b)) (live.submitted b batch k.among k.op).begun))
 
   -- the cohorts of what is decided have applied it
   pub cohort_applied : (s : ℕ) (t : TxnValue) (b : Submission) (batch : List Change) → IsWritten w t b batch → HasDecision (w.shards s) t → (c : ℕ)

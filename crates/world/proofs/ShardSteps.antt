@@ -7,7 +7,7 @@ use Rattle.world.specs.Run.{Run, Event, with_actor, after_shard}
 use Rattle.world.proofs.Among.{among_append}
 use Rattle.world.proofs.Growth.{ShardGrows, Grows}
 use Rattle.world.proofs.Invariant.{Played, ShardSound, Inv}
-use Rattle.world.proofs.Able.{Fresh, Able}
+use Rattle.world.proofs.Able.{AddsSound, Able}
 use Rattle.world.proofs.Lasting.{same_shard_grows, same_session_grows}
 use Rattle.world.proofs.LastingAll.{says_grows, shard_grows, session_grows, completed_grows}
 
@@ -30,7 +30,7 @@ shard_run_grows top w node st ev g =
       transcript = λ c m. m;
     }
 
-fresh_sound : {top : TopologyValue} {x : Run} {node : ℕ} {a : ShardState} {st : ShardStep} → ShardSound top x node a → Fresh top x node a st → ShardSound top x node st.state
+fresh_sound : {top : TopologyValue} {x : Run} {node : ℕ} {a : ShardState} {st : ShardStep} → ShardSound top x node a → AddsSound top x node a st → ShardSound top x node st.state
 fresh_sound k f =
     record {
       prepared = λ p m. elim (f.prepared p m) [ inl o ↦ k.prepared p o | inr n ↦ n ];

@@ -11,7 +11,7 @@ use Rattle.messages.specs.Shard.{ShardState, ShardStep}
 use Rattle.messages.specs.Session.{SessionState, SessionStep}
 use Rattle.messages.specs.ShardEvents.{shard_handle, shard_collect}
 use Rattle.messages.specs.SessionEvents.{heard, session_handle}
-use Rattle.shard.specs.declared.kept.Kept.{Kept}
+use Rattle.shard.specs.declared.kept.ShardKept.{ShardKept}
 use Rattle.shard.specs.Kept as shard
 use Rattle.client.specs.Represents as session
 use Rattle.world.specs.declared.actors.Actors.{Actors}
@@ -60,7 +60,7 @@ session_refusal top w k e sent other to =
 
 -- ## Shards
 
-pub below_count : (top : TopologyValue) (xs : List Kept) (node : ℕ) → length xs ≡ shard_count top → node < length xs → is_shard top node ≡ true
+pub below_count : (top : TopologyValue) (xs : List ShardKept) (node : ℕ) → length xs ≡ shard_count top → node < length xs → is_shard top node ≡ true
 below_count top xs node len lt = grind (arith, nat_tests)
 
 module _ (top : TopologyValue) (events : List Event) where

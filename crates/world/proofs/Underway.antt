@@ -39,8 +39,8 @@ abbrev pub HasKeptBallot : ShardState → TxnValue → Type 0
 HasKeptBallot a t = (r : KeptBallot) × Among r a.kept_ballots × (r.txn ≡ t)
 
 -- it was prepared or decided
-abbrev pub Known : ShardState → TxnValue → Type 0
-Known a t = HasPrepared a t ⊎ HasDecision a t
+abbrev pub Knows : ShardState → TxnValue → Type 0
+Knows a t = HasPrepared a t ⊎ HasDecision a t
 
 -- a kept ballot of the waiter names the dependency
 pub record Awaits (a : ShardState) (waiter dependency : TxnValue) : Type 0 where
@@ -281,7 +281,7 @@ abbrev pub Ready : TopologyValue → ℕ → ShardState → Type 0
 Ready top node b =
     (r : KeptBallot) → Among r b.kept_ballots
     → ((c : ℕ) → Among c r.cohorts → Among (vote_of r.txn (near top node c)) b.notices)
-    → ((k : WriterValue) → Among k r.dependencies → Among (met_of r.txn k.txn) b.met) → Known b r.txn
+    → ((k : WriterValue) → Among k r.dependencies → Among (met_of r.txn k.txn) b.met) → Knows b r.txn
 
 pub record ShardLive (top : TopologyValue) (w : Run) (node : ℕ) (b : ShardState) : Type 0 where
   pub entries : Entries top w node b
@@ -294,13 +294,13 @@ pub record ShardLive (top : TopologyValue) (w : Run) (node : ℕ) (b : ShardStat
 -- what a message rests on
 abbrev pub SaysLive : TopologyValue → Run → ℕ → ℕ → Kind → Type 0
 SaysLive top w from to (OfPrepare t) = Aside top w to t × AtOrigin top w to t
-SaysLive top w from to (OfYes t) = (AtOrigin top w to t ⊎ Known (w.shards to) t) × Aside top w from t × Leads top w to t × (dc_of top from ≡ dc_of top to)
+SaysLive top w from to (OfYes t) = (AtOrigin top w to t ⊎ Knows (w.shards to) t) × Aside top w from t × Leads top w to t × (dc_of top from ≡ dc_of top to)
 SaysLive top w from to (OfCommit t) = HasPrepared (w.shards to) t × Aside top w to t
 SaysLive top w from to (OfDone t) = to ≡ t.session
 SaysLive top w from to (OfReplBegin t) = Away top w to t × (dc_of top to < top.dcs)
 SaysLive top w from to (OfReplPart t) = Aside top w to t × Away top w to t × (dc_of top to < top.dcs)
 SaysLive top w from to (OfNotify t) = HasKeptPart (w.shards from) t × Leads top w to t × (dc_of top from ≡ dc_of top to)
-SaysLive top w from to (OfPrepareRemote t) = HasKeptPart (w.shards to) t × Known (w.shards from) t × Leads top w from t × (dc_of top from ≡ dc_of top to)
+SaysLive top w from to (OfPrepareRemote t) = HasKeptPart (w.shards to) t × Knows (w.shards from) t × Leads top w from t × (dc_of top from ≡ dc_of top to)
 SaysLive top w from to (OfDepCheck dependency waiter) = Leads top w to dependency × (dc_of top to < top.dcs) × WaitsFor top w (dc_of top to) from waiter dependency
 SaysLive top w from to (OfDepOk dependency waiter) = WaitsFor top w (dc_of top from) to waiter dependency
 SaysLive top w from to (OfRead number) = (number ≤ (w.sessions from).count) × (dc_of top to < top.dcs)
@@ -320,15 +320,15 @@ pub data WasCounted (w : Run) (to : ℕ) (waiter dependency : TxnValue) : Type 0
 
 -- what a handled message left
 abbrev pub Acted : TopologyValue → Run → ℕ → ℕ → Kind → Type 0
-Acted top w from to (OfBegin t) = Known (w.shards to) t
-Acted top w from to (OfPrepare t) = Known (w.shards to) t
+Acted top w from to (OfBegin t) = Knows (w.shards to) t
+Acted top w from to (OfPrepare t) = Knows (w.shards to) t
 Acted top w from to (OfYes t) = Among (vote_of t from) (w.shards to).votes ⊎ Among (vote_of t from) (w.shards to).early ⊎ HasDecision (w.shards to) t
 Acted top w from to (OfCommit t) = Sees (w.shards to).applied t
 Acted top w from to (OfDone t) = HasEnded w t
-Acted top w from to (OfReplBegin t) = HasKeptBallot (w.shards to) t ⊎ Known (w.shards to) t
-Acted top w from to (OfReplPart t) = HasKeptPart (w.shards to) t ⊎ HasKeptBallot (w.shards to) t ⊎ Known (w.shards to) t
-Acted top w from to (OfNotify t) = Among (vote_of t from) (w.shards to).notices ⊎ Known (w.shards to) t
-Acted top w from to (OfPrepareRemote t) = Known (w.shards to) t
+Acted top w from to (OfReplBegin t) = HasKeptBallot (w.shards to) t ⊎ Knows (w.shards to) t
+Acted top w from to (OfReplPart t) = HasKeptPart (w.shards to) t ⊎ HasKeptBallot (w.shards to) t ⊎ Knows (w.shards to) t
+Acted top w from to (OfNotify t) = Among (vote_of t from) (w.shards to).notices ⊎ Knows (w.shards to) t
+Acted top w from to (OfPrepareRemote t) = Knows (w.shards to) t
 Acted top w from to (OfDepCheck dependency waiter) =
     Sent w.sent to from (OfDepOk dependency waiter)
     ⊎ ((k : Asker) × Among k (w.shards to).askers × (k.dependency ≡ dependency) × (k.waiter ≡ waiter) × (k.from ≡ from))

@@ -13,7 +13,7 @@ use Rattle.messages.specs.Session.{SessionState, SessionStep}
 use Rattle.messages.specs.Submitting.{session_submit}
 use Rattle.messages.specs.SessionEvents.{heard}
 use Rattle.messages.specs.ShardEvents.{handled, collected}
-use Rattle.shard.specs.declared.kept.Kept.{Kept}
+use Rattle.shard.specs.declared.kept.ShardKept.{ShardKept}
 use Rattle.shard.specs.Kept.{IsSpentOrMemory}
 use Rattle.client.specs.Represents as session
 use Rattle.world.specs.declared.actors.Actors.{Actors}
@@ -47,7 +47,7 @@ on_time None step e is = ap Refused (sym is)
 on_time (Some n) step e is = is
 
 module _ (top : TopologyValue) (events : List Event) (a : Actors) (is : IsRunning top (run top events) a) where
-  pub shard_clock : (node place : ℕ) (k : Kept) → place ≡ node → place < length a.shards.items → slice_get a.shards.items place ≡ Some k
+  pub shard_clock : (node place : ℕ) (k : ShardKept) → place ≡ node → place < length a.shards.items → slice_get a.shards.items place ≡ Some k
       → clock_at top (run top events) node ≡ k.clock
   shard_clock node place k to lt at =
       let near : is_shard top node ≡ true = subst (λ z. is_shard top z ≡ true) to (below_count top a.shards.items place is.shards.len lt) in

@@ -5,7 +5,7 @@ use Rattle.messages.specs.declared.op.Op.{Op}
 use Rattle.messages.specs.Topology.{TopologyValue, shard_count, is_topology}
 use Rattle.messages.specs.Shard.{ShardState}
 use Rattle.messages.specs.Session.{Finished, is_idle}
-use Rattle.shard.specs.declared.kept.Kept.{Kept}
+use Rattle.shard.specs.declared.kept.ShardKept.{ShardKept}
 use Rattle.shard.specs.Kept as shard
 use Rattle.client.specs.Represents as session
 use Rattle.world.specs.declared.station.Station.{Station}
@@ -18,9 +18,9 @@ use Rattle.world.specs.Refusals.{refusal_of}
 use Rattle.world.specs.Quiet.{handled}
 
 -- the shards stand for these states, each by its node
-pub record AreShards (top : TopologyValue) (states : ℕ → ShardState) (kept : List Kept) : Type 0 where
+pub record AreShards (top : TopologyValue) (states : ℕ → ShardState) (kept : List ShardKept) : Type 0 where
   pub len : length kept ≡ shard_count top
-  pub each : (i : ℕ) (k : Kept) → slice_get kept i ≡ Some k → shard.Represents top i k (states i)
+  pub each : (i : ℕ) (k : ShardKept) → slice_get kept i ≡ Some k → shard.Represents top i k (states i)
 
 -- the operation is the last one that the session submitted, at its home
 pub record IsOpOf (w : Run) (node : ℕ) (o : Option Op) : Type 0 where

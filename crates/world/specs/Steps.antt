@@ -8,7 +8,7 @@ use Rattle.messages.specs.Topology.{TopologyValue}
 use Rattle.messages.specs.Shard.{ShardState, ShardStep}
 use Rattle.messages.specs.Session.{SessionStep}
 use Rattle.messages.specs.SessionEvents.{session_taken}
-use Rattle.shard.specs.declared.kept.Kept.{Kept}
+use Rattle.shard.specs.declared.kept.ShardKept.{ShardKept}
 use Rattle.client.specs.Represents as session
 use Rattle.world.specs.declared.station.Station.{Station}
 use Rattle.world.specs.Run.{Completed, with_actor, with_ended}
@@ -20,7 +20,7 @@ StaysApart (Ok s) = AreApart s.state.applied
 StaysApart (Err e) = Unit {0}
 
 -- one shard did this step, and no other changed; what it sends was added
-abbrev pub DidShard : TopologyValue → (ℕ → ShardState) → ℕ → Result ShardStep Fault → List Kept → List Envelope → List Envelope → Type 0
+abbrev pub DidShard : TopologyValue → (ℕ → ShardState) → ℕ → Result ShardStep Fault → List ShardKept → List Envelope → List Envelope → Type 0
 DidShard top states node (Ok s) kept before after = AreShards top (with_actor states node s.state) kept × (after ≡ before ++ s.sends)
 DidShard top states node (Err e) kept before after = ⊥
 

@@ -17,7 +17,7 @@ use Rattle.messages.specs.Commits.{prepare_part}
 use Rattle.messages.specs.Reads.{answer}
 use Rattle.messages.specs.Replication.{is_ready, repl_part_if, on_repl_part, prepare_remote_for, on_prepare_remote}
 use Rattle.write_txn.specs.declared.open.Open.TheVariants as in_open
-use Rattle.write_txn.specs.declared.open.Kept.{Kept}
+use Rattle.write_txn.specs.declared.open.ReplicatedPart.{ReplicatedPart}
 use Rattle.write_txn.specs.declared.open.Remote.{Remote}
 use Rattle.write_txn.specs.Ledger.{State, Holds, IsApplied, IsDecided, replica_of}
 use Rattle.write_txn.specs.View.{view_of, near_nodes, nodes_for, met_for, is_ready_by}
@@ -37,7 +37,7 @@ pub repl_part_unknown : (top : TopologyValue) (me n : ℕ) (a : ShardState) (k :
     → on_repl_part top me n a k ≡ answer n (record a { kept_parts = a.kept_parts ++ k ∷ [] }) (envelope me (shard_node top (dc_of top me) k.coordinator) n (Notify k.txn))
 repl_part_unknown top me n a k h = ap (λ b. repl_part_if b top me n a k) (known_if top me k.txn a None h)
 
-pub part_is_kept : (top : TopologyValue) (me n : ℕ) (a : ShardState) (k : Kept) → IsUnknown (view_of k.part.writer.txn a)
+pub part_is_kept : (top : TopologyValue) (me n : ℕ) (a : ShardState) (k : ReplicatedPart) → IsUnknown (view_of k.part.writer.txn a)
     → Moves top me k.part.writer.txn (Some (Holds (in_open.Kept k))) [] a (record a { clock = n; kept_parts = a.kept_parts ++ kept_part_of k ∷ [] })
 part_is_kept top me n a k h =
     let s = same_about k.part.writer.txn a in
@@ -69,13 +69,13 @@ part_is_kept top me n a k h =
 
 -- ## A kept part is prepared
 
-pub prepare_remote_kept : (top : TopologyValue) (me n : ℕ) (a : ShardState) (t : TxnValue) (k : Kept) → StandsKept (view_of t a) k
+pub prepare_remote_kept : (top : TopologyValue) (me n : ℕ) (a : ShardState) (t : TxnValue) (k : ReplicatedPart) → StandsKept (view_of t a) k
     → on_prepare_remote top me n a t ≡ prepare_part top me n a k.part.writer.txn k.part.batch k.part.writer.shard Replica
 prepare_remote_kept top me n a t k h =
     ap (λ o. prepare_remote_for o (is_some (prepared_part t a)) top me n a) h.kept_part
     ∙ ap (λ (o : Option PreparedPart). prepare_remote_for (Some (kept_part_of k)) (is_some o) top me n a) h.prepared
 
-pub kept_is_prepared : (top : TopologyValue) (me n : ℕ) (a : ShardState) (k : Kept) → StandsKept (view_of k.part.writer.txn a) k
+pub kept_is_prepared : (top : TopologyValue) (me n : ℕ) (a : ShardState) (k : ReplicatedPart) → StandsKept (view_of k.part.writer.txn a) k
     → Moves top me k.part.writer.txn (Some (Holds (in_open.Part (replica_of k n)))) [] a (prepare_part top me n a k.part.writer.txn k.part.batch k.part.writer.shard Replica).state
 kept_is_prepared top me n a k h =
     let m = cohort_prepares top me n a (replica_of k n) h.unled h.prepared h.applied refl (λ x e. let f : Some (kept_part_of k) ≡ Some x = sym h.kept_part ∙ e in let g : kept_part_of k ≡ x = cc in ap (λ (y : KeptPart). y.coordinator) (sym g)) in

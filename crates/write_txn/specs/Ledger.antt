@@ -21,7 +21,7 @@ use Rattle.write_txn.specs.declared.status.Status.{Status}
 use Rattle.write_txn.specs.declared.status.Status.TheVariants as in_status
 use Rattle.write_txn.specs.declared.open.Open.{Open}
 use Rattle.write_txn.specs.declared.open.Open.TheVariants as in_open
-use Rattle.write_txn.specs.declared.open.Kept.{Kept}
+use Rattle.write_txn.specs.declared.open.ReplicatedPart.{ReplicatedPart}
 use Rattle.write_txn.specs.declared.open.Missing.{Missing}
 use Rattle.write_txn.specs.declared.open.Missing.TheVariants as in_missing
 use Rattle.write_txn.specs.declared.open.Led.{Led}
@@ -99,7 +99,7 @@ HaveSameStates old new = (u : TxnValue) → state_of new u ≡ state_of old u
 -- ## A part
 
 -- a part that was kept, prepared at this time
-abbrev pub replica_of : Kept → ℕ → PreparedPart
+abbrev pub replica_of : ReplicatedPart → ℕ → PreparedPart
 replica_of k time =
     record { txn = k.part.writer.txn; rows = k.part.batch; coordinator = k.part.writer.shard; time = time; role = Replica }
 

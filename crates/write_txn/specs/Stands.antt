@@ -10,7 +10,7 @@ use Rattle.messages.specs.Topology.{TopologyValue, shard_of}
 use Rattle.messages.specs.Rows.{touches_row}
 use Rattle.messages.specs.Shard.{PreparedPart, Role, Own, Cohort, Replica, BegunBallot, KeptPart, KeptBallot}
 use Rattle.write_txn.specs.declared.open.Open.TheVariants as in_open
-use Rattle.write_txn.specs.declared.open.Kept.{Kept}
+use Rattle.write_txn.specs.declared.open.ReplicatedPart.{ReplicatedPart}
 use Rattle.write_txn.specs.declared.open.Led.{Led}
 use Rattle.write_txn.specs.declared.open.Remote.{Remote}
 use Rattle.write_txn.specs.Ledger.{State, Holds, IsApplied, IsDecided}
@@ -22,7 +22,7 @@ is_cohorts Own = false
 is_cohorts Cohort = true
 is_cohorts Replica = true
 
-abbrev pub kept_part_of : Kept → KeptPart
+abbrev pub kept_part_of : ReplicatedPart → KeptPart
 kept_part_of k =
     record { txn = k.part.writer.txn; rows = k.part.batch; stamp = k.stamp; coordinator = k.part.writer.shard }
 
@@ -73,7 +73,7 @@ pub record IsUnknown (v : View) : Type 0 where
   pub met : v.met ≡ []
 
 -- a replicated part is kept
-pub record StandsKept (v : View) (k : Kept) : Type 0 where
+pub record StandsKept (v : View) (k : ReplicatedPart) : Type 0 where
   pub unled : IsUnled v
   pub kept_part : v.kept_part ≡ Some (kept_part_of k)
   pub prepared : v.prepared ≡ None

@@ -10,7 +10,7 @@ ghost use Rattle.write_txn.specs.Marking.{AreMarksBut, IsMarkedWithin, is_to_vot
 ghost use Rattle.write_txn.specs.Transactions.{AreMarksOf, cohorts_part};
 
 use crate::ledger::Ledger;
-use crate::open::{Kept, Led, Open, Origin, Part, Remote};
+use crate::open::{CohortPart, Led, Open, Origin, Remote, ReplicatedPart};
 use logical_time::{Fault, Time};
 use pending::Marks;
 use txn_state::{Complete, RemoteBallot, WritePart};
@@ -37,7 +37,7 @@ fn into_led(held: Open) -> Led
 }
 
 /// The part that is kept.
-fn into_kept(held: Open) -> Kept
+fn into_kept(held: Open) -> ReplicatedPart
     requires { is_kept held ≡ true }
     ensures { in_open.Kept result ≡ held }
 {
@@ -98,7 +98,7 @@ pub(crate) fn add_part(
         Ok(()) => {}
         Err(fault) => return Err((fault, part)),
     }
-    let held = Open::Part(Part::new(part, time, Origin::Submitted));
+    let held = Open::Part(CohortPart::new(part, time, Origin::Submitted));
     match add_marked(ledger, marks, held) {
         Ok(()) => Ok(()),
         Err((fault, held)) => Err((fault, into_part(held))),
@@ -129,8 +129,8 @@ pub(crate) fn add_led(ledger: &mut Ledger, marks: &mut Marks, led: Led) -> Resul
 pub(crate) fn add_kept(
     ledger: &mut Ledger,
     marks: &mut Marks,
-    kept: Kept,
-) -> Result<(), (Fault, Kept)>
+    kept: ReplicatedPart,
+) -> Result<(), (Fault, ReplicatedPart)>
     requires unknown { state_of ledger.old kept.part.writer.txn ≡ None }
     requires marks { AreMarksOf marks.old ledger.old }
     ensures marks { AreMarksOf marks.new ledger.new }

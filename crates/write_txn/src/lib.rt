@@ -20,6 +20,6 @@ mod voters;
 pub use law::{parts_move_on, transactions_stand, votes_are_counted};
 pub use ledger::Ledger;
 pub use next::stamp_of;
-pub use open::{Kept, Led, Missing, Open, Origin, Part, Remote};
+pub use open::{CohortPart, Led, Missing, Open, Origin, Remote, ReplicatedPart};
 pub use transactions::Transactions;
 pub use voters::Voters;

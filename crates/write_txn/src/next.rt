@@ -7,7 +7,7 @@ ghost use Rattle.txn_state.specs.Voted.{voted};
 ghost use Rattle.write_txn.specs.Ledger.{Holds, state_prepared, state_with, state_applied, part_in, state_voted, completed_by, led_after, complete_in, state_ready, readied_by, remote_after, ready_complete, lacks_nothing};
 ghost use Rattle.write_txn.specs.Next.{state_next};
 
-use crate::open::{Kept, Led, Missing, Open, Origin, Part, Remote};
+use crate::open::{CohortPart, Led, Missing, Open, Origin, Remote, ReplicatedPart};
 use logical_time::{Node, Stamp, Time};
 use txn_state::{Complete, Prepared, Ready, Voted};
 
@@ -42,7 +42,7 @@ pub(crate) fn prepared(held: Open, time: Time) -> Open
     ensures { Some (Holds result) ≡ state_prepared time (Some (Holds held)) }
 {
     match held {
-        Open::Kept(Kept { part, stamp: _ }) => Open::Part(Part::new(
+        Open::Kept(ReplicatedPart { part, stamp: _ }) => Open::Part(CohortPart::new(
             part,
             time,
             Origin::Replicated,

@@ -17,7 +17,7 @@ pub enum Origin {
 }
 
 /// A cohort's part of a write of another data centre, before it is prepared.
-pub struct Kept {
+pub struct ReplicatedPart {
     /// The part.
     pub part: WritePart,
     /// The stamp of the write.
@@ -25,12 +25,12 @@ pub struct Kept {
 }
 
 /// A cohort's part that is prepared. It must be spent.
-pub struct Part {
+pub struct CohortPart {
     prepared: Prepared,
     origin: Origin,
 }
 
-impl Model for Part {
+impl Model for CohortPart {
     ghost use Rattle.messages.specs.Shard.{PreparedPart};
     ghost use Rattle.write_txn.specs.Roles.{role_of};
 
@@ -39,16 +39,16 @@ impl Model for Part {
     ghost view = { λ p. record { txn = p.prepared.part.writer.txn; rows = p.prepared.part.batch; coordinator = p.prepared.part.writer.shard; time = p.prepared.time; role = role_of p.origin } };
 }
 
-impl Part {
+impl CohortPart {
     ghost use Rattle.std.specs.Prelude.{◌≡◌};
     ghost use Rattle.write_txn.specs.Roles.{role_of};
     ghost use Rattle.write_txn.specs.Ledger.{prepared_of};
 
     /// A part that is prepared at this time.
-    pub fn new(part: WritePart, time: Time, origin: Origin) -> Part
+    pub fn new(part: WritePart, time: Time, origin: Origin) -> CohortPart
         ensures { result ≡ record { txn = part.writer.txn; rows = part.batch; coordinator = part.writer.shard; time = time; role = role_of origin } }
     {
-        Part {
+        CohortPart {
             prepared: Prepared::new(part, time),
             origin,
         }
@@ -93,7 +93,7 @@ impl Part {
     pub fn into_prepared(self) -> Prepared
         ensures { result ≡ prepared_of self }
     {
-        let Part {
+        let CohortPart {
             prepared,
             origin: _,
         } = self;
@@ -157,9 +157,9 @@ impl Remote {
 /// What is under way of a transaction. It must be spent.
 pub enum Open {
     /// A part that is kept and not yet prepared.
-    Kept(Kept),
+    Kept(ReplicatedPart),
     /// A cohort's part that is prepared.
-    Part(Part),
+    Part(CohortPart),
     /// A ballot whose cohorts are voting.
     Led(Led),
     /// A ballot of another data centre's write that waits.
@@ -211,7 +211,7 @@ impl Open {
         ensures { result ≡ part_of self }
     {
         match self {
-            Open::Kept(Kept { part, stamp: _ }) => part,
+            Open::Kept(ReplicatedPart { part, stamp: _ }) => part,
             Open::Part(part) => {
                 let (part, _) = part.into_prepared().surrender();
                 part

@@ -22,7 +22,7 @@ use crate::adding::{add_kept, add_led, add_part, add_remote};
 use crate::applying::{commit_part, decide_own};
 use crate::ledger::Ledger;
 use crate::moving::{count, prepare_kept, vote};
-use crate::open::{Kept, Led, Missing, Remote};
+use crate::open::{Led, Missing, Remote, ReplicatedPart};
 use crate::voters::Voters;
 use column_family::Batch;
 use logical_time::{Fault, Node, Stamp, Time, TxnId};
@@ -138,7 +138,7 @@ impl Transactions {
 
     /// Keeps a cohort's part of a write of another data centre. Refused with `Memory` alone, and then the part comes
     /// back.
-    pub fn keep(&mut self, kept: Kept) -> Result<(), (Fault, Kept)>
+    pub fn keep(&mut self, kept: ReplicatedPart) -> Result<(), (Fault, ReplicatedPart)>
         requires { state_of self.old.ledger kept.part.writer.txn ≡ None }
         ensures ok { OnOk result (Becomes kept.part.writer.txn (Some (Holds (in_open.Kept kept))) self.old.ledger self.new.ledger) }
         ensures err { OnErr result (HaveSameStates self.old.ledger self.new.ledger) }

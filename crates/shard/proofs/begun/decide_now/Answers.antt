@@ -5,7 +5,7 @@ use Rattle.txn_state.specs.Prepared.{PreparedValue}
 use Rattle.messages.specs.declared.envelope.Envelope.{Envelope}
 use Rattle.messages.specs.Place.{IsPlace}
 use Rattle.messages.specs.Posting.{commit_to}
-use Rattle.shard.specs.declared.kept.Kept.{Kept}
+use Rattle.shard.specs.declared.kept.ShardKept.{ShardKept}
 use Rattle.shard.specs.Deciding.{node_at, IsSettled}
 use Rattle.shard.proofs.Begins.{decides_begun}
 use Rattle.shard.proofs.begun.decide_now.Goals as goal
@@ -20,11 +20,11 @@ returns-clause-step c = λ top me a r apart.
     let stamped : told_stamp ≡ stamp =
     c.new-stamp.ensures
     ∙ ap (λ (m : ℕ). record { time = m; node = c.node.result }) c.now.ensures
-    ∙ ap (λ (m : ℕ). record { time = c.args.clock; node = m }) (c.node.ensures.value ∙ ap (λ (x : Kept). node_at x.place) now.rest) in
+    ∙ ap (λ (m : ℕ). record { time = c.args.clock; node = m }) (c.node.ensures.value ∙ ap (λ (x : ShardKept). node_at x.place) now.rest) in
     let own_is : c.new-complete.result ≡ record { own = record { part = record { writer = record { txn = b.txn; shard = k.place.shard }; batch = b.rows }; time = c.args.clock }; cohorts = c.args.votes.cohorts } =
     c.new-complete.ensures ∙ (ap (λ (o : PreparedValue). record { own = o; cohorts = c.args.votes.cohorts }) c.own_part.ensures
-    ∙ ap (λ (x : Kept). record { own = record { part = record { writer = record { txn = b.txn; shard = x.place.shard }; batch = b.rows }; time = c.args.clock }; cohorts = c.args.votes.cohorts }) now.rest) in
-    let place = subst (λ (x : Kept). IsPlace top me x.place) (sym now.rest) r.place in
+    ∙ ap (λ (x : ShardKept). record { own = record { part = record { writer = record { txn = b.txn; shard = x.place.shard }; batch = b.rows }; time = c.args.clock }; cohorts = c.args.votes.cohorts }) now.rest) in
+    let place = subst (λ (x : ShardKept). IsPlace top me x.place) (sym now.rest) r.place in
     let settled = subst (λ (s : StampValue). IsSettled b.txn c.new-complete.result.own c.args.clock s c.note_decision.new.kept c.settle.new.kept) stamped c.settle.ensures.settled in
     let sent = c.settle.ensures.sent top me place
     ∙ (ap (λ (s : StampValue). (c.note_decision.new.outbox.sent ++ map (commit_to me c.args.clock b.txn c.args.clock s) c.new-complete.result.cohorts) ++ c.in-Ok.envelopes.items) stamped

@@ -1,10 +1,10 @@
-use Rattle.shard.specs.declared.kept.Kept.{Kept}
+use Rattle.shard.specs.declared.kept.ShardKept.{ShardKept}
 use Rattle.shard.proofs.ShardSteps.{opens}
 use Rattle.shard.proofs.shard.Shard.new.Goals as goal
 
 pub returns-clause-state : goal.returns-clause-state
 returns-clause-state c =
-    let k : Kept = record {
+    let k : ShardKept = record {
       alloc = c.args.alloc;
       place = c.in_ok-place.place;
       clock = c.new-2.result;
