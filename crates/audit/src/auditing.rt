@@ -4,9 +4,9 @@ ghost use Rattle.logical_time.specs.declared.fault.Fault.TheVariants as fault;
 ghost use Rattle.messages.specs.declared.op.Op.TheVariants as op;
 ghost use Rattle.audit.specs.Audit as audit;
 
-use crate::comparing::same_rows;
 use crate::found::Audit;
 use crate::laid::Laid;
+use equality::same_answer;
 use logical_time::{Fault, Time};
 use messages::{Op, Outcome};
 use rayon::prelude::*;
@@ -28,7 +28,7 @@ pub(crate) fn is_right(
     ensures memory { IfErr result (λ e. e ≡ fault.Memory) }
 {
     let meaning = laid.answer(alloc, read, time)?;
-    Ok(same_rows(answer.as_slice(), meaning.as_slice()))
+    Ok(same_answer(answer, &meaning))
 }
 
 // Whether the answer of what was asked in a data centre is wrong. Refused with `Memory` alone.

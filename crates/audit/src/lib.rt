@@ -2,7 +2,6 @@
 #![tactic(auto)]
 
 mod auditing;
-mod comparing;
 mod found;
 mod judging;
 mod laid;
