@@ -93,9 +93,9 @@ impl Shard {
         handling::handle(&mut self.kept, envelope, outbox)
     }
 
-    /// Handles the envelope of this number, which stays in the outbox, as `handle` does. What the shard keeps of it is copied,
-    /// and shares the bytes of keys, names and values. Refused with `ClockSpent` where the clock would leave its range, and
-    /// with `Memory`; then the shard stands for what it stood for, and nothing is sent.
+    /// Handles a copy of the envelope of this number, which stays in the outbox, as `handle` does. The copy shares the bytes of
+    /// keys, names and values. Refused with `ClockSpent` where the clock would leave its range, and with `Memory`; then the
+    /// shard stands for what it stood for, and nothing is sent.
     pub fn hear_at(&mut self, number: usize, outbox: &mut Outbox) -> Result<(), Fault>
         requires sent { number < length outbox.old.sent }
         ensures step { (top : TopologyValue) (me : ℕ) (a : ShardState) (e : Envelope) → slice_get outbox.old.sent number ≡ Some e → Represents top me self.old a

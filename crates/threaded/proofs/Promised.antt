@@ -14,7 +14,7 @@ use Rattle.world.specs.Causes.{PastsAreDecided}
 use Rattle.world.specs.Collected.{CollectedIsBelowHorizon}
 use Rattle.world.specs.Entries.{TellsDecided, StampsAgree, WritesAreTold}
 use Rattle.world.specs.Fresh.{FirstRoundsAreWhole}
-use Rattle.world.specs.Promises.{EntriesAreOfSubmissions, OutcomesAreListed, ReadsShowOneTable, AnswersStay, LaterCommitsAreAbove, HistoriesGrow, ReadsShowTheirPast, ReadsAreFresh, StampsFollowCauses, TimesNeverFall, HomesAreOfMoves, OperationsEndOnce}
+use Rattle.world.specs.Promises.{EntriesAreOfSubmissions, OutcomesAreListed, ReadsShowOneTable, AnswersStay, LaterCommitsAreAbove, HistoriesGrow, ReadsShowTheirPast, MovesBringTheirPast, ReadsAreFresh, StampsFollowCauses, TimesNeverFall, HomesAreOfMoves, OperationsEndOnce}
 use Rattle.world.specs.Histories.{IsHistory}
 use Rattle.world.specs.Journals.{held_in, IsRunOf}
 use Rattle.world.proofs.Promised as promised
@@ -35,6 +35,9 @@ module _ (top : TopologyValue) (seats : List SeatValue) (c : AreConcluded top se
 
   pub past : InEachRun top seats (ReadsShowTheirPast top)
   past events is = promised.past (record { top = top; events = events }) (is_of events)
+
+  pub arrived : InEachRun top seats (MovesBringTheirPast top)
+  arrived events is = promised.arrived (record { top = top; events = events }) (is_of events)
 
   pub fresh : InEachRun top seats (ReadsAreFresh top)
   fresh events is = promised.fresh (record { top = top; events = events }) (is_of events)

@@ -5,7 +5,7 @@ ghost use Rattle.world.specs.Collected.{CollectedIsBelowHorizon};
 ghost use Rattle.world.specs.Entries.{TellsDecided, StampsAgree, WritesAreTold};
 ghost use Rattle.world.specs.Fresh.{FirstRoundsAreWhole};
 ghost use Rattle.world.specs.Quiet.{IsQuiet};
-ghost use Rattle.world.specs.Promises.{EntriesAreOfSubmissions, OutcomesAreListed, ReadsShowOneTable, AnswersStay, LaterCommitsAreAbove, HistoriesGrow, ReadsShowTheirPast, ReadsAreFresh, StampsFollowCauses, TimesNeverFall, HomesAreOfMoves, OperationsEndOnce};
+ghost use Rattle.world.specs.Promises.{EntriesAreOfSubmissions, OutcomesAreListed, ReadsShowOneTable, AnswersStay, LaterCommitsAreAbove, HistoriesGrow, ReadsShowTheirPast, MovesBringTheirPast, ReadsAreFresh, StampsFollowCauses, TimesNeverFall, HomesAreOfMoves, OperationsEndOnce};
 ghost use Rattle.world.specs.Histories.{IsHistory};
 ghost use Rattle.threaded.specs.OneRun.{seat_of};
 ghost use Rattle.threaded.specs.Concluded.{InEachRun, InEachCut, AreConcluded, by_session};
@@ -98,8 +98,11 @@ impl Concluded {
         ensures one_table { InEachRun self.now.top self.now.seats (ReadsShowOneTable self.now.top) }
         // now and at each moment before
         ensures stays { InEachCut self.now.top self.now.seats (AnswersStay self.now.top) }
-        // that table holds each write before the read, and nothing older than the asked shards had applied
+        // that table holds each write before the read
         ensures past { InEachRun self.now.top self.now.seats (ReadsShowTheirPast self.now.top) }
+        // so does the new home of a session that moved, by the floor that the move told
+        ensures arrived { InEachRun self.now.top self.now.seats (MovesBringTheirPast self.now.top) }
+        // and shows nothing older than the asked shards had applied
         ensures fresh { InEachRun self.now.top self.now.seats (ReadsAreFresh self.now.top) }
         ensures whole { InEachRun self.now.top self.now.seats (FirstRoundsAreWhole self.now.top) }
         // what was committed there after a moment has a greater commit time

@@ -1,8 +1,8 @@
 use Rattle.std.proofs.Common.{arith, subst}
 use Rattle.threaded.proofs.Whole.{are_told}
-use Rattle.threaded.proofs.Promised.{fresh, given_up, entries, outcomes, once, told, one_table, stays, past, whole, above, times, homes}
+use Rattle.threaded.proofs.Promised.{fresh, given_up, entries, outcomes, once, told, one_table, stays, past, arrived, whole, above, times, homes}
 use Rattle.world.specs.Fresh.{FirstRoundsAreWhole}
-use Rattle.world.specs.Promises.{AnswersStay, LaterCommitsAreAbove, ReadsShowOneTable, ReadsShowTheirPast, TimesNeverFall, HomesAreOfMoves}
+use Rattle.world.specs.Promises.{AnswersStay, LaterCommitsAreAbove, ReadsShowOneTable, ReadsShowTheirPast, MovesBringTheirPast, TimesNeverFall, HomesAreOfMoves}
 use Rattle.threaded.specs.Concluded.{InEachRun, InEachCut, ConcludedValue}
 use Rattle.threaded.proofs.concluded.Concluded.transcript.Goals as goal
 
@@ -15,6 +15,11 @@ pub returns-clause-past : goal.returns-clause-past
 returns-clause-past c =
     subst (λ (v : ConcludedValue). InEachRun v.top v.seats (ReadsShowTheirPast v.top)) c.self.view_is
     (past c.self.inside.topology c.self.inside.seats.items c.self.invariant)
+
+pub returns-clause-arrived : goal.returns-clause-arrived
+returns-clause-arrived c =
+    subst (λ (v : ConcludedValue). InEachRun v.top v.seats (MovesBringTheirPast v.top)) c.self.view_is
+    (arrived c.self.inside.topology c.self.inside.seats.items c.self.invariant)
 
 pub returns-clause-whole : goal.returns-clause-whole
 returns-clause-whole c =
