@@ -1,5 +1,5 @@
--- Begin, Prepare, Yes, Commit, At, NotBy and Check.
-use Rattle.std.proofs.Common.{◌≡◌, subst, refl, ℕ, ◌<◌, inl, inr, Bool, true, false, ◌||◌, List, [], ◌∷◌, ◌++◌, map, Option, Some, None, arith}
+-- A decision, a ballot that is held, and a part that is prepared.
+use Rattle.std.proofs.Common.{◌≡◌, subst, refl, ℕ, ◌<◌, inl, inr, true, false, ◌||◌, List, [], ◌∷◌, ◌++◌, map, Option, Some, None, arith}
 use Rattle.std.specs.Prelude.{filter, is_some}
 use Rattle.std.specs.List.{list_any}
 use Rattle.std.proofs.lemmas.List.Elements.{Contains-append_right, Contains-push}
@@ -12,16 +12,16 @@ use Rattle.store.specs.declared.part.Applied.{Applied}
 use Rattle.messages.specs.declared.envelope.Envelope.{Envelope}
 use Rattle.messages.specs.Topology.{TopologyValue, shard_of}
 use Rattle.messages.specs.Words.{is_same_txn, other_dcs}
-use Rattle.messages.specs.Shard.{ShardState, Role, Own, Cohort, PreparedPart, BegunBallot, Vote, Decision, KeptPart, KeptBallot, Asker}
-use Rattle.messages.specs.Known.{decision_of, prepared_part, kept_part, kept_ballot, is_known, is_applied, all_voted}
-use Rattle.messages.specs.Commits.{applied_part, commits, stamp_for, announcements, dep_oks, decide, hold, begin_if, prepare_part, prepare_if, on_begin, on_prepare}
+use Rattle.messages.specs.Shard.{ShardState, Role, Own, PreparedPart, BegunBallot, Vote, Decision, KeptPart, KeptBallot, Asker}
+use Rattle.messages.specs.Known.{decision_of, prepared_part, kept_part, kept_ballot, is_known, is_applied}
+use Rattle.messages.specs.Commits.{applied_part, commits, stamp_for, announcements, dep_oks, decide, hold, prepare_part}
 use Rattle.messages.specs.Honest.{ToldCommit, all_told, IsHonest, StampedTxn}
 use Rattle.shard.specs.Sound.{Seen, IsDecided, IsCohorts, IsLed, IsFollowed, BodySound, Holds, Able, IsWithin}
 use Rattle.shard.proofs.Lists.{no_truth, same_txn, same_if_equal, any_has, any_none, found_some, each_joined, each_mapped}
 use Rattle.shard.proofs.Grow.{with_prepared, with_applied}
 use Rattle.shard.proofs.Updates.{aside}
 use Rattle.shard.proofs.Additions.{prepare_one, with_ballot, AreReady, begin_one, with_decision, decide_one, stamped_txn, apply_one}
-use Rattle.shard.proofs.LetGo.{able_after, quiet_able, ArePlain, let_go_able}
+use Rattle.shard.proofs.LetGo.{able_after, ArePlain, let_go_able}
 
 -- ## What isn't known
 
@@ -132,32 +132,3 @@ prepare_part_able a n t rows coordinator role lt normal theirs unled h =
       onward = aside (with_prepared a p) n a.low a.early a.votes a.askers (omega (arith, lt)) (omega arith) h1;
       sends = (tt, tt);
     })
-
--- ## Begin, Prepare, Yes
-
-begin_go : {top : TopologyValue} {me : ℕ} {last : ShardState} {es : Seen} (known voted : Bool) (a : ShardState) (n : ℕ) (b : BegunBallot) → is_known b.txn a ≡ known
-    → IsHonest last es.envelopes → a.clock < n → IsNormal b.rows → IsWithin (begin_if known voted top me n a b).state last → Holds top me last es a
-    → Able top me last es a (begin_if known voted top me n a b)
-begin_go true voted a n b e honest lt normal within h = quiet_able a n (omega (arith, lt)) h
-begin_go false true a n b e honest lt normal within h =
-    decide_able a n b honest lt normal (unknown_unfollowed b.txn a e) (λ d. unknown_unled b.txn a e (inr (inl d)))
-    (λ r has is. absurd (unknown_unled b.txn a e (inr (inr (r, has, is))))) within h
-begin_go {es = es} false false a n b e honest lt normal within h =
-    hold_able a n b (filter (λ v. is_same_txn v.txn b.txn) a.early) [] lt normal (unknown_unfollowed b.txn a e)
-    (λ r has is. absurd (unknown_unled b.txn a e (inr (inr (r, has, is))))) (λ c. tt) h
-
-pub begin_able : {top : TopologyValue} {me : ℕ} {last : ShardState} {es : Seen} (a : ShardState) (n : ℕ) (b : BegunBallot)
-    → IsHonest last es.envelopes → a.clock < n → IsNormal b.rows → IsWithin (on_begin top me n a b).state last → Holds top me last es a
-    → Able top me last es a (on_begin top me n a b)
-begin_able {top = top} {me = me} a n b honest lt normal within h =
-    begin_go (is_known b.txn a) (all_voted top me b.cohorts a.early b.txn) a n b refl honest lt normal within h
-
-prepare_go : {top : TopologyValue} {me : ℕ} {last : ShardState} {es : Seen} (known : Bool) (a : ShardState) (n : ℕ) (t : TxnValue) (rows : List Change) (coordinator : ℕ)
-    → is_known t a ≡ known → a.clock < n → IsNormal rows → Holds top me last es a
-    → Able top me last es a (prepare_if known top me n a t rows coordinator)
-prepare_go true a n t rows coordinator e lt normal h = quiet_able a n (omega (arith, lt)) h
-prepare_go false a n t rows coordinator e lt normal h = prepare_part_able a n t rows coordinator Cohort lt normal (λ q. absurd (cc)) (unknown_unled t a e) h
-
-pub prepare_able : {top : TopologyValue} {me : ℕ} {last : ShardState} {es : Seen} (a : ShardState) (n : ℕ) (t : TxnValue) (rows : List Change) (coordinator : ℕ)
-    → a.clock < n → IsNormal rows → Holds top me last es a → Able top me last es a (on_prepare top me n a t rows coordinator)
-prepare_able a n t rows coordinator lt normal h = prepare_go (is_known t a) a n t rows coordinator refl lt normal h

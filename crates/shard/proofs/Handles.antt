@@ -1,6 +1,6 @@
 -- What one envelope and one event make of a shard: what is known goes on holding.
-use Rattle.std.proofs.Common.{◌≡◌, sym, ap, subst, refl, ℕ, ◌+◌, ◌^◌, ◌<◌, max, Bool, true, false, nat_lt, List, [], ◌∷◌, ◌++◌, Option, Some, None, Result, Ok, Err, arith}
-use Rattle.std.specs.Prelude.{if◌then◌else◌, Contains}
+use Rattle.std.proofs.Common.{◌≡◌, ◌∙◌, inl, inr, ◌≤◌, sym, ap, subst, refl, ℕ, ◌+◌, ◌^◌, ◌<◌, max, Bool, true, false, nat_lt, List, [], ◌∷◌, ◌++◌, Option, Some, None, Result, Ok, Err, arith}
+use Rattle.std.specs.Prelude.{filter, is_some, if◌then◌else◌, Contains}
 use Rattle.std.proofs.lemmas.List.Elements.{Contains-append_left}
 use Rattle.column_family.specs.Normal.{IsNormal}
 use Rattle.logical_time.specs.declared.fault.Fault.{Fault}
@@ -10,7 +10,12 @@ use Rattle.messages.specs.declared.body.Body.TheVariants as body
 use Rattle.messages.specs.declared.envelope.Envelope.{Envelope}
 use Rattle.messages.specs.Topology.{TopologyValue}
 use Rattle.messages.specs.Clock.{ticked, on_clock}
-use Rattle.messages.specs.Shard.{ShardState, ShardStep}
+use Rattle.messages.specs.Shard.{ShardState, ShardStep, Cohort, Replica, BegunBallot}
+use Rattle.messages.specs.Known.{decision_of}
+use Rattle.messages.specs.Commits.{with_vote}
+use Rattle.messages.specs.Replication.{with_notice}
+use Rattle.messages.specs.Words.{is_same_txn, envelope}
+use Rattle.logical_time.specs.Stamps.{StampValue, TxnValue}
 use Rattle.messages.specs.Reads.{is_waiting}
 use Rattle.slice.specs.declared.read.Read.{Read}
 use Rattle.messages.specs.ShardEvents.{handled, shard_handle, collected, shard_collect}
@@ -21,11 +26,13 @@ use Rattle.messages.specs.declared.event.Event.{Event}
 use Rattle.messages.specs.declared.event.Event.TheVariants.{Submit, Handle, Collect}
 use Rattle.shard.specs.Events.{ShardRun, after_step, after_event, shard_continued, envelopes_handled}
 use Rattle.shard.specs.Sound.{Seen, Holds, Able, IsWithin}
-use Rattle.shard.proofs.LetGo.{quiet_able}
-use Rattle.shard.proofs.Commits.{begin_able, prepare_able}
-use Rattle.shard.proofs.Votes.{yes_able, commit_able, not_by_able, check_able}
-use Rattle.shard.proofs.ReadSteps.{read_able, read_at_able}
-use Rattle.shard.proofs.Remotes.{repl_begin_able, repl_part_able, notify_able, prepare_remote_able, dep_check_able, dep_ok_able}
+use Rattle.shard.proofs.LetGo.{able_after, quiet_able, answer_able}
+use Rattle.shard.proofs.HandledCases.{IsTelling, begun, copied, with_early, with_asker, StepOf, still, begin_decides, begin_holds, prepares, vote_decides, vote_counts, vote_early, applies, lets_go, tells_commit, tells_none, reads_now, reads_collected, reads_at, waits, readies, notice_early, keeps_part, prepares_replica, tells_decided, remembers, handled_cases}
+use Rattle.shard.proofs.Updates.{aside, more_notices}
+use Rattle.shard.proofs.Commits.{unknown_unled, unknown_unfollowed, undecided_none, decide_able, hold_able, prepare_part_able}
+use Rattle.shard.proofs.Votes.{IsTold, apply_able, not_by_able}
+use Rattle.shard.proofs.ReadSteps.{read_able, collected_able, read_at_able, wait_able}
+use Rattle.shard.proofs.Remotes.{brings_able, keeps_part_able}
 use Rattle.shard.proofs.Within.{within_then, within_itself, handled_within, collected_within}
 
 -- ## An envelope is handled
@@ -35,43 +42,69 @@ pub handled_able : (top : TopologyValue) (me : ℕ) (last : ShardState) (es : Se
     → ((number : ℕ) (read : Read) → e.body ≡ body.Read number read → es.asks_now e.from number read)
     → ((number time : ℕ) (read : Read) → e.body ≡ body.ReadAt number time read → is_waiting a e.from number ≡ false → es.asks_at e.from number time read)
     → (m : Body) → e.body ≡ m → IsWithin (handled top me n a e.from m).state last → Able top me last es a (handled top me n a e.from m)
-handled_able top me last es a n e honest lt late has before h now at = by_body
+handled_able top me last es a n e honest lt late has before h now at m is within =
+    by_case m (handled top me n a e.from m) (handled_cases top me n a e.from m) is within
   where
     normal : (m : Body) → e.body ≡ m → IsNormal (part_in m)
     normal m is = subst (λ z. IsNormal (part_in z)) is (honest.parts e has)
 
-    by_body : (m : Body) → e.body ≡ m → IsWithin (handled top me n a e.from m).state last → Able top me last es a (handled top me n a e.from m)
-    by_body (body.Begin t rows cohorts dependencies) is within =
-        begin_able a n (record { txn = t; rows = rows; cohorts = cohorts; dependencies = dependencies; stamp = None }) honest lt
-        (normal (body.Begin t rows cohorts dependencies) is) within h
-    by_body (body.Prepare t rows coordinator) is within = prepare_able a n t rows coordinator lt (normal (body.Prepare t rows coordinator) is) h
-    by_body (body.Yes t) is within = yes_able a n t e.from honest lt within h
-    by_body (body.Commit t commit stamp) is within =
-        commit_able a n t commit stamp honest lt
-        (e.time, given (λ (z : Envelope). told_in z.time z.body) es.envelopes e (record { txn = t; commit = commit; stamp = stamp; time = e.time }) has (ap (told_in e.time) is))
-        before h
-    by_body (body.At t commit stamp) is within =
-        commit_able a n t commit stamp honest lt
-        (e.time, given (λ (z : Envelope). told_in z.time z.body) es.envelopes e (record { txn = t; commit = commit; stamp = stamp; time = e.time }) has (ap (told_in e.time) is))
-        before h
-    by_body (body.NotBy t time) is within = not_by_able a n e.from t time e honest lt has is h
-    by_body (body.Check t time) is within = check_able a n e.from t time lt h
-    by_body (body.Read number read) is within = read_able a n number read e lt (now number read is) h
-    by_body (body.ReadAt number time read) is within =
-        read_at_able a n number time read e lt (let le = honest.read e number time read has is in omega (arith, late, le)) (λ new. at number time read is new) h
-    by_body (body.ReplBegin cohorts t rows stamp dependencies) is within =
-        repl_begin_able a n (record { txn = t; rows = rows; stamp = stamp; cohorts = cohorts; dependencies = dependencies }) honest lt
-        (normal (body.ReplBegin cohorts t rows stamp dependencies) is) within h
-    by_body (body.ReplPart t rows stamp coordinator) is within =
-        repl_part_able a n (record { txn = t; rows = rows; stamp = stamp; coordinator = coordinator }) lt
-        (normal (body.ReplPart t rows stamp coordinator) is) h
-    by_body (body.Notify t) is within = notify_able a n t e.from honest lt within h
-    by_body (body.PrepareRemote t) is within = prepare_remote_able a n t lt h
-    by_body (body.DepCheck dependency waiter) is within = dep_check_able a n (record { dependency = dependency; waiter = waiter; from = e.from }) lt h
-    by_body (body.DepOk dependency waiter commit) is within = dep_ok_able a n dependency waiter honest lt within h
-    by_body (body.Done t commit stamp) is within = quiet_able a n (omega (arith, lt)) h
-    by_body (body.PartNow number rows) is within = quiet_able a n (omega (arith, lt)) h
-    by_body (body.PartAt number time answer) is within = quiet_able a n (omega (arith, lt)) h
+    -- what a commit tells was told
+    told : (m : Body) (t : TxnValue) (commit : ℕ) (stamp : StampValue) → IsTelling m t commit stamp → e.body ≡ m → IsTold es.envelopes t commit stamp
+    told m t commit stamp tells is = (
+      e.time,
+      given (λ (z : Envelope). told_in z.time z.body) es.envelopes e (record { txn = t; commit = commit; stamp = stamp; time = e.time }) has
+          (elim tells [ inl q ↦ ap (told_in e.time) (is ∙ q) | inr q ↦ ap (told_in e.time) (is ∙ q) ]),
+    )
+
+    asked_before : (number time : ℕ) (read : Read) → e.body ≡ body.ReadAt number time read → time ≤ n
+    asked_before number time read is = let le = honest.read e number time read has is in omega (arith, late, le)
+
+    -- a vote is counted first
+    voted : (b : BegunBallot) (st : ShardStep) → (Holds top me last es (with_vote a b.txn e.from) → Able top me last es (with_vote a b.txn e.from) st)
+        → Able top me last es a st
+    voted b st next = able_after (aside a a.clock a.low a.early (with_vote a b.txn e.from).votes a.askers (omega arith) (omega arith) h) next
+
+    by_case : (m : Body) (st : ShardStep) → StepOf top me n a e.from m st → e.body ≡ m → IsWithin st.state last → Able top me last es a st
+    by_case m st (still none) is within = quiet_able a n (omega (arith, lt)) h
+    by_case m st (begin_decides t rows cohorts dependencies new all) is within =
+        decide_able a n (begun t rows cohorts dependencies) honest lt (normal _ is) (unknown_unfollowed t a new) (λ d. unknown_unled t a new (inr (inl d)))
+        (λ r kept same. absurd (unknown_unled t a new (inr (inr (r, kept, same))))) within h
+    by_case m st (begin_holds t rows cohorts dependencies new some) is within =
+        hold_able a n (begun t rows cohorts dependencies) (filter (λ v. is_same_txn v.txn t) a.early) [] lt (normal _ is) (unknown_unfollowed t a new)
+        (λ r kept same. absurd (unknown_unled t a new (inr (inr (r, kept, same))))) (λ c. tt) h
+    by_case m st (prepares t rows coordinator new) is within =
+        prepare_part_able a n t rows coordinator Cohort lt (normal _ is) (λ q. absurd (cc)) (unknown_unled t a new) h
+    by_case m st (vote_decides t b stands awaited all) is within =
+        voted b _
+        (λ h1. decide_able (with_vote a b.txn e.from) n b honest lt (h.ballots b stands.among) (λ followed. h1.sides b.txn (inl (b, stands.among, refl)) followed)
+        (undecided_none b.txn (with_vote a b.txn e.from) (subst (λ u. is_some (decision_of u a) ≡ false) (sym stands.txn) stands.undecided))
+        (λ r kept same. h1.readied r kept (inl (b, stands.among, sym same))) within h1)
+    by_case m st (vote_counts t b stands awaited some) is within = voted b _ (λ h1. quiet_able (with_vote a b.txn e.from) n (omega (arith, lt)) h1)
+    by_case m st (vote_early t none new first) is within =
+        record { onward = aside a n a.low (with_early a t e.from).early a.votes a.askers (omega (arith, lt)) (omega arith) h; sends = tt }
+    by_case m st (applies t commit stamp tells p there same theirs new) is within =
+        apply_able a n p commit stamp honest lt there theirs new
+        (subst (λ u. IsTold es.envelopes u commit stamp) (sym same) (told m t commit stamp tells is)) before h
+    by_case m st (lets_go t time) is within = not_by_able a n e.from t time e honest lt has is h
+    by_case m st (tells_commit t time d there same) is within =
+        answer_able a n (envelope me e.from n (body.At t d.commit d.stamp)) (omega (arith, lt)) tt h
+    by_case m st (tells_none t time none) is within = answer_able a n (envelope me e.from n (body.NotBy t time)) (omega (arith, lt)) tt h
+    by_case m st (reads_now number read) is within = read_able a n number read e lt (now number read is) h
+    by_case m st (reads_collected number time read new low) is within = collected_able a n number time read e low lt (at number time read is new) h
+    by_case m st (reads_at number time read new above none) is within =
+        read_at_able a n number time read e none lt (asked_before number time read is) (at number time read is new) h
+    by_case m st (waits number time read new above w ws some) is within =
+        wait_able w ws a n number time read e some lt (asked_before number time read is) (at number time read is new) h
+    by_case m st (readies brings step) is within = brings_able a n e.from m _ _ _ _ brings step honest lt (normal m is) within h
+    by_case m st (notice_early t none new first) is within =
+        able_after (more_notices a (record { txn = t; node = e.from }) h) (λ h1. quiet_able (with_notice a t e.from) n (omega (arith, lt)) h1)
+    by_case m st (keeps_part t rows stamp coordinator new) is within = keeps_part_able a n (copied t rows stamp coordinator) new lt (normal _ is) h
+    by_case m st (prepares_replica t k there same new) is within =
+        prepare_part_able a n k.txn k.rows k.coordinator Replica lt (h.kept_parts k there) (λ q. absurd (cc)) (λ led. h.sides k.txn led (inr (k, there, refl))) h
+    by_case m st (tells_decided dependency waiter d there same) is within =
+        answer_able a n (envelope me e.from n (body.DepOk dependency waiter d.commit)) (omega (arith, lt)) tt h
+    by_case m st (remembers dependency waiter none new) is within =
+        record { onward = aside a n a.low a.early a.votes (with_asker a dependency waiter e.from).askers (omega (arith, lt)) (omega arith) h; sends = tt }
 
 -- ## Events
 

@@ -12,6 +12,7 @@ pub mod CountsEarly
 pub mod Decisions
 pub mod EarlySteps
 pub mod Grow
+pub mod HandledCases
 pub mod HandledSteps
 pub mod Handles
 pub mod HeardAt

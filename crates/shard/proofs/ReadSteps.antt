@@ -18,14 +18,14 @@ use Rattle.messages.specs.Shard.{ShardState, PreparedPart}
 use Rattle.messages.specs.Known.{is_applied}
 use Rattle.slice.specs.Rows.{row_of}
 use Rattle.messages.specs.Rows.{touches_row, marks_on, least_mark, row_now}
-use Rattle.messages.specs.Reads.{part_at, marks_below, asked_below, check_of, is_waiting, waiting_read, read_at_of, read_at_if, on_read, on_read_at}
+use Rattle.messages.specs.Reads.{answer, part_at, marks_below, asked_below, check_of, waiting_read, on_read}
 use Rattle.messages.proofs.Greatest.{mark_below_clock, mark_below_each}
 use Rattle.messages.proofs.WritersInOrder.{writers_stay}
 use Rattle.shard.specs.Sound.{Seen, IsExcluded, RowNowSound, BodySound, WaitSound, Holds, Able}
 use Rattle.shard.proofs.Lists.{any_has, both_hold, each_mapped}
 use Rattle.messages.proofs.RowParts.{row_now_shown}
 use Rattle.shard.proofs.Updates.{moved, now_waiting}
-use Rattle.shard.proofs.LetGo.{able_after, quiet_able, answer_able, free_answer}
+use Rattle.shard.proofs.LetGo.{able_after, answer_able, free_answer}
 
 -- ## Read
 
@@ -108,14 +108,22 @@ wait_made es a n number time read e wanted le ws same =
     by_applied key asked p prepared touches true f = inl f
     by_applied key asked p prepared touches false f = inr (by_time key asked p prepared touches f (nat_lt p.time time) refl)
 
-read_at_of_go : {top : TopologyValue} {me : ℕ} {last : ShardState} {es : Seen} (ws : List WriterValue) (a : ShardState) (n number time : ℕ) (read : Read) (e : Envelope)
-    → asked_below a time read ≡ ws → a.clock < n → time ≤ n → es.asks_at e.from number time read → Holds top me last es a
-    → Able top me last es a (read_at_of ws top me n a e.from number time read)
-read_at_of_go {me = me} {es = es} [] a n number time read e same lt le wanted h =
+pub read_at_able : {top : TopologyValue} {me : ℕ} {last : ShardState} {es : Seen} (a : ShardState) (n number time : ℕ) (read : Read) (e : Envelope)
+    → asked_below a time read ≡ [] → a.clock < n → time ≤ n → es.asks_at e.from number time read → Holds top me last es a
+    → Able top me last es a (answer n a (part_at me n a (waiting_read e.from number time read [])))
+read_at_able {me = me} {es = es} a n number time read e same lt le wanted h =
     let x = waiting_read e.from number time read [] in
     answer_able a n (part_at me n a x) (omega (arith, lt))
     (free_answer es (record a { clock = n }) x (wait_made es a n number time read e wanted le [] same) refl) h
-read_at_of_go {top = top} {me = me} {es = es} (w ∷ ws) a n number time read e same lt le wanted h =
+
+pub wait_able : {top : TopologyValue} {me : ℕ} {last : ShardState} {es : Seen} (w : WriterValue) (ws : List WriterValue) (a : ShardState) (n number time : ℕ)
+    (read : Read) (e : Envelope) → asked_below a time read ≡ w ∷ ws → a.clock < n → time ≤ n → es.asks_at e.from number time read → Holds top me last es a
+    → Able top me last es a
+    (record {
+      state = record a { clock = n; waiting = a.waiting ++ waiting_read e.from number time read (w ∷ ws) ∷ [] };
+      sends = map (check_of top me n time) (w ∷ ws);
+    })
+wait_able {top = top} {me = me} {es = es} w ws a n number time read e same lt le wanted h =
     let x = waiting_read e.from number time read (w ∷ ws) in
     let sound = wait_made es a n number time read e wanted le (w ∷ ws) same in
     let m = record a { clock = n } in
@@ -129,17 +137,10 @@ read_at_of_go {top = top} {me = me} {es = es} (w ∷ ws) a n number time read e 
 below : (n m : ℕ) → nat_lt n m ≡ true → n < m
 below n m e = grind (arith, nat_tests)
 
-read_at_go : {top : TopologyValue} {me : ℕ} {last : ShardState} {es : Seen} (waits low : Bool) (a : ShardState) (n number time : ℕ) (read : Read) (e : Envelope)
-    → nat_lt time a.low ≡ low → a.clock < n → time ≤ n → (waits ≡ false → es.asks_at e.from number time read) → Holds top me last es a
-    → Able top me last es a (read_at_if waits low top me n a e.from number time read)
-read_at_go true low a n number time read e f lt le wanted h = quiet_able a n (omega (arith, lt)) h
-read_at_go {me = me} false true a n number time read e f lt le wanted h =
+-- the horizon is above the read's time
+pub collected_able : {top : TopologyValue} {me : ℕ} {last : ShardState} {es : Seen} (a : ShardState) (n number time : ℕ) (read : Read) (e : Envelope)
+    → nat_lt time a.low ≡ true → a.clock < n → es.asks_at e.from number time read → Holds top me last es a
+    → Able top me last es a (answer n a (envelope me e.from n (body.PartAt number time at_time.Collected)))
+collected_able {me = me} a n number time read e low lt wanted h =
     answer_able a n (envelope me e.from n (body.PartAt number time at_time.Collected)) (omega (arith, lt))
-    (record { low = below time a.low f; read = read; asked = wanted refl }) h
-read_at_go false false a n number time read e f lt le wanted h = read_at_of_go (asked_below a time read) a n number time read e refl lt le (wanted refl) h
-
-pub read_at_able : {top : TopologyValue} {me : ℕ} {last : ShardState} {es : Seen} (a : ShardState) (n number time : ℕ) (read : Read) (e : Envelope)
-    → a.clock < n → time ≤ n → (is_waiting a e.from number ≡ false → es.asks_at e.from number time read) → Holds top me last es a
-    → Able top me last es a (on_read_at top me n a e.from number time read)
-read_at_able a n number time read e lt le wanted h =
-    read_at_go (is_waiting a e.from number) (nat_lt time a.low) a n number time read e refl lt le wanted h
+    (record { low = below time a.low low; read = read; asked = wanted }) h
