@@ -11,7 +11,7 @@ ghost use Rattle.shard.specs.Right.{IsRightShard};
 /// at a time at that time, for the very read that caused it, judged against all that the shard applies, also later; a read
 /// is given up only below the horizon, and parts are applied with the commit time and stamp of their decisions, each in
 /// normal form and no two with one stamp. Does nothing; its contract is the law.
-#[tactic(auto, using(crate::proofs::OneShard::shard_is_right))]
+#[tactic(auto, using(crate::proofs::right::OneShard::shard_is_right))]
 pub fn one_shard_is_right()
     ensures { (top : TopologyValue) (me : ℕ) (events : List Event) → IsHonest (shard_run top me events).state (envelopes_handled (shard_run top me events)) → IsRightShard top me (shard_run top me events) }
 {}

@@ -7,8 +7,8 @@ use Rattle.messages.specs.declared.envelope.Envelope.{Envelope}
 use Rattle.messages.specs.Topology.{TopologyValue, is_topology, dc_of, is_shard, is_session}
 use Rattle.messages.specs.Shard.{ShardState, WaitingRead}
 use Rattle.messages.specs.ShardEvents.{handled}
-use Rattle.shard.proofs.Lists.{each_contained}
-use Rattle.shard.proofs.Sending.{Gives, handled_gives}
+use Rattle.shard.proofs.lists.Lists.{each_contained}
+use Rattle.shard.proofs.steps.Sending.{Gives, handled_gives}
 use Rattle.world.specs.Run.{Run, Event, opening, step, continued, run}
 use Rattle.world.specs.Lookups.{MessagesAreForActors}
 use Rattle.world.proofs.Among.{Among, among_contains, contains_among, among_append, get_among}

@@ -24,7 +24,7 @@ use Rattle.messages.specs.Honest.{IsHonest}
 use Rattle.messages.specs.Replication.{is_ready}
 use Rattle.shard.specs.Events.{shard_run}
 use Rattle.shard.specs.Sound.{IsBallot, IsDecided as Decided, IsExcluded, IsComplete, BodySound}
-use Rattle.shard.proofs.OneShard.{Knows, IsSaid, shard_knows, asked_in}
+use Rattle.shard.proofs.right.OneShard.{Knows, IsSaid, shard_knows, asked_in}
 use Rattle.world.specs.Run.{Run}
 use Rattle.world.proofs.Among.{Among, among_contains, among_append, append_first}
 use Rattle.world.proofs.Facts.{near, lead, part_on, IsDecided, PreparedSound, DecisionSound, AppliedSound, Excluded, Sees, Misses, Complete}

@@ -20,7 +20,7 @@ use Rattle.world.proofs.Growth.{Grows}
 use Rattle.messages.specs.Session.{SessionStep, Moving, moved, is_idle}
 use Rattle.messages.specs.declared.op.Op.TheVariants as op
 use Rattle.world.specs.Run.{opening, continued, run}
-use Rattle.shard.proofs.Handles.{ticked_above}
+use Rattle.shard.proofs.steps.Handles.{ticked_above}
 use Rattle.world.proofs.Runs.{opening_holds, step_kept}
 use Rattle.world.proofs.Causal.{Causal}
 use Rattle.world.proofs.CausalKept.{shard_causal, session_causal, submission_causal}

@@ -10,8 +10,8 @@ use Rattle.slice.specs.declared.read.AnsweredRow.{AnsweredRow}
 use Rattle.messages.specs.Topology.{TopologyValue}
 use Rattle.messages.specs.Words.{is_same_txn}
 use Rattle.messages.specs.Shard.{Decision}
-use Rattle.shard.proofs.Lists.{no_truth, both_hold, same_if_equal}
-use Rattle.shard.proofs.Closed.{below, is_below, is_at_most, equal, at, none}
+use Rattle.shard.proofs.lists.Lists.{no_truth, both_hold, same_if_equal}
+use Rattle.shard.proofs.worked.Closed.{below, is_below, is_at_most, equal, at, none}
 use Rattle.world.specs.Run.{Run, Submission, Completed}
 use Rattle.world.specs.Histories.{batch_submitted, decisions_in}
 use Rattle.world.specs.Before.{completes, Past}

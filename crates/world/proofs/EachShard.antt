@@ -13,7 +13,7 @@ use Rattle.messages.specs.ShardEvents.{shard_handle, shard_collect}
 use Rattle.messages.specs.Actors.{ActorState, OfShard, OfSession, opening_actor, ActorStep, of_shard, envelope_of, Replayed, replay}
 use Rattle.messages.specs.Honest.{IsHonest}
 use Rattle.shard.specs.Events.{ShardRun, after_step, shard_continued, fresh_shard, shard_run, envelopes_handled}
-use Rattle.shard.proofs.OneShard.{shard_is_right}
+use Rattle.shard.proofs.right.OneShard.{shard_is_right}
 use Rattle.world.specs.Quiet.{number_delivered}
 use Rattle.world.specs.Met.{envelopes_to}
 use Rattle.world.specs.Run.{Run, Event, Submit, Deliver, Collect, run}

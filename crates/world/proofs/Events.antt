@@ -9,7 +9,7 @@ use Rattle.messages.specs.Session.{is_idle}
 use Rattle.messages.specs.Submitting.{begun, busy_or, plan_fault, submit_fault, submit_if as session_submit_if}
 use Rattle.messages.specs.SessionEvents.{heard, session_handle}
 use Rattle.messages.specs.ShardEvents.{handled, shard_handle, collected}
-use Rattle.shard.proofs.Handles.{ticked_above}
+use Rattle.shard.proofs.steps.Handles.{ticked_above}
 use Rattle.world.specs.Run.{Run, Event, Submit, Deliver, Collect, after_shard, after_session, after_submission, submit_if, deliver_if, deliver_for, collect_if, step}
 use Rattle.world.proofs.Among.{Among, get_among}
 use Rattle.world.proofs.Growth.{Grows}

@@ -7,7 +7,7 @@ use Rattle.messages.specs.declared.event.Event.TheVariants.{Handle, Collect as C
 use Rattle.messages.specs.Topology.{TopologyValue}
 use Rattle.messages.specs.ShardEvents.{handled, collected}
 use Rattle.messages.specs.Clock.{ticked, on_clock}
-use Rattle.shard.proofs.Handles.{ticked_above}
+use Rattle.shard.proofs.steps.Handles.{ticked_above}
 use Rattle.world.specs.Run.{Run, Event, after_shard}
 use Rattle.world.proofs.Invariant.{Says, Inv}
 use Rattle.world.proofs.Able.{Able}

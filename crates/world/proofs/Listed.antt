@@ -22,7 +22,7 @@ use Rattle.world.specs.Journals.{actor_in, finished_as}
 use Rattle.world.proofs.Among.{Among, same_txn_self}
 use Rattle.world.proofs.Facts.{txn_of}
 use Rattle.world.proofs.Invariant.{Inv, Hears}
-use Rattle.shard.proofs.Handles.{ticked_above}
+use Rattle.shard.proofs.steps.Handles.{ticked_above}
 use Rattle.world.proofs.SessionSteps.{Stays, Ends, SessionAble}
 use Rattle.world.proofs.SessionsKept.{heard_able}
 use Rattle.world.proofs.Entries.{submission_found}

@@ -17,8 +17,8 @@ use Rattle.world.specs.Run.{Run, Submission, Event, Submit, Deliver, Collect, op
 use Rattle.world.proofs.Among.{Among, get_among}
 use Rattle.world.proofs.Invariant.{Says, Inv}
 use Rattle.world.proofs.HandlesKept.{handle_kept}
-use Rattle.shard.proofs.Handles.{ticked_above}
-use Rattle.shard.proofs.Within.{handled_within, collected_within}
+use Rattle.shard.proofs.steps.Handles.{ticked_above}
+use Rattle.shard.proofs.steps.Within.{handled_within, collected_within}
 use Rattle.world.proofs.Runs.{opening_holds, step_kept}
 use Rattle.world.proofs.About.{OfRead, kind_of}
 use Rattle.world.proofs.Underway.{FirstHas, SecondHas, SaysLive, Acted, Live}

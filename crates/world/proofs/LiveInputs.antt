@@ -22,7 +22,7 @@ use Rattle.world.proofs.LivePlaces.{not_and, same_at, vote_from, met_from, known
 use Rattle.world.proofs.LiveSteps.{Here, Left, quiet_left, Rounds}
 use Rattle.world.proofs.LiveReady.{ready_left}
 use Rattle.world.proofs.Answers.{unready_untouched}
-use Rattle.shard.proofs.Within.{ready_in}
+use Rattle.shard.proofs.steps.Within.{ready_in}
 
 module _ (top : TopologyValue) (w x : Run) (node n : ℕ) (some : 0 < top.shards) (was : Inv top w) (inv : Inv top x) (g : Onward top w x)
     (live : ShardLive top w node (w.shards node)) (rounds : Rounds x (w.shards node).waiting) where

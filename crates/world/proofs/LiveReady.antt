@@ -23,7 +23,7 @@ use Rattle.world.proofs.LiveSteps.{Here, Fine, Left, quiet_left, Rounds, BallotA
 use Rattle.world.proofs.LiveDecides.{decide_left}
 use Rattle.world.proofs.LiveHeld.{hold_left, hold_known}
 use Rattle.world.proofs.LiveGrow.{onward_of}
-use Rattle.shard.proofs.Within.{ready_in}
+use Rattle.shard.proofs.steps.Within.{ready_in}
 
 -- At a shard with all its inputs stored
 module _ (top : TopologyValue) (x : Run) (node n : ℕ) (some : 0 < top.shards) (inv : Inv top x) (a : ShardState) (r : KeptBallot)

@@ -25,7 +25,7 @@ use Rattle.world.proofs.LiveSteps.{Here, Fine, Left, quiet_left, answer_left, Ro
 use Rattle.world.proofs.LiveHeld.{prepare_left}
 use Rattle.world.proofs.LiveReady.{ready_left}
 use Rattle.world.proofs.LiveInputs.{known_replica}
-use Rattle.shard.proofs.Within.{ready_in}
+use Rattle.shard.proofs.steps.Within.{ready_in}
 
 module _ (top : TopologyValue) (w x : Run) (node n : ℕ) (some : 0 < top.shards) (was : Inv top w) (inv : Inv top x) (g : Onward top w x)
     (live : ShardLive top w node (w.shards node)) (rounds : Rounds x (w.shards node).waiting) where

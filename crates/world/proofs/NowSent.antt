@@ -11,8 +11,8 @@ use Rattle.messages.specs.Words.{envelope}
 use Rattle.messages.specs.Rows.{row_now}
 use Rattle.messages.specs.Shard.{ShardState}
 use Rattle.messages.specs.ShardEvents.{handled}
-use Rattle.shard.proofs.Lists.{each_contained}
-use Rattle.shard.proofs.Sending.{handled_gives}
+use Rattle.shard.proofs.lists.Lists.{each_contained}
+use Rattle.shard.proofs.steps.Sending.{handled_gives}
 use Rattle.world.specs.Run.{Run, Event, step}
 use Rattle.world.proofs.Among.{Among, among_contains, get_among}
 use Rattle.world.proofs.EventCases.{event_cases}

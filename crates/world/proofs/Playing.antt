@@ -12,7 +12,7 @@ use Rattle.messages.specs.Actors.{envelope_of}
 use Rattle.messages.specs.Topology.{TopologyValue}
 use Rattle.messages.specs.Shard.{ShardState, ShardStep}
 use Rattle.shard.specs.Events.{ShardRun, fresh_shard, shard_run, after_step, envelopes_handled}
-use Rattle.shard.proofs.Handles.{event_step, by_step, run_push}
+use Rattle.shard.proofs.steps.Handles.{event_step, by_step, run_push}
 use Rattle.world.specs.Run.{Run, Event, after_shard}
 use Rattle.world.proofs.Among.{Among, among_append, among_contains, append_first}
 use Rattle.world.proofs.Invariant.{IsAnswer, Played}

@@ -5,7 +5,7 @@ use Rattle.messages.specs.declared.body.Body.TheVariants as body
 use Rattle.messages.specs.declared.envelope.Envelope.{Envelope}
 use Rattle.messages.specs.Words.{envelope}
 use Rattle.messages.specs.Shard.{ShardState}
-use Rattle.shard.proofs.Closed.{below, not_more, not_below, at, none}
+use Rattle.shard.proofs.worked.Closed.{below, not_more, not_below, at, none}
 use Rattle.world.specs.Run.{Run, Deliver, step}
 use Rattle.world.specs.Quiet.{handled}
 use Rattle.world.specs.Worked.{operation, one_shard, only_submitted, two_shards}

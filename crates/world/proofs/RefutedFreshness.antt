@@ -7,8 +7,8 @@ use Rattle.store.specs.declared.part.Applied.{Applied}
 use Rattle.messages.specs.declared.body.Body.TheVariants as body
 use Rattle.messages.specs.declared.envelope.Envelope.{Envelope}
 use Rattle.messages.specs.Words.{envelope}
-use Rattle.shard.proofs.Lists.{no_truth}
-use Rattle.shard.proofs.Closed.{below, not_more, at}
+use Rattle.shard.proofs.lists.Lists.{no_truth}
+use Rattle.shard.proofs.worked.Closed.{below, not_more, at}
 use Rattle.world.specs.Run.{Event, Deliver, run}
 use Rattle.world.specs.Histories.{history_of}
 use Rattle.world.specs.Fresh.{IsKept, WasApplied}

@@ -13,7 +13,7 @@ use Rattle.messages.specs.declared.outcome.Outcome.{Outcome}
 use Rattle.messages.specs.declared.outcome.Outcome.TheVariants as outcome
 use Rattle.messages.specs.Topology.{TopologyValue, shard_node}
 use Rattle.messages.specs.Shard.{Decision}
-use Rattle.shard.proofs.Closed.{below, not_below, differ, at, none, is_below}
+use Rattle.shard.proofs.worked.Closed.{below, not_below, differ, at, none, is_below}
 use Rattle.world.specs.Run.{Run, Submission, run}
 use Rattle.world.specs.Histories.{decisions_in, history_of}
 use Rattle.world.specs.Before.{EndRestsOn, IsJustBefore, IsBeforeOver}

@@ -9,8 +9,8 @@ use Rattle.messages.specs.declared.outcome.Outcome.{Outcome}
 use Rattle.messages.specs.declared.outcome.Outcome.TheVariants as outcome
 use Rattle.messages.specs.Actors.{outcomes_by}
 use Rattle.messages.specs.Session.{Finished}
-use Rattle.shard.proofs.Lists.{no_truth}
-use Rattle.shard.proofs.Closed.{below, not_above, are_equal, differ, at, none}
+use Rattle.shard.proofs.lists.Lists.{no_truth}
+use Rattle.shard.proofs.worked.Closed.{below, not_above, are_equal, differ, at, none}
 use Rattle.world.specs.Run.{Event, Submission, Completed, run}
 use Rattle.world.specs.Journals.{journal_in}
 use Rattle.world.specs.Histories.{history_of}

@@ -7,8 +7,8 @@ use Rattle.table.specs.Meaning.{meaning}
 use Rattle.messages.specs.declared.op.Op.TheVariants as op
 use Rattle.messages.specs.declared.outcome.Outcome.TheVariants as outcome
 use Rattle.messages.specs.Words.{is_same_txn}
-use Rattle.shard.proofs.Lists.{same_if_equal}
-use Rattle.shard.proofs.Closed.{not_below, not_above, differ, at, none}
+use Rattle.shard.proofs.lists.Lists.{same_if_equal}
+use Rattle.shard.proofs.worked.Closed.{not_below, not_above, differ, at, none}
 use Rattle.world.specs.Run.{Run, Completed, run}
 use Rattle.world.specs.Histories.{decisions_in, history_of}
 use Rattle.world.specs.Before.{IsSubmitted, Past}

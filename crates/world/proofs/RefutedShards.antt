@@ -12,8 +12,8 @@ use Rattle.messages.specs.Shard.{new_shard}
 use Rattle.messages.specs.Honest.{ToldCommit, all_told}
 use Rattle.messages.specs.declared.event.Event.TheVariants.{Handle}
 use Rattle.shard.specs.Events.{shard_run}
-use Rattle.shard.proofs.Lists.{no_truth}
-use Rattle.shard.proofs.Closed.{below, differ, at, no_more}
+use Rattle.shard.proofs.lists.Lists.{no_truth}
+use Rattle.shard.proofs.worked.Closed.{below, differ, at, no_more}
 use Rattle.world.specs.Run.{Submission, Completed}
 use Rattle.world.specs.Histories.{history_of}
 use Rattle.world.specs.Quiet.{handled, IsQuiet}

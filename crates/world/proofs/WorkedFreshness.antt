@@ -10,7 +10,7 @@ use Rattle.messages.specs.declared.envelope.Envelope.{Envelope}
 use Rattle.world.specs.Run.{Event, Deliver, run}
 use Rattle.world.specs.Fresh.{IsKept, WasApplied}
 use Rattle.world.specs.Worked.{operation, column, insert, write, read, family_f, key_b, name_x, one_shard, insert_and_read_back}
-use Rattle.shard.proofs.Closed.{at}
+use Rattle.shard.proofs.worked.Closed.{at}
 
 -- the column was inserted, and is then read
 abbrev asked : List Event

@@ -5,7 +5,7 @@ use Rattle.slice.specs.declared.read.Read.{Read}
 use Rattle.messages.specs.declared.op.Op.TheVariants as op
 use Rattle.messages.specs.declared.outcome.Outcome.TheVariants as outcome
 use Rattle.messages.specs.Shard.{Decision}
-use Rattle.shard.proofs.Closed.{below, at}
+use Rattle.shard.proofs.worked.Closed.{below, at}
 use Rattle.world.specs.Run.{Completed, Submission}
 use Rattle.world.specs.Histories.{decisions_in}
 use Rattle.world.specs.Quiet.{handled, IsQuiet}

@@ -1,9 +1,9 @@
-use Rattle.shard.proofs.InPlace.{on_ok}
+use Rattle.shard.proofs.in_code.InPlace.{on_ok}
 use Rattle.std.proofs.Common.{rules, arith}
 use Rattle.std.specs.Prelude.{is_some}
 use Rattle.write_txn.specs.Ledger.{state_of}
 use Rattle.shard.specs.Begun.{ballot_of}
-use Rattle.shard.proofs.QuietSteps.{contrary, begun_before}
+use Rattle.shard.proofs.in_code.QuietSteps.{contrary, begun_before}
 use Rattle.std.proofs.lemmas.Grind.{common_steps}
 use Rattle.shard.proofs.begun.begin.Goals as goal
 

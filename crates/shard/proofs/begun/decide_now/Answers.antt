@@ -7,7 +7,7 @@ use Rattle.messages.specs.Place.{IsPlace}
 use Rattle.messages.specs.Posting.{commit_to}
 use Rattle.shard.specs.declared.kept.ShardKept.{ShardKept}
 use Rattle.shard.specs.Deciding.{node_at, IsSettled}
-use Rattle.shard.proofs.Begins.{decides_begun}
+use Rattle.shard.proofs.in_code.Begins.{decides_begun}
 use Rattle.shard.proofs.begun.decide_now.Goals as goal
 
 pub returns-clause-step : goal.returns-clause-step

@@ -4,7 +4,7 @@ use Rattle.txn_state.specs.Prepared.{PreparedValue}
 use Rattle.write_txn.specs.declared.open.Led.{Led}
 use Rattle.write_txn.specs.declared.open.Open.TheVariants as in_open
 use Rattle.write_txn.specs.Ledger.{Holds, Becomes}
-use Rattle.shard.proofs.Begins.{holds_begun}
+use Rattle.shard.proofs.in_code.Begins.{holds_begun}
 use Rattle.shard.proofs.begun.hold.Goals as goal
 
 pub returns-clause-step : goal.returns-clause-step

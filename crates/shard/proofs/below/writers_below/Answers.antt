@@ -6,7 +6,7 @@ use Rattle.pending.specs.Marked.{AreBelow}
 use Rattle.slice.specs.Rows.{row_of}
 use Rattle.write_txn.specs.Ledger.{LedgerValue}
 use Rattle.shard.specs.UnderWay.{writer_under_way}
-use Rattle.shard.proofs.BelowTime.{writers_are_asked}
+use Rattle.shard.proofs.in_code.BelowTime.{writers_are_asked}
 use Rattle.shard.proofs.below.writers_below.Goals as goal
 
 pub returns-clause-ok : goal.returns-clause-ok

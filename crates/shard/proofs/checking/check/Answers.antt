@@ -1,4 +1,4 @@
-use Rattle.shard.proofs.QuietSteps.{check_answers}
+use Rattle.shard.proofs.in_code.QuietSteps.{check_answers}
 use Rattle.shard.proofs.checking.check.Goals as goal
 
 pub returns-in_err-reserve-clause-quiet : goal.returns-in_err-reserve-clause-quiet

@@ -1,8 +1,8 @@
 use Rattle.std.proofs.Common.{rules, refl, false}
 use Rattle.messages.specs.Shard.{Asker}
-use Rattle.shard.proofs.AskerSteps.{answers_asker, remembers_asker}
+use Rattle.shard.proofs.in_code.AskerSteps.{answers_asker, remembers_asker}
 use Rattle.shard.proofs.checking.dep_check.Goals.{in-None+in_ok-remember-in-None, in-Some+in_ok-reserve-in-Some}
-use Rattle.shard.proofs.QuietSteps.{contrary, asked_before}
+use Rattle.shard.proofs.in_code.QuietSteps.{contrary, asked_before}
 use Rattle.shard.proofs.checking.dep_check.Goals as goal
 
 pub returns-clause-step : goal.returns-clause-step

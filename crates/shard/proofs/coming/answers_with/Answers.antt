@@ -5,7 +5,7 @@ use Rattle.store.specs.Keeps.{Keeps}
 use Rattle.store.proofs.seen.Assembled.{if_ok}
 use Rattle.commit_check.specs.declared.cause.Cause.TheVariants as cause
 use Rattle.shard.specs.Coming.{applied_of, with_applied}
-use Rattle.shard.proofs.ComingAnswers.{freed_are}
+use Rattle.shard.proofs.in_code.ComingAnswers.{freed_are}
 use Rattle.shard.proofs.coming.answers_with.Goals as goal
 
 pub returns-clause-ok : goal.returns-clause-ok

@@ -6,9 +6,9 @@ use Rattle.messages.specs.Shard.{ShardState, PreparedPart}
 use Rattle.messages.specs.Commits.{apply_part}
 use Rattle.write_txn.specs.declared.open.Open.TheVariants as in_open
 use Rattle.write_txn.specs.Ledger.{state_of, part_in}
-use Rattle.shard.proofs.Applying.{applies_so, commit_passes, has_room, no_part, some_part}
-use Rattle.shard.proofs.PartSteps.{known_open}
-use Rattle.shard.proofs.QuietSteps.{contrary, unprepared}
+use Rattle.shard.proofs.in_code.Applying.{applies_so, commit_passes, has_room, no_part, some_part}
+use Rattle.shard.proofs.in_code.PartSteps.{known_open}
+use Rattle.shard.proofs.in_code.QuietSteps.{contrary, unprepared}
 use Rattle.shard.proofs.committing.commit.Goals.{in_default-via-in-Some+in_default, in_default-via-in_default}
 use Rattle.shard.proofs.committing.commit.Goals as goal
 

@@ -5,7 +5,7 @@ use Rattle.store.specs.declared.part.Applied.{Applied}
 use Rattle.messages.specs.Shard.{Role}
 use Rattle.messages.specs.Commits.{applied_part, repl_parts}
 use Rattle.shard.specs.Coming.{applied_of, with_applied}
-use Rattle.shard.proofs.Applying.{application_sends}
+use Rattle.shard.proofs.in_code.Applying.{application_sends}
 use Rattle.shard.proofs.committing.told_with.Goals as goal
 
 pub returns-clause-ok : goal.returns-clause-ok

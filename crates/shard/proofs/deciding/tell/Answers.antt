@@ -4,7 +4,7 @@ use Rattle.store.specs.declared.part.Applied.{Applied}
 use Rattle.messages.specs.Commits.{dep_oks}
 use Rattle.shard.specs.Coming.{applied_of, with_applied}
 use Rattle.shard.specs.Deciding.{ballot_in}
-use Rattle.shard.proofs.Decisions.{told_is}
+use Rattle.shard.proofs.in_code.Decisions.{told_is}
 use Rattle.shard.proofs.deciding.tell.Goals as goal
 
 pub returns-clause-ok : goal.returns-clause-ok

@@ -1,5 +1,5 @@
 use Rattle.std.proofs.Common.{rules}
-use Rattle.shard.proofs.EarlySteps.{notes_notice}
+use Rattle.shard.proofs.in_code.EarlySteps.{notes_notice}
 use Rattle.shard.proofs.early.note_notice.Goals as goal
 
 pub returns-clause-step : goal.returns-clause-step

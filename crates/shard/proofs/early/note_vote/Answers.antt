@@ -1,5 +1,5 @@
 use Rattle.std.proofs.Common.{rules}
-use Rattle.shard.proofs.EarlySteps.{notes_vote}
+use Rattle.shard.proofs.in_code.EarlySteps.{notes_vote}
 use Rattle.shard.proofs.early.note_vote.Goals as goal
 
 pub returns-clause-step : goal.returns-clause-step

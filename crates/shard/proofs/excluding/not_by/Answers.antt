@@ -1,6 +1,6 @@
 use Rattle.std.proofs.Common.{rules, refl, false}
-use Rattle.shard.proofs.ReadsAnswered.{excludes}
-use Rattle.shard.proofs.QuietSteps.{contrary, fits, none_let_go, nothing_sent}
+use Rattle.shard.proofs.in_code.ReadsAnswered.{excludes}
+use Rattle.shard.proofs.in_code.QuietSteps.{contrary, fits, none_let_go, nothing_sent}
 use Rattle.shard.proofs.excluding.not_by.Goals as goal
 
 pub returns-clause-step : goal.returns-clause-step

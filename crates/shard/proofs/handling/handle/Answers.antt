@@ -1,5 +1,5 @@
 use Rattle.std.proofs.Common.{refl, false}
-use Rattle.shard.proofs.QuietSteps.{contrary}
+use Rattle.shard.proofs.in_code.QuietSteps.{contrary}
 use Rattle.shard.proofs.handling.handle.Goals as goal
 
 pub returns-in-Err-act-clause-ignored : goal.returns-in-Err-act-clause-ignored

@@ -1,6 +1,6 @@
 use Rattle.messages.specs.ShardEvents.{handled}
-use Rattle.shard.proofs.HandledSteps.{unheard}
-use Rattle.shard.proofs.Standing.{is_quiet}
+use Rattle.shard.proofs.in_code.HandledSteps.{unheard}
+use Rattle.shard.proofs.in_code.Standing.{is_quiet}
 use Rattle.shard.proofs.handling.hear.Goals as goal
 
 pub returns-in-NotBy-clause-step : goal.returns-in-NotBy-clause-step

@@ -1,4 +1,4 @@
-use Rattle.shard.proofs.Refuted.{earlier, later, at_earlier, at_later, applied_above, given_up}
+use Rattle.shard.proofs.worked.Refuted.{earlier, later, at_earlier, at_later, applied_above, given_up}
 use Rattle.shard.proofs.lookalikes.lookalikes_of_right_shards_are_false.Goals as goal
 
 pub returns-clause-earlier : goal.returns-clause-earlier

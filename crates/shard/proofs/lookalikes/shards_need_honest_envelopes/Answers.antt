@@ -1,4 +1,4 @@
-use Rattle.shard.proofs.Refuted.{marks, exclusions, times_of_reads, stamps}
+use Rattle.shard.proofs.worked.Refuted.{marks, exclusions, times_of_reads, stamps}
 use Rattle.shard.proofs.lookalikes.shards_need_honest_envelopes.Goals as goal
 
 pub returns-clause-marks : goal.returns-clause-marks

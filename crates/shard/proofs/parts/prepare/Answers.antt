@@ -1,8 +1,8 @@
 use Rattle.std.proofs.Common.{rules}
-use Rattle.shard.proofs.PartSteps.{prepares}
+use Rattle.shard.proofs.in_code.PartSteps.{prepares}
 use Rattle.std.specs.Prelude.{is_some}
 use Rattle.write_txn.specs.Ledger.{state_of}
-use Rattle.shard.proofs.QuietSteps.{contrary, prepared_before}
+use Rattle.shard.proofs.in_code.QuietSteps.{contrary, prepared_before}
 use Rattle.shard.proofs.parts.prepare.Goals as goal
 
 pub returns-clause-step : goal.returns-clause-step

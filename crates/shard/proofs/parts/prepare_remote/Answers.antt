@@ -1,9 +1,9 @@
 use Rattle.std.proofs.Common.{rules}
-use Rattle.shard.proofs.PartSteps.{prepares_kept, prepares_nothing}
+use Rattle.shard.proofs.in_code.PartSteps.{prepares_kept, prepares_nothing}
 use Rattle.shard.proofs.parts.prepare_remote.Goals.{in_default-via-in-Some+in_default, in_default-via-in_default}
 use Rattle.write_txn.specs.Ledger.{state_of}
 use Rattle.write_txn.proofs.Replicas.{is_kept}
-use Rattle.shard.proofs.QuietSteps.{contrary, unkept}
+use Rattle.shard.proofs.in_code.QuietSteps.{contrary, unkept}
 use Rattle.shard.proofs.parts.prepare_remote.Goals as goal
 
 pub returns-in_default-clause-step : goal.returns-in_default-clause-step

@@ -1,9 +1,9 @@
 use Rattle.std.proofs.Common.{rules}
-use Rattle.shard.proofs.PartSteps.{keeps_part, drops_part}
+use Rattle.shard.proofs.in_code.PartSteps.{keeps_part, drops_part}
 use Rattle.std.specs.Prelude.{is_some}
 use Rattle.write_txn.specs.Ledger.{state_of}
 use Rattle.write_txn.specs.Stands.{kept_part_of}
-use Rattle.shard.proofs.QuietSteps.{contrary, kept_before}
+use Rattle.shard.proofs.in_code.QuietSteps.{contrary, kept_before}
 use Rattle.shard.proofs.parts.repl_part.Goals as goal
 
 pub returns-then-knows-clause-step : goal.returns-then-knows-clause-step

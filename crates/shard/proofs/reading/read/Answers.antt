@@ -1,6 +1,6 @@
 use Rattle.std.proofs.Common.{rules}
-use Rattle.shard.proofs.ReadsAnswered.{reads}
-use Rattle.shard.proofs.QuietSteps.{read_answers}
+use Rattle.shard.proofs.in_code.ReadsAnswered.{reads}
+use Rattle.shard.proofs.in_code.QuietSteps.{read_answers}
 use Rattle.shard.proofs.reading.read.Goals as goal
 
 pub returns-clause-step : goal.returns-clause-step

@@ -1,7 +1,7 @@
 use Rattle.std.proofs.Common.{rules}
-use Rattle.shard.proofs.ReadsAnswered.{answers_at, waits_at}
+use Rattle.shard.proofs.in_code.ReadsAnswered.{answers_at, waits_at}
 use Rattle.commit_check.specs.Waiting.{is_among}
-use Rattle.shard.proofs.QuietSteps.{contrary, waits_before}
+use Rattle.shard.proofs.in_code.QuietSteps.{contrary, waits_before}
 use Rattle.shard.proofs.reading.read_at.Goals as goal
 
 pub returns-then-not-is_empty-clause-step : goal.returns-then-not-is_empty-clause-step

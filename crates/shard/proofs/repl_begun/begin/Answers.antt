@@ -5,7 +5,7 @@ use Rattle.messages.specs.declared.envelope.Envelope.{Envelope}
 use Rattle.messages.specs.Replication as machine
 use Rattle.write_txn.specs.Stands.{kept_ballot_of}
 use Rattle.shard.specs.Concluding.{IsConcluded}
-use Rattle.shard.proofs.ReplBegunSteps.{begins_so}
+use Rattle.shard.proofs.in_code.ReplBegunSteps.{begins_so}
 use Rattle.shard.proofs.repl_begun.begin.Goals as goal
 
 pub returns-clause-step : goal.returns-clause-step

@@ -7,8 +7,8 @@ use Rattle.write_txn.specs.Ledger.{state_of}
 use Rattle.write_txn.specs.Voters.{voters_of}
 use Rattle.shard.specs.Kept.{IsStep}
 use Rattle.shard.specs.ReplBegun.{ballot_begun, IsBegun}
-use Rattle.shard.proofs.QuietSteps.{contrary, ballot_before}
-use Rattle.shard.proofs.ReplBegunSteps.{drops_ballot}
+use Rattle.shard.proofs.in_code.QuietSteps.{contrary, ballot_before}
+use Rattle.shard.proofs.in_code.ReplBegunSteps.{drops_ballot}
 use Rattle.messages.specs.Replication as machine
 use Rattle.shard.proofs.repl_begun.repl_begin.Goals as goal
 

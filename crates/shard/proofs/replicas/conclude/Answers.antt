@@ -1,7 +1,7 @@
 use Rattle.std.proofs.Common.{subst, IfSome}
 use Rattle.messages.specs.Posting.{commit_to}
 use Rattle.shard.specs.Concluding.{MaySettle}
-use Rattle.shard.proofs.NoticeSteps.{alone_sent}
+use Rattle.shard.proofs.in_code.NoticeSteps.{alone_sent}
 use Rattle.shard.proofs.replicas.conclude.Goals as goal
 
 pub returns-in-Some-clause-sent : goal.returns-in-Some-clause-sent

@@ -2,7 +2,7 @@ use Rattle.std.proofs.Common.{rules, ◌≡◌, subst}
 use Rattle.std.specs.Prelude.{OnErr}
 use Rattle.write_txn.specs.Transactions.{TransactionsValue}
 use Rattle.shard.specs.Effects.{IsSpared}
-use Rattle.shard.proofs.CountsEarly.{counts_early}
+use Rattle.shard.proofs.in_code.CountsEarly.{counts_early}
 use Rattle.shard.proofs.replicas.count.Goals as goal
 
 pub returns-then-not-count_early-clause-step : goal.returns-then-not-count_early-clause-step

@@ -3,9 +3,9 @@ use Rattle.txn_state.specs.RemoteBallot.{missing_in}
 use Rattle.messages.specs.declared.envelope.Envelope.{Envelope}
 use Rattle.write_txn.specs.declared.open.Open.TheVariants as in_open
 use Rattle.write_txn.specs.Ledger.{LedgerValue, state_of, remote_with, state_with}
-use Rattle.shard.proofs.NoticeSteps.{ready_room, missing_passes, missing_settles, missing_so}
-use Rattle.shard.proofs.PartSteps.{known_open}
-use Rattle.shard.proofs.QuietSteps.{contrary, fits, missing_waits, not_last_missing}
+use Rattle.shard.proofs.in_code.NoticeSteps.{ready_room, missing_passes, missing_settles, missing_so}
+use Rattle.shard.proofs.in_code.PartSteps.{known_open}
+use Rattle.shard.proofs.in_code.QuietSteps.{contrary, fits, missing_waits, not_last_missing}
 use Rattle.shard.proofs.replicas.count_last.Goals.{in_default-via-in-Some+in_default, in_default-via-in_default}
 use Rattle.shard.proofs.replicas.count_last.Goals as goal
 

@@ -1,8 +1,8 @@
 use Rattle.std.proofs.Common.{rules}
 use Rattle.store.proofs.newest.Places.{on_ok}
 use Rattle.write_txn.specs.Ledger.{state_of}
-use Rattle.shard.proofs.InPlace.{nothing_known}
-use Rattle.shard.proofs.QuietSteps.{noticed_before}
+use Rattle.shard.proofs.in_code.InPlace.{nothing_known}
+use Rattle.shard.proofs.in_code.QuietSteps.{noticed_before}
 use Rattle.shard.proofs.replicas.notice.Goals as goal
 
 pub returns-then-not-knows-clause-step : goal.returns-then-not-knows-clause-step

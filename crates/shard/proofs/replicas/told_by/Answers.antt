@@ -3,7 +3,7 @@ use Rattle.messages.specs.declared.envelope.Envelope.{Envelope}
 use Rattle.messages.specs.Shard.{BegunBallot}
 use Rattle.messages.specs.Replication.{ballot_of}
 use Rattle.write_txn.specs.Stands.{kept_ballot_of}
-use Rattle.shard.proofs.NoticeSteps.{asked_sends, alone_told, alone_apart}
+use Rattle.shard.proofs.in_code.NoticeSteps.{asked_sends, alone_told, alone_apart}
 use Rattle.shard.proofs.replicas.told_by.Goals as goal
 
 pub returns-then-not-is_empty-clause-ok : goal.returns-then-not-is_empty-clause-ok

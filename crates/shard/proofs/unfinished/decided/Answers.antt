@@ -3,7 +3,7 @@ use Rattle.std.specs.Prelude.{option_map}
 use Rattle.messages.specs.Shard.{Decision}
 use Rattle.write_txn.specs.Ledger.{LedgerValue, state_of, decided_in}
 use Rattle.write_txn.proofs.Bodies.{decision_if}
-use Rattle.shard.proofs.HeldParts.{told_again}
+use Rattle.shard.proofs.under_way.HeldParts.{told_again}
 use Rattle.shard.proofs.unfinished.decided.Goals as goal
 
 pub returns : goal.returns

@@ -3,7 +3,7 @@ use Rattle.std.specs.Prelude.{option_map}
 use Rattle.std.specs.Option.{option_copied}
 use Rattle.write_txn.specs.Ledger.{part_of}
 use Rattle.shard.specs.UnderWay.{part_under_way}
-use Rattle.shard.proofs.TxnsListed.{gathered_more}
+use Rattle.shard.proofs.under_way.TxnsListed.{gathered_more}
 use Rattle.shard.proofs.unfinished.parts_of.Goals as goal
 
 pub loop-txn-preserved-in_ok-push : goal.loop-txn-preserved-in_ok-push

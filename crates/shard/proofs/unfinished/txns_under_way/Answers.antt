@@ -4,7 +4,7 @@ use Rattle.std.specs.List.{list_any}
 use Rattle.std.proofs.lemmas.List.{take_more, take_all}
 use Rattle.logical_time.specs.Stamps.{TxnValue, txn_cmp}
 use Rattle.write_txn.specs.declared.open.Open.{Open}
-use Rattle.shard.proofs.TxnsListed.{listed_more, placed}
+use Rattle.shard.proofs.under_way.TxnsListed.{listed_more, placed}
 use Rattle.shard.proofs.unfinished.txns_under_way.Goals as goal
 
 pub loop-open-preserved : goal.loop-open-preserved

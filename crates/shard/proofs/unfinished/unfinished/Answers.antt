@@ -2,7 +2,7 @@ use Rattle.std.proofs.Common.{◌∙◌, ap, filter_map}
 use Rattle.std.proofs.lemmas.Result.{IfOk-weaker}
 use Rattle.write_txn.specs.Ledger.{LedgerValue}
 use Rattle.shard.specs.UnderWay.{part_under_way}
-use Rattle.shard.proofs.UnfinishedParts.{parts_are_unfinished}
+use Rattle.shard.proofs.under_way.UnfinishedParts.{parts_are_unfinished}
 use Rattle.shard.proofs.unfinished.unfinished.Goals as goal
 
 pub returns-clause-ok : goal.returns-clause-ok

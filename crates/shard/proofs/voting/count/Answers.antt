@@ -1,6 +1,6 @@
 use Rattle.std.proofs.Common.{ℕ, subst}
 use Rattle.write_txn.specs.Ledger.{state_of, state_voted, Becomes}
-use Rattle.shard.proofs.LastVotes.{counts_so}
+use Rattle.shard.proofs.in_code.LastVotes.{counts_so}
 use Rattle.shard.proofs.voting.count.Goals as goal
 
 pub returns : goal.returns

@@ -3,7 +3,7 @@ use Rattle.store.specs.Stored as in_store
 use Rattle.messages.specs.declared.envelope.Envelope.{Envelope}
 use Rattle.messages.specs.Posting.{commit_to}
 use Rattle.write_txn.specs.Ledger.{state_of, state_voted, Becomes}
-use Rattle.shard.proofs.LastVotes.{room_for_own, decides_by_vote}
+use Rattle.shard.proofs.in_code.LastVotes.{room_for_own, decides_by_vote}
 use Rattle.shard.proofs.voting.decide_by.Goals as goal
 
 pub settle-requires-clause-room : goal.settle-requires-clause-room

@@ -1,8 +1,8 @@
 use Rattle.std.proofs.Common.{rules}
 use Rattle.write_txn.specs.Ledger.{state_of, completed_by}
-use Rattle.shard.proofs.InPlace.{on_ok, nothing_known}
+use Rattle.shard.proofs.in_code.InPlace.{on_ok, nothing_known}
 use Rattle.std.specs.Prelude.{is_some}
-use Rattle.shard.proofs.QuietSteps.{contrary, not_last, voted_before}
+use Rattle.shard.proofs.in_code.QuietSteps.{contrary, not_last, voted_before}
 use Rattle.shard.proofs.voting.yes.Goals as goal
 
 pub returns-then-not-knows-clause-step : goal.returns-then-not-knows-clause-step

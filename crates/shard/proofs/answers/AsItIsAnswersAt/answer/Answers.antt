@@ -1,4 +1,4 @@
-use Rattle.shard.proofs.ReadsAnswered.{each_answer}
+use Rattle.shard.proofs.in_code.ReadsAnswered.{each_answer}
 use Rattle.shard.proofs.answers.AsItIsAnswersAt.answer.Goals as goal
 
 pub returns-clause-ok : goal.returns-clause-ok

@@ -1,5 +1,5 @@
 use Rattle.shard.specs.Coming.{applied_of}
-use Rattle.shard.proofs.ComingAnswers.{answered_with}
+use Rattle.shard.proofs.in_code.ComingAnswers.{answered_with}
 use Rattle.shard.proofs.coming.StoreWithAnswersAt.answer.Goals as goal
 
 pub returns-clause-ok : goal.returns-clause-ok

@@ -2,7 +2,7 @@ use Rattle.std.proofs.Common.{rules, refl, sym, subst}
 use Rattle.shard.specs.declared.kept.ShardKept.{ShardKept}
 use Rattle.shard.specs.Events.{shard_run}
 use Rattle.shard.specs.Kept.{Represents}
-use Rattle.shard.proofs.ShardSteps.{collects}
+use Rattle.shard.proofs.in_code.ShardSteps.{collects}
 use Rattle.shard.proofs.shard.Shard.collect.Goals as goal
 
 pub returns-clause-leads : goal.returns-clause-leads

@@ -5,9 +5,9 @@ use Rattle.shard.specs.Events.{shard_run}
 use Rattle.messages.specs.Clock.{ticked}
 use Rattle.shard.specs.Kept.{Represents, GoesOn, IsSpentOrMemory}
 use Rattle.shard.specs.Effects.{IsSpared}
-use Rattle.shard.proofs.Standing.{spared}
-use Rattle.shard.proofs.RightSends.{handles_right}
-use Rattle.shard.proofs.ShardSteps.{both_ok, on_err, if_err, handles, refuses}
+use Rattle.shard.proofs.in_code.Standing.{spared}
+use Rattle.shard.proofs.right.RightSends.{handles_right}
+use Rattle.shard.proofs.in_code.ShardSteps.{both_ok, on_err, if_err, handles, refuses}
 use Rattle.shard.proofs.shard.Shard.handle.Goals as goal
 
 pub returns-clause-step : goal.returns-clause-step

@@ -4,8 +4,8 @@ use Rattle.shard.specs.declared.kept.ShardKept.{ShardKept}
 use Rattle.messages.specs.Clock.{ticked}
 use Rattle.shard.specs.Kept.{Represents, GoesOn, IsSpentOrMemory}
 use Rattle.shard.specs.Effects.{IsSpared}
-use Rattle.shard.proofs.Standing.{spared}
-use Rattle.shard.proofs.ShardSteps.{both_ok, on_err, if_err, handles, refuses}
+use Rattle.shard.proofs.in_code.Standing.{spared}
+use Rattle.shard.proofs.in_code.ShardSteps.{both_ok, on_err, if_err, handles, refuses}
 use Rattle.shard.proofs.shard.Shard.hear_at.Goals as goal
 
 pub returns-clause-step : goal.returns-clause-step

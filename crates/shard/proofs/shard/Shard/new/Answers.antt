@@ -1,5 +1,5 @@
 use Rattle.shard.specs.declared.kept.ShardKept.{ShardKept}
-use Rattle.shard.proofs.ShardSteps.{opens}
+use Rattle.shard.proofs.in_code.ShardSteps.{opens}
 use Rattle.shard.proofs.shard.Shard.new.Goals as goal
 
 pub returns-clause-state : goal.returns-clause-state

@@ -1,0 +1,22 @@
+-- What is kept in code stands for the machine, and takes its steps.
+pub mod Standing
+pub mod InPlace
+pub mod BelowTime
+pub mod MarksOn
+pub mod ComingAnswers
+pub mod Applying
+pub mod Begins
+pub mod PartSteps
+pub mod LastVotes
+pub mod EarlySteps
+pub mod Decisions
+pub mod ReplBegunSteps
+pub mod BallotSteps
+pub mod NoticeSteps
+pub mod CountsEarly
+pub mod AskerSteps
+pub mod ReadsAnswered
+pub mod QuietSteps
+pub mod HandledSteps
+pub mod HeardAt
+pub mod ShardSteps
