@@ -9,14 +9,14 @@ use Rattle.planner.specs.Plan.{coordinator_of}
 use Rattle.messages.specs.declared.envelope.Envelope.{Envelope}
 use Rattle.messages.specs.Topology.{TopologyValue, dc_of, shard_of}
 use Rattle.messages.specs.Words.{is_same_txn}
-use Rattle.messages.specs.Shard.{ShardState, ShardStep, Role, Own, Cohort, PreparedPart, BegunBallot, Vote, Decision, quiet, WaitingRead}
+use Rattle.messages.specs.Shard.{ShardState, ShardStep, Role, Own, Cohort, PreparedPart, BegunBallot, Vote, Decision, Met, quiet, WaitingRead}
 use Rattle.messages.specs.Known.{decision_of, prepared_part, kept_part, kept_ballot, is_known}
 use Rattle.messages.specs.Commits.{hold, prepare_part}
-use Rattle.messages.specs.Reads.{part_at, let_go}
+use Rattle.messages.specs.Reads.{answer, part_at, let_go}
 use Rattle.world.specs.Run.{Run, Submission}
 use Rattle.world.proofs.Among.{Among, among_append, append_first, among_last, last_or_old, any_false, find_none, same_txn_self, map_only}
 use Rattle.world.proofs.Growth.{NewPrepared, NewDecision, ShardGrows, Grows}
-use Rattle.world.proofs.Facts.{IsWritten, part_on, DecidedOnce, PreparedBefore, RoleFits, PreparedSound, BallotSound}
+use Rattle.world.proofs.Facts.{IsWritten, part_on, IsDone, DecidedOnce, PreparedBefore, RoleFits, PreparedSound, BallotSound, KeptPartSound, KeptBallotSound}
 use Rattle.world.proofs.Invariant.{EnvelopeSound}
 use Rattle.world.proofs.Able.{AddsSound, Able}
 use Rattle.world.proofs.Near.{lead_number}
@@ -67,7 +67,7 @@ then_fresh top x node a b st f g =
       sends = g.sends;
     }
 
--- an input is stored first, and then the step is made
+-- something is added first, and then the step is made
 pub added : (top : TopologyValue) (w : Run) (node : ℕ) (a b : ShardState) (st : ShardStep) → ShardGrows a b
     → ((x : Run) → Grows top w x → st.state.clock ≤ (x.shards node).clock → AddsSound top x node a (only b)) → Able top w node b st → Able top w node a st
 added top w node a b st g f k =
@@ -75,6 +75,17 @@ added top w node a b st g f k =
       grows = then_grows g k.grows;
       fresh = λ x gr at. then_fresh top x node a b st (f x gr (subst (λ z. st.state.clock ≤ z.clock) (sym at) (le_refl _))) (k.fresh x gr at);
     }
+
+-- each of these is old, or right
+abbrev pub AreRight : {X : Type 0} → (X → Type 0) → List X → List X → Type 0
+AreRight {X} P before after = (x : X) → Among x after → Among x before ⊎ P x
+
+-- nothing is new; one is, and it is right
+pub none_new : {X : Type 0} (P : X → Type 0) (xs : List X) → AreRight P xs xs
+none_new P xs x m = inl m
+
+pub one_new : {X : Type 0} (P : X → Type 0) (xs : List X) (y : X) → P y → AreRight P xs (xs ++ y ∷ [])
+one_new P xs y right x m = elim (last_or_old x y xs m) [ inl o ↦ inl o | inr q ↦ inr (subst P (sym q) right) ]
 
 -- the second differs from the first in kept inputs alone: in votes, notices, answers, or what was replicated
 pub record Alike (a b : ShardState) : Type 0 where
@@ -97,6 +108,36 @@ alike_grows a b k =
       decided_new = λ d m. inl (subst (λ l. Among d l) k.decided m);
       applied = λ v m. subst (λ l. Among v l) (sym k.applied) m;
     }
+
+-- the second has besides only inputs that are right
+pub record Inputs (top : TopologyValue) (x : Run) (node : ℕ) (a b : ShardState) : Type 0 where
+  pub early : AreRight (λ (v : Vote). PreparedBefore x v.node v.txn (x.shards node).clock) a.early b.early
+  pub votes : AreRight (λ (v : Vote). PreparedBefore x v.node v.txn (x.shards node).clock) a.votes b.votes
+  pub kept_parts : AreRight (KeptPartSound top x node) a.kept_parts b.kept_parts
+  pub kept_ballots : AreRight (KeptBallotSound top x node (x.shards node).clock) a.kept_ballots b.kept_ballots
+  pub met : AreRight (λ (m : Met). IsDone top x (dc_of top node) m.dependency (x.shards node).clock) a.met b.met
+
+-- an input is stored first, and then the step is made
+pub stores : (top : TopologyValue) (w : Run) (node : ℕ) (a b : ShardState) (st : ShardStep) → Alike a b → b.ballots ≡ a.ballots → DecidedOnce a.decided
+    → ((x : Run) → Grows top w x → st.state.clock ≤ (x.shards node).clock → Inputs top x node a b) → Able top w node b st → Able top w node a st
+stores top w node a b st like ballots once f k =
+    added top w node a b st (alike_grows a b like)
+    (λ x gr le.
+    let new = f x gr le in
+    record {
+      prepared = λ e m. inl (subst (λ l. Among e l) like.prepared m);
+      ballots = λ e m. inl (subst (λ l. Among e l) ballots m);
+      early = new.early;
+      votes = new.votes;
+      decided = λ e m. inl (subst (λ l. Among e l) like.decided m);
+      once = subst DecidedOnce (sym like.decided) once;
+      applied = λ e m. inl (subst (λ l. Among e l) like.applied m);
+      kept_parts = new.kept_parts;
+      kept_ballots = new.kept_ballots;
+      met = new.met;
+      askers = λ e m. inl (subst (λ l. Among e l) like.askers m);
+      sends = λ e m. absurd m;
+    }) k
 
 -- ## What isn't known
 
@@ -176,6 +217,12 @@ pub sends_able : (top : TopologyValue) (w : Run) (node n : ℕ) (a : ShardState)
     → ((x : Run) → Grows top w x → x.shards node ≡ record a { clock = n } → (e : Envelope) → Among e sends → EnvelopeSound top x e)
     → Able top w node a (record { state = record a { clock = n }; sends = sends })
 sends_able top w node n a sends lt once f = waits_able top w node n a a.low a.waiting sends lt once f
+
+-- one envelope is sent
+pub answer_able : (top : TopologyValue) (w : Run) (node n : ℕ) (a : ShardState) (e : Envelope) → a.clock < n → DecidedOnce a.decided
+    → ((x : Run) → Grows top w x → x.shards node ≡ record a { clock = n } → EnvelopeSound top x e) → Able top w node a (answer n a e)
+answer_able top w node n a e lt once f =
+    sends_able top w node n a (e ∷ []) lt once (λ x gr at u m. elim m [ inl q ↦ subst (λ z. EnvelopeSound top x z) (sym q) (f x gr at) | inr o ↦ absurd o ])
 
 -- what reads are told is right by what is known of their shard: nothing is to be said of it here
 pub told_sound : (top : TopologyValue) (x : Run) (node n : ℕ) (a : ShardState) (ys : List WaitingRead) (e : Envelope) → Among e (map (part_at node n a) ys)

@@ -1,33 +1,140 @@
--- What waits goes on waiting, or is answered: each body.
-use Rattle.std.proofs.Common.{◌≡◌, ℕ, Bool, true, false, not, ◌&&◌, List, [], ◌∷◌, ◌++◌, map, Option, Some, None, inl, inr, refl, sym, ap, ◌∙◌, subst}
-use Rattle.std.specs.Prelude.{filter, nat_le, nat_lt, is_some}
-use Rattle.std.specs.List.{list_any}
+-- What waits goes on waiting, or is answered: the steps that many messages lead to, and each case of a message.
+use Rattle.std.proofs.Common.{◌≡◌, ℕ, Bool, true, false, cond, not, List, [], ◌∷◌, ◌++◌, ◌⊎◌, inl, inr, refl, sym, ap, ◌∙◌, subst, ◌&&◌, map}
+use Rattle.std.specs.Prelude.{filter, nat_le, nat_lt}
 use Rattle.std.proofs.lemmas.Bool.{false≢true, and_parts, not-true}
-use Rattle.logical_time.specs.Stamps.{StampValue, TxnValue, WriterValue}
+use Rattle.std.specs.List.{list_any}
+use Rattle.logical_time.specs.Stamps.{TxnValue, StampValue, WriterValue}
 use Rattle.column_family.specs.declared.batch.Change.{Change}
 use Rattle.slice.specs.declared.read.Read.{Read}
-use Rattle.messages.specs.declared.body.Body.{Body}
-use Rattle.messages.specs.declared.body.Body.TheVariants.{Begin, Prepare, Yes, Commit, At, NotBy, Check, Read as ReadNow, ReadAt, ReplBegin, ReplPart, Notify, PrepareRemote, DepCheck, DepOk, Done, PartNow, PartAt}
-use Rattle.messages.specs.declared.envelope.Envelope.{Envelope}
-use Rattle.messages.specs.Topology.{TopologyValue, shard_of}
-use Rattle.messages.specs.Words.{is_same_txn}
-use Rattle.messages.specs.Shard.{ShardState, ShardStep, Role, Own, Cohort, Replica, PreparedPart, BegunBallot, Vote, Decision, KeptPart, KeptBallot, Asker, WaitingRead, quiet}
-use Rattle.messages.specs.Known.{decision_of, prepared_part, kept_part, kept_ballot, standing_ballot, is_known, is_applied, has_vote, is_awaited, all_voted, is_asker}
 use Rattle.slice.specs.Rows.{row_of}
+use Rattle.store.specs.declared.part.Applied.{Applied}
+use Rattle.messages.specs.declared.envelope.Envelope.{Envelope}
+use Rattle.messages.specs.Words.{is_same_txn}
+use Rattle.messages.specs.Shard.{ShardState, ShardStep, WaitingRead, Role, Cohort, Replica, PreparedPart, BegunBallot, Vote, KeptBallot}
+use Rattle.messages.specs.Reads.{part_at, without, lessened, is_nothing, is_free, let_go, marks_below, asked_below, waiting_read}
+use Rattle.messages.specs.declared.body.Body.{Body}
+use Rattle.messages.specs.Topology.{TopologyValue, shard_of}
+use Rattle.messages.specs.Known.{is_applied}
 use Rattle.messages.specs.Rows.{touches_row}
-use Rattle.messages.specs.Reads.{answer, marks_below, asked_below, is_waiting, waiting_read, read_at_of, read_at_if}
-use Rattle.messages.specs.Commits.{applied_part, commits, stamp_for, announcements, dep_oks, decide, hold, prepare_part, repl_parts, apply_part, begin_if, prepare_if, with_vote, counted_if, vote_if, early_if, yes_for, commit_if, commit_for, check_for}
-use Rattle.messages.specs.Replication.{ballot_of, remote_prepare, is_ready, ready_if, ready, dep_checks, with_ballot, sent_before, repl_begin_if, with_notice, notice_if, early_notice_if, notify_for, repl_part_if, prepare_remote_for, remember_if, dep_check_for, is_unmet, with_met, met_if, dep_ok_for}
+use Rattle.messages.specs.Commits.{applied_part, commits, stamp_for, announcements, dep_oks, decide, hold, prepare_part, repl_parts, apply_part, with_vote}
+use Rattle.messages.specs.Replication.{ballot_of, dep_checks, with_ballot, sent_before, with_notice, with_met}
 use Rattle.messages.specs.ShardEvents.{handled, collected}
 use Rattle.messages.proofs.WritersInOrder.{writers_stay}
-use Rattle.world.proofs.Among.{Among, among_contains, contains_among, append_first, append_second, last_or_old, any_false, filter_only, map_only}
+use Rattle.shard.proofs.steps.HandledCases.{begun, replicated, copied, with_early, with_asker, the_ballot, a_notice, an_answer, ReadyStep, misses, alone, asks, StepOf, still, begin_decides, begin_holds, prepares, vote_decides, vote_counts, vote_early, applies, lets_go, tells_commit, tells_none, reads_now, reads_collected, reads_at, waits, readies, notice_early, keeps_part, prepares_replica, tells_decided, remembers, handled_cases}
+use Rattle.world.proofs.Among.{Among, append_second, last_or_old, filter_only, filter_among, map_only, map_among, among_contains, contains_among, append_first, any_false}
 use Rattle.world.proofs.Facts.{Sees}
-use Rattle.world.proofs.About.{Kind, OfBegin, OfPrepare, OfYes, OfCommit, OfAt, OfNotBy, OfCheck, OfRead, OfReadAt, OfReplBegin, OfReplPart, OfNotify, OfPrepareRemote, OfDepCheck, OfDepOk, OfDone, OfPartNow, OfPartAt, kind_of}
-use Rattle.world.proofs.Underway.{HasPrepared, WaitStep}
+use Rattle.world.proofs.About.{Kind, OfReadAt, OfPartAt, Sent, kind_of}
+use Rattle.world.proofs.Underway.{HasPrepared, HasWait, Waiting, WaitStep}
+use Rattle.world.proofs.LivePlaces.{same_at}
+use Rattle.world.proofs.LiveSteps.{less, less_from, less_equal}
 use Rattle.world.proofs.AskedMarks.{writer_at}
 use Rattle.world.proofs.LiveGrow.{sent_in}
-use Rattle.world.proofs.LivePlaces.{same_at}
-use Rattle.world.proofs.LiveWaits.{WaitsOf, calm_wait, input_wait, let_go_wait, loosed_same, sees_more}
+
+abbrev pub WaitsOf : ℕ → ShardState → ShardStep → ℕ → Kind → Type 0
+WaitsOf me a st from k = WaitStep me a st.state st.sends from k
+
+-- ## Nothing is applied
+
+-- the second waits for the same, and has applied the same
+pub record Calm (a b : ShardState) : Type 0 where
+  pub waiting : b.waiting ≡ a.waiting
+  pub prepared : (t : TxnValue) → HasPrepared a t → HasPrepared b t
+  pub applied : b.applied ≡ a.applied
+
+waits_same : (a b : ShardState) → b.waiting ≡ a.waiting → (y : WaitingRead) → Among y a.waiting → HasWait b y.session y.number y.time
+waits_same a b e y m = (y, subst (λ l. Among y l) (sym e) m, refl, refl, refl)
+
+pub calm_wait : (me from : ℕ) (k : Kind) (a b : ShardState) (sends : List Envelope) → Calm a b → WaitStep me a b sends from k
+calm_wait me from k a b sends c =
+    record {
+      waiting = λ f y m.
+          let q = f y (subst (λ l. Among y l) c.waiting m) in
+          (q.0, λ t i. let r = q.1 t i in (c.prepared t r.0, λ v. r.1 (subst (λ l. Sees l t) c.applied v)));
+      old = λ y m. inl (y, subst (λ l. Among y l) c.waiting m, refl, refl, refl);
+      kept = λ y m. inl (waits_same a b c.waiting y m);
+    }
+
+-- an input is stored first
+pub input_wait : (me from : ℕ) (k : Kind) (a b : ShardState) (st : ShardStep) → Calm a b → WaitsOf me b st from k → WaitsOf me a st from k
+input_wait me from k a b st c s =
+    let first = calm_wait me from k a b [] c in
+    record {
+      waiting = λ f. s.waiting (first.waiting f);
+      old = λ y m. elim (s.old y m) [ inl z ↦ inl (z.0, subst (λ l. Among z.0 l) c.waiting z.1, z.2, z.3, z.4) | inr z ↦ inr z ];
+      kept = λ y m. s.kept y (subst (λ l. Among y l) (sym c.waiting) m);
+    }
+
+-- ## A transaction is applied or excluded
+
+nonempty : (ts : List TxnValue) → not (is_nothing ts) ≡ true → (t : TxnValue) × Among t ts
+nonempty [] e = absurd (false≢true e)
+nonempty (t ∷ ts) e = (t, inl refl)
+
+less_left : (t : TxnValue) (p : WaitingRead → Bool) (y : WaitingRead) (u : TxnValue) → Among u (less t p y).left → Among u y.left × (p y ≡ true → u ≡ t → ⊥)
+less_left t p y u = go (p y) refl
+  where
+    go : (b : Bool) → p y ≡ b → Among u (cond b (record y { left = without t y.left }) y).left → Among u y.left × (p y ≡ true → u ≡ t → ⊥)
+    go true e m = let q = filter_only (λ u. not (is_same_txn u t)) y.left u m in (q.0, λ z r. false≢true (sym (ap not (same_at u t r)) ∙ q.1))
+    go false e m = (m, λ z r. false≢true (sym e ∙ z))
+
+-- the shard that lets go waits as this one did, and has applied beside this one's only what is let go
+pub record Loosed (a b : ShardState) (t : TxnValue) (p : WaitingRead → Bool) : Type 0 where
+  pub waiting : b.waiting ≡ a.waiting
+  pub prepared : (u : TxnValue) → HasPrepared a u → HasPrepared b u
+  pub applied : (u : TxnValue) → Sees b.applied u → Sees a.applied u ⊎ ((u ≡ t) × ((y : WaitingRead) → p y ≡ true))
+
+module _ (me n : ℕ) (a b : ShardState) (t : TxnValue) (p : WaitingRead → Bool) (sends : List Envelope) (from : ℕ) (k : Kind) (c : Loosed a b t p) where
+  from_rest : (y : WaitingRead) → Among y (filter (λ x. not (is_free x)) (lessened t p b.waiting)) → (z : WaitingRead) × Among z a.waiting × (y ≡ less t p z) × (not (is_nothing y.left) ≡ true)
+  from_rest y m =
+      let q = filter_only (λ x. not (is_free x)) (lessened t p b.waiting) y m in
+      let r = map_only (λ x. cond (p x) (record x { left = without t x.left }) x) b.waiting y q.0 in
+      (r.0, subst (λ l. Among r.0 l) c.waiting r.1, r.2, q.1)
+
+  loosed_waiting : Waiting a → Waiting (let_go me n b t p sends).state
+  loosed_waiting f y m =
+      let q = from_rest y m in (
+        nonempty y.left q.3,
+        λ u i.
+            let r = less_left t p q.0 u (subst (λ z. Among u z.left) q.2 i) in
+            let o = (f q.0 q.1).1 u r.0 in
+            (c.prepared u o.0, λ v. elim (c.applied u v) [ inl z ↦ o.1 z | inr z ↦ r.1 (z.1 q.0) z.0 ]),
+      )
+
+  loosed_old : (y : WaitingRead) → Among y (filter (λ x. not (is_free x)) (lessened t p b.waiting)) → HasWait a y.session y.number y.time ⊎ ((y.session ≡ from) × (k ≡ OfReadAt y.number y.time))
+  loosed_old y m =
+      let q = from_rest y m in
+      let r = less_equal t p q.0 y q.2 in
+      inl (q.0, q.1, sym r.0, sym r.1, sym r.2)
+
+  loosed_kept : (y : WaitingRead) → Among y a.waiting → HasWait (let_go me n b t p sends).state y.session y.number y.time ⊎ Sent (let_go me n b t p sends).sends me y.session (OfPartAt y.number y.time)
+  loosed_kept y m = go (is_nothing (less t p y).left) refl
+    where
+      i : Among (less t p y) (lessened t p b.waiting)
+      i = map_among (λ x. cond (p x) (record x { left = without t x.left }) x) b.waiting y (subst (λ l. Among y l) (sym c.waiting) m)
+
+      go : (e : Bool) → is_nothing (less t p y).left ≡ e → HasWait (let_go me n b t p sends).state y.session y.number y.time ⊎ Sent (let_go me n b t p sends).sends me y.session (OfPartAt y.number y.time)
+      go true e =
+          let r = less_from t p y in
+          inr (record {
+            message = part_at me n b (less t p y);
+            among = append_second _ sends _ (map_among (part_at me n b) (filter is_free (lessened t p b.waiting)) (less t p y) (filter_among is_free (lessened t p b.waiting) (less t p y) i e));
+            by = refl;
+            for = r.0;
+            is = λ j. OfPartAt (r.1 j) (r.2 j);
+          })
+      go false e =
+          let r = less_from t p y in
+          inl (less t p y, filter_among (λ x. not (is_free x)) (lessened t p b.waiting) (less t p y) i (ap not e), r.0, r.1, r.2)
+
+  pub let_go_wait : WaitsOf me a (let_go me n b t p sends) from k
+  let_go_wait = record { waiting = loosed_waiting; old = loosed_old; kept = loosed_kept }
+
+-- nothing was applied; one part was
+pub loosed_same : (a : ShardState) (t : TxnValue) (p : WaitingRead → Bool) → Loosed a a t p
+loosed_same a t p = record { waiting = refl; prepared = λ u k. k; applied = λ u v. inl v }
+
+pub sees_more : (vs : List Applied) (v : Applied) (u : TxnValue) → Sees (vs ++ v ∷ []) u → Sees vs u ⊎ (u ≡ v.part.writer.txn)
+sees_more vs v u k = elim (last_or_old k.0 v vs k.1) [ inl o ↦ inl (k.0, o, k.2) | inr q ↦ inr (sym k.2 ∙ ap (λ (z : Applied). z.part.writer.txn) q) ]
 
 -- ## What many messages lead to
 
@@ -60,64 +167,12 @@ module _ (top : TopologyValue) (me n from : ℕ) (k : Kind) where
       calm_wait me from k a (prepare_part top me n a t rows c role).state _
       (record { waiting = refl; prepared = λ t p. (p.0, append_first p.0 a.prepared _ p.1, p.2); applied = refl })
 
-  -- ## Two-phase commit
+  -- ## A replicated ballot
 
-  begin_wait : (a : ShardState) (b : BegunBallot) (known voted : Bool) → WaitsOf me a (begin_if known voted top me n a b) from k
-  begin_wait a b true voted = send_wait a []
-  begin_wait a b false true = decide_wait a b
-  begin_wait a b false false = hold_wait a b (filter (λ v. is_same_txn v.txn b.txn) a.early) []
-
-  prepare_wait : (a : ShardState) (t : TxnValue) (rows : List Change) (c : ℕ) (known : Bool) → WaitsOf me a (prepare_if known top me n a t rows c) from k
-  prepare_wait a t rows c true = send_wait a []
-  prepare_wait a t rows c false = part_wait a t rows c Cohort
-
-  counted_wait : (a : ShardState) (b : BegunBallot) (node : ℕ) (voted : Bool) → WaitsOf me a (counted_if voted top me n (with_vote a b.txn node) b) from k
-  counted_wait a b node true =
-      input_wait me from k a (with_vote a b.txn node) (decide top me n (with_vote a b.txn node) b) (record { waiting = refl; prepared = λ t p. p; applied = refl }) (decide_wait (with_vote a b.txn node) b)
-  counted_wait a b node false =
-      input_wait me from k a (with_vote a b.txn node) (quiet n (with_vote a b.txn node)) (record { waiting = refl; prepared = λ t p. p; applied = refl }) (send_wait (with_vote a b.txn node) [])
-
-  vote_wait : (a : ShardState) (b : BegunBallot) (node : ℕ) (awaited : Bool) → WaitsOf me a (vote_if awaited top me n a b node) from k
-  vote_wait a b node false = send_wait a []
-  vote_wait a b node true = counted_wait a b node (all_voted top me b.cohorts (with_vote a b.txn node).votes b.txn)
-
-  early_wait : (a : ShardState) (t : TxnValue) (node : ℕ) (known kept : Bool) → WaitsOf me a (early_if known kept n a t node) from k
-  early_wait a t node true kept = send_wait a []
-  early_wait a t node false true = send_wait a []
-  early_wait a t node false false =
-      calm_wait me from k a (early_if false false n a t node).state [] (record { waiting = refl; prepared = λ t p. p; applied = refl })
-
-  yes_wait : (a : ShardState) (t : TxnValue) (node : ℕ) (o : Option BegunBallot) → WaitsOf me a (yes_for o top me n a t node) from k
-  yes_wait a t node None = early_wait a t node (is_known t a) (has_vote a.early t node)
-  yes_wait a t node (Some b) = vote_wait a b node (is_awaited top me b.cohorts a.votes t node)
-
-  role_wait : (a : ShardState) (p : PreparedPart) (commit : ℕ) (stamp : StampValue) (role : Role) (applied : Bool) → WaitsOf me a (commit_if role applied top me n a p commit stamp) from k
-  role_wait a p commit stamp Own applied = send_wait a []
-  role_wait a p commit stamp Cohort true = send_wait a []
-  role_wait a p commit stamp Cohort false = apply_wait a p commit stamp
-  role_wait a p commit stamp Replica true = send_wait a []
-  role_wait a p commit stamp Replica false = apply_wait a p commit stamp
-
-  commit_wait : (a : ShardState) (commit : ℕ) (stamp : StampValue) (o : Option PreparedPart) → WaitsOf me a (commit_for o top me n a commit stamp) from k
-  commit_wait a commit stamp None = send_wait a []
-  commit_wait a commit stamp (Some p) = role_wait a p commit stamp p.role (is_applied p.txn a)
-
-  check_wait : (a : ShardState) (t : TxnValue) (time : ℕ) (o : Option Decision) → WaitsOf me a (check_for o me n a from t time) from k
-  check_wait a t time None = send_wait a _
-  check_wait a t time (Some d) = send_wait a _
-
-  -- ## Replication
-
-  remote_wait : (a : ShardState) (r : KeptBallot) (cs : List ℕ) → WaitsOf me a (remote_prepare cs top me n a r) from k
-  remote_wait a r [] = decide_wait a (ballot_of r)
-  remote_wait a r (c ∷ cs) = hold_wait a (ballot_of r) [] _
-
-  ready_go : (a : ShardState) (r : KeptBallot) (b : Bool) → WaitsOf me a (ready_if b top me n a r) from k
-  ready_go a r true = remote_wait a r r.cohorts
-  ready_go a r false = send_wait a []
-
-  ready_wait : (a : ShardState) (r : KeptBallot) → WaitsOf me a (ready top me n a r) from k
-  ready_wait a r = ready_go a r (is_ready top me a r)
+  ready_wait : (a : ShardState) (r : KeptBallot) (st : ShardStep) → ReadyStep top me n a r st → WaitsOf me a st from k
+  ready_wait a r st (misses is) = send_wait a []
+  ready_wait a r st (alone is none) = decide_wait a (ballot_of r)
+  ready_wait a r st (asks is c cs some) = hold_wait a (ballot_of r) [] _
 
   -- more was sent before
   before_wait : (a : ShardState) (sends : List Envelope) (st : ShardStep) → WaitsOf me a st from k → WaitsOf me a (sent_before sends st) from k
@@ -127,55 +182,6 @@ module _ (top : TopologyValue) (me n from : ℕ) (k : Kind) where
         old = s.old;
         kept = λ y m. elim (s.kept y m) [ inl z ↦ inl z | inr z ↦ inr (sent_in (λ e i. append_second e sends st.sends i) z) ];
       }
-
-  repl_begin_wait : (a : ShardState) (r : KeptBallot) (known : Bool) → WaitsOf me a (repl_begin_if known top me n a r) from k
-  repl_begin_wait a r true = send_wait a []
-  repl_begin_wait a r false =
-      before_wait a (dep_checks top me n r) (ready top me n (with_ballot a r) r)
-      (input_wait me from k a (with_ballot a r) (ready top me n (with_ballot a r) r) (record { waiting = refl; prepared = λ t p. p; applied = refl }) (ready_wait (with_ballot a r) r))
-
-  notice_wait : (a : ShardState) (r : KeptBallot) (node : ℕ) (awaited : Bool) → WaitsOf me a (notice_if awaited top me n a r node) from k
-  notice_wait a r node false = send_wait a []
-  notice_wait a r node true =
-      input_wait me from k a (with_notice a r.txn node) (ready top me n (with_notice a r.txn node) r) (record { waiting = refl; prepared = λ t p. p; applied = refl })
-      (ready_wait (with_notice a r.txn node) r)
-
-  early_notice_wait : (a : ShardState) (t : TxnValue) (node : ℕ) (known kept : Bool) → WaitsOf me a (early_notice_if known kept n a t node) from k
-  early_notice_wait a t node true kept = send_wait a []
-  early_notice_wait a t node false true = send_wait a []
-  early_notice_wait a t node false false =
-      calm_wait me from k a (early_notice_if false false n a t node).state [] (record { waiting = refl; prepared = λ t p. p; applied = refl })
-
-  notify_wait : (a : ShardState) (t : TxnValue) (node : ℕ) (o : Option KeptBallot) → WaitsOf me a (notify_for o top me n a t node) from k
-  notify_wait a t node (Some r) = notice_wait a r node (is_awaited top me r.cohorts a.notices t node)
-  notify_wait a t node None = early_notice_wait a t node (is_known t a) (has_vote a.notices t node)
-
-  met_wait : (a : ShardState) (r : KeptBallot) (dependency : TxnValue) (unmet : Bool) → WaitsOf me a (met_if unmet top me n a r dependency) from k
-  met_wait a r dependency false = send_wait a []
-  met_wait a r dependency true =
-      input_wait me from k a (with_met a r.txn dependency) (ready top me n (with_met a r.txn dependency) r) (record { waiting = refl; prepared = λ t p. p; applied = refl })
-      (ready_wait (with_met a r.txn dependency) r)
-
-  dep_ok_wait : (a : ShardState) (dependency : TxnValue) (o : Option KeptBallot) → WaitsOf me a (dep_ok_for o top me n a dependency) from k
-  dep_ok_wait a dependency None = send_wait a []
-  dep_ok_wait a dependency (Some r) = met_wait a r dependency (is_unmet a.met r dependency)
-
-  repl_part_wait : (a : ShardState) (p : KeptPart) (known : Bool) → WaitsOf me a (repl_part_if known top me n a p) from k
-  repl_part_wait a p true = send_wait a []
-  repl_part_wait a p false = calm_wait me from k a (repl_part_if false top me n a p).state _ (record { waiting = refl; prepared = λ t p. p; applied = refl })
-
-  prepare_remote_wait : (a : ShardState) (o : Option KeptPart) (prepared : Bool) → WaitsOf me a (prepare_remote_for o prepared top me n a) from k
-  prepare_remote_wait a None prepared = send_wait a []
-  prepare_remote_wait a (Some p) true = send_wait a []
-  prepare_remote_wait a (Some p) false = part_wait a p.txn p.rows p.coordinator Replica
-
-  remember_wait : (a : ShardState) (u : Asker) (asked : Bool) → WaitsOf me a (remember_if asked n a u) from k
-  remember_wait a u true = send_wait a []
-  remember_wait a u false = calm_wait me from k a (remember_if false n a u).state [] (record { waiting = refl; prepared = λ t p. p; applied = refl })
-
-  dep_check_wait : (a : ShardState) (u : Asker) (o : Option Decision) → WaitsOf me a (dep_check_for o me n a u) from k
-  dep_check_wait a u (Some d) = send_wait a _
-  dep_check_wait a u None = remember_wait a u (is_asker a.askers u.dependency u.waiter u.from)
 
 -- ## A read at a time
 
@@ -193,62 +199,84 @@ asked_unapplied a time read w m =
       λ v. false≢true (sym (any_false (λ x. is_same_txn x.part.writer.txn q.0.txn) a.applied none v.0 v.1) ∙ same_at v.0.part.writer.txn q.0.txn (v.2 ∙ sym same)),
     )
 
-read_wait : (top : TopologyValue) (me n from number time : ℕ) (read : Read) (a : ShardState) (ws : List WriterValue)
-    → ((w : WriterValue) → Among w ws → HasPrepared a w.txn × (Sees a.applied w.txn → ⊥))
-    → WaitsOf me a (read_at_of ws top me n a from number time read) from (OfReadAt number time)
-read_wait top me n from number time read a [] f = send_wait top me n from (OfReadAt number time) a _
-read_wait top me n from number time read a (w ∷ ws) f =
-    let new = waiting_read from number time read (w ∷ ws) in
-    record {
-      waiting = λ g y m. elim (last_or_old y new a.waiting m) [
-        | inl o ↦ g y o
-        | inr q ↦ (
-          (w.txn, subst (λ (z : WaitingRead). Among w.txn z.left) (sym q) (inl refl)),
-          λ u i.
-              let r = map_only (λ v. v.txn) (w ∷ ws) u (subst (λ (z : WaitingRead). Among u z.left) q i) in
-              let o = f r.0 r.1 in
-              ((o.0.0, o.0.1, o.0.2 ∙ sym r.2), λ v. o.1 (v.0, v.1, v.2 ∙ r.2)),
-        )
-      ];
-      old = λ y m. elim (last_or_old y new a.waiting m) [
-        | inl o ↦ inl (y, o, refl, refl, refl)
-        | inr q ↦ inr (ap (λ (z : WaitingRead). z.session) q, sym (ap (λ (z : WaitingRead). OfReadAt z.number z.time) q))
-      ];
-      kept = λ y m. inl (y, append_first y a.waiting (new ∷ []) m, refl, refl, refl);
-    }
+module _ (top : TopologyValue) (me n : ℕ) (a : ShardState) (from : ℕ) where
+  -- the read waits for what is prepared and not applied
+  new_wait : (number time : ℕ) (read : Read) (w : WriterValue) (ws : List WriterValue)
+      → ((u : WriterValue) → Among u (w ∷ ws) → HasPrepared a u.txn × (Sees a.applied u.txn → ⊥)) → (sends : List Envelope)
+      → WaitsOf me a (record { state = record a { clock = n; waiting = a.waiting ++ waiting_read from number time read (w ∷ ws) ∷ [] }; sends = sends }) from
+      (OfReadAt number time)
+  new_wait number time read w ws f sends =
+      let new = waiting_read from number time read (w ∷ ws) in
+      record {
+        waiting = λ g y m. elim (last_or_old y new a.waiting m) [
+          | inl o ↦ g y o
+          | inr q ↦ (
+            (w.txn, subst (λ (z : WaitingRead). Among w.txn z.left) (sym q) (inl refl)),
+            λ u i.
+                let r = map_only (λ v. v.txn) (w ∷ ws) u (subst (λ (z : WaitingRead). Among u z.left) q i) in
+                let o = f r.0 r.1 in
+                ((o.0.0, o.0.1, o.0.2 ∙ sym r.2), λ v. o.1 (v.0, v.1, v.2 ∙ r.2)),
+          )
+        ];
+        old = λ y m. elim (last_or_old y new a.waiting m) [
+          | inl o ↦ inl (y, o, refl, refl, refl)
+          | inr q ↦ inr (ap (λ (z : WaitingRead). z.session) q, sym (ap (λ (z : WaitingRead). OfReadAt z.number z.time) q))
+        ];
+        kept = λ y m. inl (y, append_first y a.waiting (new ∷ []) m, refl, refl, refl);
+      }
 
-read_at_wait : (top : TopologyValue) (me n from number time : ℕ) (read : Read) (a : ShardState) (waits below : Bool)
-    → WaitsOf me a (read_at_if waits below top me n a from number time read) from (OfReadAt number time)
-read_at_wait top me n from number time read a true below = send_wait top me n from (OfReadAt number time) a []
-read_at_wait top me n from number time read a false true = send_wait top me n from (OfReadAt number time) a _
-read_at_wait top me n from number time read a false false = read_wait top me n from number time read a (asked_below a time read) (asked_unapplied a time read)
+  -- ## Every case
 
--- ## Every body
+  -- an input that is stored is none of this
+  stored : (b : ShardState) (st : ShardStep) (k : Kind) → b.waiting ≡ a.waiting → b.prepared ≡ a.prepared → b.applied ≡ a.applied → WaitsOf me b st from k
+      → WaitsOf me a st from k
+  stored b st k same marks parts s =
+      input_wait me from k a b st (record { waiting = same; prepared = λ t p. (p.0, subst (λ l. Among p.0 l) (sym marks) p.1, p.2); applied = parts }) s
+
+  step_wait : (m : Body) (st : ShardStep) → StepOf top me n a from m st → WaitsOf me a st from (kind_of m)
+  step_wait m st (still none) = send_wait top me n from _ a []
+  step_wait m st (begin_decides t rows cohorts dependencies new all) = decide_wait top me n from _ a (begun t rows cohorts dependencies)
+  step_wait m st (begin_holds t rows cohorts dependencies new some) = hold_wait top me n from _ a (begun t rows cohorts dependencies) _ []
+  step_wait m st (prepares t rows coordinator new) = part_wait top me n from _ a t rows coordinator Cohort
+  step_wait m st (vote_decides t b is awaited all) =
+      stored (with_vote a b.txn from) _ _ refl refl refl (decide_wait top me n from _ (with_vote a b.txn from) b)
+  step_wait m st (vote_counts t b is awaited some) =
+      stored (with_vote a b.txn from) _ _ refl refl refl (send_wait top me n from _ (with_vote a b.txn from) [])
+  step_wait m st (vote_early t none new first) =
+      stored (with_early a t from) _ _ refl refl refl (send_wait top me n from _ (with_early a t from) [])
+  step_wait m st (applies t commit stamp tells p has is theirs new) = apply_wait top me n from _ a p commit stamp
+  step_wait m st (lets_go t time) =
+      let_go_wait me n a a t (λ y. nat_le y.time time) [] from _ (loosed_same a t (λ y. nat_le y.time time))
+  step_wait m st (tells_commit t time d has is) = send_wait top me n from _ a _
+  step_wait m st (tells_none t time is) = send_wait top me n from _ a _
+  step_wait m st (reads_now number read) = send_wait top me n from _ a _
+  step_wait m st (reads_collected number time read new below) = send_wait top me n from _ a _
+  step_wait m st (reads_at number time read new above none) = send_wait top me n from _ a _
+  step_wait m st (waits number time read new above w ws some) =
+      new_wait number time read w ws (λ u i. asked_unapplied a time read u (subst (λ l. Among u l) (sym some) i)) _
+  step_wait m st (readies (the_ballot t rows stamp cohorts dependencies new) step) =
+      let r = replicated t rows stamp cohorts dependencies in
+      before_wait top me n from _ a (dep_checks top me n r) _
+      (stored (with_ballot a r) _ _ refl refl refl (ready_wait top me n from _ (with_ballot a r) r _ step))
+  step_wait m st (readies (a_notice t r has is awaited unready) step) =
+      stored (with_notice a r.txn from) _ _ refl refl refl
+      (ready_wait top me n from _ (with_notice a r.txn from) r _ step)
+  step_wait m st (readies (an_answer dependency waiter commit r has is unmet unready) step) =
+      stored (with_met a r.txn dependency) _ _ refl refl refl
+      (ready_wait top me n from _ (with_met a r.txn dependency) r _ step)
+  step_wait m st (notice_early t none new first) =
+      stored (with_notice a t from) _ _ refl refl refl (send_wait top me n from _ (with_notice a t from) [])
+  step_wait m st (keeps_part t rows stamp coordinator new) =
+      stored (record a { kept_parts = a.kept_parts ++ copied t rows stamp coordinator ∷ [] }) _ _ refl refl refl
+      (send_wait top me n from _ (record a { kept_parts = a.kept_parts ++ copied t rows stamp coordinator ∷ [] }) _)
+  step_wait m st (prepares_replica t p has is new) = part_wait top me n from _ a p.txn p.rows p.coordinator Replica
+  step_wait m st (tells_decided dependency waiter d has is) = send_wait top me n from _ a _
+  step_wait m st (remembers dependency waiter none new) =
+      stored (with_asker a dependency waiter from) _ _ refl refl refl
+      (send_wait top me n from _ (with_asker a dependency waiter from) [])
 
 pub handled_wait : (top : TopologyValue) (me n : ℕ) (a : ShardState) (from : ℕ) (b : Body) → WaitStep me a (handled top me n a from b).state (handled top me n a from b).sends from (kind_of b)
-handled_wait top me n a from (Begin t rows cohorts dependencies) =
-    begin_wait top me n from (OfBegin t) a (record { txn = t; rows = rows; cohorts = cohorts; dependencies = dependencies; stamp = None }) (is_known t a) (all_voted top me cohorts a.early t)
-handled_wait top me n a from (Prepare t rows coordinator) = prepare_wait top me n from (OfPrepare t) a t rows coordinator (is_known t a)
-handled_wait top me n a from (Yes t) = yes_wait top me n from (OfYes t) a t from (standing_ballot t a)
-handled_wait top me n a from (Commit t commit stamp) = commit_wait top me n from (OfCommit t) a commit stamp (prepared_part t a)
-handled_wait top me n a from (At t commit stamp) = commit_wait top me n from (OfAt t) a commit stamp (prepared_part t a)
-handled_wait top me n a from (NotBy t time) =
-    let_go_wait me n a a t (λ y. nat_le y.time time) [] from (OfNotBy t time) (loosed_same a t (λ y. nat_le y.time time))
-handled_wait top me n a from (Check t time) = check_wait top me n from (OfCheck t time) a t time (decision_of t a)
-handled_wait top me n a from (ReadNow number read) = send_wait top me n from (OfRead number) a _
-handled_wait top me n a from (ReadAt number time read) = read_at_wait top me n from number time read a (is_waiting a from number) (nat_lt time a.low)
-handled_wait top me n a from (ReplBegin cohorts t rows stamp dependencies) =
-    repl_begin_wait top me n from (OfReplBegin t) a (record { txn = t; rows = rows; stamp = stamp; cohorts = cohorts; dependencies = dependencies }) (is_known t a)
-handled_wait top me n a from (ReplPart t rows stamp coordinator) =
-    repl_part_wait top me n from (OfReplPart t) a (record { txn = t; rows = rows; stamp = stamp; coordinator = coordinator }) (is_known t a)
-handled_wait top me n a from (Notify t) = notify_wait top me n from (OfNotify t) a t from (kept_ballot t a)
-handled_wait top me n a from (PrepareRemote t) = prepare_remote_wait top me n from (OfPrepareRemote t) a (kept_part t a) (is_some (prepared_part t a))
-handled_wait top me n a from (DepCheck dependency waiter) =
-    dep_check_wait top me n from (OfDepCheck dependency waiter) a (record { dependency = dependency; waiter = waiter; from = from }) (decision_of dependency a)
-handled_wait top me n a from (DepOk dependency waiter commit) = dep_ok_wait top me n from (OfDepOk dependency waiter) a dependency (kept_ballot waiter a)
-handled_wait top me n a from (Done t commit stamp) = send_wait top me n from (OfDone t) a []
-handled_wait top me n a from (PartNow number rows) = send_wait top me n from (OfPartNow number) a []
-handled_wait top me n a from (PartAt number time answer) = send_wait top me n from (OfPartAt number time) a []
+handled_wait top me n a from b = step_wait top me n a from b (handled top me n a from b) (handled_cases top me n a from b)
 
 -- a collection lets nothing go
 pub collected_wait : (me n from : ℕ) (k : Kind) (a : ShardState) (time : ℕ) → WaitStep me a (collected n a time).state (collected n a time).sends from k

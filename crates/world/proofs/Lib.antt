@@ -32,13 +32,11 @@ pub mod LiveSteps
 pub mod LiveDecides
 pub mod LiveHeld
 pub mod LiveVotes
-pub mod LiveYes
 pub mod LiveCommits
 pub mod LiveReady
 pub mod LiveInputs
 pub mod LiveReplicas
 pub mod LiveHandled
-pub mod LiveWaits
 pub mod HandledWaits
 pub mod PartRows
 pub mod DecidedIn
@@ -54,14 +52,8 @@ pub mod SessionsKept
 pub mod AskedMarks
 pub mod Near
 pub mod Ables
-pub mod PartsKept
-pub mod ReadsKept
 pub mod OneBatch
 pub mod Decides
-pub mod ReadyKept
-pub mod ReplicasKept
-pub mod Writes
-pub mod CommitsKept
 pub mod Submissions
 pub mod Pairs
 pub mod Decisions
@@ -71,6 +63,7 @@ pub mod KeptEntries
 pub mod Told
 pub mod HonestLists
 pub mod Answers
+pub mod CasesKept
 pub mod HandlesKept
 pub mod Events
 pub mod Runs

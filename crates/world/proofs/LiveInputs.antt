@@ -1,19 +1,19 @@
 -- What ReplBegin, Notify and DepOk leave under way.
-use Rattle.std.proofs.Common.{◌≡◌, ℕ, ◌<◌, Bool, true, false, List, [], ◌∷◌, ◌++◌, Option, Some, None, ◌⊎◌, inl, inr, refl, sym, ap, ◌∙◌, subst}
+use Rattle.std.proofs.Common.{◌≡◌, ℕ, ◌<◌, true, false, List, [], ◌∷◌, ◌++◌, None, ◌⊎◌, inl, inr, sym, ap, ◌∙◌, subst}
+use Rattle.std.specs.Prelude.{Contains}
 use Rattle.std.specs.List.{list_any}
 use Rattle.logical_time.specs.Stamps.{TxnValue}
 use Rattle.planner.specs.Plan.{cohorts_of}
 use Rattle.messages.specs.Topology.{TopologyValue, dc_of, shard_of}
 use Rattle.messages.specs.Words.{is_same_txn}
-use Rattle.messages.specs.Shard.{Vote, KeptBallot, Met}
+use Rattle.messages.specs.Shard.{ShardStep, Vote, KeptBallot, Met, quiet}
 use Rattle.messages.specs.Known.{kept_ballot, is_known, has_vote, is_cohort, is_awaited, is_met}
-use Rattle.messages.specs.Replication.{is_ready, with_notice, notice_if, early_notice_if, notify_for, on_notify, is_unmet, with_met, met_if, dep_ok_for, on_dep_ok}
+use Rattle.messages.specs.Replication.{is_ready, with_notice, is_unmet, with_met}
 use Rattle.world.specs.Run.{Run, Submission}
-use Rattle.world.proofs.Among.{Among, among_last, last_or_old, any_among, find_some, find_none, same_txn}
+use Rattle.world.proofs.Among.{Among, contains_among, among_last, last_or_old, any_among, find_none}
 use Rattle.world.proofs.Facts.{near}
 use Rattle.world.proofs.Invariant.{Inv}
 use Rattle.world.proofs.Ables.{absent}
-use Rattle.world.proofs.ReadyKept.{awaited_unready, unmet_unready}
 use Rattle.world.proofs.OneBatch.{written_at, submitted_one, batch_one}
 use Rattle.world.proofs.About.{OfNotify}
 use Rattle.world.proofs.Underway.{NoticeLive, HasPrepared, HasKeptPart, HasKeptBallot, Knows, Awaits, WaitsFor, of_ballot, of_moving, vote_of, met_of, Leads, Onward, Entries, ShardLive, WasCounted, by_ballot, Acted}
@@ -22,7 +22,8 @@ use Rattle.world.proofs.LivePlaces.{not_and, same_at, vote_from, met_from, known
 use Rattle.world.proofs.LiveSteps.{Here, Left, quiet_left, Rounds}
 use Rattle.world.proofs.LiveReady.{ready_left}
 use Rattle.world.proofs.Answers.{unready_untouched}
-use Rattle.shard.proofs.steps.Within.{ready_in}
+use Rattle.shard.proofs.steps.HandledCases.{ReadyStep}
+use Rattle.shard.proofs.steps.Within.{ready_step_in}
 
 module _ (top : TopologyValue) (w x : Run) (node n : ℕ) (some : 0 < top.shards) (was : Inv top w) (inv : Inv top x) (g : Onward top w x)
     (live : ShardLive top w node (w.shards node)) (rounds : Rounds x (w.shards node).waiting) where
@@ -75,58 +76,52 @@ module _ (top : TopologyValue) (w x : Run) (node n : ℕ) (some : 0 < top.shards
   old_notices : (t u : TxnValue) (from node : ℕ) (vs : List Vote) → (u ≡ t → ⊥) → Among (vote_of u node) (vs ++ vote_of t from ∷ []) → Among (vote_of u node) vs
   old_notices t u from node vs ne m = elim (last_or_old (vote_of u node) (vote_of t from) vs m) [ inl o ↦ o | inr q ↦ absurd (ne (ap (λ (z : Vote). z.txn) q)) ]
 
-  notice_go : (t : TxnValue) (from : ℕ) → HasKeptPart (x.shards from) t → Leads top x node t → dc_of top from ≡ dc_of top node → (r : KeptBallot) → Among r (w.shards node).kept_ballots → r.txn ≡ t
-      → (awaited : Bool) → is_awaited top node r.cohorts (w.shards node).notices t from ≡ awaited → Here x node (notice_if awaited top node n (w.shards node) r from)
-      → Left top x node (notice_if awaited top node n (w.shards node) r from) × Among (vote_of t from) (x.shards node).notices
-  unfolding kx
-  notice_go t from k leads dc r m q false e here =
+  -- a notice that isn't awaited was counted: its sender is a cohort
+  pub notice_before : (t : TxnValue) (from : ℕ) → HasKeptPart (x.shards from) t → dc_of top from ≡ dc_of top node → (r : KeptBallot) → Among r (w.shards node).kept_ballots → r.txn ≡ t
+      → is_awaited top node r.cohorts (w.shards node).notices t from ≡ false → Among (vote_of t from) (x.shards node).notices
+  notice_before t from k dc r m q e =
       let s = (inv.shards from).kept_parts k.0 k.1 in
       let b = (inv.shards node).kept_ballots r ((g.shards node).kept_ballots r m) in
-      let cohort = subst (λ l. Among (shard_of top from) l) (ap (cohorts_of top.shards) (batch_one inv.submitted (written_at k.2 s.written) (written_at q b.written)) ∙ sym b.cohorts) s.cohort in (
-        quiet_left n kx,
-        (g.shards node).notices (vote_of t from) (vote_from (w.shards node).notices t from
-            (not_and (is_cohort top node r.cohorts from) (has_vote (w.shards node).notices t from) e (among_cohorts top node from r.cohorts cohort dc))),
-      )
-  notice_go t from k leads dc r m q true e here =
+      let cohort = subst (λ l. Among (shard_of top from) l) (ap (cohorts_of top.shards) (batch_one inv.submitted (written_at k.2 s.written) (written_at q b.written)) ∙ sym b.cohorts) s.cohort in
+      (g.shards node).notices (vote_of t from) (vote_from (w.shards node).notices t from
+      (not_and (is_cohort top node r.cohorts from) (has_vote (w.shards node).notices t from) e (among_cohorts top node from r.cohorts cohort dc)))
+
+  pub notice_left : (t : TxnValue) (from : ℕ) → HasKeptPart (x.shards from) t → Leads top x node t → dc_of top from ≡ dc_of top node → (r : KeptBallot) → Among r (w.shards node).kept_ballots → r.txn ≡ t
+      → is_ready top node (w.shards node) r ≡ false → (st : ShardStep) → ReadyStep top node n (with_notice (w.shards node) r.txn from) r st → Here x node st
+      → Left top x node st × Among (vote_of t from) (x.shards node).notices
+  unfolding kx
+  notice_left t from k leads dc r m q unready st step here =
       let a = with_notice (w.shards node) r.txn from in (
-        ready_left top x node n some inv a r rounds (notice_entries r.txn from (subst (λ z. NoticeLive top x node (vote_of z from)) (sym q) (k, leads, dc))) kx.counted kx.voted m here
+        ready_left top x node n some inv a r rounds (notice_entries r.txn from (subst (λ z. NoticeLive top x node (vote_of z from)) (sym q) (k, leads, dc))) kx.counted kx.voted m st step here
             (λ u i ne f d. kx.ready u i (λ c j. old_notices r.txn u.txn from (near top node c) (w.shards node).notices ne (f c j)) d)
-            (unvoted r m (awaited_unready top node (w.shards node) r t from q e)),
+            (unvoted r m unready),
         subst (λ z. Among (vote_of t from) z.notices) (sym here.state)
-            ((onward_of (ready_in top node n a r)).notices (vote_of t from) (subst (λ z. Among (vote_of z from) a.notices) q (among_last (vote_of r.txn from) (w.shards node).notices))),
+            ((onward_of (ready_step_in top node n a r st step)).notices (vote_of t from) (subst (λ z. Among (vote_of z from) a.notices) q (among_last (vote_of r.txn from) (w.shards node).notices))),
       )
 
-  early_notice_go : (t : TxnValue) (from : ℕ) → HasKeptPart (x.shards from) t → Leads top x node t → dc_of top from ≡ dc_of top node → ((r : KeptBallot) → Among r (w.shards node).kept_ballots → r.txn ≡ t → ⊥)
-      → (known kept : Bool) → is_known t (w.shards node) ≡ known → has_vote (w.shards node).notices t from ≡ kept → Here x node (early_notice_if known kept n (w.shards node) t from)
-      → Left top x node (early_notice_if known kept n (w.shards node) t from) × Acted top x from node (OfNotify t)
+  none_kept : (t : TxnValue) → kept_ballot t (w.shards node) ≡ None → (r : KeptBallot) → Among r (w.shards node).kept_ballots → r.txn ≡ t → ⊥
+  none_kept t e = absent (λ r. r.txn) t (w.shards node).kept_ballots (find_none (λ r. is_same_txn r.txn t) (w.shards node).kept_ballots e)
+
+  -- it came before, or the transaction is known
+  pub early_notice_before : (t : TxnValue) (from : ℕ) → Leads top x node t → kept_ballot t (w.shards node) ≡ None
+      → (is_known t (w.shards node) ≡ true) ⊎ (has_vote (w.shards node).notices t from ≡ true) → Acted top x from node (OfNotify t)
+  early_notice_before t from leads none (inl e) = elim (known_replica t leads e) [ inl r ↦ absurd (none_kept t none r.0 r.1 r.2) | inr y ↦ inr y ]
+  early_notice_before t from leads none (inr f) = inl ((g.shards node).notices (vote_of t from) (vote_from (w.shards node).notices t from f))
+
+  pub early_notice_left : (t : TxnValue) (from : ℕ) → HasKeptPart (x.shards from) t → Leads top x node t → dc_of top from ≡ dc_of top node → kept_ballot t (w.shards node) ≡ None
+      → Here x node (quiet n (with_notice (w.shards node) t from))
+      → Left top x node (quiet n (with_notice (w.shards node) t from)) × Acted top x from node (OfNotify t)
   unfolding kx
-  early_notice_go t from k leads dc none true kept e f here =
-      (quiet_left n kx, elim (known_replica t leads e) [ inl r ↦ absurd (none r.0 r.1 r.2) | inr y ↦ inr y ])
-  early_notice_go t from k leads dc none false true e f here = (quiet_left n kx, inl ((g.shards node).notices (vote_of t from) (vote_from (w.shards node).notices t from f)))
-  early_notice_go t from k leads dc none false false e f here = (
+  early_notice_left t from k leads dc none here = (
     quiet_left n
         (record {
           entries = notice_entries t from (k, leads, dc);
           counted = kx.counted;
           voted = kx.voted;
-          ready = λ u m i d. kx.ready u m (λ c j. old_notices t u.txn from (near top node c) (w.shards node).notices (none u m) (i c j)) d;
+          ready = λ u m i d. kx.ready u m (λ c j. old_notices t u.txn from (near top node c) (w.shards node).notices (none_kept t none u m) (i c j)) d;
         }),
     inl (subst (λ z. Among (vote_of t from) z.notices) (sym here.state) (among_last (vote_of t from) (w.shards node).notices)),
   )
-
-  notify_go : (t : TxnValue) (from : ℕ) → HasKeptPart (x.shards from) t → Leads top x node t → dc_of top from ≡ dc_of top node → (o : Option KeptBallot) → kept_ballot t (w.shards node) ≡ o
-      → Here x node (notify_for o top node n (w.shards node) t from)
-      → Left top x node (notify_for o top node n (w.shards node) t from) × Acted top x from node (OfNotify t)
-  notify_go t from k leads dc None e here =
-      early_notice_go t from k leads dc (absent (λ r. r.txn) t (w.shards node).kept_ballots (find_none (λ r. is_same_txn r.txn t) (w.shards node).kept_ballots e)) _ _ refl refl here
-  notify_go t from k leads dc (Some r) e here =
-      let p = find_some (λ r. is_same_txn r.txn t) (w.shards node).kept_ballots r e in
-      let z = notice_go t from k leads dc r p.0 (same_txn r.txn t p.1) _ refl here in
-      (z.0, inl z.1)
-
-  pub notify_left : (t : TxnValue) (from : ℕ) → HasKeptPart (x.shards from) t → Leads top x node t → dc_of top from ≡ dc_of top node → Here x node (on_notify top node n (w.shards node) from t)
-      → Left top x node (on_notify top node n (w.shards node) from t) × Acted top x from node (OfNotify t)
-  notify_left t from k leads dc here = notify_go t from k leads dc _ refl here
 
   -- ## DepOk
 
@@ -157,39 +152,37 @@ module _ (top : TopologyValue) (w x : Run) (node n : ℕ) (some : 0 < top.shards
       let same : k.ballot.dependencies ≡ r.dependencies = c.dependencies ∙ ap (λ s. s.dependencies) (submitted_one inv.submitted (written_at k.txn c.written) (written_at q b.written)) ∙ sym b.dependencies in
       any_among (λ w. is_same_txn w.txn dependency) r.dependencies k.writer (subst (λ l. Among k.writer l) same k.named) (same_at k.writer.txn dependency k.is)
 
-  met_go : (waiter dependency : TxnValue) → Awaits (w.shards node) waiter dependency → (r : KeptBallot) → Among r (w.shards node).kept_ballots → r.txn ≡ waiter
-      → (unmet : Bool) → is_unmet (w.shards node).met r dependency ≡ unmet → Here x node (met_if unmet top node n (w.shards node) r dependency)
-      → Left top x node (met_if unmet top node n (w.shards node) r dependency) × Among (met_of waiter dependency) (x.shards node).met
+  -- an answer that isn't missing was counted
+  pub answer_before : (waiter dependency : TxnValue) → Awaits (w.shards node) waiter dependency
+      → (kept_ballot waiter (w.shards node) ≡ None)
+      ⊎ ((r : KeptBallot) × Contains (w.shards node).kept_ballots r × (r.txn ≡ waiter) × (is_unmet (w.shards node).met r dependency ≡ false))
+      → Among (met_of waiter dependency) (x.shards node).met
+  answer_before waiter dependency k (inl e) = absurd (none_kept waiter e k.ballot k.among k.txn)
+  answer_before waiter dependency k (inr (r, has, q, e)) =
+      let y = not_and (list_any (λ w. is_same_txn w.txn dependency) r.dependencies) (is_met (w.shards node).met r.txn dependency) e
+      (names waiter dependency k r (contains_among r _ has) q) in
+      (g.shards node).met (met_of waiter dependency) (subst (λ z. Among (met_of z dependency) (w.shards node).met) q (met_from (w.shards node).met r.txn dependency y))
+
+  pub answer_counts_left : (waiter dependency : TxnValue) → (r : KeptBallot) → Among r (w.shards node).kept_ballots → r.txn ≡ waiter → is_ready top node (w.shards node) r ≡ false
+      → (st : ShardStep) → ReadyStep top node n (with_met (w.shards node) r.txn dependency) r st → Here x node st
+      → Left top x node st × Among (met_of waiter dependency) (x.shards node).met
   unfolding kx
-  met_go waiter dependency k r m q false e here =
-      let y = not_and (list_any (λ w. is_same_txn w.txn dependency) r.dependencies) (is_met (w.shards node).met r.txn dependency) e (names waiter dependency k r m q) in (
-        quiet_left n kx,
-        (g.shards node).met (met_of waiter dependency) (subst (λ z. Among (met_of z dependency) (w.shards node).met) q (met_from (w.shards node).met r.txn dependency y)),
-      )
-  met_go waiter dependency k r m q true e here =
+  answer_counts_left waiter dependency r m q unready st step here =
       let a = with_met (w.shards node) r.txn dependency in (
-        ready_left top x node n some inv a r rounds (met_entries r.txn dependency) kx.counted kx.voted m here
+        ready_left top x node n some inv a r rounds (met_entries r.txn dependency) kx.counted kx.voted m st step here
             (λ u i ne f d. kx.ready u i f
             (λ z j. elim (last_or_old (met_of u.txn z.txn) (met_of r.txn dependency) (w.shards node).met (d z j)) [ inl o ↦ o | inr y ↦ absurd (ne (ap (λ (v : Met). v.waiter) y)) ]))
-            (unvoted r m (unmet_unready top node (w.shards node) r dependency e)),
+            (unvoted r m unready),
         subst (λ z. Among (met_of waiter dependency) z.met) (sym here.state)
-            ((onward_of (ready_in top node n a r)).met (met_of waiter dependency) (subst (λ z. Among (met_of z dependency) a.met) q (among_last (met_of r.txn dependency) (w.shards node).met))),
+            ((onward_of (ready_step_in top node n a r st step)).met (met_of waiter dependency) (subst (λ z. Among (met_of z dependency) a.met) q (among_last (met_of r.txn dependency) (w.shards node).met))),
       )
 
-  dep_ok_go : (waiter dependency : TxnValue) → Awaits (w.shards node) waiter dependency → (o : Option KeptBallot) → kept_ballot waiter (w.shards node) ≡ o
-      → Here x node (dep_ok_for o top node n (w.shards node) dependency)
-      → Left top x node (dep_ok_for o top node n (w.shards node) dependency) × Among (met_of waiter dependency) (x.shards node).met
-  dep_ok_go waiter dependency k None e here =
-      absurd (absent (λ r. r.txn) waiter (w.shards node).kept_ballots (find_none (λ r. is_same_txn r.txn waiter) (w.shards node).kept_ballots e) k.ballot k.among k.txn)
-  dep_ok_go waiter dependency k (Some r) e here =
-      let p = find_some (λ r. is_same_txn r.txn waiter) (w.shards node).kept_ballots r e in
-      met_go waiter dependency k r p.0 (same_txn r.txn waiter p.1) _ refl here
+  -- a shard has no move: a ballot waits for the answer, and counts it
+  pub awaits_here : (dc : ℕ) (waiter dependency : TxnValue) → ((b : Submission) → Among b w.submitted → b.session ≡ node → ⊥) → WaitsFor top w dc node waiter dependency
+      → Awaits (w.shards node) waiter dependency
+  awaits_here dc waiter dependency none (of_ballot k) = k
+  awaits_here dc waiter dependency none (of_moving b m is own to k n q) = absurd (none b m own)
 
-  -- a shard has no move
-  pub dep_ok_left : (dc : ℕ) (dependency waiter : TxnValue) → ((b : Submission) → Among b w.submitted → b.session ≡ node → ⊥) → WaitsFor top w dc node waiter dependency
-      → Here x node (on_dep_ok top node n (w.shards node) dependency waiter)
-      → Left top x node (on_dep_ok top node n (w.shards node) dependency waiter) × WasCounted x node waiter dependency
-  dep_ok_left dc dependency waiter none (of_ballot k) here =
-      let r = dep_ok_go waiter dependency k _ refl here in
-      (r.0, by_ballot (k.ballot, (g.shards node).kept_ballots k.ballot k.among, k.txn) r.1)
-  dep_ok_left dc dependency waiter none (of_moving b m is own to k n q) here = absurd (none b m own)
+  pub was_counted : (waiter dependency : TxnValue) → Awaits (w.shards node) waiter dependency → Among (met_of waiter dependency) (x.shards node).met
+      → WasCounted x node waiter dependency
+  was_counted waiter dependency k m = by_ballot (k.ballot, (g.shards node).kept_ballots k.ballot k.among, k.txn) m

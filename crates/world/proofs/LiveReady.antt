@@ -1,5 +1,5 @@
 -- What a replicated ballot leaves under way once its last missing thing is there.
-use Rattle.std.proofs.Common.{◌≡◌, ℕ, ◌<◌, Bool, true, false, List, [], ◌∷◌, ◌++◌, map, None, ◌⊎◌, inl, inr, refl, sym, ap, ◌∙◌, subst}
+use Rattle.std.proofs.Common.{◌≡◌, ℕ, ◌<◌, true, false, List, [], ◌∷◌, ◌++◌, map, None, ◌⊎◌, inl, inr, refl, sym, ap, ◌∙◌, subst}
 use Rattle.std.proofs.lemmas.Bool.{false≢true, and_parts, and_from}
 use Rattle.logical_time.specs.Stamps.{TxnValue, WriterValue}
 use Rattle.planner.specs.Plan.{cohorts_of}
@@ -7,9 +7,9 @@ use Rattle.messages.specs.declared.body.Body.TheVariants.{PrepareRemote}
 use Rattle.messages.specs.declared.envelope.Envelope.{Envelope}
 use Rattle.messages.specs.Topology.{TopologyValue, dc_of, shard_node}
 use Rattle.messages.specs.Words.{envelope}
-use Rattle.messages.specs.Shard.{ShardState, Vote, KeptBallot}
+use Rattle.messages.specs.Shard.{ShardState, ShardStep, Vote, KeptBallot}
 use Rattle.messages.specs.Known.{has_vote, all_voted, all_met}
-use Rattle.messages.specs.Replication.{ballot_of, remote_prepare, is_ready, ready_if, ready}
+use Rattle.messages.specs.Replication.{ballot_of, is_ready, ready}
 use Rattle.world.specs.Run.{Run}
 use Rattle.world.proofs.Among.{Among, among_append, all_among, map_only, map_among}
 use Rattle.world.proofs.Facts.{near, KeptBallotSound}
@@ -23,18 +23,19 @@ use Rattle.world.proofs.LiveSteps.{Here, Fine, Left, quiet_left, Rounds, BallotA
 use Rattle.world.proofs.LiveDecides.{decide_left}
 use Rattle.world.proofs.LiveHeld.{hold_left, hold_known}
 use Rattle.world.proofs.LiveGrow.{onward_of}
-use Rattle.shard.proofs.steps.Within.{ready_in}
+use Rattle.shard.proofs.steps.HandledCases.{ReadyStep, misses, alone, asks}
+use Rattle.shard.proofs.steps.Within.{ready_step_in}
 
 -- At a shard with all its inputs stored
 module _ (top : TopologyValue) (x : Run) (node n : ℕ) (some : 0 < top.shards) (inv : Inv top x) (a : ShardState) (r : KeptBallot)
     (rounds : Rounds x a.waiting) (entries : Entries top x node a) (counted : EarlyCounted a) (voted : Voted top node a) (kept : Among r a.kept_ballots)
-    (here : Here x node (ready top node n a r))
+    (st : ShardStep) (step : ReadyStep top node n a r st) (here : Here x node st)
     -- the other ballots with nothing missing are known, and nobody voted for this one
     (rest : (u : KeptBallot) → Among u a.kept_ballots → (u.txn ≡ r.txn → ⊥) → ((c : ℕ) → Among c u.cohorts → Among (vote_of u.txn (near top node c)) a.notices)
     → ((k : WriterValue) → Among k u.dependencies → Among (met_of u.txn k.txn) a.met) → Knows a u.txn)
     (unvoted : (v : Vote) → Among v a.votes → v.txn ≡ r.txn → ⊥) where
   sound : (u : KeptBallot) → Among u a.kept_ballots → KeptBallotSound top x node (x.shards node).clock u
-  sound u m = (inv.shards node).kept_ballots u (subst (λ z. Among u z.kept_ballots) (sym here.state) ((onward_of (ready_in top node n a r)).kept_ballots u m))
+  sound u m = (inv.shards node).kept_ballots u (subst (λ z. Among u z.kept_ballots) (sym here.state) ((onward_of (ready_step_in top node n a r st step)).kept_ballots u m))
 
   kept_ballot_at : BallotAt top x node (ballot_of r)
   kept_ballot_at = kept_at (sound r kept)
@@ -72,11 +73,14 @@ module _ (top : TopologyValue) (x : Run) (node n : ℕ) (some : 0 < top.shards) 
         sym (near_dc top node p.0 (cohort_below top.shards k.batch p.0 (subst (λ l. Among p.0 l) k.cohorts c))),
       )
 
-  remote_go : all_voted top node r.cohorts a.notices r.txn ≡ true → (cs : List ℕ) → r.cohorts ≡ cs → Here x node (remote_prepare cs top node n a r) → Left top x node (remote_prepare cs top node n a r)
-  remote_go all [] q at_state =
+  every_notice : is_ready top node a r ≡ true → all_voted top node r.cohorts a.notices r.txn ≡ true
+  every_notice e = (and_parts (all_voted top node r.cohorts a.notices r.txn) (all_met a.met r.txn r.dependencies) e).0
+
+  ready_go : (z : ShardStep) → ReadyStep top node n a r z → Here x node z → Left top x node z
+  ready_go z (alone e q) at_state =
       decide_left top x node n some inv a (ballot_of r) kept_ballot_at (inr (entries.kept_ballots r kept).away) rounds at_state entries counted
       (λ u i f. inl (voted u i f)) ready_or_this
-  remote_go all (c ∷ cs) q at_state =
+  ready_go z (asks e c cs q) at_state =
       let b = ballot_of r in
       let to : ℕ → Envelope = λ s. envelope node (shard_node top (dc_of top node) s) n (PrepareRemote r.txn) in
       let sends = map to (c ∷ cs) in
@@ -86,18 +90,15 @@ module _ (top : TopologyValue) (x : Run) (node n : ℕ) (some : 0 < top.shards) 
         λ k i. record { message = to k; among = at_state.sent (to k) (map_among to (c ∷ cs) k (subst (λ l. Among k l) q i)); by = refl; for = refl; is = refl },
       ) in
       let of : (v : Vote) → Among v [] → v.txn ≡ b.txn = λ v m. absurd m in
-      let early : b.stamp ≡ None → (v : Vote) → Among v a.early → v.txn ≡ b.txn → Among v [] = λ e. absurd (some_none r.stamp e) in
+      let early : b.stamp ≡ None → (v : Vote) → Among v a.early → v.txn ≡ b.txn → Among v [] = λ o. absurd (some_none r.stamp o) in
       let votes : (u : TxnValue) (k : ℕ) → Among (vote_of u k) (a.votes ++ []) → Among (vote_of u k) a.votes =
       λ u k m. elim (among_append (vote_of u k) a.votes [] m) [ inl o ↦ o | inr i ↦ absurd i ] in
       let missing : ((k : ℕ) → Among k b.cohorts → Among (vote_of b.txn (near top node k)) (a.votes ++ [])) → ⊥ =
       λ f. unvoted (vote_of r.txn (near top node c)) (votes r.txn (near top node c) (f c (subst (λ l. Among c l) (sym q) (inl refl)))) refl in
       hold_left top x node n a b [] sends entries counted at_state asked of early missing
       (λ u m f. voted u m (λ k i. votes u.txn (near top node k) (f k i))) ready_or_this
-      (prepare_remote_fine all (inl (hold_known top x node n a b [] sends entries counted at_state asked of early missing)) (c ∷ cs) q)
-
-  ready_go : (b : Bool) → is_ready top node a r ≡ b → Here x node (ready_if b top node n a r) → Left top x node (ready_if b top node n a r)
-  ready_go true e at_state = remote_go (and_parts (all_voted top node r.cohorts a.notices r.txn) (all_met a.met r.txn r.dependencies) e).0 r.cohorts refl at_state
-  ready_go false e at_state =
+      (prepare_remote_fine (every_notice e) (inl (hold_known top x node n a b [] sends entries counted at_state asked of early missing)) (c ∷ cs) q)
+  ready_go z (misses e) at_state =
       quiet_left n
       (record {
         entries = entries;
@@ -106,5 +107,5 @@ module _ (top : TopologyValue) (x : Run) (node n : ℕ) (some : 0 < top.shards) 
         ready = λ u m f g. elim (txn_split u.txn r.txn) [ inl q ↦ absurd (false≢true (sym e ∙ ready_from u m q f g)) | inr ne ↦ rest u m ne f g ];
       })
 
-  pub ready_left : Left top x node (ready top node n a r)
-  ready_left = ready_go _ refl here
+  pub ready_left : Left top x node st
+  ready_left = ready_go st step here

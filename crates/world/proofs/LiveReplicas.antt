@@ -1,61 +1,56 @@
 -- What ReplBegin, ReplPart, PrepareRemote and DepCheck leave under way.
-use Rattle.std.proofs.Common.{◌≡◌, ℕ, ◌<◌, Bool, true, false, ◌&&◌, Option, Some, None, ◌⊎◌, inl, inr, refl, sym, ap, ◌∙◌, subst, subst₂, eqb-true}
-use Rattle.std.specs.Prelude.{◌==◌, is_some}
+use Rattle.std.proofs.Common.{[], ◌∷◌, ◌++◌, ◌≡◌, ℕ, ◌<◌, true, false, ◌&&◌, None, ◌⊎◌, inl, inr, refl, sym, ap, ◌∙◌, subst, subst₂, eqb-true}
+use Rattle.std.specs.Prelude.{◌==◌}
 use Rattle.std.proofs.lemmas.Bool.{and_parts}
 use Rattle.logical_time.specs.Stamps.{TxnValue, WriterValue}
-use Rattle.messages.specs.declared.body.Body.TheVariants.{DepCheck}
+use Rattle.messages.specs.declared.body.Body.TheVariants.{Notify, DepCheck}
 use Rattle.messages.specs.declared.envelope.Envelope.{Envelope}
 use Rattle.messages.specs.Topology.{TopologyValue, dc_of, shard_node}
 use Rattle.messages.specs.Words.{is_same_txn, envelope}
-use Rattle.messages.specs.Shard.{Replica, Decision, KeptPart, KeptBallot, Asker}
-use Rattle.messages.specs.Known.{decision_of, prepared_part, kept_part, is_known, is_asker}
-use Rattle.messages.specs.Replication.{ready, dep_checks, with_ballot, repl_begin_if, on_repl_begin, repl_part_if, on_repl_part, prepare_remote_for, on_prepare_remote, remember_if, dep_check_for, on_dep_check}
+use Rattle.messages.specs.Reads.{answer}
+use Rattle.messages.specs.Commits.{prepare_part}
+use Rattle.messages.specs.Shard.{ShardStep, quiet, Replica, KeptPart, KeptBallot, Asker}
+use Rattle.messages.specs.Known.{decision_of, is_known, is_asker}
+use Rattle.messages.specs.Replication.{sent_before, dep_checks, with_ballot}
 use Rattle.world.specs.Run.{Run}
-use Rattle.world.proofs.Among.{Among, among_append, append_first, append_second, among_last, last_or_old, any_true, find_some, find_none, map_only, map_among, same_txn}
-use Rattle.world.proofs.Facts.{near, lead, KeptBallotSound, KeptPartSound}
+use Rattle.world.proofs.Among.{Among, among_append, append_first, append_second, among_last, last_or_old, any_true, find_none, map_only, map_among, same_txn}
+use Rattle.world.proofs.Facts.{near, lead, KeptPartSound}
 use Rattle.world.proofs.Invariant.{Inv}
 use Rattle.world.proofs.Ables.{absent, unbegun}
 use Rattle.world.proofs.Near.{near_dc, coordinator_below}
 use Rattle.world.proofs.OneBatch.{written_at, batch_one}
 use Rattle.world.proofs.About.{OfDepCheck}
 use Rattle.world.proofs.Underway.{HasPrepared, HasKeptPart, HasKeptBallot, Knows, WaitsFor, of_ballot, Away, Leads, Placed, Onward, KeptPartLive, KeptBallotLive, AskerLive, Entries, ShardLive, Acted}
-use Rattle.world.proofs.LiveGrow.{written_on, prepared_on, decision_on, kept_part_on, kept_ballot_on, shard_on, onward_of}
-use Rattle.world.proofs.LivePlaces.{known_cases, prepared_found, near_leads}
-use Rattle.world.proofs.LiveSteps.{Here, Fine, Left, quiet_left, answer_left, Rounds}
+use Rattle.world.proofs.LiveGrow.{prepared_on, decision_on, kept_part_on, kept_ballot_on, shard_on, onward_of}
+use Rattle.world.proofs.LivePlaces.{known_cases, near_leads}
+use Rattle.world.proofs.LiveSteps.{Here, Fine, Left, Rounds}
 use Rattle.world.proofs.LiveHeld.{prepare_left}
 use Rattle.world.proofs.LiveReady.{ready_left}
-use Rattle.world.proofs.LiveInputs.{known_replica}
-use Rattle.shard.proofs.steps.Within.{ready_in}
+use Rattle.shard.proofs.steps.HandledCases.{ReadyStep, with_asker}
+use Rattle.shard.proofs.steps.Within.{ready_step_in}
 
-module _ (top : TopologyValue) (w x : Run) (node n : ℕ) (some : 0 < top.shards) (was : Inv top w) (inv : Inv top x) (g : Onward top w x)
+module _ (top : TopologyValue) (w x : Run) (node n : ℕ) (some : 0 < top.shards) (inv : Inv top x) (g : Onward top w x)
     (live : ShardLive top w node (w.shards node)) (rounds : Rounds x (w.shards node).waiting) where
   kx : ShardLive top x node (w.shards node)
   kx = shard_on g live
 
   -- ## ReplBegin
 
-  repl_begin_go : (r : KeptBallot) (time : ℕ) → KeptBallotSound top w node time r → Away top x node r.txn → dc_of top node < top.dcs → ((k : WriterValue) → Among k r.dependencies → Placed top x k)
-      → (known : Bool) → is_known r.txn (w.shards node) ≡ known → Here x node (repl_begin_if known top node n (w.shards node) r)
-      → Left top x node (repl_begin_if known top node n (w.shards node) r) × (HasKeptBallot (x.shards node) r.txn ⊎ Knows (x.shards node) r.txn)
+  pub repl_begin_left : (r : KeptBallot) → Away top x node r.txn → dc_of top node < top.dcs → ((k : WriterValue) → Among k r.dependencies → Placed top x k)
+      → is_known r.txn (w.shards node) ≡ false → (st : ShardStep) → ReadyStep top node n (with_ballot (w.shards node) r) r st → Here x node (sent_before (dep_checks top node n r) st)
+      → Left top x node (sent_before (dep_checks top node n r) st) × HasKeptBallot (x.shards node) r.txn
   unfolding kx
-  repl_begin_go r time k away dc placed true e here = (
-    quiet_left n kx,
-    elim (known_replica top w x node n some was inv g live rounds r.txn (record { submission = k.submission; batch = k.batch; written = written_on g k.written; here = k.here }) e) [
-      | inl y ↦ inl (kept_ballot_on (g.shards node) y)
-      | inr y ↦ inr y
-    ],
-  )
-  repl_begin_go r time k away dc placed false e here =
+  repl_begin_left r away dc placed e st step here =
       let a = with_ballot (w.shards node) r in
       let to : WriterValue → Envelope = λ w. envelope node (shard_node top (dc_of top node) w.shard) n (DepCheck w.txn r.txn) in
-      let next : Here x node (ready top node n a r) = record { state = here.state; sent = λ u m. here.sent u (append_second u (dep_checks top node n r) _ m) } in
+      let next : Here x node st = record { state = here.state; sent = λ u m. here.sent u (append_second u (dep_checks top node n r) _ m) } in
       let new : KeptBallotLive top x node r =
       record {
         away = away;
         here = dc;
         asked = λ d m. record { message = to d; among = here.sent (to d) (append_first (to d) (dep_checks top node n r) _ (map_among to r.dependencies d m)); by = refl; for = refl; is = refl };
       } in
-      let kept : Among r (x.shards node).kept_ballots = subst (λ z. Among r z.kept_ballots) (sym here.state) ((onward_of (ready_in top node n a r)).kept_ballots r (among_last r (w.shards node).kept_ballots)) in
+      let kept : Among r (x.shards node).kept_ballots = subst (λ z. Among r z.kept_ballots) (sym here.state) ((onward_of (ready_step_in top node n a r st step)).kept_ballots r (among_last r (w.shards node).kept_ballots)) in
       let o = kx.entries in
       let entries : Entries top x node a =
       record {
@@ -72,7 +67,7 @@ module _ (top : TopologyValue) (w x : Run) (node n : ℕ) (some : 0 < top.shards
         told = o.told;
       } in
       let left =
-      ready_left top x node n some inv a r rounds entries kx.counted kx.voted (among_last r (w.shards node).kept_ballots) next
+      ready_left top x node n some inv a r rounds entries kx.counted kx.voted (among_last r (w.shards node).kept_ballots) st step next
       (λ u m ne f d. elim (last_or_old u r (w.shards node).kept_ballots m) [ inl i ↦ kx.ready u i f d | inr q ↦ absurd (ne (ap (λ (z : KeptBallot). z.txn) q)) ])
       (λ v m q. let b = live.entries.votes v m in unbegun r.txn (w.shards node) e b.0 b.1 (b.2 ∙ q)) in (
         record {
@@ -90,31 +85,29 @@ module _ (top : TopologyValue) (w x : Run) (node n : ℕ) (some : 0 < top.shards
             | inr i ↦ left.sends u i
           ];
         },
-        inl (r, kept, refl),
+        (r, kept, refl),
       )
-
-  pub repl_begin_left : (r : KeptBallot) (time : ℕ) → KeptBallotSound top w node time r → Away top x node r.txn → dc_of top node < top.dcs → ((k : WriterValue) → Among k r.dependencies → Placed top x k)
-      → Here x node (on_repl_begin top node n (w.shards node) r)
-      → Left top x node (on_repl_begin top node n (w.shards node) r) × (HasKeptBallot (x.shards node) r.txn ⊎ Knows (x.shards node) r.txn)
-  repl_begin_left r time k away dc placed here = repl_begin_go r time k away dc placed _ refl here
 
   -- ## ReplPart
 
-  repl_part_go : (k : KeptPart) → KeptPartSound top x node k → Away top x node k.txn → dc_of top node < top.dcs → (known : Bool) → is_known k.txn (w.shards node) ≡ known
-      → Here x node (repl_part_if known top node n (w.shards node) k)
-      → Left top x node (repl_part_if known top node n (w.shards node) k) × (HasKeptPart (x.shards node) k.txn ⊎ HasKeptBallot (x.shards node) k.txn ⊎ Knows (x.shards node) k.txn)
+  -- the part, or the ballot, was kept before
+  pub part_before : (t : TxnValue) → is_known t (w.shards node) ≡ true → HasKeptPart (x.shards node) t ⊎ HasKeptBallot (x.shards node) t ⊎ Knows (x.shards node) t
   unfolding kx
-  repl_part_go k s away dc true e here = (
-    quiet_left n kx,
-    elim (known_cases k.txn (w.shards node) e) [
-      | inl b ↦ inr (inr (inl (subst (λ z. HasPrepared (x.shards node) z) b.2 (kx.entries.ballots b.0 b.1).0)))
-      | inr (inl p) ↦ inr (inr (inl (prepared_on (g.shards node) p)))
-      | inr (inr (inl p)) ↦ inl (kept_part_on (g.shards node) p)
-      | inr (inr (inr (inl r))) ↦ inr (inl (kept_ballot_on (g.shards node) r))
-      | inr (inr (inr (inr d))) ↦ inr (inr (inr (decision_on (g.shards node) d)))
-    ],
-  )
-  repl_part_go k s away dc false e here =
+  part_before t e =
+      elim (known_cases t (w.shards node) e) [
+        | inl b ↦ inr (inr (inl (subst (λ z. HasPrepared (x.shards node) z) b.2 (kx.entries.ballots b.0 b.1).0)))
+        | inr (inl p) ↦ inr (inr (inl (prepared_on (g.shards node) p)))
+        | inr (inr (inl p)) ↦ inl (kept_part_on (g.shards node) p)
+        | inr (inr (inr (inl r))) ↦ inr (inl (kept_ballot_on (g.shards node) r))
+        | inr (inr (inr (inr d))) ↦ inr (inr (inr (decision_on (g.shards node) d)))
+      ]
+
+  pub keeps_part_left : (k : KeptPart) → KeptPartSound top x node k → Away top x node k.txn → dc_of top node < top.dcs
+      → Here x node (answer n (record (w.shards node) { kept_parts = (w.shards node).kept_parts ++ k ∷ [] }) (envelope node (shard_node top (dc_of top node) k.coordinator) n (Notify k.txn)))
+      → Left top x node (answer n (record (w.shards node) { kept_parts = (w.shards node).kept_parts ++ k ∷ [] }) (envelope node (shard_node top (dc_of top node) k.coordinator) n (Notify k.txn)))
+      × HasKeptPart (x.shards node) k.txn
+  unfolding kx
+  keeps_part_left k s away dc here =
       let has : HasKeptPart (x.shards node) k.txn = subst (λ z. HasKeptPart z k.txn) (sym here.state) (k, among_last k (w.shards node).kept_parts, refl) in
       let new : KeptPartLive top x node k = record { away = away; here = dc; told = record { message = _; among = here.sent _ (inl refl); by = refl; for = refl; is = refl } } in
       let below : k.coordinator < top.shards = subst (λ z. z < top.shards) (sym s.coordinator) (coordinator_below top.shards s.batch some) in
@@ -149,31 +142,22 @@ module _ (top : TopologyValue) (w x : Run) (node n : ℕ) (some : 0 < top.shards
             | inr i ↦ absurd i
           ];
         },
-        inl has,
+        has,
       )
-
-  pub repl_part_left : (k : KeptPart) → KeptPartSound top x node k → Away top x node k.txn → dc_of top node < top.dcs → Here x node (on_repl_part top node n (w.shards node) k)
-      → Left top x node (on_repl_part top node n (w.shards node) k) × (HasKeptPart (x.shards node) k.txn ⊎ HasKeptBallot (x.shards node) k.txn ⊎ Knows (x.shards node) k.txn)
-  repl_part_left k s away dc here = repl_part_go k s away dc _ refl here
 
   -- ## PrepareRemote
 
-  prepare_remote_go : (from : ℕ) (t : TxnValue) → HasKeptPart (w.shards node) t → Knows (x.shards from) t → Leads top x from t → dc_of top from ≡ dc_of top node
-      → (o : Option KeptPart) → kept_part t (w.shards node) ≡ o → (prepared : Bool) → is_some (prepared_part t (w.shards node)) ≡ prepared → Here x node (prepare_remote_for o prepared top node n (w.shards node))
-      → Left top x node (prepare_remote_for o prepared top node n (w.shards node)) × Knows (x.shards node) t
+  pub prepares_replica_left : (from : ℕ) (t : TxnValue) → Knows (x.shards from) t → Leads top x from t → dc_of top from ≡ dc_of top node
+      → (k : KeptPart) → Among k (w.shards node).kept_parts → k.txn ≡ t → Here x node (prepare_part top node n (w.shards node) k.txn k.rows k.coordinator Replica)
+      → Left top x node (prepare_part top node n (w.shards node) k.txn k.rows k.coordinator Replica) × Knows (x.shards node) t
   unfolding kx
-  prepare_remote_go from t p known leads dc None e prepared f here =
-      absurd (absent (λ k. k.txn) t (w.shards node).kept_parts (find_none (λ k. is_same_txn k.txn t) (w.shards node).kept_parts e) p.0 p.1 p.2)
-  prepare_remote_go from t p known leads dc (Some k) e true f here = (quiet_left n kx, inl (prepared_on (g.shards node) (prepared_found t (w.shards node) f)))
-  prepare_remote_go from t p known leads dc (Some k) e false f here =
-      let q = find_some (λ k. is_same_txn k.txn t) (w.shards node).kept_parts k e in
-      let kt = same_txn k.txn t q.1 in
-      let s = (inv.shards node).kept_parts k ((g.shards node).kept_parts k q.0) in
+  prepares_replica_left from t known leads dc k m kt here =
+      let s = (inv.shards node).kept_parts k ((g.shards node).kept_parts k m) in
       let same = batch_one inv.submitted leads.written (written_at kt s.written) in
       let from_there : from ≡ near top node k.coordinator = leads.here ∙ ap (λ d. lead top d leads.batch) dc ∙ ap (lead top (dc_of top node)) same ∙ ap (near top node) (sym s.coordinator) in
       let below : k.coordinator < top.shards = subst (λ z. z < top.shards) (sym s.coordinator) (coordinator_below top.shards s.batch some) in
       let r =
-      prepare_left top x node n (w.shards node) k.txn k.rows k.coordinator Replica kx (λ y. (y, (k, (g.shards node).kept_parts k q.0, refl))) (
+      prepare_left top x node n (w.shards node) k.txn k.rows k.coordinator Replica kx (λ y. (y, (k, (g.shards node).kept_parts k m, refl))) (
         inr (subst₂ (λ c z. Knows (x.shards c) z) from_there (sym kt) known),
         record { submission = s.submission; batch = s.batch; written = s.written; cohort = s.cohort },
         near_leads top x some inv.submitted node k.coordinator k.txn s.submission s.batch s.written s.coordinator below,
@@ -181,23 +165,20 @@ module _ (top : TopologyValue) (w x : Run) (node n : ℕ) (some : 0 < top.shards
       ) here in
       (r.0, subst (λ z. Knows (x.shards node) z) kt r.1)
 
-  pub prepare_remote_left : (from : ℕ) (t : TxnValue) → HasKeptPart (w.shards node) t → Knows (x.shards from) t → Leads top x from t → dc_of top from ≡ dc_of top node
-      → Here x node (on_prepare_remote top node n (w.shards node) t)
-      → Left top x node (on_prepare_remote top node n (w.shards node) t) × Knows (x.shards node) t
-  prepare_remote_left from t p known leads dc here = prepare_remote_go from t p known leads dc _ refl _ refl here
-
   -- ## DepCheck
 
-  remember_go : (k : Asker) → Leads top x node k.dependency → dc_of top node < top.dcs → WaitsFor top x (dc_of top node) k.from k.waiter k.dependency → decision_of k.dependency (w.shards node) ≡ None
-      → (asked : Bool) → is_asker (w.shards node).askers k.dependency k.waiter k.from ≡ asked → Here x node (remember_if asked n (w.shards node) k)
-      → Left top x node (remember_if asked n (w.shards node) k) × Acted top x k.from node (OfDepCheck k.dependency k.waiter)
-  unfolding kx
-  remember_go k leads dc awaits none true e here =
+  pub asked_before : (k : Asker) → is_asker (w.shards node).askers k.dependency k.waiter k.from ≡ true → Acted top x k.from node (OfDepCheck k.dependency k.waiter)
+  asked_before k e =
       let r = any_true (λ y. is_same_txn y.dependency k.dependency && is_same_txn y.waiter k.waiter && (y.from == k.from)) (w.shards node).askers e in
       let p = and_parts (is_same_txn r.0.dependency k.dependency && is_same_txn r.0.waiter k.waiter) (r.0.from == k.from) r.2 in
       let q = and_parts (is_same_txn r.0.dependency k.dependency) (is_same_txn r.0.waiter k.waiter) p.0 in
-      (quiet_left n kx, inr (r.0, (g.shards node).askers r.0 r.1, same_txn r.0.dependency k.dependency q.0, same_txn r.0.waiter k.waiter q.1, eqb-true r.0.from k.from p.1))
-  remember_go k leads dc awaits none false e here =
+      inr (r.0, (g.shards node).askers r.0 r.1, same_txn r.0.dependency k.dependency q.0, same_txn r.0.waiter k.waiter q.1, eqb-true r.0.from k.from p.1)
+
+  pub remembers_left : (k : Asker) → Leads top x node k.dependency → dc_of top node < top.dcs → WaitsFor top x (dc_of top node) k.from k.waiter k.dependency
+      → decision_of k.dependency (w.shards node) ≡ None → Here x node (quiet n (with_asker (w.shards node) k.dependency k.waiter k.from))
+      → Left top x node (quiet n (with_asker (w.shards node) k.dependency k.waiter k.from)) × Acted top x k.from node (OfDepCheck k.dependency k.waiter)
+  unfolding kx
+  remembers_left k leads dc awaits none here =
       let o = kx.entries in
       let new : AskerLive top x node k = record { leads = leads; here = dc; awaits = awaits } in (
         record {
@@ -228,14 +209,3 @@ module _ (top : TopologyValue) (w x : Run) (node n : ℕ) (some : 0 < top.shards
         },
         inr (subst (λ z. (y : Asker) × Among y z.askers × (y.dependency ≡ k.dependency) × (y.waiter ≡ k.waiter) × (y.from ≡ k.from)) (sym here.state) (k, among_last k (w.shards node).askers, refl, refl, refl)),
       )
-
-  dep_check_go : (k : Asker) → Leads top x node k.dependency → dc_of top node < top.dcs → WaitsFor top x (dc_of top node) k.from k.waiter k.dependency
-      → (o : Option Decision) → decision_of k.dependency (w.shards node) ≡ o → Here x node (dep_check_for o node n (w.shards node) k)
-      → Left top x node (dep_check_for o node n (w.shards node) k) × Acted top x k.from node (OfDepCheck k.dependency k.waiter)
-  unfolding kx
-  dep_check_go k leads dc awaits (Some d) e here = (answer_left n _ awaits kx, inl (record { message = _; among = here.sent _ (inl refl); by = refl; for = refl; is = refl }))
-  dep_check_go k leads dc awaits None e here = remember_go k leads dc awaits e _ refl here
-
-  pub dep_check_left : (k : Asker) → Leads top x node k.dependency → dc_of top node < top.dcs → WaitsFor top x (dc_of top node) k.from k.waiter k.dependency → Here x node (on_dep_check node n (w.shards node) k)
-      → Left top x node (on_dep_check node n (w.shards node) k) × Acted top x k.from node (OfDepCheck k.dependency k.waiter)
-  dep_check_left k leads dc awaits here = dep_check_go k leads dc awaits _ refl here

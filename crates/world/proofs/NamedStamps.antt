@@ -12,7 +12,8 @@ use Rattle.messages.specs.Topology.{TopologyValue}
 use Rattle.messages.specs.Honest.{StampedTxn}
 use Rattle.messages.specs.ShardEvents.{handled}
 use Rattle.shard.proofs.lists.Lists.{each_contained}
-use Rattle.shard.proofs.steps.Sending.{IsTelling, handled_gives}
+use Rattle.shard.proofs.steps.HandledCases.{IsTelling}
+use Rattle.shard.proofs.steps.Sending.{handled_gives}
 use Rattle.world.specs.Run.{Run, Event, step, run}
 use Rattle.world.specs.Named.{stamp_named, StampsAreNamed}
 use Rattle.world.proofs.Among.{Among, among_contains, contains_among, get_among}

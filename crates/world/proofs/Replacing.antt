@@ -1,6 +1,6 @@
 -- One actor of a list does its step.
 use Rattle.std.proofs.Common.{arith, ◌≡◌, ◌∙◌, ℕ, zero, suc, ◌<◌, List, [], ◌∷◌, length, slice_get, Some, Result, Ok, Err, refl, sym, ap, subst}
-use Rattle.std.specs.Prelude.{slice_set, slice_index_or, OnOk, OnErr, IfErr}
+use Rattle.std.specs.Prelude.{slice_set, slice_index_or}
 use Rattle.std.proofs.lemmas.Option.{slice_get-get_or}
 use Rattle.logical_time.specs.declared.fault.Fault.{Fault}
 use Rattle.messages.specs.declared.envelope.Envelope.{Envelope}
@@ -8,6 +8,8 @@ use Rattle.messages.specs.Topology.{TopologyValue}
 use Rattle.messages.specs.Shard.{ShardState, ShardStep}
 use Rattle.shard.specs.declared.kept.ShardKept.{ShardKept}
 use Rattle.shard.specs.Kept as shard
+pub use Rattle.shard.proofs.in_code.InPlace.{on_ok}
+pub use Rattle.shard.proofs.in_code.ShardSteps.{on_err, if_err}
 use Rattle.messages.specs.Session.{SessionState, SessionStep}
 use Rattle.messages.specs.SessionEvents.{session_taken}
 use Rattle.client.specs.declared.kept.SessionKept.{SessionKept}
@@ -34,14 +36,6 @@ shard_did top states xs place l (Ok s) before after lt are apart did =
     let d = did apart in
     (shards_go_on top states xs place l s.state are lt d.state, d.sends)
 
-pub on_ok : {X E : Type 0} {P Q : Type 0} (r : Result X E) → (P → Q) → OnOk r P → OnOk r Q
-on_ok (Ok x) f p = f p
-on_ok (Err e) f p = p
-
-pub on_err : {X E : Type 0} {P Q : Type 0} (r : Result X E) → (P → Q) → OnErr r P → OnErr r Q
-on_err (Ok x) f p = p
-on_err (Err e) f p = f p
-
 -- something stands at a place of a list
 pub at_place : {X : Type 0} (xs : List X) (n : ℕ) → n < length xs → (x : X) × (slice_get xs n ≡ Some x)
 at_place [] n lt = absurd (omega (arith, lt))
@@ -58,10 +52,6 @@ shard_still top states xs place k l lt at are goes =
           by_place xs place l (λ i m. shard.Represents top i m (states i)) lt (goes top place (states place) (shard_stands top states xs place k lt at are))
           (λ i m apart there. are.each i m there);
     }
-
-pub if_err : {X E : Type 0} {P Q : E → Type 0} (r : Result X E) → ((e : E) → P e → Q e) → IfErr r P → IfErr r Q
-if_err (Ok x) f p = p
-if_err (Err e) f p = f e p
 
 -- what the step refuses is refused so
 pub refused_as : (r : Result ShardStep Fault) (e : Fault) → r ≡ Err e → shard.IsRefusalOf r e
