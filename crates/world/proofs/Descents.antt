@@ -1,6 +1,6 @@
 -- A shard that handles a message descends: it decides a transaction, or sends only what is of a lower rank; and what it
 -- leaves to do costs less than the message did.
-use Rattle.std.proofs.Common.{◌≡◌, ℕ, ◌+◌, ◌*◌, ◌<◌, ◌≤◌, true, List, [], ◌∷◌, ◌++◌, map, length, inl, inr, refl, sym, subst, arith, le_refl}
+use Rattle.std.proofs.Common.{ℕ, ◌+◌, ◌*◌, ◌<◌, ◌≤◌, true, List, [], ◌∷◌, ◌++◌, map, length, inl, inr, refl, sym, subst, arith, le_refl}
 use Rattle.std.specs.Prelude.{nat_le}
 use Rattle.std.proofs.Math.Nat.{mul-le-mul_right}
 use Rattle.std.proofs.lemmas.List.{length-append}
@@ -19,7 +19,7 @@ use Rattle.messages.specs.Commits.{prepare_part, applied_part, with_vote, repl_p
 use Rattle.messages.specs.Replication.{ballot_of, with_ballot, dep_checks, sent_before, with_notice, with_met}
 use Rattle.messages.specs.ShardEvents.{handled}
 use Rattle.shard.proofs.steps.HandledCases.{begun, replicated, the_ballot, a_notice, an_answer, ReadyStep, misses, alone, asks, StepOf, still, begin_decides, begin_holds, prepares, vote_decides, vote_counts, vote_early, applies, lets_go, tells_commit, tells_none, reads_now, reads_collected, reads_at, waits, readies, notice_early, keeps_part, prepares_replica, tells_decided, remembers, handled_cases}
-use Rattle.world.specs.Drains.{rank, Sizes, cost_of_notice, cost_of_part, cost_of_commit, cost_of_check, cost_of_read_at, cost_of_ballot, cost, cost_of_all, cost_of_waiting}
+use Rattle.world.specs.Drains.{rank, Sizes, cost_of_notice, cost_of_part, cost_of_commit, cost_of_check, cost_of_read_at, cost_of_ballot, cost, cost_of_all}
 use Rattle.world.proofs.Among.{contains_among}
 use Rattle.world.proofs.NewDecisions.{one_more, undecided}
 use Rattle.world.proofs.Costs.{Low, low_none, low_one, low_map, low_both, cost_some, cost_each, cost_both, cost_cons}

@@ -6,7 +6,7 @@ use Rattle.std.specs.Prelude.{◌==◌, filter, option_map, option_and_then, if�
 use Rattle.std.specs.List.{cons_option}
 use Rattle.std.proofs.lemmas.Bool.{false≢true}
 use Rattle.std.proofs.lemmas.Bool.Decides.{nat_tests}
-use Rattle.logical_time.specs.Stamps.{TxnValue, WriterValue}
+use Rattle.logical_time.specs.Stamps.{WriterValue}
 use Rattle.messages.specs.declared.op.Op.{Op}
 use Rattle.messages.specs.declared.op.Op.TheVariants as op
 use Rattle.messages.specs.declared.outcome.Outcome.{Outcome}
@@ -17,7 +17,7 @@ use Rattle.messages.specs.Actors.{opening_home, home_after, home_before}
 use Rattle.messages.specs.Session.{SessionState, SessionStep, Open, Idle, Writing, FirstRound, SecondRound, Moving, Finished, is_idle, calm, ended}
 use Rattle.messages.specs.Submitting.{begun}
 use Rattle.messages.specs.SessionEvents.{heard, session_taken}
-use Rattle.world.specs.Run.{Run, Event, Submit, Submission, Completed, submission_of, completed_of, ended_by, with_ended, with_actor, with_session, submission_by, opening, continued, step, run}
+use Rattle.world.specs.Run.{Run, Event, Submit, Submission, Completed, submission_of, completed_of, ended_by, with_ended, with_session, submission_by, opening, continued, step, run}
 use Rattle.world.specs.Journals.{finished_as, ended_at}
 use Rattle.world.specs.Promises.{HomesAreOfMoves}
 use Rattle.world.proofs.Among.{Among, last_or_old, among_append, contains_among, same_txn_self}

@@ -1,7 +1,6 @@
 -- A session is always in a data centre that there is: only accepted moves change its home.
-use Rattle.std.proofs.Common.{◌≡◌, ◌∙◌, refl, sym, ap, subst, arith, ℕ, ◌+◌, ◌<◌, Bool, true, false, List, [], ◌∷◌, nat_lt, Option, Some, None, inl, inr}
+use Rattle.std.proofs.Common.{◌≡◌, ◌∙◌, refl, sym, ap, subst, arith, ℕ, ◌<◌, Bool, true, false, List, [], ◌∷◌, nat_lt, None, inl, inr}
 use Rattle.std.specs.Prelude.{◌==◌, filter, if◌then◌else◌}
-use Rattle.std.proofs.lemmas.Bool.{false≢true}
 use Rattle.std.proofs.lemmas.Bool.Decides.{nat_tests}
 use Rattle.messages.specs.declared.op.Op.{Op}
 use Rattle.messages.specs.declared.op.Op.TheVariants as op
@@ -16,7 +15,6 @@ use Rattle.world.specs.Journals.{finished_as, ended_at}
 use Rattle.world.specs.Promises.{Fits}
 use Rattle.world.proofs.Among.{Among, map_only, filter_only}
 use Rattle.world.proofs.Invariant.{Inv}
-use Rattle.world.proofs.Homes.{every_home}
 use Rattle.world.proofs.Addresses.{stands}
 use Rattle.world.proofs.Runs.{every_run}
 
@@ -89,9 +87,3 @@ home_is_there top events ok node n =
     let s = stands top ok in
     let w = run top events in
     before_there top.dcs (opening_home top node) (ended_at w node) n (s.home node) (all_there top w (every_run top events s.some) node)
-
--- so is the session now
-pub session_is_there : (top : TopologyValue) (events : List Event) → is_topology top.dcs top.shards top.homes ≡ true → (node : ℕ) → ((run top events).sessions node).home < top.dcs
-session_is_there top events ok node =
-    let w = run top events in
-    subst (λ z. z < top.dcs) (sym ((every_home top events (stands top ok).some).sessions node)) (home_is_there top events ok node ((w.sessions node).count + 1))

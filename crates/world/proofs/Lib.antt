@@ -34,7 +34,6 @@ pub mod LiveHeld
 pub mod LiveVotes
 pub mod LiveCommits
 pub mod LiveReady
-pub mod LiveInputs
 pub mod LiveReplicas
 pub mod LiveHandled
 pub mod HandledWaits

@@ -24,7 +24,7 @@ use Rattle.world.proofs.OneBatch.{applied_sees}
 use Rattle.world.proofs.OneBatch.{written_at, batch_one}
 use Rattle.world.proofs.About.{OfReplPart, OfReadAt, OfPartAt, Sent}
 use Rattle.world.proofs.Underway.{HasPrepared, HasKeptPart, Aside, Away, Onward, HasWait, Round, RoleLive, AppliedLive, ShardLive, Acted}
-use Rattle.world.proofs.LiveGrow.{sees_on, shard_on}
+use Rattle.world.proofs.LiveGrow.{stays_in, sees_on, shard_on}
 use Rattle.world.proofs.LivePlaces.{other_dc}
 use Rattle.world.proofs.LiveSteps.{Here, Fine, Left, clock_live, Rounds, let_go_sends}
 
@@ -34,7 +34,7 @@ module _ (top : TopologyValue) (w x : Run) (node n : ℕ) (some : 0 < top.shards
   kx = shard_on g live
 
   part_of_run : (p : PreparedPart) → Among p (w.shards node).prepared → PreparedSound top x node p
-  part_of_run p m = (inv.shards node).prepared p ((g.shards node).prepared p m)
+  part_of_run p m = (inv.shards node).prepared p (stays_in _ _ (g.shards node).prepared p m)
 
   -- ## Commit
 

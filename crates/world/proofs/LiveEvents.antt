@@ -22,7 +22,7 @@ use Rattle.shard.proofs.steps.Within.{handled_within, collected_within}
 use Rattle.world.proofs.Runs.{opening_holds, step_kept}
 use Rattle.world.proofs.About.{OfRead, kind_of}
 use Rattle.world.proofs.Underway.{FirstHas, SecondHas, SaysLive, Acted, Live}
-use Rattle.world.proofs.LiveGrow.{acted_on, onward_of}
+use Rattle.world.proofs.LiveGrow.{acted_on}
 use Rattle.world.proofs.HandledWaits.{handled_wait, collected_wait}
 use Rattle.world.proofs.LiveHandled.{is_for_session, handled_left, collected_left}
 use Rattle.world.proofs.LiveHeard.{is_for_shard, heard_left}
@@ -64,7 +64,7 @@ module _ (top : TopologyValue) (ok : Stands top) (w : Run) (inv : Inv top w) (li
           let st = handled top e.to n (w.shards e.to) e.from e.body in
           let ev = Deliver j in
           let x = after_shard (Ok st) w ev e.to in
-          let on = onward_of (handled_within top e.to n (w.shards e.to) e.from e.body) in
+          let on = handled_within top e.to n (w.shards e.to) e.from e.body in
           let ws = handled_wait top e.to n (w.shards e.to) e.from e.body in
           let g = shard_onward top w e.to e.from (kind_of e.body) st ev on ws in
           let later = handle_kept top w e n ev ok.some inv m q in
@@ -132,7 +132,7 @@ module _ (top : TopologyValue) (ok : Stands top) (w : Run) (inv : Inv top w) (li
           let st = collected n (w.shards node) time in
           let ev = Collect node time in
           let x = after_shard (Ok st) w ev node in
-          let on = onward_of (collected_within n (w.shards node) time) in
+          let on = collected_within n (w.shards node) time in
           let ws = collected_wait node n 0 (OfRead 0) (w.shards node) time in
           let g = shard_onward top w node 0 (OfRead 0) st ev on ws in
           shard_step_live top w node 0 (OfRead 0) st ev on ws live (λ number bound r. absurd (cc))

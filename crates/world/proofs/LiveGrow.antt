@@ -1,4 +1,5 @@
 -- What is under way stays so while all grows.
+use Rattle.std.specs.Prelude.{Contains}
 use Rattle.std.proofs.Common.{ℕ, List, inl, inr, ◌∙◌, subst, subst₂, le_refl, le_trans}
 use Rattle.logical_time.specs.Stamps.{TxnValue, WriterValue}
 use Rattle.column_family.specs.declared.batch.Change.{Change}
@@ -11,7 +12,7 @@ use Rattle.world.specs.Run.{Run, Submission}
 use Rattle.world.proofs.Among.{Among, contains_among, among_contains}
 use Rattle.world.proofs.Facts.{IsWritten, near, Sees}
 use Rattle.world.proofs.About.{Kind, OfBegin, OfPrepare, OfYes, OfCommit, OfAt, OfNotBy, OfCheck, OfRead, OfReadAt, OfReplBegin, OfReplPart, OfNotify, OfPrepareRemote, OfDepCheck, OfDepOk, OfDone, OfPartNow, OfPartAt, Sent}
-use Rattle.world.proofs.Underway.{HasPrepared, HasBallot, HasDecision, HasKeptPart, HasKeptBallot, Knows, Awaits, WaitsFor, of_ballot, of_moving, Aside, Away, AtOrigin, Leads, Placed, ShardOnward, Round, SessionOnward, Onward, RoleLive, PreparedLive, BallotLive, AppliedLive, Entries, ShardLive, SaysLive, HasEnded, WasCounted, by_ballot, by_move, Acted, SubmissionLive, OpenLive}
+use Rattle.world.proofs.Underway.{HasPrepared, HasBallot, HasDecision, HasKeptPart, HasKeptBallot, Knows, Awaits, WaitsFor, of_ballot, of_moving, Aside, Away, AtOrigin, Leads, Placed, Round, SessionOnward, Onward, RoleLive, PreparedLive, BallotLive, AppliedLive, Entries, ShardLive, SaysLive, HasEnded, WasCounted, by_ballot, by_move, Acted, SubmissionLive, OpenLive}
 use Rattle.shard.specs.Sound.{IsWithin}
 use Rattle.shard.proofs.steps.Within.{within_itself}
 
@@ -25,35 +26,38 @@ sent_on g k = sent_in g.sent k
 
 -- ## What a shard has of a transaction
 
-pub prepared_on : {a b : ShardState} {t : TxnValue} → ShardOnward a b → HasPrepared a t → HasPrepared b t
-prepared_on g k = (k.0, g.prepared k.0 k.1, k.2)
+pub stays_in : {X : Type 0} (xs ys : List X) → ((y : X) → Contains xs y → Contains ys y) → (y : X) → Among y xs → Among y ys
+stays_in xs ys f y m = contains_among y ys (f y (among_contains y xs m))
 
-pub ballot_on : {a b : ShardState} {t : TxnValue} → ShardOnward a b → HasBallot a t → HasBallot b t
-ballot_on g k = (k.0, g.ballots k.0 k.1, k.2)
+pub prepared_on : {a b : ShardState} {t : TxnValue} → IsWithin a b → HasPrepared a t → HasPrepared b t
+prepared_on g k = (k.0, stays_in _ _ g.prepared k.0 k.1, k.2)
 
-pub decision_on : {a b : ShardState} {t : TxnValue} → ShardOnward a b → HasDecision a t → HasDecision b t
-decision_on g k = (k.0, g.decided k.0 k.1, k.2)
+pub ballot_on : {a b : ShardState} {t : TxnValue} → IsWithin a b → HasBallot a t → HasBallot b t
+ballot_on g k = (k.0, stays_in _ _ g.ballots k.0 k.1, k.2)
 
-pub kept_part_on : {a b : ShardState} {t : TxnValue} → ShardOnward a b → HasKeptPart a t → HasKeptPart b t
-kept_part_on g k = (k.0, g.kept_parts k.0 k.1, k.2)
+pub decision_on : {a b : ShardState} {t : TxnValue} → IsWithin a b → HasDecision a t → HasDecision b t
+decision_on g k = (k.0, stays_in _ _ g.decided k.0 k.1, k.2)
 
-pub kept_ballot_on : {a b : ShardState} {t : TxnValue} → ShardOnward a b → HasKeptBallot a t → HasKeptBallot b t
-kept_ballot_on g k = (k.0, g.kept_ballots k.0 k.1, k.2)
+pub kept_part_on : {a b : ShardState} {t : TxnValue} → IsWithin a b → HasKeptPart a t → HasKeptPart b t
+kept_part_on g k = (k.0, stays_in _ _ g.kept_parts k.0 k.1, k.2)
 
-pub known_on : {a b : ShardState} {t : TxnValue} → ShardOnward a b → Knows a t → Knows b t
+pub kept_ballot_on : {a b : ShardState} {t : TxnValue} → IsWithin a b → HasKeptBallot a t → HasKeptBallot b t
+kept_ballot_on g k = (k.0, stays_in _ _ g.kept_ballots k.0 k.1, k.2)
+
+pub known_on : {a b : ShardState} {t : TxnValue} → IsWithin a b → Knows a t → Knows b t
 known_on g (inl k) = inl (prepared_on g k)
 known_on g (inr k) = inr (decision_on g k)
 
-pub awaits_on : {a b : ShardState} {waiter dependency : TxnValue} → ShardOnward a b → Awaits a waiter dependency → Awaits b waiter dependency
-awaits_on g k = record { ballot = k.ballot; among = g.kept_ballots k.ballot k.among; txn = k.txn; writer = k.writer; named = k.named; is = k.is }
+pub awaits_on : {a b : ShardState} {waiter dependency : TxnValue} → IsWithin a b → Awaits a waiter dependency → Awaits b waiter dependency
+awaits_on g k = record { ballot = k.ballot; among = stays_in _ _ g.kept_ballots k.ballot k.among; txn = k.txn; writer = k.writer; named = k.named; is = k.is }
 
 pub waits_for_on : {top : TopologyValue} {w x : Run} {dc from : ℕ} {waiter dependency : TxnValue} → Onward top w x → WaitsFor top w dc from waiter dependency
     → WaitsFor top x dc from waiter dependency
 waits_for_on {from = from} g (of_ballot k) = of_ballot (awaits_on (g.shards from) k)
 waits_for_on g (of_moving b m is own to k n q) = of_moving b (g.submitted b m) is own to k n q
 
-pub sees_on : {a b : ShardState} {t : TxnValue} → ShardOnward a b → Sees a.applied t → Sees b.applied t
-sees_on g k = (k.0, g.applied k.0 k.1, k.2)
+pub sees_on : {a b : ShardState} {t : TxnValue} → IsWithin a b → Sees a.applied t → Sees b.applied t
+sees_on g k = (k.0, stays_in _ _ g.applied k.0 k.1, k.2)
 
 -- ## Where a transaction belongs
 
@@ -162,14 +166,14 @@ says_on top from to g (OfPartNow number) k = le_trans k (g.sessions to).count
 says_on top from to g (OfPartAt number time) k = round_on to number time g k
 
 pub counted_on : {top : TopologyValue} {w x : Run} (to : ℕ) (waiter dependency : TxnValue) → Onward top w x → WasCounted w to waiter dependency → WasCounted x to waiter dependency
-counted_on to waiter dependency g (by_ballot k m) = by_ballot (kept_ballot_on (g.shards to) k) ((g.shards to).met _ m)
+counted_on to waiter dependency g (by_ballot k m) = by_ballot (kept_ballot_on (g.shards to) k) (stays_in _ _ (g.shards to).met _ m)
 counted_on to waiter dependency g (by_move b m is dc moves k) = by_move b (g.submitted b m) is dc moves ((g.sessions to).left waiter.number dependency k)
 
 pub acted_on : (top : TopologyValue) {w x : Run} (from to : ℕ) → Onward top w x → (k : Kind) → Acted top w from to k → Acted top x from to k
 acted_on top from to g (OfBegin t) k = known_on (g.shards to) k
 acted_on top from to g (OfPrepare t) k = known_on (g.shards to) k
-acted_on top from to g (OfYes t) (inl k) = inl ((g.shards to).votes _ k)
-acted_on top from to g (OfYes t) (inr (inl k)) = inr (inl ((g.shards to).early _ k))
+acted_on top from to g (OfYes t) (inl k) = inl (stays_in _ _ (g.shards to).votes _ k)
+acted_on top from to g (OfYes t) (inr (inl k)) = inr (inl (stays_in _ _ (g.shards to).early _ k))
 acted_on top from to g (OfYes t) (inr (inr k)) = inr (inr (decision_on (g.shards to) k))
 acted_on top from to g (OfCommit t) k = sees_on (g.shards to) k
 acted_on top from to g (OfAt t) k = tt
@@ -188,11 +192,11 @@ acted_on top from to g (OfReplBegin t) (inr k) = inr (known_on (g.shards to) k)
 acted_on top from to g (OfReplPart t) (inl k) = inl (kept_part_on (g.shards to) k)
 acted_on top from to g (OfReplPart t) (inr (inl k)) = inr (inl (kept_ballot_on (g.shards to) k))
 acted_on top from to g (OfReplPart t) (inr (inr k)) = inr (inr (known_on (g.shards to) k))
-acted_on top from to g (OfNotify t) (inl k) = inl ((g.shards to).notices _ k)
+acted_on top from to g (OfNotify t) (inl k) = inl (stays_in _ _ (g.shards to).notices _ k)
 acted_on top from to g (OfNotify t) (inr k) = inr (known_on (g.shards to) k)
 acted_on top from to g (OfPrepareRemote t) k = known_on (g.shards to) k
 acted_on top from to g (OfDepCheck dependency waiter) (inl k) = inl (sent_on g k)
-acted_on top from to g (OfDepCheck dependency waiter) (inr k) = inr (k.0, (g.shards to).askers k.0 k.1, k.2, k.3, k.4)
+acted_on top from to g (OfDepCheck dependency waiter) (inr k) = inr (k.0, stays_in _ _ (g.shards to).askers k.0 k.1, k.2, k.3, k.4)
 acted_on top from to g (OfDepOk dependency waiter) k = counted_on to waiter dependency g k
 acted_on top from to g (OfDone t) k = ended_on g k
 acted_on top from to g (OfPartNow number) k = (g.sessions to).missing number from k
@@ -205,24 +209,8 @@ submission_on g k = record { home = k.home; begun = sent_on g k.begun; prepared 
 
 -- ## Onward of one actor that doesn't change
 
--- what a shard keeps goes on
-pub onward_of : {a b : ShardState} → IsWithin a b → ShardOnward a b
-onward_of g = record {
-  prepared = λ y m. contains_among y _ (g.prepared y (among_contains y _ m));
-  ballots = λ y m. contains_among y _ (g.ballots y (among_contains y _ m));
-  early = λ y m. contains_among y _ (g.early y (among_contains y _ m));
-  votes = λ y m. contains_among y _ (g.votes y (among_contains y _ m));
-  decided = λ y m. contains_among y _ (g.decided y (among_contains y _ m));
-  applied = λ y m. contains_among y _ (g.applied y (among_contains y _ m));
-  kept_parts = λ y m. contains_among y _ (g.kept_parts y (among_contains y _ m));
-  kept_ballots = λ y m. contains_among y _ (g.kept_ballots y (among_contains y _ m));
-  notices = λ y m. contains_among y _ (g.notices y (among_contains y _ m));
-  met = λ y m. contains_among y _ (g.met y (among_contains y _ m));
-  askers = λ y m. contains_among y _ (g.askers y (among_contains y _ m));
-}
-
-pub same_shard_on : (a : ShardState) → ShardOnward a a
-same_shard_on a = onward_of (within_itself a)
+pub same_shard_on : (a : ShardState) → IsWithin a a
+same_shard_on a = within_itself a
 
 pub same_session_on : (top : TopologyValue) (a : SessionState) → SessionOnward top a a
 same_session_on top a =

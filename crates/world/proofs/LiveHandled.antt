@@ -18,13 +18,12 @@ use Rattle.world.proofs.Invariant.{Says, Inv}
 use Rattle.world.proofs.Ables.{absent}
 use Rattle.world.proofs.About.{Kind, OfDone, OfPartNow, OfPartAt, Sent, kind_of}
 use Rattle.world.proofs.Underway.{vote_of, Knows, AtOrigin, Placed, Onward, ShardLive, SaysLive, Acted, Live}
-use Rattle.world.proofs.LiveGrow.{prepared_on, kept_ballot_on, known_on, kept_part_on, waits_for_on, aside_on, away_on, origin_on, leads_on, placed_on, round_on, shard_on}
+use Rattle.world.proofs.LiveGrow.{stays_in, prepared_on, kept_ballot_on, known_on, kept_part_on, waits_for_on, aside_on, away_on, origin_on, leads_on, placed_on, round_on, shard_on}
 use Rattle.world.proofs.LivePlaces.{prepared_found}
 use Rattle.world.proofs.LiveSteps.{Here, Fine, Left, clock_live, quiet_left, answer_left, Rounds, ballot_at}
 use Rattle.world.proofs.LiveVotes.{known_at_origin, begin_decides_left, begin_holds_left, prepares_left, vote_decides_left, vote_counts_left, counted_before, early_before, early_left}
 use Rattle.world.proofs.LiveCommits.{applies_left, applied_before, not_by_left, waits_already, waits_left}
-use Rattle.world.proofs.LiveInputs.{known_replica, notice_before, notice_left, early_notice_before, early_notice_left, answer_before, answer_counts_left, awaits_here, was_counted}
-use Rattle.world.proofs.LiveReplicas.{repl_begin_left, part_before, keeps_part_left, prepares_replica_left, asked_before, remembers_left}
+use Rattle.world.proofs.LiveReplicas.{known_replica, notice_before, notice_left, early_notice_before, early_notice_left, answer_before, answer_counts_left, awaits_here, was_counted, repl_begin_left, part_before, keeps_part_left, prepares_replica_left, asked_before, remembers_left}
 
 -- a message that leaves something at a session alone
 abbrev pub is_for_session : Kind → Bool
@@ -66,7 +65,7 @@ module _ (top : TopologyValue) (w x : Run) (node n : ℕ) (some : 0 < top.shards
   ignored_acts from time (Prepare t rows coordinator) e old says k f =
       known_at_origin top w x node n some inv g here_live rounds t (record { submission = says.submission; batch = says.batch; written = says.written; here = says.origin }) e
   ignored_acts from time (Yes t) (inl (b, is, e)) old says (o, aside, leads, dc) f =
-      inl ((g.shards node).votes (vote_of t from)
+      inl (stays_in _ _ (g.shards node).votes (vote_of t from)
       (counted_before top w x node n some inv g here_live rounds t from (says_on_origin o) (aside_on g aside) (leads_on g leads) dc b (contains_among b _ is.among) is.txn e))
   ignored_acts from time (Yes t) (inr (none, e)) old says (o, aside, leads, dc) f =
       early_before top w x node n some inv g here_live rounds t from (says_on_origin o) (aside_on g aside) (leads_on g leads) dc none e
@@ -81,7 +80,7 @@ module _ (top : TopologyValue) (w x : Run) (node n : ℕ) (some : 0 < top.shards
         | inl y ↦ inl (kept_ballot_on (g.shards node) y)
         | inr y ↦ inr y
       ]
-  ignored_acts from time (ReplPart t rows stamp coordinator) e old says k f = part_before top w x node n some inv g here_live rounds t e
+  ignored_acts from time (ReplPart t rows stamp coordinator) e old says k f = part_before top w x node n some was inv g here_live rounds t e
   ignored_acts from time (Notify t) (inl (r, has, is, e)) old says k f =
       inl (notice_before top w x node n some was inv g here_live rounds t from (kept_part_on (g.shards from) k.0) k.2 r (contains_among r _ has) is e)
   ignored_acts from time (Notify t) (inr (none, e)) old says k f =
@@ -90,7 +89,7 @@ module _ (top : TopologyValue) (w x : Run) (node n : ℕ) (some : 0 < top.shards
       absurd (absent (λ p. p.txn) t (w.shards node).kept_parts (find_none (λ p. is_same_txn p.txn t) (w.shards node).kept_parts e) k.0.0 k.0.1 k.0.2)
   ignored_acts from time (PrepareRemote t) (inr e) old says k f = inl (prepared_on (g.shards node) (prepared_found t (w.shards node) e))
   ignored_acts from time (DepCheck dependency waiter) (none, e) old says k f =
-      asked_before top w x node n some inv g here_live rounds (record { dependency = dependency; waiter = waiter; from = from }) e
+      asked_before top w x node n some was inv g here_live rounds (record { dependency = dependency; waiter = waiter; from = from }) e
   ignored_acts from time (DepOk dependency waiter commit) e old says k f =
       let awaits = awaits_here top w x node n some was inv g here_live rounds (dc_of top from) waiter dependency none k in
       was_counted top w x node n some was inv g here_live rounds waiter dependency awaits (answer_before top w x node n some was inv g here_live rounds waiter dependency awaits e)
@@ -139,7 +138,7 @@ module _ (top : TopologyValue) (w x : Run) (node n : ℕ) (some : 0 < top.shards
       let r = waits_left top w x node n some inv g here_live rounds from number bound read u us here in (r.0, λ f. inr (inl r.1))
   step_left from time m st (readies (the_ballot t rows stamp cohorts dependencies new) step) old says k here =
       let kept = replicated t rows stamp cohorts dependencies in
-      let r = repl_begin_left top w x node n some inv g here_live rounds kept (away_on g k.0) k.1 (placed kept time old) new _ step here in (r.0, λ f. inl r.1)
+      let r = repl_begin_left top w x node n some was inv g here_live rounds kept (away_on g k.0) k.1 (placed kept time old) new _ step here in (r.0, λ f. inl r.1)
   step_left from time m st (readies (a_notice t kept has is awaited unready) step) old says k here =
       let r = notice_left top w x node n some was inv g here_live rounds t from (kept_part_on (g.shards from) k.0) (leads_on g k.1) k.2 kept (contains_among kept _ has) is unready _ step here in
       (r.0, λ f. inl r.1)
@@ -149,14 +148,14 @@ module _ (top : TopologyValue) (w x : Run) (node n : ℕ) (some : 0 < top.shards
   step_left from time m st (notice_early t none new first) old says k here =
       let r = early_notice_left top w x node n some was inv g here_live rounds t from (kept_part_on (g.shards from) k.0) (leads_on g k.1) k.2 none here in (r.0, λ f. r.1)
   step_left from time m st (keeps_part t rows stamp coordinator new) old says k here =
-      let r = keeps_part_left top w x node n some inv g here_live rounds (copied t rows stamp coordinator) says (away_on g k.1) k.2 here in (r.0, λ f. inl r.1)
+      let r = keeps_part_left top w x node n some was inv g here_live rounds (copied t rows stamp coordinator) says (away_on g k.1) k.2 here in (r.0, λ f. inl r.1)
   step_left from time m st (prepares_replica t kept has is new) old says k here =
-      let r = prepares_replica_left top w x node n some inv g here_live rounds from t (known_on (g.shards from) k.1) (leads_on g k.2) k.3 kept (contains_among kept _ has) is here in
+      let r = prepares_replica_left top w x node n some was inv g here_live rounds from t (known_on (g.shards from) k.1) (leads_on g k.2) k.3 kept (contains_among kept _ has) is here in
       (r.0, λ f. r.1)
   step_left from time m st (tells_decided dependency waiter d has is) old says k here =
       let r = answers_left _ (waits_for_on g k.2) here in (r.0, λ f. inl r.1)
   step_left from time m st (remembers dependency waiter none new) old says k here =
-      let r = remembers_left top w x node n some inv g here_live rounds (record { dependency = dependency; waiter = waiter; from = from }) (leads_on g k.0) k.1 (waits_for_on g k.2) none here in
+      let r = remembers_left top w x node n some was inv g here_live rounds (record { dependency = dependency; waiter = waiter; from = from }) (leads_on g k.0) k.1 (waits_for_on g k.2) none here in
       (r.0, λ f. r.1)
 
   body_left : (from time : ℕ) (b : Body) → Says top w from node time b → Says top x from node time b → SaysLive top w from node (kind_of b) → Here x node (handled top node n (w.shards node) from b)

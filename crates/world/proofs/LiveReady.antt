@@ -1,5 +1,5 @@
 -- What a replicated ballot leaves under way once its last missing thing is there.
-use Rattle.std.proofs.Common.{◌≡◌, ℕ, ◌<◌, true, false, List, [], ◌∷◌, ◌++◌, map, None, ◌⊎◌, inl, inr, refl, sym, ap, ◌∙◌, subst}
+use Rattle.std.proofs.Common.{◌≡◌, ℕ, ◌<◌, true, List, [], ◌∷◌, ◌++◌, map, None, ◌⊎◌, inl, inr, refl, sym, ap, ◌∙◌, subst}
 use Rattle.std.proofs.lemmas.Bool.{false≢true, and_parts, and_from}
 use Rattle.logical_time.specs.Stamps.{TxnValue, WriterValue}
 use Rattle.planner.specs.Plan.{cohorts_of}
@@ -9,7 +9,7 @@ use Rattle.messages.specs.Topology.{TopologyValue, dc_of, shard_node}
 use Rattle.messages.specs.Words.{envelope}
 use Rattle.messages.specs.Shard.{ShardState, ShardStep, Vote, KeptBallot}
 use Rattle.messages.specs.Known.{has_vote, all_voted, all_met}
-use Rattle.messages.specs.Replication.{ballot_of, is_ready, ready}
+use Rattle.messages.specs.Replication.{ballot_of, is_ready}
 use Rattle.world.specs.Run.{Run}
 use Rattle.world.proofs.Among.{Among, among_append, all_among, map_only, map_among}
 use Rattle.world.proofs.Facts.{near, KeptBallotSound}
@@ -22,7 +22,7 @@ use Rattle.world.proofs.LivePlaces.{txn_split, vote_from, all_voted_from, all_me
 use Rattle.world.proofs.LiveSteps.{Here, Fine, Left, quiet_left, Rounds, BallotAt, kept_at, ballot_leads, some_none}
 use Rattle.world.proofs.LiveDecides.{decide_left}
 use Rattle.world.proofs.LiveHeld.{hold_left, hold_known}
-use Rattle.world.proofs.LiveGrow.{onward_of}
+use Rattle.world.proofs.LiveGrow.{stays_in}
 use Rattle.shard.proofs.steps.HandledCases.{ReadyStep, misses, alone, asks}
 use Rattle.shard.proofs.steps.Within.{ready_step_in}
 
@@ -35,7 +35,7 @@ module _ (top : TopologyValue) (x : Run) (node n : ℕ) (some : 0 < top.shards) 
     → ((k : WriterValue) → Among k u.dependencies → Among (met_of u.txn k.txn) a.met) → Knows a u.txn)
     (unvoted : (v : Vote) → Among v a.votes → v.txn ≡ r.txn → ⊥) where
   sound : (u : KeptBallot) → Among u a.kept_ballots → KeptBallotSound top x node (x.shards node).clock u
-  sound u m = (inv.shards node).kept_ballots u (subst (λ z. Among u z.kept_ballots) (sym here.state) ((onward_of (ready_step_in top node n a r st step)).kept_ballots u m))
+  sound u m = (inv.shards node).kept_ballots u (subst (λ z. Among u z.kept_ballots) (sym here.state) (stays_in _ _ (ready_step_in top node n a r st step).kept_ballots u m))
 
   kept_ballot_at : BallotAt top x node (ballot_of r)
   kept_ballot_at = kept_at (sound r kept)

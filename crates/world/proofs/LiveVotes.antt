@@ -18,7 +18,7 @@ use Rattle.world.proofs.Invariant.{PrepareSound, Inv}
 use Rattle.world.proofs.Ables.{absent, unbegun, unprepared, undecided}
 use Rattle.world.proofs.Near.{near_dc, coordinator_below}
 use Rattle.world.proofs.Underway.{HasPrepared, HasDecision, Knows, vote_of, Away, AtOrigin, Onward, ShardLive, EarlyLive, HasBallot, Aside, Leads, RoleLive, Entries, EarlyCounted, Acted}
-use Rattle.world.proofs.LiveGrow.{prepared_on, decision_on, shard_on}
+use Rattle.world.proofs.LiveGrow.{stays_in, prepared_on, decision_on, shard_on}
 use Rattle.world.proofs.LivePlaces.{same_at, all_voted_from, known_cases, decision_found, away_origin, near_leads, not_and, txn_split, vote_from, lead_beside, among_cohorts}
 use Rattle.world.proofs.LiveSteps.{Here, Left, Rounds, BallotAt, quiet_left, ballot_at}
 use Rattle.world.proofs.LiveDecides.{decide_left, decide_known}
@@ -105,7 +105,7 @@ module _ (top : TopologyValue) (w x : Run) (node n : ℕ) (some : 0 < top.shards
   -- ## Yes
 
   ballot_of_run : (b : BegunBallot) → Among b (w.shards node).ballots → BallotAt top x node b
-  ballot_of_run b m = ballot_at ((inv.shards node).ballots b ((g.shards node).ballots b m))
+  ballot_of_run b m = ballot_at ((inv.shards node).ballots b (stays_in _ _ (g.shards node).ballots b m))
 
   -- two ballots of a transaction have the same cohorts
   same_cohorts : (u b : BegunBallot) → Among u (w.shards node).ballots → Among b (w.shards node).ballots → u.txn ≡ b.txn → b.cohorts ≡ u.cohorts
@@ -121,7 +121,7 @@ module _ (top : TopologyValue) (w x : Run) (node n : ℕ) (some : 0 < top.shards
       elim (known_cases t (w.shards node) e) [
         | inl b ↦ absurd (none b.0 b.1 b.2)
         | inr (inl p) ↦ absurd (part_go p.0 p.1 p.2)
-        | inr (inr (inl k)) ↦ absurd (let s = (inv.shards node).kept_parts k.0 ((g.shards node).kept_parts k.0 k.1) in lead_beside top x some inv.submitted node t leads (record { submission = s.submission; batch = s.batch; written = written_at k.2 s.written; cohort = s.cohort }))
+        | inr (inr (inl k)) ↦ absurd (let s = (inv.shards node).kept_parts k.0 (stays_in _ _ (g.shards node).kept_parts k.0 k.1) in lead_beside top x some inv.submitted node t leads (record { submission = s.submission; batch = s.batch; written = written_at k.2 s.written; cohort = s.cohort }))
         | inr (inr (inr (inl r))) ↦ elim says [
           | inl o ↦ absurd (away_origin top x some inv.submitted node t (subst (λ z. Away top x node z) r.2 (kx.entries.kept_ballots r.0 r.1).away) o)
           | inr (inl p) ↦ absurd (part_go p.0 p.1 p.2)
@@ -135,10 +135,10 @@ module _ (top : TopologyValue) (w x : Run) (node n : ℕ) (some : 0 < top.shards
           let b = subst (λ z. RoleLive z w node (near top node p.coordinator) p.txn) r (live.entries.prepared p m) in
           none b.0 b.1 (b.2 ∙ q)
       role_go p Cohort r m q =
-          let s = (inv.shards node).prepared p ((g.shards node).prepared p m) in
+          let s = (inv.shards node).prepared p (stays_in _ _ (g.shards node).prepared p m) in
           lead_beside top x some inv.submitted node t leads (record { submission = s.submission; batch = s.batch; written = written_at q s.written; cohort = subst (λ z. RoleFits z top s.batch node) r s.role })
       role_go p Replica r m q =
-          let s = (inv.shards node).prepared p ((g.shards node).prepared p m) in
+          let s = (inv.shards node).prepared p (stays_in _ _ (g.shards node).prepared p m) in
           lead_beside top x some inv.submitted node t leads (record { submission = s.submission; batch = s.batch; written = written_at q s.written; cohort = subst (λ z. RoleFits z top s.batch node) r s.role })
 
       part_go : (p : PreparedPart) → Among p (w.shards node).prepared → p.txn ≡ t → ⊥
@@ -160,7 +160,7 @@ module _ (top : TopologyValue) (w x : Run) (node n : ℕ) (some : 0 < top.shards
           early = e.early;
           votes = λ v i. elim (last_or_old v (vote_of b.txn from) (w.shards node).votes i) [
             | inl o ↦ e.votes v o
-            | inr q ↦ subst (λ z. HasBallot (x.shards node) z.txn) (sym q) (b, (g.shards node).ballots b m, refl)
+            | inr q ↦ subst (λ z. HasBallot (x.shards node) z.txn) (sym q) (b, stays_in _ _ (g.shards node).ballots b m, refl)
           ];
           notices = e.notices;
           decided = e.decided;
@@ -239,7 +239,7 @@ module _ (top : TopologyValue) (w x : Run) (node n : ℕ) (some : 0 < top.shards
         → Acted top x from node (OfYes t)
     early_before none (inl e) =
         inr (inr (decision_on (g.shards node) (elim (standing_none t (w.shards node) none) [ inl d ↦ d | inr i ↦ unstanding t leads says i e ])))
-    early_before none (inr f) = inr (inl ((g.shards node).early (vote_of t from) (vote_from (w.shards node).early t from f)))
+    early_before none (inr f) = inr (inl (stays_in _ _ (g.shards node).early (vote_of t from) (vote_from (w.shards node).early t from f)))
 
     pub early_left : is_known t (w.shards node) ≡ false → Here x node (quiet n (with_early (w.shards node) t from))
         → Left top x node (quiet n (with_early (w.shards node) t from)) × Acted top x from node (OfYes t)

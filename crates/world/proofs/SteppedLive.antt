@@ -8,6 +8,7 @@ use Rattle.messages.specs.Topology.{TopologyValue}
 use Rattle.messages.specs.Shard.{ShardState, ShardStep, WaitingRead}
 use Rattle.messages.specs.Session.{SessionState, SessionStep, is_idle}
 use Rattle.messages.specs.SessionEvents.{session_taken}
+use Rattle.shard.specs.Sound.{IsWithin}
 use Rattle.world.specs.Run.{Run, Event, Submission, with_actor, ended_by, after_shard, after_session}
 use Rattle.world.specs.Quiet.{number_delivered, handled}
 use Rattle.world.proofs.Among.{Among, among_append, append_first, append_second}
@@ -15,17 +16,17 @@ use Rattle.world.proofs.Transcripts.{old_stays, ended_is_last}
 use Rattle.world.proofs.Facts.{txn_of}
 use Rattle.world.proofs.ShardSteps.{actor_same}
 use Rattle.world.proofs.About.{Kind, OfReadAt, OfPartAt, kind_of, Sent}
-use Rattle.world.proofs.Underway.{Placed, ShardOnward, SessionOnward, Round, HasWait, Waiting, WaitStep, Onward, ShardLive, Acted, HasEnded, OpenLive, StillOpen, Live}
+use Rattle.world.proofs.Underway.{Placed, SessionOnward, Round, HasWait, Waiting, WaitStep, Onward, ShardLive, Acted, HasEnded, OpenLive, StillOpen, Live}
 use Rattle.world.proofs.LiveGrow.{sent_in, placed_on, shard_on, round_on, ended_on, open_on, says_on, acted_on, submission_on, same_shard_on, same_session_on}
 use Rattle.world.proofs.LiveSteps.{Here, Left}
 use Rattle.world.proofs.LiveSessions.{Comes, Went}
 use Rattle.world.proofs.Stations.{handled_more, get_front}
 
-shard_actor_on : (f : ℕ → ShardState) (node : ℕ) (b : ShardState) → ShardOnward (f node) b → (m : ℕ) → ShardOnward (f m) (with_actor f node b m)
+shard_actor_on : (f : ℕ → ShardState) (node : ℕ) (b : ShardState) → IsWithin (f node) b → (m : ℕ) → IsWithin (f m) (with_actor f node b m)
 shard_actor_on f node b g m = go (m == node) refl
   where
-    go : (t : Bool) → (m == node) ≡ t → ShardOnward (f m) (cond t b (f m))
-    go true e = subst (λ k. ShardOnward (f k) b) (sym (eqb-true m node e)) g
+    go : (t : Bool) → (m == node) ≡ t → IsWithin (f m) (cond t b (f m))
+    go true e = subst (λ k. IsWithin (f k) b) (sym (eqb-true m node e)) g
     go false e = same_shard_on (f m)
 
 pub session_actor_on : (top : TopologyValue) (f : ℕ → SessionState) (node : ℕ) (b : SessionState) → SessionOnward top (f node) b → (m : ℕ)
@@ -61,7 +62,7 @@ still_so e k = record { number = k.number ∙ ap (λ a. a.count) (sym e); curren
 
 -- ## A shard's step
 
-module _ (top : TopologyValue) (w : Run) (node from : ℕ) (kind : Kind) (st : ShardStep) (ev : Event) (on : ShardOnward (w.shards node) st.state)
+module _ (top : TopologyValue) (w : Run) (node from : ℕ) (kind : Kind) (st : ShardStep) (ev : Event) (on : IsWithin (w.shards node) st.state)
     (ws : WaitStep node (w.shards node) st.state st.sends from kind) where
   abbrev x : Run
   x = after_shard (Ok st) w ev node

@@ -13,6 +13,7 @@ use Rattle.messages.specs.Shard.{ShardState, Role, Own, Cohort, Replica, Prepare
 use Rattle.messages.specs.Session.{SessionState, Open, Idle, Writing, FirstRound, SecondRound, Moving, is_idle}
 use Rattle.messages.specs.Rounds.{asked_nodes, is_missing, is_missing_at}
 use Rattle.messages.specs.SessionEvents.{is_left}
+use Rattle.shard.specs.Sound.{IsWithin}
 use Rattle.world.specs.Run.{Run, Submission, Completed}
 use Rattle.world.specs.Quiet.{handled}
 use Rattle.world.proofs.Among.{Among}
@@ -99,19 +100,6 @@ pub record Placed (top : TopologyValue) (w : Run) (k : WriterValue) : Type 0 whe
 
 -- ## What only grows
 
-pub record ShardOnward (a b : ShardState) : Type 0 where
-  pub prepared : (y : PreparedPart) → Among y a.prepared → Among y b.prepared
-  pub ballots : (y : BegunBallot) → Among y a.ballots → Among y b.ballots
-  pub early : (y : Vote) → Among y a.early → Among y b.early
-  pub votes : (y : Vote) → Among y a.votes → Among y b.votes
-  pub decided : (y : Decision) → Among y a.decided → Among y b.decided
-  pub applied : (y : Applied) → Among y a.applied → Among y b.applied
-  pub kept_parts : (y : KeptPart) → Among y a.kept_parts → Among y b.kept_parts
-  pub kept_ballots : (y : KeptBallot) → Among y a.kept_ballots → Among y b.kept_ballots
-  pub notices : (y : Vote) → Among y a.notices → Among y b.notices
-  pub met : (y : Met) → Among y a.met → Among y b.met
-  pub askers : (y : Asker) → Among y a.askers → Among y b.askers
-
 -- the open first round misses no answer of this shard
 abbrev pub FirstHas : TopologyValue → SessionState → Open → ℕ → Type 0
 FirstHas top a (FirstRound read heard) node = is_missing (asked_nodes top a read) heard node ≡ false
@@ -188,7 +176,7 @@ pub record WaitStep (node : ℕ) (a b : ShardState) (sends : List Envelope) (fro
   pub kept : (y : WaitingRead) → Among y a.waiting → HasWait b y.session y.number y.time ⊎ Sent sends node y.session (OfPartAt y.number y.time)
 
 pub record Onward (top : TopologyValue) (w x : Run) : Type 0 where
-  pub shards : (node : ℕ) → ShardOnward (w.shards node) (x.shards node)
+  pub shards : (node : ℕ) → IsWithin (w.shards node) (x.shards node)
   pub sessions : (node : ℕ) → SessionOnward top (w.sessions node) (x.sessions node)
   pub waits : (node : ℕ) (y : WaitingRead) → Among y (w.shards node).waiting → HasWait (x.shards node) y.session y.number y.time ⊎ Sent x.sent node y.session (OfPartAt y.number y.time)
   pub sent : (e : Envelope) → Among e w.sent → Among e x.sent

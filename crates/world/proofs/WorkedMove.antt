@@ -1,5 +1,5 @@
 -- The past of a read right after a move, and the run of a move that is quiet.
-use Rattle.std.proofs.Common.{◌≡◌, refl, [], ◌∷◌, length}
+use Rattle.std.proofs.Common.{refl, [], ◌∷◌, length}
 use Rattle.slice.specs.declared.predicate.Predicate.TheVariants.{Names}
 use Rattle.messages.specs.declared.op.Op.TheVariants as op
 use Rattle.world.specs.Run.{Completed, Submission}
