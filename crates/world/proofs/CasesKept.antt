@@ -48,7 +48,7 @@ vote_prepared top w node n t votes cohorts k e c m =
     let p = and_parts (is_same_txn r.0.txn t) (r.0.node == near top node c) r.2 in
     subst₂ (λ u z. PreparedBefore w z u n) (same_txn r.0.txn t p.0) (eqb-true r.0.node (near top node c) p.1) (k r.0 r.1)
 
--- an input of a vote's kind is stored: no other list is longer
+-- a cohort has prepared its part, and its vote is here
 module _ (top : TopologyValue) (w : Run) (node n from : ℕ) (t : TxnValue) (some : 0 < top.shards) (inv : Inv top w) (lt : (w.shards node).clock < n)
     (k : PreparedBefore w from t n) where
   -- a vote is counted first
@@ -236,6 +236,8 @@ module _ (top : TopologyValue) (w : Run) (node n : ℕ) (inv : Inv top w) (lt : 
       let q = map_only (check_of top node n time) (k ∷ ks) u m in
       subst (λ z. EnvelopeSound top x z) (sym q.2) (asked_sound some x time read q.0 gr le (subst (λ l. Among q.0 l) (sym e) q.1)))
 
+-- ## ReplPart
+
 -- a part is kept, and its coordinator gets a notice
 pub keeps_part_able : (top : TopologyValue) (w : Run) (node n : ℕ) (k : KeptPart) → Inv top w → (w.shards node).clock < n → KeptPartSound top w node k
     → Able top w node (w.shards node)
@@ -299,6 +301,8 @@ remember_able top w node n from dependency waiter inv lt here =
       };
     }
 
+-- ## A replicated ballot
+
 -- these envelopes are sent before
 pub before_able : (top : TopologyValue) (w : Run) (node : ℕ) (a : ShardState) (sends : List Envelope) (st : ShardStep) → ((x : Run) → Grows top w x → (e : Envelope) → Among e sends → EnvelopeSound top x e)
     → Able top w node a st → Able top w node a (sent_before sends st)
@@ -323,9 +327,7 @@ before_able top w node a sends st f k =
           };
     }
 
--- ## The last missing thing is there
-
--- At a shard that differs in kept inputs alone, whose answers are right
+-- the last missing thing is there, at a shard that differs in kept inputs alone, whose answers are right
 module _ (top : TopologyValue) (w : Run) (node n : ℕ) (a : ShardState) (some : 0 < top.shards) (inv : Inv top w) (lt : (w.shards node).clock < n) (like : Alike (w.shards node) a)
     (met : (m : Met) → Among m a.met → IsDone top w (dc_of top node) m.dependency n) where
   once_here : DecidedOnce a.decided

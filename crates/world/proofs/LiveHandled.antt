@@ -57,45 +57,45 @@ module _ (top : TopologyValue) (w x : Run) (node n : ℕ) (some : 0 < top.shards
   kx = shard_on g here_live
 
   -- a message that is ignored has left before what it leaves
-  ignored_acts : (from time : ℕ) (m : Body) → Ignored top node (w.shards node) from m → Says top w from node time m → Says top x from node time m
+  ignored_acts : (from time : ℕ) (m : Body) → Ignored top node (w.shards node) from m → Says top x from node time m
       → SaysLive top w from node (kind_of m) → Acts top x from node (kind_of m)
-  ignored_acts from time (Begin t rows cohorts dependencies) e old says k f =
+  ignored_acts from time (Begin t rows cohorts dependencies) e says k f =
       let b = ballot_at says in
       known_at_origin top w x node n some inv g here_live rounds t (record { submission = b.submission; batch = b.batch; written = b.written; here = b.origin refl }) e
-  ignored_acts from time (Prepare t rows coordinator) e old says k f =
+  ignored_acts from time (Prepare t rows coordinator) e says k f =
       known_at_origin top w x node n some inv g here_live rounds t (record { submission = says.submission; batch = says.batch; written = says.written; here = says.origin }) e
-  ignored_acts from time (Yes t) (inl (b, is, e)) old says (o, aside, leads, dc) f =
+  ignored_acts from time (Yes t) (inl (b, is, e)) says (o, aside, leads, dc) f =
       inl (stays_in _ _ (g.shards node).votes (vote_of t from)
       (counted_before top w x node n some inv g here_live rounds t from (says_on_origin o) (aside_on g aside) (leads_on g leads) dc b (contains_among b _ is.among) is.txn e))
-  ignored_acts from time (Yes t) (inr (none, e)) old says (o, aside, leads, dc) f =
+  ignored_acts from time (Yes t) (inr (none, e)) says (o, aside, leads, dc) f =
       early_before top w x node n some inv g here_live rounds t from (says_on_origin o) (aside_on g aside) (leads_on g leads) dc none e
-  ignored_acts from time (Commit t commit stamp) e old says k f = applied_before top w x node n some inv g here_live rounds t e k.0 (aside_on g k.1)
-  ignored_acts from time (At t commit stamp) e old says k f = tt
-  ignored_acts from time (NotBy t bound) e old says k f = tt
-  ignored_acts from time (Check t bound) e old says k f = tt
-  ignored_acts from time (ReadNow number read) e old says k f = absurd e
-  ignored_acts from time (ReadAt number bound read) e old says k f = waits_already top w x node n some inv g here_live rounds from number bound e
-  ignored_acts from time (ReplBegin cohorts t rows stamp dependencies) e old says k f =
+  ignored_acts from time (Commit t commit stamp) e says k f = applied_before top w x node n some inv g here_live rounds t e k.0 (aside_on g k.1)
+  ignored_acts from time (At t commit stamp) e says k f = tt
+  ignored_acts from time (NotBy t bound) e says k f = tt
+  ignored_acts from time (Check t bound) e says k f = tt
+  ignored_acts from time (ReadNow number read) e says k f = absurd e
+  ignored_acts from time (ReadAt number bound read) e says k f = waits_already top w x node n some inv g here_live rounds from number bound e
+  ignored_acts from time (ReplBegin cohorts t rows stamp dependencies) e says k f =
       elim (known_replica top w x node n some was inv g here_live rounds t (record { submission = says.submission; batch = says.batch; written = says.written; here = says.here }) e) [
         | inl y ↦ inl (kept_ballot_on (g.shards node) y)
         | inr y ↦ inr y
       ]
-  ignored_acts from time (ReplPart t rows stamp coordinator) e old says k f = part_before top w x node n some was inv g here_live rounds t e
-  ignored_acts from time (Notify t) (inl (r, has, is, e)) old says k f =
+  ignored_acts from time (ReplPart t rows stamp coordinator) e says k f = part_before top w x node n some was inv g here_live rounds t e
+  ignored_acts from time (Notify t) (inl (r, has, is, e)) says k f =
       inl (notice_before top w x node n some was inv g here_live rounds t from (kept_part_on (g.shards from) k.0) k.2 r (contains_among r _ has) is e)
-  ignored_acts from time (Notify t) (inr (none, e)) old says k f =
+  ignored_acts from time (Notify t) (inr (none, e)) says k f =
       early_notice_before top w x node n some was inv g here_live rounds t from (leads_on g k.1) none e
-  ignored_acts from time (PrepareRemote t) (inl e) old says k f =
+  ignored_acts from time (PrepareRemote t) (inl e) says k f =
       absurd (absent (λ p. p.txn) t (w.shards node).kept_parts (find_none (λ p. is_same_txn p.txn t) (w.shards node).kept_parts e) k.0.0 k.0.1 k.0.2)
-  ignored_acts from time (PrepareRemote t) (inr e) old says k f = inl (prepared_on (g.shards node) (prepared_found t (w.shards node) e))
-  ignored_acts from time (DepCheck dependency waiter) (none, e) old says k f =
+  ignored_acts from time (PrepareRemote t) (inr e) says k f = inl (prepared_on (g.shards node) (prepared_found t (w.shards node) e))
+  ignored_acts from time (DepCheck dependency waiter) (none, e) says k f =
       asked_before top w x node n some was inv g here_live rounds (record { dependency = dependency; waiter = waiter; from = from }) e
-  ignored_acts from time (DepOk dependency waiter commit) e old says k f =
+  ignored_acts from time (DepOk dependency waiter commit) e says k f =
       let awaits = awaits_here top w x node n some was inv g here_live rounds (dc_of top from) waiter dependency none k in
       was_counted top w x node n some was inv g here_live rounds waiter dependency awaits (answer_before top w x node n some was inv g here_live rounds waiter dependency awaits e)
-  ignored_acts from time (Done t commit stamp) e old says k f = absurd (false≢true (sym f))
-  ignored_acts from time (PartNow number rows) e old says k f = absurd (false≢true (sym f))
-  ignored_acts from time (PartAt number bound answer) e old says k f = absurd (false≢true (sym f))
+  ignored_acts from time (Done t commit stamp) e says k f = absurd (false≢true (sym f))
+  ignored_acts from time (PartNow number rows) e says k f = absurd (false≢true (sym f))
+  ignored_acts from time (PartAt number bound answer) e says k f = absurd (false≢true (sym f))
 
   told : (from : ℕ) (m : Body) (t : TxnValue) (commit : ℕ) (stamp : StampValue) → IsTelling m t commit stamp → Sees (x.shards node).applied t → Acts top x from node (kind_of m)
   told from m t commit stamp (inl q) sees = subst (λ z. Acts top x from node (kind_of z)) (sym q) (λ f. sees)
@@ -107,7 +107,7 @@ module _ (top : TopologyValue) (w x : Run) (node n : ℕ) (some : 0 < top.shards
 
   step_left : (from time : ℕ) (m : Body) (st : ShardStep) → StepOf top node n (w.shards node) from m st → Says top w from node time m → Says top x from node time m
       → SaysLive top w from node (kind_of m) → Here x node st → Left top x node st × Acts top x from node (kind_of m)
-  step_left from time m st (still e) old says k here = (quiet_left n kx, ignored_acts from time m e old says k)
+  step_left from time m st (still e) old says k here = (quiet_left n kx, ignored_acts from time m e says k)
   step_left from time m st (begin_decides t rows cohorts dependencies new all) old says k here =
       let r = begin_decides_left top w x node n some inv g here_live rounds (begun t rows cohorts dependencies) refl (ballot_at says) here in (r.0, λ f. r.1)
   step_left from time m st (begin_holds t rows cohorts dependencies new missing) old says k here =
