@@ -1,5 +1,5 @@
 //! Recorded histories as JSON texts.
-ghost use Rattle.std.specs.Prelude.{◌≡◌, ℕ, List, Option, map, option_and_then, codes};
+ghost use Rattle.std.specs.Prelude.{ℕ, List, Option, map, option_and_then, codes};
 ghost use Rattle.serde_json.specs.Data.{Data};
 ghost use Rattle.serde_json.specs.Read.{read};
 ghost use Rattle.serde_json.specs.View.{view};

@@ -1,5 +1,5 @@
 //! What is told of recorded histories, written piece by piece: no piece takes memory.
-ghost use Rattle.std.specs.Prelude.{◌≡◌, ◌++◌, [], IsSome, IsNone, IfOk, OnOk, OnErr, IfErr, decimal, Err, length};
+ghost use Rattle.std.specs.Prelude.{◌≡◌, ◌++◌, [], IsSome, IsNone, OnOk, OnErr, IfErr, decimal, Err};
 ghost use Rattle.std.specs.List.{flat_map};
 ghost use Rattle.std.specs.Io.KnownBytes.{Appends};
 ghost use Rattle.logical_time.specs.declared.fault.Fault.TheVariants as fault;

@@ -1,9 +1,9 @@
 //! Shards and sessions as machines.
-ghost use Rattle.std.specs.Prelude.{◌≡◌, ◌<◌, ◌⊎◌, ◌++◌, ◌∷◌, [], ℕ, true, false, List, None, not, option_to_list, IsSome, IfOk, OnOk, IfErr, OnErr};
+ghost use Rattle.std.specs.Prelude.{◌≡◌, ◌<◌, ◌⊎◌, ◌++◌, ◌∷◌, [], ℕ, true, false, List, None, IsSome, IfOk, OnOk, IfErr, OnErr};
 ghost use Rattle.messages.specs.declared.envelope.Envelope.{Envelope};
 ghost use Rattle.messages.specs.declared.outcome.Outcome.{Outcome};
 ghost use Rattle.messages.specs.declared.event.Event.{Event as ActorEvent};
-ghost use Rattle.messages.specs.Topology.{TopologyValue, is_shard, node_count};
+ghost use Rattle.messages.specs.Topology.{TopologyValue};
 ghost use Rattle.messages.specs.Session.{SessionState};
 ghost use Rattle.messages.specs.SessionEvents.{session_taken};
 ghost use Rattle.client.specs.Represents.{Represents};

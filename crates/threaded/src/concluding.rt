@@ -1,5 +1,5 @@
 //! Seats whose journals are a run.
-ghost use Rattle.std.specs.Prelude.{◌≡◌, ◌<◌, ◌↔◌, ℕ, true, false, None, length, IfOk, IfErr, IfSome, IfNone};
+ghost use Rattle.std.specs.Prelude.{◌≡◌, ◌<◌, ◌↔◌, true, false, None, IfOk, IfErr, IfSome, IfNone};
 ghost use Rattle.logical_time.specs.declared.fault.Fault.TheVariants.{Memory};
 ghost use Rattle.messages.specs.Topology.{is_topology, node_count};
 ghost use Rattle.threaded.specs.OneRun.{seat_of, journal_of, AreOfTopology, AreSeatsOf, DoLinksMatch};

@@ -1,5 +1,5 @@
 //! Histories of data centres, by asking the shards in their seats.
-ghost use Rattle.std.specs.Prelude.{◌≡◌, ◌<◌, ◌++◌, ℕ, List, filter_map, option_map, option_and_then, option_to_list, option_copied, true, OnOk, IfOk, IfErr};
+ghost use Rattle.std.specs.Prelude.{◌≡◌, ◌<◌, ◌++◌, ℕ, List, filter_map, option_map, option_and_then, option_to_list, true, OnOk, IfOk, IfErr};
 ghost use Rattle.column_family.specs.declared.batch.Change.{Change};
 ghost use Rattle.planner.specs.Plan.{coordinator_of};
 ghost use Rattle.messages.specs.Topology.{TopologyValue, is_topology, shard_node};
@@ -12,7 +12,6 @@ ghost use Rattle.world.specs.Run.{run};
 ghost use Rattle.world.specs.Asked.{entry_by, entry_of};
 ghost use Rattle.world.specs.Histories.{batch_in, IsHistory};
 ghost use Rattle.world.specs.Journals.{IsRunOf};
-ghost use Rattle.world.specs.Threads.{op_in};
 ghost use Rattle.threaded.specs.Machines.{Stands};
 ghost use Rattle.threaded.specs.OneRun.{journal_of, AreSeatsOf};
 ghost use Rattle.threaded.specs.Asking.{writes_by, asked_of, AreReplays, AreAsked};

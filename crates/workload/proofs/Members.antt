@@ -22,7 +22,7 @@ use Rattle.workload.specs.declared.script.Event.{Event}
 use Rattle.workload.specs.Gives.{◌>>=◌}
 use Rattle.workload.specs.Shape.{members_len, whole_below, data_of, all_by, list_by, all_within, list_within, member_by, has_members}
 use Rattle.workload.specs.Script.{end_of, reversed_of, count_of, range_members, range_of, small_of, families_of, topology_among, topology_of, event_of, script_of}
-use Rattle.workload.specs.Streams.{value_at, Reads, AreFound, kept, RangeMembers, range_with, AreBounds, Bounded, BoundsSoFar, HeadMembers, head_with, IsHeading, Headed, HeadingSoFar, BeginWith, AreOf, Tells, Begins}
+use Rattle.workload.specs.Streams.{value_at, Reads, AreFound, kept, RangeMembers, range_with, AreBounds, Bounded, BoundsSoFar, head_with, Headed, HeadingSoFar, BeginWith, AreOf, Tells, Begins}
 use Rattle.workload.proofs.Lists.{all_within_short}
 use Rattle.json.proofs.Grammar.{read_key-shorter}
 use Rattle.workload.proofs.Streams.{shorter, named, if_some, none_found, one_more_found, all_found}

@@ -1,5 +1,5 @@
 -- Values that are read token by token.
-use Rattle.std.proofs.Common.{◌≡◌, ℕ, ◌-◌, ◌<◌, ◌≤◌, Bool, true, false, List, [], ◌∷◌, ◌++◌, length, Option, Some, None, option_map, option_and_then, refl, sym, ap, subst, ◌∙◌, arith}
+use Rattle.std.proofs.Common.{◌≡◌, ℕ, ◌-◌, ◌<◌, Bool, true, false, List, [], ◌∷◌, ◌++◌, length, Option, Some, None, option_map, option_and_then, refl, sym, ap, subst, ◌∙◌, arith}
 use Rattle.std.specs.Prelude.{⊤, IfSome, SomeIff, codes, nat_lt, if◌then◌else◌}
 use Rattle.std.proofs.lemmas.Bool.Decides.{nat_tests}
 use Rattle.std.proofs.lemmas.Bool.{false≢true}
@@ -9,8 +9,8 @@ use Rattle.json.specs.Token.{Token}
 use Rattle.json.specs.Json.{Json, parse_map, after_end_array, read_key, items, members, value}
 use Rattle.json.proofs.Grammar.{value_is, value-begin_array, value-begin_object, read_key-shorter, skip_value-shorter}
 use Rattle.serde_json.specs.Data.{Data, array, object, string, boolean, number as numbered, unsigned, Items, no_items, item, Members, no_members, member, put}
-use Rattle.serde_json.specs.Find.{as_str, as_bool, as_array}
-use Rattle.serde_json.specs.Read.{of_json, of_members, converted, number_of}
+use Rattle.serde_json.specs.Find.{as_str, as_bool}
+use Rattle.serde_json.specs.Read.{of_json, converted, number_of}
 use Rattle.workload.proofs.Converted.{converted_some, converted-array, converted-object, item_read, items_over, member_read, members_over}
 use Rattle.column_family.specs.declared.batch.Change.{Change}
 use Rattle.column_family.specs.declared.batch.Mutation.{Mutation}
@@ -25,7 +25,7 @@ use Rattle.workload.specs.declared.script.Event.{Event}
 use Rattle.workload.specs.declared.script.Event.TheVariants.{Submit, Deliver, Collect, Drain}
 use Rattle.workload.specs.Gives.{◌>>=◌}
 use Rattle.workload.specs.Shape.{data_of, all_by, list_by, whole_of, whole_below, if_below}
-use Rattle.workload.specs.Script.{insert_of, delete_of, delete_row_of, delete_range_of, mutation_of, change_of, predicate_of, names_of, predicate_in, range_of, read_of, batch_of, move_of, op_in, op_of, event_of, submit_of, deliver_of, time_of, collect_of, drain_of, schema_among, families_of}
+use Rattle.workload.specs.Script.{insert_of, delete_of, delete_row_of, delete_range_of, mutation_of, change_of, predicate_of, names_of, range_of, read_of, batch_of, move_of, op_of, event_of, submit_of, deliver_of, time_of, collect_of, drain_of, schema_among, families_of}
 use Rattle.workload.specs.Streams.{value_at, Reads, ReadsRest, ItemsAre, MembersAre, AreFound, before, SoFar, IsStretch}
 use Rattle.workload.proofs.Lists.{all_by_snoc, all_by_join}
 

@@ -4,7 +4,6 @@ ghost use Rattle.std.specs.List.{flat_map, list_all};
 ghost use Rattle.std.specs.Io.KnownBytes.{Appends};
 ghost use Rattle.hex.specs.Hex.{encode_lower};
 ghost use Rattle.logical_time.specs.declared.fault.Fault.TheVariants as fault;
-ghost use Rattle.logical_time.specs.Fault.{number_of};
 ghost use Rattle.program.specs.Outputs.{Adds, AppendsPart};
 ghost use Rattle.workload.specs.Audited.{told_text};
 ghost use Rattle.workload.specs.Text.{is_short_column, column_text, line_text, row_text, op_text, commit_text, answer_text, move_text, refusal_text, entry_text, text_of};

@@ -3,7 +3,6 @@ use Rattle.messages.specs.Topology.{TopologyValue}
 use Rattle.world.specs.Run.{Run}
 use Rattle.world.specs.World.{WorldValue, run_of}
 use Rattle.workload.specs.Audited.{AreFirstHistories}
-use Rattle.workload.specs.Marks.{merged}
 use Rattle.workload.specs.Simulation.{run_of as run_of_script}
 use Rattle.workload.proofs.Audits.{is_run_of}
 use Rattle.workload.proofs.auditing.simulate_recorded.Goals as goal
