@@ -14,8 +14,8 @@ use Rattle.actors.specs.Journals.{op_in, submissions, IsOwn}
 use Rattle.actors.specs.Seats.{SeatValue}
 use Rattle.workload.specs.declared.script.Event.{Event as ScriptEvent}
 use Rattle.workload.specs.declared.script.Event.TheVariants as script
-use Rattle.world.proofs.Among.{Among, among_append, get_among}
-use Rattle.world.proofs.Replacing.{item_at}
+use Rattle.world.proofs.lists.Among.{Among, among_append, get_among}
+use Rattle.world.proofs.lists.Replacing.{item_at}
 use Rattle.threaded.proofs.Lists.{take_one_more}
 use Rattle.running.specs.declared.course.Course.{Course}
 use Rattle.running.specs.Asked.{asked_by, asked_in, fault_of, home_if, home_next, home_through, accepted_one, accepted_of, refusals_from, own_events}

@@ -9,8 +9,8 @@ use Rattle.actors.specs.Seats.{SeatValue}
 use Rattle.world.specs.declared.completed.Completed.{Completed}
 use Rattle.world.specs.Run.{run}
 use Rattle.world.specs.Histories.{IsHistory}
-use Rattle.world.proofs.Among.{Among, filter_only}
-use Rattle.world.proofs.Asking.{flat_only}
+use Rattle.world.proofs.lists.Among.{Among, filter_only}
+use Rattle.world.proofs.envelopes.Asking.{flat_only}
 use Rattle.threaded.specs.Concluded.{ConcludedValue, InEachRun, AreConcluded, by_session}
 use Rattle.audit.specs.declared.found.Audit.{Audit}
 use Rattle.audit.specs.Audit.{is_read, is_wrong}

@@ -4,7 +4,7 @@ use Rattle.std.specs.Prelude.{slice_index_or}
 use Rattle.std.specs.Option.{option_or}
 use Rattle.logical_time.specs.declared.fault.Fault.{Fault}
 use Rattle.actors.specs.declared.report.Shift.{Shift}
-use Rattle.world.proofs.Replacing.{item_at}
+use Rattle.world.proofs.lists.Replacing.{item_at}
 use Rattle.running.specs.Faults.{fault_at, first_fault}
 use Rattle.running.proofs.ToldMore.{drop_here, drop_past}
 

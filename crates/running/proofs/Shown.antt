@@ -18,7 +18,7 @@ use Rattle.actors.specs.Draining.{AreLater, OneCanRefuse}
 use Rattle.world.specs.declared.completed.Completed.{Completed}
 use Rattle.world.specs.Run.{run}
 use Rattle.world.specs.Journals.{finished_as}
-use Rattle.world.proofs.Among.{Among, among_append, among_contains, contains_among, filter_among, filter_only, map_among, map_only}
+use Rattle.world.proofs.lists.Among.{Among, among_append, among_contains, contains_among, filter_among, filter_only, map_among, map_only}
 use Rattle.threaded.specs.Machines.{as_finished, Refuses}
 use Rattle.threaded.specs.OneRun.{seat_of, AreSeatsOf, AreOfOneRun}
 use Rattle.threaded.specs.Matching.{IsUnconcluded}

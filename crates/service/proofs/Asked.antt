@@ -11,7 +11,7 @@ use Rattle.world.specs.declared.run_event.RunEvent.TheVariants.{Submit}
 use Rattle.world.specs.Run.{run}
 use Rattle.world.specs.Refusals.{Refusal, Refused}
 use Rattle.world.specs.World.{WorldValue, run_of, refusal_in, IsRefusedAs}
-use Rattle.world.proofs.Among.{among_contains}
+use Rattle.world.proofs.lists.Among.{among_contains}
 use Rattle.workload.specs.Drain.{IsDrained, LeavesNothing}
 use Rattle.service.specs.Port.{HasOpen, WasDrained, IsSubmitted, IsTurnedAway, IsOpen, IsLeftOpen}
 use Rattle.service.proofs.Idle.{not_busy}

@@ -12,13 +12,13 @@ use Rattle.world.specs.declared.run_event.RunEvent.TheVariants.{Submit}
 use Rattle.world.specs.declared.completed.Completed.{Completed}
 use Rattle.world.specs.Run.{Run, Submission, opening, after_submission, submit_if, step, run}
 use Rattle.world.specs.Refusals.{Refusal, Refused, NoSuchActor, refused_by, refusal_of}
-use Rattle.world.proofs.Among.{Among, contains_among, among_last, append_first}
-use Rattle.world.proofs.Facts.{txn_of}
-use Rattle.world.proofs.Grown.{runs_only_grow}
-use Rattle.world.proofs.Laws.{entries_are_of_submissions}
-use Rattle.world.proofs.Begun.{begins}
-use Rattle.world.proofs.Homes.{homes_are_of_moves}
-use Rattle.world.proofs.Runs.{every_run, run_after}
+use Rattle.world.proofs.lists.Among.{Among, contains_among, among_last, append_first}
+use Rattle.world.proofs.safety.Facts.{txn_of}
+use Rattle.world.proofs.growing.Grown.{runs_only_grow}
+use Rattle.world.proofs.promised.Laws.{entries_are_of_submissions}
+use Rattle.world.proofs.steps.Begun.{begins}
+use Rattle.world.proofs.causal.Homes.{homes_are_of_moves}
+use Rattle.world.proofs.safety.Runs.{every_run, run_after}
 use Rattle.service.specs.Port.{IsEndOf}
 use Rattle.service.specs.Meaning.{home_in}
 

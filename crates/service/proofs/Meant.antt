@@ -19,9 +19,9 @@ use Rattle.world.specs.Run.{Run, run}
 use Rattle.world.specs.Histories.{IsHistory}
 use Rattle.world.specs.Journals.{IsBeginning}
 use Rattle.world.specs.Promises.{Fits}
-use Rattle.world.proofs.Among.{among_contains, contains_among, append_first, Among}
-use Rattle.world.proofs.Grown.{runs_only_grow}
-use Rattle.world.proofs.Laws.{entries_are_of_submissions, moves_bring_their_past, reads_show_one_table, writes_in_runs}
+use Rattle.world.proofs.lists.Among.{among_contains, contains_among, append_first, Among}
+use Rattle.world.proofs.growing.Grown.{runs_only_grow}
+use Rattle.world.proofs.promised.Laws.{entries_are_of_submissions, moves_bring_their_past, reads_show_one_table, writes_in_runs}
 use Rattle.workload.specs.Drain.{IsDrained, IsDrainedUntil}
 use Rattle.workload.specs.Simulation.{deliveries}
 use Rattle.service.specs.Port.{IsReady, IsSubmitted, IsTurnedAway, IsEndOf, EndedWith, IsHandled, Asks}

@@ -6,7 +6,7 @@ use Rattle.std.proofs.lemmas.Bool.Decides.{nat_tests}
 use Rattle.messages.specs.declared.outcome.Outcome.{Outcome}
 use Rattle.world.specs.declared.completed.Completed.{Completed}
 use Rattle.world.specs.Run.{Run}
-use Rattle.world.proofs.Among.{Among, among_contains, contains_among, append_first, among_last}
+use Rattle.world.proofs.lists.Among.{Among, among_contains, contains_among, append_first, among_last}
 use Rattle.service.specs.Port.{IsEndOf, EndedWith, IsOpen}
 
 abbrev pub is_its : ℕ → ℕ → Completed → Bool

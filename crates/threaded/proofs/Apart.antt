@@ -7,9 +7,9 @@ use Rattle.messages.specs.Actors.{OfShard, OfSession, Replayed, replay_of}
 use Rattle.world.specs.declared.run_event.RunEvent.{RunEvent as Event}
 use Rattle.world.specs.Run.{run}
 use Rattle.world.specs.Journals.{actor_in, journal_in, held_in}
-use Rattle.world.proofs.Runs.{every_run}
-use Rattle.world.proofs.OwnJournals.{run_journals}
-use Rattle.world.proofs.Answers.{parts_apart}
+use Rattle.world.proofs.safety.Runs.{every_run}
+use Rattle.world.proofs.replays.OwnJournals.{run_journals}
+use Rattle.world.proofs.shards.RightAnswers.{parts_apart}
 use Rattle.threaded.specs.Machines.{HasPartsApart, StaysApart}
 use Rattle.threaded.proofs.Lists.{begins_or_whole}
 

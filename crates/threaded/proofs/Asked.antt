@@ -21,15 +21,15 @@ use Rattle.world.specs.Histories.{batch_in, history_of, IsHistory}
 use Rattle.world.specs.Journals.{IsRunOf}
 use Rattle.world.specs.Lookups.{entry_asked, history_asked}
 use Rattle.world.specs.Threads.{op_in, op_numbered}
-use Rattle.world.proofs.Addresses.{stands}
-use Rattle.world.proofs.Among.{Among, among_contains, contains_among, among_append, append_first, append_second, find_some, same_txn}
-use Rattle.world.proofs.Asking.{flat_only, flat_among}
-use Rattle.world.proofs.AskedHistory.{histories_are_asked}
-use Rattle.world.proofs.Journaled.{operation_there, told_by_journals}
-use Rattle.world.proofs.Laws.{named_in_runs}
-use Rattle.world.proofs.Near.{listed_below}
-use Rattle.world.proofs.Numbered.{run_numbered}
-use Rattle.world.proofs.Pairs.{first_pairs, later_pairs, no_pairs, more_pairs, append_pairs, given_among, given_pairs}
+use Rattle.world.proofs.envelopes.Addresses.{stands}
+use Rattle.world.proofs.lists.Among.{Among, among_contains, contains_among, among_append, append_first, append_second, find_some, same_txn}
+use Rattle.world.proofs.envelopes.Asking.{flat_only, flat_among}
+use Rattle.world.proofs.histories.AskedHistory.{histories_are_asked}
+use Rattle.world.proofs.replays.Journaled.{operation_there, told_by_journals}
+use Rattle.world.proofs.promised.Laws.{named_in_runs}
+use Rattle.world.proofs.envelopes.Near.{listed_below}
+use Rattle.world.proofs.replays.Numbered.{run_numbered}
+use Rattle.world.proofs.lists.Pairs.{first_pairs, later_pairs, no_pairs, more_pairs, append_pairs, given_among, given_pairs}
 use Rattle.threaded.specs.OneRun.{journal_of}
 use Rattle.threaded.specs.Asking.{writes_from, writes_by, writes_of, asked_of}
 

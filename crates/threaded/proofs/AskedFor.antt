@@ -22,11 +22,11 @@ use Rattle.actors.specs.Seats.{SeatValue, Keeps, through}
 use Rattle.world.specs.Asked.{entry_of}
 use Rattle.world.specs.Histories.{batch_in}
 use Rattle.world.specs.Threads.{op_in}
-use Rattle.world.proofs.Addresses.{stands}
-use Rattle.world.proofs.Among.{find_some}
-use Rattle.world.proofs.Moves.{shard_node_counts}
-use Rattle.world.proofs.Near.{coordinator_below}
-use Rattle.world.proofs.Replacing.{item_at}
+use Rattle.world.proofs.envelopes.Addresses.{stands}
+use Rattle.world.proofs.lists.Among.{find_some}
+use Rattle.world.proofs.steps.Moves.{shard_node_counts}
+use Rattle.world.proofs.envelopes.Near.{coordinator_below}
+use Rattle.world.proofs.lists.Replacing.{item_at}
 use Rattle.threaded.specs.declared.actor.Actor.{Actor}
 use Rattle.threaded.specs.Machines.{Stands, CameFrom, untaken_of}
 use Rattle.threaded.specs.OneRun.{seat_of, journal_at, journal_of, AreSeatsOf}

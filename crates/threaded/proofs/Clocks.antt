@@ -13,9 +13,9 @@ use Rattle.messages.specs.ShardEvents.{handled, collected}
 use Rattle.messages.specs.SessionEvents.{heard, session_taken}
 use Rattle.messages.specs.Submitting.{begun, submit_fault, submit_if as submitted_if}
 use Rattle.messages.specs.Actors.{ActorState, OfShard, OfSession, clock_of, opening_actor, ActorStep, of_shard, of_session, actor_step, Replayed, replay, replay_of}
-use Rattle.world.proofs.OwnSends.{handled_own}
-use Rattle.world.proofs.Ticks.{begun_own, heard_own}
-use Rattle.world.proofs.Replays.{unfolds}
+use Rattle.world.proofs.steps.OwnSends.{handled_own}
+use Rattle.world.proofs.steps.Ticks.{begun_own, heard_own}
+use Rattle.world.proofs.replays.Replays.{unfolds}
 use Rattle.actors.specs.Shown.{clock_with, clock_from, clock_after}
 
 -- ## Steps

@@ -12,9 +12,9 @@ use Rattle.messages.specs.Topology.{TopologyValue, node_count}
 use Rattle.messages.specs.Actors.{envelope_of}
 use Rattle.write_txn.proofs.Lists.{read_set}
 use Rattle.world.specs.Quiet.{IsQuiet}
-use Rattle.world.proofs.Replacing.{item_at}
-use Rattle.world.proofs.Running.{length_set}
-use Rattle.world.proofs.Prefixes.{get_there}
+use Rattle.world.proofs.lists.Replacing.{item_at}
+use Rattle.world.proofs.in_code.Running.{length_set}
+use Rattle.world.proofs.growing.Prefixes.{get_there}
 use Rattle.actors.specs.Journals.{receipts_from, followed_by}
 use Rattle.actors.specs.Seats.{SeatValue, through}
 use Rattle.threaded.specs.OneRun.{seat_of, journal_of, journal_at}

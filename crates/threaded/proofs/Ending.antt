@@ -18,7 +18,7 @@ use Rattle.messages.specs.Actors.{ActorState, OfShard, OfSession}
 use Rattle.client.specs.declared.kept.SessionKept.{SessionKept}
 use Rattle.client.specs.Current.{open_of}
 use Rattle.client.specs.State.{state_of, finished_of}
-use Rattle.world.proofs.HeardCases.{heard_kinds}
+use Rattle.world.proofs.steps.HeardCases.{heard_kinds}
 use Rattle.threaded.specs.declared.actor.Actor.{Actor}
 use Rattle.threaded.specs.declared.actor.Actor.TheVariants as actor
 use Rattle.threaded.specs.Machines.{is_free, WaitsAsOpen, has_none_open, Stands}

@@ -12,7 +12,7 @@ use Rattle.messages.specs.Topology.{TopologyValue, session_node}
 use Rattle.actors.specs.Seats.{SeatValue}
 use Rattle.world.specs.declared.completed.Completed.{Completed}
 use Rattle.world.specs.Threads.{op_in, op_numbered}
-use Rattle.world.proofs.Replacing.{item_at}
+use Rattle.world.proofs.lists.Replacing.{item_at}
 use Rattle.threaded.specs.OneRun.{seat_of}
 use Rattle.threaded.specs.Submitted.{count_of}
 use Rattle.threaded.specs.Entries.{entries_at, entries_after, entries_of}

@@ -5,7 +5,7 @@ use Rattle.std.proofs.lemmas.List.{append_assoc}
 use Rattle.messages.specs.declared.event.Event.{Event as ActorEvent}
 use Rattle.messages.specs.Topology.{TopologyValue}
 use Rattle.messages.specs.Actors.{ActorState, ActorStep, actor_step, Replayed, before_rest, replay}
-use Rattle.world.proofs.Replays.{unfolds}
+use Rattle.world.proofs.replays.Replays.{unfolds}
 
 -- an event that is refused ends a replay
 pub replay_stops : (top : TopologyValue) (me : ℕ) (a : ActorState) (xs : List ActorEvent) (x : ActorEvent) (q : Replayed)

@@ -9,7 +9,7 @@ use Rattle.logical_time.specs.declared.fault.Fault.TheVariants.{StrangerEnd}
 use Rattle.messages.specs.declared.event.Event.{Event}
 use Rattle.messages.specs.Topology.{TopologyValue, is_topology, node_count}
 use Rattle.actors.specs.Seats.{SeatValue}
-use Rattle.world.proofs.Replacing.{item_at}
+use Rattle.world.proofs.lists.Replacing.{item_at}
 use Rattle.threaded.specs.OneRun.{seat_of, journal_at, journal_of, AreOfTopology, AreSeatsOf, DoLinksMatch, AreOfOneRun}
 use Rattle.threaded.specs.Matching.{IsKept, AreKept, AreAllTimed, IsPlace, ArePlaces, DoesReceive, DoReceive, AreFromActors, IsUnseated, IsUnconcluded}
 use Rattle.threaded.proofs.Lists.{last_or_before}

@@ -25,10 +25,10 @@ use Rattle.client.specs.declared.kept.SessionKept.{SessionKept}
 use Rattle.client.specs.Represents as session
 use Rattle.client.specs.State.{state_of, finished_of}
 use Rattle.actors.specs.Journals.{op_in, submissions, sends_to, followed_by}
-use Rattle.world.proofs.Prefixes.{get_there}
-use Rattle.world.proofs.Moves.{counts_session, op_count, shard_took, session_took}
-use Rattle.world.proofs.Counted.{step_count}
-use Rattle.world.proofs.Replays.{unfolds, replay_push}
+use Rattle.world.proofs.growing.Prefixes.{get_there}
+use Rattle.world.proofs.steps.Moves.{counts_session, op_count, shard_took, session_took}
+use Rattle.world.proofs.steps.Counted.{step_count}
+use Rattle.world.proofs.replays.Replays.{unfolds, replay_push}
 use Rattle.threaded.specs.declared.actor.Actor.{Actor}
 use Rattle.threaded.specs.declared.actor.Actor.TheVariants as actor
 use Rattle.threaded.specs.Machines.{HasPartsApart, StaysApart, is_of_shard, untaken_of, accepted_by, WaitsAsOpen, Stands, as_finished, IsReplay, CameFrom}

@@ -9,8 +9,8 @@ use Rattle.messages.specs.declared.event.Event.{Event}
 use Rattle.messages.specs.declared.event.Event.TheVariants.{Submit, Handle, Collect}
 use Rattle.messages.specs.Actors.{envelope_of}
 use Rattle.write_txn.proofs.Lists.{read_set}
-use Rattle.world.proofs.Running.{length_set}
-use Rattle.world.proofs.Prefixes.{get_there}
+use Rattle.world.proofs.in_code.Running.{length_set}
+use Rattle.world.proofs.growing.Prefixes.{get_there}
 use Rattle.actors.specs.Journals.{receipts_from, followed_by}
 use Rattle.actors.specs.Seats.{SeatValue, through}
 use Rattle.threaded.specs.OneRun.{seat_of}

@@ -17,7 +17,7 @@ use Rattle.world.specs.Fresh.{FirstRoundsAreWhole}
 use Rattle.world.specs.Promises.{EntriesAreOfSubmissions, OutcomesAreListed, ReadsShowOneTable, AnswersStay, LaterCommitsAreAbove, HistoriesGrow, ReadsShowTheirPast, MovesBringTheirPast, ReadsAreFresh, StampsFollowCauses, TimesNeverFall, HomesAreOfMoves, OperationsEndOnce}
 use Rattle.world.specs.Histories.{IsHistory}
 use Rattle.world.specs.Journals.{held_in, IsRunOf}
-use Rattle.world.proofs.Promised as promised
+use Rattle.world.proofs.promised.Promised as promised
 use Rattle.threaded.specs.OneRun.{journal_of, AreSeatsOf}
 use Rattle.threaded.specs.Concluded.{InEachRun, InEachCut, AreConcluded}
 use Rattle.threaded.specs.Asking.{AreReplays, asked_of}

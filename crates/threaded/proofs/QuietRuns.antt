@@ -21,9 +21,9 @@ use Rattle.world.specs.Run.{Run, run}
 use Rattle.world.specs.Journals.{event_at, IsRunOf}
 use Rattle.world.specs.Quiet.{number_delivered, IsQuiet}
 use Rattle.world.specs.Settled.{Settled}
-use Rattle.world.proofs.Among.{Among, contains_among, get_among, filter_only, filter_among}
-use Rattle.world.proofs.Prefixes.{get_there}
-use Rattle.world.proofs.Laws.{quiet_means_done}
+use Rattle.world.proofs.lists.Among.{Among, contains_among, get_among, filter_only, filter_among}
+use Rattle.world.proofs.growing.Prefixes.{get_there}
+use Rattle.world.proofs.promised.Laws.{quiet_means_done}
 use Rattle.threaded.specs.Machines.{StaysApart, has_none_open}
 use Rattle.threaded.specs.OneRun.{seat_of, journal_of}
 use Rattle.threaded.specs.Matching.{AreKept, sent_at, sent_to}

@@ -23,18 +23,18 @@ use Rattle.world.specs.declared.run_event.RunEvent.{RunEvent as Event}
 use Rattle.world.specs.declared.run_event.RunEvent.TheVariants.{Deliver}
 use Rattle.world.specs.Run.{Run, opening, after_shard, after_session, deliver_if, deliver_for, step, run}
 use Rattle.world.specs.Journals.{actor_in, journal_in, sent_from, held_in}
-use Rattle.world.proofs.Addressed.{messages_are_for_actors}
-use Rattle.world.proofs.Addresses.{stands}
-use Rattle.world.proofs.Refusals.{kept_is_run}
-use Rattle.world.proofs.Among.{Among, among_contains, get_among, among_append, append_first, among_last, filter_only}
-use Rattle.world.proofs.Prefixes.{get_first, get_added, get_there}
-use Rattle.world.proofs.Runs.{run_after}
-use Rattle.world.proofs.Ticks.{step_ticks}
-use Rattle.world.proofs.Replays.{sent_above}
-use Rattle.world.proofs.Moves.{Moves, IsMove, each_is_move, shard_took, session_took, counts_session, handle_moves, hear_moves, shard_node_counts, session_node_counts}
-use Rattle.world.proofs.Happenings.{submit_happens, collect_happens}
-use Rattle.world.proofs.JournalSteps.{AreKnown, journal_later, journal_here}
-use Rattle.world.proofs.OwnJournals.{run_journals}
+use Rattle.world.proofs.envelopes.Addressed.{messages_are_for_actors}
+use Rattle.world.proofs.envelopes.Addresses.{stands}
+use Rattle.world.proofs.steps.Refusals.{kept_is_run}
+use Rattle.world.proofs.lists.Among.{Among, among_contains, get_among, among_append, append_first, among_last, filter_only}
+use Rattle.world.proofs.growing.Prefixes.{get_first, get_added, get_there}
+use Rattle.world.proofs.safety.Runs.{run_after}
+use Rattle.world.proofs.steps.Ticks.{step_ticks}
+use Rattle.world.proofs.replays.Replays.{sent_above}
+use Rattle.world.proofs.steps.Moves.{Moves, IsMove, each_is_move, shard_took, session_took, counts_session, handle_moves, hear_moves, shard_node_counts, session_node_counts}
+use Rattle.world.proofs.replays.Happenings.{submit_happens, collect_happens}
+use Rattle.world.proofs.replays.JournalSteps.{AreKnown, journal_later, journal_here}
+use Rattle.world.proofs.replays.OwnJournals.{run_journals}
 use Rattle.actors.specs.Journals.{receipts_from, from_node, sends_to, IsBeginning}
 use Rattle.threaded.proofs.Going.{replay_continues}
 use Rattle.threaded.proofs.Linked.{rank, rank_below, same_rank, rank_past, no_fewer, there_at, is_on, on_link, link_is, on_itself, on_its_link}

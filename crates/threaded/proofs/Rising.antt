@@ -20,10 +20,10 @@ use Rattle.messages.specs.Submitting.{move_if, begun, plan_fault, busy_or, submi
 use Rattle.messages.specs.Actors.{OfSession, ActorStep, of_session, actor_step, Replayed, replay, replay_of, home_after, home_before}
 use Rattle.world.specs.declared.completed.Completed.{Completed}
 use Rattle.world.specs.Journals.{finished_as}
-use Rattle.world.proofs.Among.{Among}
-use Rattle.world.proofs.HeardCases.{heard_kinds}
-use Rattle.world.proofs.Moves.{session_took}
-use Rattle.world.proofs.Replays.{unfolds}
+use Rattle.world.proofs.lists.Among.{Among}
+use Rattle.world.proofs.steps.HeardCases.{heard_kinds}
+use Rattle.world.proofs.steps.Moves.{session_took}
+use Rattle.world.proofs.replays.Replays.{unfolds}
 use Rattle.threaded.proofs.Ending.{on_clock_is}
 use Rattle.threaded.proofs.Machines.{opens_session}
 

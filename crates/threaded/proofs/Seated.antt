@@ -8,8 +8,8 @@ use Rattle.messages.specs.Topology.{TopologyValue, node_count}
 use Rattle.actors.specs.Journals.{receipts_from, sends_to, followed_by}
 use Rattle.actors.specs.Seats.{SeatValue, through}
 use Rattle.actors.specs.Shown.{Shown, AreTimed, IsShown}
-use Rattle.world.proofs.Among.{find_some}
-use Rattle.world.proofs.Happenings.{among_get}
+use Rattle.world.proofs.lists.Among.{find_some}
+use Rattle.world.proofs.replays.Happenings.{among_get}
 use Rattle.threaded.specs.declared.actor.Actor.{Actor}
 use Rattle.threaded.specs.Machines.{CameFrom, untaken_of, is_free}
 use Rattle.threaded.specs.OneRun.{seat_of, journal_at, journal_of, AreSeatsOf}

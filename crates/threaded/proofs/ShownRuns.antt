@@ -18,12 +18,12 @@ use Rattle.actors.specs.Journals.{receipts_from, sends_to}
 use Rattle.world.specs.declared.run_event.RunEvent.{RunEvent}
 use Rattle.world.specs.Run.{Run, run}
 use Rattle.world.specs.Journals.{actor_in, journal_in, held_in, sent_from, DoFit}
-use Rattle.world.proofs.Among.{Among, among_contains, contains_among, append_first, append_second, among_append, filter_only, filter_among}
-use Rattle.world.proofs.Happenings.{among_get}
-use Rattle.world.proofs.Ticks.{step_ticks}
-use Rattle.world.proofs.Replays.{replay_push, NextAbove, rest_above}
-use Rattle.world.proofs.OwnJournals.{run_journals, runs_fit}
-use Rattle.world.proofs.Merged.{are_a_run}
+use Rattle.world.proofs.lists.Among.{Among, among_contains, contains_among, append_first, append_second, among_append, filter_only, filter_among}
+use Rattle.world.proofs.replays.Happenings.{among_get}
+use Rattle.world.proofs.steps.Ticks.{step_ticks}
+use Rattle.world.proofs.replays.Replays.{replay_push, NextAbove, rest_above}
+use Rattle.world.proofs.replays.OwnJournals.{run_journals, runs_fit}
+use Rattle.world.proofs.replays.Merged.{are_a_run}
 use Rattle.threaded.specs.Machines.{StaysApart}
 use Rattle.threaded.specs.OneRun.{DoLinksMatch}
 use Rattle.actors.specs.Shown.{Shown, mark_after, sent_after, clock_from, clock_after, AreTimed}

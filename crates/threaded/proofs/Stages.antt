@@ -12,14 +12,14 @@ use Rattle.messages.specs.Actors.{clock_of, opening_actor, ActorStep, actor_step
 use Rattle.world.specs.declared.run_event.RunEvent.{RunEvent as Event}
 use Rattle.world.specs.Run.{Run, opening, step, run}
 use Rattle.world.specs.Journals.{actor_in, journal_in, held_in, IsThreadedRun}
-use Rattle.world.proofs.Among.{Among}
-use Rattle.world.proofs.Refusals.{kept_is_run}
-use Rattle.world.proofs.Runs.{run_after}
-use Rattle.world.proofs.Ticks.{step_ticks}
-use Rattle.world.proofs.Moves.{Moves, IsMove, each_is_move}
-use Rattle.world.proofs.Happenings.{Happens, handle_happens, submit_happens, collect_happens}
-use Rattle.world.proofs.JournalSteps.{AreKnown, apart_too, journal_here, journal_there}
-use Rattle.world.proofs.OwnJournals.{run_journals}
+use Rattle.world.proofs.lists.Among.{Among}
+use Rattle.world.proofs.steps.Refusals.{kept_is_run}
+use Rattle.world.proofs.safety.Runs.{run_after}
+use Rattle.world.proofs.steps.Ticks.{step_ticks}
+use Rattle.world.proofs.steps.Moves.{Moves, IsMove, each_is_move}
+use Rattle.world.proofs.replays.Happenings.{Happens, handle_happens, submit_happens, collect_happens}
+use Rattle.world.proofs.replays.JournalSteps.{AreKnown, apart_too, journal_here, journal_there}
+use Rattle.world.proofs.replays.OwnJournals.{run_journals}
 use Rattle.threaded.specs.Machines.{StaysApart}
 use Rattle.actors.specs.Shown.{clock_with, clock_from}
 use Rattle.threaded.proofs.Going.{replay_takes}

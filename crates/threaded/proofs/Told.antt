@@ -15,11 +15,11 @@ use Rattle.world.specs.declared.run_event.RunEvent.{RunEvent}
 use Rattle.world.specs.Run.{Run, run}
 use Rattle.world.specs.Journals.{journal_in, finished_as, ended_at, held_in, IsRunOf}
 use Rattle.world.specs.Threads.{op_numbered}
-use Rattle.world.proofs.Among.{Among, among_contains, filter_only}
-use Rattle.world.proofs.Homes.{homes_are_of_moves}
-use Rattle.world.proofs.Laws.{entries_are_of_submissions}
-use Rattle.world.proofs.OwnJournals.{run_journals}
-use Rattle.world.proofs.Journaled.{operation_there}
+use Rattle.world.proofs.lists.Among.{Among, among_contains, filter_only}
+use Rattle.world.proofs.causal.Homes.{homes_are_of_moves}
+use Rattle.world.proofs.promised.Laws.{entries_are_of_submissions}
+use Rattle.world.proofs.replays.OwnJournals.{run_journals}
+use Rattle.world.proofs.replays.Journaled.{operation_there}
 use Rattle.threaded.specs.Machines.{as_finished}
 use Rattle.threaded.specs.OneRun.{seat_of, journal_at, journal_of}
 use Rattle.threaded.specs.Concluded.{by_session}

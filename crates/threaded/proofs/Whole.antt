@@ -11,8 +11,8 @@ use Rattle.world.specs.declared.run_event.RunEvent.{RunEvent}
 use Rattle.world.specs.declared.completed.Completed.{Completed}
 use Rattle.world.specs.Run.{run}
 use Rattle.world.specs.Journals.{actor_in, held_in, ended_at, IsRunOf, DoFit}
-use Rattle.world.proofs.OwnJournals.{run_journals}
-use Rattle.world.proofs.Merged.{are_a_run}
+use Rattle.world.proofs.replays.OwnJournals.{run_journals}
+use Rattle.world.proofs.replays.Merged.{are_a_run}
 use Rattle.threaded.specs.Machines.{StaysApart, has_none_open, as_finished}
 use Rattle.threaded.specs.OneRun.{seat_of, journal_of, AreSeatsOf, DoLinksMatch}
 use Rattle.threaded.specs.Matching.{AreKept, AreAllTimed, DoReceive}

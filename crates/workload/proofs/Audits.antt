@@ -18,11 +18,11 @@ use Rattle.world.specs.declared.completed.Completed.{Completed}
 use Rattle.world.specs.Run.{Run, run}
 use Rattle.world.specs.Histories.{IsHistory}
 use Rattle.world.specs.Promises.{Fits}
-use Rattle.world.proofs.Addresses.{stands}
-use Rattle.world.proofs.Among.{Among, among_contains}
-use Rattle.world.proofs.Homes.{homes_are_of_moves}
-use Rattle.world.proofs.HomesThere.{home_is_there}
-use Rattle.world.proofs.Laws.{reads_show_one_table, entries_are_of_submissions}
+use Rattle.world.proofs.envelopes.Addresses.{stands}
+use Rattle.world.proofs.lists.Among.{Among, among_contains}
+use Rattle.world.proofs.causal.Homes.{homes_are_of_moves}
+use Rattle.world.proofs.causal.HomesThere.{home_is_there}
+use Rattle.world.proofs.promised.Laws.{reads_show_one_table, entries_are_of_submissions}
 use Rattle.audit.specs.declared.found.Audit.{Audit}
 use Rattle.audit.specs.Audit.{is_right, is_wrong_on, is_wrong}
 use Rattle.audit.proofs.Same.{right_is_meaning}

@@ -10,8 +10,8 @@ use Rattle.world.specs.Run.{Run, opening, step, continued, run}
 use Rattle.world.specs.Refusals.{Refusal, Refused, refusal_of}
 use Rattle.world.specs.Lookups.{first_unhandled}
 use Rattle.world.specs.World.{WorldValue, run_of, refusal_in, Takes, IsRefusedAs}
-use Rattle.world.proofs.Runs.{run_after}
-use Rattle.world.proofs.Unhandled.{finds_unhandled}
+use Rattle.world.proofs.safety.Runs.{run_after}
+use Rattle.world.proofs.quiet.Unhandled.{finds_unhandled}
 use Rattle.workload.specs.Simulation.{deliveries, ended_between, told_if, told_of, then_told, told}
 use Rattle.workload.specs.Drain.{AreAllowed, IsDrained, IsDrainedUntil}
 use Rattle.workload.proofs.Told.{none_ended, ended_after, told_after}

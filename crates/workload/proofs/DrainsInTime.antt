@@ -12,10 +12,10 @@ use Rattle.world.specs.Refusals.{refusal_of}
 use Rattle.world.specs.Lookups.{first_unhandled}
 use Rattle.world.specs.World.{WorldValue, run_of}
 use Rattle.world.specs.Drains.{deliveries_left, with_delivered, drained, HasEnded}
-use Rattle.world.proofs.Runs.{run_after}
-use Rattle.world.proofs.Refusals.{allowed_is_added}
-use Rattle.world.proofs.Unhandled.{finds_unhandled}
-use Rattle.world.proofs.DrainEnds.{drained_quiet, deliveries_are_allowed, deliveries_leave_fewer, drains_end}
+use Rattle.world.proofs.safety.Runs.{run_after}
+use Rattle.world.proofs.steps.Refusals.{allowed_is_added}
+use Rattle.world.proofs.quiet.Unhandled.{finds_unhandled}
+use Rattle.world.proofs.drains.DrainEnds.{drained_quiet, deliveries_are_allowed, deliveries_leave_fewer, drains_end}
 use Rattle.workload.specs.Simulation.{deliveries}
 use Rattle.workload.specs.Drain.{IsDrained, IsDrainedUntil, HasRoom}
 use Rattle.workload.proofs.Spelled.{none_delivered, next_delivered, all_delivered}

@@ -7,7 +7,7 @@ use Rattle.world.specs.declared.run_event.RunEvent.{RunEvent as Event}
 use Rattle.world.specs.declared.run_event.RunEvent.TheVariants.{Submit, Deliver, Collect}
 use Rattle.world.specs.Run.{Run, opening, step}
 use Rattle.world.specs.Refusals.{Refusal, Refused, NotSent, NoSuchActor, refusal_of}
-use Rattle.world.proofs.Refusals.{have_reasons}
+use Rattle.world.proofs.steps.Refusals.{have_reasons}
 use Rattle.workload.specs.declared.script.Script.{Script}
 use Rattle.workload.specs.declared.transcript.Entry.{Entry}
 use Rattle.workload.specs.Simulation.{submission_refused, refused_as, told_if, told_of, then_told, told, events_of, simulated}

@@ -12,9 +12,9 @@ use Rattle.world.specs.declared.completed.Completed.{Completed}
 use Rattle.world.specs.Run.{Run, opening, step, continued, run}
 use Rattle.world.specs.Refusals.{Refusal, Refused, NotSent, NoSuchActor, refusal_of, refusal_of_message}
 use Rattle.world.specs.World.{WorldValue, run_of, refusal_in, Takes, IsRefusedAs}
-use Rattle.world.proofs.Grown.{run_grew}
-use Rattle.world.proofs.Refusals.{refused_stays}
-use Rattle.world.proofs.Runs.{run_after}
+use Rattle.world.proofs.growing.Grown.{run_grew}
+use Rattle.world.proofs.steps.Refusals.{refused_stays}
+use Rattle.world.proofs.safety.Runs.{run_after}
 use Rattle.workload.specs.declared.script.Event.{Event as ScriptEvent}
 use Rattle.workload.specs.declared.script.Event.TheVariants as script
 use Rattle.workload.specs.declared.transcript.Entry.{Entry}

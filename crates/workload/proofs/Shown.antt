@@ -13,8 +13,8 @@ use Rattle.world.specs.declared.run_event.RunEvent.{RunEvent as Event}
 use Rattle.world.specs.declared.completed.Completed.{Completed}
 use Rattle.world.specs.Run.{Run, opening, run}
 use Rattle.world.specs.Promises.{Fits}
-use Rattle.world.proofs.Among.{among_contains, contains_among, filter_among, map_only}
-use Rattle.world.proofs.Laws.{reads_show_one_table, entries_are_of_submissions}
+use Rattle.world.proofs.lists.Among.{among_contains, contains_among, filter_among, map_only}
+use Rattle.world.proofs.promised.Laws.{reads_show_one_table, entries_are_of_submissions}
 use Rattle.workload.specs.declared.script.Event.{Event as ScriptEvent}
 use Rattle.workload.specs.declared.script.Script.{Script}
 use Rattle.workload.specs.declared.transcript.Entry.{Entry}

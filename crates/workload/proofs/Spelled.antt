@@ -5,7 +5,7 @@ use Rattle.messages.specs.Topology.{TopologyValue}
 use Rattle.world.specs.declared.run_event.RunEvent.TheVariants.{Deliver}
 use Rattle.world.specs.Run.{Run, opening, step, continued}
 use Rattle.world.specs.Lookups.{first_unhandled}
-use Rattle.world.proofs.Runs.{run_after}
+use Rattle.world.proofs.safety.Runs.{run_after}
 use Rattle.workload.specs.declared.script.Event.{Event as ScriptEvent}
 use Rattle.workload.specs.declared.script.Script.{Script}
 use Rattle.workload.specs.declared.transcript.Entry.{Entry}

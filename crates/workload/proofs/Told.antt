@@ -16,8 +16,8 @@ use Rattle.world.specs.declared.completed.Completed.{Completed}
 use Rattle.world.specs.Run.{Run, step, continued}
 use Rattle.world.specs.Refusals.{Refusal, Refused, NotSent, NoSuchActor, refusal_of}
 use Rattle.world.specs.Journals.{IsBeginning}
-use Rattle.world.proofs.Grown.{run_grew}
-use Rattle.world.proofs.Refusals.{refused_stays}
+use Rattle.world.proofs.growing.Grown.{run_grew}
+use Rattle.world.proofs.steps.Refusals.{refused_stays}
 use Rattle.workload.specs.declared.transcript.Entry.{Entry}
 use Rattle.workload.specs.declared.transcript.Entry.TheVariants as entry
 use Rattle.workload.specs.Simulation.{entry_by, entry_of, ended_between, submission_refused, refused_as, told_if, told_of, then_told, told, is_refusal, is_outcome, with_refusal, left_out, refusal_entry}

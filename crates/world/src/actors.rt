@@ -78,7 +78,7 @@ fn copy_of(network: &Outbox, number: usize) -> Result<Envelope, Fault>
 }
 
 /// Why an event at this clock is refused where there is no memory for it: the clock is looked at first.
-#[tactic(auto, using(crate::proofs::Unready::spent, crate::proofs::Unready::unspent))]
+#[tactic(auto, using(crate::proofs::in_code::Unready::spent, crate::proofs::in_code::Unready::unspent))]
 fn without_memory(clock: Clock, time: Time) -> Fault
     ensures { IsSpentOrMemory (ticked clock time) result }
 {
@@ -91,7 +91,7 @@ fn without_memory(clock: Clock, time: Time) -> Fault
 
 impl Actors {
     /// The clock of the actor with this node.
-    #[tactic(auto, using(crate::proofs::Unready::shard_clock, crate::proofs::Unready::station_clock))]
+    #[tactic(auto, using(crate::proofs::in_code::Unready::shard_clock, crate::proofs::in_code::Unready::station_clock))]
     fn clock_of(&self, node: Node) -> Clock
         requires { node < length self.now.shards.items + length self.now.stations.items }
         ensures { (top : TopologyValue) (events : List Event) → IsRunning top (run top events) self.now → clock_at top (run top events) node ≡ result }
@@ -106,7 +106,7 @@ impl Actors {
     }
 
     /// Why the delivery of this message is refused where there is no memory for it.
-    #[tactic(auto, using(crate::proofs::Unready::delivery_unready))]
+    #[tactic(auto, using(crate::proofs::in_code::Unready::delivery_unready))]
     pub fn delivery_without_memory(&self, number: usize) -> Fault
         requires sent { number < length self.now.network.sent }
         requires addressed { (e : Envelope) → slice_get self.now.network.sent number ≡ Some e → e.to < length self.now.shards.items + length self.now.stations.items }
@@ -120,7 +120,7 @@ impl Actors {
     }
 
     /// Why a collection is refused where there is no memory for it.
-    #[tactic(auto, using(crate::proofs::Unready::collection_unready))]
+    #[tactic(auto, using(crate::proofs::in_code::Unready::collection_unready))]
     pub fn collection_without_memory(&self, shard: Node, time: Time) -> Fault
         requires { shard < length self.now.shards.items }
         ensures { (top : TopologyValue) (events : List Event) → IsRunning top (run top events) self.now
@@ -131,7 +131,7 @@ impl Actors {
     }
 
     /// Why a submission is refused where there is no memory for it.
-    #[tactic(auto, using(crate::proofs::Unready::submission_unready))]
+    #[tactic(auto, using(crate::proofs::in_code::Unready::submission_unready))]
     pub fn submission_without_memory(&self, session: Node, op: &Op) -> Fault
         requires station { length self.now.shards.items ≤ session }
         requires stations { session < length self.now.shards.items + length self.now.stations.items }
@@ -231,21 +231,6 @@ impl Actors {
         ensures topology { self.new.topology ≡ self.old.topology }
     {
         let place = usize::from(envelope.to.get()) - self.shards.len();
-        self.to_station(place, envelope)
-    }
-
-    /// The session at this place, which follows the shards, handles an envelope.
-    fn to_station(&mut self, place: usize, envelope: Envelope) -> Result<(), Fault>
-        requires place { place < length self.old.stations.items }
-        requires to { envelope.to ≡ length self.old.shards.items + place }
-        requires room { HasRoom self.old.transcript }
-        ensures ok { (top : TopologyValue) (events : List Event) (k : ℕ) → IsRunning top (run top events) self.old → slice_get self.old.network.sent k ≡ Some envelope
-            → OnOk result (HasTaken top events (Deliver k) self.new) }
-        ensures refused { (top : TopologyValue) (events : List Event) (k : ℕ) → IsRunning top (run top events) self.old → slice_get self.old.network.sent k ≡ Some envelope
-            → IfErr result (IsRefusedAs (refusal_of top (run top events) (Deliver k))) }
-        ensures same { (top : TopologyValue) (events : List Event) → IsRunning top (run top events) self.old → OnErr result (IsRunning top (run top events) self.new) }
-        ensures topology { self.new.topology ≡ self.old.topology }
-    {
         match self.stations[place].hear(envelope, &mut self.network, &mut self.transcript) {
             Ok(()) => Ok(()),
             Err(fault) => Err(fault),

@@ -35,7 +35,7 @@ fn first_unmarked(marks: &[bool], from: usize) -> usize
 }
 
 /// Makes the list longer, so that it has this place.
-#[tactic(auto, using(crate::proofs::Marking::marked_push))]
+#[tactic(auto, using(crate::proofs::lists::Marking::marked_push))]
 fn extend(marks: &mut Vec<bool>, number: usize) -> Result<(), AllocError>
     ensures same { (j : ℕ) → is_marked marks.new.items j ≡ is_marked marks.old.items j }
     ensures room { OnOk result (number < length marks.new.items) }
@@ -67,7 +67,7 @@ impl Delivered {
     }
 
     /// Marks a number. Costs how far the first number that isn't marked moves.
-    #[tactic(auto, using(crate::proofs::Marking::marked_set, crate::proofs::Marking::still_marked))]
+    #[tactic(auto, using(crate::proofs::lists::Marking::marked_set, crate::proofs::lists::Marking::still_marked))]
     pub fn mark(&mut self, number: usize)
         requires { number < length self.old.marks }
         ensures { (j : ℕ) → is_marked self.new.marks j ≡ (j == number || is_marked self.old.marks j) }

@@ -40,7 +40,7 @@ fn decided(home: Home, shards: &[Shard], batch: &Batch, txn: TxnId) -> Option<(T
 
 /// The entry of a write in the history of this data centre, by asking the coordinator there. None where it isn't decided
 /// there. Refused with `Memory` alone.
-#[tactic(auto, using(crate::proofs::AskedFor::entry_told))]
+#[tactic(auto, using(crate::proofs::histories::AskedFor::entry_told))]
 fn entry(home: Home, shards: &[Shard], write: &Written) -> Result<Option<Committed>, Fault>
     requires some { 0 < home.shards }
     requires shards { home.dc * home.shards + home.shards ≤ length shards.now }
@@ -80,7 +80,7 @@ fn add(history: &mut History, entry: Option<Committed>) -> Result<(), Fault>
 }
 
 /// The entries of all these writes, in their order. Refused with `Memory` alone.
-#[tactic(auto, using(crate::proofs::AskedFor::one_more_asked))]
+#[tactic(auto, using(crate::proofs::histories::AskedFor::one_more_asked))]
 pub fn history(
     alloc: Global,
     home: Home,

@@ -24,7 +24,7 @@ ghost use Rattle.world.specs.WorkedTimes.{two_shards_of_three, both_wait, one_is
 
 /// The events that a run keeps, which are those that weren't refused, lead to the same run. Does nothing; its contract is
 /// the law.
-#[tactic(auto, using(crate::proofs::Replayed::runs_replayed))]
+#[tactic(auto, using(crate::proofs::worked::Replayed::runs_replayed))]
 pub fn refused_events_are_left_out()
     ensures { (top : TopologyValue) (events : List Event) → run top (run top events).events ≡ run top events }
 {}
@@ -33,7 +33,7 @@ pub fn refused_events_are_left_out()
 /// refuse submissions for an open operation and for what they ask, and any event for a spent clock. The lists of events none of
 /// which is refused are those that a run keeps whole; what any run keeps is one, and one goes on by each event that isn't
 /// refused. Does nothing; its contract is the law.
-#[tactic(auto, using(crate::proofs::Refusals::none_if_added, crate::proofs::Refusals::refused_stays, crate::proofs::Refusals::have_reasons, crate::proofs::Refusals::is_run_if_kept, crate::proofs::Refusals::kept_events_are_run, crate::proofs::Refusals::run_goes_on))]
+#[tactic(auto, using(crate::proofs::steps::Refusals::none_if_added, crate::proofs::steps::Refusals::refused_stays, crate::proofs::steps::Refusals::have_reasons, crate::proofs::steps::Refusals::is_run_if_kept, crate::proofs::steps::Refusals::kept_events_are_run, crate::proofs::steps::Refusals::run_goes_on))]
 pub fn refusals_are_told()
     ensures added { (top : TopologyValue) (w : Run) (x : Event) → (refusal_of top w x ≡ None) ↔ ((step top w x).events ≡ w.events ++ x ∷ []) }
     ensures refused { (top : TopologyValue) (w : Run) (x : Event) (r : Refusal) → refusal_of top w x ≡ Some r → step top w x ≡ w }

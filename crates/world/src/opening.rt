@@ -36,7 +36,7 @@ fn open_shard(alloc: Global, topology: &Topology, node: Node) -> Shard
 }
 
 /// The shards.
-#[tactic(auto, using(crate::proofs::Beginning::none_yet, crate::proofs::Beginning::one_more, crate::proofs::Beginning::shards_begin, crate::proofs::Beginning::node_is_shard))]
+#[tactic(auto, using(crate::proofs::in_code::Beginning::none_yet, crate::proofs::in_code::Beginning::one_more, crate::proofs::in_code::Beginning::shards_begin, crate::proofs::in_code::Beginning::node_is_shard))]
 fn open_shards(alloc: Global, topology: &Topology) -> Result<Vec<Shard>, Fault>
     ensures ok { IfOk result (λ shards. AreShards topology.now (λ node. new_shard) shards.items) }
     ensures memory { IfErr result (λ e. e ≡ Fault.Memory) }
@@ -70,7 +70,7 @@ fn open_station(alloc: Global, topology: &Topology, session: u16) -> Result<Stat
 }
 
 /// The sessions.
-#[tactic(auto, using(crate::proofs::Beginning::none_yet, crate::proofs::Beginning::one_more, crate::proofs::Beginning::stations_begin))]
+#[tactic(auto, using(crate::proofs::in_code::Beginning::none_yet, crate::proofs::in_code::Beginning::one_more, crate::proofs::in_code::Beginning::stations_begin))]
 fn open_stations(alloc: Global, topology: &Topology) -> Result<Vec<Station>, Fault>
     ensures ok { IfOk result (λ stations. AreStations (opening topology.now) topology.now stations.items) }
     ensures memory { IfErr result (λ e. e ≡ Fault.Memory) }
@@ -90,7 +90,7 @@ fn open_stations(alloc: Global, topology: &Topology) -> Result<Vec<Station>, Fau
 }
 
 /// A copy of a topology. Refused with `Memory` alone.
-#[tactic(auto, using(crate::proofs::Beginning::sound_topology))]
+#[tactic(auto, using(crate::proofs::in_code::Beginning::sound_topology))]
 fn copy_of(alloc: Global, topology: &Topology) -> Result<Topology, Fault>
     ensures same { IfOk result (λ copy. copy ≡ topology.now) }
     ensures sound { IfOk result (λ copy. is_topology topology.now.dcs topology.now.shards topology.now.homes ≡ true) }

@@ -41,7 +41,7 @@ pub fn moves_bring_their_past()
 /// In every run each completed read shows, at each asked location, nothing older than what the asked shard had applied
 /// there before it sent the answer that the session kept; and of each shard that the read asked, its session kept one answer
 /// of the first round, and no other. Does nothing; its contract is the law.
-#[tactic(auto, using(crate::proofs::Laws::reads_are_fresh, crate::proofs::FirstRounds::first_rounds_are_whole))]
+#[tactic(auto, using(crate::proofs::promised::Laws::reads_are_fresh, crate::proofs::fresh::FirstRounds::first_rounds_are_whole))]
 pub fn reads_are_fresh()
     ensures fresh { (top : TopologyValue) (events : List Event) → 0 < top.shards → ReadsAreFresh top (run top events) }
     ensures kept { (top : TopologyValue) (events : List Event) → 0 < top.shards → FirstRoundsAreWhole top (run top events) }
@@ -50,7 +50,7 @@ pub fn reads_are_fresh()
 /// In every run a read ends with Collected only where its effective time lay below the horizon of a shard that it asked, at
 /// the moment that this shard said so; and the horizon of a shard is the greatest time of its collections so far. Does
 /// nothing; its contract is the law.
-#[tactic(auto, using(crate::proofs::GivenUp::collected_in_runs, crate::proofs::Horizons::horizons_are_of_collections))]
+#[tactic(auto, using(crate::proofs::fresh::GivenUp::collected_in_runs, crate::proofs::fresh::Horizons::horizons_are_of_collections))]
 pub fn reads_are_given_up_below_horizons()
     ensures collected { (top : TopologyValue) (events : List Event) → 0 < top.shards → CollectedIsBelowHorizon top (run top events) }
     ensures horizons { (top : TopologyValue) (events : List Event) → HorizonsAreOfCollections (run top events) }
@@ -85,7 +85,7 @@ pub fn later_commits_are_above_reads()
 /// In every run a transaction has one stamp in all data centres, and no other has it; where it was submitted, its time is
 /// the commit time and its node the coordinator; and each stamp that a message names, of a decision that it tells or of a part
 /// that it replicates, is that of a decision. Does nothing; its contract is the law.
-#[tactic(auto, using(crate::proofs::Laws::stamps_in_runs, crate::proofs::NamedStamps::stamps_are_named))]
+#[tactic(auto, using(crate::proofs::promised::Laws::stamps_in_runs, crate::proofs::histories::NamedStamps::stamps_are_named))]
 pub fn stamps_agree_everywhere()
     ensures decisions { (top : TopologyValue) (events : List Event) → 0 < top.shards → StampsAgree top (run top events) }
     ensures messages { (top : TopologyValue) (events : List Event) → 0 < top.shards → StampsAreNamed (run top events) }
@@ -101,7 +101,7 @@ pub fn stamps_follow_causal_order()
 
 /// In every run each completed write stands in the history of the data centre where it was submitted, with the commit time and
 /// the stamp that the session was told. Does nothing; its contract is the law.
-#[tactic(auto, using(crate::proofs::Laws::writes_in_runs))]
+#[tactic(auto, using(crate::proofs::promised::Laws::writes_in_runs))]
 pub fn completed_writes_are_in_the_history()
     ensures { (top : TopologyValue) (events : List Event) → 0 < top.shards → WritesAreTold top (run top events) }
 {}
@@ -124,7 +124,7 @@ pub fn times_of_a_session_never_fall()
 
 /// In every run the envelopes that a shard handled are honest, which is the condition under which one shard is right. Does
 /// nothing; its contract is the law.
-#[tactic(auto, using(crate::proofs::Laws::handled_is_honest))]
+#[tactic(auto, using(crate::proofs::promised::Laws::handled_is_honest))]
 pub fn handled_envelopes_are_honest()
     ensures { (top : TopologyValue) (events : List Event) → 0 < top.shards → HandledIsHonest top (run top events) }
 {}
@@ -157,7 +157,7 @@ pub fn quiet_means_done()
 
 /// In every run no clock and no time of a message is above the number of events. So no clock is spent before there were 2^48
 /// events. Does nothing; its contract is the law.
-#[tactic(auto, using(crate::proofs::EventCounts::clocks_count_events))]
+#[tactic(auto, using(crate::proofs::drains::EventCounts::clocks_count_events))]
 pub fn clocks_count_events()
     ensures { (top : TopologyValue) (events : List Event) → ClocksCountEvents (run top events) }
 {}

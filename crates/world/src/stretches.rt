@@ -52,7 +52,7 @@ impl Model for Events {
 
 impl Stretch {
     /// Takes the delivery of this message, where it follows the last one here; the answer is whether it does.
-    #[tactic(auto, using(crate::proofs::Stretched::one_more))]
+    #[tactic(auto, using(crate::proofs::in_code::Stretched::one_more))]
     fn takes(&mut self, number: usize) -> bool
         ensures taken { result ≡ true → events_of self.new ≡ events_of self.old ++ Deliver number ∷ [] }
         ensures same { result ≡ false → self.new ≡ self.old }
@@ -86,7 +86,7 @@ impl Events {
     }
 
     /// A session submitted an operation. There is room.
-    #[tactic(auto, using(crate::proofs::Stretched::stretch_added))]
+    #[tactic(auto, using(crate::proofs::in_code::Stretched::stretch_added))]
     pub fn add_submission(&mut self, session: Node, op: Op)
         requires { 0 < self.old.room }
         ensures { self.new.items ≡ self.old.items ++ Submit session op ∷ [] }
@@ -97,7 +97,7 @@ impl Events {
     }
 
     /// A message was delivered. There is room.
-    #[tactic(auto, using(crate::proofs::Stretched::stretch_added))]
+    #[tactic(auto, using(crate::proofs::in_code::Stretched::stretch_added))]
     pub fn add_delivery(&mut self, number: usize)
         requires { 0 < self.old.room }
         ensures { self.new.items ≡ self.old.items ++ Deliver number ∷ [] }
@@ -113,7 +113,7 @@ impl Events {
     }
 
     /// A shard collected up to a time. There is room.
-    #[tactic(auto, using(crate::proofs::Stretched::stretch_added))]
+    #[tactic(auto, using(crate::proofs::in_code::Stretched::stretch_added))]
     pub fn add_collection(&mut self, shard: Node, time: Time)
         requires { 0 < self.old.room }
         ensures { self.new.items ≡ self.old.items ++ Collect shard time ∷ [] }

@@ -62,7 +62,7 @@ impl World {
     /// batch or a move takes along; a move of a session that depends on nothing ends at once. Refused with `Busy` while another
     /// operation is open, then as `plan_batch` and `plan_read` refuse it and a move with `UnknownHome` and `AlreadyHome`, then
     /// with `ClockSpent`, and with `Memory`; then nothing changes, and the operation is handed back.
-    #[tactic(auto, using(crate::proofs::Held::submission_holds, crate::proofs::Held::still_holds, crate::proofs::Held::still_logged, crate::proofs::Held::takes, crate::proofs::Held::station_from, crate::proofs::Held::station_below))]
+    #[tactic(auto, using(crate::proofs::in_code::Held::submission_holds, crate::proofs::in_code::Held::still_holds, crate::proofs::in_code::Held::still_logged, crate::proofs::in_code::Held::takes, crate::proofs::in_code::Held::station_from, crate::proofs::in_code::Held::station_below))]
     pub fn submit(&mut self, session: Node, op: Op) -> Result<u64, (Fault, Op)>
         requires { is_session self.old.top session ≡ true }
         ensures number { IfOk result (λ n. n ≡ ((run_of self.old).sessions session).count + 1) }
@@ -84,7 +84,7 @@ impl World {
     /// Costs what the actor's event does, and a mark for each message before it that has none yet: each message gets its
     /// mark once in a run. Refused with `ClockSpent` where the clock of its actor would leave its range, and with `Memory`;
     /// then nothing changes.
-    #[tactic(auto, using(crate::proofs::Held::delivery_holds, crate::proofs::Held::still_holds, crate::proofs::Held::still_logged, crate::proofs::Held::takes, crate::proofs::Held::addressed, crate::proofs::Held::sent_number))]
+    #[tactic(auto, using(crate::proofs::in_code::Held::delivery_holds, crate::proofs::in_code::Held::still_holds, crate::proofs::in_code::Held::still_logged, crate::proofs::in_code::Held::takes, crate::proofs::in_code::Held::addressed, crate::proofs::in_code::Held::sent_number))]
     pub fn deliver(&mut self, number: usize) -> Result<(), Fault>
         requires { number < length (run_of self.old).sent }
         ensures taken { OnOk result (Takes self.old (Deliver number) self.new) }
@@ -101,7 +101,7 @@ impl World {
 
     /// A shard collects up to a time. That the node is a shard's is the caller's condition. Refused with `ClockSpent` where
     /// its clock would leave its range, and with `Memory`; then nothing changes.
-    #[tactic(auto, using(crate::proofs::Held::collection_holds, crate::proofs::Held::still_holds, crate::proofs::Held::still_logged, crate::proofs::Held::takes, crate::proofs::Held::shard_place))]
+    #[tactic(auto, using(crate::proofs::in_code::Held::collection_holds, crate::proofs::in_code::Held::still_holds, crate::proofs::in_code::Held::still_logged, crate::proofs::in_code::Held::takes, crate::proofs::in_code::Held::shard_place))]
     pub fn collect(&mut self, shard: Node, time: Time) -> Result<(), Fault>
         requires { is_shard self.old.top shard ≡ true }
         ensures taken { OnOk result (Takes self.old (Collect shard time) self.new) }
@@ -117,7 +117,7 @@ impl World {
     }
 
     /// Which actors there are.
-    #[tactic(auto, using(crate::proofs::Held::told_topology))]
+    #[tactic(auto, using(crate::proofs::in_code::Held::told_topology))]
     pub fn topology(&self) -> &Topology
         ensures value { result.now ≡ self.now.top }
         ensures limits { is_topology self.now.top.dcs self.now.top.shards self.now.top.homes ≡ true }
@@ -126,7 +126,7 @@ impl World {
     }
 
     /// How many messages were sent: they are numbered from 0.
-    #[tactic(auto, using(crate::proofs::Held::told_sent))]
+    #[tactic(auto, using(crate::proofs::in_code::Held::told_sent))]
     pub fn sent(&self) -> usize
         ensures { result ≡ length (run_of self.now).sent }
     {
@@ -134,7 +134,7 @@ impl World {
     }
 
     /// The messages, in the order of sending.
-    #[tactic(auto, using(crate::proofs::Held::told_sent))]
+    #[tactic(auto, using(crate::proofs::in_code::Held::told_sent))]
     pub fn messages(&self) -> &[Envelope]
         ensures { result.now ≡ (run_of self.now).sent }
     {
@@ -142,7 +142,7 @@ impl World {
     }
 
     /// The number of the first message that wasn't delivered, if one wasn't. Takes no search.
-    #[tactic(auto, using(crate::proofs::Held::first_found))]
+    #[tactic(auto, using(crate::proofs::in_code::Held::first_found))]
     pub fn first_unhandled(&self) -> Option<usize>
         ensures exact { result ≡ first_unhandled (run_of self.now) }
         // without one, every operation has its outcome, every write is committed everywhere, and all tables are equal
@@ -157,7 +157,7 @@ impl World {
     }
 
     /// Whether each message that was sent was delivered.
-    #[tactic(auto, using(crate::proofs::Held::told_quiet))]
+    #[tactic(auto, using(crate::proofs::in_code::Held::told_quiet))]
     pub fn is_quiet(&self) -> bool
         ensures exact { (result ≡ true) ↔ IsQuiet (run_of self.now) }
         ensures done { result ≡ true → Settled self.now.top (run_of self.now) }
@@ -169,7 +169,7 @@ impl World {
     }
 
     /// The operations that ended, in order.
-    #[tactic(auto, using(crate::proofs::Held::told_transcript, crate::proofs::Promised::is_of, crate::proofs::Promised::one_table, crate::proofs::Promised::stays, crate::proofs::Promised::past, crate::proofs::Promised::fresh, crate::proofs::Promised::whole, crate::proofs::Promised::above, crate::proofs::Promised::given_up, crate::proofs::Promised::entries, crate::proofs::Promised::outcomes, crate::proofs::Promised::once, crate::proofs::Promised::told, crate::proofs::Promised::times))]
+    #[tactic(auto, using(crate::proofs::in_code::Held::told_transcript, crate::proofs::promised::Promised::is_of, crate::proofs::promised::Promised::one_table, crate::proofs::promised::Promised::stays, crate::proofs::promised::Promised::past, crate::proofs::promised::Promised::fresh, crate::proofs::promised::Promised::whole, crate::proofs::promised::Promised::above, crate::proofs::promised::Promised::given_up, crate::proofs::promised::Promised::entries, crate::proofs::promised::Promised::outcomes, crate::proofs::promised::Promised::once, crate::proofs::promised::Promised::told, crate::proofs::promised::Promised::times))]
     pub fn transcript(&self) -> &[Completed]
         ensures listed { result.now ≡ (run_of self.now).transcript }
         // each read is answered with the meaning of its request on one table: its home's history at its effective time
@@ -203,7 +203,7 @@ impl World {
     /// submission. That there is such a data centre is the caller's condition. In the order of m log n for m submitted
     /// batches and n transactions, beside the copies, which share the bytes of keys, names and values. Refused with
     /// `Memory` alone.
-    #[tactic(auto, using(crate::proofs::Promised::is_of, crate::proofs::Promised::tells, crate::proofs::Promised::grows, crate::proofs::Promised::stamps, crate::proofs::Promised::causes, crate::proofs::Promised::pasts))]
+    #[tactic(auto, using(crate::proofs::promised::Promised::is_of, crate::proofs::promised::Promised::tells, crate::proofs::promised::Promised::grows, crate::proofs::promised::Promised::stamps, crate::proofs::promised::Promised::causes, crate::proofs::promised::Promised::pasts))]
     pub fn history(&self, alloc: Global, dc: u16) -> Result<History, Fault>
         requires { dc < self.now.top.dcs }
         ensures listed { IfOk result (λ h. IsHistory self.now.top (run_of self.now) dc h) }
@@ -241,7 +241,7 @@ impl World {
 
     /// Ends the world for a program that ends with it, and hands out the operations that ended, in order: the memory of its
     /// events, its messages and the rows of its shards is given back with that of the process.
-    #[tactic(auto, using(crate::proofs::Held::told_transcript))]
+    #[tactic(auto, using(crate::proofs::in_code::Held::told_transcript))]
     pub fn leave(self) -> Vec<Completed>
         ensures { result.items ≡ (run_of self).transcript }
     {

@@ -1,5 +1,5 @@
 use Rattle.std.proofs.Common.{◌≡◌, ◌≤◌, List, length, slice_get, take, Some, refl, sym, subst}
-use Rattle.world.proofs.Replacing.{item_at}
+use Rattle.world.proofs.lists.Replacing.{item_at}
 use Rattle.messages.specs.Actors.{opening_home}
 use Rattle.running.specs.Asked.{asked_in}
 use Rattle.running.specs.Course.{HasCome}

@@ -1,5 +1,5 @@
 use Rattle.std.proofs.Common.{◌≡◌, ◌≤◌, List, length, slice_get, Some, subst}
-use Rattle.world.proofs.Replacing.{item_at}
+use Rattle.world.proofs.lists.Replacing.{item_at}
 use Rattle.running.proofs.ToldMore.{session_end, session_more, then_ok}
 use Rattle.running.proofs.telling.tell_session.Goals as goal
 

@@ -1,5 +1,5 @@
 use Rattle.std.proofs.Common.{inl, inr, rules}
-use Rattle.world.proofs.Addresses.{stands}
+use Rattle.world.proofs.envelopes.Addresses.{stands}
 use Rattle.service.proofs.Asked.{left_open_now}
 use Rattle.service.proofs.asking.ask.Goals as goal
 

@@ -1,7 +1,7 @@
 use Rattle.std.proofs.Common.{◌∙◌, ◌≤◌, ◌<◌, ◌++◌, sym, ap, subst, length, rules}
 use Rattle.std.specs.Prelude.{filter_map}
 use Rattle.world.specs.Asked.{entry_of}
-use Rattle.world.proofs.Replacing.{item_at}
+use Rattle.world.proofs.lists.Replacing.{item_at}
 use Rattle.threaded.specs.Asking.{writes_from}
 use Rattle.threaded.proofs.AskedFor.{few_ops, no_op, count_more, told_more}
 use Rattle.threaded.proofs.history.add_session.Goals.{in-Some+in_ok-add_of, in_default}

@@ -1,7 +1,7 @@
 use Rattle.std.proofs.Common.{◌≡◌, ◌∙◌, suc, ◌+◌, ◌-◌, arith, ap, refl, subst, sym}
 use Rattle.std.proofs.lemmas.Result.{err_from_is_err_and}
 use Rattle.world.specs.World.{WorldValue, run_of}
-use Rattle.world.proofs.Unhandled.{finds_unhandled}
+use Rattle.world.proofs.quiet.Unhandled.{finds_unhandled}
 use Rattle.workload.specs.Drain.{IsDrained}
 use Rattle.workload.proofs.Drains.{not_begun, all_made, sent_unhandled, taken_more, whole_drain, refused_drain}
 use Rattle.workload.proofs.DrainsInTime.{world_in_time, memory_alone}

@@ -1,5 +1,5 @@
 use Rattle.messages.specs.ShardEvents.{shard_collect}
-use Rattle.world.proofs.Replacing.{on_ok, if_err, shard_did, shard_stands, refused_as}
+use Rattle.world.proofs.lists.Replacing.{on_ok, if_err, shard_did, shard_stands, refused_as}
 use Rattle.world.proofs.actors.collect_in.Goals as goal
 
 pub returns-clause-ok : goal.returns-clause-ok

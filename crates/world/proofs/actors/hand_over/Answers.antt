@@ -1,4 +1,4 @@
-use Rattle.world.proofs.Replacing.{on_ok, on_err, shard_did, shard_stands, shard_still}
+use Rattle.world.proofs.lists.Replacing.{on_ok, on_err, shard_did, shard_stands, shard_still}
 use Rattle.world.proofs.actors.hand_over.Goals as goal
 
 pub returns-clause-ok : goal.returns-clause-ok

@@ -1,6 +1,6 @@
 use Rattle.std.proofs.Common.{◌∙◌}
-use Rattle.world.proofs.Replacing.{item_at}
-use Rattle.world.proofs.AskedFor.{decided_there, within_home}
+use Rattle.world.proofs.lists.Replacing.{item_at}
+use Rattle.world.proofs.histories.AskedFor.{decided_there, within_home}
 use Rattle.world.proofs.history.decided.Goals as goal
 
 pub returns : goal.returns

@@ -1,8 +1,8 @@
 use Rattle.std.proofs.Common.{◌∙◌, ap}
 use Rattle.std.specs.Prelude.{filter_map}
 use Rattle.world.specs.Asked.{entry_at}
-use Rattle.world.proofs.Replacing.{item_at}
-use Rattle.world.proofs.AskedFor.{one_more_asked, all_asked}
+use Rattle.world.proofs.lists.Replacing.{item_at}
+use Rattle.world.proofs.histories.AskedFor.{one_more_asked, all_asked}
 use Rattle.world.proofs.history.history.Goals as goal
 
 pub loop-write-preserved : goal.loop-write-preserved

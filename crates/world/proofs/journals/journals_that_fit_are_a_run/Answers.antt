@@ -1,6 +1,6 @@
-use Rattle.world.proofs.Merged.{are_a_run}
-use Rattle.world.proofs.OwnJournals.{runs_fit}
-use Rattle.world.proofs.Links.{links_are_a_run}
+use Rattle.world.proofs.replays.Merged.{are_a_run}
+use Rattle.world.proofs.replays.OwnJournals.{runs_fit}
+use Rattle.world.proofs.replays.Links.{links_are_a_run}
 use Rattle.world.proofs.journals.journals_that_fit_are_a_run.Goals as goal
 
 pub returns-clause-fit : goal.returns-clause-fit

@@ -1,4 +1,4 @@
-use Rattle.world.proofs.Threaded.{show_one_table, keep_promises}
+use Rattle.world.proofs.promised.Threaded.{show_one_table, keep_promises}
 use Rattle.world.proofs.journals.threads_keep_the_promises.Goals as goal
 
 pub returns-clause-table : goal.returns-clause-table

@@ -1,4 +1,4 @@
-use Rattle.world.proofs.WorkedFreshness.{answer_kept, insert_applied}
+use Rattle.world.proofs.worked.WorkedFreshness.{answer_kept, insert_applied}
 use Rattle.world.proofs.law.worked_freshness.Goals as goal
 
 pub returns-clause-kept : goal.returns-clause-kept

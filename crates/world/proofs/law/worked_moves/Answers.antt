@@ -1,4 +1,4 @@
-use Rattle.world.proofs.WorkedMove.{quiet, behind_past}
+use Rattle.world.proofs.worked.WorkedMove.{quiet, behind_past}
 use Rattle.world.proofs.law.worked_moves.Goals as goal
 
 pub returns-clause-quiet : goal.returns-clause-quiet

@@ -1,4 +1,4 @@
-use Rattle.world.proofs.WorkedPasts.{own_write, read_first, read_second, quiet}
+use Rattle.world.proofs.worked.WorkedPasts.{own_write, read_first, read_second, quiet}
 use Rattle.world.proofs.law.worked_pasts.Goals as goal
 
 pub returns-clause-own_write : goal.returns-clause-own_write

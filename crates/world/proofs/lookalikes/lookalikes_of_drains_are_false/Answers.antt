@@ -1,4 +1,4 @@
-use Rattle.world.proofs.RefutedDrains.{yes_above, decisions, waiting, unhandled, clocks}
+use Rattle.world.proofs.worked.RefutedDrains.{yes_above, decisions, waiting, unhandled, clocks}
 use Rattle.world.proofs.lookalikes.lookalikes_of_drains_are_false.Goals as goal
 
 pub returns-clause-yes_above : goal.returns-clause-yes_above

@@ -1,4 +1,4 @@
-use Rattle.world.proofs.RefutedFreshness.{newer, other_rows, other_columns, at_delivery}
+use Rattle.world.proofs.worked.RefutedFreshness.{newer, other_rows, other_columns, at_delivery}
 use Rattle.world.proofs.lookalikes.lookalikes_of_fresh_reads_are_false.Goals as goal
 
 pub returns-clause-newer : goal.returns-clause-newer

@@ -1,4 +1,4 @@
-use Rattle.world.proofs.RefutedHistories.{never_grow, submitted, own_times, first_centre}
+use Rattle.world.proofs.worked.RefutedHistories.{never_grow, submitted, own_times, first_centre}
 use Rattle.world.proofs.lookalikes.lookalikes_of_histories_are_false.Goals as goal
 
 pub returns-clause-never_grow : goal.returns-clause-never_grow

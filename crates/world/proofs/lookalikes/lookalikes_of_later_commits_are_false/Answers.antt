@@ -1,4 +1,4 @@
-use Rattle.world.proofs.RefutedReads.{all_commits, any_row, far_above, above_its_home, completed_before}
+use Rattle.world.proofs.worked.RefutedReads.{all_commits, any_row, far_above, above_its_home, completed_before}
 use Rattle.world.proofs.lookalikes.lookalikes_of_later_commits_are_false.Goals as goal
 
 pub returns-clause-all_commits : goal.returns-clause-all_commits

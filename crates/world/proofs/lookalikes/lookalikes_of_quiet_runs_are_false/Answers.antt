@@ -1,4 +1,4 @@
-use Rattle.world.proofs.RefutedShards.{completed, nearly_quiet, anywhere, one_is_done, one_before}
+use Rattle.world.proofs.worked.RefutedShards.{completed, nearly_quiet, anywhere, one_is_done, one_before}
 use Rattle.world.proofs.lookalikes.lookalikes_of_quiet_runs_are_false.Goals as goal
 
 pub returns-clause-nearly_quiet : goal.returns-clause-nearly_quiet

@@ -1,4 +1,4 @@
-use Rattle.world.proofs.RefutedOutcomes.{everywhere, told_in_first_centre, times_rise, times_anywhere, homes, times_of_a_centre, ends_once, submits_once}
+use Rattle.world.proofs.worked.RefutedOutcomes.{everywhere, told_in_first_centre, times_rise, times_anywhere, homes, times_of_a_centre, ends_once, submits_once}
 use Rattle.world.proofs.lookalikes.lookalikes_of_sessions_are_false.Goals as goal
 
 pub returns-clause-told_in_first_centre : goal.returns-clause-told_in_first_centre

@@ -1,4 +1,4 @@
-use Rattle.world.proofs.RefutedShards.{all_that_was_sent, without_collections, each_node}
+use Rattle.world.proofs.worked.RefutedShards.{all_that_was_sent, without_collections, each_node}
 use Rattle.world.proofs.lookalikes.lookalikes_of_shards_are_false.Goals as goal
 
 pub returns-clause-all_that_was_sent : goal.returns-clause-all_that_was_sent

@@ -1,4 +1,4 @@
-use Rattle.world.proofs.RefutedHistories.{commit_times_agree, commit_times, below_commits, causes, converse}
+use Rattle.world.proofs.worked.RefutedHistories.{commit_times_agree, commit_times, below_commits, causes, converse}
 use Rattle.world.proofs.lookalikes.lookalikes_of_stamps_are_false.Goals as goal
 
 pub returns-clause-commit_times_agree : goal.returns-clause-commit_times_agree

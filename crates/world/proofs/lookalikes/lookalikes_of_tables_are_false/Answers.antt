@@ -1,4 +1,4 @@
-use Rattle.world.proofs.RefutedReads.{past_shown, earlier_table, later_table, first_centre, past_below, past_in_first_centre}
+use Rattle.world.proofs.worked.RefutedReads.{past_shown, earlier_table, later_table, first_centre, past_below, past_in_first_centre}
 use Rattle.world.proofs.lookalikes.lookalikes_of_tables_are_false.Goals as goal
 
 pub returns-clause-earlier_table : goal.returns-clause-earlier_table

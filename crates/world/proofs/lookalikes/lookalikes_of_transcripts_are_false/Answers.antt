@@ -1,4 +1,4 @@
-use Rattle.world.proofs.RefutedOutcomes.{refused_events, given_up, all_writes, submissions_end, next_number}
+use Rattle.world.proofs.worked.RefutedOutcomes.{refused_events, given_up, all_writes, submissions_end, next_number}
 use Rattle.world.proofs.lookalikes.lookalikes_of_transcripts_are_false.Goals as goal
 
 pub returns-clause-given_up : goal.returns-clause-given_up

@@ -1,4 +1,4 @@
-use Rattle.world.proofs.Beginning.{copied_so}
+use Rattle.world.proofs.in_code.Beginning.{copied_so}
 use Rattle.world.proofs.opening.copy_of.Goals as goal
 
 pub returns-clause-memory : goal.returns-clause-memory

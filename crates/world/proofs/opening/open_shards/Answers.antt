@@ -1,7 +1,7 @@
 use Rattle.std.proofs.Common.{le_trans, subst, sym, ◌+◌}
 use Rattle.messages.specs.Shard.{new_shard}
 use Rattle.shard.specs.Kept.{Represents}
-use Rattle.world.proofs.Beginning.{AreFirst, Begins, one_more}
+use Rattle.world.proofs.in_code.Beginning.{AreFirst, Begins, one_more}
 use Rattle.world.proofs.opening.open_shards.Goals as goal
 
 pub loop-node-preserved : goal.loop-node-preserved

@@ -1,6 +1,6 @@
 use Rattle.std.proofs.Common.{◌≡◌, ◌≤◌}
 use Rattle.messages.specs.Topology.{shard_count}
-use Rattle.world.proofs.Beginning.{AreFirst, Begins}
+use Rattle.world.proofs.in_code.Beginning.{AreFirst, Begins}
 use Rattle.world.proofs.opening.open_shards.Given as goal
 
 abbrev pub invariant-loop-node : goal.invariant-loop-node

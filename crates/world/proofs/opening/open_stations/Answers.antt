@@ -1,5 +1,5 @@
 use Rattle.std.proofs.Common.{le_trans, subst, sym, ◌+◌}
-use Rattle.world.proofs.Beginning.{AreFirst, SitsFirst, one_more}
+use Rattle.world.proofs.in_code.Beginning.{AreFirst, SitsFirst, one_more}
 use Rattle.world.proofs.opening.open_stations.Goals as goal
 
 pub loop-session-preserved : goal.loop-session-preserved

@@ -1,5 +1,5 @@
 use Rattle.std.proofs.Common.{◌≡◌, ◌≤◌, length}
-use Rattle.world.proofs.Beginning.{AreFirst, SitsFirst}
+use Rattle.world.proofs.in_code.Beginning.{AreFirst, SitsFirst}
 use Rattle.world.proofs.opening.open_stations.Given as goal
 
 abbrev pub invariant-loop-session : goal.invariant-loop-session

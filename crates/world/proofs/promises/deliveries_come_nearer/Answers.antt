@@ -1,4 +1,4 @@
-use Rattle.world.proofs.Deliveries.{deliveries_come_nearer, decisions_are_capped}
+use Rattle.world.proofs.drains.Deliveries.{deliveries_come_nearer, decisions_are_capped}
 use Rattle.world.proofs.promises.deliveries_come_nearer.Goals as goal
 
 pub returns-clause-nearer : goal.returns-clause-nearer

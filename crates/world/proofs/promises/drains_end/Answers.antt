@@ -1,4 +1,4 @@
-use Rattle.world.proofs.DrainEnds.{drains_end, deliveries_are_allowed, deliveries_leave_fewer}
+use Rattle.world.proofs.drains.DrainEnds.{drains_end, deliveries_are_allowed, deliveries_leave_fewer}
 use Rattle.world.proofs.promises.drains_end.Goals as goal
 
 pub returns-clause-ends : goal.returns-clause-ends

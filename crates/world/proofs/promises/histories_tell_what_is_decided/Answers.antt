@@ -1,4 +1,4 @@
-use Rattle.world.proofs.Laws.{histories_tell, named_in_runs, coordinators_in_runs}
+use Rattle.world.proofs.promised.Laws.{histories_tell, named_in_runs, coordinators_in_runs}
 use Rattle.world.proofs.promises.histories_tell_what_is_decided.Goals as goal
 
 pub returns-clause-entries : goal.returns-clause-entries

@@ -1,4 +1,4 @@
-use Rattle.world.proofs.Laws.{moves_bring_their_past}
+use Rattle.world.proofs.promised.Laws.{moves_bring_their_past}
 use Rattle.world.proofs.promises.moves_bring_their_past.Goals as goal
 
 pub returns : goal.returns

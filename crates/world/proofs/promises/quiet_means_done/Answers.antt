@@ -1,4 +1,4 @@
-use Rattle.world.proofs.Laws.{quiet_means_done}
+use Rattle.world.proofs.promised.Laws.{quiet_means_done}
 use Rattle.world.proofs.promises.quiet_means_done.Goals as goal
 
 pub returns : goal.returns

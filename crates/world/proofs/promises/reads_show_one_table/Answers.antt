@@ -1,4 +1,4 @@
-use Rattle.world.proofs.Laws.{reads_show_one_table, answers_stay}
+use Rattle.world.proofs.promised.Laws.{reads_show_one_table, answers_stay}
 use Rattle.world.proofs.promises.reads_show_one_table.Goals as goal
 
 pub returns-clause-now : goal.returns-clause-now

@@ -1,4 +1,4 @@
-use Rattle.world.proofs.Laws.{reads_show_their_past}
+use Rattle.world.proofs.promised.Laws.{reads_show_their_past}
 use Rattle.world.proofs.promises.reads_show_their_past.Goals as goal
 
 pub returns : goal.returns

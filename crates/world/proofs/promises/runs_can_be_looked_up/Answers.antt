@@ -1,7 +1,7 @@
-use Rattle.world.proofs.Addressed.{messages_are_for_actors}
-use Rattle.world.proofs.AskedHistory.{histories_are_asked}
-use Rattle.world.proofs.Unfinished.{shards_tell_unfinished}
-use Rattle.world.proofs.Unhandled.{finds_unhandled}
+use Rattle.world.proofs.envelopes.Addressed.{messages_are_for_actors}
+use Rattle.world.proofs.histories.AskedHistory.{histories_are_asked}
+use Rattle.world.proofs.in_code.Unfinished.{shards_tell_unfinished}
+use Rattle.world.proofs.quiet.Unhandled.{finds_unhandled}
 use Rattle.world.proofs.promises.runs_can_be_looked_up.Goals as goal
 
 pub returns-clause-messages : goal.returns-clause-messages

@@ -1,5 +1,5 @@
-use Rattle.world.proofs.Laws.{stamps_follow_causes}
-use Rattle.world.proofs.PastsDecided.{pasts_are_decided}
+use Rattle.world.proofs.promised.Laws.{stamps_follow_causes}
+use Rattle.world.proofs.causal.PastsDecided.{pasts_are_decided}
 use Rattle.world.proofs.promises.stamps_follow_causal_order.Goals as goal
 
 pub returns-clause-stamps : goal.returns-clause-stamps

@@ -1,5 +1,5 @@
-use Rattle.world.proofs.Laws.{times_never_fall, operations_end_once}
-use Rattle.world.proofs.Homes.{homes_are_of_moves}
+use Rattle.world.proofs.promised.Laws.{times_never_fall, operations_end_once}
+use Rattle.world.proofs.causal.Homes.{homes_are_of_moves}
 use Rattle.world.proofs.promises.times_of_a_session_never_fall.Goals as goal
 
 pub returns-clause-times : goal.returns-clause-times

@@ -1,4 +1,4 @@
-use Rattle.world.proofs.Laws.{entries_are_of_submissions, outcomes_are_listed}
+use Rattle.world.proofs.promised.Laws.{entries_are_of_submissions, outcomes_are_listed}
 use Rattle.world.proofs.promises.transcript_tells_what_ended.Goals as goal
 
 pub returns-clause-entries : goal.returns-clause-entries

@@ -1,5 +1,5 @@
 use Rattle.std.proofs.Common.{refl}
-use Rattle.world.proofs.Addresses.{stands}
+use Rattle.world.proofs.envelopes.Addresses.{stands}
 use Rattle.service.proofs.Ports.{same_after, served_then}
 use Rattle.service.proofs.port.WorldPort.serve_line.Goals as goal
 

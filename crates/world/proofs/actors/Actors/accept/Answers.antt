@@ -1,7 +1,7 @@
 use Rattle.std.proofs.Common.{◌+◌, ◌-◌, refl, ◌∙◌, ap}
-use Rattle.world.proofs.Taking.{place_of, place_below}
-use Rattle.world.proofs.Replacing.{item_at}
-use Rattle.world.proofs.Opened.{station_submits, submit_refuses, submit_number}
+use Rattle.world.proofs.in_code.Taking.{place_of, place_below}
+use Rattle.world.proofs.lists.Replacing.{item_at}
+use Rattle.world.proofs.in_code.Opened.{station_submits, submit_refuses, submit_number}
 use Rattle.world.proofs.actors.Actors.accept.Goals as goal
 
 pub returns-in-Ok-clause-ok : goal.returns-in-Ok-clause-ok

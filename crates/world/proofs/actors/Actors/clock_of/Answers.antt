@@ -1,7 +1,7 @@
 use Rattle.std.proofs.Common.{◌∙◌, ◌<◌, ◌≤◌, sym, subst}
-use Rattle.world.proofs.Replacing.{item_at}
-use Rattle.world.proofs.Taking.{place_of, place_below}
-use Rattle.world.proofs.Unready.{shard_clock, station_clock}
+use Rattle.world.proofs.lists.Replacing.{item_at}
+use Rattle.world.proofs.in_code.Taking.{place_of, place_below}
+use Rattle.world.proofs.in_code.Unready.{shard_clock, station_clock}
 use Rattle.world.proofs.actors.Actors.clock_of.Goals as goal
 
 pub returns-then-place-shards : goal.returns-then-place-shards

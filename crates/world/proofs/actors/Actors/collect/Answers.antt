@@ -1,5 +1,5 @@
 use Rattle.std.proofs.Common.{refl, ◌∙◌}
-use Rattle.world.proofs.Taking.{shard_collects, collect_refuses, shards_still, below_named, collect_named, refused_named}
+use Rattle.world.proofs.in_code.Taking.{shard_collects, collect_refuses, shards_still, below_named, collect_named, refused_named}
 use Rattle.world.proofs.actors.Actors.collect.Goals as goal
 
 pub returns-in-Ok-clause-ok : goal.returns-in-Ok-clause-ok

@@ -1,7 +1,7 @@
 use Rattle.std.proofs.Common.{◌∙◌}
-use Rattle.world.proofs.Replacing.{item_at}
-use Rattle.world.proofs.Taking.{place_of, place_below}
-use Rattle.world.proofs.Unready.{submission_unready, acceptable, unacceptable}
+use Rattle.world.proofs.lists.Replacing.{item_at}
+use Rattle.world.proofs.in_code.Taking.{place_of, place_below}
+use Rattle.world.proofs.in_code.Unready.{submission_unready, acceptable, unacceptable}
 use Rattle.world.proofs.actors.Actors.submission_without_memory.Goals as goal
 
 pub returns-in-Ok : goal.returns-in-Ok

@@ -1,6 +1,6 @@
 use Rattle.std.proofs.Common.{refl}
-use Rattle.world.proofs.Replacing.{at_place}
-use Rattle.world.proofs.Taking.{shard_takes, shard_refuses, shards_still}
+use Rattle.world.proofs.lists.Replacing.{at_place}
+use Rattle.world.proofs.in_code.Taking.{shard_takes, shard_refuses, shards_still}
 use Rattle.world.proofs.actors.Actors.to_shard.Goals as goal
 
 pub returns-in-Ok-clause-ok : goal.returns-in-Ok-clause-ok

@@ -2,7 +2,7 @@ use Rattle.std.proofs.Common.{ap, ◌∙◌}
 use Rattle.client.specs.State.{finished_of}
 use Rattle.world.specs.Run.{with_ended}
 use Rattle.world.specs.Holds.{ended_as, kept_after}
-use Rattle.world.proofs.Replacing.{station_did}
+use Rattle.world.proofs.lists.Replacing.{station_did}
 use Rattle.world.proofs.station.Station.hear.Goals as goal
 
 pub returns-in-Ok-clause-ok : goal.returns-in-Ok-clause-ok

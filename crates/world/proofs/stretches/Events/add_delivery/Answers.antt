@@ -1,7 +1,7 @@
 use Rattle.std.proofs.Common.{◌≡◌, ◌∙◌, ap, ◌++◌, ◌∷◌, [], length, rules}
 use Rattle.world.specs.Events.{EventsValue}
 use Rattle.world.specs.Run.{Deliver}
-use Rattle.world.proofs.Stretched.{last_took}
+use Rattle.world.proofs.in_code.Stretched.{last_took}
 use Rattle.world.proofs.stretches.Events.add_delivery.Goals as goal
 
 pub returns-then-takes : goal.returns-then-takes

@@ -1,5 +1,5 @@
 use Rattle.std.proofs.Common.{arith}
-use Rattle.world.proofs.Held.{collection_holds}
+use Rattle.world.proofs.in_code.Held.{collection_holds}
 use Rattle.std.proofs.lemmas.Grind.{common_steps}
 use Rattle.world.proofs.world.World.collect.Goals as goal
 

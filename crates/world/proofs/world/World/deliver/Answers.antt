@@ -1,5 +1,5 @@
 use Rattle.std.proofs.Common.{arith}
-use Rattle.world.proofs.Held.{delivery_holds}
+use Rattle.world.proofs.in_code.Held.{delivery_holds}
 use Rattle.std.proofs.lemmas.Grind.{common_steps}
 use Rattle.world.proofs.world.World.deliver.Goals as goal
 

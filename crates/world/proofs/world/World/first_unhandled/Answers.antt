@@ -1,6 +1,6 @@
 use Rattle.std.proofs.Common.{sym}
-use Rattle.world.proofs.Held.{first_is, first_none, told_quiet}
-use Rattle.world.proofs.Promised as promised
+use Rattle.world.proofs.in_code.Held.{first_is, first_none, told_quiet}
+use Rattle.world.proofs.promised.Promised as promised
 use Rattle.world.proofs.world.World.first_unhandled.Goals as goal
 
 pub returns-then-first-sent-clause-exact : goal.returns-then-first-sent-clause-exact

@@ -1,6 +1,6 @@
 use Rattle.store.proofs.seen.Assembled.{if_ok}
-use Rattle.world.proofs.AskedFor.{listed}
-use Rattle.world.proofs.Promised as promised
+use Rattle.world.proofs.histories.AskedFor.{listed}
+use Rattle.world.proofs.promised.Promised as promised
 use Rattle.world.proofs.world.World.history.Goals as goal
 
 pub returns-clause-listed : goal.returns-clause-listed

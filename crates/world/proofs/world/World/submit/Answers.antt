@@ -1,4 +1,4 @@
-use Rattle.world.proofs.Held.{submission_holds}
+use Rattle.world.proofs.in_code.Held.{submission_holds}
 use Rattle.world.proofs.world.World.submit.Goals as goal
 
 pub invariant_of-self-2 : goal.invariant_of-self-2

@@ -1,4 +1,4 @@
-use Rattle.world.proofs.Promised as promised
+use Rattle.world.proofs.promised.Promised as promised
 use Rattle.world.proofs.world.World.transcript.Goals as goal
 
 pub returns-clause-one_table : goal.returns-clause-one_table

@@ -1,0 +1,6 @@
+-- Lists: membership, pairs of places, sums, one place replaced.
+pub mod Among
+pub mod Pairs
+pub mod Totals
+pub mod Replacing
+mod Marking

@@ -1,0 +1,20 @@
+-- What is under way in every run: each message that was handled left what it owed.
+pub mod Underway
+pub mod LiveGrow
+pub mod LivePlaces
+pub mod LiveSteps
+pub mod LiveHeld
+pub mod LiveDecides
+pub mod LiveVotes
+pub mod LiveCommits
+pub mod LiveReady
+pub mod LiveReplicas
+pub mod HandledWaits
+pub mod LiveHandled
+pub mod OpenReads
+pub mod LiveSessions
+pub mod LiveReads
+pub mod LiveHeard
+pub mod SteppedLive
+pub mod SubmittedLive
+pub mod LiveEvents
