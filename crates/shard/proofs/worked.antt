@@ -1,4 +1,4 @@
 -- Worked runs of one shard, and the forms that resemble its law, which they refute.
 pub mod Closed
-mod WorkedHonest
-mod Refuted
+pub mod WorkedHonest
+pub mod Refuted

@@ -7,4 +7,4 @@ pub mod Opened
 pub mod Listed
 pub mod Unready
 pub mod Unfinished
-mod Stretched
+pub mod Stretched

@@ -3,4 +3,4 @@ pub mod Among
 pub mod Pairs
 pub mod Totals
 pub mod Replacing
-mod Marking
+pub mod Marking

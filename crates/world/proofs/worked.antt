@@ -1,13 +1,13 @@
 -- Worked runs, and the forms that resemble promises, which they refute.
-mod Closed
-mod Replayed
-mod WorkedEntries
-mod WorkedPasts
-mod WorkedMove
-mod WorkedFreshness
-mod RefutedReads
-mod RefutedFreshness
-mod RefutedHistories
-mod RefutedOutcomes
-mod RefutedShards
-mod RefutedDrains
+pub mod Closed
+pub mod Replayed
+pub mod WorkedEntries
+pub mod WorkedPasts
+pub mod WorkedMove
+pub mod WorkedFreshness
+pub mod RefutedReads
+pub mod RefutedFreshness
+pub mod RefutedHistories
+pub mod RefutedOutcomes
+pub mod RefutedShards
+pub mod RefutedDrains
