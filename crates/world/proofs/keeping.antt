@@ -1,4 +1,4 @@
--- Each event keeps what holds of every run: at a shard body by body, at a session, and at a submission.
+-- Each event keeps what holds of every run: at a shard case by case, at a session, and at a submission.
 pub mod ShardSteps
 pub mod AskedMarks
 pub mod Decides
