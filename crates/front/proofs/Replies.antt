@@ -6,13 +6,13 @@ use Rattle.wire.specs.Replies.{Reply}
 use Rattle.front.specs.Ports.{Chain}
 use Rattle.front.specs.Served.{IsEncoding, AreEncodings, Answered}
 
-chain-then : {P : Type 0} (steps : P → Op → Reply → P → Type 0) (p : P) (xs : List Op) (told : List Reply) (q : P) (ys : List Op) (bs : List Reply) (r : P) → Chain steps p xs told q → Chain steps q ys bs r → Chain steps p (xs ++ ys) (told ++ bs) r
+pub chain-then : {P : Type 0} (steps : P → Op → Reply → P → Type 0) (p : P) (xs : List Op) (told : List Reply) (q : P) (ys : List Op) (bs : List Reply) (r : P) → Chain steps p xs told q → Chain steps q ys bs r → Chain steps p (xs ++ ys) (told ++ bs) r
 chain-then steps p [] [] q ys bs r h k = subst (λ (z : _). Chain steps z ys bs r) (sym h) k
 chain-then steps p [] (a ∷ told) q ys bs r h k = absurd h
 chain-then steps p (x ∷ xs) [] q ys bs r h k = absurd h
 chain-then steps p (x ∷ xs) (a ∷ told) q ys bs r h k = (h.0, h.1, chain-then steps h.0 xs told q ys bs r h.2 k)
 
-encodings-then : (told bs : List Reply) (x y : List ℕ) → AreEncodings told x → AreEncodings bs y → AreEncodings (told ++ bs) (x ++ y)
+pub encodings-then : (told bs : List Reply) (x y : List ℕ) → AreEncodings told x → AreEncodings bs y → AreEncodings (told ++ bs) (x ++ y)
 encodings-then [] bs x y h k = subst (λ (z : List ℕ). AreEncodings bs (z ++ y)) (sym h) k
 encodings-then (a ∷ told) bs x y h k = (h.0, h.1 ++ y, h.2, encodings-then told bs h.1 y h.3 k, ap (λ (z : List ℕ). z ++ y) h.4 ∙ append_assoc h.0 h.1 y)
 

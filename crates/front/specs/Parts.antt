@@ -1,5 +1,5 @@
 -- What the parts of `serve` make of a line, a port and a reader.
-use Rattle.std.specs.Prelude.{◌≡◌, ℕ, ◌<◌, ◌≤◌, List, [], length, Bool, true, false, Option, Some, None, ◌⊎◌}
+use Rattle.std.specs.Prelude.{◌≡◌, ℕ, ◌<◌, ◌≤◌, List, [], ◌++◌, length, Bool, true, false, Option, Some, None, ◌⊎◌}
 use Rattle.logical_time.specs.declared.fault.Fault.{Fault}
 use Rattle.logical_time.specs.declared.fault.Fault.TheVariants.{Memory}
 use Rattle.messages.specs.declared.op.Op.{Op}
@@ -15,6 +15,11 @@ use Rattle.front.specs.Served.{Begins, IsRefusal, IsCutShort, Answered, Begun, U
 abbrev pub Wrote : List ℕ → Bool → LineValue → LineValue → Type 0
 Wrote piece true l m = m ≡ says piece l
 Wrote piece false l m = (sent : List ℕ) × IsCutShort sent piece × (m ≡ fails (says sent l))
+
+-- A piece is put behind what waits, of which a beginning is written; or the line failed before all of both was.
+abbrev pub Puts : List ℕ → Bool → List ℕ → LineValue → List ℕ → LineValue → Type 0
+Puts piece true waiting l later m = (sent : List ℕ) × (waiting ++ piece ≡ sent ++ later) × (m ≡ says sent l)
+Puts piece false waiting l later m = Wrote (waiting ++ piece) false l m
 
 -- the last reply is written, or the line failed first
 abbrev pub Refuses : Fault → Ended → LineValue → LineValue → Type 0
@@ -35,6 +40,18 @@ pub record Answering {P : Type 0} (steps : P → Op → Reply → P → Type 0) 
   pub begins : Begins (text old) ops (text r)
   pub answered : Answered steps p ops told q
   pub line : m ≡ says told l
+  pub rest : r.rest ≡ old.rest
+  pub fault : r.fault ≡ old.fault
+
+-- requests are taken off a reader and answered, and the last bytes of the replies wait
+pub record Holding {P : Type 0} (steps : P → Op → Reply → P → Type 0) (old : ReaderValue) (l : LineValue) (p : P) (r : ReaderValue) (m : LineValue) (q : P) (waiting : List ℕ) : Type 0 where
+  pub ops : List Op
+  pub replies : List ℕ
+  pub begins : Begins (text old) ops (text r)
+  pub answered : Answered steps p ops replies q
+  pub sent : List ℕ
+  pub parts : replies ≡ sent ++ waiting
+  pub line : m ≡ says sent l
   pub rest : r.rest ≡ old.rest
   pub fault : r.fault ≡ old.fault
 

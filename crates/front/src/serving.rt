@@ -22,6 +22,7 @@ const PIECE: usize = 4096;
 fn round<L: Line, P: Port, F: Frames>(
     alloc: Global,
     line: &mut L,
+    waiting: &mut Vec<u8>,
     port: &mut P,
     reader: &mut F,
     buffer: &mut [u8],
@@ -32,7 +33,7 @@ fn round<L: Line, P: Port, F: Frames>(
     match line.read(buffer) {
         None => Some(Ended::ReadFailed),
         Some(0) => Some(end_of_input(line, reader)),
-        Some(n) => take_piece(alloc, line, port, reader, &buffer[..n]),
+        Some(n) => take_piece(alloc, line, waiting, port, reader, &buffer[..n]),
     }
 }
 
@@ -52,6 +53,7 @@ fn give_up<L: Line, F: Frames>(line: &mut L, reader: &mut F, buffer: &mut [u8]) 
 fn rounds<L: Line, P: Port, F: Frames>(
     alloc: Global,
     line: &mut L,
+    waiting: &mut Vec<u8>,
     port: &mut P,
     reader: &mut F,
     buffer: &mut [u8],
@@ -60,7 +62,7 @@ fn rounds<L: Line, P: Port, F: Frames>(
     ensures { (l : LineValue) (p : P) → Going 0 P.steps l p (F.kept reader.old) (L.seen line.old) port.old → ServedBy F.refuses P.steps result l p (L.seen line.new) port.new }
 {
     for _piece in 0..u64::MAX {
-        if let Some(ended) = round(alloc, line, port, reader, buffer) {
+        if let Some(ended) = round(alloc, line, waiting, port, reader, buffer) {
             return ended;
         }
     }
@@ -70,8 +72,9 @@ fn rounds<L: Line, P: Port, F: Frames>(
 /// Answers the requests that come by a line, in order, each by one reply, as the port answers them. An outcome that has no
 /// encoding becomes a refusal by `Oversize`, and one for whose encoding memory was refused a refusal by `Memory`; then
 /// it goes on. The first fault of the stream, an end of input inside a frame, and memory refused for a piece are
-/// answered by a last reply, which says so. Waits for its line, and goes on as long as bytes come; after
-/// 2^64 - 1 pieces a further one is refused with `Memory`. It is `serve_by` with a new `Reader`.
+/// answered by a last reply, which says so. The replies to what one read brought are written together, up to 65,536 bytes at
+/// once, and before the next read. Waits for its line, and goes on as long as bytes come; after 2^64 - 1 pieces a further one
+/// is refused with `Memory`. It is `serve_by` with a new `Reader`.
 pub fn serve<L: Line, P: Port>(alloc: Global, line: &mut L, port: &mut P) -> Ended
     ensures served { Served P.steps result (L.seen line.old) port.old (L.seen line.new) port.new }
 {
@@ -90,5 +93,6 @@ pub fn serve_by<L: Line, P: Port, F: Frames>(
     ensures { ServedBy F.refuses P.steps result (L.seen line.old) port.old (L.seen line.new) port.new }
 {
     let mut buffer = [0u8; PIECE];
-    rounds(alloc, line, port, frames, &mut buffer)
+    let mut waiting = Vec::new(alloc);
+    rounds(alloc, line, &mut waiting, port, frames, &mut buffer)
 }

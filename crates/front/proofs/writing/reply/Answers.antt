@@ -1,5 +1,5 @@
 use Rattle.std.proofs.Common.{rules}
 use Rattle.front.proofs.writing.reply.Goals as goal
 
-pub returns-in-Err : goal.returns-in-Err
-returns-in-Err g c = search rules
+pub returns-in-Err-clause-puts : goal.returns-in-Err-clause-puts
+returns-in-Err-clause-puts g c = search rules
