@@ -1,0 +1,10 @@
+pub mod Histories
+pub mod Events
+pub mod Flushes
+pub mod Turned
+pub mod Bounds
+pub mod Lists
+pub mod Positions
+pub mod Resting
+pub mod Lives
+pub mod Buffers

@@ -1,0 +1,23 @@
+use Rattle.readiness.specs.declared.connection.TheConstants.{LIMIT}
+use Rattle.readiness.proofs.Lives.{ran-arrived, ran-turned, ran-left, arrived-bounded, left-bounded}
+use Rattle.readiness.proofs.run.act_on.Goals as goal
+
+pub returns-in_ok-arrive-in-Arrives-clause-ran : goal.returns-in_ok-arrive-in-Arrives-clause-ran
+returns-in_ok-arrive-in-Arrives-clause-ran g c lines p h =
+    rw c.in-Arrives.is (ran-arrived g.L.ReadyLine.seen g.P.SharedPort.steps lines c.args.run.now.gone.items p c.args.run.now.places.places.items c.arrive.new.places.places.items c.args.port.now c.in-Arrives.line c.in_ok-arrive-in-Arrives.ensures h)
+
+pub returns-in_ok-arrive-in-Arrives-clause-bounded : goal.returns-in_ok-arrive-in-Arrives-clause-bounded
+returns-in_ok-arrive-in-Arrives-clause-bounded g c =
+    arrived-bounded LIMIT g.L.ReadyLine.seen c.in-Arrives.line c.args.run.now.places.places.items c.arrive.new.places.places.items c.in_ok-arrive-in-Arrives.ensures
+
+pub returns-in-Ready-clause-ran : goal.returns-in-Ready-clause-ran
+returns-in-Ready-clause-ran g c lines p h =
+    rw c.in-Ready.is (ran-turned g.L.ReadyLine.seen g.P.SharedPort.steps lines c.args.run.now.gone.items p c.args.run.now.places.places.items c.turn_at-left.new.places.places.items c.args.port.now c.turn_at-left.new.port c.in-Ready.place c.turn_at-left.ensures.turned h)
+
+pub returns-in_ok-leave-in-Leaves-clause-ran : goal.returns-in_ok-leave-in-Leaves-clause-ran
+returns-in_ok-leave-in-Leaves-clause-ran g c lines p h =
+    rw c.in-Leaves.is (ran-left g.L.ReadyLine.seen g.P.SharedPort.steps lines c.args.run.now.gone.items c.leave.new.run.gone.items p c.args.run.now.places.places.items c.leave.new.run.places.places.items c.args.port.now c.in-Leaves.place c.in_ok-leave-in-Leaves.ensures h)
+
+pub returns-in_ok-leave-in-Leaves-clause-bounded : goal.returns-in_ok-leave-in-Leaves-clause-bounded
+returns-in_ok-leave-in-Leaves-clause-bounded g c =
+    left-bounded LIMIT g.L.ReadyLine.seen c.in-Leaves.place c.args.run.now.places.places.items c.leave.new.run.places.places.items c.args.run.now.gone.items c.leave.new.run.gone.items c.in_ok-leave-in-Leaves.ensures

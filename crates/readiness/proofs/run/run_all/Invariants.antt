@@ -1,0 +1,10 @@
+use Rattle.readiness.specs.declared.connection.TheConstants.{LIMIT}
+use Rattle.readiness.specs.Places.{AreBounded}
+use Rattle.readiness.specs.Runs.{RanFor, arrivals}
+use Rattle.readiness.proofs.run.run_all.Given as goal
+
+abbrev pub invariant-loop-act : goal.invariant-loop-act
+invariant-loop-act g l = record {
+  ran : RanFor g.L.ReadyLine.seen g.P.SharedPort.steps (arrivals l.yielded) l.run.gone.items l.fn.port l.run.places.places.items l.port;
+  bounded : AreBounded LIMIT g.L.ReadyLine.seen l.run.places.places.items;
+}

@@ -1,0 +1,16 @@
+use Rattle.readiness.specs.Kept.{view}
+use Rattle.readiness.proofs.Turned.{turned-none, turned-then}
+use Rattle.readiness.proofs.taking.take_in.Goals as goal
+
+pub loop-init : goal.loop-init
+loop-init g c = record { turned = turned-none (g.P.SharedPort.steps c.args.place) (view g.L.ReadyLine.seen c.args.connection.now) c.args.port.now; bounded = λ h. h }
+
+pub returns-in-Some-clause-turned : goal.returns-in-Some-clause-turned
+returns-in-Some-clause-turned g c =
+    turned-then (g.P.SharedPort.steps c.args.place) (view g.L.ReadyLine.seen c.args.connection.now) c.args.port.now (view g.L.ReadyLine.seen c.loop.connection) c.loop.port (view g.L.ReadyLine.seen c.step.new.connection) c.step.new.port c.loop.invariant.turned c.step.ensures.turned
+
+pub loop-preserved : goal.loop-preserved
+loop-preserved g c = record {
+  turned = turned-then (g.P.SharedPort.steps c.args.place) (view g.L.ReadyLine.seen c.args.connection.now) c.args.port.now (view g.L.ReadyLine.seen c.loop.connection) c.loop.port (view g.L.ReadyLine.seen c.step.new.connection) c.step.new.port c.loop.invariant.turned c.step.ensures.turned;
+  bounded = λ h. c.step.ensures.bounded (c.loop.invariant.bounded h);
+}

@@ -1,0 +1,10 @@
+use Rattle.readiness.specs.declared.connection.TheConstants.{LIMIT}
+use Rattle.readiness.specs.Kept.{view}
+use Rattle.readiness.specs.Turns.{Turned, IsBounded}
+use Rattle.readiness.proofs.taking.take_in.Given as goal
+
+abbrev pub invariant-loop : goal.invariant-loop
+invariant-loop g l = record {
+  turned : Turned (g.P.SharedPort.steps l.fn.place) (view g.L.ReadyLine.seen l.fn.connection) l.fn.port (view g.L.ReadyLine.seen l.connection) l.port;
+  bounded : IsBounded LIMIT (view g.L.ReadyLine.seen l.fn.connection) → IsBounded LIMIT (view g.L.ReadyLine.seen l.connection);
+}

@@ -1,0 +1,138 @@
+//! Places for connections.
+ghost use Rattle.std.specs.Prelude.{◌≡◌, ◌≢◌, ◌<◌, ◌⊎◌, ℕ, List, length, IfOk, OnOk, IfSome, Contains, All, IfNone, Some, None, slice_get, slice_set};
+ghost use Rattle.readiness.specs.declared.connection.Connection.{Connection};
+ghost use Rattle.readiness.specs.Exchanges.{Entry};
+ghost use Rattle.readiness.specs.Kept.{IsNew, view};
+ghost use Rattle.readiness.specs.Turns.{WaitsFor, IsOver};
+ghost use Rattle.readiness.specs.Places.{TurnedAt, Turns, Rests, AreBounded};
+
+use crate::connection::{Connection, LIMIT};
+use crate::line::ReadyLine;
+use crate::shared::SharedPort;
+use crate::turning::{After, turn};
+use std::alloc::{AllocError, Global};
+
+/// Places for connections; at each stands one, or it is free.
+#[derive(Drop)]
+pub struct Places<L> {
+    pub(crate) places: Vec<Option<Connection<L>>>,
+}
+
+impl<L: Drop> Places<L> {
+    /// So many free places.
+    pub fn new(alloc: Global, places: usize) -> Result<Places<L>, AllocError>
+        ensures count { IfOk result (λ p. length p.places.items ≡ places) }
+        ensures free { IfOk result (λ p. All (λ c. c ≡ None) p.places.items) }
+    {
+        let mut free = Places {
+            places: Vec::with_capacity(alloc, places)?,
+        };
+        for _ in 0..places {
+            free.places.push(None)?;
+        }
+        Ok(free)
+    }
+
+    /// The first free place, if there is one.
+    pub fn free_place(&self) -> Option<usize>
+        ensures some { IfSome result (λ place. slice_get self.now.places.items place ≡ Some None) }
+        ensures none { IfNone result (All (λ c. c ≢ None) self.now.places.items) }
+    {
+        self.places.iter().position(|place| place.is_none())
+    }
+
+    /// Gives a place to the connection of a line, before any call. That the place is free is the caller's condition.
+    /// Takes no memory.
+    pub fn admit(&mut self, alloc: Global, place: usize, line: L)
+        requires { slice_get self.old.places.items place ≡ Some None }
+        ensures { (c : Connection L) × IsNew line c × (self.new.places.items ≡ slice_set self.old.places.items place (Some c)) }
+    {
+        self.places[place] = Some(Connection::new(alloc, line));
+    }
+
+    /// Frees a place, and gives back the connection that stood there, if one did.
+    pub fn release(&mut self, place: usize) -> Option<Connection<L>>
+        requires { place < length self.old.places.items }
+        ensures some { IfSome result (λ c. slice_get self.old.places.items place ≡ Some (Some c)) }
+        ensures none { IfNone result (slice_get self.old.places.items place ≡ Some None) }
+        ensures free { self.new.places.items ≡ slice_set self.old.places.items place None }
+    {
+        self.places[place].take()
+    }
+
+    /// How many places there are.
+    pub fn len(&self) -> usize
+        ensures { result ≡ length self.now.places.items }
+    {
+        self.places.len()
+    }
+}
+
+/// A turn of the connection at a place, if one stands there.
+pub(crate) fn turn_at<L: ReadyLine + Drop, P: SharedPort>(
+    alloc: Global,
+    port: &mut P,
+    places: &mut Places<L>,
+    place: usize,
+    buffer: &mut [u8],
+) -> After
+    requires { 0 < length buffer.old }
+    ensures turned { TurnedAt L.seen P.steps place places.old.places.items port.old places.new.places.items port.new }
+    ensures rests { (c : Connection L) → slice_get places.new.places.items place ≡ Some (Some c) → (result ≡ After.Again) ⊎ (WaitsFor LIMIT (view L.seen c) ⊎ ((result ≡ After.Over) × IsOver (view L.seen c))) }
+    ensures others { (k : ℕ) → (place ≡ k → ⊥) → slice_get places.new.places.items k ≡ slice_get places.old.places.items k }
+    ensures bounded { AreBounded LIMIT L.seen places.old.places.items → AreBounded LIMIT L.seen places.new.places.items }
+{
+    if place >= places.places.len() {
+        return After::Waits;
+    }
+    let Some(mut connection) = places.places[place].take() else {
+        return After::Waits;
+    };
+    let left = turn(alloc, port, place, &mut connection, buffer);
+    places.places[place] = Some(connection);
+    left
+}
+
+// Tells of a place that could go on at once, or whose connection is over.
+fn tell(
+    again: &mut Vec<usize>,
+    over: &mut Vec<usize>,
+    place: usize,
+    left: After,
+) -> Result<(), AllocError>
+    ensures again_kept { (k : ℕ) → Contains again.old.items k → Contains again.new.items k }
+    ensures over_kept { (k : ℕ) → Contains over.old.items k → Contains over.new.items k }
+    ensures again_told { OnOk result (left ≡ After.Again → Contains again.new.items place) }
+    ensures over_told { OnOk result (left ≡ After.Over → Contains over.new.items place) }
+{
+    match left {
+        After::Again => again.push(place)?,
+        After::Over => over.push(place)?,
+        After::Waits => {}
+    }
+    Ok(())
+}
+
+/// A turn for the connection at each of these places, in this order, whichever they are. Places of connections that
+/// could go on at once are put into `again`, and of those that are over into `over`. Where memory for that is refused,
+/// it ends early.
+pub fn turns<L: ReadyLine + Drop, P: SharedPort>(
+    alloc: Global,
+    port: &mut P,
+    places: &mut Places<L>,
+    ready: &[usize],
+    again: &mut Vec<usize>,
+    over: &mut Vec<usize>,
+    buffer: &mut [u8],
+) -> Result<(), AllocError>
+    requires { 0 < length buffer.old }
+    ensures turned { (log : List Entry) × Turns L.seen P.steps log places.old.places.items port.old places.new.places.items port.new }
+    ensures rests { OnOk result (Rests LIMIT L.seen ready.now again.new.items over.new.items places.old.places.items places.new.places.items) }
+    ensures bounded { AreBounded LIMIT L.seen places.old.places.items → AreBounded LIMIT L.seen places.new.places.items }
+{
+    for place in ready {
+        let left = turn_at(alloc, port, places, *place, buffer);
+        tell(again, over, *place, left)?;
+    }
+    Ok(())
+}
