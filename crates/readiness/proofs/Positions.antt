@@ -105,6 +105,21 @@ turns-more {L = L} seen steps at x p y q z r h turned =
           (turns-then seen steps x p y q (slice_set y at (Some e.1)) r h (turns-at seen steps y at q r e.0 e.1 e.2 e.4))
     ]
 
+-- no steps yet
+pub chain_none : {P : Type 0} (steps : ℕ → P → Op → Reply → P → Type 0) (p : P) → (log : List Entry) × LogChain steps p log p
+chain_none steps p = ([], refl)
+
+pub chain_then : {P : Type 0} (steps : ℕ → P → Op → Reply → P → Type 0) (p q r : P) → ((log : List Entry) × LogChain steps p log q) → ((log : List Entry) × LogChain steps q log r) → (log : List Entry) × LogChain steps p log r
+chain_then steps p q r h k = (h.0 ++ k.0, log-then steps p h.0 q k.0 r h.1 k.1)
+
+-- the steps of one turn
+pub turned_chain : {L : Type 0} {P : Type 0} (seen : L → ReadyValue) (steps : ℕ → P → Op → Reply → P → Type 0) (at : ℕ) (y : List (Option (Connection L))) (q : P) (z : List (Option (Connection L))) (r : P) → TurnedAt seen steps at y q z r → (log : List Entry) × LogChain steps q log r
+turned_chain seen steps at y q z r turned =
+    elim turned [
+      | inl e ↦ ([], sym e.1)
+      | inr e ↦ (tag at e.4.0, logged steps at q e.4.0 r e.4.1)
+    ]
+
 -- a place is read and emptied, and the connection has a turn and is put back
 pub turned_at : {L : Type 0} {P : Type 0} (seen : L → ReadyValue) (steps : ℕ → P → Op → Reply → P → Type 0) (old : List (Option (Connection L))) (at n : ℕ) (p q : P) (x left : Option (Connection L)) (c d : Connection L)
     → n ≡ length old → at < n → x ≡ slice_index_or old at x → x ≡ Some c → Turned (steps at) (view seen c) p (view seen d) q → TurnedAt seen steps at old p (slice_set (slice_set old at left) at (Some d)) q

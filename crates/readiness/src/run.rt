@@ -1,6 +1,7 @@
 //! A whole run of lines that arrive, have turns and leave.
 ghost use Rattle.std.specs.Prelude.{◌≡◌, ◌<◌, ◌∷◌, ◌++◌, [], List, Some, None, length, IfOk, OnOk};
 ghost use Rattle.readiness.specs.declared.connection.Connection.{Connection};
+ghost use Rattle.readiness.specs.Exchanges.{Entry, LogChain};
 ghost use Rattle.readiness.specs.Places.{AreBounded};
 ghost use Rattle.readiness.specs.Runs.{RanFor, HasArrived, HasLeft, arrivals};
 
@@ -101,6 +102,7 @@ fn act_on<L: ReadyLine + Drop, P: SharedPort>(
     buffer: &mut [u8],
 ) -> Result<(), AllocError>
     requires { 0 < length buffer.old }
+    ensures chain { (log : List Entry) × LogChain P.steps port.old log port.new }
     ensures ran { OnOk result ((lines : List L) (p : P) → RanFor L.seen P.steps lines run.old.gone.items p run.old.places.places.items port.old → RanFor L.seen P.steps (lines ++ arrivals (act ∷ [])) run.new.gone.items p run.new.places.places.items port.new) }
     ensures bounded { OnOk result (AreBounded LIMIT L.seen run.old.places.places.items → AreBounded LIMIT L.seen run.new.places.places.items) }
 {
@@ -130,6 +132,7 @@ pub fn run_all<L: ReadyLine + Drop, P: SharedPort>(
     buffer: &mut [u8],
 ) -> Result<Run<L>, AllocError>
     requires { 0 < length buffer.old }
+    ensures chain { (log : List Entry) × LogChain P.steps port.old log port.new }
     ensures ran { IfOk result (λ run. RanFor L.seen P.steps (arrivals acts.items) run.gone.items port.old run.places.places.items port.new) }
     ensures bounded { IfOk result (λ run. AreBounded LIMIT L.seen run.places.places.items) }
 {

@@ -193,7 +193,8 @@ fn step_open<L: ReadyLine, P: SharedPort>(
     ensures bounded { IsBounded LIMIT (view L.seen connection.old) → IsBounded LIMIT (view L.seen connection.new) }
     ensures stops { IfSome result (λ stop. StopsFor LIMIT stop (view L.seen connection.new)) }
 {
-    if connection.waiting.len() > LIMIT {
+    let waits = connection.waiting.len();
+    if waits > LIMIT {
         return Some(Stop::Full);
     }
     match connection.waiting.reserve(REFUSAL_BYTES) {

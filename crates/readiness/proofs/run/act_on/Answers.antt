@@ -1,4 +1,5 @@
 use Rattle.readiness.specs.declared.connection.TheConstants.{LIMIT}
+use Rattle.readiness.proofs.Positions.{chain_none, turned_chain}
 use Rattle.readiness.proofs.Lives.{ran-arrived, ran-turned, ran-left, arrived-bounded, left-bounded}
 use Rattle.readiness.proofs.run.act_on.Goals as goal
 
@@ -21,3 +22,18 @@ returns-in_ok-leave-in-Leaves-clause-ran g c lines p h =
 pub returns-in_ok-leave-in-Leaves-clause-bounded : goal.returns-in_ok-leave-in-Leaves-clause-bounded
 returns-in_ok-leave-in-Leaves-clause-bounded g c =
     left-bounded LIMIT g.L.ReadyLine.seen c.in-Leaves.place c.args.run.now.places.places.items c.leave.new.run.places.places.items c.args.run.now.gone.items c.leave.new.run.gone.items c.in_ok-leave-in-Leaves.ensures
+
+pub returns-in-Ready-clause-chain : goal.returns-in-Ready-clause-chain
+returns-in-Ready-clause-chain g c = turned_chain g.L.ReadyLine.seen g.P.SharedPort.steps c.in-Ready.place c.args.run.now.places.places.items c.args.port.now c.turn_at-left.new.places.places.items c.turn_at-left.new.port c.turn_at-left.ensures.turned
+
+pub returns-in_ok-arrive-in-Arrives-clause-chain : goal.returns-in_ok-arrive-in-Arrives-clause-chain
+returns-in_ok-arrive-in-Arrives-clause-chain g c = chain_none g.P.SharedPort.steps c.args.port.now
+
+pub returns-in_err-arrive-in-Arrives-clause-chain : goal.returns-in_err-arrive-in-Arrives-clause-chain
+returns-in_err-arrive-in-Arrives-clause-chain g c = chain_none g.P.SharedPort.steps c.args.port.now
+
+pub returns-in_ok-leave-in-Leaves-clause-chain : goal.returns-in_ok-leave-in-Leaves-clause-chain
+returns-in_ok-leave-in-Leaves-clause-chain g c = chain_none g.P.SharedPort.steps c.args.port.now
+
+pub returns-in_err-leave-in-Leaves-clause-chain : goal.returns-in_err-leave-in-Leaves-clause-chain
+returns-in_err-leave-in-Leaves-clause-chain g c = chain_none g.P.SharedPort.steps c.args.port.now

@@ -5,8 +5,8 @@ use Rattle.readiness.proofs.Events.{refused_memory}
 use Rattle.readiness.proofs.Turned.{turned-none, turned-keeps}
 use Rattle.readiness.proofs.taking.step_open.Goals as goal
 
-pub returns-then-len-gt-LIMIT-clause-turned : goal.returns-then-len-gt-LIMIT-clause-turned
-returns-then-len-gt-LIMIT-clause-turned g c = turned-none (g.P.SharedPort.steps c.args.place) (view g.L.ReadyLine.seen c.args.connection.now) c.args.port.now
+pub returns-then-waits-gt-LIMIT-clause-turned : goal.returns-then-waits-gt-LIMIT-clause-turned
+returns-then-waits-gt-LIMIT-clause-turned g c = turned-none (g.P.SharedPort.steps c.args.place) (view g.L.ReadyLine.seen c.args.connection.now) c.args.port.now
 
 pub returns-in-Ok-clause-turned : goal.returns-in-Ok-clause-turned
 returns-in-Ok-clause-turned g c =
