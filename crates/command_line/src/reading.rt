@@ -34,6 +34,11 @@ pub enum Asked {
         /// The name.
         name: String,
     },
+    /// The trace of the run of the script in the file of this name.
+    Trace {
+        /// The name.
+        name: String,
+    },
     /// The transcript of what threads make of the script in the file of this name.
     Run {
         /// The name.
@@ -77,12 +82,31 @@ fn sim_command<'a>(alloc: Global) -> Result<Command<'a>, AllocError> {
         .action(ArgAction::SetTrue)
         .help("Prints the recorded history of the run in place of its transcript, for eiger audit")
         .conflicts_with("audit")?;
+    let trace = Arg::new(alloc, "trace")
+        .long("trace")
+        .action(ArgAction::SetTrue)
+        .help("Prints the trace of the run in place of its transcript, as eiger trace does")
+        .conflicts_with("audit")?
+        .conflicts_with("history")?;
     Command::new(alloc, "sim")
         .about("Runs a script, and prints its transcript: what came of each operation")
-        .after_help("Example: eiger sim examples/insert_and_read_back.json")
+        .after_help(
+            "Examples: eiger sim examples/insert_and_read_back.json\n          eiger sim examples/insert_and_read_back.json --trace",
+        )
         .arg(file(alloc, SCRIPT))?
         .arg(audit_flag(alloc))?
-        .arg(history)
+        .arg(history)?
+        .arg(trace)
+}
+
+// The subcommand that asks for the trace of a run.
+fn trace_command<'a>(alloc: Global) -> Result<Command<'a>, AllocError> {
+    Command::new(alloc, "trace")
+        .about(
+            "Runs a script, and prints what happened: a line of JSON for each event, with its messages",
+        )
+        .after_help("Example: eiger trace examples/read_asks_coordinator.json")
+        .arg(file(alloc, SCRIPT))
 }
 
 // The subcommand that asks for a run by threads.
@@ -124,6 +148,7 @@ fn command<'a>(alloc: Global) -> Result<Command<'a>, AllocError> {
         )
         .subcommand_required(true)
         .subcommand(sim_command(alloc)?)?
+        .subcommand(trace_command(alloc)?)?
         .subcommand(run_command(alloc)?)?
         .subcommand(audit_command(alloc)?)?
         .subcommand(serve_command(alloc)?)
@@ -142,9 +167,15 @@ fn accepted(alloc: Global, matches: &ArgMatches<'_>) -> Result<Asked, AllocError
             if found.get_flag("history") {
                 return Ok(Asked::History { name });
             }
+            if found.get_flag("trace") {
+                return Ok(Asked::Trace { name });
+            }
             let audit = found.get_flag("audit");
             Ok(Asked::Sim { name, audit })
         }
+        Some(("trace", found)) => Ok(Asked::Trace {
+            name: name_of(alloc, found)?,
+        }),
         Some(("run", found)) => {
             let name = name_of(alloc, found)?;
             let workers = found.get_one::<u16>("workers").unwrap_or(1);

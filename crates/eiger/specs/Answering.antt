@@ -4,7 +4,7 @@ use Rattle.logical_time.specs.declared.fault.Fault.{Fault}
 use Rattle.program.specs.declared.output.Output.{Output}
 use Rattle.program.specs.Telling.{Tells}
 use Rattle.command_line.specs.declared.reading.Asked.{Asked}
-use Rattle.command_line.specs.declared.reading.Asked.TheVariants.{Sim, History, Run, Audit, Serve, Told}
+use Rattle.command_line.specs.declared.reading.Asked.TheVariants.{Sim, History, Trace, Run, Audit, Serve, Told}
 use Rattle.command_line.specs.Told.{Answers}
 
 -- 0, and nothing is told
@@ -28,6 +28,7 @@ pub record HasFailed {E : Type 0} (written : E → Option (List ℕ)) (status : 
 abbrev pub IsAnswer : {W E : Type 0} → (W → Option (List ℕ)) → (E → Option (List ℕ)) → Result Asked Fault → ℕ → Output W → Output W → Output E → Output E → Type 0
 IsAnswer contents written (Ok (Sim name audit)) status old new told told' = IsDone status told told' ⊎ HasFailed written status told told'
 IsAnswer contents written (Ok (History name)) status old new told told' = IsDone status told told' ⊎ HasFailed written status told told'
+IsAnswer contents written (Ok (Trace name)) status old new told told' = IsDone status told told' ⊎ HasFailed written status told told'
 IsAnswer contents written (Ok (Run name workers audit)) status old new told told' = IsDone status told told' ⊎ HasFailed written status told told'
 IsAnswer contents written (Ok (Audit name)) status old new told told' = IsJudged status told told' ⊎ HasFailed written status told told'
 IsAnswer contents written (Ok (Serve s)) status old new told told' = IsDone status told told' ⊎ HasFailed written status told told'

@@ -14,6 +14,7 @@ use std::fs::File;
 use std::io::Read;
 use std::sync::Wait;
 use std::thread::Threads;
+use tracing::perform_trace;
 use workload::perform;
 
 // Runs a script, and audits its run where that is asked for.
@@ -42,6 +43,19 @@ fn history<R: Read, W: Buffered, E: Buffered>(
     ensures missing { IsSome input.old.failure → TellsUnread E.contents result errors.old errors.new }
 {
     perform_history(alloc, input, output, errors)
+}
+
+// Runs a script, and writes the trace of its run.
+fn trace<R: Read, W: Buffered, E: Buffered>(
+    alloc: Global,
+    input: &mut Input<R>,
+    output: &mut Output<W>,
+    errors: &mut Output<E>,
+) -> u8
+    ensures ended { IsDone result errors.old errors.new ⊎ HasFailed E.contents result errors.old errors.new }
+    ensures missing { IsSome input.old.failure → TellsUnread E.contents result errors.old errors.new }
+{
+    perform_trace(alloc, input, output, errors)
 }
 
 // Has so many threads run a script, and audits what they did where that is asked for.
@@ -103,6 +117,10 @@ pub(crate) fn answer<T: Threads + Wait + Sync, W: Buffered, E: Buffered>(
         Ok(Asked::History { name }) => {
             let mut input = opened(rt, name);
             history(alloc, &mut input, output, errors)
+        }
+        Ok(Asked::Trace { name }) => {
+            let mut input = opened(rt, name);
+            trace(alloc, &mut input, output, errors)
         }
         Ok(
             Asked::Run {

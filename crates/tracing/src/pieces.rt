@@ -1,0 +1,127 @@
+//! Pieces of JSON, written without memory.
+ghost use Rattle.std.specs.Prelude.{◌≡◌, ◌≤◌, ◌*◌, length, IsSome, IfErr};
+ghost use Rattle.logical_time.specs.declared.fault.Fault.TheVariants as fault;
+ghost use Rattle.tracing.specs.Tracing.{HasCut};
+
+use itoa::Buffer;
+use logical_time::Fault;
+use program::Output;
+use std::io::Write;
+use std::str;
+
+/// How many bytes are few: their digits are put together on the stack before they are written.
+const FEW: usize = 64;
+
+/// The digits of a control byte.
+const DIGITS: &[u8; 16] = b"0123456789abcdef";
+
+/// Words, and then a number.
+#[inline]
+pub(crate) fn put_number<W: Write>(
+    output: &mut Output<W>,
+    words: &[u8],
+    number: u64,
+) -> Result<(), Fault>
+    ensures { IfErr result (HasCut output.new) }
+{
+    let mut buffer = Buffer::new();
+    output.put(words)?;
+    output.put(buffer.format(number).as_bytes())
+}
+
+// Few bytes in hexadecimal.
+fn put_few<W: Write>(output: &mut Output<W>, bytes: &[u8]) -> Result<(), Fault>
+    requires { length bytes.now ≤ 64 }
+    ensures { IfErr result (HasCut output.new) }
+{
+    let mut digits = [0; 2 * FEW];
+    let shown = &mut digits[..2 * bytes.len()];
+    hex::encode_to_slice(bytes, shown).unwrap();
+    output.put(shown)
+}
+
+// Bytes in hexadecimal, a few at a time.
+fn put_digits<W: Write>(output: &mut Output<W>, bytes: &[u8]) -> Result<(), Fault>
+    ensures { IfErr result (HasCut output.new) }
+{
+    let mut rest = bytes;
+    while FEW < rest.len() {
+        let (few, more) = rest.split_at(FEW);
+        put_few(output, few)?;
+        rest = more;
+    }
+    put_few(output, rest)
+}
+
+// Whether a byte stands for itself in a text of JSON.
+fn is_plain(byte: u8) -> bool {
+    32 <= byte && byte != b'"' && byte != b'\\'
+}
+
+// A byte that doesn't stand for itself.
+fn put_escape<W: Write>(output: &mut Output<W>, byte: u8) -> Result<(), Fault>
+    ensures { IfErr result (HasCut output.new) }
+{
+    if 32 <= byte {
+        return output.put(&[b'\\', byte]);
+    }
+    let high = DIGITS[usize::from(byte / 16)];
+    let low = DIGITS[usize::from(byte % 16)];
+    output.put(&[b'\\', b'u', b'0', b'0', high, low])
+}
+
+// A text that has bytes that don't stand for themselves.
+fn put_escaped<W: Write>(output: &mut Output<W>, text: &[u8]) -> Result<(), Fault>
+    ensures { IfErr result (HasCut output.new) }
+{
+    for byte in text {
+        if is_plain(*byte) {
+            output.put(&[*byte])?;
+        } else {
+            put_escape(output, *byte)?;
+        }
+    }
+    Ok(())
+}
+
+// What stands between the quotes of a text of JSON.
+fn put_text<W: Write>(output: &mut Output<W>, text: &[u8]) -> Result<(), Fault>
+    ensures { IfErr result (HasCut output.new) }
+{
+    if text.iter().all(|byte| is_plain(*byte)) {
+        return output.put(text);
+    }
+    put_escaped(output, text)
+}
+
+/// Words, and then bytes: their digits, and the text that they are, if they are one.
+pub(crate) fn put_bytes<W: Write>(
+    output: &mut Output<W>,
+    words: &[u8],
+    bytes: &[u8],
+) -> Result<(), Fault>
+    ensures { IfErr result (HasCut output.new) }
+{
+    output.put(words)?;
+    output.put(b"{\"hex\":\"")?;
+    put_digits(output, bytes)?;
+    if str::from_utf8(bytes).is_ok() {
+        output.put(b"\",\"text\":\"")?;
+        put_text(output, bytes)?;
+    }
+    output.put(b"\"}")
+}
+
+/// A line of a transcript as a text of JSON.
+pub(crate) fn put_quoted<W: Write>(
+    output: &mut Output<W>,
+    words: &[u8],
+    line: &str,
+) -> Result<(), Fault>
+    ensures { IfErr result (HasCut output.new) }
+{
+    output.put(words)?;
+    output.put(b"\"")?;
+    put_text(output, line.as_bytes())?;
+    output.put(b"\"")
+}
