@@ -41,11 +41,11 @@ def change_of(change):
     if "insert" in change:
         return f"{key}: {bytes_of(change['insert'])}={bytes_of(change['value'])}"
     if "delete" in change:
-        return f"{key}: without {bytes_of(change['delete'])}"
+        return f"{key}: {bytes_of(change['delete'])} deleted"
     if "delete_range" in change:
         start, finish = (bytes_of(change["delete_range"][end]) for end in ("start", "finish"))
-        return f"{key}: without {start or 'the first'} to {finish or 'the last'}"
-    return f"{key}: without all"
+        return f"{key}: {start or 'the first'} to {finish or 'the last'} deleted"
+    return f"{key}: all deleted"
 
 
 def columns_of(row):
