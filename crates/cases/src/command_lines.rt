@@ -52,6 +52,7 @@ impl Subject for Line {
                 add_audit(audit, seen)
             }
             Asked::History { name } => Ok(write!(seen, "the history of {name}")?),
+            Asked::Trace { name } => Ok(write!(seen, "the trace of {name}")?),
             Asked::Run {
                 name,
                 workers,

@@ -20,6 +20,7 @@ mod spent_clocks;
 mod steps;
 mod stores;
 mod tables;
+mod traces;
 mod worlds;
 
 use logical_time::Fault;
@@ -47,6 +48,7 @@ fn tell_scripts<T: Threads + Sync>(rt: &HostRuntime, threads: &T) -> io::Result<
     scripts::tell(rt, threads)?;
     readers::tell(rt, threads)?;
     records::tell(rt)?;
+    traces::tell(rt)?;
     refusals::tell(rt)
 }
 

@@ -9,7 +9,7 @@ use std::{fs, io};
 use workload::perform;
 
 /// The names of the scripts with a transcript.
-const SCRIPTS: [&str; 37] = [
+const SCRIPTS: [&str; 38] = [
     "collected_while_waiting",
     "concurrent_inserts_meet",
     "count_after_deletion",
@@ -20,6 +20,7 @@ const SCRIPTS: [&str; 37] = [
     "horizon_at_effective_time",
     "insert_and_read_back",
     "late_repeats",
+    "lost_and_repeated",
     "move_and_back",
     "move_waits_for_each",
     "move_where_collected",

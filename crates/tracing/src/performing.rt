@@ -1,6 +1,8 @@
 //! The trace of a script, over any reader and writers.
-ghost use Rattle.std.specs.Prelude.{◌≡◌, ◌⊎◌, [], IsSome, IfOk, IfErr};
-ghost use Rattle.workload.specs.Performing.{IsRefused, TellsUnread};
+ghost use Rattle.std.specs.Prelude.{◌≡◌, ◌⊎◌, [], IsSome, IfOk, IfErr, OnOk};
+ghost use Rattle.workload.specs.Performing.{IsTextFor, IsRefused, TellsUnread};
+ghost use Rattle.tracing.specs.Tracing.{HasCut};
+ghost use Rattle.tracing.specs.Performing.{HasRun, Ends};
 
 use crate::playing::{Traced, trace};
 use crate::telling::write_trace;
@@ -13,7 +15,10 @@ use std::mem;
 use workload::{Script, explain, read_script};
 
 // The run of the script that the bytes spell. Refused as `sim` of `workload` is.
-fn trace_bytes(alloc: Global, input: &[u8]) -> Result<(Script, Traced), Fault> {
+fn trace_bytes(alloc: Global, input: &[u8]) -> Result<(Script, Traced), Fault>
+    ensures text { IfOk result (λ run. IsTextFor input.now run.1.text.items) }
+    ensures refused { IfErr result (IsRefused input.now) }
+{
     let Ok(text) = simdutf8::compat::from_utf8(input) else {
         return Err(Fault::Script);
     };
@@ -28,25 +33,26 @@ fn line<D: Display + Drop>(alloc: Global, name: &str, said: Option<D>) -> Option
     Line::new(format!(in alloc; "{name}: {said}").ok()?)
 }
 
-// Writes the trace, and gives the run up to the end of the process.
+// Writes the trace. What is left of the run is given back with the memory of the process.
 fn write_all<W: Buffered>(
     output: &mut Output<W>,
     script: Script,
     mut traced: Traced,
-) -> Result<(), Fault> {
+) -> Result<(), Fault>
+    ensures passed_on { OnOk result (W.held output.new.writer ≡ []) }
+    ensures failed { IfErr result (HasCut output.new) }
+{
     let written = write_trace(output, &script, &mut traced);
-    let Traced {
-        world,
-        text,
-        steps,
-        actors,
-    } = traced;
-    mem::forget((script, text, steps, actors));
-    mem::forget(world.leave());
+    mem::forget(script);
+    traced.leave();
     written
 }
 
-/// Runs a script, and writes its trace.
+/// Runs a script in a world, and writes the trace of its run, for a program that ends with it: reads all that the input has left,
+/// writes the trace piece by piece and without memory, and passes it on; the memory of the run is given back with that of the process.
+/// Gives the status of the program: 0 where all is written and the writer holds nothing back, or 1 after a fault was told:
+/// `ReadFailed` where the input failed, as `sim` of `workload` is refused, `Memory`, or `WriteFailed` where the output failed. Only
+/// after the last may something be written, a beginning of the trace.
 pub fn perform_trace<R: Read, W: Buffered, E: Buffered>(
     alloc: Global,
     input: &mut Input<R>,
@@ -54,8 +60,10 @@ pub fn perform_trace<R: Read, W: Buffered, E: Buffered>(
     errors: &mut Output<E>,
 ) -> u8
     ensures status { (result ≡ 0) ⊎ (result ≡ 1) }
+    ensures traced { result ≡ 0 → HasRun R.remaining input.old × (errors.new ≡ errors.old) }
     ensures passed_on { result ≡ 0 → W.held output.new.writer ≡ [] }
     ensures unread { IsSome input.old.failure → TellsUnread E.contents result errors.old errors.new }
+    ensures ended { result ≡ 1 → Ends R.remaining E.contents input.old input.new output.old output.new errors.old errors.new }
 {
     let bytes = match input.read_all(alloc) {
         Ok(bytes) => bytes,

@@ -1,16 +1,20 @@
 //! The run of a script, with what came of each event.
-ghost use Rattle.std.specs.Prelude.{◌≡◌, ◌≢◌, ◌⊎◌, [], Err, IfOk, IfErr, OnOk};
+ghost use Rattle.std.specs.Prelude.{◌≡◌, ◌≢◌, ◌≤◌, ◌⊎◌, ◌++◌, [], Some, Err, length, drop, map, option_to_list, IfOk, IfErr, OnOk, IsOkAnd};
 ghost use Rattle.world.specs.World.{run_of};
 ghost use Rattle.workload.specs.declared.script.Event.TheVariants as script;
-ghost use Rattle.workload.specs.Simulation.{simulated_in, simulated, IsTranscriptOf};
+ghost use Rattle.workload.specs.declared.transcript.Entry.TheVariants as entry;
+ghost use Rattle.workload.specs.Simulation as simulation;
+ghost use Rattle.workload.specs.Simulation.{entry_of, simulated_in, simulated};
+ghost use Rattle.workload.specs.Text.{text_of};
 ghost use Rattle.workload.specs.Playing.{Plays, PlaysBefore, Adds, EndsWith};
 ghost use Rattle.workload.specs.HasTold.{HasTold};
-ghost use Rattle.tracing.specs.Traced.{told_refusal, IsRunOf};
+ghost use Rattle.tracing.specs.Traced.{IsTextOf};
 
 use crate::actor::{Actor, all_actors};
 use logical_time::{Fault, Node, Time};
 use messages::{Op, Topology};
 use std::alloc::Global;
+use std::mem;
 use workload::{Entry, Event, Script, Transcript, transcript_text};
 use world::{Completed, World};
 
@@ -44,6 +48,33 @@ pub struct Traced {
     pub(crate) actors: Vec<Actor>,
 }
 
+impl Traced {
+    /// Gives the run up.
+    pub fn close(self) {
+        let Traced {
+            world,
+            text: _,
+            steps: _,
+            actors: _,
+        } = self;
+        world.close();
+    }
+
+    /// Gives the run up, for a program that ends with it: its memory is given back with that of the process.
+    pub fn leave(self) {
+        let Traced {
+            world,
+            text,
+            steps,
+            actors,
+        } = self;
+        mem::forget(text);
+        mem::forget(steps);
+        mem::forget(actors);
+        mem::forget(world.leave());
+    }
+}
+
 // Notes what happened.
 fn note(
     world: &World,
@@ -73,22 +104,30 @@ fn fault_of(refused: (Fault, Op)) -> Fault
     refused.0
 }
 
-// The refusal of a submission, unless it ends the script.
-fn refusal_of(fault: Fault) -> Result<Option<Fault>, Fault>
-    ensures told { IfOk result (λ refusal. refusal ≡ Some fault) }
+// The entry of a refused submission, unless it ends the script.
+fn refusal_of(node: Node, fault: Fault) -> Result<Option<Entry>, Fault>
+    ensures told { IfOk result (λ refusal. refusal ≡ Some (entry.Refused node fault)) }
     ensures known { OnOk result (fault ≢ Fault.Memory) }
     ensures unspent { OnOk result (fault ≢ Fault.ClockSpent) }
     ensures ends { IfErr result (λ e. (e ≡ Fault.Memory) ⊎ ((e ≡ Fault.ClockSpent) × (fault ≡ Fault.ClockSpent))) }
 {
     match fault {
         Fault::Memory | Fault::ClockSpent => Err(fault),
-        _ => Ok(Some(fault)),
+        _ => Ok(Some(Entry::Refused { node, fault })),
     }
 }
 
-// A session submits a copy of the operation. The answer is why it refuses, if it does.
-fn submit(world: &mut World, session: Node, op: &Op) -> Result<Option<Fault>, Fault>
-    ensures ok { IfOk result (λ refusal. PlaysBefore world.old (script.Submit session op.now) world.new (told_refusal session refusal)) }
+// Why a submission was refused, if it was.
+fn fault_in(refusal: &Option<Entry>) -> Option<Fault> {
+    match refusal {
+        Some(Entry::Refused { node: _, fault }) => Some(*fault),
+        _ => None,
+    }
+}
+
+// A session submits a copy of the operation. The answer is the entry of its refusal, if it refuses.
+fn submit(world: &mut World, session: Node, op: &Op) -> Result<Option<Entry>, Fault>
+    ensures ok { IfOk result (λ refusal. PlaysBefore world.old (script.Submit session op.now) world.new (option_to_list refusal)) }
     ensures ends { IfErr result (EndsWith world.old (script.Submit session op.now)) }
 {
     if world.topology().session_of(session).is_none() {
@@ -96,7 +135,7 @@ fn submit(world: &mut World, session: Node, op: &Op) -> Result<Option<Fault>, Fa
     }
     match world.submit(session, op.copied()?) {
         Ok(_) => Ok(None),
-        Err(why) => refusal_of(fault_of(why)),
+        Err(why) => refusal_of(session, fault_of(why)),
     }
 }
 
@@ -122,22 +161,22 @@ fn collect(world: &mut World, shard: Node, time: Time) -> Result<(), Fault>
     world.collect(shard, time)
 }
 
-// All that was sent is handled, and each delivery is noted.
-fn drain(world: &mut World, place: usize, steps: &mut Vec<Step>) -> Result<(), Fault>
+// All that was sent is handled, and each delivery is noted. The answer is how many there were.
+fn drain(world: &mut World, place: usize, steps: &mut Vec<Step>) -> Result<u64, Fault>
     ensures ok { OnOk result (PlaysBefore world.old script.Drain world.new []) }
     ensures ends { IfErr result (EndsWith world.old script.Drain) }
 {
-    for _ in 0..MOST_DELIVERIES {
+    for delivered in 0..MOST_DELIVERIES {
         let Some(number) = world.first_unhandled() else {
-            return Ok(());
+            return Ok(delivered);
         };
         world.deliver(number)?;
         note(world, place, Some(number), None, steps)?;
     }
-    Ok(())
+    Ok(MOST_DELIVERIES)
 }
 
-// An event happens, and is noted. The answer is the refusal of its submission, if it is one that is refused.
+// An event happens. The answer is the entry of its submission's refusal, if it is one that is refused.
 fn happen(
     world: &mut World,
     place: usize,
@@ -150,11 +189,8 @@ fn happen(
     match event {
         Event::Submit { session, op } => {
             let refusal = submit(world, *session, op)?;
-            note(world, place, None, refusal, steps)?;
-            Ok(refusal.map(|fault: Fault| Entry::Refused {
-                node: *session,
-                fault,
-            }))
+            note(world, place, None, fault_in(&refusal), steps)?;
+            Ok(refusal)
         }
         Event::Deliver { number } => {
             deliver(world, *number)?;
@@ -184,6 +220,15 @@ fn add_ended(transcript: &mut Transcript, completed: &[Completed]) -> Result<(),
     Ok(())
 }
 
+// The entries of what has ended in a world since so many operations had are added. Fails by memory alone.
+fn add_since(world: &World, before: usize, transcript: &mut Transcript) -> Result<(), Fault>
+    requires { before ≤ length (run_of world.now).transcript }
+    ensures ok { OnOk result (transcript.new ≡ transcript.old ++ map entry_of (drop before (run_of world.now).transcript)) }
+    ensures memory { IfErr result (λ e. e ≡ Fault.Memory) }
+{
+    add_ended(transcript, &world.transcript()[before..])
+}
+
 // The entry of a refusal is added, if there was one. Fails by memory alone.
 fn add_refusal(transcript: &mut Transcript, refusal: Option<Entry>) -> Result<(), Fault>
     ensures ok { OnOk result (transcript.new ≡ transcript.old ++ option_to_list refusal) }
@@ -209,7 +254,7 @@ fn play(
     let before = world.transcript().len();
     let refusal = happen(world, place, event, steps)?;
     add_refusal(transcript, refusal)?;
-    add_ended(transcript, &world.transcript()[before..])
+    add_since(world, before, transcript)
 }
 
 // The events happen in order, until one ends the script, and their entries are told.
