@@ -12,6 +12,9 @@ use std::str;
 /// How many bytes are few: their digits are put together on the stack before they are written.
 const FEW: usize = 64;
 
+/// How many bytes are short: their digits and their text are put together before they are written.
+const SHORT: usize = 32;
+
 /// The digits of a control byte.
 const DIGITS: &[u8; 16] = b"0123456789abcdef";
 
@@ -94,6 +97,42 @@ fn put_text<W: Write>(output: &mut Output<W>, text: &[u8]) -> Result<(), Fault>
     put_escaped(output, text)
 }
 
+// Whether a byte is a character that stands for itself.
+fn is_letter(byte: u8) -> bool {
+    byte < 127 && is_plain(byte)
+}
+
+// Few bytes, each a character that stands for itself: their digits, and their text.
+fn put_short<W: Write>(output: &mut Output<W>, bytes: &[u8]) -> Result<(), Fault>
+    requires { length bytes.now ≤ 32 }
+    ensures { IfErr result (HasCut output.new) }
+{
+    let mut text = [0; 8 + 2 * SHORT + 10 + SHORT + 2];
+    let middle = 8 + 2 * bytes.len();
+    let start = middle + 10;
+    let end = start + bytes.len();
+    text[..8].copy_from_slice(b"{\"hex\":\"");
+    hex::encode_to_slice(bytes, &mut text[8..middle]).unwrap();
+    text[middle..start].copy_from_slice(b"\",\"text\":\"");
+    text[start..end].copy_from_slice(bytes);
+    text[end] = b'"';
+    text[end + 1] = b'}';
+    output.put(&text[..end + 2])
+}
+
+// Any bytes: their digits, and the text that they are, if they are one.
+fn put_long<W: Write>(output: &mut Output<W>, bytes: &[u8]) -> Result<(), Fault>
+    ensures { IfErr result (HasCut output.new) }
+{
+    output.put(b"{\"hex\":\"")?;
+    put_digits(output, bytes)?;
+    if str::from_utf8(bytes).is_ok() {
+        output.put(b"\",\"text\":\"")?;
+        put_text(output, bytes)?;
+    }
+    output.put(b"\"}")
+}
+
 /// Words, and then bytes: their digits, and the text that they are, if they are one.
 pub(crate) fn put_bytes<W: Write>(
     output: &mut Output<W>,
@@ -103,13 +142,10 @@ pub(crate) fn put_bytes<W: Write>(
     ensures { IfErr result (HasCut output.new) }
 {
     output.put(words)?;
-    output.put(b"{\"hex\":\"")?;
-    put_digits(output, bytes)?;
-    if str::from_utf8(bytes).is_ok() {
-        output.put(b"\",\"text\":\"")?;
-        put_text(output, bytes)?;
+    if bytes.len() <= SHORT && bytes.iter().all(|byte| is_letter(*byte)) {
+        return put_short(output, bytes);
     }
-    output.put(b"\"}")
+    put_long(output, bytes)
 }
 
 /// A line of a transcript as a text of JSON.
