@@ -1,12 +1,14 @@
 -- What the events of a script make of a world, and of the entries that are told.
-use Rattle.std.proofs.Common.{◌≡◌, ◌∙◌, ◌≢◌, ◌<◌, ◌⊎◌, inl, inr, ℕ, List, [], ◌∷◌, ◌++◌, length, map, drop, Option, Some, None, Result, Ok, Err, option_to_list, refl, ap, sym, subst, append_assoc}
-use Rattle.std.specs.Prelude.{OnOk, IfOk, IfErr, IsOkAnd}
+use Rattle.std.proofs.Common.{◌≡◌, ◌∙◌, ◌≢◌, ◌<◌, ◌+◌, ◌⊎◌, inl, inr, ℕ, List, [], ◌∷◌, ◌++◌, length, map, take, drop, get_or, Option, Some, None, Result, Ok, Err, ap, sym, subst, append_assoc}
+use Rattle.std.proofs.lemmas.List.{take_more, map-append}
+use Rattle.std.specs.Prelude.{OnOk, IfOk, IsOkAnd, option_to_list}
 use Rattle.logical_time.specs.declared.fault.Fault.{Fault}
 use Rattle.logical_time.specs.declared.fault.Fault.TheVariants.{Memory, ClockSpent}
 use Rattle.messages.specs.declared.op.Op.{Op}
 use Rattle.messages.specs.Topology.{TopologyValue}
+use Rattle.world.specs.declared.completed.Completed.{Completed}
 use Rattle.world.specs.declared.run_event.RunEvent.TheVariants.{Submit}
-use Rattle.world.specs.Run.{Run, continued, opening, run}
+use Rattle.world.specs.Run.{Run, continued, opening}
 use Rattle.world.specs.World.{WorldValue, run_of, refusal_in, IsRefusedAs}
 use Rattle.workload.specs.declared.script.Event.{Event as ScriptEvent}
 use Rattle.workload.specs.declared.script.Event.TheVariants as script
@@ -31,13 +33,21 @@ refusal_told (Ok t) w v node o e told known unspent refused same =
     subst (λ z. PlaysBefore w (script.Submit node o) v (option_to_list z)) (sym told) (refusal_plays w v node o e known unspent refused same)
 refusal_told (Err x) w v node o e told known unspent refused same = tt
 
+-- one more of what ended was added
+pub one_more_ended : (fs es gs : List Entry) (cs : List Completed) (i : ℕ) (c : Completed) (e : Entry) → i < length cs → c ≡ get_or cs i c
+    → es ≡ fs ++ map entry_of (take i cs) → e ≡ entry_of c → gs ≡ es ++ e ∷ [] → gs ≡ fs ++ map entry_of (take (i + 1) cs)
+one_more_ended fs es gs cs i c e lt at same is added =
+    added ∙ ap (λ x. es ++ x ∷ []) is ∙ ap (λ l. l ++ entry_of c ∷ []) same ∙ append_assoc fs (map entry_of (take i cs)) (entry_of c ∷ [])
+    ∙ ap (λ l. fs ++ l)
+    (sym (ap (map entry_of) (take_more cs i c lt) ∙ map-append entry_of (take i cs) (get_or cs i c ∷ []) ∙ ap (λ x. map entry_of (take i cs) ++ entry_of x ∷ []) (sym at)))
+
 -- the entries of an event were added: its refusal, and then what ended
 pub entries_added : (w v : WorldValue) (x : ScriptEvent) (t : Option Entry) (n : ℕ) (es fs gs : List Entry) → PlaysBefore w x v (option_to_list t) → n ≡ length (run_of w).transcript
     → fs ≡ es ++ option_to_list t → gs ≡ fs ++ map entry_of (drop n (run_of v).transcript) → Adds es gs (Plays w x v)
-entries_added w v x t n es fs gs plays is first then =
+entries_added w v x t n es fs gs plays is first added =
     let ended = ended_between (run_of w) (run_of v) in (
       option_to_list t ++ ended,
-      then ∙ ap (λ k. fs ++ map entry_of (drop k (run_of v).transcript)) is ∙ ap (λ hs. hs ++ ended) first ∙ append_assoc es (option_to_list t) ended,
+      added ∙ ap (λ k. fs ++ map entry_of (drop k (run_of v).transcript)) is ∙ ap (λ hs. hs ++ ended) first ∙ append_assoc es (option_to_list t) ended,
       plays,
     )
 
@@ -49,8 +59,8 @@ run_is s top events w entries same all h =
 
 -- what was told of a script is there
 pub was_told : {A : Type 0} (p : Result (List Entry) A) (P : List Entry → Type 0) (Q : List Entry → Type 0) → IsOkAnd p P → IfOk p Q → (entries : List Entry) × P entries × Q entries
-was_told (Ok entries) P Q is if = (entries, is, if)
-was_told (Err e) P Q is if = absurd is
+was_told (Ok entries) P Q told of = (entries, told, of)
+was_told (Err e) P Q told of = absurd told
 
 -- an event that ends a script, or memory does
 pub ends_there : (top : TopologyValue) (xs : List ScriptEvent) (x : ScriptEvent) (ys : List ScriptEvent) (w : WorldValue) (entries : List Entry) (e : Fault) → w.top ≡ top

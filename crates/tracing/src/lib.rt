@@ -12,5 +12,5 @@ mod telling;
 mod words;
 
 pub use performing::perform_trace;
-pub use playing::{Traced, trace};
+pub use playing::{Step, Traced, trace};
 pub use telling::write_trace;

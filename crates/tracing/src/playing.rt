@@ -214,8 +214,9 @@ fn add_ended(transcript: &mut Transcript, completed: &[Completed]) -> Result<(),
     ensures ok { OnOk result (transcript.new ≡ transcript.old ++ map entry_of completed.now) }
     ensures memory { IfErr result (λ e. e ≡ Fault.Memory) }
 {
-    for ended in completed {
-        transcript.push(Entry::ended(ended.node, ended.number, &ended.outcome)?)?;
+    for one in completed {
+        let entry = Entry::ended(one.node, one.number, &one.outcome)?;
+        transcript.push(entry)?;
     }
     Ok(())
 }
