@@ -3,10 +3,12 @@
 //! No other crate loads what reads the words.
 #![tactic(auto)]
 
+mod exploring;
 mod reading;
 mod serving;
 mod told;
 
+pub use exploring::Bounds;
 pub use reading::{Asked, read_words, refuse_words};
 pub use serving::Serving;
 pub use told::Told;

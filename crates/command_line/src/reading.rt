@@ -2,6 +2,7 @@
 ghost use Rattle.std.specs.Prelude.{◌≡◌, IfErr};
 ghost use Rattle.logical_time.specs.declared.fault.Fault.TheVariants as fault;
 
+use crate::exploring::{Bounds, bounds_of, explore_command};
 use crate::serving::{Serving, serve_command, serving_of};
 use crate::told::Told;
 use clap::error::ErrorKind;
@@ -52,6 +53,13 @@ pub enum Asked {
     Audit {
         /// The name.
         name: String,
+    },
+    /// The exploration of the script in the file of this name.
+    Explore {
+        /// The name.
+        name: String,
+        /// What is followed.
+        bounds: Bounds,
     },
     /// A server.
     Serve(Serving),
@@ -151,6 +159,7 @@ fn command<'a>(alloc: Global) -> Result<Command<'a>, AllocError> {
         .subcommand(trace_command(alloc)?)?
         .subcommand(run_command(alloc)?)?
         .subcommand(audit_command(alloc)?)?
+        .subcommand(explore_command(alloc, file(alloc, SCRIPT))?)?
         .subcommand(serve_command(alloc)?)
 }
 
@@ -189,6 +198,11 @@ fn accepted(alloc: Global, matches: &ArgMatches<'_>) -> Result<Asked, AllocError
         Some(("audit", found)) => Ok(Asked::Audit {
             name: name_of(alloc, found)?,
         }),
+        Some(("explore", found)) => {
+            let name = name_of(alloc, found)?;
+            let bounds = bounds_of(found);
+            Ok(Asked::Explore { name, bounds })
+        }
         Some((_, found)) => match serving_of(alloc, found)? {
             Ok(serving) => Ok(Asked::Serve(serving)),
             Err(told) => Ok(Asked::Told(told)),
