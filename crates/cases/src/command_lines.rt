@@ -1,7 +1,7 @@
 //! Command lines.
 use crate::showing::text_of;
 use crate::steps::Subject;
-use command_line::{Asked, Serving, Told, read_words};
+use command_line::{Asked, Bounds, Serving, Told, read_words};
 use logical_time::Fault;
 use program::Output;
 use std::alloc::Global;
@@ -43,6 +43,18 @@ fn add_server(serving: &Serving, seen: &mut String) -> Result<(), Fault> {
     Ok(())
 }
 
+fn add_bounds(bounds: Bounds, seen: &mut String) -> Result<(), Fault> {
+    let (events, states) = (bounds.events, bounds.states);
+    write!(seen, ", {events} events, {states} states")?;
+    if bounds.repeat {
+        write!(seen, ", repeated")?;
+    }
+    if bounds.lose {
+        write!(seen, ", lost")?;
+    }
+    Ok(())
+}
+
 impl Subject for Line {
     fn step(&mut self, alloc: Global, words: &[&str], seen: &mut String) -> Result<(), Fault> {
         let words = copies(alloc, words)?;
@@ -62,6 +74,10 @@ impl Subject for Line {
                 add_audit(audit, seen)
             }
             Asked::Audit { name } => Ok(write!(seen, "the audit of {name}")?),
+            Asked::Explore { name, bounds } => {
+                write!(seen, "orders of {name}")?;
+                add_bounds(bounds, seen)
+            }
             Asked::Serve(serving) => add_server(&serving, seen),
             Asked::Told(told) => add_answer(alloc, &told, seen),
         }

@@ -6,6 +6,7 @@
 mod building;
 mod chains;
 mod command_lines;
+mod explorations;
 mod marks;
 mod normal_forms;
 mod parts;
@@ -49,6 +50,7 @@ fn tell_scripts<T: Threads + Sync>(rt: &HostRuntime, threads: &T) -> io::Result<
     readers::tell(rt, threads)?;
     records::tell(rt)?;
     traces::tell(rt)?;
+    explorations::tell(rt, threads)?;
     refusals::tell(rt)
 }
 

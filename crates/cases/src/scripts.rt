@@ -47,6 +47,7 @@ const SCRIPTS: [&str; 38] = [
     "undecided_is_excluded",
     "unseen_column_under_mark",
     "write_after_move",
+    "write_and_read",
     "write_is_replicated",
 ];
 

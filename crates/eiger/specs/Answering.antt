@@ -4,7 +4,7 @@ use Rattle.logical_time.specs.declared.fault.Fault.{Fault}
 use Rattle.program.specs.declared.output.Output.{Output}
 use Rattle.program.specs.Telling.{Tells}
 use Rattle.command_line.specs.declared.reading.Asked.{Asked}
-use Rattle.command_line.specs.declared.reading.Asked.TheVariants.{Sim, History, Trace, Run, Audit, Serve, Told}
+use Rattle.command_line.specs.declared.reading.Asked.TheVariants.{Sim, History, Trace, Run, Audit, Explore, Serve, Told}
 use Rattle.command_line.specs.Told.{Answers}
 
 -- 0, and nothing is told
@@ -31,6 +31,7 @@ IsAnswer contents written (Ok (History name)) status old new told told' = IsDone
 IsAnswer contents written (Ok (Trace name)) status old new told told' = IsDone status told told' ⊎ HasFailed written status told told'
 IsAnswer contents written (Ok (Run name workers audit)) status old new told told' = IsDone status told told' ⊎ HasFailed written status told told'
 IsAnswer contents written (Ok (Audit name)) status old new told told' = IsJudged status told told' ⊎ HasFailed written status told told'
+IsAnswer contents written (Ok (Explore name bounds)) status old new told told' = IsDone status told told' ⊎ HasFailed written status told told'
 IsAnswer contents written (Ok (Serve s)) status old new told told' = IsDone status told told' ⊎ HasFailed written status told told'
 IsAnswer contents written (Ok (Told t)) status old new told told' = Answers contents written t status old new told told'
 IsAnswer contents written (Err e) status old new told told' = (status ≡ 1) × (new ≡ old) × Tells written e None told told'

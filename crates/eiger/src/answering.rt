@@ -4,7 +4,8 @@ ghost use Rattle.workload.specs.Performing.{TellsUnread};
 ghost use Rattle.eiger.specs.Answering.{IsDone, IsJudged, HasFailed, IsAnswer};
 
 use crate::serving::serve;
-use command_line::Asked;
+use command_line::{Asked, Bounds};
+use explore::{Limits, perform_exploration};
 use logical_time::Fault;
 use program::{Buffered, Input, Output, tell};
 use recorded::{perform_audit, perform_history};
@@ -91,6 +92,36 @@ fn audit<R: Read, W: Buffered, E: Buffered>(
     perform_audit(alloc, input, output, errors)
 }
 
+// Follows each order in which the messages of a script can come, and tells to a second output for errors how far it came.
+fn explore<T: Threads + Sync, R: Read, W: Buffered, E: Buffered>(
+    rt: &HostRuntime,
+    threads: &T,
+    bounds: Bounds,
+    input: &mut Input<R>,
+    output: &mut Output<W>,
+    errors: &mut Output<E>,
+) -> u8
+    ensures ended { IsDone result errors.old errors.new ⊎ HasFailed E.contents result errors.old errors.new }
+    ensures missing { IsSome input.old.failure → TellsUnread E.contents result errors.old errors.new }
+{
+    let limits = Limits {
+        repeat: bounds.repeat,
+        lose: bounds.lose,
+        events: bounds.events,
+        states: bounds.states,
+    };
+    let mut progress = Output::new(rt.stderr());
+    perform_exploration(
+        threads,
+        rt.alloc(),
+        limits,
+        input,
+        output,
+        errors,
+        &mut progress,
+    )
+}
+
 // The file of this name, or why it can't be opened.
 fn opened(rt: &HostRuntime, name: String) -> Input<File> {
     let file = File::open(rt, name.as_str());
@@ -135,6 +166,10 @@ pub(crate) fn answer<T: Threads + Wait + Sync, W: Buffered, E: Buffered>(
         Ok(Asked::Audit { name }) => {
             let mut input = opened(rt, name);
             audit(alloc, &mut input, output, errors)
+        }
+        Ok(Asked::Explore { name, bounds }) => {
+            let mut input = opened(rt, name);
+            explore(rt, threads, bounds, &mut input, output, errors)
         }
         Ok(Asked::Serve(serving)) => serve(rt, &serving, output, errors),
         Ok(Asked::Told(told)) => told.answer(output, errors),
