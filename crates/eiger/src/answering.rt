@@ -130,6 +130,7 @@ fn opened(rt: &HostRuntime, name: String) -> Input<File> {
 
 /// Does what a command line asks for. Gives the exit status: 0; 1 after a fault was told; 2 for a command line that is
 /// refused; 3 where an audit found a wrong read, which only one of a recorded history does.
+#[rattlefmt::skip]
 pub(crate) fn answer<T: Threads + Wait + Sync, W: Buffered, E: Buffered>(
     rt: &HostRuntime,
     threads: &T,
@@ -153,13 +154,7 @@ pub(crate) fn answer<T: Threads + Wait + Sync, W: Buffered, E: Buffered>(
             let mut input = opened(rt, name);
             trace(alloc, &mut input, output, errors)
         }
-        Ok(
-            Asked::Run {
-                name,
-                workers,
-                audit,
-            },
-        ) => {
+        Ok(Asked::Run { name, workers, audit }) => {
             let mut input = opened(rt, name);
             run(threads, alloc, workers, audit, &mut input, output, errors)
         }
