@@ -9,7 +9,7 @@ use std::{fs, io};
 use workload::perform;
 
 /// The names of the scripts with a transcript.
-const SCRIPTS: [&str; 38] = [
+const SCRIPTS: [&str; 39] = [
     "collected_while_waiting",
     "concurrent_inserts_meet",
     "count_after_deletion",
