@@ -2,14 +2,14 @@
 use Rattle.std.proofs.Common.{◌≡◌, ap, refl}
 use Rattle.std.specs.Ordering.{nat_cmp, ordering_then}
 use Rattle.std.specs.declared.cmp.Ordering.{Ordering}
-use Rattle.column_family.specs.declared.places.Part.{Part}
-use Rattle.column_family.specs.declared.places.Part.TheVariants.{Whole, Range, Column, End}
+use Rattle.column_family.specs.declared.places.RowPart.{RowPart}
+use Rattle.column_family.specs.declared.places.RowPart.TheVariants.{Whole, Range, Column, End}
 use Rattle.column_family.specs.declared.places.Place.{Place}
 use Rattle.column_family.specs.contracts.places.PartOrd.TheImpl as parts
 use Rattle.column_family.specs.contracts.places.PlaceOrd.TheImpl as places
 use Rattle.column_family.specs.Places.{part_cmp, place_cmp}
 
-same_parts : (p q : Part) → parts.ghosts.cmp p q ≡ part_cmp p q
+same_parts : (p q : RowPart) → parts.ghosts.cmp p q ≡ part_cmp p q
 same_parts Whole Whole = refl
 same_parts Whole (Range j) = refl
 same_parts Whole (Column m) = refl

@@ -15,7 +15,7 @@ use Rattle.column_family.specs.declared.batch.Row.{Row}
 use Rattle.column_family.specs.declared.batch.Change.{Change}
 use Rattle.column_family.specs.declared.batch.Mutation.{Mutation}
 use Rattle.column_family.specs.declared.batch.Mutation.TheVariants.{Insert, DeleteColumn, DeleteRow, DeleteRange}
-use Rattle.column_family.specs.declared.places.Part.{Part}
+use Rattle.column_family.specs.declared.places.RowPart.{RowPart}
 use Rattle.column_family.specs.declared.places.Place.{Place}
 use Rattle.column_family.specs.Location.{Location, is_same_row, strikes}
 use Rattle.column_family.specs.History.{last_of}
@@ -92,7 +92,7 @@ module _ (number : Row → ℕ) (n : ℕ) (apart : IsNumbering number n) (i : �
       go Equal h g =
           let same : number e.1.row ≡ number f.1.row = sym p.0 ∙ same_number e.0.row f.0.row h ∙ q.0 in
           let parts : part_cmp (part_of p.2.0 e.1.mutation) (part_of q.2.0 f.1.mutation) ≡ Less =
-          ap (λ (x : Part). part_cmp x (part_of q.2.0 f.1.mutation)) (sym p.2.2) ∙ (ap (part_cmp e.0.part) (sym q.2.2) ∙ g) in
+          ap (λ (x : RowPart). part_cmp x (part_of q.2.0 f.1.mutation)) (sym p.2.2) ∙ (ap (part_cmp e.0.part) (sym q.2.2) ∙ g) in
           inr (apart e.1.row f.1.row p.1 same, stands_before e.1.mutation f.1.mutation p.2.0 q.2.0 parts)
       go Greater h g = absurd (cc)
 

@@ -7,27 +7,27 @@ use Rattle.std.specs.declared.cmp.Ordering.{Ordering}
 use Rattle.std.specs.declared.cmp.Ordering.TheVariants.{Less, Equal, Greater}
 use Rattle.std.proofs.lemmas.Cmp.{on_total, then_total, tied_itself, nat_cmp_total, nat_list_cmp_total}
 use Rattle.std.proofs.lemmas.Map.Lookups.{exact_bytes}
-use Rattle.column_family.specs.declared.places.Part.{Part}
-use Rattle.column_family.specs.declared.places.Part.TheVariants.{Whole, Range, Column, End}
+use Rattle.column_family.specs.declared.places.RowPart.{RowPart}
+use Rattle.column_family.specs.declared.places.RowPart.TheVariants.{Whole, Range, Column, End}
 use Rattle.column_family.specs.declared.places.Place.{Place}
 use Rattle.column_family.specs.Places.{part_cmp, place_cmp}
 
 -- ---- a part as its kind, a number and a name
-abbrev kind : Part → ℕ
+abbrev kind : RowPart → ℕ
 kind Whole = 0
 kind (Range i) = 1
 kind (Column n) = 2
 kind End = 3
 
-abbrev number : Part → ℕ
+abbrev number : RowPart → ℕ
 number (Range i) = i
 number p = 0
 
-abbrev name : Part → List ℕ
+abbrev name : RowPart → List ℕ
 name (Column n) = n
 name p = []
 
-abbrev by_kind : Part → Part → Ordering
+abbrev by_kind : RowPart → RowPart → Ordering
 by_kind p q = ordering_then (nat_cmp (kind p) (kind q)) (ordering_then (nat_cmp (number p) (number q)) (slice_cmp nat_cmp (name p) (name q)))
 
 then_equal : (o : Ordering) → ordering_then o Equal ≡ o
@@ -35,7 +35,7 @@ then_equal Less = refl
 then_equal Equal = refl
 then_equal Greater = refl
 
-as_kinds : (p q : Part) → by_kind p q ≡ part_cmp p q
+as_kinds : (p q : RowPart) → by_kind p q ≡ part_cmp p q
 as_kinds Whole Whole = refl
 as_kinds Whole (Range j) = refl
 as_kinds Whole (Column m) = refl
@@ -64,7 +64,7 @@ place_total = then_total (on_total (λ (p : Place). p.row) nat_cmp_total) (on_to
 pub same_number : (a b : ℕ) → nat_cmp a b ≡ Equal → a ≡ b
 same_number a b h = grind arith
 
-equal_parts : (p q : Part) → part_cmp p q ≡ Equal → p ≡ q
+equal_parts : (p q : RowPart) → part_cmp p q ≡ Equal → p ≡ q
 equal_parts Whole Whole h = refl
 equal_parts Whole (Range j) h = absurd (cc)
 equal_parts Whole (Column m) h = absurd (cc)

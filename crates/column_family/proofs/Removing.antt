@@ -12,8 +12,8 @@ use Rattle.std.proofs.lemmas.List.Elements.{filter_agree}
 use Rattle.column_family.specs.declared.batch.Change.{Change}
 use Rattle.column_family.specs.declared.batch.Mutation.{Mutation}
 use Rattle.column_family.specs.declared.batch.Mutation.TheVariants.{DeleteRow, DeleteRange}
-use Rattle.column_family.specs.declared.places.Part.{Part}
-use Rattle.column_family.specs.declared.places.Part.TheVariants.{Whole, Range, Column, End}
+use Rattle.column_family.specs.declared.places.RowPart.{RowPart}
+use Rattle.column_family.specs.declared.places.RowPart.TheVariants.{Whole, Range, Column, End}
 use Rattle.column_family.specs.declared.places.Place.{Place}
 use Rattle.column_family.specs.Names.{is_open, name_le}
 use Rattle.column_family.specs.Places.{Placed, part_cmp, place_cmp, is_undone, is_among, last_part, after}
@@ -106,7 +106,7 @@ in_one_row row i o u = go (nat_cmp row i) refl
     go Equal h = let same : (i == row) ≡ true = eq-eqb i row (sym (same_number row i h)) in rw same refl
     go Greater h = let apart : (i == row) ≡ false = ne_eqb i row (λ e. above i row h e) in rw apart refl
 
-of_row : (p : Part) → (is_le (part_cmp Whole p) && not (is_lt (part_cmp End p))) ≡ true
+of_row : (p : RowPart) → (is_le (part_cmp Whole p) && not (is_lt (part_cmp End p))) ≡ true
 of_row Whole = refl
 of_row (Range i) = refl
 of_row (Column n) = refl
@@ -122,7 +122,7 @@ from_start [] [] = refl
 from_start [] (x ∷ xs) = refl
 from_start (x ∷ xs) n = refl
 
-of_range : (start finish : List ℕ) (p : Part) → (is_le (part_cmp (Column start) p) && not (is_lt (part_cmp (last_part finish) p))) ≡ is_undone (DeleteRange start finish) p
+of_range : (start finish : List ℕ) (p : RowPart) → (is_le (part_cmp (Column start) p) && not (is_lt (part_cmp (last_part finish) p))) ≡ is_undone (DeleteRange start finish) p
 of_range start [] Whole = refl
 of_range start [] (Range i) = refl
 of_range start [] (Column n) = ap (λ (b : Bool). b && true) (from_start start n)
@@ -150,7 +150,7 @@ range_left row start finish low high l h es =
     (λ p. in_one_row row p.row (part_cmp (Column start) p.part) (part_cmp (last_part finish) p.part) ∙ ap (λ (b : Bool). p.row == row && b) (of_range start finish p.part)) es)
 
 -- a mutation of one column undoes nothing at another place
-pub all_left : (row : ℕ) (m : Mutation) → ((p : Part) → is_undone m p ≡ false) → (es : Placed) → es ≡ after row m es
+pub all_left : (row : ℕ) (m : Mutation) → ((p : RowPart) → is_undone m p ≡ false) → (es : Placed) → es ≡ after row m es
 all_left row m none es = sym (left_all (λ p. p.row == row && is_undone m p.part) (λ p. both_false (p.row == row) (is_undone m p.part) (none p.part)) es)
   where
     both_false : (a b : Bool) → b ≡ false → (a && b) ≡ false

@@ -11,8 +11,8 @@ use Rattle.column_family.specs.declared.batch.Row.{Row}
 use Rattle.column_family.specs.declared.batch.Change.{Change}
 use Rattle.column_family.specs.declared.batch.Mutation.{Mutation}
 use Rattle.column_family.specs.declared.batch.Mutation.TheVariants.{Insert, DeleteColumn, DeleteRow, DeleteRange}
-use Rattle.column_family.specs.declared.places.Part.{Part}
-use Rattle.column_family.specs.declared.places.Part.TheVariants.{Whole, Range, Column, End}
+use Rattle.column_family.specs.declared.places.RowPart.{RowPart}
+use Rattle.column_family.specs.declared.places.RowPart.TheVariants.{Whole, Range, Column, End}
 use Rattle.column_family.specs.declared.places.Place.{Place}
 use Rattle.column_family.specs.Names.{is_open, is_between}
 use Rattle.column_family.specs.Location.{is_same_row}
@@ -41,21 +41,21 @@ abbrev pub is_listed : List Row → Row → Bool
 is_listed rows r = list_any (λ s. is_eq (row_cmp r s)) rows
 
 -- the part of its row that a mutation concerns, which stands here in the batch
-abbrev pub part_of : ℕ → Mutation → Part
+abbrev pub part_of : ℕ → Mutation → RowPart
 part_of i (Insert n v) = Column n
 part_of i (DeleteColumn n) = Column n
 part_of i DeleteRow = Whole
 part_of i (DeleteRange start finish) = Range i
 
 -- whether a newer mutation of the row undoes what is kept of this part of it, where the end counts as a column
-abbrev pub is_undone : Mutation → Part → Bool
+abbrev pub is_undone : Mutation → RowPart → Bool
 is_undone DeleteRow p = true
 is_undone (DeleteRange start finish) (Column n) = is_between start finish n
 is_undone (DeleteRange start finish) End = is_open finish
 is_undone m p = false
 
 -- parts are in the order in which they stand within a row
-abbrev pub part_cmp : Part → Part → Ordering
+abbrev pub part_cmp : RowPart → RowPart → Ordering
 part_cmp Whole Whole = Equal
 part_cmp Whole q = Less
 part_cmp p Whole = Greater
@@ -76,7 +76,7 @@ abbrev pub is_among : Place → Place → Place → Bool
 is_among low high p = is_le (place_cmp low p) && not (is_lt (place_cmp high p))
 
 -- the last part of a row that a range with this finish has
-abbrev pub last_part : List ℕ → Part
+abbrev pub last_part : List ℕ → RowPart
 last_part finish = if is_open finish then End else Column finish
 
 -- what is kept of changes after a newer mutation of a row of this number: what it doesn't undo

@@ -15,7 +15,7 @@ ghost use Rattle.column_family.specs.Places as spec;
 
 use crate::batch::{Batch, Change, Mutation, Row};
 use crate::byte_strings::Name;
-use crate::places::{Part, Place, remove_between};
+use crate::places::{Place, RowPart, remove_between};
 use logical_time::Fault;
 use std::alloc::{AllocError, Global};
 use std::collections::BTreeMap;
@@ -38,25 +38,25 @@ fn first_places(alloc: Global, changes: &[Change]) -> Result<BTreeMap<Row, usize
 }
 
 /// The part of its row that a mutation concerns, which stands here in the batch.
-fn part_of(index: usize, mutation: &Mutation) -> Result<Part, AllocError>
+fn part_of(index: usize, mutation: &Mutation) -> Result<RowPart, AllocError>
     ensures { IfOk result (λ part. part ≡ spec.part_of index mutation.now) }
 {
     match mutation {
-        Mutation::Insert { name, .. } => Ok(Part::Column(name.clone()?)),
-        Mutation::DeleteColumn { name } => Ok(Part::Column(name.clone()?)),
-        Mutation::DeleteRow => Ok(Part::Whole),
-        Mutation::DeleteRange { .. } => Ok(Part::Range(index)),
+        Mutation::Insert { name, .. } => Ok(RowPart::Column(name.clone()?)),
+        Mutation::DeleteColumn { name } => Ok(RowPart::Column(name.clone()?)),
+        Mutation::DeleteRow => Ok(RowPart::Whole),
+        Mutation::DeleteRange { .. } => Ok(RowPart::Range(index)),
     }
 }
 
 /// The last part of a row that a range with this finish has.
-fn last_part(finish: &Name) -> Result<Part, AllocError>
+fn last_part(finish: &Name) -> Result<RowPart, AllocError>
     ensures { IfOk result (λ part. part ≡ spec.last_part finish.now) }
 {
     if finish.as_slice().is_empty() {
-        Ok(Part::End)
+        Ok(RowPart::End)
     } else {
-        Ok(Part::Column(finish.clone()?))
+        Ok(RowPart::Column(finish.clone()?))
     }
 }
 
@@ -66,11 +66,11 @@ fn remove_row(kept: &mut BTreeMap<Place, Change>, row: usize) -> Result<(), Allo
 {
     let low = Place {
         row,
-        part: Part::Whole,
+        part: RowPart::Whole,
     };
     let high = Place {
         row,
-        part: Part::End,
+        part: RowPart::End,
     };
     remove_between(kept, &low, &high)
 }
@@ -86,7 +86,7 @@ fn remove_range(
 {
     let low = Place {
         row,
-        part: Part::Column(start.clone()?),
+        part: RowPart::Column(start.clone()?),
     };
     let high = Place {
         row,

@@ -13,7 +13,7 @@ use std::ops::Bound;
 
 /// The part of its row that a change concerns, in the order of the normal form.
 #[derive(Drop, Clone, PartialEq, Eq, PartialOrd, Ord)]
-pub(crate) enum Part {
+pub(crate) enum RowPart {
     /// All of the row.
     Whole,
     /// A range of columns, by where its deletion stands in the batch.
@@ -30,7 +30,7 @@ pub(crate) struct Place {
     /// Where the first change of its row stands in the batch.
     pub(crate) row: usize,
     /// The part of the row.
-    pub(crate) part: Part,
+    pub(crate) part: RowPart,
 }
 
 /// The first place at which something is kept of those from the low one to the high one.

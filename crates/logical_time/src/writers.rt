@@ -9,7 +9,7 @@ use std::marker::Model;
 
 /// Where writers are kept.
 #[derive(Drop)]
-enum Kept {
+enum WriterList {
     /// One in the handle: mostly one wrote all that is shown of a row.
     One([Writer; 1]),
     /// None, or more.
@@ -19,7 +19,7 @@ enum Kept {
 /// Transactions that something rests on, in order and each once. One alone takes no memory.
 #[derive(Drop)]
 pub struct Writers {
-    kept: Kept,
+    kept: WriterList,
 }
 
 impl Model for Writers {
@@ -51,7 +51,7 @@ impl Writers {
         ensures { result ≡ writers.items }
     {
         Writers {
-            kept: Kept::Many(writers),
+            kept: WriterList::Many(writers),
         }
     }
 
@@ -60,7 +60,7 @@ impl Writers {
         ensures { result ≡ writer ∷ [] }
     {
         Writers {
-            kept: Kept::One([writer]),
+            kept: WriterList::One([writer]),
         }
     }
 
@@ -80,8 +80,8 @@ impl Writers {
         ensures { result.now ≡ self.now }
     {
         match &self.kept {
-            Kept::One(writer) => writer.as_slice(),
-            Kept::Many(writers) => writers.as_slice(),
+            WriterList::One(writer) => writer.as_slice(),
+            WriterList::Many(writers) => writers.as_slice(),
         }
     }
 }
@@ -91,8 +91,8 @@ impl Clone for Writers {
 
     fn clone(&self) -> Result<Writers, AllocError> {
         let kept = match &self.kept {
-            Kept::One(writer) => Kept::One(*writer),
-            Kept::Many(writers) => Kept::Many(writers.clone()?),
+            WriterList::One(writer) => WriterList::One(*writer),
+            WriterList::Many(writers) => WriterList::Many(writers.clone()?),
         };
         Ok(Writers { kept })
     }

@@ -21,8 +21,7 @@ use Rattle.messages.specs.Commits.{applied_part, commits, stamp_for, announcemen
 use Rattle.messages.specs.Replication.{ballot_of, dep_checks, with_ballot, with_notice, with_met}
 use Rattle.messages.specs.ShardEvents.{handled}
 use Rattle.shard.proofs.lists.Lists.{each_joined, each_mapped}
-pub use Rattle.shard.proofs.steps.HandledCases.{IsTelling}
-use Rattle.shard.proofs.steps.HandledCases.{begun, replicated, with_early, with_asker, the_ballot, a_notice, an_answer, ReadyStep, misses, alone, asks, StepOf, still, begin_decides, begin_holds, prepares, vote_decides, vote_counts, vote_early, applies, lets_go, tells_commit, tells_none, reads_now, reads_collected, reads_at, waits, readies, notice_early, keeps_part, prepares_replica, tells_decided, remembers, handled_cases}
+use Rattle.shard.proofs.steps.HandledCases.{IsTelling, begun, replicated, with_early, with_asker, the_ballot, a_notice, an_answer, ReadyStep, misses, alone, asks, StepOf, still, begin_decides, begin_holds, prepares, vote_decides, vote_counts, vote_early, applies, lets_go, tells_commit, tells_none, reads_now, reads_collected, reads_at, waits, readies, notice_early, keeps_part, prepares_replica, tells_decided, remembers, handled_cases}
 
 -- what holds of each kind of envelope that answers neither a read nor a check, and hands on no commit
 pub record Plain (top : TopologyValue) (me n : ℕ) (P : Envelope → Type 0) : Type 0 where

@@ -14,7 +14,7 @@ use Rattle.messages.specs.Replication.{ballot_of, ready, with_ballot, with_notic
 use Rattle.messages.specs.ShardEvents.{handled, collected}
 use Rattle.messages.specs.declared.envelope.Envelope.{Envelope}
 use Rattle.shard.specs.Sound.{IsWithin}
-use Rattle.shard.proofs.steps.HandledCases.{begun, replicated, copied, Brings, the_ballot, a_notice, an_answer, ReadyStep, misses, alone, asks, StepOf, still, begin_decides, begin_holds, prepares, vote_decides, vote_counts, vote_early, applies, lets_go, tells_commit, tells_none, reads_now, reads_collected, reads_at, waits, readies, notice_early, keeps_part, prepares_replica, tells_decided, remembers, ready_cases, handled_cases}
+use Rattle.shard.proofs.steps.HandledCases.{begun, replicated, copied, Brings, the_ballot, a_notice, an_answer, ReadyStep, misses, alone, asks, StepOf, still, begin_decides, begin_holds, prepares, vote_decides, vote_counts, vote_early, applies, lets_go, tells_commit, tells_none, reads_now, reads_collected, reads_at, waits, readies, notice_early, keeps_part, prepares_replica, tells_decided, remembers, handled_cases}
 
 pub within_then : {a b c : ShardState} → IsWithin a b → IsWithin b c → IsWithin a c
 within_then f g =
@@ -159,9 +159,6 @@ pub ready_step_in : (top : TopologyValue) (me n : ℕ) (a : ShardState) (r : Kep
 ready_step_in top me n a r st (misses is) = quiet_within a n
 ready_step_in top me n a r st (alone is none) = decide_within top me n a (ballot_of r)
 ready_step_in top me n a r st (asks is c cs some) = hold_within top me n a (ballot_of r) []
-
-pub ready_in : (top : TopologyValue) (me n : ℕ) (a : ShardState) (r : KeptBallot) → IsWithin a (ready top me n a r).state
-ready_in top me n a r = ready_step_in top me n a r (ready top me n a r) (ready_cases top me n a r)
 
 pub brings_in : (top : TopologyValue) (me n : ℕ) (a : ShardState) (from : ℕ) (m : Body) (r : KeptBallot) (b : ShardState) (first : List Envelope)
     → Brings top me n a from m r b first → IsWithin a b
