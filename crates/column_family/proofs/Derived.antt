@@ -5,7 +5,7 @@ use Rattle.std.specs.declared.cmp.Ordering.{Ordering}
 use Rattle.column_family.specs.declared.places.RowPart.{RowPart}
 use Rattle.column_family.specs.declared.places.RowPart.TheVariants.{Whole, Range, Column, End}
 use Rattle.column_family.specs.declared.places.Place.{Place}
-use Rattle.column_family.specs.contracts.places.PartOrd.TheImpl as parts
+use Rattle.column_family.specs.contracts.places.RowPartOrd.TheImpl as parts
 use Rattle.column_family.specs.contracts.places.PlaceOrd.TheImpl as places
 use Rattle.column_family.specs.Places.{part_cmp, place_cmp}
 
