@@ -7,3 +7,4 @@ pub mod Idle
 pub mod Meant
 pub mod Ports
 pub mod Searched
+pub mod Together

@@ -30,10 +30,10 @@ use Rattle.service.proofs.Entries.{IsListed, listed_still, listed_after, own_op,
 
 -- ## Events only come
 
-begins_so : {X : Type 0} (xs ys zs : List X) → IsBeginning xs ys → IsBeginning ys zs → IsBeginning xs zs
+pub begins_so : {X : Type 0} (xs ys zs : List X) → IsBeginning xs ys → IsBeginning ys zs → IsBeginning xs zs
 begins_so xs ys zs f g = (f.0 ++ g.0, g.1 ∙ (ap (λ l. l ++ g.0) f.1 ∙ append_assoc xs f.0 g.0))
 
-begins_at : {X : Type 0} (xs : List X) → IsBeginning xs xs
+pub begins_at : {X : Type 0} (xs : List X) → IsBeginning xs xs
 begins_at xs = ([], sym (append-nil xs))
 
 module _ (top : TopologyValue) (session : ℕ) where

@@ -1,3 +1,4 @@
 pub mod Port
 pub mod Meaning
 pub mod Connections
+pub mod Sessions

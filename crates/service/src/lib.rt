@@ -8,7 +8,9 @@ mod asking;
 mod connections;
 mod port;
 mod session;
+mod sessions;
 
 pub use connections::serve_connections;
 pub use port::WorldPort;
 pub use session::serve_session;
+pub use sessions::{WorldSessions, run_sessions, turn_sessions};

@@ -1,0 +1,115 @@
+-- The steps of many sessions, as moments of their world.
+use Rattle.std.proofs.Common.{◌≡◌, ◌∙◌, ◌&&◌, true, ℕ, zero, suc, ◌<◌, ◌≤◌, List, [], ◌∷◌, Option, Result, Ok, Err, IfOk, refl, ap, sym, subst, length, ◌⊎◌, inl, inr, arith}
+use Rattle.std.specs.Prelude.{nat_le, nat_lt}
+use Rattle.std.specs.List.{list_all}
+use Rattle.std.proofs.lemmas.Bool.{and_parts}
+use Rattle.std.proofs.lemmas.Bool.Decides.{nat_tests}
+use Rattle.messages.specs.declared.op.Op.{Op}
+use Rattle.messages.specs.Topology.{TopologyValue, is_topology, session_node}
+use Rattle.wire.specs.Replies.{Reply}
+use Rattle.readiness.specs.declared.connection.Connection.{Connection}
+use Rattle.readiness.specs.declared.run.Gone.{Gone}
+use Rattle.readiness.specs.declared.run.Run.{Run}
+use Rattle.readiness.specs.Lines.{ReadyValue}
+use Rattle.readiness.specs.Exchanges.{Entry, LogChain}
+use Rattle.readiness.specs.Places.{Turns}
+use Rattle.readiness.specs.Runs.{RanFor}
+use Rattle.world.specs.declared.run_event.RunEvent.{RunEvent as Event}
+use Rattle.world.specs.Run.{run}
+use Rattle.world.specs.Journals.{IsBeginning}
+use Rattle.world.specs.World.{WorldValue}
+use Rattle.service.specs.declared.sessions.WorldSessions.{WorldSessions}
+use Rattle.service.specs.Port.{Asks}
+use Rattle.service.specs.Sessions.{IsSessionStep, SessionReplies}
+use Rattle.service.proofs.Meant.{begins_so, begins_at, answer_begins, answer_means}
+
+below : (a b : ℕ) → (a < b) ⊎ (b ≤ a)
+below zero zero = inr (omega arith)
+below zero (suc b) = inl (omega arith)
+below (suc a) zero = inr (omega arith)
+below (suc a) (suc b) =
+    elim (below a b) [
+      | inl h ↦ inl (omega arith)
+      | inr h ↦ inr (omega arith)
+    ]
+
+-- there are few sessions
+pub few_sessions : (top : TopologyValue) → is_topology top.dcs top.shards top.homes ≡ true → length top.homes ≤ 16
+few_sessions top e =
+    let p = and_parts (nat_le 1 top.dcs && nat_le top.dcs 4 && nat_le 1 top.shards && nat_le top.shards 8 && nat_le 1 (length top.homes) && nat_le (length top.homes) 16) (list_all (λ d. nat_lt d top.dcs) top.homes) e in
+    let a = and_parts (nat_le 1 top.dcs && nat_le top.dcs 4 && nat_le 1 top.shards && nat_le top.shards 8 && nat_le 1 (length top.homes)) (nat_le (length top.homes) 16) p.0 in
+    let le = a.1 in
+    grind (arith, nat_tests)
+
+-- the port is of the same world
+pub record IsSameWorld (p q : WorldSessions) : Type 0 where
+  pub world : q.world.ghost_name ≡ p.world.ghost_name
+  pub topology : q.world.now.top ≡ p.world.now.top
+
+pub log_same : (p : WorldSessions) (log : List Entry) (q : WorldSessions) → LogChain IsSessionStep p log q → IsSameWorld p q
+log_same p [] q c = subst (IsSameWorld p) c (record { world = refl; topology = refl })
+log_same p (e ∷ log) q c =
+    let more = log_same c.0 log q c.2 in
+    record { world = more.world ∙ c.1.same_world; topology = more.topology ∙ c.1.topology }
+
+step_begins : (place : ℕ) (p : WorldSessions) (o : Op) (a : Reply) (q : WorldSessions) → IsSessionStep place p o a q → IsBeginning p.world.now.events q.world.now.events
+step_begins place p o a q s =
+    elim (below place (length p.world.now.top.homes)) [
+      | inl lt ↦ answer_begins p.world.now.top (session_node p.world.now.top place) p.world.now.events o a q.world.now.events (s.asks lt)
+      | inr le ↦ subst (λ (w : WorldValue). IsBeginning p.world.now.events w.events) (sym (s.otherwise le).1) (begins_at p.world.now.events)
+    ]
+
+log_begins : (p : WorldSessions) (log : List Entry) (q : WorldSessions) → LogChain IsSessionStep p log q → IsBeginning p.world.now.events q.world.now.events
+log_begins p [] q c = subst (λ (z : WorldSessions). IsBeginning p.world.now.events z.world.now.events) c (begins_at p.world.now.events)
+log_begins p (e ∷ log) q c =
+    begins_so p.world.now.events c.0.world.now.events q.world.now.events (step_begins e.place p e.exchange.asked e.exchange.told c.0 c.1) (log_begins c.0 log q c.2)
+
+module _ (top : TopologyValue) (some : 0 < top.shards) (left : List Event) where
+  step_means : (place : ℕ) (p : WorldSessions) (o : Op) (a : Reply) (q : WorldSessions) → p.world.now.top ≡ top → IsSessionStep place p o a q → IsBeginning q.world.now.events left
+      → SessionReplies top (run top left) place p.world.now.events o a q.world.now.events
+  step_means place p o a q t s begins =
+      record {
+        replies = λ lt.
+            let asks = subst (λ (z : TopologyValue). Asks z (session_node z place) p.world.now.events o a q.world.now.events) t (s.asks (subst (λ (z : TopologyValue). place < length z.homes) (sym t) lt)) in
+            answer_means top (session_node top place) some p.world.now.events o a q.world.now.events left asks begins;
+        otherwise = λ le.
+            let none = s.otherwise (subst (λ (z : TopologyValue). length z.homes ≤ place) (sym t) le) in
+            (none.0, ap (λ (w : WorldValue). w.events) none.1);
+      }
+
+  log_until : (p : WorldSessions) (log : List Entry) (q : WorldSessions) → p.world.now.top ≡ top → LogChain IsSessionStep p log q → IsBeginning q.world.now.events left
+      → LogChain (SessionReplies top (run top left)) p.world.now.events log q.world.now.events
+  log_until p [] q t c begins = ap (λ (z : WorldSessions). z.world.now.events) c
+  log_until p (e ∷ log) q t c begins = (
+    c.0.world.now.events,
+    step_means e.place p e.exchange.asked e.exchange.told c.0 t c.1 (begins_so c.0.world.now.events q.world.now.events left (log_begins c.0 log q c.2) begins),
+    log_until c.0 log q (c.1.topology ∙ t) c.2 begins,
+  )
+
+-- each answer means its request in what all leave behind
+pub log_means : (p : WorldSessions) (log : List Entry) (q : WorldSessions) → 0 < p.world.now.top.shards → LogChain IsSessionStep p log q
+    → LogChain (SessionReplies p.world.now.top (run q.world.now.top q.world.now.events)) p.world.now.events log q.world.now.events
+log_means p log q some c =
+    subst (λ (z : TopologyValue). LogChain (SessionReplies p.world.now.top (run z q.world.now.events)) p.world.now.events log q.world.now.events) (sym (log_same p log q c).topology)
+    (log_until p.world.now.top some q.world.now.events p log q refl c (begins_at q.world.now.events))
+
+-- ## Turns and runs
+
+pub turns_mean : {L : Type 0} (seen : L → ReadyValue) (x y : List (Option (Connection L))) (p q : WorldSessions) → 0 < p.world.now.top.shards → ((log : List Entry) × Turns seen IsSessionStep log x p y q)
+    → (log : List Entry) × Turns seen (SessionReplies p.world.now.top (run q.world.now.top q.world.now.events)) log x p.world.now.events y q.world.now.events
+turns_mean seen x y p q some h = (h.0, record { chain = log_means p h.0 q some h.1.chain; places = h.1.places })
+
+pub turns_same : {L : Type 0} (seen : L → ReadyValue) (x y : List (Option (Connection L))) (p q : WorldSessions) → ((log : List Entry) × Turns seen IsSessionStep log x p y q) → IsSameWorld p q
+turns_same seen x y p q h = log_same p h.0 q h.1.chain
+
+run_means : {L : Type 0} (seen : L → ReadyValue) (lines : List L) (gone : List (Gone L)) (places : List (Option (Connection L))) (p q : WorldSessions) → 0 < p.world.now.top.shards → RanFor seen IsSessionStep lines gone p places q
+    → RanFor seen (SessionReplies p.world.now.top (run q.world.now.top q.world.now.events)) lines gone p.world.now.events places q.world.now.events
+run_means seen lines gone places p q some h = (h.0, h.1, h.2, record { chain = log_means p h.2 q some h.3.chain; lives = h.3.lives })
+
+pub chain_same : (p q : WorldSessions) → ((log : List Entry) × LogChain IsSessionStep p log q) → IsSameWorld p q
+chain_same p q h = log_same p h.0 q h.1
+
+pub ran_means : {L E : Type 0} (seen : L → ReadyValue) (lines : List L) (p q : WorldSessions) → 0 < p.world.now.top.shards → (r : Result (Run L) E) → IfOk r (λ x. RanFor seen IsSessionStep lines x.gone.items p x.places.places.items q)
+    → IfOk r (λ x. RanFor seen (SessionReplies p.world.now.top (run q.world.now.top q.world.now.events)) lines x.gone.items p.world.now.events x.places.places.items q.world.now.events)
+ran_means seen lines p q some (Ok x) h = run_means seen lines x.gone.items x.places.places.items p q some h
+ran_means seen lines p q some (Err e) h = tt

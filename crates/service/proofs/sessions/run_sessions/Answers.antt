@@ -1,0 +1,5 @@
+use Rattle.std.proofs.Common.{rules}
+use Rattle.service.proofs.sessions.run_sessions.Goals as goal
+
+pub returns-clause-ran : goal.returns-clause-ran
+returns-clause-ran g c = search rules

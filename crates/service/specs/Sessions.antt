@@ -1,0 +1,24 @@
+-- The sessions of a world, as what the connections at places ask: the connection at a place asks as the session of that index.
+use Rattle.std.specs.Prelude.{◌≡◌, ℕ, ◌<◌, ◌≤◌, List, length, Err}
+use Rattle.logical_time.specs.declared.fault.Fault.TheVariants.{Busy}
+use Rattle.messages.specs.declared.op.Op.{Op}
+use Rattle.messages.specs.Topology.{TopologyValue, session_node}
+use Rattle.wire.specs.Replies.{Reply}
+use Rattle.world.specs.declared.run_event.RunEvent.{RunEvent as Event}
+use Rattle.world.specs.Run.{Run}
+use Rattle.service.specs.declared.sessions.WorldSessions.{WorldSessions}
+use Rattle.service.specs.Port.{Asks}
+use Rattle.service.specs.Meaning.{Replies}
+
+-- a step of the port: its world stays, and the request is answered on that world; past the last session it is refused
+pub record IsSessionStep (place : ℕ) (old : WorldSessions) (op : Op) (answer : Reply) (new : WorldSessions) : Type 0 where
+  pub same_world : new.world.ghost_name ≡ old.world.ghost_name
+  pub topology : new.world.now.top ≡ old.world.now.top
+  pub asks : place < length old.world.now.top.homes → Asks old.world.now.top (session_node old.world.now.top place) old.world.now.events op answer new.world.now.events
+  pub otherwise : length old.world.now.top.homes ≤ place → (answer ≡ Err Busy) × (new.world.now ≡ old.world.now)
+
+-- A step of the connection at a place, where `left` is the run after all of them: its session's request is answered, and an
+-- outcome has its meaning in `left`; at a place past the last session it is refused.
+pub record SessionReplies (top : TopologyValue) (left : Run) (place : ℕ) (before : List Event) (op : Op) (answer : Reply) (after : List Event) : Type 0 where
+  pub replies : place < length top.homes → Replies top (session_node top place) left before op answer after
+  pub otherwise : length top.homes ≤ place → (answer ≡ Err Busy) × (after ≡ before)

@@ -1,0 +1,128 @@
+//! The sessions of a world, each for the connection at a place.
+ghost use Rattle.std.specs.Prelude.{◌≡◌, ◌<◌, List, length, IfOk, OnOk};
+ghost use Rattle.readiness.specs.Exchanges.{Entry};
+ghost use Rattle.readiness.specs.Places.{Turns, Rests, AreBounded};
+ghost use Rattle.readiness.specs.Runs.{RanFor, arrivals};
+ghost use Rattle.readiness.specs.declared.connection.TheConstants.{LIMIT};
+ghost use Rattle.world.specs.World.{run_of};
+ghost use Rattle.service.specs.Sessions.{IsSessionStep, SessionReplies};
+
+use crate::asking::ask;
+use logical_time::Fault;
+use messages::{Op, Outcome};
+use readiness::{Act, Places, ReadyLine, Run, SharedPort, run_all, turns};
+use std::alloc::{AllocError, Global};
+use world::World;
+
+/// The sessions of a world, as the port of many connections: the connection at a place asks as the session of that index. So
+/// the next connection at a place goes on with what that session did before.
+#[derive(Drop)]
+pub struct WorldSessions<'w> {
+    world: &'w mut World,
+}
+
+impl<'w> WorldSessions<'w> {
+    /// The port of all sessions of this world.
+    pub fn new(world: &'w mut World) -> WorldSessions<'w>
+        ensures same_world { result.world.ghost_name ≡ world.entry.ghost_name }
+        ensures world_is { result.world.now ≡ world.old }
+    {
+        WorldSessions { world }
+    }
+
+    // A turn for the connection at each of these places.
+    fn turn<L: ReadyLine + Drop>(
+        &mut self,
+        alloc: Global,
+        places: &mut Places<L>,
+        ready: &[usize],
+        again: &mut Vec<usize>,
+        over: &mut Vec<usize>,
+        buffer: &mut [u8],
+    ) -> Result<(), AllocError>
+        requires { 0 < length buffer.old }
+        ensures same_world { self.new.world.ghost_name ≡ self.old.world.ghost_name }
+        ensures topology { self.new.world.now.top ≡ self.old.world.now.top }
+        ensures turned { (log : List Entry) × Turns L.seen (SessionReplies self.old.world.now.top (run_of self.new.world.now)) log places.old.places.items self.old.world.now.events places.new.places.items self.new.world.now.events }
+        ensures rests { OnOk result (Rests LIMIT L.seen ready.now again.new.items over.new.items places.old.places.items places.new.places.items) }
+        ensures bounded { AreBounded LIMIT L.seen places.old.places.items → AreBounded LIMIT L.seen places.new.places.items }
+    {
+        // what is known of runs is known within the limits of a topology
+        let _limits = self.world.topology();
+        turns(alloc, self, places, ready, again, over, buffer)
+    }
+
+    // Serves lines together.
+    fn run<L: ReadyLine + Drop>(
+        &mut self,
+        alloc: Global,
+        acts: Vec<Act<L>>,
+        buffer: &mut [u8],
+    ) -> Result<Run<L>, AllocError>
+        requires { 0 < length buffer.old }
+        ensures same_world { self.new.world.ghost_name ≡ self.old.world.ghost_name }
+        ensures topology { self.new.world.now.top ≡ self.old.world.now.top }
+        ensures ran { IfOk result (λ run. RanFor L.seen (SessionReplies self.old.world.now.top (run_of self.new.world.now)) (arrivals acts.items) run.gone.items self.old.world.now.events run.places.places.items self.new.world.now.events) }
+        ensures bounded { IfOk result (λ run. AreBounded LIMIT L.seen run.places.places.items) }
+    {
+        // what is known of runs is known within the limits of a topology
+        let _limits = self.world.topology();
+        run_all(alloc, self, acts, buffer)
+    }
+}
+
+impl SharedPort for WorldSessions<'_> {
+    ghost steps = { IsSessionStep };
+
+    #[tactic(auto, using(crate::proofs::Homes::session_here, crate::proofs::Together::few_sessions))]
+    fn ask(&mut self, place: usize, op: Op) -> Result<Outcome, Fault> {
+        let topology = self.world.topology();
+        let sessions = topology.homes().len();
+        if place >= sessions {
+            return Err(Fault::Busy);
+        }
+        let session = topology.session_node(place as u16);
+        ask(self.world, session, op)
+    }
+}
+
+/// A turn for the connection at each of these places, whose requests the world's sessions of these indices answer. What is put
+/// into `again` and `over` is as `readiness::turns` says. The cost of each request is what its submission and its drain cost.
+pub fn turn_sessions<L: ReadyLine + Drop>(
+    alloc: Global,
+    world: &mut World,
+    places: &mut Places<L>,
+    ready: &[usize],
+    again: &mut Vec<usize>,
+    over: &mut Vec<usize>,
+    buffer: &mut [u8],
+) -> Result<(), AllocError>
+    requires { 0 < length buffer.old }
+    // each place's requests were answered by its session, and each outcome means its request in the world left behind
+    ensures turned { (log : List Entry) × Turns L.seen (SessionReplies world.old.top (run_of world.new)) log places.old.places.items world.old.events places.new.places.items world.new.events }
+    ensures rests { OnOk result (Rests LIMIT L.seen ready.now again.new.items over.new.items places.old.places.items places.new.places.items) }
+    ensures bounded { AreBounded LIMIT L.seen places.old.places.items → AreBounded LIMIT L.seen places.new.places.items }
+    ensures topology { world.new.top ≡ world.old.top }
+{
+    let mut port = WorldSessions::new(world);
+    port.turn(alloc, places, ready, again, over, buffer)
+}
+
+/// Serves lines together by the sessions of a world, as they arrive, have turns and leave, in whatever order. The connections at
+/// a place, one after the other, ask as one session, and each goes on with what that session did before.
+pub fn run_sessions<L: ReadyLine + Drop>(
+    alloc: Global,
+    world: &mut World,
+    acts: Vec<Act<L>>,
+    buffer: &mut [u8],
+) -> Result<Run<L>, AllocError>
+    requires { 0 < length buffer.old }
+    // at each place the lines that were given it account for all that its session was asked, and each outcome means its request
+    // in the world left behind
+    ensures ran { IfOk result (λ run. RanFor L.seen (SessionReplies world.old.top (run_of world.new)) (arrivals acts.items) run.gone.items world.old.events run.places.places.items world.new.events) }
+    ensures bounded { IfOk result (λ run. AreBounded LIMIT L.seen run.places.places.items) }
+    ensures topology { world.new.top ≡ world.old.top }
+{
+    let mut port = WorldSessions::new(world);
+    port.run(alloc, acts, buffer)
+}
