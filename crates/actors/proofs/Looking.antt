@@ -5,8 +5,8 @@ use Rattle.std.specs.List.{slice_get}
 use Rattle.std.proofs.lemmas.Bool.{cases_lt}
 use Rattle.std.proofs.lemmas.Bool.Decides.{eqb_tells}
 use Rattle.messages.specs.declared.envelope.Envelope.{Envelope}
-use Rattle.messages.specs.declared.event.Event.{Event}
-use Rattle.messages.specs.declared.event.Event.TheVariants.{Handle}
+use Rattle.messages.specs.declared.event.ActorEvent.{ActorEvent}
+use Rattle.messages.specs.declared.event.ActorEvent.TheVariants.{Handle}
 use Rattle.links.specs.Links.{InLinkValue}
 use Rattle.actors.specs.Seats.{SeatValue}
 use Rattle.actors.specs.Resting.{WasEmpty}
@@ -92,4 +92,4 @@ next_handled d s m n some next event held place journal incoming after = by m.he
     by : (h : Option Envelope) → IsSome h → IfSome h (λ e. IsNext s m e) → IfSome h (λ e. n.journal ≡ m.journal ++ Handle e ∷ []) → HasLooked Handled d n
     by None some next event = absurd cc
     by (Some e) some next event =
-        (e, event ∙ ap (λ (j : List Event). j ++ Handle e ∷ []) journal, next_from d s m n e held place incoming after next)
+        (e, event ∙ ap (λ (j : List ActorEvent). j ++ Handle e ∷ []) journal, next_from d s m n e held place incoming after next)

@@ -6,7 +6,7 @@ use Rattle.std.proofs.lemmas.List.{append-nil}
 use Rattle.std.proofs.Math.Seq.{map-set_same}
 use Rattle.std.proofs.lemmas.Bool.Decides.{eqb_tells}
 use Rattle.messages.specs.declared.envelope.Envelope.{Envelope}
-use Rattle.messages.specs.declared.event.Event.{Event}
+use Rattle.messages.specs.declared.event.ActorEvent.{ActorEvent}
 use Rattle.links.specs.Links.{InLinkValue}
 use Rattle.actors.specs.Journals.{receipts_from, held_from}
 use Rattle.actors.specs.Seats.{IsApart, Received, sources_of}
@@ -32,7 +32,7 @@ held_away : (n : ℕ) (e : Envelope) → e.from ≢ n → held_from n (Some e) �
 held_away n e away = rw (test_false e.from n away) refl
 
 pub polled : (links : List InLinkValue) (k : ℕ) (d l : InLinkValue) (e : Envelope) → k < length links → d ≡ get_or links k d → l.from ≡ d.from → l.received ≡ d.received ++ e ∷ [] → e.from ≡ d.from
-    → (journal : List Event) → IsApart (sources_of links) → Received journal links None → Received journal (set links k l) (Some e)
+    → (journal : List ActorEvent) → IsApart (sources_of links) → Received journal links None → Received journal (set links k l) (Some e)
 polled links k d l e lt is from received of journal apart kept j m at =
     let d_at = here links k d lt is in
     elim (eqb_tells j k) [
@@ -50,7 +50,7 @@ polled links k d l e lt is from received of journal apart kept j m at =
 
 -- where the same was taken from a link, the same was received
 pub unpolled : (links : List InLinkValue) (k : ℕ) (d l : InLinkValue) → k < length links → d ≡ get_or links k d → l.from ≡ d.from → l.received ≡ d.received
-    → (journal : List Event) (held : Option Envelope) → Received journal links held → Received journal (set links k l) held
+    → (journal : List ActorEvent) (held : Option Envelope) → Received journal links held → Received journal (set links k l) held
 unpolled links k d l lt is from received journal held kept j m at =
     let d_at = here links k d lt is in
     elim (eqb_tells j k) [
@@ -66,6 +66,6 @@ unpolled links k d l lt is from received journal held kept j m at =
 -- where one envelope was taken from a link, or none
 pub popped : (links : List InLinkValue) (k : ℕ) (d l : InLinkValue) (o : Option Envelope) → k < length links → d ≡ get_or links k d → l.from ≡ d.from
     → IfSome o (λ e. l.received ≡ d.received ++ e ∷ []) → IfSome o (λ e. e.from ≡ d.from) → IfNone o (l.received ≡ d.received)
-    → (journal : List Event) → IsApart (sources_of links) → Received journal links None → Received journal (set links k l) o
+    → (journal : List ActorEvent) → IsApart (sources_of links) → Received journal links None → Received journal (set links k l) o
 popped links k d l None lt is from taken of none journal apart kept = unpolled links k d l lt is from none journal None kept
 popped links k d l (Some e) lt is from taken of none journal apart kept = polled links k d l e lt is from taken of journal apart kept

@@ -8,8 +8,8 @@ use Rattle.std.proofs.lemmas.List.{append-nil, append_assoc, length-append}
 use Rattle.std.proofs.lemmas.List.Elements.{filter-append, filter_map-append}
 use Rattle.messages.specs.declared.envelope.Envelope.{Envelope}
 use Rattle.messages.specs.declared.outcome.Outcome.{Outcome}
-use Rattle.messages.specs.declared.event.Event.{Event}
-use Rattle.messages.specs.declared.event.Event.TheVariants.{Submit, Handle, Collect}
+use Rattle.messages.specs.declared.event.ActorEvent.{ActorEvent}
+use Rattle.messages.specs.declared.event.ActorEvent.TheVariants.{Submit, Handle, Collect}
 use Rattle.messages.specs.Topology.{TopologyValue}
 use Rattle.actors.specs.Journals.{op_in, submissions, number_after, sends_to, followed_by}
 use Rattle.actors.specs.Shown.{clock_with, clock_from}
@@ -18,7 +18,7 @@ use Rattle.actors.proofs.Showing.{shown_more}
 use Rattle.actors.specs.CameFrom.{CameFrom}
 use Rattle.actors.specs.Machines.{IsRecorded}
 
-pub counted : (journal : List Event) (event : Event) → submissions (journal ++ event ∷ []) ≡ unwrap_or (number_after journal event) (submissions journal)
+pub counted : (journal : List ActorEvent) (event : ActorEvent) → submissions (journal ++ event ∷ []) ≡ unwrap_or (number_after journal event) (submissions journal)
 counted journal (Submit o) = rw (filter_map-append op_in journal (Submit o ∷ [])) (length-append (filter_map op_in journal) (o ∷ []))
 counted journal (Handle e) = rw (filter_map-append op_in journal (Handle e ∷ []), append-nil) refl
 counted journal (Collect time) = rw (filter_map-append op_in journal (Collect time ∷ []), append-nil) refl
@@ -33,7 +33,7 @@ pub all_in_first : (a b c d : List Envelope) → a ++ b ≡ c ++ d → b ≡ [] 
 all_in_first a b c d same none = sym (append-nil a) ∙ ap (λ es. a ++ es) (sym none) ∙ same
 
 pub recorded_more : {M : Type 0} (came_from : CameFrom M) (untaken : M → Option (ℕ × Outcome)) (top : TopologyValue) (node : ℕ) (before : ℕ → List Envelope)
-    (machine stepped taken : M) (journal next : List Event) (event : Event) (outcomes told : List (ℕ × Outcome)) (outbox fresh sent : List Envelope) (count counts clock time : ℕ)
+    (machine stepped taken : M) (journal next : List ActorEvent) (event : ActorEvent) (outcomes told : List (ℕ × Outcome)) (outbox fresh sent : List Envelope) (count counts clock time : ℕ)
     (timed now : Bool) (number : Option ℕ)
     → IsRecorded came_from untaken top node before machine journal outcomes outbox count clock timed
     → came_from top node (journal ++ event ∷ []) (followed_by before sent) (outcomes ++ option_to_list (untaken stepped)) taken

@@ -6,22 +6,22 @@ use Rattle.logical_time.specs.declared.fault.Fault.{Fault}
 use Rattle.logical_time.specs.declared.fault.Fault.TheVariants.{JournalFull, Memory}
 use Rattle.logical_time.specs.Fault.{number_of}
 use Rattle.messages.specs.declared.envelope.Envelope.{Envelope}
-use Rattle.messages.specs.declared.event.Event.{Event}
-use Rattle.messages.specs.declared.event.Event.TheVariants.{Handle}
+use Rattle.messages.specs.declared.event.ActorEvent.{ActorEvent}
+use Rattle.messages.specs.declared.event.ActorEvent.TheVariants.{Handle}
 use Rattle.actors.specs.Machines.{Refuses}
 use Rattle.actors.specs.Seats.{SeatValue}
 use Rattle.actors.specs.Turns.{IsOfRequest, HasTakenOff}
 use Rattle.actors.specs.Refusals.{IsRefusal, IsFirst, IsDueOf, IsKeptBack, CanRefuse}
 
 -- an event is refused so, where it is refused with `JournalFull` if the journal is full, and else for memory or as the machine refuses it
-pub refusal_of : (refuses : Refuses) (s : SeatValue) (event : Event) (fault : Fault) → (s.limit ≤ length s.journal → fault ≡ JournalFull)
+pub refusal_of : (refuses : Refuses) (s : SeatValue) (event : ActorEvent) (fault : Fault) → (s.limit ≤ length s.journal → fault ≡ JournalFull)
     → (length s.journal < s.limit → (fault ≡ Memory) ⊎ refuses s.topology s.node s.journal event fault) → IsRefusal refuses s event fault
 refusal_of refuses s event fault full room = elim (cases_lt (length s.journal) s.limit) [
   | inl below ↦ inr (below, room below)
   | inr above ↦ inl (above, full above)
 ]
 
-pub is_refusal : {A B : Type 0} (refuses : Refuses) (s : SeatValue) (event : Event) (r : Result A (Fault × B))
+pub is_refusal : {A B : Type 0} (refuses : Refuses) (s : SeatValue) (event : ActorEvent) (r : Result A (Fault × B))
     → (s.limit ≤ length s.journal → IfErr r (λ e. e.0 ≡ JournalFull))
     → (length s.journal < s.limit → IfErr r (λ e. (e.0 ≡ Memory) ⊎ refuses s.topology s.node s.journal event e.0)) → IfErr r (λ e. IsRefusal refuses s event e.0)
 is_refusal refuses s event (Ok a) full room = tt
@@ -34,13 +34,13 @@ held_refused refuses s held fault is refused = subst (λ o. IfSome o (λ e. IsRe
 
 -- it is the first item of the backlog, which the seat is to do
 pub work_refused : {A : Type 0} (refuses : Refuses) (s n : SeatValue) (r : Result A Fault) → 0 < length s.backlog → s.held ≡ None → s.free ≡ true → OnErr r (n ≡ s)
-    → ((event : Event) → IsFirst s event → IfErr r (λ fault. (fault ≡ Memory) ⊎ (IsRefusal refuses s event fault × (IsOfRequest fault → ⊥))))
+    → ((event : ActorEvent) → IsFirst s event → IfErr r (λ fault. (fault ≡ Memory) ⊎ (IsRefusal refuses s event fault × (IsOfRequest fault → ⊥))))
     → IfErr r (λ fault. CanRefuse refuses fault n)
 work_refused refuses s n (Ok a) some none free same refused = tt
 work_refused refuses s n (Err e) some none free same refused = subst (λ (z : SeatValue). CanRefuse refuses e z) (sym same) (by s.backlog refl)
   where
-    by : (items : List Event) → s.backlog ≡ items → CanRefuse refuses e s
-    by [] is = absurd (let len : length s.backlog ≡ 0 = ap (λ (l : List Event). length l) is in omega (arith, len, some))
+    by : (items : List ActorEvent) → s.backlog ≡ items → CanRefuse refuses e s
+    by [] is = absurd (let len : length s.backlog ≡ 0 = ap (λ (l : List ActorEvent). length l) is in omega (arith, len, some))
     by (x ∷ more) is =
         elim (refused x (more, is)) [
           | inl memory ↦ inl memory
@@ -48,12 +48,12 @@ work_refused refuses s n (Err e) some none free same refused = subst (λ (z : Se
         ]
 
 -- the first item of the backlog was refused for something else than what it asks
-pub kept_back : (refuses : Refuses) (s : SeatValue) (event : Event) (more : List Event) (fault : Fault) → s.backlog ≡ event ∷ more → (IsOfRequest fault → ⊥)
-    → IsRefusal refuses s event fault → (x : Event) → IsFirst s x → (fault ≡ Memory) ⊎ (IsRefusal refuses s x fault × (IsOfRequest fault → ⊥))
+pub kept_back : (refuses : Refuses) (s : SeatValue) (event : ActorEvent) (more : List ActorEvent) (fault : Fault) → s.backlog ≡ event ∷ more → (IsOfRequest fault → ⊥)
+    → IsRefusal refuses s event fault → (x : ActorEvent) → IsFirst s x → (fault ≡ Memory) ⊎ (IsRefusal refuses s x fault × (IsOfRequest fault → ⊥))
 kept_back refuses s event more fault is other refused x first =
     let both : event ∷ more ≡ x ∷ first.0 = sym is ∙ first.1 in
     let same : event ≡ x = cc in
-    inr (subst (λ (z : Event). IsRefusal refuses s z fault) same refused, other)
+    inr (subst (λ (z : ActorEvent). IsRefusal refuses s z fault) same refused, other)
 
 -- a full journal and the lack of memory are no refusals for what is asked
 full_is_none : IsOfRequest JournalFull → ⊥
@@ -67,7 +67,7 @@ memory_is_none (inr (inl same)) = absurd (cc)
 memory_is_none (inr (inr same)) = absurd (cc)
 
 -- a refusal of an operation for what it asks is the machine's, and there was room
-pub taken_off : (refuses : Refuses) (event : Event) (fault : Fault) (old new : SeatValue) → old.backlog ≡ event ∷ new.backlog → IsOfRequest fault
+pub taken_off : (refuses : Refuses) (event : ActorEvent) (fault : Fault) (old new : SeatValue) → old.backlog ≡ event ∷ new.backlog → IsOfRequest fault
     → IsRefusal refuses old event fault → HasTakenOff refuses fault old new
 taken_off refuses event fault old new first request (inl full) = absurd (full_is_none (subst IsOfRequest full.1 request))
 taken_off refuses event fault old new first request (inr (room, inl memory)) = absurd (memory_is_none (subst IsOfRequest memory request))
@@ -87,11 +87,11 @@ pub stuck_refused : (refuses : Refuses) (s : SeatValue) → s.limit ≤ length s
     → CanRefuse refuses JournalFull s
 stuck_refused refuses s full due = by s.held refl due
   where
-    kept : (x : Event) → IsKeptBack refuses s x JournalFull
+    kept : (x : ActorEvent) → IsKeptBack refuses s x JournalFull
     kept x = (inl (full, refl), λ own. full_is_none)
 
-    first : (items : List Event) → s.backlog ≡ items → s.held ≡ None → (0 < length s.backlog) × (s.free ≡ true) → CanRefuse refuses JournalFull s
-    first [] is none work = absurd (let len : length s.backlog ≡ 0 = ap (λ (l : List Event). length l) is in let some = work.0 in omega (arith, len, some))
+    first : (items : List ActorEvent) → s.backlog ≡ items → s.held ≡ None → (0 < length s.backlog) × (s.free ≡ true) → CanRefuse refuses JournalFull s
+    first [] is none work = absurd (let len : length s.backlog ≡ 0 = ap (λ (l : List ActorEvent). length l) is in let some = work.0 in omega (arith, len, some))
     first (x ∷ more) is none work = inr (x, subst (λ o. IsDueOf o s x) (sym none) (work.1, (more, is)), kept x)
 
     by : (o : Option Envelope) → s.held ≡ o → IsSome o ⊎ ((0 < length s.backlog) × (s.free ≡ true)) → CanRefuse refuses JournalFull s

@@ -7,7 +7,7 @@ use Rattle.std.proofs.lemmas.List.Sums.{sum_by-set}
 use Rattle.std.proofs.lemmas.Bool.Decides.{eqb_tells}
 use Rattle.std.proofs.lemmas.Option.{slice_get_within, slice_get-get_or}
 use Rattle.logical_time.specs.declared.fault.Fault.{Fault}
-use Rattle.messages.specs.declared.event.Event.{Event}
+use Rattle.messages.specs.declared.event.ActorEvent.{ActorEvent}
 use Rattle.actors.specs.Journals.{IsBeginning}
 use Rattle.actors.specs.Machines.{Refuses}
 use Rattle.actors.specs.Seats.{SeatValue}
@@ -41,7 +41,7 @@ same_later d n same = record {
   rings = same.rings;
 }
 
-done_later : (event : Event) (d n : SeatValue) → HasDone event d n → (gone : List Event) → d.backlog ≡ gone ++ n.backlog → IsLater d n
+done_later : (event : ActorEvent) (d n : SeatValue) → HasDone event d n → (gone : List ActorEvent) → d.backlog ≡ gone ++ n.backlog → IsLater d n
 done_later event d n done gone backlog = record {
   topology = done.topology;
   node = done.node;
@@ -85,12 +85,12 @@ later_twice a b c first then = record {
 left_same : (d n : SeatValue) → HasSame d n → events_left n ≡ events_left d
 left_same d n same = rw (same.limit, same.journal, same.backlog) refl
 
-left_done : (event : Event) (d n : SeatValue) → HasDone event d n → length n.backlog ≤ length d.backlog → events_left n < events_left d
+left_done : (event : ActorEvent) (d n : SeatValue) → HasDone event d n → length n.backlog ≤ length d.backlog → events_left n < events_left d
 left_done event d n done most =
     let more : length n.journal ≡ length d.journal + 1 = rw (done.journal) (length-append d.journal (event ∷ [])) in
     omega (arith, more, done.limit, done.room, most)
 
-one_off : (event : Event) (old new : List Event) → old ≡ event ∷ new → length new + 1 ≡ length old
+one_off : (event : ActorEvent) (old new : List ActorEvent) → old ≡ event ∷ new → length new + 1 ≡ length old
 one_off event old new is = rw is (omega arith)
 
 -- the lists of seats
@@ -204,7 +204,7 @@ module _ (start now : List SeatValue) (k : ℕ) (d n : SeatValue) (lt : k < leng
       worked_less round so_far (left_done _ d n is_turn.1 (omega (arith, off)))
   one_turn refuses round (Refused fault) same is_turn so_far =
       let off = one_off is_turn.off.event d.backlog n.backlog is_turn.off.first in
-      let journal : length n.journal ≡ length d.journal = ap (λ (l : List Event). length l) is_turn.journal in
+      let journal : length n.journal ≡ length d.journal = ap (λ (l : List ActorEvent). length l) is_turn.journal in
       worked_less round so_far (omega (arith, off, journal, is_turn.limit))
 
 -- the seats that had no turn yet

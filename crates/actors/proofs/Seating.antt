@@ -7,8 +7,8 @@ use Rattle.std.proofs.lemmas.List.{append-nil}
 use Rattle.std.proofs.lemmas.List.Elements.{filter_map-append, filter-append, Contains-append_cases}
 use Rattle.messages.specs.declared.envelope.Envelope.{Envelope}
 use Rattle.messages.specs.declared.outcome.Outcome.{Outcome}
-use Rattle.messages.specs.declared.event.Event.{Event}
-use Rattle.messages.specs.declared.event.Event.TheVariants.{Submit, Handle, Collect}
+use Rattle.messages.specs.declared.event.ActorEvent.{ActorEvent}
+use Rattle.messages.specs.declared.event.ActorEvent.TheVariants.{Submit, Handle, Collect}
 use Rattle.messages.specs.Actors.{envelope_of}
 use Rattle.messages.specs.Topology.{TopologyValue}
 use Rattle.links.specs.Links.{InLinkValue}
@@ -20,16 +20,16 @@ use Rattle.actors.specs.Machines.{IsRecorded}
 use Rattle.actors.specs.Seats.{SeatValue, through, sources_of, Received, CameBy, Keeps}
 use Rattle.actors.specs.Looking.{IsFoundInTurn}
 
-receipts_more : (n : ℕ) (journal : List Event) (event : Event) → receipts_from n (journal ++ event ∷ []) ≡ receipts_from n journal ++ receipts_from n (event ∷ [])
+receipts_more : (n : ℕ) (journal : List ActorEvent) (event : ActorEvent) → receipts_from n (journal ++ event ∷ []) ≡ receipts_from n journal ++ receipts_from n (event ∷ [])
 receipts_more n journal event =
     rw (filter_map-append envelope_of journal (event ∷ [])) (filter-append (λ (e : Envelope). e.from == n) (filter_map envelope_of journal) (filter_map envelope_of (event ∷ [])))
 
-none_received : (n : ℕ) (event : Event) → IsOwn event → receipts_from n (event ∷ []) ≡ []
+none_received : (n : ℕ) (event : ActorEvent) → IsOwn event → receipts_from n (event ∷ []) ≡ []
 none_received n (Submit o) own = refl
 none_received n (Handle e) own = absurd cc
 none_received n (Collect time) own = refl
 
-receipts_own : (n : ℕ) (journal : List Event) (event : Event) → IsOwn event → receipts_from n (journal ++ event ∷ []) ≡ receipts_from n journal
+receipts_own : (n : ℕ) (journal : List ActorEvent) (event : ActorEvent) → IsOwn event → receipts_from n (journal ++ event ∷ []) ≡ receipts_from n journal
 receipts_own n journal event own = receipts_more n journal event ∙ (rw (none_received n event own) (append-nil (receipts_from n journal)))
 
 -- ## By which ring an envelope came
@@ -38,14 +38,14 @@ only_one : {X : Type 0} (x y : X) → Contains (x ∷ []) y → x ≡ y
 only_one x y (zero, lt, is) = is
 only_one x y (suc k, lt, is) = absurd (omega arith)
 
-handled_own : (links : List InLinkValue) (journal : List Event) (event : Event) → IsOwn event → ((e : Envelope) → Contains journal (Handle e) → CameBy links e)
+handled_own : (links : List InLinkValue) (journal : List ActorEvent) (event : ActorEvent) → IsOwn event → ((e : Envelope) → Contains journal (Handle e) → CameBy links e)
     → (e : Envelope) → Contains (journal ++ event ∷ []) (Handle e) → CameBy links e
 handled_own links journal event own before e has = elim (Contains-append_cases journal (event ∷ []) (Handle e) has) [
   | inl old ↦ before e old
   | inr new ↦ absurd (let none : envelope_of (Handle e) ≡ None = subst (λ x. IsOwn x) (only_one event (Handle e) new) own in cc)
 ]
 
-handled_more : (links : List InLinkValue) (journal : List Event) (x : Envelope) → CameBy links x → ((e : Envelope) → Contains journal (Handle e) → CameBy links e)
+handled_more : (links : List InLinkValue) (journal : List ActorEvent) (x : Envelope) → CameBy links x → ((e : Envelope) → Contains journal (Handle e) → CameBy links e)
     → (e : Envelope) → Contains (journal ++ Handle x ∷ []) (Handle e) → CameBy links e
 handled_more links journal x by before e has = elim (Contains-append_cases journal (Handle x ∷ []) (Handle e) has) [
   | inl old ↦ before e old
@@ -73,7 +73,7 @@ taken_came (Some x) new was now first after sources found kept came = rw ((kept 
 
 module _ {M : Type 0} (came_from : CameFrom M) (untaken : M → Option (ℕ × Outcome)) where
   -- an event that no message brings
-  pub kept_own : (machine next : M) (d n : SeatValue) (event : Event) → Keeps came_from untaken machine d → IsOwn event
+  pub kept_own : (machine next : M) (d n : SeatValue) (event : ActorEvent) → Keeps came_from untaken machine d → IsOwn event
       → IsRecorded came_from untaken n.topology n.node (through n.outgoing) next n.journal n.outcomes n.outbox n.accepted n.clock n.timed
       → n.journal ≡ d.journal ++ event ∷ [] → n.incoming ≡ d.incoming → n.held ≡ d.held → n.outgoing ≡ d.outgoing → All IsOwn n.backlog
       → n.topology ≡ d.topology → Keeps came_from untaken next n
@@ -121,7 +121,7 @@ module _ {M : Type 0} (came_from : CameFrom M) (untaken : M → Option (ℕ × O
   }
 
   -- a call did an event that no message brings, or nothing
-  pub kept_did : {A B : Type 0} (r : Result A B) (machine next : M) (d n : SeatValue) (event : Event) → Keeps came_from untaken machine d → IsOwn event
+  pub kept_did : {A B : Type 0} (r : Result A B) (machine next : M) (d n : SeatValue) (event : ActorEvent) → Keeps came_from untaken machine d → IsOwn event
       → OnOk r (IsRecorded came_from untaken n.topology n.node (through n.outgoing) next n.journal n.outcomes n.outbox n.accepted n.clock n.timed)
       → OnErr r (IsRecorded came_from untaken n.topology n.node (through n.outgoing) next n.journal n.outcomes n.outbox n.accepted n.clock n.timed)
       → OnOk r (n.journal ≡ d.journal ++ event ∷ []) → OnErr r ((n.journal ≡ d.journal) × (n.outcomes ≡ d.outcomes) × (n.outbox ≡ d.outbox) × (n.accepted ≡ d.accepted) × (n.clock ≡ d.clock) × (n.timed ≡ d.timed))
@@ -149,7 +149,7 @@ module _ {M : Type 0} (came_from : CameFrom M) (untaken : M → Option (ℕ × O
   }
 
   -- what waited moved on its way
-  pub recorded_moved : (top : TopologyValue) (node : ℕ) (before after : ℕ → List Envelope) (machine : M) (journal : List Event) (outcomes : List (ℕ × Outcome)) (outbox rest : List Envelope) (count clock : ℕ) (timed : Bool)
+  pub recorded_moved : (top : TopologyValue) (node : ℕ) (before after : ℕ → List Envelope) (machine : M) (journal : List ActorEvent) (outcomes : List (ℕ × Outcome)) (outbox rest : List Envelope) (count clock : ℕ) (timed : Bool)
       → IsRecorded came_from untaken top node before machine journal outcomes outbox count clock timed
       → ((n : ℕ) → followed_by after rest n ≡ followed_by before outbox n)
       → IsRecorded came_from untaken top node after machine journal outcomes rest count clock timed
@@ -161,21 +161,21 @@ module _ {M : Type 0} (came_from : CameFrom M) (untaken : M → Option (ℕ × O
     shown = subst (λ (sent : ℕ → List Envelope). IsShown came_from top node journal sent timed) (sym (fun_ext same)) was.shown;
   }
 
-pub has_done : {A B : Type 0} (r : Result A B) (d n : SeatValue) (event : Event)
+pub has_done : {A B : Type 0} (r : Result A B) (d n : SeatValue) (event : ActorEvent)
     → OnOk r (length d.journal < d.limit) → OnOk r (n.journal ≡ d.journal ++ event ∷ []) → OnOk r (IsBeginning d.outcomes n.outcomes) → n.refusals ≡ d.refusals → n.topology ≡ d.topology → n.node ≡ d.node → n.limit ≡ d.limit → HasSameRings d n
     → OnOk r (HasDone event d n)
 has_done (Ok a) d n event room journal outcomes refusals topology node limit rings =
     record { room = room; journal = journal; outcomes = outcomes; refusals = refusals; topology = topology; node = node; limit = limit; rings = rings }
 has_done (Err b) d n event room journal outcomes refusals topology node limit rings = tt
 
-pub own_first : (events rest : List Event) (event : Event) → events ≡ event ∷ rest → All IsOwn events → IsOwn event
-own_first events rest event is own = first (subst (λ (es : List Event). All IsOwn es) is own)
+pub own_first : (events rest : List ActorEvent) (event : ActorEvent) → events ≡ event ∷ rest → All IsOwn events → IsOwn event
+own_first events rest event is own = first (subst (λ (es : List ActorEvent). All IsOwn es) is own)
   where
     first : All IsOwn (event ∷ rest) → IsOwn event
     first all = all 0 event (omega arith)
 
-pub own_rest : (events rest : List Event) (event : Event) → events ≡ event ∷ rest → All IsOwn events → All IsOwn rest
-own_rest events rest event is own = others (subst (λ (es : List Event). All IsOwn es) is own)
+pub own_rest : (events rest : List ActorEvent) (event : ActorEvent) → events ≡ event ∷ rest → All IsOwn events → All IsOwn rest
+own_rest events rest event is own = others (subst (λ (es : List ActorEvent). All IsOwn es) is own)
   where
     others : All IsOwn (event ∷ rest) → All IsOwn rest
     others all k d lt = all (suc k) d (omega arith)

@@ -10,7 +10,7 @@ use Rattle.std.proofs.lemmas.Option.{slice_get_past, slice_get_within}
 use Rattle.std.proofs.lemmas.Bool.Decides.{leb_tells, eqb_tells}
 use Rattle.messages.specs.declared.envelope.Envelope.{Envelope}
 use Rattle.messages.specs.declared.outcome.Outcome.{Outcome}
-use Rattle.messages.specs.declared.event.Event.{Event}
+use Rattle.messages.specs.declared.event.ActorEvent.{ActorEvent}
 use Rattle.messages.specs.Topology.{TopologyValue}
 use Rattle.actors.specs.CameFrom.{CameFrom}
 use Rattle.actors.specs.Journals.{sends_to}
@@ -95,7 +95,7 @@ all_pass : (p : Envelope → Bool) (es : List Envelope) → ((j : ℕ) (e : Enve
 all_pass p [] each = refl
 all_pass p (x ∷ es) each = subst (λ b. (b && list_all p es) ≡ true) (sym (each 0 x refl)) (all_pass p es (λ j e at. each (suc j) e at))
 
-module _ {M : Type 0} (came_from : CameFrom M) (top : TopologyValue) (node : ℕ) (s : Shown) (x : Event) (fresh : List Envelope) (along : CameAlong came_from top node s) where
+module _ {M : Type 0} (came_from : CameFrom M) (top : TopologyValue) (node : ℕ) (s : Shown) (x : ActorEvent) (fresh : List Envelope) (along : CameAlong came_from top node s) where
   abbrev more : Shown
   more = record { journal = s.journal ++ x ∷ []; sent = s.sent ++ fresh; marks = s.marks ++ length (s.sent ++ fresh) ∷ [] }
 
@@ -223,7 +223,7 @@ first_of : (es : List Envelope) (j : ℕ) (e : Envelope) → slice_get es j ≡ 
 first_of [] j e at = absurd (cc)
 first_of (x ∷ es) j e at = (x, refl)
 
-pub shown_more : {M : Type 0} (came_from : CameFrom M) (top : TopologyValue) (node : ℕ) (journal next : List Event) (x : Event) (fresh : List Envelope)
+pub shown_more : {M : Type 0} (came_from : CameFrom M) (top : TopologyValue) (node : ℕ) (journal next : List ActorEvent) (x : ActorEvent) (fresh : List Envelope)
     (before after : ℕ → List Envelope) (timed now : Bool) (clock : ℕ) (machine : M) (outcomes : List (ℕ × Outcome))
     → IsShown came_from top node journal before timed → next ≡ journal ++ x ∷ [] → came_from top node next after outcomes machine
     → ((to : ℕ) → after to ≡ before to ++ sends_to to fresh) → clock ≡ min (clock_from 0 next) (2 ^ 48)

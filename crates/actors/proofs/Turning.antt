@@ -2,7 +2,7 @@
 use Rattle.std.proofs.Common.{◌≡◌, ◌∙◌, ◌+◌, ◌<◌, ◌⊎◌, List, [], ◌∷◌, ◌++◌, length, false, refl, sym, ap, subst, arith}
 use Rattle.std.specs.Prelude.{All, Result, Ok, Err, IfOk}
 use Rattle.logical_time.specs.declared.fault.Fault.{Fault}
-use Rattle.messages.specs.declared.event.Event.{Event}
+use Rattle.messages.specs.declared.event.ActorEvent.{ActorEvent}
 use Rattle.actors.specs.Journals.{submissions, IsBeginning}
 use Rattle.actors.specs.Machines.{Refuses}
 use Rattle.actors.specs.Seats.{SeatValue, ends_of, sources_of}
@@ -51,9 +51,9 @@ module _ (old a b : SeatValue) (flushed : a ≡ record old { outgoing = a.outgoi
     };
   }
 
-  done : (event : Event) (n : SeatValue) → HasDone event b n → HasDone event old n
+  done : (event : ActorEvent) (n : SeatValue) → HasDone event b n → HasDone event old n
   done event n d = record {
-    room = let r = d.room in let l = same.limit in let j = ap (λ (es : List Event). length es) same.journal in omega (arith, r, l, j);
+    room = let r = d.room in let l = same.limit in let j = ap (λ (es : List ActorEvent). length es) same.journal in omega (arith, r, l, j);
     journal = d.journal ∙ ap (λ es. es ++ event ∷ []) same.journal;
     outcomes = subst (λ os. IsBeginning os n.outcomes) same.outcomes d.outcomes;
     refusals = d.refusals ∙ same.refusals;
@@ -67,7 +67,7 @@ module _ (old a b : SeatValue) (flushed : a ≡ record old { outgoing = a.outgoi
   off refuses fault n d = record {
     event = d.event;
     first = sym same.backlog ∙ d.first;
-    room = let r = d.room in let l = same.limit in let j = ap (λ (es : List Event). length es) same.journal in omega (arith, r, l, j);
+    room = let r = d.room in let l = same.limit in let j = ap (λ (es : List ActorEvent). length es) same.journal in omega (arith, r, l, j);
     refused =
         subst (λ t. refuses t old.node old.journal d.event fault) same.topology
         (subst (λ m. refuses b.topology m old.journal d.event fault) same.node (subst (λ es. refuses b.topology b.node es d.event fault) same.journal d.refused));
@@ -105,6 +105,6 @@ worked_looked (Submitted number) old new found work = found
 worked_looked Collected old new found work = found
 worked_looked (Refused fault) old new found work = found
 
-pub none_left : (es : List Event) → length es ≡ 0 → es ≡ []
+pub none_left : (es : List ActorEvent) → length es ≡ 0 → es ≡ []
 none_left [] none = refl
 none_left (x ∷ es) none = absurd (omega (arith, none))

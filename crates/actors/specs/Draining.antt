@@ -2,7 +2,7 @@
 use Rattle.std.specs.Prelude.{◌≡◌, ◌<◌, ℕ, ◌+◌, ◌-◌, List, [], ◌∷◌, ◌++◌, length, slice_get, set, Some}
 use Rattle.std.specs.List.{sum_by}
 use Rattle.logical_time.specs.declared.fault.Fault.{Fault}
-use Rattle.messages.specs.declared.event.Event.{Event}
+use Rattle.messages.specs.declared.event.ActorEvent.{ActorEvent}
 use Rattle.actors.specs.Journals.{IsBeginning}
 use Rattle.actors.specs.Machines.{Refuses}
 use Rattle.actors.specs.Seats.{SeatValue}
@@ -23,7 +23,7 @@ pub record IsLater (old new : SeatValue) : Type 0 where
   pub journal : IsBeginning old.journal new.journal
   pub outcomes : IsBeginning old.outcomes new.outcomes
   pub refusals : IsBeginning old.refusals new.refusals
-  pub backlog : (done : List Event) × (old.backlog ≡ done ++ new.backlog)
+  pub backlog : (done : List ActorEvent) × (old.backlog ≡ done ++ new.backlog)
   pub rings : HasSameRings old new
 
 -- seats after turns, each in its place

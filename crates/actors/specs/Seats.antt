@@ -3,8 +3,8 @@ use Rattle.std.specs.Prelude.{◌≡◌, ℕ, ◌==◌, ◌<◌, Bool, if◌then
 use Rattle.logical_time.specs.declared.fault.Fault.{Fault}
 use Rattle.messages.specs.declared.envelope.Envelope.{Envelope}
 use Rattle.messages.specs.declared.outcome.Outcome.{Outcome}
-use Rattle.messages.specs.declared.event.Event.{Event}
-use Rattle.messages.specs.declared.event.Event.TheVariants.{Handle}
+use Rattle.messages.specs.declared.event.ActorEvent.{ActorEvent}
+use Rattle.messages.specs.declared.event.ActorEvent.TheVariants.{Handle}
 use Rattle.messages.specs.Topology.{TopologyValue, node_count}
 use Rattle.links.specs.Links.{RingName, InLinkValue}
 use Rattle.actors.specs.Journals.{IsOwn, receipts_from, held_from}
@@ -30,13 +30,13 @@ pub record SeatValue : Type 0 where
   pub node : ℕ
   pub limit : ℕ
   pub free : Bool
-  pub journal : List Event
+  pub journal : List ActorEvent
   pub outcomes : List (ℕ × Outcome)
   pub accepted : ℕ
   pub clock : ℕ
   pub timed : Bool
   pub refusals : List (ℕ × Fault)
-  pub backlog : List Event
+  pub backlog : List ActorEvent
   pub outgoing : List LaneValue
   pub outbox : List Envelope
   pub incoming : List InLinkValue
@@ -63,7 +63,7 @@ abbrev pub IsApart : List ℕ → Type 0
 IsApart nodes = (j k node : ℕ) → slice_get nodes j ≡ Some node → slice_get nodes k ≡ Some node → j ≡ k
 
 -- what was taken from each ring is the receipts of the journal from there, and then what is held back
-abbrev pub Received : List Event → List InLinkValue → Option Envelope → Type 0
+abbrev pub Received : List ActorEvent → List InLinkValue → Option Envelope → Type 0
 Received journal incoming held =
     (k : ℕ) (l : InLinkValue) → slice_get incoming k ≡ Some l → l.received ≡ receipts_from l.from journal ++ held_from l.from held
 

@@ -3,15 +3,15 @@ use Rattle.std.specs.Prelude.{◌≡◌, ℕ, zero, suc, ◌+◌, ◌<◌, ◌�
 use Rattle.std.specs.Option.{unwrap_or}
 use Rattle.messages.specs.declared.envelope.Envelope.{Envelope}
 use Rattle.messages.specs.declared.outcome.Outcome.{Outcome}
-use Rattle.messages.specs.declared.event.Event.{Event}
-use Rattle.messages.specs.declared.event.Event.TheVariants.{Submit, Handle, Collect}
+use Rattle.messages.specs.declared.event.ActorEvent.{ActorEvent}
+use Rattle.messages.specs.declared.event.ActorEvent.TheVariants.{Submit, Handle, Collect}
 use Rattle.messages.specs.Topology.{TopologyValue}
 use Rattle.actors.specs.Journals.{sends_to}
 use Rattle.actors.specs.CameFrom.{CameFrom}
 
 -- A journal, all that its events sent, in order, and how many of these were sent after each event.
 pub record Shown : Type 0 where
-  pub journal : List Event
+  pub journal : List ActorEvent
   pub sent : List Envelope
   pub marks : List ℕ
 
@@ -35,18 +35,18 @@ pub record CameAlong {M : Type 0} (came_from : CameFrom M) (top : TopologyValue)
 -- ## Clocks, by the journal alone
 
 -- the clock of an actor after an event, by its clock before it
-abbrev pub clock_with : ℕ → Event → ℕ
+abbrev pub clock_with : ℕ → ActorEvent → ℕ
 clock_with clock (Submit o) = clock + 1
 clock_with clock (Handle e) = max clock e.time + 1
 clock_with clock (Collect time) = clock + 1
 
 -- its clock after these events
-abbrev pub clock_from : ℕ → List Event → ℕ
+abbrev pub clock_from : ℕ → List ActorEvent → ℕ
 clock_from clock [] = clock
 clock_from clock (x ∷ xs) = clock_from (clock_with clock x) xs
 
 -- its clock after so many events of its journal
-abbrev pub clock_after : List Event → ℕ → ℕ
+abbrev pub clock_after : List ActorEvent → ℕ → ℕ
 clock_after journal k = clock_from 0 (take k journal)
 
 -- each envelope carries the clock of the event that sent it
@@ -57,7 +57,7 @@ AreTimed s =
 
 -- The events of a journal sent such envelopes to each node, while machines came along; and this tells whether each carries the
 -- clock of its event.
-pub record IsShown {M : Type 0} (came_from : CameFrom M) (top : TopologyValue) (node : ℕ) (journal : List Event) (sent : ℕ → List Envelope)
+pub record IsShown {M : Type 0} (came_from : CameFrom M) (top : TopologyValue) (node : ℕ) (journal : List ActorEvent) (sent : ℕ → List Envelope)
     (timed : Bool) : Type 0 where
   pub shown : Shown
   pub its : shown.journal ≡ journal

@@ -5,8 +5,8 @@ use Rattle.logical_time.specs.declared.fault.Fault.TheVariants.{AlreadyHome, Unk
 use Rattle.logical_time.specs.Fault.{number_of}
 use Rattle.messages.specs.declared.envelope.Envelope.{Envelope}
 use Rattle.messages.specs.declared.op.Op.{Op}
-use Rattle.messages.specs.declared.event.Event.{Event}
-use Rattle.messages.specs.declared.event.Event.TheVariants as event
+use Rattle.messages.specs.declared.event.ActorEvent.{ActorEvent}
+use Rattle.messages.specs.declared.event.ActorEvent.TheVariants as event
 use Rattle.actors.specs.Journals.{submissions, IsBeginning}
 use Rattle.actors.specs.Machines.{Refuses}
 use Rattle.actors.specs.Seats.{SeatValue, rings, ends_of, sources_of}
@@ -37,7 +37,7 @@ pub record HasSame (old new : SeatValue) : Type 0 where
   pub rings : HasSameRings old new
 
 -- This one event was added to the journal, where there was room for it; outcomes may have been added.
-pub record HasDone (event : Event) (old new : SeatValue) : Type 0 where
+pub record HasDone (event : ActorEvent) (old new : SeatValue) : Type 0 where
   pub room : length old.journal < old.limit
   pub journal : new.journal ≡ old.journal ++ event ∷ []
   pub outcomes : IsBeginning old.outcomes new.outcomes
@@ -54,7 +54,7 @@ pub record HasRested (old new : SeatValue) : Type 0 where
 
 -- The machine refuses this event of the backlog for what it asks, and there was room in the journal for it; it was taken off.
 pub record HasTakenOff (refuses : Refuses) (fault : Fault) (old new : SeatValue) : Type 0 where
-  pub event : Event
+  pub event : ActorEvent
   pub first : old.backlog ≡ event ∷ new.backlog
   pub room : length old.journal < old.limit
   pub refused : refuses old.topology old.node old.journal event fault

@@ -3,12 +3,12 @@ ghost use Rattle.std.specs.Prelude.{◌≡◌, ◌<◌, ◌⊎◌, ◌++◌, ◌
 ghost use Rattle.logical_time.specs.declared.fault.Fault.{Fault};
 ghost use Rattle.messages.specs.declared.envelope.Envelope.{Envelope};
 ghost use Rattle.messages.specs.declared.outcome.Outcome.{Outcome};
-ghost use Rattle.messages.specs.declared.event.Event.{Event};
+ghost use Rattle.messages.specs.declared.event.ActorEvent.{ActorEvent};
 ghost use Rattle.messages.specs.Topology.{TopologyValue, node_count};
 ghost use Rattle.actors.specs.Journals.{number_after, followed_by};
 
 use logical_time::{Fault, Node};
-use messages::{Event, Outbox, Outcome, Topology};
+use messages::{ActorEvent, Outbox, Outcome, Topology};
 use std::alloc::Global;
 
 /// An actor as a machine: each event is one step of it. What its steps make of it is a relation to its journal, since a
@@ -16,7 +16,7 @@ use std::alloc::Global;
 pub trait Machine: Sized {
     /// When a machine came from a journal of the actor with a node of a topology: the journal's events sent such
     /// envelopes to each node, in order, and such outcomes were taken, each with the number of its operation.
-    ghost came_from: { TopologyValue → ℕ → List Event → (ℕ → List Envelope) → List (ℕ × Outcome) → Self → Type 0 };
+    ghost came_from: { TopologyValue → ℕ → List ActorEvent → (ℕ → List Envelope) → List (ℕ × Outcome) → Self → Type 0 };
 
     /// The outcome that wasn't taken yet, with the number of its operation.
     ghost untaken: { Self → Option (ℕ × Outcome) };
@@ -26,7 +26,7 @@ pub trait Machine: Sized {
 
     /// With which fault the machine of the actor with a node of a topology refuses an event, where it came from a
     /// journal; but for memory.
-    ghost refuses: { TopologyValue → ℕ → List Event → Event → Fault → Type 0 };
+    ghost refuses: { TopologyValue → ℕ → List ActorEvent → ActorEvent → Fault → Type 0 };
 
     /// The machine of a node before its first event, free for an operation. Refused with `Memory` alone.
     fn new(alloc: Global, topology: &Topology, node: Node) -> Result<Self, Fault>
@@ -39,16 +39,20 @@ pub trait Machine: Sized {
     /// Does one event, and puts what it sends at the end of the outbox. The answer of a submission is the number of its
     /// operation, from 1. Refused as its kind of machine refuses the event, and with `Memory`; then nothing changes, and
     /// the event is handed back.
-    fn step(&mut self, event: Event, outbox: &mut Outbox) -> Result<Option<u64>, (Fault, Event)>
+    fn step(
+        &mut self,
+        event: ActorEvent,
+        outbox: &mut Outbox,
+    ) -> Result<Option<u64>, (Fault, ActorEvent)>
         requires { untaken self.old ≡ None }
-        ensures came { (top : TopologyValue) (node : ℕ) (journal : List Event) (before : ℕ → List Envelope) (outcomes : List (ℕ × Outcome))
+        ensures came { (top : TopologyValue) (node : ℕ) (journal : List ActorEvent) (before : ℕ → List Envelope) (outcomes : List (ℕ × Outcome))
             → came_from top node journal (followed_by before outbox.old.sent) outcomes self.old
             → OnOk result (came_from top node (journal ++ event ∷ []) (followed_by before outbox.new.sent) outcomes self.new) }
-        ensures number { (top : TopologyValue) (node : ℕ) (journal : List Event) (sent : ℕ → List Envelope) (outcomes : List (ℕ × Outcome))
+        ensures number { (top : TopologyValue) (node : ℕ) (journal : List ActorEvent) (sent : ℕ → List Envelope) (outcomes : List (ℕ × Outcome))
             → came_from top node journal sent outcomes self.old → IfOk result (λ number. number ≡ number_after journal event) }
-        ensures same { (top : TopologyValue) (node : ℕ) (journal : List Event) (sent : ℕ → List Envelope) (outcomes : List (ℕ × Outcome))
+        ensures same { (top : TopologyValue) (node : ℕ) (journal : List ActorEvent) (sent : ℕ → List Envelope) (outcomes : List (ℕ × Outcome))
             → came_from top node journal sent outcomes self.old → OnErr result (came_from top node journal sent outcomes self.new) }
-        ensures refused { (top : TopologyValue) (node : ℕ) (journal : List Event) (sent : ℕ → List Envelope) (outcomes : List (ℕ × Outcome))
+        ensures refused { (top : TopologyValue) (node : ℕ) (journal : List ActorEvent) (sent : ℕ → List Envelope) (outcomes : List (ℕ × Outcome))
             → came_from top node journal sent outcomes self.old → IfErr result (λ e. (e.0 ≡ Fault.Memory) ⊎ refuses top node journal event e.0) }
         ensures none { OnErr result (untaken self.new ≡ None) }
         ensures free { OnErr result (is_free self.new ≡ is_free self.old) }
@@ -60,7 +64,7 @@ pub trait Machine: Sized {
         ensures answer { result ≡ untaken self.old }
         ensures taken { untaken self.new ≡ None }
         ensures free { is_free self.new ≡ is_free self.old }
-        ensures came { (top : TopologyValue) (node : ℕ) (journal : List Event) (sent : ℕ → List Envelope) (outcomes : List (ℕ × Outcome))
+        ensures came { (top : TopologyValue) (node : ℕ) (journal : List ActorEvent) (sent : ℕ → List Envelope) (outcomes : List (ℕ × Outcome))
             → came_from top node journal sent outcomes self.old
             → came_from top node journal sent (outcomes ++ option_to_list (untaken self.old)) self.new };
 

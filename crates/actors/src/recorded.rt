@@ -11,7 +11,7 @@ ghost use Rattle.actors.specs.Machines.{IsRecorded};
 
 use crate::machine::Machine;
 use logical_time::{Fault, Node};
-use messages::{Envelope, Event, Op, Outbox, Outcome, Topology};
+use messages::{ActorEvent, Envelope, Op, Outbox, Outcome, Topology};
 use std::alloc::{AllocError, Global};
 use std::mem;
 
@@ -20,7 +20,7 @@ pub struct Recorded<M: Machine> {
     /// The machine, of which each outcome is taken at its event.
     pub machine: M,
     /// Its events, oldest first.
-    pub journal: Vec<Event>,
+    pub journal: Vec<ActorEvent>,
     /// How many events the journal may hold.
     pub limit: usize,
     /// How many operations were accepted.
@@ -38,13 +38,13 @@ pub struct Recorded<M: Machine> {
 }
 
 /// A copy of an event, which shares the bytes of keys, names and values. Fails by memory alone.
-fn copied(event: &Event) -> Result<Event, AllocError>
+fn copied(event: &ActorEvent) -> Result<ActorEvent, AllocError>
     ensures { IfOk result (λ copy. copy ≡ event.now) }
 {
     match event {
-        Event::Submit(op) => Ok(Event::Submit(op.copied()?)),
-        Event::Handle(envelope) => Ok(Event::Handle(envelope.copied()?)),
-        Event::Collect(time) => Ok(Event::Collect(*time)),
+        ActorEvent::Submit(op) => Ok(ActorEvent::Submit(op.copied()?)),
+        ActorEvent::Handle(envelope) => Ok(ActorEvent::Handle(envelope.copied()?)),
+        ActorEvent::Collect(time) => Ok(ActorEvent::Collect(*time)),
     }
 }
 
@@ -55,39 +55,39 @@ fn let_go_op(_op: Op) {}
 pub fn let_go_envelope(_envelope: Envelope) {}
 
 /// Lets an event go.
-pub fn let_go(event: Event) {
+pub fn let_go(event: ActorEvent) {
     match event {
-        Event::Submit(op) => let_go_op(op),
-        Event::Handle(envelope) => let_go_envelope(envelope),
-        Event::Collect(_) => {}
+        ActorEvent::Submit(op) => let_go_op(op),
+        ActorEvent::Handle(envelope) => let_go_envelope(envelope),
+        ActorEvent::Collect(_) => {}
     }
 }
 
 /// The operation of an event that submits one.
-pub fn op_of(event: Event) -> Option<Op>
+pub fn op_of(event: ActorEvent) -> Option<Op>
     ensures { result ≡ op_in event }
 {
     match event {
-        Event::Submit(op) => Some(op),
-        Event::Handle(envelope) => {
+        ActorEvent::Submit(op) => Some(op),
+        ActorEvent::Handle(envelope) => {
             let_go_envelope(envelope);
             None
         }
-        Event::Collect(_) => None,
+        ActorEvent::Collect(_) => None,
     }
 }
 
 /// The envelope of an event that handles one.
-pub fn envelope_in(event: Event) -> Option<Envelope>
+pub fn envelope_in(event: ActorEvent) -> Option<Envelope>
     ensures { result ≡ envelope_of event }
 {
     match event {
-        Event::Handle(envelope) => Some(envelope),
-        Event::Submit(op) => {
+        ActorEvent::Handle(envelope) => Some(envelope),
+        ActorEvent::Submit(op) => {
             let_go_op(op);
             None
         }
-        Event::Collect(_) => None,
+        ActorEvent::Collect(_) => None,
     }
 }
 
@@ -96,13 +96,13 @@ const END: u64 = 1 << 48;
 
 /// The clock of an actor after an event, by its clock before it, and 2^48 where that is above.
 #[tactic(auto, using(crate::proofs::Clocks::clamped))]
-fn clock_with(clock: u64, event: &Event) -> u64
+fn clock_with(clock: u64, event: &ActorEvent) -> u64
     ensures value { (c : ℕ) → clock ≡ min c (2 ^ 48) → result ≡ min (shown.clock_with c event.now) (2 ^ 48) }
     ensures limit { result ≤ 2 ^ 48 }
 {
     let time = match event {
-        Event::Handle(envelope) => envelope.time.get(),
-        Event::Submit(_) | Event::Collect(_) => 0,
+        ActorEvent::Handle(envelope) => envelope.time.get(),
+        ActorEvent::Submit(_) | ActorEvent::Collect(_) => 0,
     };
     (clock.min(END).max(time) + 1).min(END)
 }
@@ -163,7 +163,7 @@ impl<M: Machine> Recorded<M> {
     /// answer of a submission is the number of its operation. Refused with `JournalFull` before all else, with `Memory`,
     /// and as the machine refuses it; then nothing changes, and the event is handed back. Memory for the journal and the
     /// outcomes is made before the machine's step.
-    pub fn happen(&mut self, event: Event) -> Result<Option<u64>, (Fault, Event)>
+    pub fn happen(&mut self, event: ActorEvent) -> Result<Option<u64>, (Fault, ActorEvent)>
         requires { M.untaken self.old.machine ≡ None }
         ensures journal { OnOk result (self.new.journal.items ≡ self.old.journal.items ++ event ∷ []) }
         ensures outcomes { OnOk result (IsBeginning self.old.outcomes.items self.new.outcomes.items) }
@@ -253,7 +253,7 @@ impl<M: Machine> Recorded<M> {
     }
 
     /// Its machine and its journal.
-    pub fn close(self) -> (M, Vec<Event>)
+    pub fn close(self) -> (M, Vec<ActorEvent>)
         ensures { result.0 ≡ self.machine }
     {
         let Recorded {
@@ -291,7 +291,7 @@ impl<M: Machine> Recorded<M> {
 
     /// Makes room for one more event and for its outcome, empties the place for what it sends, and makes a copy of the event.
     /// Refused with `Memory` alone.
-    fn make_room(&mut self, event: &Event) -> Result<Event, Fault>
+    fn make_room(&mut self, event: &ActorEvent) -> Result<ActorEvent, Fault>
         ensures copy { IfOk result (λ copy. copy ≡ event.now) }
         ensures room { OnOk result ((vec_len self.new.journal < vec_capacity self.new.journal) × (vec_len self.new.outcomes < vec_capacity self.new.outcomes)) }
         ensures items { (self.new.journal.items ≡ self.old.journal.items) × (self.new.outcomes.items ≡ self.old.outcomes.items) }

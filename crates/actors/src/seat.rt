@@ -1,7 +1,7 @@
 //! Machines in their seats.
 ghost use Rattle.std.specs.Prelude.{◌≡◌, ◌≤◌, ◌<◌, ◌++◌, ◌∷◌, [], ◌==◌, ◌&&◌, ◌⊎◌, length, None, All, true, false, IsSome, IfSome, slice_get, IfOk, OnOk, IfErr, OnErr};
-ghost use Rattle.messages.specs.declared.event.Event.{Event as ActorEvent};
-ghost use Rattle.messages.specs.declared.event.Event.TheVariants as event;
+ghost use Rattle.messages.specs.declared.event.ActorEvent.{ActorEvent};
+ghost use Rattle.messages.specs.declared.event.ActorEvent.TheVariants as event;
 ghost use Rattle.messages.specs.Topology.{node_count};
 ghost use Rattle.std.specs.Option.{option_copied};
 ghost use Rattle.actors.specs.Journals.{submissions, number_after, followed_by, IsOwn};
@@ -19,7 +19,7 @@ use crate::turn::{Turn, is_of_request};
 use crate::ways::Ways;
 use links::{Ends, InLink};
 use logical_time::{Fault, Node, Time};
-use messages::{Envelope, Event, Op, Outbox, Outcome, Topology};
+use messages::{ActorEvent, Envelope, Op, Outbox, Outcome, Topology};
 use std::alloc::Global;
 use std::collections::VecDeque;
 use std::marker::Model;
@@ -31,7 +31,7 @@ pub struct Seat<M: Machine> {
     node: Node,
     recorded: Recorded<M>,
     refusals: Vec<(u64, Fault)>,
-    backlog: VecDeque<Event>,
+    backlog: VecDeque<ActorEvent>,
     outgoing: Ways,
     incoming: Vec<InLink>,
     next: usize,
@@ -108,7 +108,7 @@ impl<M: Machine> Seat<M> {
 
     /// Its events, oldest first. The machine came from them, what they sent is on its way, and what was received is in them;
     /// the seat is free where the machine is.
-    pub fn journal(&self) -> &[Event]
+    pub fn journal(&self) -> &[ActorEvent]
         ensures value { result.now ≡ self.now.journal }
         ensures keeps { (machine : M) × Keeps M.came_from M.untaken machine self.now × (self.now.free ≡ M.is_free machine) }
     {
@@ -174,7 +174,7 @@ impl<M: Machine> Seat<M> {
     /// Adds events to the backlog, in their order. That no message brings them is the caller's condition. One that isn't of
     /// the actor's kind is refused at its turn, as the machine refuses it, and stays unless it is refused for what it asks.
     /// Refused with `Memory` alone, and then nothing changes, and they are handed back.
-    pub fn load(&mut self, events: Vec<Event>) -> Result<(), (Fault, Vec<Event>)>
+    pub fn load(&mut self, events: Vec<ActorEvent>) -> Result<(), (Fault, Vec<ActorEvent>)>
         requires { All IsOwn events.items }
         ensures ok { OnOk result (self.new ≡ record self.old { backlog = self.old.backlog ++ events.items }) }
         ensures err { OnErr result (self.new ≡ self.old) }
@@ -202,7 +202,7 @@ impl<M: Machine> Seat<M> {
         ensures refused { IfErr result (λ e. IsRefusal M.refuses self.old (event.Submit op) e.0) }
         ensures back { IfErr result (λ e. e.1 ≡ op) }
     {
-        match self.own(Event::Submit(op)) {
+        match self.own(ActorEvent::Submit(op)) {
             Ok(Some(number)) => Ok(number),
             Ok(None) => unreachable!(),
             Err((fault, event)) => match op_of(event) {
@@ -221,7 +221,7 @@ impl<M: Machine> Seat<M> {
         ensures full { self.old.limit ≤ length self.old.journal → IfErr result (λ e. e ≡ Fault.JournalFull) }
         ensures refused { IfErr result (IsRefusal M.refuses self.old (event.Collect time)) }
     {
-        match self.own(Event::Collect(time)) {
+        match self.own(ActorEvent::Collect(time)) {
             Ok(_) => Ok(()),
             Err((fault, event)) => {
                 let_go(event);
@@ -231,7 +231,7 @@ impl<M: Machine> Seat<M> {
     }
 
     /// Does an event that no message brings. Refused as `Recorded::happen` refuses it.
-    fn own(&mut self, event: Event) -> Result<Option<u64>, (Fault, Event)>
+    fn own(&mut self, event: ActorEvent) -> Result<Option<u64>, (Fault, ActorEvent)>
         requires { IsOwn event }
         ensures ok { OnOk result (HasDone event self.old self.new) }
         ensures number { IfOk result (λ number. number ≡ number_after self.old.journal event) }
@@ -284,7 +284,7 @@ impl<M: Machine> Seat<M> {
         let Some(envelope) = self.held.take() else {
             unreachable!()
         };
-        match self.recorded.happen(Event::Handle(envelope)) {
+        match self.recorded.happen(ActorEvent::Handle(envelope)) {
             Ok(_) => Ok(()),
             Err((fault, event)) => {
                 incoming::hold(&mut self.held, envelope_in(event));
@@ -372,7 +372,7 @@ impl<M: Machine> Seat<M> {
     }
 
     /// Its machine, the ways of what it sent, and its journal.
-    fn ended(self) -> (M, Ways, Vec<Event>)
+    fn ended(self) -> (M, Ways, Vec<ActorEvent>)
         ensures came { M.came_from self.topology self.node self.journal (followed_by (through self.outgoing) self.outbox) self.outcomes result.0 }
         ensures taken { M.untaken result.0 ≡ None }
         ensures free { M.is_free result.0 ≡ self.free }

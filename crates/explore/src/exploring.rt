@@ -17,7 +17,7 @@ use std::alloc::Global;
 use std::collections::HashMap;
 use std::io::Write;
 use std::thread::Threads;
-use workload::{Event, Events, Script, read_script, sim, simulate_audited, transcript_text};
+use workload::{Events, Script, ScriptEvent, read_script, sim, simulate_audited, transcript_text};
 
 /// What the audits of all ends found.
 #[derive(Clone, Copy)]
@@ -27,17 +27,17 @@ struct Audited {
 }
 
 // An event of a world as one of a script.
-fn event_of(script: &Script, one: Move) -> Result<Event, Stop> {
+fn event_of(script: &Script, one: Move) -> Result<ScriptEvent, Stop> {
     let place = match one {
-        Move::Deliver(number) => return Ok(Event::Deliver { number }),
+        Move::Deliver(number) => return Ok(ScriptEvent::Deliver { number }),
         Move::Own(place) => place,
     };
     match script.events.as_slice().get(place) {
-        Some(Event::Submit { session, op }) => Ok(Event::Submit {
+        Some(ScriptEvent::Submit { session, op }) => Ok(ScriptEvent::Submit {
             session: *session,
             op: op.copied()?,
         }),
-        Some(Event::Collect { shard, time }) => Ok(Event::Collect {
+        Some(ScriptEvent::Collect { shard, time }) => Ok(ScriptEvent::Collect {
             shard: *shard,
             time: *time,
         }),

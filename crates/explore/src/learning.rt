@@ -4,7 +4,7 @@ use crate::stop::Stop;
 use logical_time::{Fault, Node, Time};
 use messages::{Envelope, Op};
 use std::alloc::Global;
-use workload::{Entry, Event, Script, Transcript, transcript_text};
+use workload::{Entry, Script, ScriptEvent, Transcript, transcript_text};
 use world::{Completed, World};
 
 /// What the last event of a run led to.
@@ -54,13 +54,13 @@ fn deliver(world: &mut World, number: usize) -> Result<(), Stop> {
 }
 
 // An event of the script happens. Gives the refusal of a submission, and whose it was.
-fn happen(world: &mut World, event: &Event) -> Result<Option<(Node, Fault)>, Stop> {
+fn happen(world: &mut World, event: &ScriptEvent) -> Result<Option<(Node, Fault)>, Stop> {
     match event {
-        Event::Submit { session, op } => match submit(world, *session, op)? {
+        ScriptEvent::Submit { session, op } => match submit(world, *session, op)? {
             Some(fault) => Ok(Some((*session, fault))),
             None => Ok(None),
         },
-        Event::Collect { shard, time } => {
+        ScriptEvent::Collect { shard, time } => {
             collect(world, *shard, *time)?;
             Ok(None)
         }

@@ -2,7 +2,7 @@
 
 use crate::stop::Stop;
 use std::alloc::Global;
-use workload::{Event, Script};
+use workload::{Script, ScriptEvent};
 
 /// What an actor does on its own: a session submits, a shard collects.
 #[derive(Drop)]
@@ -33,10 +33,10 @@ impl Plan {
         let mut plan = Plan { shards, own };
         for (event, what) in script.events.as_slice().iter().enumerate() {
             match what {
-                Event::Submit { session, .. } => {
+                ScriptEvent::Submit { session, .. } => {
                     plan.add(usize::from(session.get()), event, Vec::new(alloc))?
                 }
-                Event::Collect { shard, .. } => {
+                ScriptEvent::Collect { shard, .. } => {
                     let after = plan.submitted(alloc)?;
                     plan.add(usize::from(shard.get()), event, after)?
                 }

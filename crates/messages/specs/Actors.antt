@@ -6,8 +6,8 @@ use Rattle.logical_time.specs.declared.fault.Fault.{Fault}
 use Rattle.messages.specs.declared.envelope.Envelope.{Envelope}
 use Rattle.messages.specs.declared.outcome.Outcome.{Outcome}
 use Rattle.messages.specs.declared.outcome.Outcome.TheVariants as outcome
-use Rattle.messages.specs.declared.event.Event.{Event}
-use Rattle.messages.specs.declared.event.Event.TheVariants.{Submit, Handle, Collect}
+use Rattle.messages.specs.declared.event.ActorEvent.{ActorEvent}
+use Rattle.messages.specs.declared.event.ActorEvent.TheVariants.{Submit, Handle, Collect}
 use Rattle.messages.specs.Topology.{TopologyValue, is_shard, home_of}
 use Rattle.messages.specs.Shard.{ShardState, ShardStep, new_shard}
 use Rattle.messages.specs.Session.{SessionState, SessionStep, Finished, new_session}
@@ -16,7 +16,7 @@ use Rattle.messages.specs.SessionEvents.{session_handle, session_taken}
 use Rattle.messages.specs.Submitting.{session_submit}
 
 -- the envelope of an event, if it handles one
-abbrev pub envelope_of : Event → Option Envelope
+abbrev pub envelope_of : ActorEvent → Option Envelope
 envelope_of (Submit o) = None
 envelope_of (Handle e) = Some e
 envelope_of (Collect time) = None
@@ -50,7 +50,7 @@ of_session (Err e) = None
 of_session (Ok s) = Some (record { state = OfSession (session_taken s.state); sends = s.sends; finishes = s.state.untaken })
 
 -- the step of an event, unless it is refused or of the other kind of actor
-abbrev pub actor_step : TopologyValue → ℕ → ActorState → Event → Option ActorStep
+abbrev pub actor_step : TopologyValue → ℕ → ActorState → ActorEvent → Option ActorStep
 actor_step top me (OfShard a) (Submit o) = None
 actor_step top me (OfShard a) (Handle e) = of_shard (shard_handle top me a e)
 actor_step top me (OfShard a) (Collect time) = of_shard (shard_collect a time)
@@ -69,12 +69,12 @@ abbrev pub before_rest : ActorStep → Replayed → Replayed
 before_rest s r = record { state = r.state; sent = s.sends ++ r.sent; finished = cons_option s.finishes r.finished }
 
 -- what these events make of an actor, in order, if none is refused
-abbrev pub replay : TopologyValue → ℕ → ActorState → List Event → Option Replayed
+abbrev pub replay : TopologyValue → ℕ → ActorState → List ActorEvent → Option Replayed
 replay top me a [] = Some (record { state = a; sent = []; finished = [] })
 replay top me a (x ∷ xs) = option_and_then (λ (s : ActorStep). option_map (before_rest s) (replay top me s.state xs)) (actor_step top me a x)
 
 -- the replay of a journal, from the actor's opening state
-abbrev pub replay_of : TopologyValue → ℕ → List Event → Option Replayed
+abbrev pub replay_of : TopologyValue → ℕ → List ActorEvent → Option Replayed
 replay_of top node journal = replay top node (opening_actor top node) journal
 
 abbrev pub sent_in : Option Replayed → List Envelope
@@ -82,7 +82,7 @@ sent_in None = []
 sent_in (Some r) = r.sent
 
 -- all that a journal's events send, in order
-abbrev pub sent_by : TopologyValue → ℕ → List Event → List Envelope
+abbrev pub sent_by : TopologyValue → ℕ → List ActorEvent → List Envelope
 sent_by top node journal = sent_in (replay_of top node journal)
 
 abbrev pub finished_in : Option Replayed → List Finished
@@ -90,7 +90,7 @@ finished_in None = []
 finished_in (Some r) = r.finished
 
 -- all that a journal's events finish, in order: the outcomes of a session
-abbrev pub outcomes_by : TopologyValue → ℕ → List Event → List Finished
+abbrev pub outcomes_by : TopologyValue → ℕ → List ActorEvent → List Finished
 outcomes_by top node journal = finished_in (replay_of top node journal)
 
 -- ## Homes

@@ -6,7 +6,7 @@ use logical_time::Time;
 
 /// An event of one actor. The list of an actor's events is its journal.
 #[derive(Drop)]
-pub enum Event {
+pub enum ActorEvent {
     /// A session accepts an operation.
     Submit(Op),
     /// A session or a shard handles a message.

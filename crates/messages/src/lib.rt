@@ -25,7 +25,7 @@ pub use body::{Body, Dependencies};
 pub use cohorts::{CohortShards, Cohorts};
 pub use copies::{repl_begin, repl_part};
 pub use envelope::{Envelope, Refused};
-pub use event::Event;
+pub use event::ActorEvent;
 pub use home::Home;
 pub use law::{
     nodes_are_numbered_once, rounds_of_two_rows, times_of_reads, writers_are_rested_on,

@@ -6,14 +6,14 @@ use Rattle.std.specs.Option.{is_none}
 use Rattle.std.proofs.lemmas.List.{append-nil, append_assoc, length-append}
 use Rattle.std.proofs.lemmas.List.Elements.{filter_map-append, filter-append}
 use Rattle.logical_time.specs.declared.fault.Fault.{Fault}
-use Rattle.messages.specs.declared.event.Event.{Event as ActorEvent}
-use Rattle.messages.specs.declared.event.Event.TheVariants as event
+use Rattle.messages.specs.declared.event.ActorEvent.{ActorEvent}
+use Rattle.messages.specs.declared.event.ActorEvent.TheVariants as event
 use Rattle.messages.specs.Topology.{TopologyValue}
 use Rattle.messages.specs.Actors.{envelope_of}
 use Rattle.actors.specs.Journals.{op_in, submissions, IsOwn}
 use Rattle.actors.specs.Seats.{SeatValue}
-use Rattle.workload.specs.declared.script.Event.{Event as ScriptEvent}
-use Rattle.workload.specs.declared.script.Event.TheVariants as script
+use Rattle.workload.specs.declared.script.ScriptEvent.{ScriptEvent}
+use Rattle.workload.specs.declared.script.ScriptEvent.TheVariants as script
 use Rattle.world.proofs.lists.Among.{Among, among_append, get_among}
 use Rattle.world.proofs.lists.Replacing.{item_at}
 use Rattle.threaded.proofs.Lists.{take_one_more}

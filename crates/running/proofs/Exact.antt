@@ -5,11 +5,11 @@ use Rattle.std.specs.Option.{is_none}
 use Rattle.std.proofs.lemmas.List.{append-nil, append_assoc}
 use Rattle.std.proofs.lemmas.List.Elements.{filter_map-append, filter-append}
 use Rattle.logical_time.specs.declared.fault.Fault.{Fault}
-use Rattle.messages.specs.declared.event.Event.{Event as ActorEvent}
+use Rattle.messages.specs.declared.event.ActorEvent.{ActorEvent}
 use Rattle.messages.specs.Topology.{TopologyValue}
 use Rattle.actors.specs.Journals.{submissions, IsOwn}
 use Rattle.actors.specs.Seats.{SeatValue}
-use Rattle.workload.specs.declared.script.Event.{Event as ScriptEvent}
+use Rattle.workload.specs.declared.script.ScriptEvent.{ScriptEvent}
 use Rattle.workload.specs.declared.script.Script.{Script}
 use Rattle.threaded.proofs.Lists.{same_rest}
 use Rattle.running.specs.declared.course.Course.{Course}

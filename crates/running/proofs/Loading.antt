@@ -9,7 +9,7 @@ use Rattle.actors.specs.Seats.{SeatValue}
 use Rattle.links.specs.Links.{may_exchange}
 use Rattle.actors.specs.Building.{ring_to, ring_from, AreNewSeats}
 use Rattle.actors.proofs.Lists.{here, set_at, set_away}
-use Rattle.workload.specs.declared.script.Event.{Event as ScriptEvent}
+use Rattle.workload.specs.declared.script.ScriptEvent.{ScriptEvent}
 use Rattle.workload.specs.declared.script.Script.{Script}
 use Rattle.running.specs.Asked.{asked_in}
 use Rattle.running.proofs.ToldMore.{drop_past}

@@ -4,15 +4,15 @@ use Rattle.std.specs.Option.{is_none}
 use Rattle.logical_time.specs.declared.fault.Fault.{Fault}
 use Rattle.messages.specs.declared.op.Op.{Op}
 use Rattle.messages.specs.declared.op.Op.TheVariants.{Batch, Read, Move}
-use Rattle.messages.specs.declared.event.Event.{Event as ActorEvent}
-use Rattle.messages.specs.declared.event.Event.TheVariants as event
+use Rattle.messages.specs.declared.event.ActorEvent.{ActorEvent}
+use Rattle.messages.specs.declared.event.ActorEvent.TheVariants as event
 use Rattle.messages.specs.Topology.{TopologyValue}
 use Rattle.messages.specs.Submitting.{plan_fault}
 use Rattle.messages.specs.Actors.{envelope_of, opening_home}
 use Rattle.actors.specs.Journals.{submissions}
 use Rattle.actors.specs.Seats.{SeatValue}
-use Rattle.workload.specs.declared.script.Event.{Event as ScriptEvent}
-use Rattle.workload.specs.declared.script.Event.TheVariants.{Submit, Deliver, Collect, Drain}
+use Rattle.workload.specs.declared.script.ScriptEvent.{ScriptEvent}
+use Rattle.workload.specs.declared.script.ScriptEvent.TheVariants.{Submit, Deliver, Collect, Drain}
 use Rattle.workload.specs.declared.script.Script.{Script}
 
 -- what an event of a script asks of the actor with a node, if it asks it for something; deliveries and drains are left to the

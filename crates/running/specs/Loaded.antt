@@ -4,7 +4,7 @@ use Rattle.messages.specs.Topology.{node_count}
 use Rattle.links.specs.Links.{may_exchange}
 use Rattle.actors.specs.Seats.{SeatValue}
 use Rattle.actors.specs.Building.{ring_to, ring_from, IsNewSeat}
-use Rattle.workload.specs.declared.script.Event.{Event as ScriptEvent}
+use Rattle.workload.specs.declared.script.ScriptEvent.{ScriptEvent}
 use Rattle.workload.specs.declared.script.Script.{Script}
 use Rattle.running.specs.Asked.{asked_in, asked_of}
 

@@ -3,26 +3,28 @@ ghost use Rattle.std.specs.Prelude.{◌≡◌, ◌++◌, option_to_list, IfOk, O
 ghost use Rattle.running.specs.Asked as spec;
 
 use logical_time::{Fault, Node};
-use messages::Event;
+use messages::ActorEvent;
 use std::alloc::Global;
-use workload::Event as ScriptEvent;
+use workload::ScriptEvent;
 
 /// What an event of a script asks of the actor with this node, if it asks it for something. Refused with `Memory` alone.
-fn asked_by(node: Node, event: &ScriptEvent) -> Result<Option<Event>, Fault>
+fn asked_by(node: Node, event: &ScriptEvent) -> Result<Option<ActorEvent>, Fault>
     ensures ok { IfOk result (λ asked. asked ≡ spec.asked_by node event.now) }
     ensures memory { IfErr result (λ e. e ≡ Fault.Memory) }
 {
     match event {
         ScriptEvent::Submit { session, op } if *session == node => {
-            Ok(Some(Event::Submit(op.copied()?)))
+            Ok(Some(ActorEvent::Submit(op.copied()?)))
         }
-        ScriptEvent::Collect { shard, time } if *shard == node => Ok(Some(Event::Collect(*time))),
+        ScriptEvent::Collect { shard, time } if *shard == node => Ok(Some(ActorEvent::Collect(
+            *time,
+        ))),
         _ => Ok(None),
     }
 }
 
 /// Adds what an event of a script asks of the actor with this node, if it asks it for something. Refused with `Memory` alone.
-fn add_asked(list: &mut Vec<Event>, node: Node, event: &ScriptEvent) -> Result<(), Fault>
+fn add_asked(list: &mut Vec<ActorEvent>, node: Node, event: &ScriptEvent) -> Result<(), Fault>
     ensures ok { OnOk result (list.new.items ≡ list.old.items ++ option_to_list (spec.asked_by node event.now)) }
     ensures memory { IfErr result (λ e. e ≡ Fault.Memory) }
 {
@@ -37,7 +39,7 @@ pub(crate) fn asked_in(
     alloc: Global,
     node: Node,
     events: &[ScriptEvent],
-) -> Result<Vec<Event>, Fault>
+) -> Result<Vec<ActorEvent>, Fault>
     ensures ok { IfOk result (λ list. list.items ≡ spec.asked_in node events.now) }
     ensures memory { IfErr result (λ e. e ≡ Fault.Memory) }
 {

@@ -2,8 +2,8 @@
 ghost use Rattle.std.specs.Prelude.{◌≡◌, ◌↔◌, ◌≤◌, ◌++◌, ◌∷◌, [], ℕ, List, true, false, not, take, length, slice_get, Some, None, option_copied, option_to_list};
 ghost use Rattle.std.specs.Option.{is_none};
 ghost use Rattle.logical_time.specs.Fault.{IsRefusedFor};
-ghost use Rattle.messages.specs.declared.event.Event.{Event as ActorEvent};
-ghost use Rattle.messages.specs.declared.event.Event.TheVariants as event;
+ghost use Rattle.messages.specs.declared.event.ActorEvent.{ActorEvent};
+ghost use Rattle.messages.specs.declared.event.ActorEvent.TheVariants as event;
 ghost use Rattle.messages.specs.Actors.{envelope_of, opening_home};
 ghost use Rattle.messages.specs.Submitting.{move_fault, plan_fault};
 ghost use Rattle.messages.specs.Topology.{TopologyValue};
@@ -14,10 +14,10 @@ ghost use Rattle.running.specs.Course.{IsWithin, HasCome, DidNotDo, HasStopped};
 use actors::Seat;
 use equality::same_op;
 use logical_time::{Fault, Node, Time};
-use messages::{Event, Op, Topology};
+use messages::{ActorEvent, Op, Topology};
 use planner::{check_batch, check_read};
 use threaded::Actor;
-use workload::{Event as ScriptEvent, Script};
+use workload::{Script, ScriptEvent};
 
 /// How far an actor came with what was asked of it.
 #[derive(Drop)]
@@ -77,14 +77,14 @@ fn first_home(topology: &Topology, node: Node) -> u16
 }
 
 /// Whether a message brought the event.
-fn is_brought(event: &Event) -> bool
+fn is_brought(event: &ActorEvent) -> bool
     ensures { result ≡ not (is_none (envelope_of event.now)) }
 {
-    matches!(event, Event::Handle(_))
+    matches!(event, ActorEvent::Handle(_))
 }
 
 /// The place of the next event that no message brought, from a place on; the end, if there is none.
-fn next_own(journal: &[Event], first: usize) -> usize
+fn next_own(journal: &[ActorEvent], first: usize) -> usize
     requires { first ≤ length journal.now }
     ensures within { (first ≤ result) × (result ≤ length journal.now) }
     ensures passed { own_events (take result journal.now) ≡ own_events (take first journal.now) }
@@ -110,22 +110,22 @@ fn item_at<T>(items: &[T], place: usize) -> Option<&T>
 }
 
 /// Whether this is the event that submits the operation.
-fn is_submission(found: Option<&Event>, op: &Op) -> bool
+fn is_submission(found: Option<&ActorEvent>, op: &Op) -> bool
     ensures { (result ≡ true) ↔ (option_copied found.entry ≡ Some (event.Submit op.now)) }
 {
     match found {
-        Some(Event::Submit(own)) => same_op(own, op),
-        Some(Event::Handle(_)) | Some(Event::Collect(_)) | None => false,
+        Some(ActorEvent::Submit(own)) => same_op(own, op),
+        Some(ActorEvent::Handle(_)) | Some(ActorEvent::Collect(_)) | None => false,
     }
 }
 
 /// Whether this is the event that collects up to the time.
-fn is_collection(found: Option<&Event>, time: Time) -> bool
+fn is_collection(found: Option<&ActorEvent>, time: Time) -> bool
     ensures { (result ≡ true) ↔ (option_copied found.entry ≡ Some (event.Collect time)) }
 {
     match found {
-        Some(Event::Collect(own)) => *own == time,
-        Some(Event::Handle(_)) | Some(Event::Submit(_)) | None => false,
+        Some(ActorEvent::Collect(own)) => *own == time,
+        Some(ActorEvent::Handle(_)) | Some(ActorEvent::Submit(_)) | None => false,
     }
 }
 

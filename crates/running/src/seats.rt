@@ -8,7 +8,7 @@ use logical_time::Fault;
 use std::alloc::Global;
 use std::sync::Mutex;
 use threaded::Actor;
-use workload::{Event, Script};
+use workload::{Script, ScriptEvent};
 
 /// How many envelopes a ring of such a run holds: so few that the rings stay in the cache of a processor. What finds no place
 /// waits at its seat.
@@ -26,7 +26,7 @@ pub(crate) fn close_all(mut seats: Vec<Seat<Actor>>) {
 }
 
 /// Gives the actor of a seat what these events of a script ask of it. Refused with `Memory` alone.
-fn load(alloc: Global, seat: &mut Seat<Actor>, events: &[Event]) -> Result<(), Fault>
+fn load(alloc: Global, seat: &mut Seat<Actor>, events: &[ScriptEvent]) -> Result<(), Fault>
     ensures ok { OnOk result (seat.new ≡ with_asked events.now seat.old) }
     ensures memory { IfErr result (λ e. e ≡ Fault.Memory) }
 {
@@ -38,7 +38,7 @@ fn load(alloc: Global, seat: &mut Seat<Actor>, events: &[Event]) -> Result<(), F
 }
 
 /// Gives each actor what these events of a script ask of it. Refused with `Memory` alone.
-fn load_all(alloc: Global, seats: &mut [Seat<Actor>], events: &[Event]) -> Result<(), Fault>
+fn load_all(alloc: Global, seats: &mut [Seat<Actor>], events: &[ScriptEvent]) -> Result<(), Fault>
     ensures ok { OnOk result (HaveAsked events.now seats.old seats.new) }
     ensures memory { IfErr result (λ e. e ≡ Fault.Memory) }
 {

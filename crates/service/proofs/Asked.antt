@@ -6,7 +6,7 @@ use Rattle.logical_time.specs.declared.fault.Fault.{Fault}
 use Rattle.logical_time.specs.declared.fault.Fault.TheVariants.{Busy, Memory}
 use Rattle.messages.specs.declared.op.Op.{Op}
 use Rattle.messages.specs.Topology.{TopologyValue}
-use Rattle.world.specs.declared.run_event.RunEvent.{RunEvent as Event}
+use Rattle.world.specs.declared.run_event.RunEvent.{RunEvent}
 use Rattle.world.specs.declared.run_event.RunEvent.TheVariants.{Submit}
 use Rattle.world.specs.Run.{run}
 use Rattle.world.specs.Refusals.{Refusal, Refused}
@@ -18,7 +18,7 @@ use Rattle.service.proofs.Idle.{not_busy}
 use Rattle.service.proofs.Meant.{handled_listed}
 
 -- a drain that left an operation open delivered as many messages as it may
-left_open : (top : TopologyValue) (session : ℕ) (op : Op) (events : List Event) (count : ℕ) → (count < 1000000 → LeavesNothing top events) → HasOpen top session op events
+left_open : (top : TopologyValue) (session : ℕ) (op : Op) (events : List RunEvent) (count : ℕ) → (count < 1000000 → LeavesNothing top events) → HasOpen top session op events
     → (b : Bool) → nat_lt count 1000000 ≡ b → 1000000 ≤ count
 left_open top session op events count nothing has true is = absurd (not_busy top (run top events) session op ((nothing (grind (arith, nat_tests))).settled.idle session) has)
 left_open top session op events count nothing has false is = grind (arith, nat_tests)
@@ -54,7 +54,7 @@ open_when_busy v session op refused = busy_refusal (refusal_in v (Submit session
 
 -- ## An operation that is still open
 
-still_open : (top : TopologyValue) (session : ℕ) (op : Op) (before submitted after : List Event) (number count : ℕ) → 0 < top.shards → IsSubmitted top session op before number submitted
+still_open : (top : TopologyValue) (session : ℕ) (op : Op) (before submitted after : List RunEvent) (number count : ℕ) → 0 < top.shards → IsSubmitted top session op before number submitted
     → IsDrained top submitted after count → (count < 1000000 → LeavesNothing top after) → IsOpen (run top after) session number → (b : Bool) → nat_lt count 1000000 ≡ b → 1000000 ≤ count
 still_open top session op before submitted after number count some is_submitted drained nothing still true is =
     let l = handled_listed top session some op before number after (record { submitted = submitted; is_submitted = is_submitted; count = count; drained = drained }) in

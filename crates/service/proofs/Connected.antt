@@ -1,10 +1,10 @@
 -- One more connection.
 use Rattle.std.proofs.Common.{◌≡◌, ℕ, suc, ◌+◌, List, sym, subst, add-one}
 use Rattle.messages.specs.Topology.{TopologyValue, session_node}
-use Rattle.world.specs.declared.run_event.RunEvent.{RunEvent as Event}
+use Rattle.world.specs.declared.run_event.RunEvent.{RunEvent}
 use Rattle.service.specs.Connections.{IsServed, AreServed}
 
-pub served_next : (top t : TopologyValue) (n session : ℕ) (before between after : List Event) → t ≡ top → session ≡ session_node top n → AreServed top n before between
+pub served_next : (top t : TopologyValue) (n session : ℕ) (before between after : List RunEvent) → t ≡ top → session ≡ session_node top n → AreServed top n before between
     → IsServed t session between after → AreServed top (n + 1) before after
 served_next top t n session before between after same node served last =
     rw add-one (

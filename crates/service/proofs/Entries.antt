@@ -7,7 +7,7 @@ use Rattle.messages.specs.Topology.{TopologyValue, is_session}
 use Rattle.messages.specs.Clock.{ticked, on_clock}
 use Rattle.messages.specs.Session.{SessionState}
 use Rattle.messages.specs.Submitting.{begun, submit_fault, submit_if as submitted_if, session_submit}
-use Rattle.world.specs.declared.run_event.RunEvent.{RunEvent as Event}
+use Rattle.world.specs.declared.run_event.RunEvent.{RunEvent}
 use Rattle.world.specs.declared.run_event.RunEvent.TheVariants.{Submit}
 use Rattle.world.specs.declared.completed.Completed.{Completed}
 use Rattle.world.specs.Run.{Run, Submission, opening, after_submission, submit_if, step, run}
@@ -68,7 +68,7 @@ named b c session number p q s t = cc
 
 module _ (top : TopologyValue) (some : 0 < top.shards) where
   -- it stays listed
-  pub listed_still : (before more : List Event) (session number : ℕ) (o : Op) → IsListed (run top before) session number o → IsListed (run top (before ++ more)) session number o
+  pub listed_still : (before more : List RunEvent) (session number : ℕ) (o : Op) → IsListed (run top before) session number o → IsListed (run top (before ++ more)) session number o
   listed_still before more session number o l =
       let grew = (runs_only_grow top before more).submitted in
       record {
@@ -80,14 +80,14 @@ module _ (top : TopologyValue) (some : 0 < top.shards) where
       }
 
   -- what a submission that isn't refused lists
-  pub listed_after : (events : List Event) (session : ℕ) (o : Op) → refusal_of top (run top events) (Submit session o) ≡ None
+  pub listed_after : (events : List RunEvent) (session : ℕ) (o : Op) → refusal_of top (run top events) (Submit session o) ≡ None
       → IsListed (run top (events ++ Submit session o ∷ [])) session (((run top events).sessions session).count + 1) o
   listed_after events session o none =
       subst (λ v. IsListed v session (((run top events).sessions session).count + 1) o) (sym (run_after top (opening top) events (Submit session o ∷ [])))
       (listed_then top (run top events) session o none)
 
   -- an entry of its number is of it
-  pub own_op : (events : List Event) (session number : ℕ) (o : Op) (c : Completed) → IsListed (run top events) session number o → IsEndOf (run top events) session number c → c.op ≡ o
+  pub own_op : (events : List RunEvent) (session number : ℕ) (o : Op) (c : Completed) → IsListed (run top events) session number o → IsEndOf (run top events) session number c → c.op ≡ o
   own_op events session number o c l is =
       let w = run top events in
       let of = entries_are_of_submissions top events some c is.listed in
@@ -96,7 +96,7 @@ module _ (top : TopologyValue) (some : 0 < top.shards) where
       sym of.op ∙ (ap (λ (b : Submission). b.op) same ∙ l.op)
 
   -- an entry of the session is of the data centre where its operation was submitted
-  pub own_home : (events : List Event) (session number : ℕ) (c : Completed) → IsEndOf (run top events) session number c → c.home ≡ home_in top (run top events) session number
+  pub own_home : (events : List RunEvent) (session number : ℕ) (c : Completed) → IsEndOf (run top events) session number c → c.home ≡ home_in top (run top events) session number
   own_home events session number c is =
       let w = run top events in
       homes_are_of_moves top events some c is.listed

@@ -12,7 +12,7 @@ use Rattle.messages.specs.declared.outcome.Outcome.TheVariants as outcome
 use Rattle.messages.specs.Topology.{TopologyValue}
 use Rattle.wire.specs.Replies.{Reply}
 use Rattle.front.specs.Ports.{Chain}
-use Rattle.world.specs.declared.run_event.RunEvent.{RunEvent as Event}
+use Rattle.world.specs.declared.run_event.RunEvent.{RunEvent}
 use Rattle.world.specs.declared.run_event.RunEvent.TheVariants.{Submit}
 use Rattle.world.specs.declared.completed.Completed.{Completed}
 use Rattle.world.specs.Run.{Run, run}
@@ -37,24 +37,24 @@ pub begins_at : {X : Type 0} (xs : List X) → IsBeginning xs xs
 begins_at xs = ([], sym (append-nil xs))
 
 module _ (top : TopologyValue) (session : ℕ) where
-  drain_begins : (before after : List Event) (count : ℕ) → IsDrained top before after count → IsBeginning before after
+  drain_begins : (before after : List RunEvent) (count : ℕ) → IsDrained top before after count → IsBeginning before after
   drain_begins before after count d = (deliveries top 1000000 (run top before), d.happened)
 
-  stop_begins : (before after : List Event) (f : Fault) → IsDrainedUntil top before after f → IsBeginning before after
+  stop_begins : (before after : List RunEvent) (f : Fault) → IsDrainedUntil top before after f → IsBeginning before after
   stop_begins before after f d = (d.done, d.happened)
 
-  ready_begins : (o : Op) (before ready : List Event) → IsReady top session o before ready → IsBeginning before ready
+  ready_begins : (o : Op) (before ready : List RunEvent) → IsReady top session o before ready → IsBeginning before ready
   ready_begins o before ready (inl d) = drain_begins before ready d.count d.drained
   ready_begins o before ready (inr s) = ([], s.1 ∙ sym (append-nil before))
 
-  submitted_begins : (o : Op) (before : List Event) (number : ℕ) (after : List Event) → IsSubmitted top session o before number after → IsBeginning before after
+  submitted_begins : (o : Op) (before : List RunEvent) (number : ℕ) (after : List RunEvent) → IsSubmitted top session o before number after → IsBeginning before after
   submitted_begins o before number after s = begins_so before s.ready after (ready_begins o before s.ready s.is_ready) (Submit session o ∷ [], s.happened)
 
-  handled_begins : (o : Op) (before : List Event) (number : ℕ) (after : List Event) → IsHandled top session o before number after → IsBeginning before after
+  handled_begins : (o : Op) (before : List RunEvent) (number : ℕ) (after : List RunEvent) → IsHandled top session o before number after → IsBeginning before after
   handled_begins o before number after h =
       begins_so before h.submitted after (submitted_begins o before number h.submitted h.is_submitted) (drain_begins h.submitted after h.count h.drained)
 
-  pub answer_begins : (before : List Event) (o : Op) (r : Reply) (after : List Event) → Asks top session before o r after → IsBeginning before after
+  pub answer_begins : (before : List RunEvent) (o : Op) (r : Reply) (after : List RunEvent) → Asks top session before o r after → IsBeginning before after
   answer_begins before o (Ok result) after a = handled_begins o before a.number after a.handled
   answer_begins before o (Err f) after (inl (inl t)) = stop_begins before after f t.1
   answer_begins before o (Err f) after (inl (inr t)) = ready_begins o before after t.0
@@ -66,7 +66,7 @@ module _ (top : TopologyValue) (session : ℕ) where
 
   module _ (some : 0 < top.shards) where
     -- what was submitted and drained is listed
-    pub handled_listed : (o : Op) (before : List Event) (number : ℕ) (after : List Event) → IsHandled top session o before number after → IsListed (run top after) session number o
+    pub handled_listed : (o : Op) (before : List RunEvent) (number : ℕ) (after : List RunEvent) → IsHandled top session o before number after → IsListed (run top after) session number o
     handled_listed o before number after h =
         let s = h.is_submitted in
         let at : IsListed (run top (s.ready ++ Submit session o ∷ [])) session number o =
@@ -85,7 +85,7 @@ module _ (top : TopologyValue) (session : ℕ) where
     move_of (op.Read read) dc floor fits = absurd fits
     move_of (op.Move there) dc floor fits = ap op.Move (sym fits)
 
-    told : (events : List Event) (c : Completed) (o : Op) (result : Outcome) → Contains (run top events).transcript c → c.op ≡ o → c.outcome ≡ result → Tells top (run top events) c o result
+    told : (events : List RunEvent) (c : Completed) (o : Op) (result : Outcome) → Contains (run top events).transcript c → c.op ≡ o → c.outcome ≡ result → Tells top (run top events) c o result
     told events c o (outcome.Wrote commit stamp) has is came = writes_in_runs top events some c commit stamp has came
     told events c o (outcome.Read time answer) has is came =
         let fits = subst (λ r. Fits c.op r) came (entries_are_of_submissions top events some c has).fits in
@@ -102,7 +102,7 @@ module _ (top : TopologyValue) (session : ℕ) where
           past = λ u before. moves_bring_their_past top events some c dc floor u has came before;
         }
 
-    meant : (before : List Event) (o : Op) (result : Outcome) (after left : List Event) (number : ℕ) → IsHandled top session o before number after → EndedWith (run top after) session number result
+    meant : (before : List RunEvent) (o : Op) (result : Outcome) (after left : List RunEvent) (number : ℕ) → IsHandled top session o before number after → EndedWith (run top after) session number result
         → IsBeginning after left → IsMeant top (run top left) session number o result
     meant before o result after left number h e begins =
         let c = e.entry in
@@ -122,19 +122,19 @@ module _ (top : TopologyValue) (session : ℕ) where
           tells = told (after ++ begins.0) c o result still is e.outcome_is;
         })
 
-    pub answer_means : (before : List Event) (o : Op) (r : Reply) (after left : List Event) → Asks top session before o r after → IsBeginning after left → Replies top session (run top left) before o r after
+    pub answer_means : (before : List RunEvent) (o : Op) (r : Reply) (after left : List RunEvent) → Asks top session before o r after → IsBeginning after left → Replies top session (run top left) before o r after
     answer_means before o (Err f) after left a begins = a
     answer_means before o (Ok result) after left a begins = record { answered = a; meant = meant before o result after left a.number a.handled a.ended begins }
 
     -- ## Chains
 
-    pub chain_begins : (p : List Event) (ops : List Op) (answers : List Reply) (q : List Event) → Chain (Asks top session) p ops answers q → IsBeginning p q
+    pub chain_begins : (p : List RunEvent) (ops : List Op) (answers : List Reply) (q : List RunEvent) → Chain (Asks top session) p ops answers q → IsBeginning p q
     chain_begins p [] [] q c = subst (λ z. IsBeginning p z) c (begins_at p)
     chain_begins p [] (a ∷ answers) q c = absurd c
     chain_begins p (o ∷ ops) [] q c = absurd c
     chain_begins p (o ∷ ops) (a ∷ answers) q c = begins_so p c.0 q (answer_begins p o a c.0 c.1) (chain_begins c.0 ops answers q c.2)
 
-    meant_until : (left : List Event) (p : List Event) (ops : List Op) (answers : List Reply) (q : List Event) → Chain (Asks top session) p ops answers q → IsBeginning q left
+    meant_until : (left : List RunEvent) (p : List RunEvent) (ops : List Op) (answers : List Reply) (q : List RunEvent) → Chain (Asks top session) p ops answers q → IsBeginning q left
         → Chain (Replies top session (run top left)) p ops answers q
     meant_until left p [] [] q c begins = c
     meant_until left p [] (a ∷ answers) q c begins = absurd c
@@ -146,6 +146,6 @@ module _ (top : TopologyValue) (session : ℕ) where
     )
 
     -- each answer of a chain means its request in what the chain leaves behind
-    pub chain_means : (p : List Event) (ops : List Op) (answers : List Reply) (q : List Event) → Chain (Asks top session) p ops answers q
+    pub chain_means : (p : List RunEvent) (ops : List Op) (answers : List Reply) (q : List RunEvent) → Chain (Asks top session) p ops answers q
         → Chain (Replies top session (run top q)) p ops answers q
     chain_means p ops answers q c = meant_until q p ops answers q c (begins_at q)

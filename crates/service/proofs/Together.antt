@@ -14,7 +14,7 @@ use Rattle.readiness.specs.Lines.{ReadyValue}
 use Rattle.readiness.specs.Exchanges.{Entry, LogChain}
 use Rattle.readiness.specs.Places.{Turns}
 use Rattle.readiness.specs.Runs.{RanFor}
-use Rattle.world.specs.declared.run_event.RunEvent.{RunEvent as Event}
+use Rattle.world.specs.declared.run_event.RunEvent.{RunEvent}
 use Rattle.world.specs.Run.{run}
 use Rattle.world.specs.Journals.{IsBeginning}
 use Rattle.world.specs.World.{WorldValue}
@@ -64,7 +64,7 @@ log_begins p [] q c = subst (λ (z : WorldSessions). IsBeginning p.world.now.eve
 log_begins p (e ∷ log) q c =
     begins_so p.world.now.events c.0.world.now.events q.world.now.events (step_begins e.place p e.exchange.asked e.exchange.told c.0 c.1) (log_begins c.0 log q c.2)
 
-module _ (top : TopologyValue) (some : 0 < top.shards) (left : List Event) where
+module _ (top : TopologyValue) (some : 0 < top.shards) (left : List RunEvent) where
   step_means : (place : ℕ) (p : WorldSessions) (o : Op) (a : Reply) (q : WorldSessions) → p.world.now.top ≡ top → IsSessionStep place p o a q → IsBeginning q.world.now.events left
       → SessionReplies top (run top left) place p.world.now.events o a q.world.now.events
   step_means place p o a q t s begins =

@@ -12,7 +12,7 @@ use Rattle.messages.specs.declared.outcome.Outcome.TheVariants as outcome
 use Rattle.messages.specs.Topology.{TopologyValue}
 use Rattle.messages.specs.Actors.{opening_home, home_before}
 use Rattle.wire.specs.Replies.{Reply}
-use Rattle.world.specs.declared.run_event.RunEvent.{RunEvent as Event}
+use Rattle.world.specs.declared.run_event.RunEvent.{RunEvent}
 use Rattle.world.specs.declared.completed.Completed.{Completed}
 use Rattle.world.specs.Run.{Run}
 use Rattle.world.specs.Entries.{IsTold}
@@ -59,12 +59,12 @@ pub record IsMeant (top : TopologyValue) (w : Run) (session number : ℕ) (o : O
   pub tells : Tells top w entry o result
 
 -- the request is answered, and the answer means it
-pub record IsAnsweredWell (top : TopologyValue) (session : ℕ) (left : Run) (before : List Event) (o : Op) (result : Outcome) (after : List Event) : Type 0 where
+pub record IsAnsweredWell (top : TopologyValue) (session : ℕ) (left : Run) (before : List RunEvent) (o : Op) (result : Outcome) (after : List RunEvent) : Type 0 where
   pub answered : IsAnswered top session o before result after
   pub meant : IsMeant top left session answered.number o result
 
 -- A step of a session's connection, where `left` is the run after the whole connection: the request is answered on the world,
 -- and an outcome has its meaning in `left`; a refusal tells nothing.
-abbrev pub Replies : TopologyValue → ℕ → Run → List Event → Op → Reply → List Event → Type 0
+abbrev pub Replies : TopologyValue → ℕ → Run → List RunEvent → Op → Reply → List RunEvent → Type 0
 Replies top session left before o (Ok result) after = IsAnsweredWell top session left before o result after
 Replies top session left before o (Err fault) after = Asks top session before o (Err fault) after

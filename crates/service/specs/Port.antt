@@ -8,7 +8,7 @@ use Rattle.messages.specs.declared.outcome.Outcome.TheVariants as outcome
 use Rattle.slice.specs.declared.read.AnsweredRow.{AnsweredRow}
 use Rattle.messages.specs.Topology.{TopologyValue, is_session}
 use Rattle.wire.specs.Replies.{Reply}
-use Rattle.world.specs.declared.run_event.RunEvent.{RunEvent as Event}
+use Rattle.world.specs.declared.run_event.RunEvent.{RunEvent}
 use Rattle.world.specs.declared.run_event.RunEvent.TheVariants.{Submit}
 use Rattle.world.specs.declared.completed.Completed.{Completed}
 use Rattle.world.specs.Run.{Run, run}
@@ -20,27 +20,27 @@ use Rattle.service.specs.declared.port.WorldPort.{WorldPort}
 -- ## Submissions
 
 -- why the run of these events refuses the session's operation, if it does
-abbrev pub refused_at : TopologyValue → ℕ → Op → List Event → Option Refusal
+abbrev pub refused_at : TopologyValue → ℕ → Op → List RunEvent → Option Refusal
 refused_at top session op events = refusal_of top (run top events) (Submit session op)
 
 -- the session has an operation open
-abbrev pub HasOpen : TopologyValue → ℕ → Op → List Event → Type 0
+abbrev pub HasOpen : TopologyValue → ℕ → Op → List RunEvent → Type 0
 HasOpen top session op events = refused_at top session op events ≡ Some (Refused Busy)
 
 -- it has, and a drain comes first; if it still has, the drain delivered as many messages as it may
-pub record WasDrained (top : TopologyValue) (session : ℕ) (op : Op) (before ready : List Event) : Type 0 where
+pub record WasDrained (top : TopologyValue) (session : ℕ) (op : Op) (before ready : List RunEvent) : Type 0 where
   pub had_open : HasOpen top session op before
   pub count : ℕ
   pub drained : IsDrained top before ready count
   pub most : HasOpen top session op ready → 1000000 ≤ count
 
 -- The session is ready for the operation: where it had one open, a drain came first; else nothing happened.
-abbrev pub IsReady : TopologyValue → ℕ → Op → List Event → List Event → Type 0
+abbrev pub IsReady : TopologyValue → ℕ → Op → List RunEvent → List RunEvent → Type 0
 IsReady top session op before ready = WasDrained top session op before ready ⊎ ((HasOpen top session op before → ⊥) × (ready ≡ before))
 
 -- the operation is submitted, and has this number among the session's
-pub record IsSubmitted (top : TopologyValue) (session : ℕ) (op : Op) (before : List Event) (number : ℕ) (after : List Event) : Type 0 where
-  pub ready : List Event
+pub record IsSubmitted (top : TopologyValue) (session : ℕ) (op : Op) (before : List RunEvent) (number : ℕ) (after : List RunEvent) : Type 0 where
+  pub ready : List RunEvent
   pub is_ready : IsReady top session op before ready
   pub allowed : refused_at top session op ready ≡ None
   pub numbered : number ≡ ((run top ready).sessions session).count + 1
@@ -48,7 +48,7 @@ pub record IsSubmitted (top : TopologyValue) (session : ℕ) (op : Op) (before :
 
 -- The operation isn't submitted: the drain before it was refused, or the submission was, as the run refuses it, else for want of
 -- memory. It is refused with Busy only where a drain delivered as many messages as it may.
-abbrev pub IsTurnedAway : TopologyValue → ℕ → Op → List Event → Fault → List Event → Type 0
+abbrev pub IsTurnedAway : TopologyValue → ℕ → Op → List RunEvent → Fault → List RunEvent → Type 0
 IsTurnedAway top session op before fault after =
     (HasOpen top session op before × IsDrainedUntil top before after fault)
     ⊎ (IsReady top session op before after × IsRefusedAs (refused_at top session op after) fault)
@@ -74,21 +74,21 @@ IsOpen w session number = (c : Completed) → IsEndOf w session number c → ⊥
 -- ## Answers
 
 -- what was submitted is drained
-pub record IsHandled (top : TopologyValue) (session : ℕ) (op : Op) (before : List Event) (number : ℕ) (after : List Event) : Type 0 where
-  pub submitted : List Event
+pub record IsHandled (top : TopologyValue) (session : ℕ) (op : Op) (before : List RunEvent) (number : ℕ) (after : List RunEvent) : Type 0 where
+  pub submitted : List RunEvent
   pub is_submitted : IsSubmitted top session op before number submitted
   pub count : ℕ
   pub drained : IsDrained top submitted after count
 
 -- the drain after the submission is refused, and the operation stays open
-pub record IsStopped (top : TopologyValue) (session : ℕ) (op : Op) (before : List Event) (fault : Fault) (after : List Event) : Type 0 where
+pub record IsStopped (top : TopologyValue) (session : ℕ) (op : Op) (before : List RunEvent) (fault : Fault) (after : List RunEvent) : Type 0 where
   pub number : ℕ
-  pub submitted : List Event
+  pub submitted : List RunEvent
   pub is_submitted : IsSubmitted top session op before number submitted
   pub stopped : IsDrainedUntil top submitted after fault
 
 -- the drain delivered as many messages as it may, and the operation is still open: Busy
-pub record IsLeftOpen (top : TopologyValue) (session : ℕ) (op : Op) (before : List Event) (fault : Fault) (after : List Event) : Type 0 where
+pub record IsLeftOpen (top : TopologyValue) (session : ℕ) (op : Op) (before : List RunEvent) (fault : Fault) (after : List RunEvent) : Type 0 where
   pub number : ℕ
   pub handled : IsHandled top session op before number after
   pub still : IsOpen (run top after) session number
@@ -96,7 +96,7 @@ pub record IsLeftOpen (top : TopologyValue) (session : ℕ) (op : Op) (before : 
   pub busy : fault ≡ Busy
 
 -- the read is answered, and memory was refused for a copy of the answer
-pub record IsUncopied (top : TopologyValue) (session : ℕ) (op : Op) (before : List Event) (fault : Fault) (after : List Event) : Type 0 where
+pub record IsUncopied (top : TopologyValue) (session : ℕ) (op : Op) (before : List RunEvent) (fault : Fault) (after : List RunEvent) : Type 0 where
   pub number : ℕ
   pub handled : IsHandled top session op before number after
   pub time : ℕ
@@ -105,14 +105,14 @@ pub record IsUncopied (top : TopologyValue) (session : ℕ) (op : Op) (before : 
   pub memory : fault ≡ Memory
 
 -- the operation was submitted and drained, and ended so
-pub record IsAnswered (top : TopologyValue) (session : ℕ) (op : Op) (before : List Event) (result : Outcome) (after : List Event) : Type 0 where
+pub record IsAnswered (top : TopologyValue) (session : ℕ) (op : Op) (before : List RunEvent) (result : Outcome) (after : List RunEvent) : Type 0 where
   pub number : ℕ
   pub handled : IsHandled top session op before number after
   pub ended : EndedWith (run top after) session number result
 
 -- A session's request and its answer: the outcome that the transcript has for the operation that it submitted, or why
 -- there is none.
-abbrev pub Asks : TopologyValue → ℕ → List Event → Op → Reply → List Event → Type 0
+abbrev pub Asks : TopologyValue → ℕ → List RunEvent → Op → Reply → List RunEvent → Type 0
 Asks top session before op (Ok result) after = IsAnswered top session op before result after
 Asks top session before op (Err fault) after =
     IsTurnedAway top session op before fault after

@@ -4,7 +4,7 @@ use Rattle.logical_time.specs.declared.fault.Fault.TheVariants.{Busy}
 use Rattle.messages.specs.declared.op.Op.{Op}
 use Rattle.messages.specs.Topology.{TopologyValue, session_node}
 use Rattle.wire.specs.Replies.{Reply}
-use Rattle.world.specs.declared.run_event.RunEvent.{RunEvent as Event}
+use Rattle.world.specs.declared.run_event.RunEvent.{RunEvent}
 use Rattle.world.specs.Run.{Run}
 use Rattle.service.specs.declared.sessions.WorldSessions.{WorldSessions}
 use Rattle.service.specs.Port.{Asks}
@@ -19,6 +19,6 @@ pub record IsSessionStep (place : ℕ) (old : WorldSessions) (op : Op) (answer :
 
 -- A step of the connection at a place, where `left` is the run after all of them: its session's request is answered, and an
 -- outcome has its meaning in `left`; at a place past the last session it is refused.
-pub record SessionReplies (top : TopologyValue) (left : Run) (place : ℕ) (before : List Event) (op : Op) (answer : Reply) (after : List Event) : Type 0 where
+pub record SessionReplies (top : TopologyValue) (left : Run) (place : ℕ) (before : List RunEvent) (op : Op) (answer : Reply) (after : List RunEvent) : Type 0 where
   pub replies : place < length top.homes → Replies top (session_node top place) left before op answer after
   pub otherwise : length top.homes ≤ place → (answer ≡ Err Busy) × (after ≡ before)

@@ -15,8 +15,8 @@ use Rattle.messages.specs.Shard.{ShardState, Decision}
 use Rattle.messages.specs.Reads.{is_waiting}
 use Rattle.messages.specs.Honest.{ToldCommit, all_told}
 use Rattle.slice.specs.Rows.{row_of}
-use Rattle.messages.specs.declared.event.Event.{Event}
-use Rattle.messages.specs.declared.event.Event.TheVariants.{Handle}
+use Rattle.messages.specs.declared.event.ActorEvent.{ActorEvent}
+use Rattle.messages.specs.declared.event.ActorEvent.TheVariants.{Handle}
 use Rattle.shard.specs.Events.{ShardRun, shard_run, envelopes_handled}
 
 -- a row of a first round as a part of what was applied
@@ -39,32 +39,32 @@ IsRightAt applied read time r = IsRightPart applied (row_of read r.key) read.pre
 -- ## Which read an answer is to
 
 -- after these events, this event adds this to what the shard sent
-pub record IsSentBy (top : TopologyValue) (me : ℕ) (before : List Event) (event : Event) (e : Envelope) : Type 0 where
+pub record IsSentBy (top : TopologyValue) (me : ℕ) (before : List ActorEvent) (event : ActorEvent) (e : Envelope) : Type 0 where
   pub sends : List Envelope
   pub added : (shard_run top me (before ++ event ∷ [])).sent ≡ (shard_run top me before).sent ++ sends
   pub has : Contains sends e
 
 -- a Read causes what its own event sends
-pub record CausesNow (top : TopologyValue) (me : ℕ) (events : List Event) (asked e : Envelope) : Type 0 where
-  pub before : List Event
-  pub after : List Event
+pub record CausesNow (top : TopologyValue) (me : ℕ) (events : List ActorEvent) (asked e : Envelope) : Type 0 where
+  pub before : List ActorEvent
+  pub after : List ActorEvent
   pub split : events ≡ before ++ Handle asked ∷ after
   pub sent : IsSentBy top me before (Handle asked) e
 
 -- the read that was asked after those events waits from then on, through further ones, until an event sends this
-pub record IsSentWaiting (top : TopologyValue) (me : ℕ) (before : List Event) (asked : Envelope) (number : ℕ) (after : List Event) (e : Envelope) : Type 0 where
-  pub between : List Event
-  pub event : Event
-  pub rest : List Event
+pub record IsSentWaiting (top : TopologyValue) (me : ℕ) (before : List ActorEvent) (asked : Envelope) (number : ℕ) (after : List ActorEvent) (e : Envelope) : Type 0 where
+  pub between : List ActorEvent
+  pub event : ActorEvent
+  pub rest : List ActorEvent
   pub split : after ≡ between ++ event ∷ rest
-  pub waits : (xs ys : List Event) → between ≡ xs ++ ys → is_waiting (shard_run top me (before ++ Handle asked ∷ xs)).state asked.from number ≡ true
+  pub waits : (xs ys : List ActorEvent) → between ≡ xs ++ ys → is_waiting (shard_run top me (before ++ Handle asked ∷ xs)).state asked.from number ≡ true
   pub sent : IsSentBy top me (before ++ Handle asked ∷ between) event e
 
 -- A ReadAt causes this: none of its session and number waited before it, and its own event sends it, or the read waits until
 -- an event does.
-pub record CausesAt (top : TopologyValue) (me : ℕ) (events : List Event) (asked : Envelope) (number : ℕ) (e : Envelope) : Type 0 where
-  pub before : List Event
-  pub after : List Event
+pub record CausesAt (top : TopologyValue) (me : ℕ) (events : List ActorEvent) (asked : Envelope) (number : ℕ) (e : Envelope) : Type 0 where
+  pub before : List ActorEvent
+  pub after : List ActorEvent
   pub split : events ≡ before ++ Handle asked ∷ after
   pub taken : is_waiting (shard_run top me before).state asked.from number ≡ false
   pub answered : IsSentBy top me before (Handle asked) e ⊎ IsSentWaiting top me before asked number after e

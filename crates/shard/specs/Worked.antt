@@ -9,8 +9,8 @@ use Rattle.slice.specs.declared.read.Read.{Read}
 use Rattle.messages.specs.declared.body.Body.TheVariants as body
 use Rattle.messages.specs.Topology.{TopologyValue}
 use Rattle.messages.specs.Words.{envelope}
-use Rattle.messages.specs.declared.event.Event.{Event}
-use Rattle.messages.specs.declared.event.Event.TheVariants.{Handle, Collect}
+use Rattle.messages.specs.declared.event.ActorEvent.{ActorEvent}
+use Rattle.messages.specs.declared.event.ActorEvent.TheVariants.{Handle, Collect}
 use Rattle.shard.specs.Events.{ShardRun, shard_run}
 
 -- ## Words
@@ -43,23 +43,23 @@ abbrev pub stamp : ℕ → StampValue
 stamp time = record { time = time; node = 0 }
 
 -- at this time session 2 sends the coordinator a write of its row alone
-abbrev pub begins : ℕ → Event
+abbrev pub begins : ℕ → ActorEvent
 begins time = Handle (envelope 2 0 time (body.Begin (first_of 2) (x_gets key_b 1) [] []))
 
 -- at time 1 a session sends the cohort its part of a write, with this value
-abbrev pub prepares : ℕ → ℕ → Event
+abbrev pub prepares : ℕ → ℕ → ActorEvent
 prepares session value = Handle (envelope session 1 1 (body.Prepare (first_of session) (x_gets key_a value) 0))
 
 -- at this time the coordinator tells the cohort the commit time and the stamp of a session's write
-abbrev pub commits : ℕ → ℕ → ℕ → StampValue → Event
+abbrev pub commits : ℕ → ℕ → ℕ → StampValue → ActorEvent
 commits time session commit s = Handle (envelope 0 1 time (body.Commit (first_of session) commit s))
 
 -- at this time session 3 reads a row of this shard
-abbrev pub reads : ℕ → ℕ → List ℕ → Event
+abbrev pub reads : ℕ → ℕ → List ℕ → ActorEvent
 reads node time key = Handle (envelope 3 node time (body.Read 1 (x_of key)))
 
 -- at this time session 3 reads a row of this shard as of another time
-abbrev pub reads_at : ℕ → ℕ → ℕ → List ℕ → Event
+abbrev pub reads_at : ℕ → ℕ → ℕ → List ℕ → ActorEvent
 reads_at node time as_of key = Handle (envelope 3 node time (body.ReadAt 1 as_of (x_of key)))
 
 -- ## Honest envelopes

@@ -1,6 +1,6 @@
 //! Laws of one shard.
 ghost use Rattle.std.specs.Prelude.{ℕ, List};
-ghost use Rattle.messages.specs.declared.event.Event.{Event};
+ghost use Rattle.messages.specs.declared.event.ActorEvent.{ActorEvent};
 ghost use Rattle.messages.specs.Topology.{TopologyValue};
 ghost use Rattle.messages.specs.Honest.{IsHonest};
 ghost use Rattle.shard.specs.Events.{shard_run, envelopes_handled};
@@ -13,5 +13,5 @@ ghost use Rattle.shard.specs.Right.{IsRightShard};
 /// normal form and no two with one stamp. Does nothing; its contract is the law.
 #[tactic(auto, using(crate::proofs::right::OneShard::shard_is_right))]
 pub fn one_shard_is_right()
-    ensures { (top : TopologyValue) (me : ℕ) (events : List Event) → IsHonest (shard_run top me events).state (envelopes_handled (shard_run top me events)) → IsRightShard top me (shard_run top me events) }
+    ensures { (top : TopologyValue) (me : ℕ) (events : List ActorEvent) → IsHonest (shard_run top me events).state (envelopes_handled (shard_run top me events)) → IsRightShard top me (shard_run top me events) }
 {}

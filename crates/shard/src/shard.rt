@@ -2,8 +2,8 @@
 ghost use Rattle.std.specs.Prelude.{◌≡◌, ◌<◌, ◌≤◌, ◌+◌, ◌^◌, ◌↔◌, max, ℕ, List, [], ◌∷◌, ◌++◌, length, slice_get, Some, Err, is_some, option_map, IfSome, IfOk, OnOk, IfErr, IsErrOf, OnErr};
 ghost use Rattle.logical_time.specs.declared.fault.Fault.TheVariants as fault;
 ghost use Rattle.messages.specs.declared.envelope.Envelope.{Envelope};
-ghost use Rattle.messages.specs.declared.event.Event.{Event};
-ghost use Rattle.messages.specs.declared.event.Event.TheVariants.{Handle, Collect};
+ghost use Rattle.messages.specs.declared.event.ActorEvent.{ActorEvent};
+ghost use Rattle.messages.specs.declared.event.ActorEvent.TheVariants.{Handle, Collect};
 ghost use Rattle.messages.specs.Clock.{ticked};
 ghost use Rattle.messages.specs.Topology.{TopologyValue, is_shard};
 ghost use Rattle.messages.specs.Shard.{ShardState, Decision, new_shard};
@@ -75,10 +75,10 @@ impl Shard {
         ensures ignored { (top : TopologyValue) (me : ℕ) (a : ShardState) → Represents top me self.old a → IsIgnored top me a envelope
             → IfErr result (λ r. r.fault ≡ fault.ClockSpent) }
         // in a run whose envelopes are honest, later ones included, it sends what is right, and goes on to the run's state
-        ensures right { (top : TopologyValue) (me : ℕ) (before after : List Event) → Represents top me self.old (shard_run top me before).state
+        ensures right { (top : TopologyValue) (me : ℕ) (before after : List ActorEvent) → Represents top me self.old (shard_run top me before).state
             → IsHonest (shard_run top me (before ++ Handle envelope ∷ after)).state (envelopes_handled (shard_run top me (before ++ Handle envelope ∷ after)))
             → OnOk result (SendsRight top me (shard_run top me (before ++ Handle envelope ∷ after)) outbox.old.sent outbox.new.sent) }
-        ensures leads { (top : TopologyValue) (me : ℕ) (before after : List Event) → Represents top me self.old (shard_run top me before).state
+        ensures leads { (top : TopologyValue) (me : ℕ) (before after : List ActorEvent) → Represents top me self.old (shard_run top me before).state
             → IsHonest (shard_run top me (before ++ Handle envelope ∷ after)).state (envelopes_handled (shard_run top me (before ++ Handle envelope ∷ after)))
             → OnOk result (Represents top me self.new (shard_run top me (before ++ Handle envelope ∷ [])).state) }
         ensures same { OnErr result (GoesOn self.old self.new) }
@@ -120,7 +120,7 @@ impl Shard {
             → OnOk result (IsStepOf top me (shard_collect a time) self.new [] []) }
         ensures refused { (top : TopologyValue) (me : ℕ) (a : ShardState) → Represents top me self.old a
             → IfErr result (λ e. shard_collect a time ≡ Err e) }
-        ensures leads { (top : TopologyValue) (me : ℕ) (before : List Event) → Represents top me self.old (shard_run top me before).state
+        ensures leads { (top : TopologyValue) (me : ℕ) (before : List ActorEvent) → Represents top me self.old (shard_run top me before).state
             → OnOk result (Represents top me self.new (shard_run top me (before ++ Collect time ∷ [])).state) }
         ensures spent { IfErr result (λ e. e ≡ fault.ClockSpent) }
         ensures same { OnErr result (self.new ≡ self.old) }

@@ -1,10 +1,10 @@
 -- Stamps stay apart along what a run has of its actors.
 use Rattle.std.proofs.Common.{◌≡◌, ◌∙◌, ℕ, ◌<◌, Bool, true, false, List, [], ◌∷◌, ◌++◌, Some, inl, inr, sym, ap, subst}
 use Rattle.std.specs.Prelude.{if◌then◌else◌}
-use Rattle.messages.specs.declared.event.Event.{Event as ActorEvent}
+use Rattle.messages.specs.declared.event.ActorEvent.{ActorEvent}
 use Rattle.messages.specs.Topology.{TopologyValue, is_shard}
 use Rattle.messages.specs.Actors.{OfShard, OfSession, Replayed, replay_of}
-use Rattle.world.specs.declared.run_event.RunEvent.{RunEvent as Event}
+use Rattle.world.specs.declared.run_event.RunEvent.{RunEvent}
 use Rattle.world.specs.Run.{run}
 use Rattle.world.specs.Journals.{actor_in, journal_in, held_in}
 use Rattle.world.proofs.safety.Runs.{every_run}
@@ -14,7 +14,7 @@ use Rattle.threaded.specs.Machines.{HasPartsApart, StaysApart}
 use Rattle.threaded.proofs.Lists.{begins_or_whole}
 
 -- each actor of a run has the stamps of its parts apart
-pub run_apart : (top : TopologyValue) (events : List Event) (node : ℕ) → 0 < top.shards → HasPartsApart (actor_in top (run top events) node)
+pub run_apart : (top : TopologyValue) (events : List RunEvent) (node : ℕ) → 0 < top.shards → HasPartsApart (actor_in top (run top events) node)
 run_apart top events node some = by (is_shard top node)
   where
     by : (b : Bool) → HasPartsApart (if b then OfShard ((run top events).shards node) else OfSession ((run top events).sessions node))
@@ -22,7 +22,7 @@ run_apart top events node some = by (is_shard top node)
     by false = tt
 
 -- one event more of a run leaves them apart
-pub apart_more : (top : TopologyValue) (events : List Event) (node : ℕ) (journal : List ActorEvent) (y : ActorEvent) → 0 < top.shards
+pub apart_more : (top : TopologyValue) (events : List RunEvent) (node : ℕ) (journal : List ActorEvent) (y : ActorEvent) → 0 < top.shards
     → journal_in (run top events) node ≡ journal ++ y ∷ [] → StaysApart top node journal → StaysApart top node (journal_in (run top events) node)
 apart_more top events node journal y some is apart before after r q replays =
     elim (begins_or_whole journal y before after (sym is ∙ q)) [

@@ -10,7 +10,7 @@ use Rattle.column_family.specs.declared.batch.Change.{Change}
 use Rattle.column_family.specs.declared.batch.Committed.{Committed}
 use Rattle.planner.specs.Plan.{coordinator_of}
 use Rattle.messages.specs.declared.op.Op.{Op}
-use Rattle.messages.specs.declared.event.Event.{Event}
+use Rattle.messages.specs.declared.event.ActorEvent.{ActorEvent}
 use Rattle.messages.specs.Home.{HomeValue}
 use Rattle.messages.specs.Topology.{TopologyValue, is_shard, shard_node, session_node}
 use Rattle.messages.specs.Shard.{ShardState, Decision}
@@ -96,7 +96,7 @@ Write = TxnValue × List Change
 abbrev numbered : ℕ → ℕ → Op → Option Write
 numbered node count o = option_map (λ (batch : List Change). (record { session = node; number = count + 1 }, batch)) (batch_in o)
 
-abbrev pub ops_of : List Event → List Op
+abbrev pub ops_of : List ActorEvent → List Op
 ops_of journal = filter_map op_in journal
 
 writes_more : (node count : ℕ) (os ps : List Op) → writes_from node count (os ++ ps) ≡ writes_from node count os ++ writes_from node (count + length os) ps
@@ -116,7 +116,7 @@ given_element {X} {Y} f (Some x) = go (f x)
     go (Some y) = refl
 
 -- there are no more operations than events
-pub few_ops : (journal : List Event) (k : ℕ) → length (ops_of (take k journal)) ≤ k
+pub few_ops : (journal : List ActorEvent) (k : ℕ) → length (ops_of (take k journal)) ≤ k
 few_ops journal zero = omega arith
 few_ops [] (suc k) = omega arith
 few_ops (e ∷ journal) (suc k) = by (op_in e) (few_ops journal k)
@@ -125,7 +125,7 @@ few_ops (e ∷ journal) (suc k) = by (op_in e) (few_ops journal k)
     by None le = omega arith
     by (Some o) le = omega arith
 
-module _ (journal : List Event) (k : ℕ) (e : Event) (at : slice_get journal k ≡ Some e) where
+module _ (journal : List ActorEvent) (k : ℕ) (e : ActorEvent) (at : slice_get journal k ≡ Some e) where
   ops_to : ops_of (take (k + 1) journal) ≡ ops_of (take k journal) ++ cons_option (op_in e) []
   ops_to =
       let one : k + 1 ≡ suc k = omega arith in
@@ -142,10 +142,10 @@ module _ (journal : List Event) (k : ℕ) (e : Event) (at : slice_get journal k 
       ap (λ n. n + 1) counted ∙ sym (ap (λ (l : List Op). length l) (one_op o some) ∙ length-append (ops_of (take k journal)) (o ∷ []))
 
 -- what is told of the writes among the first so many events
-abbrev pub told_to : (Write → Option Committed) → ℕ → List Event → ℕ → List Committed
+abbrev pub told_to : (Write → Option Committed) → ℕ → List ActorEvent → ℕ → List Committed
 told_to f session journal k = filter_map f (writes_by session (take k journal))
 
-pub told_more : (f : Write → Option Committed) (session : ℕ) (journal : List Event) (k count : ℕ) (e : Event) (o : Op) (start h g : List Committed) → slice_get journal k ≡ Some e → op_in e ≡ Some o → count ≡ length (ops_of (take k journal))
+pub told_more : (f : Write → Option Committed) (session : ℕ) (journal : List ActorEvent) (k count : ℕ) (e : ActorEvent) (o : Op) (start h g : List Committed) → slice_get journal k ≡ Some e → op_in e ≡ Some o → count ≡ length (ops_of (take k journal))
     → h ≡ start ++ told_to f session journal k
     → g ≡ h ++ option_to_list (option_and_then f (numbered session count o))
     → g ≡ start ++ told_to f session journal (k + 1)
@@ -212,7 +212,7 @@ are_asked top states home seats dc is below are replays =
     }
 
 -- one more session with a seat
-pub with_seat : (top : TopologyValue) (states : ℕ → ShardState) (home : HomeValue) (seats : List SeatValue) (dc n node place : ℕ) (s : SeatValue) (journal : List Event) (h g : List Committed)
+pub with_seat : (top : TopologyValue) (states : ℕ → ShardState) (home : HomeValue) (seats : List SeatValue) (dc n node place : ℕ) (s : SeatValue) (journal : List ActorEvent) (h g : List Committed)
     → home ≡ record { dc = dc; shards = top.shards } → node ≡ session_node top n → IsPlace seats node place → s ≡ slice_index_or seats place s → journal ≡ s.journal
     → h ≡ told_first top states seats dc n → g ≡ h ++ filter_map (entry_of top states home.dc) (writes_by node journal) → g ≡ told_first top states seats dc (n + 1)
 with_seat top states home seats dc n node place s journal h g at is p here same so_far more =

@@ -6,8 +6,8 @@ use Rattle.std.proofs.lemmas.Bool.{cases_lt, and_parts}
 use Rattle.std.proofs.lemmas.Option.{slice_get_within, slice_get_past, slice_get-get_or}
 use Rattle.std.proofs.lemmas.List.{length-append}
 use Rattle.messages.specs.declared.envelope.Envelope.{Envelope}
-use Rattle.messages.specs.declared.event.Event.{Event}
-use Rattle.messages.specs.declared.event.Event.TheVariants.{Submit, Handle, Collect}
+use Rattle.messages.specs.declared.event.ActorEvent.{ActorEvent}
+use Rattle.messages.specs.declared.event.ActorEvent.TheVariants.{Submit, Handle, Collect}
 use Rattle.messages.specs.Topology.{TopologyValue, node_count}
 use Rattle.messages.specs.Actors.{envelope_of}
 use Rattle.write_txn.proofs.Lists.{read_set}
@@ -41,7 +41,7 @@ counted_one received node from n is within at m here =
 pub none_counted : (count : ℕ) (received : List ℕ) → length received ≡ count → ((from n : ℕ) → slice_get received from ≡ Some n → n ≡ 0) → HaveCounted count [] received
 none_counted count received len none = record { len = len; each = λ from n at. sym (none from n at) }
 
-module _ (count : ℕ) (journal : List Event) (place : ℕ) (received : List ℕ) (so_far : HaveCounted count (take place journal) received) where
+module _ (count : ℕ) (journal : List ActorEvent) (place : ℕ) (received : List ℕ) (so_far : HaveCounted count (take place journal) received) where
   -- no count is above the number of events
   pub count_within : (from n : ℕ) → slice_get received from ≡ Some n → n ≤ place
   count_within from n at =
@@ -50,7 +50,7 @@ module _ (count : ℕ) (journal : List Event) (place : ℕ) (received : List ℕ
       let b = take_fewer place journal in
       omega (arith, is, a, b)
 
-  pub own_counted : (x : Event) → slice_get journal place ≡ Some x → envelope_of x ≡ None → HaveCounted count (take (place + 1) journal) received
+  pub own_counted : (x : ActorEvent) → slice_get journal place ≡ Some x → envelope_of x ≡ None → HaveCounted count (take (place + 1) journal) received
   own_counted x at own =
       let one : place + 1 ≡ suc place = omega arith in
       record {
@@ -62,7 +62,7 @@ module _ (count : ℕ) (journal : List Event) (place : ℕ) (received : List ℕ
             ap (λ (l : List Envelope). length l) same ∙ so_far.each from n there;
       }
     where
-      none : (from : ℕ) (x : Event) → envelope_of x ≡ None → receipt from x ≡ []
+      none : (from : ℕ) (x : ActorEvent) → envelope_of x ≡ None → receipt from x ≡ []
       none from (Submit o) own = refl
       none from (Collect time) own = refl
       none from (Handle e) own = absurd cc
@@ -106,7 +106,7 @@ module _ (count : ℕ) (journal : List Event) (place : ℕ) (received : List ℕ
       let z = get_there received e.from lt in
       subst (λ l. HaveCounted count (take (place + 1) journal) l) (sym (set z.0 z.1)) (receipt_counted e at z.0 z.1)
 
-pub all_counted : (count : ℕ) (journal : List Event) (place : ℕ) (received : List ℕ) → length journal ≤ place → HaveCounted count (take place journal) received
+pub all_counted : (count : ℕ) (journal : List ActorEvent) (place : ℕ) (received : List ℕ) → length journal ≤ place → HaveCounted count (take place journal) received
     → HaveCounted count journal received
 all_counted count journal place received end so_far = subst (λ l. HaveCounted count l received) (past place journal end) so_far
   where
@@ -186,7 +186,7 @@ pub all_whole : (seats : List SeatValue) (count from to : ℕ) (received : List 
 all_whole seats count from to received end are = (λ on k m below there. are k m (omega (arith, below, end)) there, λ also. refl)
 
 -- what was counted tells whether an actor received all
-pub served_if_whole : (count : ℕ) (seats : List SeatValue) (node to : ℕ) (seat : SeatValue) (journal : List Event) (received : List ℕ) (all : Bool) → to ≡ node
+pub served_if_whole : (count : ℕ) (seats : List SeatValue) (node to : ℕ) (seat : SeatValue) (journal : List ActorEvent) (received : List ℕ) (all : Bool) → to ≡ node
     → seat_of seats node ≡ Some seat → journal ≡ seat.journal → HaveCounted count journal received → (all ≡ true) ↔ AreWhollyReceived seats count to received
     → (all ≡ true) ↔ AreReceivedOf count seats node
 served_if_whole count seats node to seat journal received all is found its counted told = (

@@ -7,7 +7,7 @@ use Rattle.std.proofs.lemmas.List.{take_more, length-append}
 use Rattle.std.proofs.lemmas.List.Elements.{filter_map-append}
 use Rattle.std.proofs.lemmas.Option.{slice_get_within}
 use Rattle.messages.specs.declared.op.Op.{Op}
-use Rattle.messages.specs.declared.event.Event.{Event}
+use Rattle.messages.specs.declared.event.ActorEvent.{ActorEvent}
 use Rattle.messages.specs.Topology.{TopologyValue, session_node}
 use Rattle.actors.specs.Seats.{SeatValue}
 use Rattle.world.specs.declared.completed.Completed.{Completed}
@@ -59,7 +59,7 @@ none_past {X} xs n le = by (slice_get xs n) refl
 
 -- ## Numbers
 
-module _ (journal : List Event) (place : ℕ) (x : Event) (lt : place < length journal) (at : x ≡ slice_index_or journal place x) where
+module _ (journal : List ActorEvent) (place : ℕ) (x : ActorEvent) (lt : place < length journal) (at : x ≡ slice_index_or journal place x) where
   -- one operation more was passed
   pub one_more_passed : (o : Op) (passed : ℕ) → Some o ≡ op_in x → passed ≡ count_of (take place journal) → passed + 1 ≡ count_of (take (place + 1) journal)
   one_more_passed o passed is so_far =
@@ -81,7 +81,7 @@ module _ (journal : List Event) (place : ℕ) (x : Event) (lt : place < length j
       ap (op_numbered journal) (sym next ∙ one) ∙ ap (slice_get (filter_map op_in journal)) so_far ∙ given_at op_in journal place x o (item_at journal place x lt at) (sym is)
 
 -- past the end no number is an operation's
-pub not_found : (journal : List Event) (place passed number : ℕ) → length journal ≤ place → passed ≡ count_of (take place journal) → passed < number
+pub not_found : (journal : List ActorEvent) (place passed number : ℕ) → length journal ≤ place → passed ≡ count_of (take place journal) → passed < number
     → op_numbered journal number ≡ None
 not_found journal place passed zero le all lt = absurd (omega (arith, lt))
 not_found journal place passed (suc n) le all lt =

@@ -2,7 +2,7 @@
 use Rattle.std.proofs.Common.{◌≡◌, ◌∙◌, List, [], ◌∷◌, ◌++◌, ℕ, Option, Some, None, refl, sym, ap, subst}
 use Rattle.std.specs.Prelude.{option_map, option_and_then}
 use Rattle.std.proofs.lemmas.List.{append_assoc}
-use Rattle.messages.specs.declared.event.Event.{Event as ActorEvent}
+use Rattle.messages.specs.declared.event.ActorEvent.{ActorEvent}
 use Rattle.messages.specs.Topology.{TopologyValue}
 use Rattle.messages.specs.Actors.{ActorState, ActorStep, actor_step, Replayed, before_rest, replay}
 use Rattle.world.proofs.replays.Replays.{unfolds}

@@ -6,7 +6,7 @@ use Rattle.std.proofs.lemmas.List.{length-append}
 use Rattle.std.proofs.lemmas.Option.{slice_get_within, slice_get-get_or}
 use Rattle.logical_time.specs.declared.fault.Fault.{Fault}
 use Rattle.logical_time.specs.declared.fault.Fault.TheVariants.{StrangerEnd}
-use Rattle.messages.specs.declared.event.Event.{Event}
+use Rattle.messages.specs.declared.event.ActorEvent.{ActorEvent}
 use Rattle.messages.specs.Topology.{TopologyValue, is_topology, node_count}
 use Rattle.actors.specs.Seats.{SeatValue}
 use Rattle.world.proofs.lists.Replacing.{item_at}
@@ -159,7 +159,7 @@ abbrev pub DoFirstReceive : ℕ → List SeatValue → ℕ → Type 0
 DoFirstReceive count seats k = (to : ℕ) → to < k → DoesReceive count seats to (journal_of seats to)
 
 -- a journal that is looked at: of the seat at an actor's place
-module _ (count : ℕ) (seats : List SeatValue) (places : List ℕ) (node from to : ℕ) (seat : SeatValue) (journal : List Event) (are : ArePlaces count seats places) (lt : node < count)
+module _ (count : ℕ) (seats : List SeatValue) (places : List ℕ) (node from to : ℕ) (seat : SeatValue) (journal : List ActorEvent) (are : ArePlaces count seats places) (lt : node < count)
     (is : from ≡ node) (other : to ≡ node) (here : seat ≡ slice_index_or seats (slice_index_or places from 0) seat) (its : journal ≡ seat.journal) where
   journal_here : journal ≡ journal_of seats node
   journal_here =

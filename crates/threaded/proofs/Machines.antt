@@ -10,8 +10,8 @@ use Rattle.logical_time.specs.declared.fault.Fault.{Fault}
 use Rattle.messages.specs.declared.envelope.Envelope.{Envelope}
 use Rattle.messages.specs.declared.outcome.Outcome.{Outcome}
 use Rattle.messages.specs.declared.op.Op.{Op}
-use Rattle.messages.specs.declared.event.Event.{Event}
-use Rattle.messages.specs.declared.event.Event.TheVariants.{Submit, Handle, Collect}
+use Rattle.messages.specs.declared.event.ActorEvent.{ActorEvent}
+use Rattle.messages.specs.declared.event.ActorEvent.TheVariants.{Submit, Handle, Collect}
 use Rattle.messages.specs.Topology.{TopologyValue, shard_count, is_shard, node_count, home_of}
 use Rattle.messages.specs.Shard.{ShardState, ShardStep, new_shard}
 use Rattle.messages.specs.Session.{SessionState, SessionStep, new_session, is_idle}
@@ -36,7 +36,7 @@ use Rattle.threaded.proofs.Ending.{TookOutcome, unfinished, waits_heard, waits_s
 
 -- ## Sessions stay sessions
 
-session_stays : (top : TopologyValue) (me : ℕ) (a : SessionState) (x : Event) (s : ActorStep) → actor_step top me (OfSession a) x ≡ Some s
+session_stays : (top : TopologyValue) (me : ℕ) (a : SessionState) (x : ActorEvent) (s : ActorStep) → actor_step top me (OfSession a) x ≡ Some s
     → (b : SessionState) × (s.state ≡ OfSession b)
 session_stays top me a x s q = go x q
   where
@@ -44,12 +44,12 @@ session_stays top me a x s q = go x q
     by (Err e) h = absurd (cc)
     by (Ok st) h = let is : session_took st ≡ s = cc in (session_taken st.state, sym (ap (λ (z : ActorStep). z.state) is))
 
-    go : (x : Event) → actor_step top me (OfSession a) x ≡ Some s → (b : SessionState) × (s.state ≡ OfSession b)
+    go : (x : ActorEvent) → actor_step top me (OfSession a) x ≡ Some s → (b : SessionState) × (s.state ≡ OfSession b)
     go (Submit o) h = by (session_submit top me a o) h
     go (Handle e) h = by (session_handle top me a e) h
     go (Collect time) h = absurd (cc)
 
-sessions_stay : (top : TopologyValue) (me : ℕ) (xs : List Event) (a : SessionState) (r : Replayed) → replay top me (OfSession a) xs ≡ Some r
+sessions_stay : (top : TopologyValue) (me : ℕ) (xs : List ActorEvent) (a : SessionState) (r : Replayed) → replay top me (OfSession a) xs ≡ Some r
     → (b : SessionState) × (r.state ≡ OfSession b)
 sessions_stay top me [] a r h =
     let is : record { state = OfSession a; sent = []; finished = [] } ≡ r = cc in (a, sym (ap (λ (z : Replayed). z.state) is))
@@ -63,12 +63,12 @@ pub opens_session : (top : TopologyValue) (node : ℕ) → is_shard top node ≡
     → opening_actor top node ≡ OfSession (new_session (unwrap_or (home_of top node) 0))
 opens_session top node away = ap (λ b. if b then OfShard new_shard else OfSession (new_session (unwrap_or (home_of top node) 0))) away
 
-pub session_apart : (top : TopologyValue) (node : ℕ) (journal : List Event) → is_shard top node ≡ false → StaysApart top node journal
+pub session_apart : (top : TopologyValue) (node : ℕ) (journal : List ActorEvent) → is_shard top node ≡ false → StaysApart top node journal
 session_apart top node journal away before after r q h =
     let b = sessions_stay top node before (new_session (unwrap_or (home_of top node) 0)) r (ap (λ a. replay top node a before) (sym (opens_session top node away)) ∙ h) in
     subst (λ a. HasPartsApart a) (sym b.1) tt
 
-pub apart_before : (top : TopologyValue) (node : ℕ) (journal more : List Event) → StaysApart top node (journal ++ more) → StaysApart top node journal
+pub apart_before : (top : TopologyValue) (node : ℕ) (journal more : List ActorEvent) → StaysApart top node (journal ++ more) → StaysApart top node journal
 apart_before top node journal more apart before after r q h =
     apart before (after ++ more) r (ap (λ l. l ++ more) q ∙ append_assoc before after more) h
 
@@ -90,7 +90,7 @@ last_or_inner (z ∷ xs) x (w ∷ before) y after q =
     ]
 
 -- where stamps stay apart, the machine did the step of the state that it stood for
-pub record DidStep (top : TopologyValue) (node : ℕ) (x : Event) (new : Actor) (sent now : List Envelope) (a : ActorState) : Type 0 where
+pub record DidStep (top : TopologyValue) (node : ℕ) (x : ActorEvent) (new : Actor) (sent now : List Envelope) (a : ActorState) : Type 0 where
   pub step : ActorStep
   pub takes : actor_step top node a x ≡ Some step
   pub stands : HasPartsApart step.state → Stands top node new step.state
@@ -101,7 +101,7 @@ as_list : {X : Type 0} (o : Option X) → cons_option o [] ≡ option_to_list o
 as_list None = refl
 as_list (Some x) = refl
 
-module _ (top : TopologyValue) (node : ℕ) (journal : List Event) (before : ℕ → List Envelope) (outcomes : List (ℕ × Outcome)) (old new : Actor) (x : Event)
+module _ (top : TopologyValue) (node : ℕ) (journal : List ActorEvent) (before : ℕ → List Envelope) (outcomes : List (ℕ × Outcome)) (old new : Actor) (x : ActorEvent)
     (sent now : List Envelope) (came : CameFrom top node journal (followed_by before sent) outcomes old) (taken : untaken_of old ≡ None)
     (did : (a : ActorState) → Stands top node old a → DidStep top node x new sent now a) (waits : WaitsAsOpen new) where
   goes_on : (apart : StaysApart top node journal) → (r : Replayed) × (replay_of top node (journal ++ x ∷ []) ≡ Some r)
@@ -152,12 +152,12 @@ module _ (top : TopologyValue) (node : ℕ) (journal : List Event) (before : ℕ
         comes = comes_so;
       }
 
-submissions_more : (journal : List Event) (x : Event) → submissions (journal ++ x ∷ []) ≡ submissions journal + submissions (x ∷ [])
+submissions_more : (journal : List ActorEvent) (x : ActorEvent) → submissions (journal ++ x ∷ []) ≡ submissions journal + submissions (x ∷ [])
 submissions_more journal x = ap (λ l. length l) (filter_map-append op_in journal (x ∷ [])) ∙ length-append (filter_map op_in journal) (filter_map op_in (x ∷ []))
 
 -- ## Shards
 
-module _ (top : TopologyValue) (node : ℕ) (x : Event) (step : ShardState → Result ShardStep Fault)
+module _ (top : TopologyValue) (node : ℕ) (x : ActorEvent) (step : ShardState → Result ShardStep Fault)
     (same : (a : ShardState) → actor_step top node (OfShard a) x ≡ of_shard (step a)) (k l : ShardKept) (sent now : List Envelope)
     (does : (a : ShardState) → shard.Represents top node k a → shard.IsStepOf top node (step a) l sent now) where
   shard_did : (a : ActorState) → Stands top node (actor.Shard k) a → DidStep top node x (actor.Shard l) sent now a
@@ -175,7 +175,7 @@ module _ (top : TopologyValue) (node : ℕ) (x : Event) (step : ShardState → R
             finishes = refl;
           }
 
-  shard_came : op_in x ≡ None → (journal : List Event) (before : ℕ → List Envelope) (outcomes : List (ℕ × Outcome))
+  shard_came : op_in x ≡ None → (journal : List ActorEvent) (before : ℕ → List Envelope) (outcomes : List (ℕ × Outcome))
       → CameFrom top node journal (followed_by before sent) outcomes (actor.Shard k)
       → CameFrom top node (journal ++ x ∷ []) (followed_by before now) outcomes (actor.Shard l)
   shard_came none journal before outcomes came =
@@ -186,7 +186,7 @@ module _ (top : TopologyValue) (node : ℕ) (x : Event) (step : ShardState → R
 
 pub shard_handled : (e : Envelope) (k l : ShardKept) (sent now : List Envelope)
     → ((top : TopologyValue) (me : ℕ) (a : ShardState) → shard.Represents top me k a → shard.IsStepOf top me (shard_handle top me a e) l sent now)
-    → (top : TopologyValue) (node : ℕ) (journal : List Event) (before : ℕ → List Envelope) (outcomes : List (ℕ × Outcome))
+    → (top : TopologyValue) (node : ℕ) (journal : List ActorEvent) (before : ℕ → List Envelope) (outcomes : List (ℕ × Outcome))
     → CameFrom top node journal (followed_by before sent) outcomes (actor.Shard k)
     → CameFrom top node (journal ++ Handle e ∷ []) (followed_by before now) outcomes (actor.Shard l)
 shard_handled e k l sent now does top node journal before outcomes came =
@@ -198,7 +198,7 @@ kept_sends xs sends q = sym (append-nil xs) ∙ ap (λ l. xs ++ l) q
 
 pub shard_collected : (time : ℕ) (k l : ShardKept) (sent : List Envelope)
     → ((top : TopologyValue) (me : ℕ) (a : ShardState) → shard.Represents top me k a → shard.IsStepOf top me (shard_collect a time) l [] [])
-    → (top : TopologyValue) (node : ℕ) (journal : List Event) (before : ℕ → List Envelope) (outcomes : List (ℕ × Outcome))
+    → (top : TopologyValue) (node : ℕ) (journal : List ActorEvent) (before : ℕ → List Envelope) (outcomes : List (ℕ × Outcome))
     → CameFrom top node journal (followed_by before sent) outcomes (actor.Shard k)
     → CameFrom top node (journal ++ Collect time ∷ []) (followed_by before sent) outcomes (actor.Shard l)
 shard_collected time k l sent does top node journal before outcomes came =
@@ -210,7 +210,7 @@ shard_collected time k l sent does top node journal before outcomes came =
     go (Ok s) h = λ apart. record { state = (h apart).state; sends = kept_sends sent s.sends (h apart).sends }
 
 pub shard_still : (k l : ShardKept) → shard.GoesOn k l
-    → (top : TopologyValue) (node : ℕ) (journal : List Event) (sent : ℕ → List Envelope) (outcomes : List (ℕ × Outcome))
+    → (top : TopologyValue) (node : ℕ) (journal : List ActorEvent) (sent : ℕ → List Envelope) (outcomes : List (ℕ × Outcome))
     → CameFrom top node journal sent outcomes (actor.Shard k) → CameFrom top node journal sent outcomes (actor.Shard l)
 shard_still k l still top node journal sent outcomes came =
     record {
@@ -252,14 +252,14 @@ shard_opens top node k is represents =
       };
     }
   where
-    none : (before : List Event) (x : Event) (after : List Event) → [] ≡ before ++ x ∷ after → StaysApart top node before
+    none : (before : List ActorEvent) (x : ActorEvent) (after : List ActorEvent) → [] ≡ before ++ x ∷ after → StaysApart top node before
         → (r : Replayed) × (replay_of top node (before ++ x ∷ []) ≡ Some r)
     none [] x after q = absurd (cc)
     none (y ∷ before) x after q = absurd (cc)
 
 -- ## Sessions
 
-module _ (top : TopologyValue) (node : ℕ) (x : Event) (step : ℕ → SessionState → Result SessionStep Fault)
+module _ (top : TopologyValue) (node : ℕ) (x : ActorEvent) (step : ℕ → SessionState → Result SessionStep Fault)
     (same : (a : SessionState) → actor_step top node (OfSession a) x ≡ of_session (step node a)) (k l m : SessionKept) (w v : Bool)
     (ended : Option (ℕ × Outcome)) (sent now : List Envelope)
     (does : (a : SessionState) → session.Represents k top a → session.IsStepOf (step k.node a) top l sent now)
@@ -303,7 +303,7 @@ module _ (top : TopologyValue) (node : ℕ) (x : Event) (step : ℕ → SessionS
       go (Err e) q h = absurd h
       go (Ok s) q h = waits a s tied q stands.1.state h.state.state
 
-  pub session_came : (journal : List Event) (before : ℕ → List Envelope) (outcomes : List (ℕ × Outcome))
+  pub session_came : (journal : List ActorEvent) (before : ℕ → List Envelope) (outcomes : List (ℕ × Outcome))
       → CameFrom top node journal (followed_by before sent) outcomes (actor.Session k w None)
       → CameFrom top node (journal ++ x ∷ []) (followed_by before now) outcomes (actor.Session m v ended)
   session_came journal before outcomes came =
@@ -324,7 +324,7 @@ node_taken l m took = ap (λ (z : SessionKept). z.node) took.kept
 pub session_heard : (e : Envelope) (k l m : SessionKept) (w v : Bool) (none ended : Option (ℕ × Outcome)) (sent now : List Envelope)
     → ((top : TopologyValue) (a : SessionState) → session.Represents k top a → session.IsStepOf (session_handle top k.node a e) top l sent now)
     → l.node ≡ k.node → IsTaken l m → TookOutcome l m w v ended → none ≡ None
-    → (top : TopologyValue) (node : ℕ) (journal : List Event) (before : ℕ → List Envelope) (outcomes : List (ℕ × Outcome))
+    → (top : TopologyValue) (node : ℕ) (journal : List ActorEvent) (before : ℕ → List Envelope) (outcomes : List (ℕ × Outcome))
     → CameFrom top node journal (followed_by before sent) outcomes (actor.Session k w none)
     → CameFrom top node (journal ++ Handle e ∷ []) (followed_by before now) outcomes (actor.Session m v ended)
 session_heard e k l m w v none ended sent now does stays taken took is top node journal before outcomes came =
@@ -334,7 +334,7 @@ session_heard e k l m w v none ended sent now does stays taken took is top node 
 pub session_submitted : (o : Op) (k l m : SessionKept) (w v : Bool) (none ended : Option (ℕ × Outcome)) (sent now : List Envelope)
     → ((top : TopologyValue) (a : SessionState) → session.Represents k top a → session.IsStepOf (session_submit top k.node a o) top l sent now)
     → l.node ≡ k.node → IsTaken l m → TookOutcome l m true v ended → none ≡ None
-    → (top : TopologyValue) (node : ℕ) (journal : List Event) (before : ℕ → List Envelope) (outcomes : List (ℕ × Outcome))
+    → (top : TopologyValue) (node : ℕ) (journal : List ActorEvent) (before : ℕ → List Envelope) (outcomes : List (ℕ × Outcome))
     → CameFrom top node journal (followed_by before sent) outcomes (actor.Session k w none)
     → CameFrom top node (journal ++ Submit o ∷ []) (followed_by before now) outcomes (actor.Session m v ended)
 session_submitted o k l m w v none ended sent now does stays taken took is top node journal before outcomes came =
@@ -342,7 +342,7 @@ session_submitted o k l m w v none ended sent now does stays taken took is top n
     (λ a s tied q was. waits_submitted o top node l m v ended took a s q) journal before outcomes (subst (λ z. CameFrom top node journal (followed_by before sent) outcomes (actor.Session k w z)) is came)
 
 -- a session's outcome is taken
-pub outcome_taken : (k : SessionKept) (w : Bool) (ended : Option (ℕ × Outcome)) (top : TopologyValue) (node : ℕ) (journal : List Event)
+pub outcome_taken : (k : SessionKept) (w : Bool) (ended : Option (ℕ × Outcome)) (top : TopologyValue) (node : ℕ) (journal : List ActorEvent)
     (sent : ℕ → List Envelope) (outcomes : List (ℕ × Outcome)) → CameFrom top node journal sent outcomes (actor.Session k w ended)
     → CameFrom top node journal sent (outcomes ++ option_to_list ended) (actor.Session k w None)
 outcome_taken k w ended top node journal sent outcomes came =
@@ -370,7 +370,7 @@ outcome_taken k w ended top node journal sent outcomes came =
     told None = refl
     told (Some p) = refl
 
-pub nothing_taken : (k : ShardKept) (top : TopologyValue) (node : ℕ) (journal : List Event) (sent : ℕ → List Envelope) (outcomes : List (ℕ × Outcome))
+pub nothing_taken : (k : ShardKept) (top : TopologyValue) (node : ℕ) (journal : List ActorEvent) (sent : ℕ → List Envelope) (outcomes : List (ℕ × Outcome))
     → CameFrom top node journal sent outcomes (actor.Shard k) → CameFrom top node journal sent (outcomes ++ []) (actor.Shard k)
 nothing_taken k top node journal sent outcomes came = subst (λ l. CameFrom top node journal sent l (actor.Shard k)) (sym (append-nil outcomes)) came
 
@@ -406,7 +406,7 @@ session_opens top node k away own represents home is =
       };
     }
   where
-    none : (before : List Event) (x : Event) (after : List Event) → [] ≡ before ++ x ∷ after → StaysApart top node before
+    none : (before : List ActorEvent) (x : ActorEvent) (after : List ActorEvent) → [] ≡ before ++ x ∷ after → StaysApart top node before
         → (r : Replayed) × (replay_of top node (before ++ x ∷ []) ≡ Some r)
     none [] x after q = absurd (cc)
     none (y ∷ before) x after q = absurd (cc)

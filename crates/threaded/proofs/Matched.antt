@@ -5,8 +5,8 @@ use Rattle.std.proofs.lemmas.Bool.Decides.{nat_tests}
 use Rattle.std.proofs.lemmas.Option.{slice_get_within, slice_get-get_or}
 use Rattle.std.proofs.lemmas.List.{length-append, take-append-drop}
 use Rattle.messages.specs.declared.envelope.Envelope.{Envelope}
-use Rattle.messages.specs.declared.event.Event.{Event}
-use Rattle.messages.specs.declared.event.Event.TheVariants.{Submit, Handle, Collect}
+use Rattle.messages.specs.declared.event.ActorEvent.{ActorEvent}
+use Rattle.messages.specs.declared.event.ActorEvent.TheVariants.{Submit, Handle, Collect}
 use Rattle.messages.specs.Actors.{envelope_of}
 use Rattle.write_txn.proofs.Lists.{read_set}
 use Rattle.world.proofs.in_code.Running.{length_set}
@@ -21,10 +21,10 @@ use Rattle.threaded.proofs.Lists.{take_one_more}
 -- ## Receipts
 
 -- what an event receives from a node
-abbrev pub receipt : ℕ → Event → List Envelope
+abbrev pub receipt : ℕ → ActorEvent → List Envelope
 receipt from x = receipts_from from (x ∷ [])
 
-receipts_then : (from : ℕ) (xs ys : List Event) → receipts_from from (xs ++ ys) ≡ receipts_from from xs ++ receipts_from from ys
+receipts_then : (from : ℕ) (xs ys : List ActorEvent) → receipts_from from (xs ++ ys) ≡ receipts_from from xs ++ receipts_from from ys
 receipts_then from [] ys = refl
 receipts_then from (Submit o ∷ xs) ys = receipts_then from xs ys
 receipts_then from (Collect time ∷ xs) ys = receipts_then from xs ys
@@ -41,12 +41,12 @@ receipt_here from e is = ap (λ b. cond b (e ∷ []) []) (eq-eqb e.from from is)
 pub receipt_elsewhere : (from : ℕ) (e : Envelope) → (e.from == from) ≡ false → receipt from (Handle e) ≡ []
 receipt_elsewhere from e apart = ap (λ b. cond b (e ∷ []) []) apart
 
-pub one_more : (from : ℕ) (journal : List Event) (place : ℕ) (x : Event) → slice_get journal place ≡ Some x
+pub one_more : (from : ℕ) (journal : List ActorEvent) (place : ℕ) (x : ActorEvent) → slice_get journal place ≡ Some x
     → receipts_from from (take (suc place) journal) ≡ receipts_from from (take place journal) ++ receipt from x
 one_more from journal place x at = ap (receipts_from from) (take_one_more journal place x at) ∙ receipts_then from (take place journal) (x ∷ [])
 
 -- there are no more receipts than events
-pub receipts_fewer : (from : ℕ) (xs : List Event) → length (receipts_from from xs) ≤ length xs
+pub receipts_fewer : (from : ℕ) (xs : List ActorEvent) → length (receipts_from from xs) ≤ length xs
 receipts_fewer from [] = omega arith
 receipts_fewer from (Submit o ∷ xs) = let rest = receipts_fewer from xs in omega arith
 receipts_fewer from (Collect time ∷ xs) = let rest = receipts_fewer from xs in omega arith
@@ -70,7 +70,7 @@ one_more_none [] count none (suc from) n at = absurd cc
 one_more_none (m ∷ received) count none zero n at = none 0 n at
 one_more_none (m ∷ received) count none (suc from) n at = one_more_none received count (λ k j there. none (suc k) j there) from n at
 
-module _ (count : ℕ) (seats : List SeatValue) (to : ℕ) (journal : List Event) (place : ℕ) (received : List ℕ) (so_far : HaveReceived count seats to (take place journal) received) where
+module _ (count : ℕ) (seats : List SeatValue) (to : ℕ) (journal : List ActorEvent) (place : ℕ) (received : List ℕ) (so_far : HaveReceived count seats to (take place journal) received) where
   -- no count is above the number of events
   pub within_place : (from n : ℕ) → slice_get received from ≡ Some n → n ≤ place
   within_place from n at =
@@ -80,7 +80,7 @@ module _ (count : ℕ) (seats : List SeatValue) (to : ℕ) (journal : List Event
       let len = r.1 in
       omega arith
 
-  pub own_event : (x : Event) → slice_get journal place ≡ Some x → envelope_of x ≡ None → HaveReceived count seats to (take (place + 1) journal) received
+  pub own_event : (x : ActorEvent) → slice_get journal place ≡ Some x → envelope_of x ≡ None → HaveReceived count seats to (take (place + 1) journal) received
   own_event x at own =
       let one : place + 1 ≡ suc place = omega arith in
       record {
@@ -93,7 +93,7 @@ module _ (count : ℕ) (seats : List SeatValue) (to : ℕ) (journal : List Event
             (same ∙ r.0, ap (λ (l : List Envelope). length l) same ∙ r.1);
       }
     where
-      none : (from : ℕ) (x : Event) → envelope_of x ≡ None → receipt from x ≡ []
+      none : (from : ℕ) (x : ActorEvent) → envelope_of x ≡ None → receipt from x ≡ []
       none from (Submit o) own = refl
       none from (Collect time) own = refl
       none from (Handle e) own = absurd cc
@@ -159,7 +159,7 @@ module _ (count : ℕ) (seats : List SeatValue) (to : ℕ) (journal : List Event
         at_end [] x ys zs = refl
         at_end (y ∷ xs) x ys zs = at_end xs x ys zs
 
-pub all_received : (count : ℕ) (seats : List SeatValue) (to : ℕ) (journal : List Event) (place : ℕ) (received : List ℕ) → length journal ≤ place
+pub all_received : (count : ℕ) (seats : List SeatValue) (to : ℕ) (journal : List ActorEvent) (place : ℕ) (received : List ℕ) → length journal ≤ place
     → HaveReceived count seats to (take place journal) received → DoesReceive count seats to journal
 all_received count seats to journal place received end so_far from lt =
     let n = get_there received from (subst (λ k. from < k) (sym so_far.len) lt) in

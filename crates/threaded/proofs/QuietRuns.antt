@@ -7,15 +7,15 @@ use Rattle.std.proofs.lemmas.Bool.Decides.{nat_tests}
 use Rattle.std.proofs.lemmas.List.{length-append}
 use Rattle.std.proofs.lemmas.Option.{slice_get_within}
 use Rattle.messages.specs.declared.envelope.Envelope.{Envelope}
-use Rattle.messages.specs.declared.event.Event.{Event as ActorEvent}
-use Rattle.messages.specs.declared.event.Event.TheVariants.{Submit as SubmitHere, Handle, Collect as CollectHere}
+use Rattle.messages.specs.declared.event.ActorEvent.{ActorEvent}
+use Rattle.messages.specs.declared.event.ActorEvent.TheVariants.{Submit as SubmitHere, Handle, Collect as CollectHere}
 use Rattle.messages.specs.Topology.{TopologyValue, is_shard, node_count}
 use Rattle.messages.specs.Session.{is_idle}
 use Rattle.messages.specs.Actors.{OfShard, OfSession, sent_in, sent_by}
 use Rattle.store.proofs.lists.Lists.{given, given_only}
 use Rattle.actors.specs.Journals.{receipts_from, sends_to}
 use Rattle.actors.specs.Seats.{SeatValue}
-use Rattle.world.specs.declared.run_event.RunEvent.{RunEvent as Event}
+use Rattle.world.specs.declared.run_event.RunEvent.{RunEvent}
 use Rattle.world.specs.declared.run_event.RunEvent.TheVariants.{Submit, Deliver, Collect}
 use Rattle.world.specs.Run.{Run, run}
 use Rattle.world.specs.Journals.{event_at, IsRunOf}
@@ -78,13 +78,13 @@ rank_of from to None r = None
 rank_of from to (Some e) r = if is_on from to e then Some r else None
 
 -- the rank of what an event delivers, if that goes on a link
-abbrev hit : Run → ℕ → ℕ → Event → Option ℕ
+abbrev hit : Run → ℕ → ℕ → RunEvent → Option ℕ
 hit w from to (Submit session o) = None
 hit w from to (Deliver k) = rank_of from to (slice_get w.sent k) (rank (is_on from to) w.sent k)
 hit w from to (Collect shard time) = None
 
 -- there are as many as receipts
-as_many : (w : Run) (from to : ℕ) (evs : List Event) → length (filter_map (hit w from to) evs) ≡ length (receipts_from from (filter_map (event_at w to) evs))
+as_many : (w : Run) (from to : ℕ) (evs : List RunEvent) → length (filter_map (hit w from to) evs) ≡ length (receipts_from from (filter_map (event_at w to) evs))
 as_many w from to [] = refl
 as_many w from to (Submit session o ∷ evs) = by (session == to) (as_many w from to evs)
   where
@@ -127,7 +127,7 @@ as_many w from to (Deliver k ∷ evs) = by (slice_get w.sent k) (rank (is_on fro
     by None r rest = rest
     by (Some e) r rest = both e r (e.to == to) rest
 
-is_delivery : (x : Event) (k : ℕ) → number_delivered x ≡ Some k → x ≡ Deliver k
+is_delivery : (x : RunEvent) (k : ℕ) → number_delivered x ≡ Some k → x ≡ Deliver k
 is_delivery (Submit session o) k is = absurd (cc)
 is_delivery (Collect shard time) k is = absurd (cc)
 is_delivery (Deliver j) k is = let same : j ≡ k = cc in ap Deliver same
@@ -155,7 +155,7 @@ quiet_received top w quiet from to f t =
 
 module _ (top : TopologyValue) (seats : List SeatValue) (c : AreConcluded top seats) where
   -- what a link of a run has is what the sender's journal sent there
-  module _ (events : List Event) (is : IsRunOf top (journal_of seats) events) where
+  module _ (events : List RunEvent) (is : IsRunOf top (journal_of seats) events) where
     link_here : (from to : ℕ) → from < node_count top → sends_to to (sent_by top from (journal_of seats from)) ≡ on_link from to (run top events).sent
     link_here from to lt = ap (λ o. sends_to to (sent_in o)) (leads top seats c.are events is from lt) ∙ link_is from to (run top events).sent
 

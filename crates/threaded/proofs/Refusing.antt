@@ -6,8 +6,8 @@ use Rattle.logical_time.specs.declared.fault.Fault.TheVariants.{EmptyBatch, Unkn
 use Rattle.messages.specs.declared.envelope.Envelope.{Envelope}
 use Rattle.messages.specs.declared.outcome.Outcome.{Outcome}
 use Rattle.messages.specs.declared.op.Op.{Op}
-use Rattle.messages.specs.declared.event.Event.{Event}
-use Rattle.messages.specs.declared.event.Event.TheVariants.{Submit, Handle, Collect}
+use Rattle.messages.specs.declared.event.ActorEvent.{ActorEvent}
+use Rattle.messages.specs.declared.event.ActorEvent.TheVariants.{Submit, Handle, Collect}
 use Rattle.messages.specs.Topology.{TopologyValue, is_shard}
 use Rattle.messages.specs.Shard.{ShardState, ShardStep}
 use Rattle.messages.specs.Session.{SessionState, SessionStep}
@@ -59,8 +59,8 @@ session_fault : (r : Result SessionStep Fault) (e : Fault) → (e ≡ Memory →
 session_fault (Ok s) e other memory = absurd (other memory)
 session_fault (Err f) e other is = ap Some (sym is)
 
-module _ (top : TopologyValue) (node : ℕ) (journal : List Event) (sent : ℕ → List Envelope) (outcomes : List (ℕ × Outcome)) (machine : Actor)
-    (came : CameFrom top node journal sent outcomes machine) (x : Event) (e : Fault) where
+module _ (top : TopologyValue) (node : ℕ) (journal : List ActorEvent) (sent : ℕ → List Envelope) (outcomes : List (ℕ × Outcome)) (machine : Actor)
+    (came : CameFrom top node journal sent outcomes machine) (x : ActorEvent) (e : Fault) where
   -- the state for which the machine stands refuses the event so
   refused_as : (is_strange top node x ≡ true → e ≡ StrangerEnd) → ((a : ActorState) → Stands top node machine a → refusal_at top node a x ≡ Some e) → Refuses top node journal x e
   refused_as stranger refused = record {
@@ -77,7 +77,7 @@ module _ (top : TopologyValue) (node : ℕ) (journal : List Event) (sent : ℕ �
 
 -- ## Shards
 
-module _ (k : ShardKept) (top : TopologyValue) (node : ℕ) (journal : List Event) (sent : ℕ → List Envelope) (outcomes : List (ℕ × Outcome))
+module _ (k : ShardKept) (top : TopologyValue) (node : ℕ) (journal : List ActorEvent) (sent : ℕ → List Envelope) (outcomes : List (ℕ × Outcome))
     (came : CameFrom top node journal sent outcomes (actor.Shard k)) where
   pub shard_handle_refused : (f : Envelope) (e : Fault) → ((a : ShardState) → shard.Represents top node k a → shard.IsRefusalOf (shard_handle top node a f) e)
       → (e ≡ Memory) ⊎ Refuses top node journal (Handle f) e
@@ -108,7 +108,7 @@ module _ (k : ShardKept) (top : TopologyValue) (node : ℕ) (journal : List Even
 
 -- ## Sessions
 
-module _ (k : SessionKept) (w : Bool) (ended : Option (ℕ × Outcome)) (top : TopologyValue) (node : ℕ) (journal : List Event) (sent : ℕ → List Envelope)
+module _ (k : SessionKept) (w : Bool) (ended : Option (ℕ × Outcome)) (top : TopologyValue) (node : ℕ) (journal : List ActorEvent) (sent : ℕ → List Envelope)
     (outcomes : List (ℕ × Outcome)) (came : CameFrom top node journal sent outcomes (actor.Session k w ended)) where
   pub session_handle_refused : (f : Envelope) (e : Fault) → ((a : SessionState) → session.Represents k top a → session.IsRefusalOf (session_handle top k.node a f) e)
       → (e ≡ Memory) ⊎ Refuses top node journal (Handle f) e

@@ -7,8 +7,8 @@ use Rattle.std.proofs.lemmas.Bool.Decides.{nat_tests}
 use Rattle.std.proofs.lemmas.List.{length-append, append_assoc, take-append-le}
 use Rattle.std.proofs.lemmas.List.Elements.{filter-append, filter_map-append}
 use Rattle.messages.specs.declared.envelope.Envelope.{Envelope}
-use Rattle.messages.specs.declared.event.Event.{Event as ActorEvent}
-use Rattle.messages.specs.declared.event.Event.TheVariants.{Submit as SubmitHere, Handle, Collect as CollectHere}
+use Rattle.messages.specs.declared.event.ActorEvent.{ActorEvent}
+use Rattle.messages.specs.declared.event.ActorEvent.TheVariants.{Submit as SubmitHere, Handle, Collect as CollectHere}
 use Rattle.messages.specs.Topology.{TopologyValue, is_topology, is_shard, is_session, node_count}
 use Rattle.messages.specs.Shard.{ShardStep}
 use Rattle.messages.specs.Session.{SessionStep}
@@ -19,7 +19,7 @@ use Rattle.logical_time.specs.declared.fault.Fault.{Fault}
 use Rattle.store.proofs.lists.Lists.{given}
 use Rattle.world.specs.Quiet.{number_delivered, IsQuiet}
 use Rattle.world.specs.Refusals.{IsRun}
-use Rattle.world.specs.declared.run_event.RunEvent.{RunEvent as Event}
+use Rattle.world.specs.declared.run_event.RunEvent.{RunEvent}
 use Rattle.world.specs.declared.run_event.RunEvent.TheVariants.{Deliver}
 use Rattle.world.specs.Run.{Run, opening, after_shard, after_session, deliver_if, deliver_for, step, run}
 use Rattle.world.specs.Journals.{actor_in, journal_in, sent_from, held_in}
@@ -39,7 +39,7 @@ use Rattle.actors.specs.Journals.{receipts_from, from_node, sends_to, IsBeginnin
 use Rattle.threaded.proofs.Going.{replay_continues}
 use Rattle.threaded.proofs.Linked.{rank, rank_below, same_rank, rank_past, no_fewer, there_at, is_on, on_link, link_is, on_itself, on_its_link}
 
-more_is_step : (top : TopologyValue) (events : List Event) (x : Event) → run top (events ++ x ∷ []) ≡ step top (run top events) x
+more_is_step : (top : TopologyValue) (events : List RunEvent) (x : RunEvent) → run top (events ++ x ∷ []) ≡ step top (run top events) x
 more_is_step top events x = run_after top (opening top) events (x ∷ [])
 
 -- ## How many were received
@@ -91,7 +91,7 @@ added_here from n to x here = by (n == to) refl
     by true q = of x refl q
     by false q = off x refl q
 
-got_now : {top : TopologyValue} {w v : Run} {ev : Event} {n : ℕ} {x : ActorEvent} {s : ActorStep} → Moves top w v ev n x s → AreKnown w → (from to : ℕ)
+got_now : {top : TopologyValue} {w v : Run} {ev : RunEvent} {n : ℕ} {x : ActorEvent} {s : ActorStep} → Moves top w v ev n x s → AreKnown w → (from to : ℕ)
     → got v from to ≡ got w from to + added from to (envelope_of x)
 got_now {top} {w} {v} {ev} {n} {x} f known from to =
     ap (λ l. length (receipts_from from l)) (journal_later f known to)
@@ -146,7 +146,7 @@ module _ (top : TopologyValue) (w : Run) (k : ℕ) (e : Envelope) (s : ActorStep
 
 -- The run of some events has the actors, the messages and the journals of another; and of each link the first messages were
 -- delivered, as many as were received.
-pub record GoesLike (top : TopologyValue) (w : Run) (mine : List Event) : Type 0 where
+pub record GoesLike (top : TopologyValue) (w : Run) (mine : List RunEvent) : Type 0 where
   pub kept : (run top mine).events ≡ mine
   pub actors : (m : ℕ) → actor_in top (run top mine) m ≡ actor_in top w m
   pub sent : (run top mine).sent ≡ w.sent
@@ -160,7 +160,7 @@ pub record IsNextSent (sent : List Envelope) (e : Envelope) (count k : ℕ) : Ty
   pub at : slice_get sent k ≡ Some e
   pub ranks : rank (is_on e.from e.to) sent k ≡ count
 
-module _ (top : TopologyValue) (some : 0 < top.shards) (done mine : List Event) (g : GoesLike top (run top done) mine) where
+module _ (top : TopologyValue) (some : 0 < top.shards) (done mine : List RunEvent) (g : GoesLike top (run top done) mine) where
   abbrev w : Run
   w = run top done
 
@@ -173,7 +173,7 @@ module _ (top : TopologyValue) (some : 0 < top.shards) (done mine : List Event) 
   known_too : AreKnown v
   known_too = (run_journals top mine some).known
 
-  module _ (u : Run) (ev own : Event) (n : ℕ) (x : ActorEvent) (s : ActorStep) (f : Moves top w u ev n x s)
+  module _ (u : Run) (ev own : RunEvent) (n : ℕ) (x : ActorEvent) (s : ActorStep) (f : Moves top w u ev n x s)
       (h : Moves top v (step top v own) own n x s) (picks : (e : Envelope) → x ≡ Handle e → (k : ℕ) × (own ≡ Deliver k) × IsNextSent w.sent e (got w e.from e.to) k) where
     next_run : run top (mine ++ own ∷ []) ≡ step top v own
     next_run = more_is_step top mine own
@@ -299,7 +299,7 @@ abbrev pub DoBegin : TopologyValue → Run → Type 0
 DoBegin top w = (from to : ℕ) → from < node_count top → to < node_count top → IsBeginning (receipts_from from (journal_in w to)) (on_link from to w.sent)
 
 -- a journal only grows
-journal_grows : (top : TopologyValue) (some : 0 < top.shards) (rest done : List Event) (m : ℕ)
+journal_grows : (top : TopologyValue) (some : 0 < top.shards) (rest done : List RunEvent) (m : ℕ)
     → (left : List ActorEvent) × (journal_in (run top (done ++ rest)) m ≡ journal_in (run top done) m ++ left)
 journal_grows top some [] done m = ([], ap (λ l. journal_in (run top l) m) (append-nil done) ∙ sym (append-nil (journal_in (run top done) m)))
 journal_grows top some (ev ∷ rest) done m =
@@ -317,9 +317,9 @@ journal_grows top some (ev ∷ rest) done m =
       ap (λ w. journal_in w m) (more_is_step top done ev) ∙ journal_later f ((run_journals top done some).known) m,
     )
 
-module _ (top : TopologyValue) (some : 0 < top.shards) (events : List Event) (begins : DoBegin top (run top events)) where
+module _ (top : TopologyValue) (some : 0 < top.shards) (events : List RunEvent) (begins : DoBegin top (run top events)) where
   -- the next receipt of an actor is the next message of its link
-  module _ (done rest mine : List Event) (split : events ≡ done ++ rest) (g : GoesLike top (run top done) mine) where
+  module _ (done rest mine : List RunEvent) (split : events ≡ done ++ rest) (g : GoesLike top (run top done) mine) where
     -- what an actor sends later is later than all that it sent
     sent_later : (from : ℕ) → (later : List Envelope) × (sent_from (run top events) from ≡ sent_from (run top done) from ++ later)
         × ((e : Envelope) → Among e later → clock_of (actor_in top (run top done) from) < e.time)
@@ -382,8 +382,8 @@ module _ (top : TopologyValue) (some : 0 < top.shards) (events : List Event) (be
             absurd (omega (arith, above, before))
 
   -- one event more
-  next_goes : (done rest mine : List Event) (ev : Event) → events ≡ done ++ ev ∷ rest → GoesLike top (run top done) mine
-      → (own : List Event) × GoesLike top (run top (done ++ ev ∷ [])) own
+  next_goes : (done rest mine : List RunEvent) (ev : RunEvent) → events ≡ done ++ ev ∷ rest → GoesLike top (run top done) mine
+      → (own : List RunEvent) × GoesLike top (run top (done ++ ev ∷ [])) own
   next_goes done rest mine ev split g = by (each_is_move top (run top done) ev)
     where
       w : Run
@@ -395,15 +395,15 @@ module _ (top : TopologyValue) (some : 0 < top.shards) (events : List Event) (be
       one : run top (done ++ ev ∷ []) ≡ step top w ev
       one = more_is_step top done ev
 
-      moved : (n : ℕ) (x : ActorEvent) (s : ActorStep) → Moves top w (run top (done ++ ev ∷ [])) ev n x s → (own : List Event) × GoesLike top (run top (done ++ ev ∷ [])) own
+      moved : (n : ℕ) (x : ActorEvent) (s : ActorStep) → Moves top w (run top (done ++ ev ∷ [])) ev n x s → (own : List RunEvent) × GoesLike top (run top (done ++ ev ∷ [])) own
       moved n x s f = at x refl
         where
           takes : actor_step top n (actor_in top v n) x ≡ Some s
           takes = ap (λ a. actor_step top n a x) (g.actors n) ∙ f.takes
 
-          taken : (own : Event) → Moves top v (step top v own) own n x s
+          taken : (own : RunEvent) → Moves top v (step top v own) own n x s
               → ((e : Envelope) → x ≡ Handle e → (k : ℕ) × (own ≡ Deliver k) × IsNextSent w.sent e (got w e.from e.to) k)
-              → (own : List Event) × GoesLike top (run top (done ++ ev ∷ [])) own
+              → (own : List RunEvent) × GoesLike top (run top (done ++ ev ∷ [])) own
           taken own h picks = (mine ++ own ∷ [], goes_on top some done mine g (run top (done ++ ev ∷ [])) ev own n x s f h picks)
 
           whole : journal_in (run top events) n ≡ journal_in w n ++ x ∷ (journal_grows top some rest (done ++ ev ∷ []) n).0
@@ -412,7 +412,7 @@ module _ (top : TopologyValue) (some : 0 < top.shards) (events : List Event) (be
               ap (λ l. journal_in (run top l) n) (split ∙ sym (append_assoc done (ev ∷ []) rest)) ∙ grows.1
               ∙ ap (λ l. l ++ grows.0) (journal_here f ((run_journals top done some).known)) ∙ append_assoc (journal_in w n) (x ∷ []) grows.0
 
-          receipt : (e : Envelope) → x ≡ Handle e → (own : List Event) × GoesLike top (run top (done ++ ev ∷ [])) own
+          receipt : (e : Envelope) → x ≡ Handle e → (own : List RunEvent) × GoesLike top (run top (done ++ ev ∷ [])) own
           receipt e is =
               let r = f.received e is in
               let to : n ≡ e.to = sym r.0 in
@@ -433,7 +433,7 @@ module _ (top : TopologyValue) (some : 0 < top.shards) (events : List Event) (be
               let same : e ≡ d = cc in
               (p.0, refl, subst (λ z. IsNextSent w.sent z (got w z.from z.to) p.0) same p.1))
 
-          at : (y : ActorEvent) → x ≡ y → (own : List Event) × GoesLike top (run top (done ++ ev ∷ [])) own
+          at : (y : ActorEvent) → x ≡ y → (own : List RunEvent) × GoesLike top (run top (done ++ ev ∷ [])) own
           at (SubmitHere o) is =
               let h = submit_happens top v n o s f.actor (subst (λ y. actor_step top n (actor_in top v n) y ≡ Some s) is takes) in
               taken h.0 (subst (λ y. Moves top v (step top v h.0) h.0 n y s) (sym is) h.1) (λ e also. let no : SubmitHere o ≡ Handle e = sym is ∙ also in absurd (cc))
@@ -442,11 +442,11 @@ module _ (top : TopologyValue) (some : 0 < top.shards) (events : List Event) (be
               taken h.0 (subst (λ y. Moves top v (step top v h.0) h.0 n y s) (sym is) h.1) (λ e also. let no : CollectHere time ≡ Handle e = sym is ∙ also in absurd (cc))
           at (Handle e) is = receipt e is
 
-      by : IsMove top w ev (step top w ev) → (own : List Event) × GoesLike top (run top (done ++ ev ∷ [])) own
+      by : IsMove top w ev (step top w ev) → (own : List RunEvent) × GoesLike top (run top (done ++ ev ∷ [])) own
       by (inl same) = (mine, subst (λ z. GoesLike top z mine) (sym (one ∙ same)) g)
       by (inr (n, x, s, f)) = moved n x s (subst (λ z. Moves top w z ev n x s) (sym one) f)
 
-  all_go : (rest done mine : List Event) → events ≡ done ++ rest → GoesLike top (run top done) mine → (own : List Event) × GoesLike top (run top events) own
+  all_go : (rest done mine : List RunEvent) → events ≡ done ++ rest → GoesLike top (run top done) mine → (own : List RunEvent) × GoesLike top (run top events) own
   all_go [] done mine split g = (mine, subst (λ l. GoesLike top (run top l) mine) (sym (split ∙ append-nil done)) g)
   all_go (ev ∷ rest) done mine split g =
       let next = next_goes done rest mine ev split g in
@@ -465,7 +465,7 @@ module _ (top : TopologyValue) (some : 0 < top.shards) (events : List Event) (be
       }
 
   -- a run with the same journals, by whose numbers the first messages of each link were delivered
-  pub numbered_anew : (own : List Event) × GoesLike top (run top events) own
+  pub numbered_anew : (own : List RunEvent) × GoesLike top (run top events) own
   numbered_anew = all_go events [] [] refl opening_goes
 
 -- ## Quiet runs
@@ -474,7 +474,7 @@ module _ (top : TopologyValue) (some : 0 < top.shards) (events : List Event) (be
 abbrev pub IsAllReceived : TopologyValue → Run → Type 0
 IsAllReceived top w = (from to : ℕ) → from < node_count top → to < node_count top → length (on_link from to w.sent) ≤ got w from to
 
-below_count : (top : TopologyValue) (events : List Event) → is_topology top.dcs top.shards top.homes ≡ true → (k : ℕ) (e : Envelope) → slice_get (run top events).sent k ≡ Some e
+below_count : (top : TopologyValue) (events : List RunEvent) → is_topology top.dcs top.shards top.homes ≡ true → (k : ℕ) (e : Envelope) → slice_get (run top events).sent k ≡ Some e
     → e.to < node_count top
 below_count top events ok k e at = elim (messages_are_for_actors top events ok e (among_contains e (run top events).sent (get_among (run top events).sent k e at))) [
   | inl shard ↦ shard_node_counts top e.to shard
@@ -483,12 +483,12 @@ below_count top events ok k e at = elim (messages_are_for_actors top events ok e
 
 -- a run with the journals of another one that is quiet
 pub record GoesQuietly (top : TopologyValue) (w : Run) : Type 0 where
-  pub events : List Event
+  pub events : List RunEvent
   pub is_run : IsRun top events
   pub journals : (m : ℕ) → journal_in (run top events) m ≡ journal_in w m
   pub quiet : IsQuiet (run top events)
 
-pub goes_quietly : (top : TopologyValue) (events : List Event) → is_topology top.dcs top.shards top.homes ≡ true → DoBegin top (run top events)
+pub goes_quietly : (top : TopologyValue) (events : List RunEvent) → is_topology top.dcs top.shards top.homes ≡ true → DoBegin top (run top events)
     → IsAllReceived top (run top events) → GoesQuietly top (run top events)
 goes_quietly top events ok begins all =
     record { events = own; is_run = kept_is_run top own g.kept; journals = g.journals; quiet = quiet }
@@ -496,7 +496,7 @@ goes_quietly top events ok begins all =
     some : 0 < top.shards
     some = (stands top ok).some
 
-    own : List Event
+    own : List RunEvent
     own = (numbered_anew top some events begins).0
 
     g : GoesLike top (run top events) own

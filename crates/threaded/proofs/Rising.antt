@@ -7,8 +7,8 @@ use Rattle.std.proofs.lemmas.Bool.Decides.{nat_tests}
 use Rattle.logical_time.specs.Stamps.{WriterValue}
 use Rattle.logical_time.specs.declared.fault.Fault.{Fault}
 use Rattle.messages.specs.declared.body.Body.{Body}
-use Rattle.messages.specs.declared.event.Event.{Event}
-use Rattle.messages.specs.declared.event.Event.TheVariants.{Submit, Handle, Collect}
+use Rattle.messages.specs.declared.event.ActorEvent.{ActorEvent}
+use Rattle.messages.specs.declared.event.ActorEvent.TheVariants.{Submit, Handle, Collect}
 use Rattle.messages.specs.declared.op.Op.{Op}
 use Rattle.messages.specs.declared.op.Op.TheVariants as op
 use Rattle.messages.specs.declared.outcome.Outcome.TheVariants as outcome
@@ -69,7 +69,7 @@ took : (a : SessionState) (r : Result SessionStep Fault) (s : ActorStep) → ((s
 took a (Err e) s each q = absurd (cc)
 took a (Ok st) s each q = let is : session_took st ≡ s = cc in (st, sym is, each st refl)
 
-step_ends : (top : TopologyValue) (me : ℕ) (a : SessionState) (x : Event) (s : ActorStep) → a.untaken ≡ None → actor_step top me (OfSession a) x ≡ Some s → Stepped a s
+step_ends : (top : TopologyValue) (me : ℕ) (a : SessionState) (x : ActorEvent) (s : ActorStep) → a.untaken ≡ None → actor_step top me (OfSession a) x ≡ Some s → Stepped a s
 step_ends top me a (Submit o) s none q = took a (session_submit top me a o) s (λ st h. by st (submit_fault top a o) refl h) q
   where
     by : (st : SessionStep) (f : Option Fault) → submit_fault top a o ≡ f → submit_if f top me a o ≡ Ok st → EndsNext a st.state
@@ -89,7 +89,7 @@ abbrev pub Rises : ℕ → List Finished → Type 0
 Rises m [] = Unit {0}
 Rises m (f ∷ fs) = (m < f.number) × Rises f.number fs
 
-replay_rises : (top : TopologyValue) (me : ℕ) (xs : List Event) (a : SessionState) (m : ℕ) (r : Replayed) → a.untaken ≡ None → m < next_end a
+replay_rises : (top : TopologyValue) (me : ℕ) (xs : List ActorEvent) (a : SessionState) (m : ℕ) (r : Replayed) → a.untaken ≡ None → m < next_end a
     → replay top me (OfSession a) xs ≡ Some r → Rises m r.finished
 replay_rises top me [] a m r none lt h =
     let is : record { state = OfSession a; sent = []; finished = [] } ≡ r = cc in
@@ -111,7 +111,7 @@ replay_rises top me (x ∷ xs) a m r none lt h =
         subst (λ o. Rises m (cons_option o rest.finished)) (sym over.1) (omega (arith, number, lt), later over.0.number (omega (arith, number, next)))
 
 -- the numbers of a session's outcomes rise
-pub outcomes_rise : (top : TopologyValue) (node : ℕ) (journal : List Event) (r : Replayed) → is_shard top node ≡ false → replay_of top node journal ≡ Some r
+pub outcomes_rise : (top : TopologyValue) (node : ℕ) (journal : List ActorEvent) (r : Replayed) → is_shard top node ≡ false → replay_of top node journal ≡ Some r
     → Rises 0 r.finished
 outcomes_rise top node journal r away h =
     replay_rises top node journal (new_session (unwrap_or (home_of top node) 0)) 0 r refl (omega arith) (ap (λ a. replay top node a journal) (sym (opens_session top node away)) ∙ h)

@@ -3,7 +3,7 @@ use Rattle.std.proofs.Common.{◌≡◌, ◌∙◌, ℕ, ◌<◌, ◌≤◌, Boo
 use Rattle.std.specs.Prelude.{◌==◌, nat_lt, Contains}
 use Rattle.std.proofs.lemmas.Bool.Decides.{nat_tests}
 use Rattle.messages.specs.declared.envelope.Envelope.{Envelope}
-use Rattle.messages.specs.declared.event.Event.TheVariants.{Handle}
+use Rattle.messages.specs.declared.event.ActorEvent.TheVariants.{Handle}
 use Rattle.messages.specs.Topology.{TopologyValue, node_count}
 use Rattle.actors.specs.Journals.{receipts_from, sends_to, followed_by}
 use Rattle.actors.specs.Seats.{SeatValue, through}

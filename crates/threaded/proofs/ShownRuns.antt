@@ -9,8 +9,8 @@ use Rattle.std.proofs.lemmas.List.{take-append-drop, take-append-le}
 use Rattle.std.proofs.lemmas.List.Elements.{filter-append}
 use Rattle.std.proofs.Math.Seq.{take-length}
 use Rattle.messages.specs.declared.envelope.Envelope.{Envelope}
-use Rattle.messages.specs.declared.event.Event.{Event}
-use Rattle.messages.specs.declared.event.Event.TheVariants.{Handle}
+use Rattle.messages.specs.declared.event.ActorEvent.{ActorEvent}
+use Rattle.messages.specs.declared.event.ActorEvent.TheVariants.{Handle}
 use Rattle.messages.specs.Topology.{TopologyValue, node_count}
 use Rattle.messages.specs.Actors.{clock_of, envelope_of, opening_actor, Replayed, replay_of, sent_in, sent_by}
 use Rattle.store.proofs.lists.Lists.{given}
@@ -98,7 +98,7 @@ event_at (x ∷ xs) zero lt = (x, refl)
 event_at (x ∷ xs) (suc k) lt = event_at xs k (omega arith)
 
 -- what is handled from a node is a receipt from there
-among_receipts : (e : Envelope) (journal : List Event) → Among (Handle e) journal → Among e (receipts_from e.from journal)
+among_receipts : (e : Envelope) (journal : List ActorEvent) → Among (Handle e) journal → Among e (receipts_from e.from journal)
 among_receipts e journal m =
     filter_among (λ (z : Envelope). z.from == e.from) (filter_map envelope_of journal) e
     (contains_among e (filter_map envelope_of journal) (given envelope_of journal (Handle e) e (among_contains (Handle e) journal m) refl)) (eq-eqb e.from e.from refl)
@@ -118,7 +118,7 @@ module _ (top : TopologyValue) (node : ℕ) (s : Shown) (along : DidCome top nod
       let i = c.2.comes apart in
       record { replay = i.replay; replays = i.replays; sends = i.sends }
 
-  pub goes_on : (before : List Event) (x : Event) (after : List Event) → s.journal ≡ before ++ x ∷ after → StaysApart top node before
+  pub goes_on : (before : List ActorEvent) (x : ActorEvent) (after : List ActorEvent) → s.journal ≡ before ++ x ∷ after → StaysApart top node before
       → (r : Replayed) × (replay_of top node (before ++ x ∷ []) ≡ Some r)
   goes_on before x after whole apart =
       let c = along.came (length s.journal) (le_refl (length s.journal)) in
@@ -209,7 +209,7 @@ module _ (top : TopologyValue) (shown : ℕ → Shown) (some : 0 < top.shards) (
   go_on : DoGoOn top (λ n. (shown n).journal) some
   go_on node before x after lt = goes_on top node (shown node) (along node lt) before x after
 
-  among_whole : (done : List Event) (e : Envelope) (more journal : List Event) → journal ≡ done ++ Handle e ∷ more → Among (Handle e) journal
+  among_whole : (done : List ActorEvent) (e : Envelope) (more journal : List ActorEvent) → journal ≡ done ++ Handle e ∷ more → Among (Handle e) journal
   among_whole done e more journal whole = subst (λ l. Among (Handle e) l) (sym whole) (append_second (Handle e) done (Handle e ∷ more) (inl refl))
 
   sender_of : (node : ℕ) (e : Envelope) → node < node_count top → Among (Handle e) (shown node).journal → e.from < node_count top
@@ -261,7 +261,7 @@ module _ (top : TopologyValue) (shown : ℕ → Shown) (some : 0 < top.shards) (
   -- ## By what the journals send
 
   module _ (match : DoLinksMatch top (λ n. (shown n).journal)) where
-    next_is_above : (m limit : ℕ) (w : Run) (left : List Event) → clock_of (actor_in top w m) ≡ clock_from 0 (journal_in w m)
+    next_is_above : (m limit : ℕ) (w : Run) (left : List ActorEvent) → clock_of (actor_in top w m) ≡ clock_from 0 (journal_in w m)
         → IsAbove limit (clock_from 0 (journal_in w m)) left → NextAbove top m limit (actor_in top w m) left
     next_is_above m limit w [] at up = tt
     next_is_above m limit w (x ∷ xs) at up = λ s takes.

@@ -5,11 +5,11 @@ use Rattle.std.specs.Prelude.{◌==◌, nat_lt}
 use Rattle.std.proofs.lemmas.Bool.Decides.{nat_tests}
 use Rattle.std.proofs.lemmas.List.{append_assoc}
 use Rattle.messages.specs.declared.envelope.Envelope.{Envelope}
-use Rattle.messages.specs.declared.event.Event.{Event as ActorEvent}
-use Rattle.messages.specs.declared.event.Event.TheVariants.{Submit as SubmitHere, Handle, Collect as CollectHere}
+use Rattle.messages.specs.declared.event.ActorEvent.{ActorEvent}
+use Rattle.messages.specs.declared.event.ActorEvent.TheVariants.{Submit as SubmitHere, Handle, Collect as CollectHere}
 use Rattle.messages.specs.Topology.{TopologyValue, node_count}
 use Rattle.messages.specs.Actors.{clock_of, opening_actor, ActorStep, actor_step, Replayed, replay_of}
-use Rattle.world.specs.declared.run_event.RunEvent.{RunEvent as Event}
+use Rattle.world.specs.declared.run_event.RunEvent.{RunEvent}
 use Rattle.world.specs.Run.{Run, opening, step, run}
 use Rattle.world.specs.Journals.{actor_in, journal_in, held_in, IsThreadedRun}
 use Rattle.world.proofs.lists.Among.{Among}
@@ -28,13 +28,13 @@ use Rattle.threaded.proofs.Clocks.{step_clock, clock_told, clock_from_push, IsAb
 
 -- ## Stamps stay apart along the journals of a run
 
-more_is_step : (top : TopologyValue) (events : List Event) (x : Event) → run top (events ++ x ∷ []) ≡ step top (run top events) x
+more_is_step : (top : TopologyValue) (events : List RunEvent) (x : RunEvent) → run top (events ++ x ∷ []) ≡ step top (run top events) x
 more_is_step top events x = run_after top (opening top) events (x ∷ [])
 
-abbrev AllApart : TopologyValue → List Event → Type 0
+abbrev AllApart : TopologyValue → List RunEvent → Type 0
 AllApart top events = (node : ℕ) → StaysApart top node (journal_in (run top events) node)
 
-apart_step : (top : TopologyValue) (events : List Event) (x : Event) → 0 < top.shards → AllApart top events → AllApart top (events ++ x ∷ [])
+apart_step : (top : TopologyValue) (events : List RunEvent) (x : RunEvent) → 0 < top.shards → AllApart top events → AllApart top (events ++ x ∷ [])
 apart_step top events x some apart = go (each_is_move top (run top events) x)
   where
     moved : (n : ℕ) (y : ActorEvent) (s : ActorStep) → Moves top (run top events) (run top (events ++ x ∷ [])) x n y s → AllApart top (events ++ x ∷ [])
@@ -53,12 +53,12 @@ apart_step top events x some apart = go (each_is_move top (run top events) x)
     go (inl same) = λ node. subst (λ w. StaysApart top node (journal_in w node)) (sym (more_is_step top events x ∙ same)) (apart node)
     go (inr (n, y, s, f)) = moved n y s (subst (λ w. Moves top (run top events) w x n y s) (sym (more_is_step top events x)) f)
 
-apart_on : (top : TopologyValue) (done rest : List Event) → 0 < top.shards → AllApart top done → AllApart top (done ++ rest)
+apart_on : (top : TopologyValue) (done rest : List RunEvent) → 0 < top.shards → AllApart top done → AllApart top (done ++ rest)
 apart_on top done [] some apart = subst (λ l. AllApart top l) (sym (append-nil done)) apart
 apart_on top done (x ∷ rest) some apart =
     subst (λ l. AllApart top l) (append_assoc done (x ∷ []) rest) (apart_on top (done ++ x ∷ []) rest some (apart_step top done x some apart))
 
-pub runs_stay_apart : (top : TopologyValue) (events : List Event) (node : ℕ) → 0 < top.shards → StaysApart top node (journal_in (run top events) node)
+pub runs_stay_apart : (top : TopologyValue) (events : List RunEvent) (node : ℕ) → 0 < top.shards → StaysApart top node (journal_in (run top events) node)
 runs_stay_apart top events node some = apart_on top [] events some (λ m. apart_at_first top m some) node
 
 module _ (top : TopologyValue) (journals : ℕ → List ActorEvent) (some : 0 < top.shards) where
@@ -79,7 +79,7 @@ module _ (top : TopologyValue) (journals : ℕ → List ActorEvent) (some : 0 < 
   -- Where a run has carried out all events up to a clock, it has sent what is handled next and isn't later.
   abbrev pub AreSentBefore : Type 0
   AreSentBefore =
-      (events : List Event) (clock node : ℕ) (e : Envelope) (more : List ActorEvent) → node < node_count top
+      (events : List RunEvent) (clock node : ℕ) (e : Envelope) (more : List ActorEvent) → node < node_count top
       → ((m : ℕ) → m < node_count top → IsReached (journal_in (run top events) m) m clock)
       → journals node ≡ journal_in (run top events) node ++ Handle e ∷ more → e.time ≤ clock → (e.to ≡ node) × Among e (run top events).sent
 
@@ -87,18 +87,18 @@ module _ (top : TopologyValue) (journals : ℕ → List ActorEvent) (some : 0 < 
 
   -- a run has carried out all events up to this clock, and those of the nodes below this one at the next clock
   record Stage (clock node : ℕ) : Type 0 where
-    pub events : List Event
+    pub events : List RunEvent
     pub kept : (run top events).events ≡ events
     pub before : (m : ℕ) → m < node → m < node_count top → IsReached (journal_in (run top events) m) m (suc clock)
     pub after : (m : ℕ) → node ≤ m → m < node_count top → IsReached (journal_in (run top events) m) m clock
 
   -- the step of what is next
-  record NextStep (events : List Event) (n : ℕ) (x : ActorEvent) : Type 0 where
+  record NextStep (events : List RunEvent) (n : ℕ) (x : ActorEvent) : Type 0 where
     pub step : ActorStep
     pub takes : actor_step top n (actor_in top (run top events) n) x ≡ Some step
     pub clock : clock_of step.state ≡ clock_with (clock_from 0 (journal_in (run top events) n)) x
 
-  next_step : DoGoOn → (events : List Event) (n : ℕ) (x : ActorEvent) (xs : List ActorEvent) → n < node_count top
+  next_step : DoGoOn → (events : List RunEvent) (n : ℕ) (x : ActorEvent) (xs : List ActorEvent) → n < node_count top
       → journals n ≡ journal_in (run top events) n ++ x ∷ xs → NextStep events n x
   next_step goes events n x xs lt whole =
       let w = run top events in

@@ -5,7 +5,7 @@ use Rattle.std.specs.List.{range_with_len, cons_option}
 use Rattle.std.proofs.lemmas.Bool.Decides.{nat_tests}
 use Rattle.messages.specs.declared.op.Op.{Op}
 use Rattle.messages.specs.declared.outcome.Outcome.{Outcome}
-use Rattle.messages.specs.declared.event.Event.{Event}
+use Rattle.messages.specs.declared.event.ActorEvent.{ActorEvent}
 use Rattle.messages.specs.Topology.{TopologyValue, is_topology, is_shard, node_count, session_node}
 use Rattle.messages.specs.Actors.{opening_home, home_after, home_before}
 use Rattle.messages.specs.Session.{Finished}
@@ -29,11 +29,11 @@ use Rattle.threaded.proofs.Rising.{GoHome, outcomes_rise, go_home}
 -- ## One session
 
 -- the entry is of this session, and of the operation of its number in this journal
-record IsOf (node : ℕ) (journal : List Event) (c : Completed) : Type 0 where
+record IsOf (node : ℕ) (journal : List ActorEvent) (c : Completed) : Type 0 where
   pub node_is : c.node ≡ node
   pub op_is : op_numbered journal c.number ≡ Some c.op
 
-module _ (node : ℕ) (journal : List Event) where
+module _ (node : ℕ) (journal : List ActorEvent) where
   -- the entry of an outcome is the one that the transcript has of it
   entry_is : (home : ℕ) (o : ℕ × Outcome) (c : Completed) → as_finished o ≡ finished_as c → IsOf node journal c → c.home ≡ home → entry_by node home journal o ≡ Some c
   entry_is home o c same is here =

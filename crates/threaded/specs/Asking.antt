@@ -5,7 +5,7 @@ use Rattle.logical_time.specs.Stamps.{TxnValue}
 use Rattle.column_family.specs.declared.batch.Change.{Change}
 use Rattle.column_family.specs.History.{History}
 use Rattle.messages.specs.declared.op.Op.{Op}
-use Rattle.messages.specs.declared.event.Event.{Event}
+use Rattle.messages.specs.declared.event.ActorEvent.{ActorEvent}
 use Rattle.messages.specs.Home.{HomeValue}
 use Rattle.messages.specs.Topology.{TopologyValue, is_shard, session_node}
 use Rattle.messages.specs.Shard.{ShardState}
@@ -24,7 +24,7 @@ writes_from node count (o ∷ os) =
     option_to_list (option_map (λ batch. (record { session = node; number = count + 1 }, batch)) (batch_in o)) ++ writes_from node (count + 1) os
 
 -- the writes of a session, by its journal, in order
-abbrev pub writes_by : ℕ → List Event → List (TxnValue × List Change)
+abbrev pub writes_by : ℕ → List ActorEvent → List (TxnValue × List Change)
 writes_by node journal = writes_from node 0 (filter_map op_in journal)
 
 -- the writes of all sessions, one session after the other

@@ -2,11 +2,11 @@
 use Rattle.std.specs.Prelude.{◌≡◌, ℕ, ◌<◌, ◌==◌, ◌++◌, List, map, filter, flat_map, length, Some, Contains}
 use Rattle.std.specs.List.{range_with_len}
 use Rattle.messages.specs.declared.envelope.Envelope.{Envelope}
-use Rattle.messages.specs.declared.event.Event.TheVariants.{Handle}
+use Rattle.messages.specs.declared.event.ActorEvent.TheVariants.{Handle}
 use Rattle.messages.specs.Topology.{TopologyValue, node_count, session_node}
 use Rattle.actors.specs.Seats.{SeatValue}
 use Rattle.world.specs.declared.completed.Completed.{Completed}
-use Rattle.world.specs.declared.run_event.RunEvent.{RunEvent as Event}
+use Rattle.world.specs.declared.run_event.RunEvent.{RunEvent}
 use Rattle.world.specs.Run.{Run, run}
 use Rattle.world.specs.Journals.{actor_in, ended_at, IsRunOf, IsThreadedRun}
 use Rattle.threaded.specs.Machines.{has_none_open, as_finished}
@@ -14,11 +14,11 @@ use Rattle.threaded.specs.OneRun.{seat_of, journal_of, AreSeatsOf, DoLinksMatch}
 
 -- so it is in each run whose journals are those of the seats
 abbrev pub InEachRun : TopologyValue → List SeatValue → (Run → Type 0) → Type 0
-InEachRun top seats P = (events : List Event) → IsRunOf top (journal_of seats) events → P (run top events)
+InEachRun top seats P = (events : List RunEvent) → IsRunOf top (journal_of seats) events → P (run top events)
 
 -- so it is of each run whose journals are those of the seats, cut in two anywhere
-abbrev pub InEachCut : TopologyValue → List SeatValue → (List Event → List Event → Type 0) → Type 0
-InEachCut top seats P = (before after : List Event) → IsRunOf top (journal_of seats) (before ++ after) → P before after
+abbrev pub InEachCut : TopologyValue → List SeatValue → (List RunEvent → List RunEvent → Type 0) → Type 0
+InEachCut top seats P = (before after : List RunEvent) → IsRunOf top (journal_of seats) (before ++ after) → P before after
 
 -- The outcomes that each seat gave are, in order, what the run has of its actor; and a seat is free exactly where that has no
 -- operation open.

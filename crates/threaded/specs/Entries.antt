@@ -3,7 +3,7 @@ use Rattle.std.specs.Prelude.{ℕ, ◌-◌, List, [], ◌∷◌, flat_map, lengt
 use Rattle.std.specs.List.{range_with_len, cons_option}
 use Rattle.messages.specs.declared.op.Op.{Op}
 use Rattle.messages.specs.declared.outcome.Outcome.{Outcome}
-use Rattle.messages.specs.declared.event.Event.{Event}
+use Rattle.messages.specs.declared.event.ActorEvent.{ActorEvent}
 use Rattle.messages.specs.Topology.{TopologyValue, session_node}
 use Rattle.messages.specs.Actors.{opening_home, home_after}
 use Rattle.actors.specs.Seats.{SeatValue}
@@ -18,12 +18,12 @@ completed_of e = record { node = e.node; number = e.number; home = e.home; op = 
 
 -- the entry of an outcome, which stands with the number of its operation: that is the one of this number in the session's
 -- journal, submitted at this home
-abbrev pub entry_by : ℕ → ℕ → List Event → (ℕ × Outcome) → Option Completed
+abbrev pub entry_by : ℕ → ℕ → List ActorEvent → (ℕ × Outcome) → Option Completed
 entry_by node home journal o =
     option_map (λ (op : Op). record { node = node; number = o.0; home = home; op = op; outcome = o.1 }) (op_numbered journal o.0)
 
 -- the entries of a session's outcomes, where this is its home before the first: each move takes it to its new home
-abbrev pub entries_from : ℕ → ℕ → List Event → List (ℕ × Outcome) → List Completed
+abbrev pub entries_from : ℕ → ℕ → List ActorEvent → List (ℕ × Outcome) → List Completed
 entries_from node home journal [] = []
 entries_from node home journal (o ∷ os) = cons_option (entry_by node home journal o) (entries_from node (home_after home o.1) journal os)
 

@@ -6,8 +6,8 @@ use Rattle.logical_time.specs.declared.fault.Fault.TheVariants.{StrangerEnd}
 use Rattle.store.specs.Keeps.{AreApart}
 use Rattle.messages.specs.declared.envelope.Envelope.{Envelope}
 use Rattle.messages.specs.declared.outcome.Outcome.{Outcome}
-use Rattle.messages.specs.declared.event.Event.{Event}
-use Rattle.messages.specs.declared.event.Event.TheVariants.{Submit, Handle, Collect}
+use Rattle.messages.specs.declared.event.ActorEvent.{ActorEvent}
+use Rattle.messages.specs.declared.event.ActorEvent.TheVariants.{Submit, Handle, Collect}
 use Rattle.messages.specs.Topology.{TopologyValue, is_shard}
 use Rattle.messages.specs.Session.{Finished, is_idle}
 use Rattle.messages.specs.ShardEvents.{shard_handle, shard_collect}
@@ -30,9 +30,9 @@ HasPartsApart (OfShard a) = AreApart a.applied
 HasPartsApart (OfSession a) = Unit {0}
 
 -- so it is wherever the replay of a journal comes
-abbrev pub StaysApart : TopologyValue → ℕ → List Event → Type 0
+abbrev pub StaysApart : TopologyValue → ℕ → List ActorEvent → Type 0
 StaysApart top node journal =
-    (before after : List Event) (r : Replayed) → journal ≡ before ++ after → replay_of top node before ≡ Some r → HasPartsApart r.state
+    (before after : List ActorEvent) (r : Replayed) → journal ≡ before ++ after → replay_of top node before ≡ Some r → HasPartsApart r.state
 
 -- ## What a machine keeps
 
@@ -81,7 +81,7 @@ as_finished p = record { number = p.0; outcome = p.1 }
 
 -- The machine stands for where the replay of the journal leads, and is free where no operation is open there; what that sent is
 -- what went to each node, in order; and what it finished are the outcomes that were taken, and then the one that wasn't.
-pub record IsReplay (top : TopologyValue) (node : ℕ) (journal : List Event) (sent : ℕ → List Envelope) (outcomes : List (ℕ × Outcome))
+pub record IsReplay (top : TopologyValue) (node : ℕ) (journal : List ActorEvent) (sent : ℕ → List Envelope) (outcomes : List (ℕ × Outcome))
     (machine : Actor) : Type 0 where
   pub replay : Replayed
   pub replays : replay_of top node journal ≡ Some replay
@@ -92,12 +92,12 @@ pub record IsReplay (top : TopologyValue) (node : ℕ) (journal : List Event) (s
 
 -- The machine came from the journal of the actor with a node. No event of it was refused: where stamps stay apart up to an
 -- event, the replay goes on with that. Where they stay apart to the end, the machine is its replay.
-pub record CameFrom (top : TopologyValue) (node : ℕ) (journal : List Event) (sent : ℕ → List Envelope) (outcomes : List (ℕ × Outcome))
+pub record CameFrom (top : TopologyValue) (node : ℕ) (journal : List ActorEvent) (sent : ℕ → List Envelope) (outcomes : List (ℕ × Outcome))
     (machine : Actor) : Type 0 where
   pub kind : is_shard top node ≡ is_of_shard machine
   pub accepted : accepted_by machine ≡ submissions journal
   pub waits : WaitsAsOpen machine
-  pub goes : (before : List Event) (x : Event) (after : List Event) → journal ≡ before ++ x ∷ after → StaysApart top node before
+  pub goes : (before : List ActorEvent) (x : ActorEvent) (after : List ActorEvent) → journal ≡ before ++ x ∷ after → StaysApart top node before
       → (r : Replayed) × (replay_of top node (before ++ x ∷ []) ≡ Some r)
   pub comes : StaysApart top node journal → IsReplay top node journal sent outcomes machine
 
@@ -109,7 +109,7 @@ fault_of (Err e) = Some e
 
 -- With which fault an actor in a state refuses an event, if it does: as its step is refused by the protocol, and with
 -- `StrangerEnd` what is for the other kind of actor.
-abbrev pub refusal_at : TopologyValue → ℕ → ActorState → Event → Option Fault
+abbrev pub refusal_at : TopologyValue → ℕ → ActorState → ActorEvent → Option Fault
 refusal_at top node (OfShard a) (Submit o) = Some StrangerEnd
 refusal_at top node (OfShard a) (Handle e) = fault_of (shard_handle top node a e)
 refusal_at top node (OfShard a) (Collect time) = fault_of (shard_collect a time)
@@ -118,7 +118,7 @@ refusal_at top node (OfSession a) (Handle e) = fault_of (session_handle top node
 refusal_at top node (OfSession a) (Collect time) = Some StrangerEnd
 
 -- the event is for the other kind of actor
-abbrev pub is_strange : TopologyValue → ℕ → Event → Bool
+abbrev pub is_strange : TopologyValue → ℕ → ActorEvent → Bool
 is_strange top node (Submit o) = is_shard top node
 is_strange top node (Handle e) = false
 is_strange top node (Collect time) = not (is_shard top node)
@@ -126,7 +126,7 @@ is_strange top node (Collect time) = not (is_shard top node)
 -- After a journal the actor with a node refuses an event with this fault: with `StrangerEnd` what is for the other kind of
 -- actor, and, where stamps stay apart, as the state to which the journal's replay leads refuses it. Nothing is asked of a
 -- session's.
-pub record Refuses (top : TopologyValue) (node : ℕ) (journal : List Event) (event : Event) (fault : Fault) : Type 0 where
+pub record Refuses (top : TopologyValue) (node : ℕ) (journal : List ActorEvent) (event : ActorEvent) (fault : Fault) : Type 0 where
   pub stranger : is_strange top node event ≡ true → fault ≡ StrangerEnd
   pub refused : StaysApart top node journal
       → (r : Replayed) × (replay_of top node journal ≡ Some r) × (refusal_at top node r.state event ≡ Some fault)

@@ -3,8 +3,8 @@ use Rattle.std.specs.Prelude.{◌≡◌, ℕ, ◌<◌, true, List, [], length, t
 use Rattle.logical_time.specs.declared.fault.Fault.{Fault}
 use Rattle.logical_time.specs.declared.fault.Fault.TheVariants.{Memory, StrangerEnd}
 use Rattle.messages.specs.declared.envelope.Envelope.{Envelope}
-use Rattle.messages.specs.declared.event.Event.{Event}
-use Rattle.messages.specs.declared.event.Event.TheVariants.{Handle}
+use Rattle.messages.specs.declared.event.ActorEvent.{ActorEvent}
+use Rattle.messages.specs.declared.event.ActorEvent.TheVariants.{Handle}
 use Rattle.actors.specs.Journals.{receipts_from, followed_by, IsBeginning}
 use Rattle.actors.specs.Seats.{SeatValue, Keeps, through}
 use Rattle.threaded.specs.declared.actor.Actor.{Actor}
@@ -50,7 +50,7 @@ abbrev pub sent_to : List SeatValue → ℕ → ℕ → List Envelope
 sent_to seats from to = sent_at (seat_of seats from) to
 
 -- on each link to a node a journal's receipts are a beginning of what the sender's seat sent there
-abbrev pub DoesReceive : ℕ → List SeatValue → ℕ → List Event → Type 0
+abbrev pub DoesReceive : ℕ → List SeatValue → ℕ → List ActorEvent → Type 0
 DoesReceive count seats to journal = (from : ℕ) → from < count → IsBeginning (receipts_from from journal) (sent_to seats from to)
 
 -- so it is of the journals of so many actors
@@ -58,11 +58,11 @@ abbrev pub DoReceive : ℕ → List SeatValue → Type 0
 DoReceive count seats = (to : ℕ) → to < count → DoesReceive count seats to (journal_of seats to)
 
 -- what a journal handles is from one of so many actors
-abbrev pub AreFromActors : ℕ → List Event → Type 0
+abbrev pub AreFromActors : ℕ → List ActorEvent → Type 0
 AreFromActors count journal = (e : Envelope) → Contains journal (Handle e) → e.from < count
 
 -- These events of an actor received so many envelopes on each link, the first that were sent there.
-pub record HaveReceived (count : ℕ) (seats : List SeatValue) (to : ℕ) (done : List Event) (received : List ℕ) : Type 0 where
+pub record HaveReceived (count : ℕ) (seats : List SeatValue) (to : ℕ) (done : List ActorEvent) (received : List ℕ) : Type 0 where
   pub len : length received ≡ count
   pub each : (from n : ℕ) → slice_get received from ≡ Some n
       → (receipts_from from done ≡ take n (sent_to seats from to)) × (length (receipts_from from done) ≡ n)

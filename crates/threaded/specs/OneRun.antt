@@ -1,6 +1,6 @@
 -- Seats whose journals are of one run: one for each actor, which on each link received a beginning of what was sent there.
 use Rattle.std.specs.Prelude.{◌≡◌, ℕ, ◌<◌, ◌==◌, true, List, [], length, find, slice_get, Option, Some, None}
-use Rattle.messages.specs.declared.event.Event.{Event}
+use Rattle.messages.specs.declared.event.ActorEvent.{ActorEvent}
 use Rattle.messages.specs.Topology.{TopologyValue, is_topology, node_count}
 use Rattle.messages.specs.Actors.{sent_by}
 use Rattle.actors.specs.Journals.{receipts_from, sends_to, IsBeginning}
@@ -10,12 +10,12 @@ use Rattle.actors.specs.Seats.{SeatValue}
 abbrev pub seat_of : List SeatValue → ℕ → Option SeatValue
 seat_of seats node = find (λ (s : SeatValue). s.node == node) seats
 
-abbrev pub journal_at : Option SeatValue → List Event
+abbrev pub journal_at : Option SeatValue → List ActorEvent
 journal_at None = []
 journal_at (Some s) = s.journal
 
 -- the journal of the actor with a node, by its seat
-abbrev pub journal_of : List SeatValue → ℕ → List Event
+abbrev pub journal_of : List SeatValue → ℕ → List ActorEvent
 journal_of seats node = journal_at (seat_of seats node)
 
 -- all of these seats are of this topology
@@ -30,7 +30,7 @@ pub record AreSeatsOf (top : TopologyValue) (seats : List SeatValue) : Type 0 wh
   pub each : (node : ℕ) → node < node_count top → (s : SeatValue) × (seat_of seats node ≡ Some s)
 
 -- On each link the receipts are a beginning of what the sender's journal sent there.
-abbrev pub DoLinksMatch : TopologyValue → (ℕ → List Event) → Type 0
+abbrev pub DoLinksMatch : TopologyValue → (ℕ → List ActorEvent) → Type 0
 DoLinksMatch top journals =
     (from to : ℕ) → from < node_count top → to < node_count top
     → IsBeginning (receipts_from from (journals to)) (sends_to to (sent_by top from (journals from)))

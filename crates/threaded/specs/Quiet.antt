@@ -1,11 +1,11 @@
 -- When all that seats sent was received, and what their journals are then: those of a quiet run.
 use Rattle.std.specs.Prelude.{◌≡◌, ℕ, ◌<◌, ◌≤◌, true, List, length, slice_get, Some}
-use Rattle.messages.specs.declared.event.Event.{Event as ActorEvent}
+use Rattle.messages.specs.declared.event.ActorEvent.{ActorEvent}
 use Rattle.messages.specs.Topology.{TopologyValue, node_count}
 use Rattle.messages.specs.Actors.{sent_by}
 use Rattle.actors.specs.Journals.{receipts_from, sends_to}
 use Rattle.actors.specs.Seats.{SeatValue}
-use Rattle.world.specs.declared.run_event.RunEvent.{RunEvent as Event}
+use Rattle.world.specs.declared.run_event.RunEvent.{RunEvent}
 use Rattle.world.specs.Run.{run}
 use Rattle.world.specs.Journals.{IsRunOf}
 use Rattle.world.specs.Quiet.{IsQuiet}
@@ -22,7 +22,7 @@ AreAllReceived top seats =
 -- The journals of the seats are those of a quiet run: each message that was sent was handled, so every operation ended, and all data
 -- centres have one table. No seat has an operation open.
 pub record AreOfQuietRun (top : TopologyValue) (seats : List SeatValue) : Type 0 where
-  pub events : List Event
+  pub events : List RunEvent
   pub is_run : IsRunOf top (journal_of seats) events
   pub quiet : IsQuiet (run top events)
   pub settled : Settled top (run top events)

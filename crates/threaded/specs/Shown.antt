@@ -1,7 +1,7 @@
 -- When what seats show of their actors matches on each link, and what a run tells of it.
 use Rattle.std.specs.Prelude.{◌≡◌, ℕ, ◌<◌, Some, Contains}
 use Rattle.messages.specs.declared.envelope.Envelope.{Envelope}
-use Rattle.messages.specs.declared.event.Event.TheVariants.{Handle}
+use Rattle.messages.specs.declared.event.ActorEvent.TheVariants.{Handle}
 use Rattle.messages.specs.Topology.{TopologyValue, node_count}
 use Rattle.messages.specs.Actors.{Replayed, replay_of}
 use Rattle.actors.specs.Journals.{receipts_from, sends_to, IsBeginning}

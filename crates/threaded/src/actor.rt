@@ -2,7 +2,7 @@
 ghost use Rattle.std.specs.Prelude.{◌≡◌, ◌<◌, ◌⊎◌, ◌++◌, ◌∷◌, [], ℕ, true, false, List, None, IsSome, IfOk, OnOk, IfErr, OnErr};
 ghost use Rattle.messages.specs.declared.envelope.Envelope.{Envelope};
 ghost use Rattle.messages.specs.declared.outcome.Outcome.{Outcome};
-ghost use Rattle.messages.specs.declared.event.Event.{Event as ActorEvent};
+ghost use Rattle.messages.specs.declared.event.ActorEvent.{ActorEvent};
 ghost use Rattle.messages.specs.Topology.{TopologyValue};
 ghost use Rattle.messages.specs.Session.{SessionState};
 ghost use Rattle.messages.specs.SessionEvents.{session_taken};
@@ -14,7 +14,7 @@ ghost use Rattle.threaded.specs.declared.actor.Actor.TheVariants as actor;
 use actors::Machine;
 use client::Session;
 use logical_time::{Fault, Node};
-use messages::{Event, Outbox, Outcome, Topology};
+use messages::{ActorEvent, Outbox, Outcome, Topology};
 use shard::Shard;
 use std::alloc::Global;
 
@@ -37,9 +37,9 @@ pub enum Actor {
 /// protocol does, and with `Memory`; then it stands for what it stood for, and the event is handed back.
 fn step_shard(
     shard: &mut Shard,
-    event: Event,
+    event: ActorEvent,
     outbox: &mut Outbox,
-) -> Result<Option<u64>, (Fault, Event)>
+) -> Result<Option<u64>, (Fault, ActorEvent)>
     ensures came { (top : TopologyValue) (node : ℕ) (journal : List ActorEvent) (before : ℕ → List Envelope) (outcomes : List (ℕ × Outcome))
         → CameFrom top node journal (followed_by before outbox.old.sent) outcomes (actor.Shard shard.old)
         → OnOk result (CameFrom top node (journal ++ event ∷ []) (followed_by before outbox.new.sent) outcomes (actor.Shard shard.new)) }
@@ -52,15 +52,15 @@ fn step_shard(
     ensures back { IfErr result (λ e. e.1 ≡ event) }
 {
     match event {
-        Event::Handle(envelope) => match shard.handle(envelope, outbox) {
+        ActorEvent::Handle(envelope) => match shard.handle(envelope, outbox) {
             Ok(()) => Ok(None),
-            Err(refused) => Err((refused.fault, Event::Handle(refused.envelope))),
+            Err(refused) => Err((refused.fault, ActorEvent::Handle(refused.envelope))),
         },
-        Event::Collect(time) => match shard.collect(time) {
+        ActorEvent::Collect(time) => match shard.collect(time) {
             Ok(()) => Ok(None),
-            Err(fault) => Err((fault, Event::Collect(time))),
+            Err(fault) => Err((fault, ActorEvent::Collect(time))),
         },
-        Event::Submit(op) => Err((Fault::StrangerEnd, Event::Submit(op))),
+        ActorEvent::Submit(op) => Err((Fault::StrangerEnd, ActorEvent::Submit(op))),
     }
 }
 
@@ -85,9 +85,9 @@ fn step_session(
     session: &mut Session,
     waits: &mut bool,
     ended: &mut Option<(u64, Outcome)>,
-    event: Event,
+    event: ActorEvent,
     outbox: &mut Outbox,
-) -> Result<Option<u64>, (Fault, Event)>
+) -> Result<Option<u64>, (Fault, ActorEvent)>
     requires { ended.old ≡ None }
     ensures came { (top : TopologyValue) (node : ℕ) (journal : List ActorEvent) (before : ℕ → List Envelope) (outcomes : List (ℕ × Outcome))
         → CameFrom top node journal (followed_by before outbox.old.sent) outcomes (actor.Session session.old waits.old ended.old)
@@ -101,22 +101,22 @@ fn step_session(
     ensures back { IfErr result (λ e. e.1 ≡ event) }
 {
     match event {
-        Event::Handle(envelope) => match session.handle(envelope, outbox) {
+        ActorEvent::Handle(envelope) => match session.handle(envelope, outbox) {
             Ok(()) => {
                 end(session, waits, ended);
                 Ok(None)
             }
-            Err(refused) => Err((refused.fault, Event::Handle(refused.envelope))),
+            Err(refused) => Err((refused.fault, ActorEvent::Handle(refused.envelope))),
         },
-        Event::Submit(op) => match session.submit(op, outbox) {
+        ActorEvent::Submit(op) => match session.submit(op, outbox) {
             Ok(number) => {
                 *waits = true;
                 end(session, waits, ended);
                 Ok(Some(number))
             }
-            Err((fault, op)) => Err((fault, Event::Submit(op))),
+            Err((fault, op)) => Err((fault, ActorEvent::Submit(op))),
         },
-        Event::Collect(time) => Err((Fault::StrangerEnd, Event::Collect(time))),
+        ActorEvent::Collect(time) => Err((Fault::StrangerEnd, ActorEvent::Collect(time))),
     }
 }
 
@@ -140,7 +140,11 @@ impl Machine for Actor {
         }
     }
 
-    fn step(&mut self, event: Event, outbox: &mut Outbox) -> Result<Option<u64>, (Fault, Event)> {
+    fn step(
+        &mut self,
+        event: ActorEvent,
+        outbox: &mut Outbox,
+    ) -> Result<Option<u64>, (Fault, ActorEvent)> {
         match self {
             Actor::Shard(shard) => step_shard(shard, event, outbox),
             Actor::Session {

@@ -19,21 +19,21 @@ use crate::actor::Actor;
 use crate::concluding::place_of;
 use actors::Seat;
 use logical_time::Node;
-use messages::{Event, Op, Outcome, Topology};
+use messages::{ActorEvent, Op, Outcome, Topology};
 use std::marker::Model;
 
 /// The operation that an event submits, if it submits one.
-pub(crate) fn submitted(event: &Event) -> Option<&Op>
+pub(crate) fn submitted(event: &ActorEvent) -> Option<&Op>
     ensures { option_copied result ≡ threads.op_in event.now }
 {
     match event {
-        Event::Submit(op) => Some(op),
+        ActorEvent::Submit(op) => Some(op),
         _ => None,
     }
 }
 
 /// The operation with a number, and its place, if there is one: by a walk from a place on, before which so many stand.
-fn find_from(journal: &[Event], first: usize, passed: u64, number: u64) -> Option<(usize, &Op)>
+fn find_from(journal: &[ActorEvent], first: usize, passed: u64, number: u64) -> Option<(usize, &Op)>
     requires passed { passed ≡ count_of (take first journal.now) }
     requires lower { passed < number }
     ensures some { IfSome result (IsFound journal.now number) }
@@ -54,7 +54,7 @@ fn find_from(journal: &[Event], first: usize, passed: u64, number: u64) -> Optio
 /// The journal of a session, in which its operations are looked up by their numbers.
 #[derive(Drop)]
 struct Search<'a> {
-    journal: &'a [Event],
+    journal: &'a [ActorEvent],
     /// How many events were passed.
     events: usize,
     /// How many operations they submit.
@@ -63,10 +63,10 @@ struct Search<'a> {
 
 impl<'a> Model for Search<'a> {
     ghost use Rattle.std.specs.Prelude.{◌≡◌, List, take};
-    ghost use Rattle.messages.specs.declared.event.Event.{Event};
+    ghost use Rattle.messages.specs.declared.event.ActorEvent.{ActorEvent};
     ghost use Rattle.threaded.specs.Submitted.{count_of};
 
-    ghost Value = { List Event };
+    ghost Value = { List ActorEvent };
 
     ghost view = { λ s. s.journal.now };
 
@@ -74,7 +74,7 @@ impl<'a> Model for Search<'a> {
 }
 
 impl<'a> Search<'a> {
-    fn new(journal: &'a [Event]) -> Search<'a>
+    fn new(journal: &'a [ActorEvent]) -> Search<'a>
         ensures { result ≡ journal.now }
     {
         Search {

@@ -22,7 +22,7 @@ use crate::entries::submitted;
 use actors::Seat;
 use column_family::{Batch, Committed};
 use logical_time::{Fault, Node, Shard as Number, Stamp, Time, TxnId};
-use messages::{Event, Home, Op, Topology};
+use messages::{ActorEvent, Home, Op, Topology};
 use planner::shard_of;
 use std::alloc::Global;
 use table::History;
@@ -116,7 +116,7 @@ fn add_session(
     home: Home,
     seats: &[Seat<Actor>],
     session: Node,
-    journal: &[Event],
+    journal: &[ActorEvent],
 ) -> Result<(), Fault>
     ensures ok { (top : TopologyValue) (states : ℕ → ShardState) → AreAsked top states home seats.now
         → OnOk result (history.new ≡ history.old ++ filter_map (entry_of top states home.dc) (writes_by session journal.now)) }

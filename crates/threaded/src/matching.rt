@@ -13,7 +13,7 @@ use crate::concluding::place_of;
 use actors::Seat;
 use equality::same_envelope;
 use logical_time::{Fault, Node};
-use messages::{Envelope, Event, Topology};
+use messages::{ActorEvent, Envelope, Topology};
 use std::alloc::Global;
 
 /// Whether all that each seat sent carries the clocks of its events. Looks at each seat once.
@@ -76,7 +76,7 @@ fn is_next(
     places: &[usize],
     to: Node,
     received: &mut Vec<usize>,
-    journal: &[Event],
+    journal: &[ActorEvent],
     place: usize,
 ) -> bool
     requires place { place < length journal.now }
@@ -88,8 +88,8 @@ fn is_next(
     ensures other { result ≡ false → DoesReceive (length places.now) seats.now to journal.now → ⊥ }
 {
     match &journal[place] {
-        Event::Handle(envelope) => counts(seats, places, to, received, envelope),
-        Event::Submit(_) | Event::Collect(_) => true,
+        ActorEvent::Handle(envelope) => counts(seats, places, to, received, envelope),
+        ActorEvent::Submit(_) | ActorEvent::Collect(_) => true,
     }
 }
 
@@ -100,7 +100,7 @@ fn receives(
     seats: &[Seat<Actor>],
     places: &[usize],
     to: Node,
-    journal: &[Event],
+    journal: &[ActorEvent],
 ) -> Result<bool, Fault>
     requires places { ArePlaces (length places.now) seats.now places.now }
     requires senders { AreFromActors (length places.now) journal.now }
@@ -151,7 +151,7 @@ fn count_from(received: &mut Vec<usize>, node: Node)
 }
 
 /// Counts the event at this place of a journal, if it is a receipt.
-fn count_receipt(received: &mut Vec<usize>, journal: &[Event], place: usize)
+fn count_receipt(received: &mut Vec<usize>, journal: &[ActorEvent], place: usize)
     requires place { place < length journal.now }
     requires fits { length journal.now < 2 ^ 64 }
     requires senders { AreFromActors (length received.old.items) journal.now }
@@ -159,13 +159,13 @@ fn count_receipt(received: &mut Vec<usize>, journal: &[Event], place: usize)
     ensures { HaveCounted (length received.old.items) (take (place + 1) journal.now) received.new.items }
 {
     match &journal[place] {
-        Event::Handle(envelope) => count_from(received, envelope.from),
-        Event::Submit(_) | Event::Collect(_) => return,
+        ActorEvent::Handle(envelope) => count_from(received, envelope.from),
+        ActorEvent::Submit(_) | ActorEvent::Collect(_) => return,
     }
 }
 
 /// How many envelopes a journal received from each of so many actors. Refused with `Memory` alone.
-fn receipts_of(alloc: Global, count: usize, journal: &[Event]) -> Result<Vec<usize>, Fault>
+fn receipts_of(alloc: Global, count: usize, journal: &[ActorEvent]) -> Result<Vec<usize>, Fault>
     requires { AreFromActors count journal.now }
     ensures ok { IfOk result (λ received. HaveCounted count journal.now received.items) }
     ensures memory { IfErr result (λ e. e ≡ Memory) }

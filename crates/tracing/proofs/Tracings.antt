@@ -10,8 +10,8 @@ use Rattle.world.specs.declared.completed.Completed.{Completed}
 use Rattle.world.specs.declared.run_event.RunEvent.TheVariants.{Submit}
 use Rattle.world.specs.Run.{Run, continued, opening}
 use Rattle.world.specs.World.{WorldValue, run_of, refusal_in, IsRefusedAs}
-use Rattle.workload.specs.declared.script.Event.{Event as ScriptEvent}
-use Rattle.workload.specs.declared.script.Event.TheVariants as script
+use Rattle.workload.specs.declared.script.ScriptEvent.{ScriptEvent}
+use Rattle.workload.specs.declared.script.ScriptEvent.TheVariants as script
 use Rattle.workload.specs.declared.script.Script.{Script}
 use Rattle.workload.specs.declared.transcript.Entry.{Entry}
 use Rattle.workload.specs.declared.transcript.Entry.TheVariants as entry

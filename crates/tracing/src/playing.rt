@@ -1,7 +1,7 @@
 //! The run of a script, with what came of each event.
 ghost use Rattle.std.specs.Prelude.{◌≡◌, ◌≢◌, ◌≤◌, ◌⊎◌, ◌++◌, [], Some, Err, length, drop, map, option_to_list, IfOk, IfErr, OnOk, IsOkAnd};
 ghost use Rattle.world.specs.World.{run_of};
-ghost use Rattle.workload.specs.declared.script.Event.TheVariants as script;
+ghost use Rattle.workload.specs.declared.script.ScriptEvent.TheVariants as script;
 ghost use Rattle.workload.specs.declared.transcript.Entry.TheVariants as entry;
 ghost use Rattle.workload.specs.Simulation as simulation;
 ghost use Rattle.workload.specs.Simulation.{entry_of, simulated_in, simulated};
@@ -15,7 +15,7 @@ use logical_time::{Fault, Node, Time};
 use messages::{Op, Topology};
 use std::alloc::Global;
 use std::mem;
-use workload::{Entry, Event, Script, Transcript, transcript_text};
+use workload::{Entry, Script, ScriptEvent, Transcript, transcript_text};
 use world::{Completed, World};
 
 /// How many messages a drain delivers at most.
@@ -180,29 +180,29 @@ fn drain(world: &mut World, place: usize, steps: &mut Vec<Step>) -> Result<u64, 
 fn happen(
     world: &mut World,
     place: usize,
-    event: &Event,
+    event: &ScriptEvent,
     steps: &mut Vec<Step>,
 ) -> Result<Option<Entry>, Fault>
     ensures ok { IfOk result (λ refusal. PlaysBefore world.old event.now world.new (option_to_list refusal)) }
     ensures ends { IfErr result (EndsWith world.old event.now) }
 {
     match event {
-        Event::Submit { session, op } => {
+        ScriptEvent::Submit { session, op } => {
             let refusal = submit(world, *session, op)?;
             note(world, place, None, fault_in(&refusal), steps)?;
             Ok(refusal)
         }
-        Event::Deliver { number } => {
+        ScriptEvent::Deliver { number } => {
             deliver(world, *number)?;
             note(world, place, Some(*number), None, steps)?;
             Ok(None)
         }
-        Event::Collect { shard, time } => {
+        ScriptEvent::Collect { shard, time } => {
             collect(world, *shard, *time)?;
             note(world, place, None, None, steps)?;
             Ok(None)
         }
-        Event::Drain => {
+        ScriptEvent::Drain => {
             drain(world, place, steps)?;
             Ok(None)
         }
@@ -245,7 +245,7 @@ fn add_refusal(transcript: &mut Transcript, refusal: Option<Entry>) -> Result<()
 fn play(
     world: &mut World,
     place: usize,
-    event: &Event,
+    event: &ScriptEvent,
     transcript: &mut Transcript,
     steps: &mut Vec<Step>,
 ) -> Result<(), Fault>
@@ -262,7 +262,7 @@ fn play(
 fn play_all(
     alloc: Global,
     world: &mut World,
-    events: &[Event],
+    events: &[ScriptEvent],
     steps: &mut Vec<Step>,
 ) -> Result<Transcript, Fault>
     requires opening { world.old.events ≡ [] }

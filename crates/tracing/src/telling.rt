@@ -13,14 +13,14 @@ use program::{Buffered, Output};
 use std::io::Write;
 use std::str;
 use std::str::Lines;
-use workload::{Event, Script};
+use workload::{Script, ScriptEvent};
 use world::Completed;
 
 /// What a trace is told of.
 #[derive(Clone, Copy)]
 struct Run<'t> {
     topology: &'t Topology,
-    events: &'t [Event],
+    events: &'t [ScriptEvent],
     messages: &'t [Envelope],
     completed: &'t [Completed],
 }
@@ -107,16 +107,16 @@ fn put_asked<W: Write>(
     output: &mut Output<W>,
     topology: &Topology,
     step: &Step,
-    event: &Event,
+    event: &ScriptEvent,
     actor: &mut Actor,
 ) -> Result<(), Fault>
     ensures { IfErr result (HasCut output.new) }
 {
     match event {
-        Event::Submit { session, op } => {
+        ScriptEvent::Submit { session, op } => {
             put_submission(output, topology, step, *session, op, actor)
         }
-        Event::Collect { shard, time } => {
+        ScriptEvent::Collect { shard, time } => {
             put_collection(output, topology, step, *shard, *time, actor)
         }
         _ => Ok(()),
@@ -128,14 +128,14 @@ fn put_called<W: Write>(
     output: &mut Output<W>,
     topology: &Topology,
     step: &Step,
-    event: &Event,
+    event: &ScriptEvent,
     actors: &mut [Actor],
 ) -> Result<(), Fault>
     ensures { IfErr result (HasCut output.new) }
 {
     let node = match event {
-        Event::Submit { session, op: _ } => session.get(),
-        Event::Collect { shard, time: _ } => shard.get(),
+        ScriptEvent::Submit { session, op: _ } => session.get(),
+        ScriptEvent::Collect { shard, time: _ } => shard.get(),
         _ => 0,
     };
     match actors.get_mut(usize::from(node)) {

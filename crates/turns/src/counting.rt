@@ -7,7 +7,7 @@ use crate::seats::{close_all, load, run_seats};
 use crate::showing::print;
 use actors::{Machine, Mesh, Open, Seat};
 use logical_time::{Fault, Node};
-use messages::{Envelope, Event, Op, Outbox, Outcome, Topology};
+use messages::{ActorEvent, Envelope, Op, Outbox, Outcome, Topology};
 use running::Workers;
 use std::alloc::Global;
 use std::sync::Wait;
@@ -59,20 +59,24 @@ impl Machine for Counter {
     }
 
     #[tactic(auto, using(crate::proofs::Counts::counts_submitted, crate::proofs::Counts::counts_handled, crate::proofs::Counts::numbers_submitted, crate::proofs::Counts::refuses_submitted, crate::proofs::Counts::refuses_collected))]
-    fn step(&mut self, event: Event, _outbox: &mut Outbox) -> Result<Option<u64>, (Fault, Event)> {
+    fn step(
+        &mut self,
+        event: ActorEvent,
+        _outbox: &mut Outbox,
+    ) -> Result<Option<u64>, (Fault, ActorEvent)> {
         match event {
-            Event::Submit(op) => match self.count_one() {
+            ActorEvent::Submit(op) => match self.count_one() {
                 Ok(number) => {
                     let_op_go(op);
                     Ok(Some(number))
                 }
-                Err(fault) => Err((fault, Event::Submit(op))),
+                Err(fault) => Err((fault, ActorEvent::Submit(op))),
             },
-            Event::Handle(envelope) => {
+            ActorEvent::Handle(envelope) => {
                 let_envelope_go(envelope);
                 Ok(None)
             }
-            Event::Collect(time) => Err((Fault::Collected, Event::Collect(time))),
+            ActorEvent::Collect(time) => Err((Fault::Collected, ActorEvent::Collect(time))),
         }
     }
 
@@ -92,8 +96,8 @@ impl Machine for Counter {
 /// Each machine is to count two operations.
 fn load_all(alloc: Global, seats: &mut [Seat<Counter>]) -> Result<(), Fault> {
     for seat in seats.iter_mut() {
-        load(alloc, seat, Event::Submit(batch(alloc, &["b:x1"])?))?;
-        load(alloc, seat, Event::Submit(batch(alloc, &["b:x2"])?))?;
+        load(alloc, seat, ActorEvent::Submit(batch(alloc, &["b:x1"])?))?;
+        load(alloc, seat, ActorEvent::Submit(batch(alloc, &["b:x2"])?))?;
     }
     Ok(())
 }

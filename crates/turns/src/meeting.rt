@@ -4,7 +4,7 @@ use crate::seats::{close_all, load, run_seats};
 use crate::showing::{print, word_of};
 use actors::{Gate, Mesh, Seat};
 use logical_time::{Fault, Node};
-use messages::Event;
+use messages::ActorEvent;
 use running::Workers;
 use std::alloc::Global;
 use std::sync::Wait;
@@ -72,7 +72,7 @@ impl Gate for Meeting {
 /// Each of the two shards is to collect.
 fn load_both(alloc: Global, seats: &mut [Seat<Actor>]) -> Result<(), Fault> {
     for seat in seats.iter_mut().take(2) {
-        load(alloc, seat, Event::Collect(time("1")))?;
+        load(alloc, seat, ActorEvent::Collect(time("1")))?;
     }
     Ok(())
 }

@@ -5,7 +5,7 @@ use crate::seats::{close_all, load, run_seats};
 use crate::showing::{print, word_of};
 use actors::{End, Mesh, Open, Report, Seat, drain};
 use logical_time::Fault;
-use messages::Event;
+use messages::ActorEvent;
 use running::Workers;
 use std::alloc::Global;
 use std::sync::Wait;
@@ -33,7 +33,11 @@ fn load_session(alloc: Global, seats: &mut [Seat<Actor>]) -> Result<(), Fault> {
     let Some(seat) = seats.get_mut(usize::from(SESSION)) else {
         return Err(Fault::Script);
     };
-    load(alloc, seat, Event::Submit(batch(alloc, &["b:x1", "a:x2"])?))
+    load(
+        alloc,
+        seat,
+        ActorEvent::Submit(batch(alloc, &["b:x1", "a:x2"])?),
+    )
 }
 
 fn seats_of(alloc: Global) -> Result<Vec<Seat<Actor>>, Fault> {

@@ -6,14 +6,14 @@ use crate::showing::{add_entry, print};
 use actors::{Mesh, Open, Seat, drain};
 use audit::Audit;
 use logical_time::Fault;
-use messages::Event;
+use messages::ActorEvent;
 use running::Workers;
 use std::alloc::Global;
 use std::fs;
 use std::sync::Wait;
 use std::thread::Threads;
 use threaded::{Actor, Concluded, conclude};
-use workload::{Event as ScriptEvent, Script, Transcript, read_script};
+use workload::{Script, ScriptEvent, Transcript, read_script};
 
 /// The names of the scripts.
 const SCRIPTS: [&str; 8] = [
@@ -80,8 +80,8 @@ fn told<R: Threads + Wait + Sync>(
 /// Gives an actor what an event of the script asks of it.
 fn load_event(alloc: Global, seats: &mut [Seat<Actor>], event: &ScriptEvent) -> Result<(), Fault> {
     let (node, event) = match event {
-        ScriptEvent::Submit { session, op } => (*session, Event::Submit(op.copied()?)),
-        ScriptEvent::Collect { shard, time } => (*shard, Event::Collect(*time)),
+        ScriptEvent::Submit { session, op } => (*session, ActorEvent::Submit(op.copied()?)),
+        ScriptEvent::Collect { shard, time } => (*shard, ActorEvent::Collect(*time)),
         _ => return Ok(()),
     };
     match seats.get_mut(usize::from(node.get())) {

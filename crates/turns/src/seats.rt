@@ -3,7 +3,7 @@ ghost use Rattle.actors.specs.Journals.{IsOwn};
 
 use actors::{Gate, Machine, Pool, Report, Seat};
 use logical_time::Fault;
-use messages::Event;
+use messages::ActorEvent;
 use running::Workers;
 use std::alloc::Global;
 use std::sync::{Mutex, Wait};
@@ -21,7 +21,11 @@ pub(crate) fn close_all<M: Machine>(mut seats: Vec<Seat<M>>) {
 }
 
 /// Puts an event at the end of a backlog.
-pub(crate) fn load<M: Machine>(alloc: Global, seat: &mut Seat<M>, event: Event) -> Result<(), Fault>
+pub(crate) fn load<M: Machine>(
+    alloc: Global,
+    seat: &mut Seat<M>,
+    event: ActorEvent,
+) -> Result<(), Fault>
     requires { IsOwn event }
 {
     let mut events = Vec::new(alloc);

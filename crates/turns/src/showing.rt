@@ -1,7 +1,7 @@
 //! What is seen of turns, journals, outcomes and answers, as text.
 use actors::Turn;
 use logical_time::{Fault, Node};
-use messages::{Event, Outcome};
+use messages::{ActorEvent, Outcome};
 use slice::{Answer, Columns};
 use std::str;
 use workload::Entry;
@@ -59,12 +59,12 @@ pub(crate) fn add_turn(seen: &mut String, answer: Result<Turn, Fault>) -> Result
 }
 
 /// Adds each event: what was submitted, collected, and from which node a message came.
-pub(crate) fn add_journal(seen: &mut String, journal: &[Event]) -> Result<(), Fault> {
+pub(crate) fn add_journal(seen: &mut String, journal: &[ActorEvent]) -> Result<(), Fault> {
     for event in journal {
         match event {
-            Event::Submit(_) => seen.push_str("submit; ")?,
-            Event::Collect(_) => seen.push_str("collect; ")?,
-            Event::Handle(envelope) => {
+            ActorEvent::Submit(_) => seen.push_str("submit; ")?,
+            ActorEvent::Collect(_) => seen.push_str("collect; ")?,
+            ActorEvent::Handle(envelope) => {
                 let from = envelope.from.get();
                 write!(seen, "from {from}; ")?;
             }

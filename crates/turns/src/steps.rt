@@ -4,7 +4,7 @@ use crate::seats::{close_all, load};
 use crate::showing::{add_done, add_journal, add_number, add_outcomes, add_turn, print, word_of};
 use actors::{Mesh, Seat, drain};
 use logical_time::{Fault, Node};
-use messages::{Event, Op};
+use messages::{ActorEvent, Op};
 use std::alloc::Global;
 use std::fs;
 use threaded::Actor;
@@ -45,7 +45,7 @@ fn submit(seat: &mut Seat<Actor>, op: Op) -> Result<u64, Fault> {
 
 fn load_collections(alloc: Global, seat: &mut Seat<Actor>, times: &[&str]) -> Result<(), Fault> {
     for until in times {
-        load(alloc, seat, Event::Collect(time(until)))?;
+        load(alloc, seat, ActorEvent::Collect(time(until)))?;
     }
     Ok(())
 }
@@ -77,7 +77,7 @@ fn step_seat(
         ["move", dc] => add_number(seen, submit(seat, Op::Move { dc: small(dc) })),
         ["collect", until] => add_done(seen, seat.collect(time(until))),
         ["is", "to", "submit", changes @ ..] => {
-            load(alloc, seat, Event::Submit(batch(alloc, changes)?))
+            load(alloc, seat, ActorEvent::Submit(batch(alloc, changes)?))
         }
         ["is", "to", "collect", times @ ..] => load_collections(alloc, seat, times),
         ["turn"] => add_turn(seen, seat.turn()),

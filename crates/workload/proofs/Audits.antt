@@ -13,7 +13,7 @@ use Rattle.messages.specs.declared.op.Op.TheVariants as op
 use Rattle.messages.specs.declared.outcome.Outcome.{Outcome}
 use Rattle.messages.specs.declared.outcome.Outcome.TheVariants as outcome
 use Rattle.messages.specs.Topology.{TopologyValue, is_topology}
-use Rattle.world.specs.declared.run_event.RunEvent.{RunEvent as Event}
+use Rattle.world.specs.declared.run_event.RunEvent.{RunEvent}
 use Rattle.world.specs.declared.completed.Completed.{Completed}
 use Rattle.world.specs.Run.{Run, run}
 use Rattle.world.specs.Histories.{IsHistory}
@@ -26,7 +26,7 @@ use Rattle.world.proofs.promised.Laws.{reads_show_one_table, entries_are_of_subm
 use Rattle.audit.specs.declared.found.Audit.{Audit}
 use Rattle.audit.specs.Audit.{is_right, is_wrong_on, is_wrong}
 use Rattle.audit.proofs.Same.{right_is_meaning}
-use Rattle.workload.specs.declared.script.Event.{Event as ScriptEvent}
+use Rattle.workload.specs.declared.script.ScriptEvent.{ScriptEvent}
 use Rattle.workload.specs.declared.script.Script.{Script}
 use Rattle.workload.specs.declared.transcript.Entry.{Entry}
 use Rattle.workload.specs.Audited.{AreFirstHistories}
@@ -70,7 +70,7 @@ right_by : (o : Option History) (a : Op) (h : History) (read : Read) (time : ℕ
     → is_right o a time answer ≡ true
 right_by o a h read time answer there asked means = rw (there, asked) ((right_is_meaning h read time answer).1 means)
 
-module _ (top : TopologyValue) (events : List Event) (histories : List History) (is : is_topology top.dcs top.shards top.homes ≡ true) (are : AreFirstHistories top (run top events) top.dcs histories) where
+module _ (top : TopologyValue) (events : List RunEvent) (histories : List History) (is : is_topology top.dcs top.shards top.homes ≡ true) (are : AreFirstHistories top (run top events) top.dcs histories) where
   has_history : (c : Completed) → Among c (run top events).transcript → (h : History) × (slice_get histories c.home ≡ Some h)
   has_history c among =
       let at = homes_are_of_moves top events (stands top is).some c (among_contains c (run top events).transcript among) in
@@ -100,7 +100,7 @@ module _ (top : TopologyValue) (events : List Event) (histories : List History) 
       by (outcome.Moved dc floor) q = refl
 
 -- an audit that counts in the run finds none
-pub audit_is_clean : (r : Result Audit Fault) (top : TopologyValue) (events : List Event) (histories given : List History) (completed : List Completed)
+pub audit_is_clean : (r : Result Audit Fault) (top : TopologyValue) (events : List RunEvent) (histories given : List History) (completed : List Completed)
     → is_topology top.dcs top.shards top.homes ≡ true → AreFirstHistories top (run top events) top.dcs histories → given ≡ histories → completed ≡ (run top events).transcript
     → IfOk r (λ found. found.wrong ≡ count_by (is_wrong given) completed) → IfOk r (λ found. found.wrong ≡ 0)
 audit_is_clean (Ok found) top events histories given completed is are same all counted =

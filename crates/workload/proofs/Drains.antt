@@ -4,7 +4,7 @@ use Rattle.std.proofs.lemmas.List.{length-append}
 use Rattle.logical_time.specs.declared.fault.Fault.{Fault}
 use Rattle.logical_time.specs.declared.fault.Fault.TheVariants.{Memory}
 use Rattle.messages.specs.Topology.{TopologyValue}
-use Rattle.world.specs.declared.run_event.RunEvent.{RunEvent as Event}
+use Rattle.world.specs.declared.run_event.RunEvent.{RunEvent}
 use Rattle.world.specs.declared.run_event.RunEvent.TheVariants.{Deliver}
 use Rattle.world.specs.Run.{Run, opening, step, continued, run}
 use Rattle.world.specs.Refusals.{Refusal, Refused, refusal_of}
@@ -24,16 +24,16 @@ pub by_memory_or_run : (r : Option Refusal) (e : Fault) → IsRefusedAs r e → 
 by_memory_or_run None e is = inl is
 by_memory_or_run (Some r) e is = inr (ap Some is)
 
-pub allowed_more : (top : TopologyValue) (w : Run) (xs : List Event) (x : Event) → AreAllowed top w xs → refusal_of top (continued top w xs) x ≡ None → AreAllowed top w (xs ++ x ∷ [])
+pub allowed_more : (top : TopologyValue) (w : Run) (xs : List RunEvent) (x : RunEvent) → AreAllowed top w xs → refusal_of top (continued top w xs) x ≡ None → AreAllowed top w (xs ++ x ∷ [])
 allowed_more top w [] x all last = (last, tt)
 allowed_more top w (y ∷ ys) x all last = (all.0, allowed_more top (step top w y) ys x all.1 last)
 
 -- of an event that is allowed what ended by it is told
-pub one_told : (top : TopologyValue) (w : Run) (x : Event) → refusal_of top w x ≡ None → told_of top w x ≡ Ok (ended_between w (step top w x))
+pub one_told : (top : TopologyValue) (w : Run) (x : RunEvent) → refusal_of top w x ≡ None → told_of top w x ≡ Ok (ended_between w (step top w x))
 one_told top w x q = ap (λ o. told_if o w x (step top w x)) q
 
 -- and so of several
-pub allowed_told : (top : TopologyValue) (w : Run) (xs : List Event) → AreAllowed top w xs → told top w xs ≡ Ok (ended_between w (continued top w xs))
+pub allowed_told : (top : TopologyValue) (w : Run) (xs : List RunEvent) → AreAllowed top w xs → told top w xs ≡ Ok (ended_between w (continued top w xs))
 allowed_told top w [] all = ap Ok (sym (none_ended w))
 allowed_told top w (x ∷ xs) all =
     let v = step top w x in
@@ -42,7 +42,7 @@ allowed_told top w (x ∷ xs) all =
     ∙ ap Ok (sym (ended_after top w (x ∷ []) xs))
 
 -- an event that is refused after them ends what is told
-pub refused_told : (top : TopologyValue) (w : Run) (done : List Event) (k : ℕ) (rest : List Event) (e : Fault) → AreAllowed top w done
+pub refused_told : (top : TopologyValue) (w : Run) (done : List RunEvent) (k : ℕ) (rest : List RunEvent) (e : Fault) → AreAllowed top w done
     → refusal_of top (continued top w done) (Deliver k) ≡ Some (Refused e) → told top w (done ++ Deliver k ∷ rest) ≡ Err e
 refused_told top w done k rest e all q =
     let v = continued top w done in
@@ -53,14 +53,14 @@ refused_told top w done k rest e all q =
 -- ## A drain so far
 
 -- this many of the deliveries were made
-pub record IsUnderway (top : TopologyValue) (before after : List Event) (count left : ℕ) : Type 0 where
-  pub done : List Event
+pub record IsUnderway (top : TopologyValue) (before after : List RunEvent) (count left : ℕ) : Type 0 where
+  pub done : List RunEvent
   pub happened : after ≡ before ++ done
   pub number : length done ≡ count
   pub allowed : AreAllowed top (run top before) done
   pub drain : deliveries top (count + left) (run top before) ≡ done ++ deliveries top left (run top after)
 
-pub not_begun : (top : TopologyValue) (before : List Event) (left : ℕ) → IsUnderway top before before 0 left
+pub not_begun : (top : TopologyValue) (before : List RunEvent) (left : ℕ) → IsUnderway top before before 0 left
 not_begun top before left =
     record {
       done = [];
@@ -71,10 +71,10 @@ not_begun top before left =
     }
 
 -- the run after them goes on from the run before them
-pub from_there : (top : TopologyValue) (before after done : List Event) → after ≡ before ++ done → run top after ≡ continued top (run top before) done
+pub from_there : (top : TopologyValue) (before after done : List RunEvent) → after ≡ before ++ done → run top after ≡ continued top (run top before) done
 from_there top before after done e = ap (run top) e ∙ run_after top (opening top) before done
 
-pub one_more : (top : TopologyValue) (before after later : List Event) (count left k : ℕ) → IsUnderway top before after count (suc left)
+pub one_more : (top : TopologyValue) (before after later : List RunEvent) (count left k : ℕ) → IsUnderway top before after count (suc left)
     → first_unhandled (run top after) ≡ Some k → refusal_of top (run top after) (Deliver k) ≡ None → later ≡ after ++ Deliver k ∷ []
     → IsUnderway top before later (count + 1) left
 one_more top before after later count left k u first allowed is =
@@ -94,26 +94,26 @@ one_more top before after later count left k u first allowed is =
     }
 
 -- no more is to be delivered
-pub nothing_left : (top : TopologyValue) (before after : List Event) (count left : ℕ) → IsUnderway top before after count left → count + left ≡ 1000000
+pub nothing_left : (top : TopologyValue) (before after : List RunEvent) (count left : ℕ) → IsUnderway top before after count left → count + left ≡ 1000000
     → deliveries top left (run top after) ≡ [] → IsDrained top before after count
 nothing_left top before after count left u whole none =
     let all : deliveries top 1000000 (run top before) ≡ u.done =
     ap (λ n. deliveries top n (run top before)) (sym whole) ∙ u.drain ∙ ap (λ xs. u.done ++ xs) none ∙ append-nil u.done in
     record {
       happened = u.happened ∙ ap (λ xs. before ++ xs) (sym all);
-      number = sym u.number ∙ ap (λ (xs : List Event). length xs) (sym all);
+      number = sym u.number ∙ ap (λ (xs : List RunEvent). length xs) (sym all);
       allowed = subst (AreAllowed top (run top before)) (sym all) u.allowed;
     }
 
-pub all_handled : (top : TopologyValue) (before after : List Event) (count left : ℕ) → IsUnderway top before after count left → count + left ≡ 1000000
+pub all_handled : (top : TopologyValue) (before after : List RunEvent) (count left : ℕ) → IsUnderway top before after count left → count + left ≡ 1000000
     → first_unhandled (run top after) ≡ None → IsDrained top before after count
 all_handled top before after count left u whole none = nothing_left top before after count left u whole (none_delivered top left (run top after) none)
 
-pub all_made : (top : TopologyValue) (before after : List Event) (count : ℕ) → IsUnderway top before after count 0 → count + 0 ≡ 1000000 → IsDrained top before after count
+pub all_made : (top : TopologyValue) (before after : List RunEvent) (count : ℕ) → IsUnderway top before after count 0 → count + 0 ≡ 1000000 → IsDrained top before after count
 all_made top before after count u whole = nothing_left top before after count 0 u whole (all_delivered top (run top after))
 
 -- the next one is refused
-pub next_refused : (top : TopologyValue) (before after : List Event) (count left k : ℕ) (e : Fault) → IsUnderway top before after count (suc left) → count + suc left ≡ 1000000
+pub next_refused : (top : TopologyValue) (before after : List RunEvent) (count left k : ℕ) (e : Fault) → IsUnderway top before after count (suc left) → count + suc left ≡ 1000000
     → first_unhandled (run top after) ≡ Some k → (e ≡ Memory) ⊎ (refusal_of top (run top after) (Deliver k) ≡ Some (Refused e)) → IsDrainedUntil top before after e
 next_refused top before after count left k e u whole first refused =
     record {

@@ -5,7 +5,7 @@ use Rattle.std.proofs.lemmas.List.{length-append}
 use Rattle.logical_time.specs.declared.fault.Fault.{Fault}
 use Rattle.logical_time.specs.declared.fault.Fault.TheVariants.{Memory}
 use Rattle.messages.specs.Topology.{TopologyValue, is_topology}
-use Rattle.world.specs.declared.run_event.RunEvent.{RunEvent as Event}
+use Rattle.world.specs.declared.run_event.RunEvent.{RunEvent}
 use Rattle.world.specs.declared.run_event.RunEvent.TheVariants.{Deliver}
 use Rattle.world.specs.Run.{Run, opening, step, continued, run}
 use Rattle.world.specs.Refusals.{refusal_of}
@@ -32,7 +32,7 @@ drained_is top (suc n) w = by (first_unhandled w) refl (λ k. drained_is top n (
     by (Some k) first rest =
         ap (continued top w) (next_delivered top n w k first) ∙ (rest k ∙ ap (λ o. drained top n (with_delivered top w o)) (sym first))
 
-ends_in_time : (top : TopologyValue) (before after : List Event) (count : ℕ) → is_topology top.dcs top.shards top.homes ≡ true → IsDrained top before after count
+ends_in_time : (top : TopologyValue) (before after : List RunEvent) (count : ℕ) → is_topology top.dcs top.shards top.homes ≡ true → IsDrained top before after count
     → HasRoom top before → HasEnded top (run top before) (run top after)
 ends_in_time top before after count ok d room =
     subst (HasEnded top (run top before))
@@ -46,7 +46,7 @@ world_in_time start w ok same count d room =
     subst (λ t. HasEnded start.top (run_of start) (run t w.events)) (sym same) (ends_in_time start.top start.events w.events count ok d room)
 
 -- no delivery of a drain is refused where clocks have room for it
-next_allowed : (top : TopologyValue) → is_topology top.dcs top.shards top.homes ≡ true → (n : ℕ) (events done rest : List Event) (next : ℕ)
+next_allowed : (top : TopologyValue) → is_topology top.dcs top.shards top.homes ≡ true → (n : ℕ) (events done rest : List RunEvent) (next : ℕ)
     → length (run top events).events + deliveries_left top (run top events) < 2 ^ 48
     → deliveries top n (run top events) ≡ done ++ Deliver next ∷ rest → refusal_of top (run top (events ++ done)) (Deliver next) ≡ None
 next_allowed top ok zero events [] rest next room is = let none = sym (all_delivered top (run top events)) ∙ is in absurd (cc)
@@ -54,12 +54,12 @@ next_allowed top ok zero events (x ∷ done) rest next room is = let none = sym 
 next_allowed top ok (suc n) events done rest next room is =
     by (first_unhandled (run top events)) refl done is (λ k xs. next_allowed top ok n (events ++ Deliver k ∷ []) xs rest next)
   where
-    none : (xs : List Event) → [] ≡ xs ++ Deliver next ∷ rest → ⊥
+    none : (xs : List RunEvent) → [] ≡ xs ++ Deliver next ∷ rest → ⊥
     none [] e = absurd (cc)
     none (x ∷ xs) e = absurd (cc)
 
-    by : (o : Option ℕ) → first_unhandled (run top events) ≡ o → (done : List Event) → deliveries top (suc n) (run top events) ≡ done ++ Deliver next ∷ rest
-        → ((k : ℕ) (xs : List Event)
+    by : (o : Option ℕ) → first_unhandled (run top events) ≡ o → (done : List RunEvent) → deliveries top (suc n) (run top events) ≡ done ++ Deliver next ∷ rest
+        → ((k : ℕ) (xs : List RunEvent)
         → length (run top (events ++ Deliver k ∷ [])).events + deliveries_left top (run top (events ++ Deliver k ∷ [])) < 2 ^ 48
         → deliveries top n (run top (events ++ Deliver k ∷ [])) ≡ xs ++ Deliver next ∷ rest
         → refusal_of top (run top ((events ++ Deliver k ∷ []) ++ xs)) (Deliver next) ≡ None)
@@ -87,7 +87,7 @@ next_allowed top ok (suc n) events done rest next room is =
         (again k xs (subst (λ v. length v.events + deliveries_left top v < 2 ^ 48) (sym more) left)
         (subst (λ v. deliveries top n v ≡ xs ++ Deliver next ∷ rest) (sym more) others))
 
-pub memory_alone : (top : TopologyValue) (before after : List Event) (e : Fault) → is_topology top.dcs top.shards top.homes ≡ true → IsDrainedUntil top before after e → HasRoom top before → e ≡ Memory
+pub memory_alone : (top : TopologyValue) (before after : List RunEvent) (e : Fault) → is_topology top.dcs top.shards top.homes ≡ true → IsDrainedUntil top before after e → HasRoom top before → e ≡ Memory
 memory_alone top before after e ok d room =
     let allowed = next_allowed top ok 1000000 before d.done d.rest d.next room.clocks d.drain in
     elim (d.refused) [

@@ -18,7 +18,7 @@ use Rattle.slice.specs.declared.predicate.Predicate.TheVariants.{Range}
 use Rattle.messages.specs.Topology.{TopologyValue}
 use Rattle.workload.specs.declared.heading.Heading.{Heading}
 use Rattle.workload.specs.declared.heading.Bounds.{Bounds}
-use Rattle.workload.specs.declared.script.Event.{Event}
+use Rattle.workload.specs.declared.script.ScriptEvent.{ScriptEvent}
 use Rattle.workload.specs.Gives.{◌>>=◌}
 use Rattle.workload.specs.Shape.{members_len, whole_below, data_of, all_by, list_by, all_within, list_within, member_by, has_members}
 use Rattle.workload.specs.Script.{end_of, reversed_of, count_of, range_members, range_of, small_of, families_of, topology_among, topology_of, event_of, script_of}
@@ -356,7 +356,7 @@ within : {A : Type 0} (f : Data → Option A) (most : ℕ) (o : Option Items) (x
 within f most None xs h le = absurd (subst Found (sym h) tt)
 within f most (Some ds) xs h le = all_within_short f most (data_of ds) (omega (arith, all_by_length f (data_of ds) xs h)) ∙ h
 
-script_reads : (text : List ℕ) (s u v : List Token) (h : Heading) (top : TopologyValue) (events : List Event) → tokens text ≡ Token.begin_object ∷ s → BeginWith 126 s u h → Tells h top
+script_reads : (text : List ℕ) (s u v : List Token) (h : Heading) (top : TopologyValue) (events : List ScriptEvent) → tokens text ≡ Token.begin_object ∷ s → BeginWith 126 s u h → Tells h top
     → Reads (list_by (event_of top)) 126 u v events → v ≡ Token.end_object ∷ [] → length events ≤ 100000 → option_and_then script_of (read text) ≡ Some (record { topology = top; events = events })
 unfolding script_of
 script_reads text s u v h top events e (now, (m, are, found), key) tells (d, is, stands) end le =
@@ -374,6 +374,6 @@ script_reads text s u v h top events e (now, (m, are, found), key) tells (d, is,
 pub begins : (ts s u : List Token) (h : Heading) (o : Option TopologyValue) → ts ≡ Token.begin_object ∷ s → BeginWith 126 s u h → IfSome o (Tells h) → IfSome o (Begins ts u)
 begins ts s u h o e begin tell = if_some _ _ o (λ top told. (s, h, e, begin, told)) tell
 
-pub begun_reads : (text : List ℕ) (u v : List Token) (top : TopologyValue) (events : List Event) → Begins (tokens text) u top → Reads (list_by (event_of top)) 126 u v events → v ≡ Token.end_object ∷ []
+pub begun_reads : (text : List ℕ) (u v : List Token) (top : TopologyValue) (events : List ScriptEvent) → Begins (tokens text) u top → Reads (list_by (event_of top)) 126 u v events → v ≡ Token.end_object ∷ []
     → length events ≤ 100000 → option_and_then script_of (read text) ≡ Some (record { topology = top; events = events })
 begun_reads text u v top events (s, h, e, begin, told) reads end le = script_reads text s u v h top events e begin told reads end le

@@ -10,8 +10,8 @@ use Rattle.world.specs.declared.completed.Completed.{Completed}
 use Rattle.world.specs.Run.{Run}
 use Rattle.world.specs.World.{WorldValue, run_of, refusal_in, IsRefusedAs}
 use Rattle.world.proofs.growing.Grown.{run_grew}
-use Rattle.workload.specs.declared.script.Event.{Event as ScriptEvent}
-use Rattle.workload.specs.declared.script.Event.TheVariants as script
+use Rattle.workload.specs.declared.script.ScriptEvent.{ScriptEvent}
+use Rattle.workload.specs.declared.script.ScriptEvent.TheVariants as script
 use Rattle.workload.specs.declared.marks.Mark.{Mark}
 use Rattle.workload.specs.declared.marks.Mark.TheVariants as mark
 use Rattle.workload.specs.declared.marks.Refusal.{Refusal}

@@ -6,7 +6,7 @@ use Rattle.logical_time.specs.declared.fault.Fault.{Fault}
 use Rattle.logical_time.specs.declared.fault.Fault.TheVariants.{Memory, ClockSpent, Script as NoScript}
 use Rattle.messages.specs.declared.op.Op.{Op}
 use Rattle.messages.specs.Topology.{TopologyValue, is_shard, is_session}
-use Rattle.world.specs.declared.run_event.RunEvent.{RunEvent as Event}
+use Rattle.world.specs.declared.run_event.RunEvent.{RunEvent}
 use Rattle.world.specs.declared.run_event.RunEvent.TheVariants.{Submit, Deliver, Collect}
 use Rattle.world.specs.declared.completed.Completed.{Completed}
 use Rattle.world.specs.Run.{Run, opening, step, continued, run}
@@ -15,8 +15,8 @@ use Rattle.world.specs.World.{WorldValue, run_of, refusal_in, Takes, IsRefusedAs
 use Rattle.world.proofs.growing.Grown.{run_grew}
 use Rattle.world.proofs.steps.Refusals.{refused_stays}
 use Rattle.world.proofs.safety.Runs.{run_after}
-use Rattle.workload.specs.declared.script.Event.{Event as ScriptEvent}
-use Rattle.workload.specs.declared.script.Event.TheVariants as script
+use Rattle.workload.specs.declared.script.ScriptEvent.{ScriptEvent}
+use Rattle.workload.specs.declared.script.ScriptEvent.TheVariants as script
 use Rattle.workload.specs.declared.transcript.Entry.{Entry}
 use Rattle.workload.specs.declared.transcript.Entry.TheVariants as entry
 use Rattle.workload.specs.Simulation.{deliveries, spelled, ended_between, submission_refused, refused_as, told_if, told_of, then_told, told, simulated_in}
@@ -34,20 +34,20 @@ and_nothing (Ok es) = ap Ok (append-nil es)
 and_nothing (Err e) = refl
 
 -- what is told of an event alone
-told_alone : (top : TopologyValue) (w : Run) (x : Event) → told top w (x ∷ []) ≡ told_of top w x
+told_alone : (top : TopologyValue) (w : Run) (x : RunEvent) → told top w (x ∷ []) ≡ told_of top w x
 told_alone top w x = and_nothing (told_of top w x)
 
 -- of an event that is refused
-told_refused : (top : TopologyValue) (w : Run) (x : Event) (r : Refusal) → refusal_of top w x ≡ Some r → told top w (x ∷ []) ≡ refused_as x r
+told_refused : (top : TopologyValue) (w : Run) (x : RunEvent) (r : Refusal) → refusal_of top w x ≡ Some r → told top w (x ∷ []) ≡ refused_as x r
 told_refused top w x r q = told_alone top w x ∙ ap (λ o. told_if o w x (step top w x)) q
 
 -- the run of a world that took an event
-taken_run : (w v : WorldValue) (x : Event) → Takes w x v → run_of v ≡ step w.top (run_of w) x
+taken_run : (w v : WorldValue) (x : RunEvent) → Takes w x v → run_of v ≡ step w.top (run_of w) x
 taken_run w v x t = ap run_of t.happened ∙ run_after w.top (opening w.top) w.events (x ∷ [])
 
 -- ## One event of a script
 
-pub taken_plays : (w v : WorldValue) (s : ScriptEvent) (x : Event) → spelled w.top (run_of w) s ≡ x ∷ [] → Takes w x v → PlaysBefore w s v []
+pub taken_plays : (w v : WorldValue) (s : ScriptEvent) (x : RunEvent) → spelled w.top (run_of w) s ≡ x ∷ [] → Takes w x v → PlaysBefore w s v []
 taken_plays w v s x is t =
     let to = taken_run w v x t in
     record {
@@ -59,7 +59,7 @@ taken_plays w v s x is t =
     }
 
 -- an event that the world refuses ends the script, unless it is a submission
-pub refused_ends : (w : WorldValue) (s : ScriptEvent) (x : Event) (e : Fault) → spelled w.top (run_of w) s ≡ x ∷ [] → refused_as x (Refused e) ≡ Err e
+pub refused_ends : (w : WorldValue) (s : ScriptEvent) (x : RunEvent) (e : Fault) → spelled w.top (run_of w) s ≡ x ∷ [] → refused_as x (Refused e) ≡ Err e
     → IsRefusedAs (refusal_in w x) e → EndsWith w s e
 refused_ends w s x e is told_as refused = go (by_memory_or_run (refusal_in w x) e refused)
   where
@@ -120,7 +120,7 @@ drain_plays w v n same d =
       told = allowed_told w.top (run_of w) (deliveries w.top 1000000 (run_of w)) d.allowed ∙ ap (λ u. Ok (ended_between (run_of w) u)) (sym to);
     }
 
-pub drain_ends : (w : WorldValue) (after : List Event) (e : Fault) → IsDrainedUntil w.top w.events after e → EndsWith w script.Drain e
+pub drain_ends : (w : WorldValue) (after : List RunEvent) (e : Fault) → IsDrainedUntil w.top w.events after e → EndsWith w script.Drain e
 drain_ends w after e d = by d.refused
   where
     by : (e ≡ Memory) ⊎ (refusal_of w.top (run w.top after) (Deliver d.next) ≡ Some (Refused e)) → EndsWith w script.Drain e

@@ -9,13 +9,13 @@ use Rattle.messages.specs.declared.op.Op.TheVariants as op
 use Rattle.messages.specs.declared.outcome.Outcome.{Outcome}
 use Rattle.messages.specs.declared.outcome.Outcome.TheVariants as outcome
 use Rattle.messages.specs.Topology.{TopologyValue}
-use Rattle.world.specs.declared.run_event.RunEvent.{RunEvent as Event}
+use Rattle.world.specs.declared.run_event.RunEvent.{RunEvent}
 use Rattle.world.specs.declared.completed.Completed.{Completed}
 use Rattle.world.specs.Run.{Run, opening, run}
 use Rattle.world.specs.Promises.{Fits}
 use Rattle.world.proofs.lists.Among.{among_contains, contains_among, filter_among, map_only}
 use Rattle.world.proofs.promised.Laws.{reads_show_one_table, entries_are_of_submissions}
-use Rattle.workload.specs.declared.script.Event.{Event as ScriptEvent}
+use Rattle.workload.specs.declared.script.ScriptEvent.{ScriptEvent}
 use Rattle.workload.specs.declared.script.Script.{Script}
 use Rattle.workload.specs.declared.transcript.Entry.{Entry}
 use Rattle.workload.specs.declared.transcript.Entry.TheVariants as entry
@@ -47,7 +47,7 @@ read_of (op.Batch batch) time answer h = absurd h
 read_of (op.Read read) time answer h = (read, refl)
 read_of (op.Move dc) time answer h = absurd h
 
-pub shows : (top : TopologyValue) (events : List Event) → 0 < top.shards → (node number time : ℕ) (answer : List AnsweredRow)
+pub shows : (top : TopologyValue) (events : List RunEvent) → 0 < top.shards → (node number time : ℕ) (answer : List AnsweredRow)
     → Contains (map entry_of (run top events).transcript) (entry.Read node number time answer)
     → ShowsOneTable top (run top events) node number time answer
 shows top events some node number time answer has =

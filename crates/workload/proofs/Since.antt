@@ -9,7 +9,7 @@ use Rattle.messages.specs.Topology.{TopologyValue}
 use Rattle.world.specs.Run.{Run}
 use Rattle.world.specs.World.{WorldValue, run_of}
 use Rattle.workload.specs.declared.marks.Mark.{Mark}
-use Rattle.workload.specs.declared.script.Event.{Event as ScriptEvent}
+use Rattle.workload.specs.declared.script.ScriptEvent.{ScriptEvent}
 use Rattle.workload.specs.declared.script.Script.{Script}
 use Rattle.workload.specs.declared.transcript.Entry.{Entry}
 use Rattle.workload.specs.Played.{ArePlayed}

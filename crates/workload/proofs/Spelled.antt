@@ -6,7 +6,7 @@ use Rattle.world.specs.declared.run_event.RunEvent.TheVariants.{Deliver}
 use Rattle.world.specs.Run.{Run, opening, step, continued}
 use Rattle.world.specs.Lookups.{first_unhandled}
 use Rattle.world.proofs.safety.Runs.{run_after}
-use Rattle.workload.specs.declared.script.Event.{Event as ScriptEvent}
+use Rattle.workload.specs.declared.script.ScriptEvent.{ScriptEvent}
 use Rattle.workload.specs.declared.script.Script.{Script}
 use Rattle.workload.specs.declared.transcript.Entry.{Entry}
 use Rattle.workload.specs.Simulation.{deliveries, spelled, all_spelled, then_told, told, simulated}

@@ -21,8 +21,8 @@ use Rattle.slice.specs.declared.predicate.Predicate.TheVariants.{Names}
 use Rattle.messages.specs.declared.op.Op.{Op}
 use Rattle.messages.specs.declared.op.Op.TheVariants.{Batch, Read as Asks, Move}
 use Rattle.messages.specs.Topology.{TopologyValue, shard_count, session_node}
-use Rattle.workload.specs.declared.script.Event.{Event}
-use Rattle.workload.specs.declared.script.Event.TheVariants.{Submit, Deliver, Collect, Drain}
+use Rattle.workload.specs.declared.script.ScriptEvent.{ScriptEvent}
+use Rattle.workload.specs.declared.script.ScriptEvent.TheVariants.{Submit, Deliver, Collect, Drain}
 use Rattle.workload.specs.Gives.{◌>>=◌}
 use Rattle.workload.specs.Shape.{data_of, all_by, list_by, whole_of, whole_below, if_below}
 use Rattle.workload.specs.Script.{insert_of, delete_of, delete_row_of, delete_range_of, mutation_of, change_of, predicate_of, names_of, range_of, read_of, batch_of, move_of, op_of, event_of, submit_of, deliver_of, time_of, collect_of, drain_of, schema_among, families_of}
@@ -286,19 +286,19 @@ module _ (depth : ℕ) (ts s u r : List Token) (t : List ℕ) (some : 0 < depth)
   unfolding mutation_of
   deletes_range o a b c d = tagged mutation_of delete_range_of o depth ts s u r t some e g (λ js. skip _ _ _ a ∙ skip _ _ _ b ∙ skip _ _ _ c ∙ pick _ _ _ d)
 
-  pub submits : (top : TopologyValue) (o : Option Event) → bytes_eq t (codes "submit") ≡ true → IfSome o (ReadsRest (submit_of top) (depth - 1) u r) → IfSome o (Reads (event_of top) depth ts r)
+  pub submits : (top : TopologyValue) (o : Option ScriptEvent) → bytes_eq t (codes "submit") ≡ true → IfSome o (ReadsRest (submit_of top) (depth - 1) u r) → IfSome o (Reads (event_of top) depth ts r)
   unfolding event_of
   submits top o a = tagged (event_of top) (submit_of top) o depth ts s u r t some e g (λ js. pick _ _ _ a)
 
-  pub delivers : (top : TopologyValue) (o : Option Event) → bytes_eq t (codes "deliver") ≡ true → IfSome o (ReadsRest deliver_of (depth - 1) u r) → IfSome o (Reads (event_of top) depth ts r)
+  pub delivers : (top : TopologyValue) (o : Option ScriptEvent) → bytes_eq t (codes "deliver") ≡ true → IfSome o (ReadsRest deliver_of (depth - 1) u r) → IfSome o (Reads (event_of top) depth ts r)
   unfolding event_of
   delivers top o a = tagged (event_of top) deliver_of o depth ts s u r t some e g (λ js. skip _ _ _ (delivered t a) ∙ pick _ _ _ a)
 
-  pub collects : (top : TopologyValue) (o : Option Event) → bytes_eq t (codes "submit") ≡ false → bytes_eq t (codes "deliver") ≡ false → bytes_eq t (codes "collect") ≡ true → IfSome o (ReadsRest (collect_of top) (depth - 1) u r) → IfSome o (Reads (event_of top) depth ts r)
+  pub collects : (top : TopologyValue) (o : Option ScriptEvent) → bytes_eq t (codes "submit") ≡ false → bytes_eq t (codes "deliver") ≡ false → bytes_eq t (codes "collect") ≡ true → IfSome o (ReadsRest (collect_of top) (depth - 1) u r) → IfSome o (Reads (event_of top) depth ts r)
   unfolding event_of
   collects top o a b c = tagged (event_of top) (collect_of top) o depth ts s u r t some e g (λ js. skip _ _ _ a ∙ skip _ _ _ b ∙ pick _ _ _ c)
 
-  pub drains : (top : TopologyValue) (o : Option Event) → bytes_eq t (codes "submit") ≡ false → bytes_eq t (codes "deliver") ≡ false → bytes_eq t (codes "collect") ≡ false → bytes_eq t (codes "drain") ≡ true
+  pub drains : (top : TopologyValue) (o : Option ScriptEvent) → bytes_eq t (codes "submit") ≡ false → bytes_eq t (codes "deliver") ≡ false → bytes_eq t (codes "collect") ≡ false → bytes_eq t (codes "drain") ≡ true
       → IfSome o (ReadsRest drain_of (depth - 1) u r) → IfSome o (Reads (event_of top) depth ts r)
   unfolding event_of
   drains top o a b c d = tagged (event_of top) drain_of o depth ts s u r t some e g (λ js. skip _ _ _ a ∙ skip _ _ _ b ∙ skip _ _ _ c ∙ pick _ _ _ d)

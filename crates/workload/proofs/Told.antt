@@ -10,7 +10,7 @@ use Rattle.messages.specs.declared.op.Op.{Op}
 use Rattle.messages.specs.declared.outcome.Outcome.{Outcome}
 use Rattle.messages.specs.declared.outcome.Outcome.TheVariants as outcome
 use Rattle.messages.specs.Topology.{TopologyValue}
-use Rattle.world.specs.declared.run_event.RunEvent.{RunEvent as Event}
+use Rattle.world.specs.declared.run_event.RunEvent.{RunEvent}
 use Rattle.world.specs.declared.run_event.RunEvent.TheVariants.{Submit, Deliver, Collect}
 use Rattle.world.specs.declared.completed.Completed.{Completed}
 use Rattle.world.specs.Run.{Run, step, continued}
@@ -40,7 +40,7 @@ ended_then w v u a b =
     ∙ ap (λ es. es ++ map entry_of b.0) (sym (ap (map entry_of) (past_is w.transcript v.transcript a)))
     ∙ ap (λ es. ended_between w v ++ es) (sym (ap (map entry_of) (past_is v.transcript u.transcript b)))
 
-pub ended_after : (top : TopologyValue) (w : Run) (xs ys : List Event)
+pub ended_after : (top : TopologyValue) (w : Run) (xs ys : List RunEvent)
     → ended_between w (continued top (continued top w xs) ys) ≡ ended_between w (continued top w xs) ++ ended_between (continued top w xs) (continued top (continued top w xs) ys)
 ended_after top w xs ys =
     ended_then w (continued top w xs) (continued top (continued top w xs) ys) (run_grew top w xs).transcript (run_grew top (continued top w xs) ys).transcript
@@ -75,7 +75,7 @@ abbrev some_of : Entry → Option Entry
 some_of e = Some e
 
 -- what is told of an event: what ended by it, and its refusal as a submission
-record TellsOf (w : Run) (refusal : Option Refusal) (x : Event) (v : Run) (es : List Entry) : Type 0 where
+record TellsOf (w : Run) (refusal : Option Refusal) (x : RunEvent) (v : Run) (es : List Entry) : Type 0 where
   outcomes : filter is_outcome es ≡ ended_between w v
   refusals : map some_of (filter is_refusal es) ≡ map refusal_entry (option_to_list (option_map (λ r. (x, r)) refusal))
 
@@ -90,7 +90,7 @@ one_refusal w node o e es is =
       refusals = ap (λ fs. map some_of (filter is_refusal fs)) is;
     }
 
-refused_tells : (w : Run) (x : Event) (r : Refusal) (es : List Entry) → refused_as x r ≡ Ok es → TellsOf w (Some r) x w es
+refused_tells : (w : Run) (x : RunEvent) (r : Refusal) (es : List Entry) → refused_as x r ≡ Ok es → TellsOf w (Some r) x w es
 refused_tells w (Submit node o) (Refused e) es h = one_refusal w node o e es (submission_tells node e es h)
 refused_tells w (Submit node o) NotSent es h = absurd cc
 refused_tells w (Submit node o) NoSuchActor es h = absurd cc
@@ -101,7 +101,7 @@ refused_tells w (Collect node time) (Refused e) es h = absurd cc
 refused_tells w (Collect node time) NotSent es h = absurd cc
 refused_tells w (Collect node time) NoSuchActor es h = absurd cc
 
-if_tells : (w : Run) (o : Option Refusal) (x : Event) (v : Run) (es : List Entry) → ((r : Refusal) → o ≡ Some r → v ≡ w) → told_if o w x v ≡ Ok es → TellsOf w o x v es
+if_tells : (w : Run) (o : Option Refusal) (x : RunEvent) (v : Run) (es : List Entry) → ((r : Refusal) → o ≡ Some r → v ≡ w) → told_if o w x v ≡ Ok es → TellsOf w o x v es
 if_tells w None x v es stays h =
     let same : ended_between w v ≡ es = cc in
     record {
@@ -110,7 +110,7 @@ if_tells w None x v es stays h =
     }
 if_tells w (Some r) x v es stays h = subst (λ u. TellsOf w (Some r) x u es) (sym (stays r refl)) (refused_tells w x r es h)
 
-one_tells : (top : TopologyValue) (w : Run) (x : Event) (es : List Entry) → told_of top w x ≡ Ok es → TellsOf w (refusal_of top w x) x (step top w x) es
+one_tells : (top : TopologyValue) (w : Run) (x : RunEvent) (es : List Entry) → told_of top w x ≡ Ok es → TellsOf w (refusal_of top w x) x (step top w x) es
 one_tells top w x es h = if_tells w (refusal_of top w x) x (step top w x) es (λ r. refused_stays top w x r) h
 
 -- ## Events in order
@@ -128,11 +128,11 @@ both (Ok a) (Err e) es h = absurd cc
 both (Err e) s es h = absurd cc
 
 -- what is told of events, from one run to another
-pub record Tells (w : Run) (xs : List (Event × Refusal)) (v : Run) (es : List Entry) : Type 0 where
+pub record Tells (w : Run) (xs : List (RunEvent × Refusal)) (v : Run) (es : List Entry) : Type 0 where
   pub outcomes : filter is_outcome es ≡ ended_between w v
   pub refusals : map some_of (filter is_refusal es) ≡ map refusal_entry xs
 
-pub tells : (top : TopologyValue) (w : Run) (xs : List Event) (es : List Entry) → told top w xs ≡ Ok es
+pub tells : (top : TopologyValue) (w : Run) (xs : List RunEvent) (es : List Entry) → told top w xs ≡ Ok es
     → Tells w (left_out top w xs) (continued top w xs) es
 tells top w [] es h =
     let none : [] ≡ es = cc in
@@ -162,7 +162,7 @@ tells top w (x ∷ xs) es h =
     }
 
 -- what is told of events and then of others
-pub told_after : (top : TopologyValue) (w : Run) (xs ys : List Event)
+pub told_after : (top : TopologyValue) (w : Run) (xs ys : List RunEvent)
     → told top w (xs ++ ys) ≡ then_told (told top w xs) (told top (continued top w xs) ys)
 told_after top w [] ys = sym (nothing_first (told top w ys))
   where

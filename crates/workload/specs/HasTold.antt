@@ -2,7 +2,7 @@
 use Rattle.std.specs.Prelude.{◌≡◌, List, length, Ok}
 use Rattle.messages.specs.Topology.{TopologyValue}
 use Rattle.world.specs.Run.{Run, opening, continued}
-use Rattle.workload.specs.declared.script.Event.{Event as ScriptEvent}
+use Rattle.workload.specs.declared.script.ScriptEvent.{ScriptEvent}
 use Rattle.workload.specs.declared.transcript.Entry.{Entry}
 use Rattle.workload.specs.declared.marks.Mark.{Mark}
 use Rattle.workload.specs.Marks.{ended_in, merged}

@@ -4,7 +4,7 @@ use Rattle.json.specs.Token.{Token}
 use Rattle.messages.specs.Topology.{TopologyValue}
 use Rattle.world.specs.Run.{Run}
 use Rattle.workload.specs.declared.marks.Mark.{Mark}
-use Rattle.workload.specs.declared.script.Event.{Event as ScriptEvent}
+use Rattle.workload.specs.declared.script.ScriptEvent.{ScriptEvent}
 use Rattle.workload.specs.HasTold.{HasNoted}
 use Rattle.workload.specs.Script.{event_of}
 use Rattle.workload.specs.Shape.{list_by}

@@ -12,8 +12,8 @@ use Rattle.slice.specs.declared.predicate.Predicate.TheVariants.{Names, Range}
 use Rattle.messages.specs.declared.op.Op.{Op}
 use Rattle.messages.specs.declared.op.Op.TheVariants.{Batch, Read as Asks, Move}
 use Rattle.messages.specs.Topology.{TopologyValue, is_topology, shard_count, session_node}
-use Rattle.workload.specs.declared.script.Event.{Event}
-use Rattle.workload.specs.declared.script.Event.TheVariants.{Submit, Deliver, Collect, Drain}
+use Rattle.workload.specs.declared.script.ScriptEvent.{ScriptEvent}
+use Rattle.workload.specs.declared.script.ScriptEvent.TheVariants.{Submit, Deliver, Collect, Drain}
 use Rattle.workload.specs.declared.script.Script.{Script}
 use Rattle.workload.specs.Gives.{◌>>=◌}
 use Rattle.workload.specs.Shape.{whole_of, whole_below, has_members, has_items, members_named, part_at, member_by, text_at, list_by, list_within}
@@ -134,14 +134,14 @@ unfoldable pub op_of : TopologyValue → Data → Option Op
 op_of top d = if has_members 1 d then op_in top (get (codes "batch") d) (get (codes "read") d) (get (codes "move") d) else None
 
 -- ["submit", session, operation], where sessions are numbered from 0
-unfoldable pub submit_of : TopologyValue → Data → Option Event
+unfoldable pub submit_of : TopologyValue → Data → Option ScriptEvent
 submit_of top d = if has_items 3 d then (do
   session ← part_at (whole_below (length top.homes)) 1 d
   op ← part_at (op_of top) 2 d
   Some (Submit (session_node top session) op)) else None
 
 -- ["deliver", message]: whether it was sent is seen when the event comes
-unfoldable pub deliver_of : Data → Option Event
+unfoldable pub deliver_of : Data → Option ScriptEvent
 deliver_of d = if has_items 2 d then (do
   number ← part_at whole_of 1 d
   Some (Deliver number)) else None
@@ -150,17 +150,17 @@ abbrev pub time_of : Data → Option ℕ
 time_of = whole_below (2 ^ 48)
 
 -- ["collect", shard, time]
-unfoldable pub collect_of : TopologyValue → Data → Option Event
+unfoldable pub collect_of : TopologyValue → Data → Option ScriptEvent
 collect_of top d = if has_items 3 d then (do
   shard ← part_at (whole_below (shard_count top)) 1 d
   time ← part_at time_of 2 d
   Some (Collect shard time)) else None
 
 -- ["drain"]
-unfoldable pub drain_of : Data → Option Event
+unfoldable pub drain_of : Data → Option ScriptEvent
 drain_of d = if has_items 1 d then Some Drain else None
 
-unfoldable pub event_of : TopologyValue → Data → Option Event
+unfoldable pub event_of : TopologyValue → Data → Option ScriptEvent
 event_of top d = do
   tag ← text_at 0 d
   if bytes_eq tag (codes "submit") then submit_of top d

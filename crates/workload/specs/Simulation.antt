@@ -11,15 +11,15 @@ use Rattle.messages.specs.declared.op.Op.TheVariants as op
 use Rattle.messages.specs.declared.outcome.Outcome.{Outcome}
 use Rattle.messages.specs.declared.outcome.Outcome.TheVariants as outcome
 use Rattle.messages.specs.Topology.{TopologyValue}
-use Rattle.world.specs.declared.run_event.RunEvent.{RunEvent as Event}
+use Rattle.world.specs.declared.run_event.RunEvent.{RunEvent}
 use Rattle.world.specs.declared.run_event.RunEvent.TheVariants.{Submit, Deliver, Collect}
 use Rattle.world.specs.declared.completed.Completed.{Completed}
 use Rattle.world.specs.Run.{Run, opening, step, continued, run}
 use Rattle.world.specs.Refusals.{Refusal, Refused, NotSent, NoSuchActor, refusal_of}
 use Rattle.world.specs.Histories.{IsHistory}
 use Rattle.world.specs.Lookups.{first_unhandled}
-use Rattle.workload.specs.declared.script.Event.{Event as ScriptEvent}
-use Rattle.workload.specs.declared.script.Event.TheVariants as script
+use Rattle.workload.specs.declared.script.ScriptEvent.{ScriptEvent}
+use Rattle.workload.specs.declared.script.ScriptEvent.TheVariants as script
 use Rattle.workload.specs.declared.script.Script.{Script}
 use Rattle.workload.specs.declared.transcript.Entry.{Entry}
 use Rattle.workload.specs.declared.transcript.Entry.TheVariants as entry
@@ -27,27 +27,27 @@ use Rattle.workload.specs.declared.transcript.Entry.TheVariants as entry
 -- ## The run of a script
 
 -- the deliveries of a drain, at most so many: each time the first message that was not handled, until there is none
-unfoldable pub deliveries : TopologyValue → ℕ → Run → List Event
+unfoldable pub deliveries : TopologyValue → ℕ → Run → List RunEvent
 deliveries top zero w = []
 deliveries top (suc n) w = unwrap_or (option_map (λ k. Deliver k ∷ deliveries top n (step top w (Deliver k))) (first_unhandled w)) []
 
 -- the events of a run that an event of a script stands for: a drain for its deliveries, any other for itself
-abbrev pub spelled : TopologyValue → Run → ScriptEvent → List Event
+abbrev pub spelled : TopologyValue → Run → ScriptEvent → List RunEvent
 spelled top w (script.Submit session o) = Submit session o ∷ []
 spelled top w (script.Deliver number) = Deliver number ∷ []
 spelled top w (script.Collect shard time) = Collect shard time ∷ []
 spelled top w script.Drain = deliveries top 1000000 w
 
 -- those of several events, one after the other
-abbrev pub all_spelled : TopologyValue → Run → List ScriptEvent → List Event
+abbrev pub all_spelled : TopologyValue → Run → List ScriptEvent → List RunEvent
 all_spelled top w [] = []
 all_spelled top w (x ∷ xs) = spelled top w x ++ all_spelled top (continued top w (spelled top w x)) xs
 
 -- the events of a script
-abbrev pub events_in : TopologyValue → List ScriptEvent → List Event
+abbrev pub events_in : TopologyValue → List ScriptEvent → List RunEvent
 events_in top events = all_spelled top (opening top) events
 
-abbrev pub events_of : Script → List Event
+abbrev pub events_of : Script → List RunEvent
 events_of s = events_in s.topology s.events
 
 -- the run of a script. Events that are refused aren't in it
@@ -76,19 +76,19 @@ submission_refused node ClockSpent = Err ClockSpent
 submission_refused node e = Ok (entry.Refused node e ∷ [])
 
 -- any other refusal ends the script: of a message that was not sent, and of a node that is no such actor, with `Script`
-abbrev pub refused_as : Event → Refusal → Result (List Entry) Fault
+abbrev pub refused_as : RunEvent → Refusal → Result (List Entry) Fault
 refused_as (Submit node o) (Refused e) = submission_refused node e
 refused_as (Deliver k) (Refused e) = Err e
 refused_as (Collect node time) (Refused e) = Err e
 refused_as x NotSent = Err NoScript
 refused_as x NoSuchActor = Err NoScript
 
-abbrev pub told_if : Option Refusal → Run → Event → Run → Result (List Entry) Fault
+abbrev pub told_if : Option Refusal → Run → RunEvent → Run → Result (List Entry) Fault
 told_if None w x v = Ok (ended_between w v)
 told_if (Some r) w x v = refused_as x r
 
 -- what is told of an event, or the fault that ends the script there
-abbrev pub told_of : TopologyValue → Run → Event → Result (List Entry) Fault
+abbrev pub told_of : TopologyValue → Run → RunEvent → Result (List Entry) Fault
 told_of top w x = told_if (refusal_of top w x) w x (step top w x)
 
 -- both, one after the other
@@ -98,7 +98,7 @@ then_told (Ok es) (Err e) = Err e
 then_told (Err e) r = Err e
 
 -- what is told of events in order
-abbrev pub told : TopologyValue → Run → List Event → Result (List Entry) Fault
+abbrev pub told : TopologyValue → Run → List RunEvent → Result (List Entry) Fault
 told top w [] = Ok []
 told top w (x ∷ xs) = then_told (told_of top w x) (told top (step top w x) xs)
 
@@ -122,16 +122,16 @@ abbrev pub is_outcome : Entry → Bool
 is_outcome e = not (is_refusal e)
 
 -- an event with why it is refused, if it is
-abbrev pub with_refusal : TopologyValue → Run → Event → Option (Event × Refusal)
+abbrev pub with_refusal : TopologyValue → Run → RunEvent → Option (RunEvent × Refusal)
 with_refusal top w x = option_map (λ r. (x, r)) (refusal_of top w x)
 
 -- the events that aren't in the run, since they are refused, in order
-abbrev pub left_out : TopologyValue → Run → List Event → List (Event × Refusal)
+abbrev pub left_out : TopologyValue → Run → List RunEvent → List (RunEvent × Refusal)
 left_out top w [] = []
 left_out top w (x ∷ xs) = option_to_list (with_refusal top w x) ++ left_out top (step top w x) xs
 
 -- the entry of a submission that its session refused
-abbrev pub refusal_entry : Event × Refusal → Option Entry
+abbrev pub refusal_entry : RunEvent × Refusal → Option Entry
 refusal_entry (Submit node o, Refused e) = Some (entry.Refused node e)
 refusal_entry (x, r) = None
 

@@ -9,7 +9,7 @@ ghost use Rattle.workload.specs.Text.{text_of};
 
 use crate::marks::{Mark, with_outcomes};
 use crate::reading::MOST_EVENTS;
-use crate::script::Event;
+use crate::script::ScriptEvent;
 use crate::simulating::play_some;
 use crate::streaming::{DEPTH, begun, event, is_end, opens};
 use crate::transcript::Transcript;
@@ -26,7 +26,7 @@ const AT_ONCE: usize = 256;
 #[derive(Drop)]
 struct Stretch {
     /// The events.
-    events: Vec<Event>,
+    events: Vec<ScriptEvent>,
     /// Whether the list ends with them.
     is_last: bool,
 }

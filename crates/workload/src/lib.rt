@@ -27,7 +27,7 @@ pub use draining::drain;
 pub use law::{a_move_is_told_with_its_floor, moves_go_to_data_centres};
 pub use performing::{explain, perform, sim};
 pub use reading::read_script;
-pub use script::{Event, Events, Script};
+pub use script::{Events, Script, ScriptEvent};
 pub use shape::{
     Shaped, has_items, has_members, item, list, list_of, member, member_as, part_at, whole_below,
 };

@@ -8,7 +8,7 @@ use crate::along::run_along;
 use crate::auditing::sim_audited;
 use crate::explaining;
 use crate::reading::read_script;
-use crate::script::{Event, Script};
+use crate::script::{Script, ScriptEvent};
 use crate::simulating::{happen, simulate_to_the_end};
 use crate::tail::{Tail, status_of};
 use crate::text::write_transcript;
@@ -62,9 +62,9 @@ fn told_of(
 }
 
 // Why an event ends the script.
-fn why(alloc: Global, event: &Event, fault: Fault) -> Option<String> {
+fn why(alloc: Global, event: &ScriptEvent, fault: Fault) -> Option<String> {
     match (event, fault) {
-        (Event::Deliver { number }, Fault::Script) => {
+        (ScriptEvent::Deliver { number }, Fault::Script) => {
             format!(in alloc; "message {number} wasn't sent yet").ok()
         }
         (_, Fault::ClockSpent) => String::from_str(alloc, "no time is left for the clock").ok(),

@@ -8,7 +8,7 @@ ghost use Rattle.workload.specs.Shape.{whole_of, member_by, all_by, list_by, lis
 ghost use Rattle.workload.specs.Script as form;
 
 use crate::heading::{COUNT_END, USUAL_COUNT};
-use crate::script::{Event, Events, Script};
+use crate::script::{Events, Script, ScriptEvent};
 use crate::shape::{
     Shaped, has_items, has_members, item, list, list_of, member, member_as, members_named,
     number_at, part_at, text_at, whole_below,
@@ -401,7 +401,7 @@ fn op(alloc: Global, topology: &Topology, json: &Json) -> Result<Op, Fault>
 }
 
 #[tactic(auto, unfolding(crate::specs::Script::submit_of))]
-fn submit(alloc: Global, topology: &Topology, json: &Json) -> Result<Event, Fault>
+fn submit(alloc: Global, topology: &Topology, json: &Json) -> Result<ScriptEvent, Fault>
     ensures { Gives result (form.submit_of topology.now (view json.now)) }
 {
     if !has_items(json, 3) {
@@ -409,25 +409,25 @@ fn submit(alloc: Global, topology: &Topology, json: &Json) -> Result<Event, Faul
     }
     let session = number_at(json, 1, topology.homes().len() as u64)? as u16;
     let op = op(alloc, topology, item(json, 2)?)?;
-    Ok(Event::Submit {
+    Ok(ScriptEvent::Submit {
         session: topology.session_node(session),
         op,
     })
 }
 
 #[tactic(auto, unfolding(crate::specs::Script::deliver_of))]
-fn deliver(alloc: Global, json: &Json) -> Result<Event, Fault>
+fn deliver(alloc: Global, json: &Json) -> Result<ScriptEvent, Fault>
     ensures { Gives result (form.deliver_of (view json.now)) }
 {
     if !has_items(json, 2) {
         return Err(Fault::Script);
     }
     let number = part_at(alloc, json, 1)?;
-    Ok(Event::Deliver { number })
+    Ok(ScriptEvent::Deliver { number })
 }
 
 #[tactic(auto, unfolding(crate::specs::Script::collect_of))]
-fn collect(alloc: Global, topology: &Topology, json: &Json) -> Result<Event, Fault>
+fn collect(alloc: Global, topology: &Topology, json: &Json) -> Result<ScriptEvent, Fault>
     ensures { Gives result (form.collect_of topology.now (view json.now)) }
 {
     if !has_items(json, 3) {
@@ -435,25 +435,25 @@ fn collect(alloc: Global, topology: &Topology, json: &Json) -> Result<Event, Fau
     }
     let shard = number_at(json, 1, u64::from(topology.shard_count()))? as u16;
     let time = part_at(alloc, json, 2)?;
-    Ok(Event::Collect {
+    Ok(ScriptEvent::Collect {
         shard: Node::new(shard),
         time,
     })
 }
 
 #[tactic(auto, unfolding(crate::specs::Script::drain_of))]
-fn drain(json: &Json) -> Result<Event, Fault>
+fn drain(json: &Json) -> Result<ScriptEvent, Fault>
     ensures { Gives result (form.drain_of (view json.now)) }
 {
     if has_items(json, 1) {
-        Ok(Event::Drain)
+        Ok(ScriptEvent::Drain)
     } else {
         Err(Fault::Script)
     }
 }
 
 #[tactic(auto, unfolding(crate::specs::Script::event_of))]
-fn event(alloc: Global, topology: &Topology, json: &Json) -> Result<Event, Fault>
+fn event(alloc: Global, topology: &Topology, json: &Json) -> Result<ScriptEvent, Fault>
     ensures { Gives result (form.event_of topology.now (view json.now)) }
 {
     let tag = text_at(json, 0)?;
@@ -471,7 +471,11 @@ fn event(alloc: Global, topology: &Topology, json: &Json) -> Result<Event, Fault
 }
 
 // What each item stands for, in order.
-fn each_event(alloc: Global, topology: &Topology, items: &Vec<Json>) -> Result<Vec<Event>, Fault>
+fn each_event(
+    alloc: Global,
+    topology: &Topology,
+    items: &Vec<Json>,
+) -> Result<Vec<ScriptEvent>, Fault>
     ensures { GivesSeen (λ v. v.items) result (all_by (form.event_of topology.now) (map view items.now.items)) }
 {
     let mut all = Vec::new(alloc);
@@ -482,7 +486,7 @@ fn each_event(alloc: Global, topology: &Topology, items: &Vec<Json>) -> Result<V
 }
 
 // What each item of a list stands for, of which there may be so many.
-fn each_within(alloc: Global, topology: &Topology, json: &Json) -> Result<Vec<Event>, Fault>
+fn each_within(alloc: Global, topology: &Topology, json: &Json) -> Result<Vec<ScriptEvent>, Fault>
     ensures { GivesSeen (λ v. v.items) result (items_within (form.event_of topology.now) 100000 (view json.now)) }
 {
     let items = list(json)?;

@@ -7,7 +7,7 @@ use std::marker::Model;
 
 /// An event of a script. Messages are numbered from 0 in the order of sending.
 #[derive(Drop)]
-pub enum Event {
+pub enum ScriptEvent {
     /// A session submits an operation.
     Submit {
         /// The session's node.
@@ -34,28 +34,28 @@ pub enum Event {
 /// Events in order.
 #[derive(Drop)]
 pub struct Events {
-    events: Vec<Event>,
+    events: Vec<ScriptEvent>,
 }
 
 impl Model for Events {
     ghost use Rattle.std.specs.Prelude.{List};
-    ghost use Rattle.workload.specs.declared.script.Event.{Event};
+    ghost use Rattle.workload.specs.declared.script.ScriptEvent.{ScriptEvent};
 
-    ghost Value = { List Event };
+    ghost Value = { List ScriptEvent };
 
     ghost view = { λ list. list.events.items };
 }
 
 impl Events {
     /// These events.
-    pub fn from_vec(events: Vec<Event>) -> Events
+    pub fn from_vec(events: Vec<ScriptEvent>) -> Events
         ensures { result ≡ events.items }
     {
         Events { events }
     }
 
     /// The events.
-    pub fn as_slice(&self) -> &[Event]
+    pub fn as_slice(&self) -> &[ScriptEvent]
         ensures { result.now ≡ self.now }
     {
         self.events.as_slice()

@@ -1,8 +1,8 @@
 //! A script is run in a world.
 ghost use Rattle.std.specs.Prelude.{◌≡◌, ◌≢◌, ◌⊎◌, List, [], ◌++◌, length, Some, Err, IsOkAnd, IfOk, IfErr, OnOk};
 ghost use Rattle.world.specs.World.{run_of};
-ghost use Rattle.workload.specs.declared.script.Event.{Event as ScriptEvent};
-ghost use Rattle.workload.specs.declared.script.Event.TheVariants as script;
+ghost use Rattle.workload.specs.declared.script.ScriptEvent.{ScriptEvent};
+ghost use Rattle.workload.specs.declared.script.ScriptEvent.TheVariants as script;
 ghost use Rattle.workload.specs.Marks.{ended_in, merged, told_refusal};
 ghost use Rattle.workload.specs.Simulation.{simulated_in, simulated, IsTranscriptOf};
 ghost use Rattle.workload.specs.Playing.{Plays, PlaysBefore, Adds, EndsWith};
@@ -10,7 +10,7 @@ ghost use Rattle.workload.specs.HasTold.{HasTold, HasNoted};
 
 use crate::draining::drain;
 use crate::marks::{Mark, Refusal, note, with_copies, with_outcomes};
-use crate::script::{Event, Script};
+use crate::script::{Script, ScriptEvent};
 use crate::transcript::Transcript;
 use logical_time::{Fault, Node, Time};
 use messages::Op;
@@ -83,21 +83,21 @@ fn drain_all(world: &mut World) -> Result<(), Fault>
 }
 
 /// An event happens. The answer is the refusal of its submission, if it is one that is refused.
-pub(crate) fn happen(world: &mut World, event: &Event) -> Result<Option<Refusal>, Fault>
+pub(crate) fn happen(world: &mut World, event: &ScriptEvent) -> Result<Option<Refusal>, Fault>
     ensures ok { IfOk result (λ refusal. PlaysBefore world.old event.now world.new (told_refusal refusal)) }
     ensures ends { IfErr result (EndsWith world.old event.now) }
 {
     match event {
-        Event::Submit { session, op } => submit(world, *session, op),
-        Event::Deliver { number } => {
+        ScriptEvent::Submit { session, op } => submit(world, *session, op),
+        ScriptEvent::Deliver { number } => {
             deliver(world, *number)?;
             Ok(None)
         }
-        Event::Collect { shard, time } => {
+        ScriptEvent::Collect { shard, time } => {
             collect(world, *shard, *time)?;
             Ok(None)
         }
-        Event::Drain => {
+        ScriptEvent::Drain => {
             drain_all(world)?;
             Ok(None)
         }
@@ -105,7 +105,7 @@ pub(crate) fn happen(world: &mut World, event: &Event) -> Result<Option<Refusal>
 }
 
 // An event happens, and is noted: each operation that ended has its mark, before it and after it.
-fn play(world: &mut World, event: &Event, marks: &mut Vec<Mark>) -> Result<(), Fault>
+fn play(world: &mut World, event: &ScriptEvent, marks: &mut Vec<Mark>) -> Result<(), Fault>
     requires marked { ended_in marks.old.items ≡ length (run_of world.old).transcript }
     ensures marked { OnOk result (ended_in marks.new.items ≡ length (run_of world.new).transcript) }
     ensures ok { OnOk result (Adds (merged marks.old.items (run_of world.old).transcript) (merged marks.new.items (run_of world.new).transcript) (Plays world.old event.now world.new)) }
@@ -119,7 +119,7 @@ fn play(world: &mut World, event: &Event, marks: &mut Vec<Mark>) -> Result<(), F
 /// The events happen in order, until one ends the script, and are noted. Others may have happened before.
 pub(crate) fn play_some(
     world: &mut World,
-    events: &[Event],
+    events: &[ScriptEvent],
     marks: &mut Vec<Mark>,
 ) -> Result<(), Fault>
     requires marked { ended_in marks.old.items ≡ length (run_of world.old).transcript }
@@ -138,7 +138,7 @@ pub(crate) fn play_some(
 pub(crate) fn play_all(
     alloc: Global,
     world: &mut World,
-    events: &[Event],
+    events: &[ScriptEvent],
 ) -> Result<Vec<Mark>, Fault>
     requires opening { world.old.events ≡ [] }
     ensures topology { OnOk result (world.new.top ≡ world.old.top) }

@@ -12,7 +12,7 @@ ghost use Rattle.workload.specs.Streams.{Reads, ReadsRest, Begins};
 
 use crate::heading::{header, range, topology_in};
 use crate::reading::MOST_EVENTS;
-use crate::script::{Event, Events, Script};
+use crate::script::{Events, Script, ScriptEvent};
 use crate::shape::{Shaped, few_digits};
 use column_family::{Batch, Change, Family, Key, Mutation, Name, Row, Value};
 use json::{Reader, Scratch, Token};
@@ -313,7 +313,7 @@ fn submit(
     topology: &Topology,
     reader: &mut Reader<'_>,
     depth: usize,
-) -> Option<Event>
+) -> Option<ScriptEvent>
     ensures { IfSome result (ReadsRest (form.submit_of topology.now) depth reader.old reader.new) }
 {
     let end = topology.homes().len() as u64;
@@ -322,21 +322,21 @@ fn submit(
     if !reader.take_end_array() {
         return None;
     }
-    Some(Event::Submit {
+    Some(ScriptEvent::Submit {
         session: topology.session_node(session),
         op,
     })
 }
 
 /// The number of a message, and the end of the list.
-fn deliver(alloc: Global, reader: &mut Reader<'_>, depth: usize) -> Option<Event>
+fn deliver(alloc: Global, reader: &mut Reader<'_>, depth: usize) -> Option<ScriptEvent>
     ensures { IfSome result (ReadsRest form.deliver_of depth reader.old reader.new) }
 {
     let number = usize::of_reader(alloc, reader, depth)?;
     if !reader.take_end_array() {
         return None;
     }
-    Some(Event::Deliver { number })
+    Some(ScriptEvent::Deliver { number })
 }
 
 /// A shard and a time, and the end of the list.
@@ -345,7 +345,7 @@ fn collect(
     topology: &Topology,
     reader: &mut Reader<'_>,
     depth: usize,
-) -> Option<Event>
+) -> Option<ScriptEvent>
     ensures { IfSome result (ReadsRest (form.collect_of topology.now) depth reader.old reader.new) }
 {
     let end = u64::from(topology.shard_count());
@@ -354,20 +354,20 @@ fn collect(
     if !reader.take_end_array() {
         return None;
     }
-    Some(Event::Collect {
+    Some(ScriptEvent::Collect {
         shard: Node::new(shard),
         time,
     })
 }
 
 /// The end of the list.
-fn drain(reader: &mut Reader<'_>, depth: usize) -> Option<Event>
+fn drain(reader: &mut Reader<'_>, depth: usize) -> Option<ScriptEvent>
     ensures { IfSome result (ReadsRest form.drain_of depth reader.old reader.new) }
 {
     if !reader.take_end_array() {
         return None;
     }
-    Some(Event::Drain)
+    Some(ScriptEvent::Drain)
 }
 
 /// The event that comes next.
@@ -376,7 +376,7 @@ pub(crate) fn event(
     topology: &Topology,
     reader: &mut Reader<'_>,
     depth: usize,
-) -> Option<Event>
+) -> Option<ScriptEvent>
     ensures { IfSome result (Reads (form.event_of topology.now) depth reader.old reader.new) }
 {
     if depth == 0 || !opens(reader) {
@@ -403,7 +403,7 @@ fn events(
     topology: &Topology,
     reader: &mut Reader<'_>,
     depth: usize,
-) -> Option<Vec<Event>>
+) -> Option<Vec<ScriptEvent>>
     ensures { IfSome result (λ v. Reads (list_by (form.event_of topology.now)) depth reader.old reader.new v.items) }
 {
     if depth == 0 || !opens(reader) {

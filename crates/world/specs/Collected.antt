@@ -10,20 +10,20 @@ use Rattle.messages.specs.declared.outcome.Outcome.TheVariants as outcome
 use Rattle.messages.specs.Topology.{TopologyValue, shard_node}
 use Rattle.messages.specs.Session.{HeardNow, HeardAt, SecondRound}
 use Rattle.messages.specs.Rounds.{effective_time}
-use Rattle.world.specs.Run.{Run, Event, Deliver, Completed, step, run}
+use Rattle.world.specs.Run.{Run, RunEvent, Deliver, Completed, step, run}
 use Rattle.world.specs.Met.{horizon}
 
 -- the message of this number was sent at this event, after those before it
-pub record WasSent (top : TopologyValue) (w : Run) (k : ℕ) (before : List Event) (event : Event) : Type 0 where
-  pub after : List Event
+pub record WasSent (top : TopologyValue) (w : Run) (k : ℕ) (before : List RunEvent) (event : RunEvent) : Type 0 where
+  pub after : List RunEvent
   pub sending : w.events ≡ before ++ event ∷ after
   pub not_sent : length (run top before).sent ≤ k
   pub by_then : k < length (step top (run top before) event).sent
 
 -- when the shard sent this message, its horizon was above the time
 pub record WasPast (top : TopologyValue) (w : Run) (shard k time : ℕ) : Type 0 where
-  pub before : List Event
-  pub event : Event
+  pub before : List RunEvent
+  pub event : RunEvent
   pub sent : WasSent top w k before event
   pub above : time < horizon (run top before) shard
 
@@ -34,8 +34,8 @@ pub record IsGivenUp (top : TopologyValue) (w : Run) (c : Completed) : Type 0 wh
   pub op : c.op ≡ op.Read read
   pub shard : ℕ
   pub asked : Contains (shards_asked top.shards read.keys) shard
-  pub before : List Event
-  pub after : List Event
+  pub before : List RunEvent
+  pub after : List RunEvent
   pub k : ℕ
   pub delivery : w.events ≡ before ++ Deliver k ∷ after
   pub message : Envelope

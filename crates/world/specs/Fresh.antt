@@ -20,14 +20,14 @@ use Rattle.messages.specs.declared.outcome.Outcome.TheVariants as outcome
 use Rattle.messages.specs.Topology.{TopologyValue, shard_node}
 use Rattle.messages.specs.Session.{HeardNow, FirstRound}
 use Rattle.messages.specs.Rounds.{asked_nodes, is_missing}
-use Rattle.world.specs.Run.{Run, Event, Deliver, Completed, step, run}
+use Rattle.world.specs.Run.{Run, RunEvent, Deliver, Completed, step, run}
 use Rattle.world.specs.Histories.{history_of}
 
 -- The session kept this message as a shard's answer to the first round of the read that it numbered so: at its delivery
 -- the read was in that round, and the shard was asked and hadn't answered.
 pub record IsKept (top : TopologyValue) (w : Run) (session number k : ℕ) (e : Envelope) : Type 0 where
-  pub before : List Event
-  pub after : List Event
+  pub before : List RunEvent
+  pub after : List RunEvent
   pub delivery : w.events ≡ before ++ Deliver k ∷ after
   pub message : slice_get w.sent k ≡ Some e
   pub address : e.to ≡ session
@@ -41,9 +41,9 @@ pub record IsKept (top : TopologyValue) (w : Run) (session number k : ℕ) (e : 
 
 -- the shard had applied this part when it sent this message
 pub record WasApplied (top : TopologyValue) (w : Run) (shard k : ℕ) (x : Applied) : Type 0 where
-  pub before : List Event
-  pub event : Event
-  pub after : List Event
+  pub before : List RunEvent
+  pub event : RunEvent
+  pub after : List RunEvent
   pub sending : w.events ≡ before ++ event ∷ after
   pub not_sent : length (run top before).sent ≤ k
   pub by_then : k < length (step top (run top before) event).sent

@@ -13,7 +13,7 @@ use Rattle.world.specs.declared.actors.Actors.{Actors}
 use Rattle.world.specs.declared.log.Log.{Log}
 use Rattle.world.specs.Asked.{write_of, write_noted}
 use Rattle.world.specs.Delivered.{is_marked}
-use Rattle.world.specs.Run.{Run, Event, Submission, Completed, submission_of, step, run}
+use Rattle.world.specs.Run.{Run, RunEvent, Submission, Completed, submission_of, step, run}
 use Rattle.world.specs.Refusals.{refusal_of}
 use Rattle.world.specs.Quiet.{handled}
 
@@ -51,7 +51,7 @@ pub record IsRunning (top : TopologyValue) (w : Run) (a : Actors) : Type 0 where
   pub transcript : w.transcript ≡ a.transcript.items
 
 -- the run of these events doesn't refuse this one, and the actors are those of the run with it
-pub record HasTaken (top : TopologyValue) (events : List Event) (x : Event) (a : Actors) : Type 0 where
+pub record HasTaken (top : TopologyValue) (events : List RunEvent) (x : RunEvent) (a : Actors) : Type 0 where
   pub allowed : refusal_of top (run top events) x ≡ None
   pub running : IsRunning top (step top (run top events) x) a
 

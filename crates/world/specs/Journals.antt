@@ -2,12 +2,12 @@
 use Rattle.std.specs.Prelude.{◌≡◌, ℕ, ◌<◌, ◌^◌, ◌==◌, if◌then◌else◌, List, [], ◌∷◌, ◌++◌, map, filter, filter_map, slice_get, Option, Some, None, option_map, option_and_then, AllPairs, Contains}
 use Rattle.std.specs.Option.{unwrap_or}
 use Rattle.messages.specs.declared.envelope.Envelope.{Envelope}
-use Rattle.messages.specs.declared.event.Event.{Event as ActorEvent}
-use Rattle.messages.specs.declared.event.Event.TheVariants.{Submit as SubmitHere, Handle, Collect as CollectHere}
+use Rattle.messages.specs.declared.event.ActorEvent.{ActorEvent}
+use Rattle.messages.specs.declared.event.ActorEvent.TheVariants.{Submit as SubmitHere, Handle, Collect as CollectHere}
 use Rattle.messages.specs.Topology.{TopologyValue, is_shard, node_count}
 use Rattle.messages.specs.Session.{Finished}
 use Rattle.messages.specs.Actors.{ActorState, OfShard, OfSession, clock_of, opening_actor, ActorStep, actor_step, envelope_of, Replayed, replay_of, sent_by}
-use Rattle.world.specs.Run.{Run, Completed, Event, Submit, Deliver, Collect, run}
+use Rattle.world.specs.Run.{Run, Completed, RunEvent, Submit, Deliver, Collect, run}
 use Rattle.world.specs.Refusals.{IsRun}
 
 -- ## The actors of every run
@@ -17,7 +17,7 @@ abbrev pub actor_in : TopologyValue → Run → ℕ → ActorState
 actor_in top w node = if is_shard top node then OfShard (w.shards node) else OfSession (w.sessions node)
 
 -- what an event of a run is to the actor with this node, if it is one of its events
-abbrev pub event_at : Run → ℕ → Event → Option ActorEvent
+abbrev pub event_at : Run → ℕ → RunEvent → Option ActorEvent
 event_at w node (Submit session o) = if session == node then Some (SubmitHere o) else None
 event_at w node (Deliver k) = option_and_then (λ (e : Envelope). if e.to == node then Some (Handle e) else None) (slice_get w.sent k)
 event_at w node (Collect shard time) = if shard == node then Some (CollectHere time) else None
@@ -71,13 +71,13 @@ ClocksRise top me = (journal : List ActorEvent) → AllPairs (λ m n. m < n) (cl
 
 -- The journals, one for each node, are those of the run of these events: none of its events is refused, and each actor's
 -- journal in it is exactly that node's.
-pub record IsRunOf (top : TopologyValue) (journals : ℕ → List ActorEvent) (events : List Event) : Type 0 where
+pub record IsRunOf (top : TopologyValue) (journals : ℕ → List ActorEvent) (events : List RunEvent) : Type 0 where
   pub is_run : IsRun top events
   pub each : (node : ℕ) → node < node_count top → journal_in (run top events) node ≡ journals node
 
 -- Journals are a threaded run: there is a run whose journals they are
 abbrev pub IsThreadedRun : TopologyValue → (ℕ → List ActorEvent) → Type 0
-IsThreadedRun top journals = (events : List Event) × IsRunOf top journals events
+IsThreadedRun top journals = (events : List RunEvent) × IsRunOf top journals events
 
 -- each journal replays without a refusal
 abbrev pub DoReplay : TopologyValue → (ℕ → List ActorEvent) → Type 0

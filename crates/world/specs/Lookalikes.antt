@@ -21,13 +21,13 @@ use Rattle.messages.specs.declared.outcome.Outcome.TheVariants as outcome
 use Rattle.messages.specs.declared.body.Body.{Body}
 use Rattle.messages.specs.declared.body.Body.TheVariants as body
 use Rattle.messages.specs.Topology.{TopologyValue, is_shard, shard_count, shard_node}
-use Rattle.messages.specs.declared.event.Event.TheVariants.{Handle}
+use Rattle.messages.specs.declared.event.ActorEvent.TheVariants.{Handle}
 use Rattle.messages.specs.Actors.{outcomes_by}
 use Rattle.messages.specs.Honest.{IsHonest}
 use Rattle.messages.specs.Shard.{Decision}
 use Rattle.messages.specs.Session.{Finished}
 use Rattle.shard.specs.Events.{shard_run}
-use Rattle.world.specs.Run.{Run, Event, Deliver, Submission, Completed, step, run}
+use Rattle.world.specs.Run.{Run, RunEvent, Deliver, Submission, Completed, step, run}
 use Rattle.world.specs.Journals.{journal_in}
 use Rattle.world.specs.Histories.{batch_submitted, decisions_in, history_of, IsHistory}
 use Rattle.world.specs.Quiet.{handled, IsQuiet}
@@ -89,7 +89,7 @@ PastIsShown top w =
 -- ## What is committed in the home of a read
 
 -- all of it, also what was there when the read was answered, is above the effective time
-abbrev pub CommitsAreAbove : TopologyValue → List Event → List Event → Type 0
+abbrev pub CommitsAreAbove : TopologyValue → List RunEvent → List RunEvent → Type 0
 CommitsAreAbove top before after =
     (c : Completed) (read : Read) (time : ℕ) (answer : List AnsweredRow) (d : Decision)
     → IsAnswered (run top before) c read time answer
@@ -97,7 +97,7 @@ CommitsAreAbove top before after =
     → TouchesAsked (run top (before ++ after)) d.txn read → time < d.commit
 
 -- what is committed later is above the effective time, whatever rows it touches
-abbrev pub LaterCommitsOfAnyRowAreAbove : TopologyValue → List Event → List Event → Type 0
+abbrev pub LaterCommitsOfAnyRowAreAbove : TopologyValue → List RunEvent → List RunEvent → Type 0
 LaterCommitsOfAnyRowAreAbove top before after =
     (c : Completed) (read : Read) (time : ℕ) (answer : List AnsweredRow) (d : Decision)
     → IsAnswered (run top before) c read time answer
@@ -105,7 +105,7 @@ LaterCommitsOfAnyRowAreAbove top before after =
     → time < d.commit
 
 -- what is committed later in an asked row is above it by more than one
-abbrev pub LaterCommitsAreFarAbove : TopologyValue → List Event → List Event → Type 0
+abbrev pub LaterCommitsAreFarAbove : TopologyValue → List RunEvent → List RunEvent → Type 0
 LaterCommitsAreFarAbove top before after =
     (c : Completed) (read : Read) (time : ℕ) (answer : List AnsweredRow) (d : Decision)
     → IsAnswered (run top before) c read time answer
@@ -120,7 +120,7 @@ ReadsAreAboveTheirHome top w =
 
 -- A write that is completed is in the table of each read of its rows that is submitted afterwards in the same data centre,
 -- by whatever session
-abbrev pub CompletedWritesAreShown : TopologyValue → List Event → List Event → Type 0
+abbrev pub CompletedWritesAreShown : TopologyValue → List RunEvent → List RunEvent → Type 0
 CompletedWritesAreShown top before after =
     (c e : Completed) (commit : ℕ) (stamp : StampValue) (read : Read) (time : ℕ) (answer : List AnsweredRow)
     → Contains (run top before).transcript c → c.outcome ≡ outcome.Wrote commit stamp
@@ -171,7 +171,7 @@ ReadsAreFreshAtDelivery top w =
 -- ## Histories
 
 -- further events add no entry
-abbrev pub HistoriesNeverGrow : TopologyValue → List Event → List Event → Type 0
+abbrev pub HistoriesNeverGrow : TopologyValue → List RunEvent → List RunEvent → Type 0
 HistoriesNeverGrow top before after =
     (dc : ℕ) (g h : History) → IsHistory top (run top before) dc g → IsHistory top (run top (before ++ after)) dc h → IsKeptIn h g
 
@@ -283,7 +283,7 @@ OutcomesAreListedNext top w =
     → (c : Completed) × Contains w.transcript c × (c.node ≡ session) × (c.number ≡ f.number + 1)
 
 -- a run keeps all events, also those that are refused
-abbrev pub RunsKeepAllEvents : TopologyValue → List Event → Type 0
+abbrev pub RunsKeepAllEvents : TopologyValue → List RunEvent → Type 0
 RunsKeepAllEvents top events = (run top events).events ≡ events
 
 -- ## Shards

@@ -2,10 +2,10 @@
 use Rattle.std.specs.Prelude.{ℕ, ◌==◌, if◌then◌else◌, List, map, filter, filter_map, slice_get}
 use Rattle.store.specs.Part.{greatest_of}
 use Rattle.messages.specs.declared.envelope.Envelope.{Envelope}
-use Rattle.world.specs.Run.{Run, Event, Submit, Deliver, Collect}
+use Rattle.world.specs.Run.{Run, RunEvent, Submit, Deliver, Collect}
 use Rattle.world.specs.Quiet.{handled}
 
-abbrev pub time_collected : ℕ → Event → ℕ
+abbrev pub time_collected : ℕ → RunEvent → ℕ
 time_collected node (Submit session op) = 0
 time_collected node (Deliver k) = 0
 time_collected node (Collect shard time) = if shard == node then time else 0

@@ -17,7 +17,7 @@ use Rattle.messages.specs.Topology.{TopologyValue}
 use Rattle.messages.specs.Honest.{IsHonest}
 use Rattle.messages.specs.Shard.{Decision}
 use Rattle.messages.specs.Actors.{outcomes_by, opening_home, home_before}
-use Rattle.world.specs.Run.{Run, Event, Submission, Completed, run}
+use Rattle.world.specs.Run.{Run, RunEvent, Submission, Completed, run}
 use Rattle.world.specs.Histories.{batch_submitted, decisions_in, IsHistory}
 use Rattle.world.specs.Before.{Past}
 use Rattle.world.specs.Fresh.{IsFresh}
@@ -63,7 +63,7 @@ abbrev pub OutcomesAreListed : TopologyValue → Run → Type 0
 OutcomesAreListed top w = (node : ℕ) → ended_at w node ≡ outcomes_by top node (journal_in w node)
 
 -- what was sent, submitted and completed stays, in order, whatever events follow
-pub record RunsGrow (top : TopologyValue) (before after : List Event) : Type 0 where
+pub record RunsGrow (top : TopologyValue) (before after : List RunEvent) : Type 0 where
   pub sent : IsBeginning (run top before).sent (run top (before ++ after)).sent
   pub submitted : IsBeginning (run top before).submitted (run top (before ++ after)).submitted
   pub transcript : IsBeginning (run top before).transcript (run top (before ++ after)).transcript
@@ -77,7 +77,7 @@ ReadsShowOneTable top w =
 
 -- it stays so: the answer of each completed read is the meaning of its request on the history of its home at any later
 -- moment, too
-abbrev pub AnswersStay : TopologyValue → List Event → List Event → Type 0
+abbrev pub AnswersStay : TopologyValue → List RunEvent → List RunEvent → Type 0
 AnswersStay top before after =
     (c : Completed) (read : Read) (time : ℕ) (answer : List AnsweredRow) (h : History)
     → IsAnswered (run top before) c read time answer → IsHistory top (run top (before ++ after)) c.home h → answer ≡ meaning read h time
@@ -93,7 +93,7 @@ pub record TouchesAsked (w : Run) (t : TxnValue) (read : Read) : Type 0 where
 
 -- What is committed in the home of a completed read after it was answered, and touches an asked row, has a commit time above
 -- its effective time.
-abbrev pub LaterCommitsAreAbove : TopologyValue → List Event → List Event → Type 0
+abbrev pub LaterCommitsAreAbove : TopologyValue → List RunEvent → List RunEvent → Type 0
 LaterCommitsAreAbove top before after =
     (c : Completed) (read : Read) (time : ℕ) (answer : List AnsweredRow) (d : Decision)
     → IsAnswered (run top before) c read time answer
@@ -143,7 +143,7 @@ abbrev pub OperationsEndOnce : Run → Type 0
 OperationsEndOnce w = AllPairs (λ c e. number_of c ≢ number_of e) w.transcript
 
 -- histories only grow: what further events add changes no entry
-abbrev pub HistoriesGrow : TopologyValue → List Event → List Event → Type 0
+abbrev pub HistoriesGrow : TopologyValue → List RunEvent → List RunEvent → Type 0
 HistoriesGrow top before after =
     (dc : ℕ) (g h : History) → IsHistory top (run top before) dc g → IsHistory top (run top (before ++ after)) dc h → IsKeptIn g h
 

@@ -1,8 +1,8 @@
 -- Which messages a run has handled, and when it is quiet.
 use Rattle.std.specs.Prelude.{ℕ, ◌<◌, List, length, filter_map, Option, Some, None, Contains}
-use Rattle.world.specs.Run.{Run, Event, Submit, Deliver, Collect}
+use Rattle.world.specs.Run.{Run, RunEvent, Submit, Deliver, Collect}
 
-abbrev pub number_delivered : Event → Option ℕ
+abbrev pub number_delivered : RunEvent → Option ℕ
 number_delivered (Submit session op) = None
 number_delivered (Deliver k) = Some k
 number_delivered (Collect shard time) = None

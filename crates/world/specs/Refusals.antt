@@ -9,7 +9,7 @@ use Rattle.messages.specs.Clock.{ticked}
 use Rattle.messages.specs.ShardEvents.{shard_handle, shard_collect}
 use Rattle.messages.specs.SessionEvents.{session_handle}
 use Rattle.messages.specs.Submitting.{submit_fault, session_submit}
-use Rattle.world.specs.Run.{Run, Event, Submit, Deliver, Collect, run}
+use Rattle.world.specs.Run.{Run, RunEvent, Submit, Deliver, Collect, run}
 
 -- its actor refuses the event, no message of this number was sent yet, or the node is no such actor
 pub data Refusal : Type 0 where
@@ -33,7 +33,7 @@ refusal_of_message top w None = Some NotSent
 refusal_of_message top w (Some e) = refusal_of_envelope top w e
 
 -- why a run refuses an event, if it does
-abbrev pub refusal_of : TopologyValue → Run → Event → Option Refusal
+abbrev pub refusal_of : TopologyValue → Run → RunEvent → Option Refusal
 refusal_of top w (Submit node op) = if is_session top node then refused_by (session_submit top node (w.sessions node) op) else Some NoSuchActor
 refusal_of top w (Deliver k) = refusal_of_message top w (slice_get w.sent k)
 refusal_of top w (Collect node time) = if is_shard top node then refused_by (shard_collect (w.shards node) time) else Some NoSuchActor
@@ -55,5 +55,5 @@ pub record HaveReasons (top : TopologyValue) (w : Run) : Type 0 where
       → (ticked (w.shards node).clock (w.shards node).clock ≡ None) × (e ≡ ClockSpent)
 
 -- a list of events none of which is refused by the run of those before it
-abbrev pub IsRun : TopologyValue → List Event → Type 0
-IsRun top events = (before : List Event) (x : Event) (after : List Event) → events ≡ before ++ x ∷ after → refusal_of top (run top before) x ≡ None
+abbrev pub IsRun : TopologyValue → List RunEvent → Type 0
+IsRun top events = (before : List RunEvent) (x : RunEvent) (after : List RunEvent) → events ≡ before ++ x ∷ after → refusal_of top (run top before) x ≡ None

@@ -13,7 +13,7 @@ use Rattle.messages.specs.ShardEvents.{shard_handle, shard_collect}
 use Rattle.messages.specs.SessionEvents.{session_handle, session_taken}
 use Rattle.messages.specs.Submitting.{session_submit}
 -- the events of a run, and the operations that ended in it, are public types
-pub use Rattle.world.specs.declared.run_event.RunEvent.{RunEvent as Event}
+pub use Rattle.world.specs.declared.run_event.RunEvent.{RunEvent}
 pub use Rattle.world.specs.declared.run_event.RunEvent.TheVariants.{Submit, Deliver, Collect}
 pub use Rattle.world.specs.declared.completed.Completed.{Completed}
 
@@ -31,7 +31,7 @@ pub record Submission : Type 0 where
 
 pub record Run : Type 0 where
   -- what happened so far, oldest first. A refused event isn't in it
-  pub events : List Event
+  pub events : List RunEvent
   -- each shard by its node
   pub shards : ℕ → ShardState
   -- each session by its node
@@ -81,7 +81,7 @@ with_ended transcript (Some c) = transcript ++ c ∷ []
 -- ## The step of an event
 
 -- a shard's step: it alone changes, and what it sends is added to the network. A refused event changes nothing
-abbrev pub after_shard : Result ShardStep Fault → Run → Event → ℕ → Run
+abbrev pub after_shard : Result ShardStep Fault → Run → RunEvent → ℕ → Run
 after_shard (Err e) w x node = w
 after_shard (Ok s) w x node =
     record w {
@@ -92,7 +92,7 @@ after_shard (Ok s) w x node =
 
 -- A session's step, in the same way, where these operations are accepted by then: its outcome is taken, and what it ended
 -- is added to the transcript.
-abbrev pub with_session : Run → Event → ℕ → List Submission → SessionStep → Run
+abbrev pub with_session : Run → RunEvent → ℕ → List Submission → SessionStep → Run
 with_session w x node submitted s =
     record w {
       events = w.events ++ x ∷ [];
@@ -102,7 +102,7 @@ with_session w x node submitted s =
       transcript = with_ended w.transcript (ended_by submitted node s);
     }
 
-abbrev pub after_session : Result SessionStep Fault → Run → Event → ℕ → Run
+abbrev pub after_session : Result SessionStep Fault → Run → RunEvent → ℕ → Run
 after_session (Err e) w x node = w
 after_session (Ok s) w x node = with_session w x node w.submitted s
 
@@ -129,13 +129,13 @@ submit_if true top w node op = after_submission (session_submit top node (w.sess
 submit_if false top w node op = w
 
 -- a delivery of this envelope, by whether it is for a shard and whether it is for a session
-abbrev pub deliver_if : Bool → Bool → TopologyValue → Run → Event → Envelope → Run
+abbrev pub deliver_if : Bool → Bool → TopologyValue → Run → RunEvent → Envelope → Run
 deliver_if true session top w x e = after_shard (shard_handle top e.to (w.shards e.to) e) w x e.to
 deliver_if false true top w x e = after_session (session_handle top e.to (w.sessions e.to) e) w x e.to
 deliver_if false false top w x e = w
 
 -- a delivery of the message of a number, if it was sent
-abbrev pub deliver_for : Option Envelope → TopologyValue → Run → Event → Run
+abbrev pub deliver_for : Option Envelope → TopologyValue → Run → RunEvent → Run
 deliver_for None top w x = w
 deliver_for (Some e) top w x = deliver_if (is_shard top e.to) (is_session top e.to) top w x e
 
@@ -146,16 +146,16 @@ collect_if false w node time = w
 
 -- what an event makes of a run: one actor's step. An event that is refused, one of a message that wasn't sent and one
 -- of a node that is no such actor change nothing
-abbrev pub step : TopologyValue → Run → Event → Run
+abbrev pub step : TopologyValue → Run → RunEvent → Run
 step top w (Submit node op) = submit_if (is_session top node) top w node op
 step top w (Deliver k) = deliver_for (slice_get w.sent k) top w (Deliver k)
 step top w (Collect node time) = collect_if (is_shard top node) w node time
 
 -- events in order, from a run so far
-abbrev pub continued : TopologyValue → Run → List Event → Run
+abbrev pub continued : TopologyValue → Run → List RunEvent → Run
 continued top w [] = w
 continued top w (x ∷ xs) = continued top (step top w x) xs
 
 -- the run of these events
-abbrev pub run : TopologyValue → List Event → Run
+abbrev pub run : TopologyValue → List RunEvent → Run
 run top events = continued top (opening top) events

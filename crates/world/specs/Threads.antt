@@ -11,12 +11,12 @@ use Rattle.table.specs.Meaning.{meaning}
 use Rattle.messages.specs.declared.op.Op.{Op}
 use Rattle.messages.specs.declared.op.Op.TheVariants as op
 use Rattle.messages.specs.declared.outcome.Outcome.TheVariants as outcome
-use Rattle.messages.specs.declared.event.Event.{Event as ActorEvent}
-use Rattle.messages.specs.declared.event.Event.TheVariants.{Submit as SubmitHere, Handle, Collect as CollectHere}
+use Rattle.messages.specs.declared.event.ActorEvent.{ActorEvent}
+use Rattle.messages.specs.declared.event.ActorEvent.TheVariants.{Submit as SubmitHere, Handle, Collect as CollectHere}
 use Rattle.messages.specs.Topology.{TopologyValue, is_session, shard_node, node_count}
 use Rattle.messages.specs.Shard.{Decision}
 use Rattle.messages.specs.Actors.{ActorState, OfShard, OfSession, Replayed, replay_of, outcomes_by, opening_home, home_before}
-use Rattle.world.specs.Run.{Run, Submission, Event, submission_of, run}
+use Rattle.world.specs.Run.{Run, Submission, RunEvent, submission_of, run}
 use Rattle.world.specs.Histories.{batch_in, history_of}
 use Rattle.world.specs.Journals.{held_in, IsRunOf, IsThreadedRun}
 use Rattle.world.specs.Promises.{ReadsShowOneTable, ReadsShowTheirPast, ReadsAreFresh}
@@ -93,6 +93,6 @@ JournalsShowOneTable top journals =
 -- past, and are fresh.
 pub record ThreadsKeepPromises (top : TopologyValue) (journals : ℕ → List ActorEvent) : Type 0 where
   pub are_run : IsThreadedRun top journals
-  pub table : (events : List Event) → IsRunOf top journals events → ReadsShowOneTable top (run top events)
-  pub past : (events : List Event) → IsRunOf top journals events → ReadsShowTheirPast top (run top events)
-  pub fresh : (events : List Event) → IsRunOf top journals events → ReadsAreFresh top (run top events)
+  pub table : (events : List RunEvent) → IsRunOf top journals events → ReadsShowOneTable top (run top events)
+  pub past : (events : List RunEvent) → IsRunOf top journals events → ReadsShowTheirPast top (run top events)
+  pub fresh : (events : List RunEvent) → IsRunOf top journals events → ReadsAreFresh top (run top events)

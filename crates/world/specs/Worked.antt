@@ -17,7 +17,7 @@ use Rattle.messages.specs.declared.op.Op.TheVariants as op
 use Rattle.messages.specs.declared.outcome.Outcome.{Outcome}
 use Rattle.messages.specs.declared.outcome.Outcome.TheVariants as outcome
 use Rattle.messages.specs.Topology.{TopologyValue, shard_count}
-use Rattle.world.specs.Run.{Run, Event, Submit, Deliver, Collect, run}
+use Rattle.world.specs.Run.{Run, RunEvent, Submit, Deliver, Collect, run}
 use Rattle.world.specs.Histories.{history_of}
 
 -- ## Words for runs
@@ -70,20 +70,20 @@ abbrev pub delete : List ℕ → List ℕ → Change
 delete key name = record { row = record { family = family_f; key = key }; mutation = DeleteColumn name }
 
 -- a session submits a batch of these changes
-abbrev pub write : ℕ → List Change → Event
+abbrev pub write : ℕ → List Change → RunEvent
 write session changes = Submit session (op.Batch changes)
 
 -- a session reads the columns with these names of these rows
-abbrev pub read : ℕ → List (List ℕ) → List (List ℕ) → Event
+abbrev pub read : ℕ → List (List ℕ) → List (List ℕ) → RunEvent
 read session keys names = Submit session (op.Read (record { family = family_f; keys = keys; predicate = Names names }))
 
 -- a session reads these rows whole, up to 100 columns each
-abbrev pub read_whole : ℕ → List (List ℕ) → Event
+abbrev pub read_whole : ℕ → List (List ℕ) → RunEvent
 read_whole session keys =
     Submit session (op.Read (record { family = family_f; keys = keys; predicate = Range [] [] false 100 }))
 
 -- these messages are delivered, in this order
-abbrev pub deliver : List ℕ → List Event
+abbrev pub deliver : List ℕ → List RunEvent
 deliver numbers = map Deliver numbers
 
 -- ## Words for what comes of them
@@ -150,7 +150,7 @@ abbrev pub one_shard : TopologyValue
 one_shard = actors 1 1 (0 ∷ [])
 
 -- a column is inserted, and then read back
-abbrev pub insert_then_read : List Event
+abbrev pub insert_then_read : List RunEvent
 insert_then_read =
     write 1 (insert key_b name_x 1 ∷ []) ∷ deliver (0 ∷ 1 ∷ []) ++ read 1 (key_b ∷ []) (name_x ∷ []) ∷ deliver (2 ∷ 3 ∷ [])
 
@@ -166,7 +166,7 @@ abbrev pub messages_come_again : Run
 messages_come_again = run one_shard (write 1 (insert key_b name_x 1 ∷ []) ∷ deliver (0 ∷ 0 ∷ 1 ∷ 1 ∷ []))
 
 -- a second write is submitted while the first is open
-abbrev pub submitted_twice : List Event
+abbrev pub submitted_twice : List RunEvent
 submitted_twice = write 1 (insert key_b name_x 1 ∷ []) ∷ write 1 (insert key_b name_y 2 ∷ []) ∷ []
 
 -- A session at home in a data centre that isn't there: what it sends comes back to itself
@@ -183,7 +183,7 @@ abbrev pub two_shards : TopologyValue
 two_shards = actors 1 2 (0 ∷ 0 ∷ [])
 
 -- a batch for both shards: b is on the coordinator's, a on the cohort's
-abbrev pub b_and_a : Event
+abbrev pub b_and_a : RunEvent
 b_and_a = write 2 (insert key_b name_x 1 ∷ insert key_a name_x 2 ∷ [])
 
 -- both rows as that batch leaves them
@@ -195,7 +195,7 @@ abbrev pub two_shard_write : Run
 two_shard_write = run two_shards (b_and_a ∷ deliver (0 ∷ 1 ∷ 2 ∷ 3 ∷ 4 ∷ []))
 
 -- the batch is decided and the cohort doesn't know it yet; a read of both rows has come to its second round
-abbrev pub second_round : List Event
+abbrev pub second_round : List RunEvent
 second_round = b_and_a ∷ deliver (0 ∷ 1 ∷ 2 ∷ []) ++ read 3 (key_b ∷ key_a ∷ []) (name_x ∷ []) ∷ deliver (5 ∷ 6 ∷ 7 ∷ 8 ∷ [])
 
 -- the cohort asks the coordinator for the batch, which the read then shows whole
@@ -252,11 +252,11 @@ write_after_the_answer =
     (read 3 (key_b ∷ []) (name_x ∷ []) ∷ Deliver 0 ∷ write 2 (insert key_b name_x 1 ∷ []) ∷ deliver (2 ∷ 1 ∷ []))
 
 -- the batch is decided and its session knows it, and the cohort doesn't yet
-abbrev pub told_before_the_cohort : List Event
+abbrev pub told_before_the_cohort : List RunEvent
 told_before_the_cohort = b_and_a ∷ deliver (0 ∷ 1 ∷ 2 ∷ 4 ∷ [])
 
 -- then another session reads the cohort's row
-abbrev pub cohort_is_read : List Event
+abbrev pub cohort_is_read : List RunEvent
 cohort_is_read = read 3 (key_a ∷ []) (name_x ∷ []) ∷ deliver (5 ∷ 6 ∷ [])
 
 -- ## The same shards with three sessions: 2, 3 and 4
@@ -265,21 +265,21 @@ abbrev pub three_sessions : TopologyValue
 three_sessions = actors 1 2 (0 ∷ 0 ∷ 0 ∷ [])
 
 -- b is written, and another session reads it at its commit time
-abbrev pub b_is_read : List Event
+abbrev pub b_is_read : List RunEvent
 b_is_read =
     write 2 (insert key_b name_x 1 ∷ []) ∷ Deliver 0 ∷ read 3 (key_b ∷ []) (name_x ∷ []) ∷ deliver (2 ∷ 3 ∷ [])
 
 -- then a is written, on the other shard and at the same time
-abbrev pub a_is_written : List Event
+abbrev pub a_is_written : List RunEvent
 a_is_written = write 4 (insert key_a name_x 2 ∷ []) ∷ Deliver 4 ∷ []
 
 -- b is written, and another session reads both rows at its commit time
-abbrev pub both_are_read : List Event
+abbrev pub both_are_read : List RunEvent
 both_are_read =
     write 2 (insert key_b name_x 1 ∷ []) ∷ Deliver 0 ∷ read 3 (key_b ∷ key_a ∷ []) (name_x ∷ []) ∷ deliver (2 ∷ 3 ∷ 4 ∷ 5 ∷ [])
 
 -- then a is written, one above that time
-abbrev pub a_is_written_next : List Event
+abbrev pub a_is_written_next : List RunEvent
 a_is_written_next = write 4 (insert key_a name_x 2 ∷ []) ∷ Deliver 6 ∷ []
 
 -- ## Two data centres of one shard: nodes 0 and 1, and sessions from 2 on
@@ -289,7 +289,7 @@ abbrev pub two_centres : TopologyValue
 two_centres = actors 2 1 (0 ∷ 1 ∷ [])
 
 -- both sessions insert the same column, and each write comes to the other data centre
-abbrev pub inserts_meet : List Event
+abbrev pub inserts_meet : List RunEvent
 inserts_meet =
     write 2 (insert key_b name_x 1 ∷ []) ∷ write 3 (insert key_b name_x 2 ∷ []) ∷ deliver (0 ∷ 1 ∷ 2 ∷ 4 ∷ 3 ∷ 5 ∷ [])
 
@@ -304,11 +304,11 @@ older_stamp_arrives_late =
     (inserts_meet ++ read 3 (key_b ∷ []) (name_x ∷ []) ∷ read 2 (key_b ∷ []) (name_x ∷ []) ∷ deliver (6 ∷ 7 ∷ 8 ∷ 9 ∷ []))
 
 -- a session inserts x and then y, and the second write comes to the other data centre first: it waits for the first
-abbrev pub second_write_first : List Event
+abbrev pub second_write_first : List RunEvent
 second_write_first =
     write 2 (insert key_b name_x 1 ∷ []) ∷ deliver (0 ∷ 1 ∷ []) ++ write 2 (insert key_b name_y 2 ∷ []) ∷ deliver (3 ∷ 4 ∷ 5 ∷ 6 ∷ [])
 
-abbrev pub read_x_y : Event
+abbrev pub read_x_y : RunEvent
 read_x_y = read 3 (key_b ∷ []) (name_x ∷ name_y ∷ [])
 
 -- a read in that data centre after the first write has come shows both

@@ -2,11 +2,11 @@
 use Rattle.std.specs.Prelude.{ℕ, List, [], ◌∷◌, ◌++◌, map}
 use Rattle.messages.specs.declared.op.Op.TheVariants as op
 use Rattle.messages.specs.Topology.{TopologyValue}
-use Rattle.world.specs.Run.{Run, Event, Submit, run}
+use Rattle.world.specs.Run.{Run, RunEvent, Submit, run}
 use Rattle.world.specs.Worked.{actors, insert, write, read, deliver, key_a, key_b, key_c, name_x, name_y, two_centres, two_by_two}
 
 -- a session moves to a data centre
-abbrev pub move : ℕ → ℕ → Event
+abbrev pub move : ℕ → ℕ → RunEvent
 move session dc = Submit session (op.Move dc)
 
 -- the data centres where what ended was submitted, oldest first
@@ -21,14 +21,14 @@ one_mover = actors 2 1 (0 ∷ [])
 
 -- It writes, and is told. It moves while its write is under way: the other data centre, which is asked first, remembers that
 -- and answers once the write is committed there
-abbrev pub moves_over : List Event
+abbrev pub moves_over : List RunEvent
 moves_over = write 2 (insert key_b name_x 1 ∷ []) ∷ deliver (0 ∷ 1 ∷ []) ++ move 2 1 ∷ deliver (3 ∷ 2 ∷ 4 ∷ [])
 
 abbrev pub session_has_moved : Run
 session_has_moved = run one_mover moves_over
 
 -- there it reads its write
-abbrev pub reads_there : List Event
+abbrev pub reads_there : List RunEvent
 reads_there = moves_over ++ read 2 (key_b ∷ []) (name_x ∷ []) ∷ deliver (5 ∷ 6 ∷ [])
 
 abbrev pub session_moves : Run
@@ -51,7 +51,7 @@ two_writers = actors 2 1 (0 ∷ 0 ∷ [])
 
 -- Session 2 writes, and reads what session 3 wrote before. It moves. Its own write comes there first, then the other; it is
 -- told of the other one, twice
-abbrev pub half_answered : List Event
+abbrev pub half_answered : List RunEvent
 half_answered =
     write 3 (insert key_c name_y 1 ∷ []) ∷ deliver (0 ∷ 1 ∷ []) ++ write 2 (insert key_b name_x 1 ∷ []) ∷ deliver (3 ∷ 4 ∷ [])
     ++ read 2 (key_c ∷ []) (name_y ∷ []) ∷ deliver (6 ∷ 7 ∷ []) ++ move 2 1 ∷ deliver (8 ∷ 9 ∷ 5 ∷ 2 ∷ 11 ∷ 11 ∷ [])

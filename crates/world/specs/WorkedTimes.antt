@@ -4,7 +4,7 @@ use Rattle.std.specs.Prelude.{ℕ, List, [], ◌∷◌, ◌++◌, map}
 use Rattle.column_family.specs.declared.batch.Change.{Change}
 use Rattle.column_family.specs.declared.batch.Mutation.TheVariants.{DeleteRow}
 use Rattle.messages.specs.Topology.{TopologyValue}
-use Rattle.world.specs.Run.{Run, Event, Collect, run}
+use Rattle.world.specs.Run.{Run, RunEvent, Collect, run}
 use Rattle.world.specs.Worked.{actors, insert, write, read, deliver, family_f, key_a, key_b, key_c, key_d, name_x, name_y, two_shards, b_and_a, second_round}
 
 -- ## Two reads that wait
@@ -15,13 +15,13 @@ two_shards_of_three = actors 1 2 (0 ∷ 0 ∷ 0 ∷ [])
 
 -- A batch is prepared and undecided. Two sessions, whose own writes were committed at 3 and at 10, read a row that the
 -- batch touches, and the cohort asks for the batch for each of them
-abbrev pub both_wait : List Event
+abbrev pub both_wait : List RunEvent
 both_wait =
     b_and_a ∷ deliver (0 ∷ 1 ∷ []) ++ write 3 (insert key_d name_x 9 ∷ []) ∷ deliver (3 ∷ 4 ∷ []) ++ read 3 (key_a ∷ []) (name_x ∷ []) ∷ deliver (5 ∷ 6 ∷ 7 ∷ [])
     ++ Collect 1 0 ∷ write 4 (insert key_c name_x 1 ∷ []) ∷ deliver (9 ∷ 10 ∷ []) ++ read 4 (key_a ∷ []) (name_x ∷ []) ∷ deliver (11 ∷ 12 ∷ 13 ∷ [])
 
 -- the batch is excluded at 3, which lets the one read go and not the other
-abbrev pub one_is_let_go : List Event
+abbrev pub one_is_let_go : List RunEvent
 one_is_let_go = both_wait ++ deliver (8 ∷ 15 ∷ [])
 
 -- then the batch is committed at 10, and the other read shows it

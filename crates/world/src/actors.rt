@@ -7,7 +7,7 @@ ghost use Rattle.messages.specs.ShardEvents.{shard_handle, shard_collect};
 ghost use Rattle.messages.specs.Clock.{ticked};
 ghost use Rattle.shard.specs.Kept.{IsRefusalOf, IsSpentOrMemory};
 ghost use Rattle.world.specs.Log.{HasRoom};
-ghost use Rattle.world.specs.Run.{Event, Submit, Deliver, Collect, run};
+ghost use Rattle.world.specs.Run.{RunEvent, Submit, Deliver, Collect, run};
 ghost use Rattle.world.specs.Refusals.{refusal_of, clock_at};
 ghost use Rattle.world.specs.Holds.{AreShards, IsRunning, HasTaken};
 ghost use Rattle.world.specs.World.{IsRefusedAs};
@@ -94,7 +94,7 @@ impl Actors {
     #[tactic(auto, using(crate::proofs::in_code::Unready::shard_clock, crate::proofs::in_code::Unready::station_clock))]
     fn clock_of(&self, node: Node) -> Clock
         requires { node < length self.now.shards.items + length self.now.stations.items }
-        ensures { (top : TopologyValue) (events : List Event) → IsRunning top (run top events) self.now → clock_at top (run top events) node ≡ result }
+        ensures { (top : TopologyValue) (events : List RunEvent) → IsRunning top (run top events) self.now → clock_at top (run top events) node ≡ result }
     {
         let place = usize::from(node.get());
         let shards = self.shards.len();
@@ -110,7 +110,7 @@ impl Actors {
     pub fn delivery_without_memory(&self, number: usize) -> Fault
         requires sent { number < length self.now.network.sent }
         requires addressed { (e : Envelope) → slice_get self.now.network.sent number ≡ Some e → e.to < length self.now.shards.items + length self.now.stations.items }
-        ensures { (top : TopologyValue) (events : List Event) → IsRunning top (run top events) self.now
+        ensures { (top : TopologyValue) (events : List RunEvent) → IsRunning top (run top events) self.now
             → IsRefusedAs (refusal_of top (run top events) (Deliver number)) result }
     {
         match self.network.get(number) {
@@ -123,7 +123,7 @@ impl Actors {
     #[tactic(auto, using(crate::proofs::in_code::Unready::collection_unready))]
     pub fn collection_without_memory(&self, shard: Node, time: Time) -> Fault
         requires { shard < length self.now.shards.items }
-        ensures { (top : TopologyValue) (events : List Event) → IsRunning top (run top events) self.now
+        ensures { (top : TopologyValue) (events : List RunEvent) → IsRunning top (run top events) self.now
             → IsRefusedAs (refusal_of top (run top events) (Collect shard time)) result }
     {
         let clock = self.clock_of(shard);
@@ -135,7 +135,7 @@ impl Actors {
     pub fn submission_without_memory(&self, session: Node, op: &Op) -> Fault
         requires station { length self.now.shards.items ≤ session }
         requires stations { session < length self.now.shards.items + length self.now.stations.items }
-        ensures { (top : TopologyValue) (events : List Event) → IsRunning top (run top events) self.now
+        ensures { (top : TopologyValue) (events : List RunEvent) → IsRunning top (run top events) self.now
             → IsRefusedAs (refusal_of top (run top events) (Submit session op.now)) result }
     {
         let place = usize::from(session.get()) - self.shards.len();
@@ -172,10 +172,10 @@ impl Actors {
     pub fn deliver(&mut self, number: usize) -> Result<(), Fault>
         requires sent { number < length self.old.network.sent }
         requires addressed { (e : Envelope) → slice_get self.old.network.sent number ≡ Some e → e.to < length self.old.shards.items + length self.old.stations.items }
-        ensures ok { (top : TopologyValue) (events : List Event) → IsRunning top (run top events) self.old → OnOk result (HasTaken top events (Deliver number) self.new) }
-        ensures refused { (top : TopologyValue) (events : List Event) → IsRunning top (run top events) self.old
+        ensures ok { (top : TopologyValue) (events : List RunEvent) → IsRunning top (run top events) self.old → OnOk result (HasTaken top events (Deliver number) self.new) }
+        ensures refused { (top : TopologyValue) (events : List RunEvent) → IsRunning top (run top events) self.old
             → IfErr result (IsRefusedAs (refusal_of top (run top events) (Deliver number))) }
-        ensures same { (top : TopologyValue) (events : List Event) → IsRunning top (run top events) self.old → OnErr result (IsRunning top (run top events) self.new) }
+        ensures same { (top : TopologyValue) (events : List RunEvent) → IsRunning top (run top events) self.old → OnErr result (IsRunning top (run top events) self.new) }
         ensures topology { self.new.topology ≡ self.old.topology }
     {
         let place = usize::from(self.addressee(number).get());
@@ -191,10 +191,10 @@ impl Actors {
         requires place { place < length self.old.shards.items }
         requires sent { number < length self.old.network.sent }
         requires to { (e : Envelope) → slice_get self.old.network.sent number ≡ Some e → e.to ≡ place }
-        ensures ok { (top : TopologyValue) (events : List Event) → IsRunning top (run top events) self.old → OnOk result (HasTaken top events (Deliver number) self.new) }
-        ensures refused { (top : TopologyValue) (events : List Event) → IsRunning top (run top events) self.old
+        ensures ok { (top : TopologyValue) (events : List RunEvent) → IsRunning top (run top events) self.old → OnOk result (HasTaken top events (Deliver number) self.new) }
+        ensures refused { (top : TopologyValue) (events : List RunEvent) → IsRunning top (run top events) self.old
             → IfErr result (IsRefusedAs (refusal_of top (run top events) (Deliver number))) }
-        ensures same { (top : TopologyValue) (events : List Event) → IsRunning top (run top events) self.old → OnErr result (IsRunning top (run top events) self.new) }
+        ensures same { (top : TopologyValue) (events : List RunEvent) → IsRunning top (run top events) self.old → OnErr result (IsRunning top (run top events) self.new) }
         ensures topology { self.new.topology ≡ self.old.topology }
     {
         match hand_over(&mut self.shards, place, number, &mut self.network) {
@@ -207,10 +207,10 @@ impl Actors {
     fn to_session(&mut self, number: usize) -> Result<(), Fault>
         requires sent { number < length self.old.network.sent }
         requires addressed { (e : Envelope) → slice_get self.old.network.sent number ≡ Some e → (length self.old.shards.items ≤ e.to) × (e.to < length self.old.shards.items + length self.old.stations.items) }
-        ensures ok { (top : TopologyValue) (events : List Event) → IsRunning top (run top events) self.old → OnOk result (HasTaken top events (Deliver number) self.new) }
-        ensures refused { (top : TopologyValue) (events : List Event) → IsRunning top (run top events) self.old
+        ensures ok { (top : TopologyValue) (events : List RunEvent) → IsRunning top (run top events) self.old → OnOk result (HasTaken top events (Deliver number) self.new) }
+        ensures refused { (top : TopologyValue) (events : List RunEvent) → IsRunning top (run top events) self.old
             → IfErr result (IsRefusedAs (refusal_of top (run top events) (Deliver number))) }
-        ensures same { (top : TopologyValue) (events : List Event) → IsRunning top (run top events) self.old → OnErr result (IsRunning top (run top events) self.new) }
+        ensures same { (top : TopologyValue) (events : List RunEvent) → IsRunning top (run top events) self.old → OnErr result (IsRunning top (run top events) self.new) }
         ensures topology { self.new.topology ≡ self.old.topology }
     {
         match self.make_ready(number) {
@@ -223,11 +223,11 @@ impl Actors {
     fn hand(&mut self, envelope: Envelope) -> Result<(), Fault>
         requires to { (length self.old.shards.items ≤ envelope.to) × (envelope.to < length self.old.shards.items + length self.old.stations.items) }
         requires room { HasRoom self.old.transcript }
-        ensures ok { (top : TopologyValue) (events : List Event) (k : ℕ) → IsRunning top (run top events) self.old → slice_get self.old.network.sent k ≡ Some envelope
+        ensures ok { (top : TopologyValue) (events : List RunEvent) (k : ℕ) → IsRunning top (run top events) self.old → slice_get self.old.network.sent k ≡ Some envelope
             → OnOk result (HasTaken top events (Deliver k) self.new) }
-        ensures refused { (top : TopologyValue) (events : List Event) (k : ℕ) → IsRunning top (run top events) self.old → slice_get self.old.network.sent k ≡ Some envelope
+        ensures refused { (top : TopologyValue) (events : List RunEvent) (k : ℕ) → IsRunning top (run top events) self.old → slice_get self.old.network.sent k ≡ Some envelope
             → IfErr result (IsRefusedAs (refusal_of top (run top events) (Deliver k))) }
-        ensures same { (top : TopologyValue) (events : List Event) → IsRunning top (run top events) self.old → OnErr result (IsRunning top (run top events) self.new) }
+        ensures same { (top : TopologyValue) (events : List RunEvent) → IsRunning top (run top events) self.old → OnErr result (IsRunning top (run top events) self.new) }
         ensures topology { self.new.topology ≡ self.old.topology }
     {
         let place = usize::from(envelope.to.get()) - self.shards.len();
@@ -253,11 +253,11 @@ impl Actors {
         requires station { length self.old.shards.items ≤ session }
         requires same { kept ≡ op }
         requires stations { session < length self.old.shards.items + length self.old.stations.items }
-        ensures ok { (top : TopologyValue) (events : List Event) → IsRunning top (run top events) self.old
+        ensures ok { (top : TopologyValue) (events : List RunEvent) → IsRunning top (run top events) self.old
             → IfOk result (λ n. HasTaken top events (Submit session op) self.new × (n ≡ ((run top events).sessions session).count + 1)) }
-        ensures refused { (top : TopologyValue) (events : List Event) → IsRunning top (run top events) self.old
+        ensures refused { (top : TopologyValue) (events : List RunEvent) → IsRunning top (run top events) self.old
             → IfErr result (λ r. IsRefusedAs (refusal_of top (run top events) (Submit session op)) r.0) }
-        ensures same { (top : TopologyValue) (events : List Event) → IsRunning top (run top events) self.old → OnErr result (IsRunning top (run top events) self.new) }
+        ensures same { (top : TopologyValue) (events : List RunEvent) → IsRunning top (run top events) self.old → OnErr result (IsRunning top (run top events) self.new) }
         ensures back { IfErr result (λ r. r.1 ≡ op) }
         ensures topology { self.new.topology ≡ self.old.topology }
     {
@@ -273,11 +273,11 @@ impl Actors {
         requires same { kept ≡ op }
         requires stations { session < length self.old.shards.items + length self.old.stations.items }
         requires room { HasRoom self.old.transcript }
-        ensures ok { (top : TopologyValue) (events : List Event) → IsRunning top (run top events) self.old
+        ensures ok { (top : TopologyValue) (events : List RunEvent) → IsRunning top (run top events) self.old
             → IfOk result (λ n. HasTaken top events (Submit session op) self.new × (n ≡ ((run top events).sessions session).count + 1)) }
-        ensures refused { (top : TopologyValue) (events : List Event) → IsRunning top (run top events) self.old
+        ensures refused { (top : TopologyValue) (events : List RunEvent) → IsRunning top (run top events) self.old
             → IfErr result (λ r. IsRefusedAs (refusal_of top (run top events) (Submit session op)) r.0) }
-        ensures same { (top : TopologyValue) (events : List Event) → IsRunning top (run top events) self.old → OnErr result (IsRunning top (run top events) self.new) }
+        ensures same { (top : TopologyValue) (events : List RunEvent) → IsRunning top (run top events) self.old → OnErr result (IsRunning top (run top events) self.new) }
         ensures back { IfErr result (λ r. r.1 ≡ op) }
         ensures topology { self.new.topology ≡ self.old.topology }
     {
@@ -291,10 +291,10 @@ impl Actors {
     /// A shard collects up to a time.
     pub fn collect(&mut self, shard: Node, time: Time) -> Result<(), Fault>
         requires { shard < length self.old.shards.items }
-        ensures ok { (top : TopologyValue) (events : List Event) → IsRunning top (run top events) self.old → OnOk result (HasTaken top events (Collect shard time) self.new) }
-        ensures refused { (top : TopologyValue) (events : List Event) → IsRunning top (run top events) self.old
+        ensures ok { (top : TopologyValue) (events : List RunEvent) → IsRunning top (run top events) self.old → OnOk result (HasTaken top events (Collect shard time) self.new) }
+        ensures refused { (top : TopologyValue) (events : List RunEvent) → IsRunning top (run top events) self.old
             → IfErr result (IsRefusedAs (refusal_of top (run top events) (Collect shard time))) }
-        ensures same { (top : TopologyValue) (events : List Event) → IsRunning top (run top events) self.old → OnErr result (IsRunning top (run top events) self.new) }
+        ensures same { (top : TopologyValue) (events : List RunEvent) → IsRunning top (run top events) self.old → OnErr result (IsRunning top (run top events) self.new) }
         ensures topology { self.new.topology ≡ self.old.topology }
     {
         match collect_in(&mut self.shards, usize::from(shard.get()), time) {

@@ -1,8 +1,8 @@
 //! Laws of journals: each actor's own events, replayed by themselves, and when they are a run.
 ghost use Rattle.std.specs.Prelude.{◌≡◌, ◌<◌, ℕ, true, List};
-ghost use Rattle.messages.specs.declared.event.Event.{Event as ActorEvent};
+ghost use Rattle.messages.specs.declared.event.ActorEvent.{ActorEvent};
 ghost use Rattle.messages.specs.Topology.{TopologyValue, is_topology};
-ghost use Rattle.world.specs.Run.{Event, run};
+ghost use Rattle.world.specs.Run.{RunEvent, run};
 ghost use Rattle.world.specs.Journals.{KeepsTime, ClocksRise, DoFit, DoLinksFit, IsThreadedRun, IsRunOf, IsItsJournal};
 ghost use Rattle.world.specs.Threads.{IsToldByJournals, JournalsShowOneTable, ThreadsKeepPromises};
 
@@ -16,7 +16,7 @@ pub fn steps_keep_time()
 /// In every run each actor is the replay of its own journal: that leads to its state, sends exactly what the run has from its
 /// node and finishes exactly what the transcript has of it, each in order. Does nothing; its contract is the law.
 pub fn actors_are_their_journals()
-    ensures { (top : TopologyValue) (events : List Event) (node : ℕ) → 0 < top.shards → IsItsJournal top (run top events) node }
+    ensures { (top : TopologyValue) (events : List RunEvent) (node : ℕ) → 0 < top.shards → IsItsJournal top (run top events) node }
 {}
 
 /// Journals, one for each actor, are a run if each replays without a refusal and what each handles is for it and was sent by
@@ -26,13 +26,13 @@ pub fn actors_are_their_journals()
 pub fn journals_that_fit_are_a_run()
     ensures fit { (top : TopologyValue) (journals : ℕ → List ActorEvent) → DoFit top journals → IsThreadedRun top journals }
     ensures links { (top : TopologyValue) (journals : ℕ → List ActorEvent) → DoLinksFit top journals → IsThreadedRun top journals }
-    ensures only { (top : TopologyValue) (journals : ℕ → List ActorEvent) (events : List Event) → 0 < top.shards → IsRunOf top journals events → DoFit top journals }
+    ensures only { (top : TopologyValue) (journals : ℕ → List ActorEvent) (events : List RunEvent) → 0 < top.shards → IsRunOf top journals events → DoFit top journals }
 {}
 
 /// What a run has of each actor, its histories and its submitted operations are what its journals tell: so any two runs of
 /// the same journals agree on them. Does nothing; its contract is the law.
 pub fn journals_tell_what_happened()
-    ensures { (top : TopologyValue) (journals : ℕ → List ActorEvent) (events : List Event) → 0 < top.shards → IsRunOf top journals events → IsToldByJournals top journals (run top events) }
+    ensures { (top : TopologyValue) (journals : ℕ → List ActorEvent) (events : List RunEvent) → 0 < top.shards → IsRunOf top journals events → IsToldByJournals top journals (run top events) }
 {}
 
 /// The headline, whatever the threads did. Where journals fit together, the answer of each read that they answered is the

@@ -8,7 +8,7 @@ ghost use Rattle.messages.specs.declared.body.Body.TheVariants.{DepCheck};
 ghost use Rattle.messages.specs.Topology.{TopologyValue};
 ghost use Rattle.messages.specs.Words.{envelope};
 ghost use Rattle.messages.specs.Session.{Moving};
-ghost use Rattle.world.specs.Run.{Run, Event, step, run};
+ghost use Rattle.world.specs.Run.{Run, RunEvent, step, run};
 ghost use Rattle.world.specs.Refusals.{Refusal, Refused, refusal_of, HaveReasons, IsRun};
 ghost use Rattle.world.specs.Histories.{history_of};
 ghost use Rattle.world.specs.Fresh.{IsKept, WasApplied};
@@ -26,7 +26,7 @@ ghost use Rattle.world.specs.WorkedTimes.{two_shards_of_three, both_wait, one_is
 /// the law.
 #[tactic(auto, using(crate::proofs::worked::Replayed::runs_replayed))]
 pub fn refused_events_are_left_out()
-    ensures { (top : TopologyValue) (events : List Event) → run top (run top events).events ≡ run top events }
+    ensures { (top : TopologyValue) (events : List RunEvent) → run top (run top events).events ≡ run top events }
 {}
 
 /// An event is refused, for the reason that is told, exactly where a run doesn't add it; then the run stays as it was. Actors
@@ -35,12 +35,12 @@ pub fn refused_events_are_left_out()
 /// refused. Does nothing; its contract is the law.
 #[tactic(auto, using(crate::proofs::steps::Refusals::none_if_added, crate::proofs::steps::Refusals::refused_stays, crate::proofs::steps::Refusals::have_reasons, crate::proofs::steps::Refusals::is_run_if_kept, crate::proofs::steps::Refusals::kept_events_are_run, crate::proofs::steps::Refusals::run_goes_on))]
 pub fn refusals_are_told()
-    ensures added { (top : TopologyValue) (w : Run) (x : Event) → (refusal_of top w x ≡ None) ↔ ((step top w x).events ≡ w.events ++ x ∷ []) }
-    ensures refused { (top : TopologyValue) (w : Run) (x : Event) (r : Refusal) → refusal_of top w x ≡ Some r → step top w x ≡ w }
+    ensures added { (top : TopologyValue) (w : Run) (x : RunEvent) → (refusal_of top w x ≡ None) ↔ ((step top w x).events ≡ w.events ++ x ∷ []) }
+    ensures refused { (top : TopologyValue) (w : Run) (x : RunEvent) (r : Refusal) → refusal_of top w x ≡ Some r → step top w x ≡ w }
     ensures reasons { (top : TopologyValue) (w : Run) → HaveReasons top w }
-    ensures kept_whole { (top : TopologyValue) (events : List Event) → IsRun top events ↔ ((run top events).events ≡ events) }
-    ensures kept { (top : TopologyValue) (events : List Event) → IsRun top (run top events).events }
-    ensures goes_on { (top : TopologyValue) (events : List Event) (x : Event) → IsRun top events → refusal_of top (run top events) x ≡ None → IsRun top (events ++ x ∷ []) }
+    ensures kept_whole { (top : TopologyValue) (events : List RunEvent) → IsRun top events ↔ ((run top events).events ≡ events) }
+    ensures kept { (top : TopologyValue) (events : List RunEvent) → IsRun top (run top events).events }
+    ensures goes_on { (top : TopologyValue) (events : List RunEvent) (x : RunEvent) → IsRun top events → refusal_of top (run top events) x ≡ None → IsRun top (events ++ x ∷ []) }
 {}
 
 /// A column is inserted and read back; messages that come again change nothing; a batch is committed on both of its shards.

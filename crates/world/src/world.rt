@@ -2,7 +2,7 @@
 ghost use Rattle.std.specs.Prelude.{◌≡◌, ◌<◌, ◌+◌, ◌++◌, ◌↔◌, ℕ, List, [], length, is_some, true, Some, None, option_map, IfOk, IfErr, OnOk, OnErr};
 ghost use Rattle.logical_time.specs.declared.fault.Fault.TheVariants as fault;
 ghost use Rattle.messages.specs.Topology.{is_shard, is_session, is_topology};
-ghost use Rattle.world.specs.Run.{Event, Submit, Deliver, Collect};
+ghost use Rattle.world.specs.Run.{RunEvent, Submit, Deliver, Collect};
 ghost use Rattle.world.specs.Causes.{PastsAreDecided};
 ghost use Rattle.world.specs.Collected.{CollectedIsBelowHorizon};
 ghost use Rattle.world.specs.Entries.{TellsDecided, StampsAgree, WritesAreTold};
@@ -175,7 +175,7 @@ impl World {
         // each read is answered with the meaning of its request on one table: its home's history at its effective time
         ensures one_table { ReadsShowOneTable self.now.top (run_of self.now) }
         // now and whenever the world was looked at before
-        ensures stays { (before after : List Event) → self.now.events ≡ before ++ after → AnswersStay self.now.top before after }
+        ensures stays { (before after : List RunEvent) → self.now.events ≡ before ++ after → AnswersStay self.now.top before after }
         // that table holds each write before the read, and nothing older than the asked shards had applied
         ensures past { ReadsShowTheirPast self.now.top (run_of self.now) }
         ensures fresh { ReadsAreFresh self.now.top (run_of self.now) }
@@ -183,7 +183,7 @@ impl World {
         ensures arrived { MovesBringTheirPast self.now.top (run_of self.now) }
         ensures whole { FirstRoundsAreWhole self.now.top (run_of self.now) }
         // what is committed there later has a greater commit time
-        ensures above { (before after : List Event) → self.now.events ≡ before ++ after → LaterCommitsAreAbove self.now.top before after }
+        ensures above { (before after : List RunEvent) → self.now.events ≡ before ++ after → LaterCommitsAreAbove self.now.top before after }
         // a read is given up only below the horizon of a shard that it asked
         ensures given_up { CollectedIsBelowHorizon self.now.top (run_of self.now) }
         // each entry is of a submitted operation, each operation ends once, as its session tells it
@@ -210,7 +210,7 @@ impl World {
         // an entry for each transaction that is decided there, and no other
         ensures tells { IfOk result (λ h. TellsDecided self.now.top (run_of self.now) dc h) }
         // it only grew
-        ensures grows { (before after : List Event) → self.now.events ≡ before ++ after → HistoriesGrow self.now.top before after }
+        ensures grows { (before after : List RunEvent) → self.now.events ≡ before ++ after → HistoriesGrow self.now.top before after }
         // a transaction has one stamp everywhere, its own; stamps follow causal order, as do commit times within a data centre
         ensures stamps { StampsAgree self.now.top (run_of self.now) }
         ensures causes { StampsFollowCauses self.now.top (run_of self.now) }

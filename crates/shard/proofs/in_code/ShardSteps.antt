@@ -13,8 +13,8 @@ use Rattle.messages.specs.Place.{IsPlace}
 use Rattle.messages.specs.Clock.{ticked, on_clock}
 use Rattle.messages.specs.Shard.{ShardState, ShardStep, new_shard}
 use Rattle.messages.specs.ShardEvents.{handled, shard_handle, collected}
-use Rattle.messages.specs.declared.event.Event.{Event}
-use Rattle.messages.specs.declared.event.Event.TheVariants.{Collect}
+use Rattle.messages.specs.declared.event.ActorEvent.{ActorEvent}
+use Rattle.messages.specs.declared.event.ActorEvent.TheVariants.{Collect}
 use Rattle.write_txn.specs.Ledger.{state_of}
 use Rattle.write_txn.specs.Voters.{voters_of}
 use Rattle.write_txn.specs.View.{view_of}
@@ -122,7 +122,7 @@ collects_at n k l time place clock low keeps ledger early notices askers waiting
 pub collects : (n : ℕ) (k l : ShardKept) (time : ℕ) → n ≡ max k.clock k.clock + 1 → n < 2 ^ 48 → l.place ≡ k.place → l.clock ≡ n → l.transactions.store.low ≡ max k.transactions.store.low time
     → ((all : List Applied) → Keeps k.transactions.store all → Keeps l.transactions.store all) → l.transactions.ledger ≡ k.transactions.ledger
     → l.transactions.early ≡ k.transactions.early → l.notices ≡ k.notices → l.askers ≡ k.askers → l.waiting ≡ k.waiting
-    → (top : TopologyValue) (me : ℕ) (before : List Event) → Represents top me k (shard_run top me before).state
+    → (top : TopologyValue) (me : ℕ) (before : List ActorEvent) → Represents top me k (shard_run top me before).state
     → Represents top me l (shard_run top me (before ++ Collect time ∷ [])).state
 collects n k l time same lt place clock low keeps ledger early notices askers waiting top me before r =
     subst (λ (w : ShardRun). Represents top me l w.state) (sym (run_push top me fresh_shard before (Collect time) ∙ next (shard_run top me before) r.clock))

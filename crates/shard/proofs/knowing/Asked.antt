@@ -7,26 +7,26 @@ use Rattle.messages.specs.Topology.{TopologyValue}
 use Rattle.messages.specs.Shard.{ShardState, WaitingRead}
 use Rattle.messages.specs.Reads.{is_waiting}
 use Rattle.slice.specs.declared.read.Read.{Read}
-use Rattle.messages.specs.declared.event.Event.{Event}
-use Rattle.messages.specs.declared.event.Event.TheVariants.{Handle}
+use Rattle.messages.specs.declared.event.ActorEvent.{ActorEvent}
+use Rattle.messages.specs.declared.event.ActorEvent.TheVariants.{Handle}
 use Rattle.shard.specs.Events.{shard_run}
 use Rattle.shard.specs.Sound.{Seen, Holds}
 
 -- ## Who waits, and since when
 
 -- after these events the read that this session numbered so waits, since this ReadAt was handled
-pub record IsWaitingFor (top : TopologyValue) (me : ℕ) (events : List Event) (session number time : ℕ) (read : Read) : Type 0 where
+pub record IsWaitingFor (top : TopologyValue) (me : ℕ) (events : List ActorEvent) (session number time : ℕ) (read : Read) : Type 0 where
   pub asked : Envelope
-  pub before : List Event
-  pub after : List Event
+  pub before : List ActorEvent
+  pub after : List ActorEvent
   pub split : events ≡ before ++ Handle asked ∷ after
   pub from : asked.from ≡ session
   pub body : asked.body ≡ body.ReadAt number time read
   pub taken : is_waiting (shard_run top me before).state asked.from number ≡ false
-  pub waits : (xs ys : List Event) → after ≡ xs ++ ys → is_waiting (shard_run top me (before ++ Handle asked ∷ xs)).state asked.from number ≡ true
+  pub waits : (xs ys : List ActorEvent) → after ≡ xs ++ ys → is_waiting (shard_run top me (before ++ Handle asked ∷ xs)).state asked.from number ≡ true
 
 -- the event is this ReadAt, and no read of its session and number waits
-pub record IsTaken (top : TopologyValue) (me : ℕ) (events : List Event) (x : Event) (session number time : ℕ) (read : Read) : Type 0 where
+pub record IsTaken (top : TopologyValue) (me : ℕ) (events : List ActorEvent) (x : ActorEvent) (session number time : ℕ) (read : Read) : Type 0 where
   pub asked : Envelope
   pub event : x ≡ Handle asked
   pub from : asked.from ≡ session
@@ -34,18 +34,18 @@ pub record IsTaken (top : TopologyValue) (me : ℕ) (events : List Event) (x : E
   pub taken : is_waiting (shard_run top me events).state asked.from number ≡ false
 
 -- the event is this Read
-pub record IsAsked (x : Event) (session number : ℕ) (read : Read) : Type 0 where
+pub record IsAsked (x : ActorEvent) (session number : ℕ) (read : Read) : Type 0 where
   pub asked : Envelope
   pub event : x ≡ Handle asked
   pub from : asked.from ≡ session
   pub body : asked.body ≡ body.Read number read
 
 -- what the shard is asked after these events, and at a further one
-abbrev pub seen_after : TopologyValue → ℕ → List Envelope → List Event → Seen
+abbrev pub seen_after : TopologyValue → ℕ → List Envelope → List ActorEvent → Seen
 seen_after top me es events =
     record { envelopes = es; asks_now = λ session number read. ⊥; asks_at = λ session number time read. IsWaitingFor top me events session number time read }
 
-abbrev pub seen_at : TopologyValue → ℕ → List Envelope → List Event → Event → Seen
+abbrev pub seen_at : TopologyValue → ℕ → List Envelope → List ActorEvent → ActorEvent → Seen
 seen_at top me es events x =
     record {
       envelopes = es;

@@ -20,8 +20,8 @@ use Rattle.messages.specs.declared.body.Body.{Body}
 use Rattle.messages.specs.declared.body.Body.TheVariants as body
 use Rattle.messages.specs.Actors.{envelope_of}
 use Rattle.store.proofs.lists.Lists.{none_in_empty, contains_first, given}
-use Rattle.messages.specs.declared.event.Event.{Event}
-use Rattle.messages.specs.declared.event.Event.TheVariants.{Handle}
+use Rattle.messages.specs.declared.event.ActorEvent.{ActorEvent}
+use Rattle.messages.specs.declared.event.ActorEvent.TheVariants.{Handle}
 use Rattle.shard.specs.Events.{ShardRun, fresh_shard, shard_run, envelopes_handled}
 use Rattle.shard.specs.Right.{part_now, part_then, IsRightNow, IsRightAt, IsSentBy, CausesAt, IsAppliedAsDecided, IsRightShard}
 use Rattle.shard.specs.Sound.{Seen, RowNowSound, RowAtSound, NowSound, AtSound, BodySound, Holds, GivenUpSound}
@@ -50,7 +50,7 @@ row_at_right es a read time r apart s =
     (right_stays s.seen c.later row read.predicate time (part_then r) (subst AreApart c.split apart) c.above s.right)
 
 -- what caused an answer at a time: it was asked at the event that sent it, or waited until then
-at_cause : (top : TopologyValue) (me : ℕ) (events before rest : List Event) (event : Event) (e : Envelope) (number time : ℕ) (read : Read)
+at_cause : (top : TopologyValue) (me : ℕ) (events before rest : List ActorEvent) (event : ActorEvent) (e : Envelope) (number time : ℕ) (read : Read)
     → events ≡ before ++ event ∷ rest → IsSentBy top me before event e
     → IsWaitingFor top me before e.to number time read ⊎ IsTaken top me before event e.to number time read
     → (asked : Envelope) × CausesAt top me events asked number e × (asked.from ≡ e.to) × (asked.body ≡ body.ReadAt number time read)
@@ -108,7 +108,7 @@ pub record Knows (top : TopologyValue) (me : ℕ) (es : List Envelope) (a : Shar
   pub says : (e : Envelope) → Contains sent e → BodySound (asked_in es) a e.to e.body
 
 -- These envelopes are honest, and the shard handled some of them.
-module _ (top : TopologyValue) (me : ℕ) (events : List Event) (es : List Envelope) (honest : IsHonest (shard_run top me events).state es)
+module _ (top : TopologyValue) (me : ℕ) (events : List ActorEvent) (es : List Envelope) (honest : IsHonest (shard_run top me events).state es)
     (all : AreAmong (envelopes_handled (shard_run top me events)) es) where
   abbrev w : ShardRun
   w = shard_run top me events
@@ -129,13 +129,13 @@ module _ (top : TopologyValue) (me : ℕ) (events : List Event) (es : List Envel
       (each_contained (λ (z : Envelope). BodySound (seen_at top me es s.before.events s.event) s.step.state z.to z.body) s.step.sends s.able.sends e s.sends)
 
   -- what an event of the run handled
-  handled_in : (xs ys : List Event) (e : Envelope) → w.events ≡ xs ++ Handle e ∷ ys → Contains es e
+  handled_in : (xs ys : List ActorEvent) (e : Envelope) → w.events ≡ xs ++ Handle e ∷ ys → Contains es e
   handled_in xs ys e split =
       all e
       (given envelope_of w.events (Handle e) e
       (subst (λ l. Contains l (Handle e)) (sym split) (Contains-append_right xs (Handle e ∷ ys) (Handle e) (contains_first (Handle e) ys))) refl)
 
-  waits_in : (xs ys : List Event) (session number time : ℕ) (read : Read) → w.events ≡ xs ++ ys → IsWaitingFor top me xs session number time read
+  waits_in : (xs ys : List ActorEvent) (session number time : ℕ) (read : Read) → w.events ≡ xs ++ ys → IsWaitingFor top me xs session number time read
       → IsSaid es session (body.ReadAt number time read)
   waits_in xs ys session number time read split k = (
     k.asked,
@@ -246,7 +246,7 @@ module _ (top : TopologyValue) (me : ℕ) (events : List Event) (es : List Envel
       }
 
 -- with no envelopes but those that it handled
-pub shard_is_right : (top : TopologyValue) (me : ℕ) (events : List Event) → IsHonest (shard_run top me events).state (envelopes_handled (shard_run top me events))
+pub shard_is_right : (top : TopologyValue) (me : ℕ) (events : List ActorEvent) → IsHonest (shard_run top me events).state (envelopes_handled (shard_run top me events))
     → IsRightShard top me (shard_run top me events)
 shard_is_right top me events honest =
     let es = envelopes_handled (shard_run top me events) in

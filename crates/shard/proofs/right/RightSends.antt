@@ -5,8 +5,8 @@ use Rattle.std.proofs.lemmas.List.Elements.{Contains-append_left, Contains-appen
 use Rattle.logical_time.specs.declared.fault.Fault.{Fault}
 use Rattle.store.specs.Keeps.{AreApart}
 use Rattle.messages.specs.declared.envelope.Envelope.{Envelope}
-use Rattle.messages.specs.declared.event.Event.{Event}
-use Rattle.messages.specs.declared.event.Event.TheVariants.{Handle}
+use Rattle.messages.specs.declared.event.ActorEvent.{ActorEvent}
+use Rattle.messages.specs.declared.event.ActorEvent.TheVariants.{Handle}
 use Rattle.messages.specs.Topology.{TopologyValue}
 use Rattle.messages.specs.Shard.{ShardStep}
 use Rattle.messages.specs.ShardEvents.{shard_handle}
@@ -23,17 +23,17 @@ use Rattle.shard.proofs.right.Run.{continued_ran, fresh_ran}
 -- ## Runs
 
 -- what comes after an event comes after the run so far
-continued_through : (top : TopologyValue) (me : ℕ) (w : ShardRun) (xs : List Event) (y : Event) (ys : List Event)
+continued_through : (top : TopologyValue) (me : ℕ) (w : ShardRun) (xs : List ActorEvent) (y : ActorEvent) (ys : List ActorEvent)
     → shard_continued top me w (xs ++ y ∷ ys) ≡ shard_continued top me (shard_continued top me w (xs ++ y ∷ [])) ys
 continued_through top me w [] y ys = refl
 continued_through top me w (x ∷ xs) y ys = continued_through top me (after_event top me w x) xs y ys
 
 -- what was sent stays so
-sent_stays : (r : Result ShardStep Fault) (w : ShardRun) (x : Event) → AreAmong w.sent (after_step r w x).sent
+sent_stays : (r : Result ShardStep Fault) (w : ShardRun) (x : ActorEvent) → AreAmong w.sent (after_step r w x).sent
 sent_stays (Err f) w x e has = has
 sent_stays (Ok st) w x e has = Contains-append_left w.sent st.sends e has
 
-continued_sent : (top : TopologyValue) (me : ℕ) (xs : List Event) (w : ShardRun) → AreAmong w.sent (shard_continued top me w xs).sent
+continued_sent : (top : TopologyValue) (me : ℕ) (xs : List ActorEvent) (w : ShardRun) → AreAmong w.sent (shard_continued top me w xs).sent
 continued_sent top me [] w e has = has
 continued_sent top me (x ∷ xs) w e has =
     continued_sent top me xs (after_event top me w x) e
@@ -49,7 +49,7 @@ each_right top me w right e has = record {
 
 -- ## An envelope among others
 
-module _ (top : TopologyValue) (me : ℕ) (before after : List Event) (x : Envelope) where
+module _ (top : TopologyValue) (me : ℕ) (before after : List ActorEvent) (x : Envelope) where
   -- the run before the event, after it, and after all events
   abbrev earlier : ShardRun
   earlier = shard_run top me before

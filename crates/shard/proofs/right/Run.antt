@@ -13,8 +13,8 @@ use Rattle.messages.specs.Shard.{ShardState, ShardStep, WaitingRead}
 use Rattle.messages.specs.Reads.{is_waiting}
 use Rattle.messages.specs.ShardEvents.{handled, collected}
 use Rattle.messages.specs.Honest.{IsHonest}
-use Rattle.messages.specs.declared.event.Event.{Event}
-use Rattle.messages.specs.declared.event.Event.TheVariants.{Submit, Handle, Collect}
+use Rattle.messages.specs.declared.event.ActorEvent.{ActorEvent}
+use Rattle.messages.specs.declared.event.ActorEvent.TheVariants.{Submit, Handle, Collect}
 use Rattle.shard.specs.Events.{ShardRun, fresh_shard, after_step, after_event, shard_continued, shard_run, envelopes_handled}
 use Rattle.shard.specs.Sound.{Grows, Holds, Able, IsWithin}
 use Rattle.shard.proofs.lists.Lists.{any_has, both_hold}
@@ -33,7 +33,7 @@ pub record Ran (top : TopologyValue) (me : ℕ) (last : ShardState) (es : List E
 
 module _ (top : TopologyValue) (me : ℕ) (last : ShardState) (es : List Envelope) (honest : IsHonest last es) where
   -- each step keeps what is known, and what it sends is sound
-  event_able : (w : ShardRun) (x : Event) (st : ShardStep) → event_step top me w.state x ≡ Ok st → IsWithin st.state last
+  event_able : (w : ShardRun) (x : ActorEvent) (st : ShardStep) → event_step top me w.state x ≡ Ok st → IsWithin st.state last
       → AreAmong (envelopes_handled (after_step (Ok st) w x)) es → Ran top me last es w
       → Able top me last (seen_at top me es w.events x) w.state st
   event_able w (Submit o) st ok within among ran = absurd (cc)
@@ -96,12 +96,12 @@ module _ (top : TopologyValue) (me : ℕ) (last : ShardState) (es : List Envelop
       go (Some n) is q = by n is (cc)
 
   -- after the step
-  replayed_on : (w : ShardRun) (x : Event) (st : ShardStep) → event_step top me w.state x ≡ Ok st → shard_run top me w.events ≡ w
+  replayed_on : (w : ShardRun) (x : ActorEvent) (st : ShardStep) → event_step top me w.state x ≡ Ok st → shard_run top me w.events ≡ w
       → shard_run top me (w.events ++ x ∷ []) ≡ after_step (Ok st) w x
   replayed_on w x st ok replayed =
       run_push top me fresh_shard w.events x ∙ ap (λ (r : ShardRun). after_event top me r x) replayed ∙ by_step top me w x ∙ ap (λ o. after_step o w x) ok
 
-  event_ran : (w : ShardRun) (x : Event) (st : ShardStep) → event_step top me w.state x ≡ Ok st → IsWithin st.state last
+  event_ran : (w : ShardRun) (x : ActorEvent) (st : ShardStep) → event_step top me w.state x ≡ Ok st → IsWithin st.state last
       → AreAmong (envelopes_handled (after_step (Ok st) w x)) es → Ran top me last es w → Ran top me last es (after_step (Ok st) w x)
   event_ran w x st ok within among ran =
       let able = event_able w x st ok within among ran in
@@ -159,7 +159,7 @@ module _ (top : TopologyValue) (me : ℕ) (last : ShardState) (es : List Envelop
                 ∙ ap (λ z. is_waiting (shard_run top me (w.events ++ z ∷ [])).state k.asked.from y.number) (sym k.event) ∙ here y has k.asked.from k.from;
           }
         where
-          nothing : (xs ys : List Event) → [] ≡ xs ++ ys → xs ≡ []
+          nothing : (xs ys : List ActorEvent) → [] ≡ xs ++ ys → xs ≡ []
           nothing [] ys e = refl
           nothing (u ∷ us) ys e = absurd (cc)
 
@@ -170,7 +170,7 @@ module _ (top : TopologyValue) (me : ℕ) (last : ShardState) (es : List Envelop
     pub ran : Ran top me last es v
     pub grows : Grows es w.state v.state
 
-  pub continued_ran : (xs : List Event) (w : ShardRun) → IsWithin (shard_continued top me w xs).state last
+  pub continued_ran : (xs : List ActorEvent) (w : ShardRun) → IsWithin (shard_continued top me w xs).state last
       → AreAmong (envelopes_handled (shard_continued top me w xs)) es → Ran top me last es w → RanOn w (shard_continued top me w xs)
   continued_ran [] w within among ran = record { ran = ran; grows = grows_beside w.state w.state (le_refl w.state.clock) (le_refl w.state.low) refl refl }
   continued_ran (x ∷ xs) w within among ran =
@@ -195,8 +195,8 @@ module _ (top : TopologyValue) (me : ℕ) (last : ShardState) (es : List Envelop
   -- the event at which the shard sent this, and what it knew then
   pub record SentAt (w : ShardRun) (e : Envelope) : Type 0 where
     pub before : ShardRun
-    pub event : Event
-    pub rest : List Event
+    pub event : ActorEvent
+    pub rest : List ActorEvent
     pub split : w.events ≡ before.events ++ event ∷ rest
     pub step : ShardStep
     pub now : shard_run top me (before.events ++ event ∷ []) ≡ after_step (Ok step) before event
@@ -205,19 +205,19 @@ module _ (top : TopologyValue) (me : ℕ) (last : ShardState) (es : List Envelop
     pub able : Able top me last (seen_at top me es before.events event) before.state step
     pub grows : Grows es step.state w.state
 
-  events_on : (xs : List Event) (w : ShardRun) → (more : List Event) × ((shard_continued top me w xs).events ≡ w.events ++ more)
+  events_on : (xs : List ActorEvent) (w : ShardRun) → (more : List ActorEvent) × ((shard_continued top me w xs).events ≡ w.events ++ more)
   events_on [] w = ([], sym (append-nil w.events))
   events_on (x ∷ xs) w =
-      subst (λ (v : ShardRun). (more : List Event) × ((shard_continued top me v xs).events ≡ w.events ++ more)) (sym (by_step top me w x))
+      subst (λ (v : ShardRun). (more : List ActorEvent) × ((shard_continued top me v xs).events ≡ w.events ++ more)) (sym (by_step top me w x))
       (go (event_step top me w.state x) (λ v. events_on xs v))
     where
-      go : (r : Result ShardStep Fault) → ((v : ShardRun) → (more : List Event) × ((shard_continued top me v xs).events ≡ v.events ++ more))
-          → (more : List Event) × ((shard_continued top me (after_step r w x) xs).events ≡ w.events ++ more)
+      go : (r : Result ShardStep Fault) → ((v : ShardRun) → (more : List ActorEvent) × ((shard_continued top me v xs).events ≡ v.events ++ more))
+          → (more : List ActorEvent) × ((shard_continued top me (after_step r w x) xs).events ≡ w.events ++ more)
       go (Err f) more = more w
       go (Ok st) more =
           let r = more (after_step (Ok st) w x) in (x ∷ r.0, r.1 ∙ append_assoc w.events (x ∷ []) r.0)
 
-  pub sent_at : (xs : List Event) (w : ShardRun) → IsWithin (shard_continued top me w xs).state last
+  pub sent_at : (xs : List ActorEvent) (w : ShardRun) → IsWithin (shard_continued top me w xs).state last
       → AreAmong (envelopes_handled (shard_continued top me w xs)) es → Ran top me last es w → (e : Envelope) → Contains (shard_continued top me w xs).sent e
       → Contains w.sent e ⊎ SentAt (shard_continued top me w xs) e
   sent_at [] w within among ran e has = inl has

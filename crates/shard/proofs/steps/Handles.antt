@@ -22,8 +22,8 @@ use Rattle.messages.specs.ShardEvents.{handled, shard_handle, collected, shard_c
 use Rattle.messages.specs.Actors.{envelope_of}
 use Rattle.logical_time.specs.declared.fault.Fault.TheVariants.{Busy}
 use Rattle.messages.specs.Honest.{told_in, part_in, IsHonest}
-use Rattle.messages.specs.declared.event.Event.{Event}
-use Rattle.messages.specs.declared.event.Event.TheVariants.{Submit, Handle, Collect}
+use Rattle.messages.specs.declared.event.ActorEvent.{ActorEvent}
+use Rattle.messages.specs.declared.event.ActorEvent.TheVariants.{Submit, Handle, Collect}
 use Rattle.shard.specs.Events.{ShardRun, after_step, after_event, shard_continued, envelopes_handled}
 use Rattle.shard.specs.Sound.{Seen, Holds, Able, IsWithin}
 use Rattle.shard.proofs.knowing.LetGo.{able_after, quiet_able, answer_able}
@@ -120,12 +120,12 @@ ticked_above clock time n e = go (nat_lt (max clock time + 1) (2 ^ 48)) e
     go false f = absurd (cc)
 
 -- the machine's step of an event; a submission is none of a shard's
-abbrev pub event_step : TopologyValue → ℕ → ShardState → Event → Result ShardStep Fault
+abbrev pub event_step : TopologyValue → ℕ → ShardState → ActorEvent → Result ShardStep Fault
 event_step top me a (Submit o) = Err Busy
 event_step top me a (Handle e) = shard_handle top me a e
 event_step top me a (Collect time) = shard_collect a time
 
-pub by_step : (top : TopologyValue) (me : ℕ) (w : ShardRun) (x : Event) → after_event top me w x ≡ after_step (event_step top me w.state x) w x
+pub by_step : (top : TopologyValue) (me : ℕ) (w : ShardRun) (x : ActorEvent) → after_event top me w x ≡ after_step (event_step top me w.state x) w x
 by_step top me w (Submit o) = refl
 by_step top me w (Handle e) = refl
 by_step top me w (Collect time) = refl
@@ -135,14 +135,14 @@ abbrev pub AreAmong : List Envelope → List Envelope → Type 0
 AreAmong few many = (e : Envelope) → Contains few e → Contains many e
 
 -- one event more
-pub run_push : (top : TopologyValue) (me : ℕ) (r : ShardRun) (xs : List Event) (y : Event)
+pub run_push : (top : TopologyValue) (me : ℕ) (r : ShardRun) (xs : List ActorEvent) (y : ActorEvent)
     → shard_continued top me r (xs ++ y ∷ []) ≡ after_event top me (shard_continued top me r xs) y
 run_push top me r [] y = refl
 run_push top me r (x ∷ xs) y = run_push top me (after_event top me r x) xs y
 
 -- ## Lists of events
 
-pub event_within : (top : TopologyValue) (me : ℕ) (w : ShardRun) (x : Event) → IsWithin w.state (after_event top me w x).state
+pub event_within : (top : TopologyValue) (me : ℕ) (w : ShardRun) (x : ActorEvent) → IsWithin w.state (after_event top me w x).state
 event_within top me w (Submit o) = within_itself w.state
 event_within top me w (Handle e) = go (ticked w.state.clock e.time)
   where
@@ -155,22 +155,22 @@ event_within top me w (Collect time) = go (ticked w.state.clock w.state.clock)
     go None = within_itself w.state
     go (Some n) = collected_within n w.state time
 
-events_stay : (r : Result ShardStep Fault) (w : ShardRun) (x : Event) → AreAmong (envelopes_handled w) (envelopes_handled (after_step r w x))
+events_stay : (r : Result ShardStep Fault) (w : ShardRun) (x : ActorEvent) → AreAmong (envelopes_handled w) (envelopes_handled (after_step r w x))
 events_stay (Err f) w x e has = has
 events_stay (Ok st) w x e has =
     let at = given_only envelope_of w.events e has in
     given envelope_of (w.events ++ x ∷ []) at.0 e (Contains-append_left w.events (x ∷ []) at.0 at.1) at.2
 
-event_stays : (top : TopologyValue) (me : ℕ) (w : ShardRun) (x : Event) → AreAmong (envelopes_handled w) (envelopes_handled (after_event top me w x))
+event_stays : (top : TopologyValue) (me : ℕ) (w : ShardRun) (x : ActorEvent) → AreAmong (envelopes_handled w) (envelopes_handled (after_event top me w x))
 event_stays top me w x =
     subst (λ (v : ShardRun). AreAmong (envelopes_handled w) (envelopes_handled v)) (sym (by_step top me w x)) (events_stay (event_step top me w.state x) w x)
 
-pub continued_within : (top : TopologyValue) (me : ℕ) (xs : List Event) (w : ShardRun) → IsWithin w.state (shard_continued top me w xs).state
+pub continued_within : (top : TopologyValue) (me : ℕ) (xs : List ActorEvent) (w : ShardRun) → IsWithin w.state (shard_continued top me w xs).state
 continued_within top me [] w = within_itself w.state
 continued_within top me (x ∷ xs) w =
     within_then (event_within top me w x) (continued_within top me xs (after_event top me w x))
 
-pub continued_stay : (top : TopologyValue) (me : ℕ) (xs : List Event) (w : ShardRun) → AreAmong (envelopes_handled w) (envelopes_handled (shard_continued top me w xs))
+pub continued_stay : (top : TopologyValue) (me : ℕ) (xs : List ActorEvent) (w : ShardRun) → AreAmong (envelopes_handled w) (envelopes_handled (shard_continued top me w xs))
 continued_stay top me [] w e has = has
 continued_stay top me (x ∷ xs) w e has =
     continued_stay top me xs (after_event top me w x) e (event_stays top me w x e has)

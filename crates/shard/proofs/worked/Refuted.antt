@@ -18,8 +18,8 @@ use Rattle.messages.specs.declared.rows_at.AtTime.TheVariants as at_time
 use Rattle.messages.specs.declared.body.Body.{Body}
 use Rattle.messages.specs.declared.body.Body.TheVariants as body
 use Rattle.messages.specs.declared.envelope.Envelope.{Envelope}
-use Rattle.messages.specs.declared.event.Event.{Event}
-use Rattle.messages.specs.declared.event.Event.TheVariants.{Handle}
+use Rattle.messages.specs.declared.event.ActorEvent.{ActorEvent}
+use Rattle.messages.specs.declared.event.ActorEvent.TheVariants.{Handle}
 use Rattle.messages.specs.Actors.{envelope_of}
 use Rattle.messages.specs.Words.{envelope}
 use Rattle.messages.specs.Honest.{all_told}
@@ -136,10 +136,10 @@ given_up all =
 -- ## Envelopes that are honest but for one clause
 
 -- what stands in the journal of a shard was handled
-was_handled : (w : ShardRun) (asked : Envelope) (before after : List Event) → w.events ≡ before ++ Handle asked ∷ after → Contains (envelopes_handled w) asked
+was_handled : (w : ShardRun) (asked : Envelope) (before after : List ActorEvent) → w.events ≡ before ++ Handle asked ∷ after → Contains (envelopes_handled w) asked
 was_handled w asked before after split =
     given envelope_of w.events (Handle asked) asked
-    (subst (λ (xs : List Event). Contains xs (Handle asked)) (sym split)
+    (subst (λ (xs : List ActorEvent). Contains xs (Handle asked)) (sym split)
     (Contains-append_right before (Handle asked ∷ after) (Handle asked) (contains_first (Handle asked) after))) refl
 
 pub marks : ¬ (IsRightWithout Marks two_shards 1 commit_at_its_mark)

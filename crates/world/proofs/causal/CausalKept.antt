@@ -16,7 +16,7 @@ use Rattle.messages.specs.Session.{SessionState, SessionStep, Open, Finished, is
 use Rattle.messages.specs.Rounds.{with_writers}
 use Rattle.messages.specs.SessionEvents.{session_taken}
 use Rattle.messages.specs.Actors.{home_after}
-use Rattle.world.specs.Run.{Run, Event, Submission, Completed, submission_of, completed_of, ended_by, with_ended, after_shard, after_session}
+use Rattle.world.specs.Run.{Run, RunEvent, Submission, Completed, submission_of, completed_of, ended_by, with_ended, after_shard, after_session}
 use Rattle.messages.proofs.WritersInOrder.{writers_stay}
 use Rattle.world.specs.Committed.{time_of, IsNotBelow}
 use Rattle.world.proofs.lists.Among.{Among, among_contains, append_first, append_second, last_or_old, contains_among, find_some, same_txn}
@@ -56,7 +56,7 @@ end_grows o e top {w} {x} c g f =
 
 -- ## A shard's step
 
-pub shard_causal : (top : TopologyValue) (w : Run) (node : ℕ) (st : ShardStep) (ev : Event) → ShardGrows (w.shards node) st.state → Causal top w → Causal top (after_shard (Ok st) w ev node)
+pub shard_causal : (top : TopologyValue) (w : Run) (node : ℕ) (st : ShardStep) (ev : RunEvent) → ShardGrows (w.shards node) st.state → Causal top w → Causal top (after_shard (Ok st) w ev node)
 shard_causal top w node st ev g k =
     let x = after_shard (Ok st) w ev node in
     record {
@@ -126,7 +126,7 @@ new_writers rows old k m =
 
 -- ## A session's step
 
-module _ (top : TopologyValue) (w : Run) (node : ℕ) (st : SessionStep) (ev : Event) (inv : Inv top w) (able : SessionAble top w node st) (k : Causal top w) where
+module _ (top : TopologyValue) (w : Run) (node : ℕ) (st : SessionStep) (ev : RunEvent) (inv : Inv top w) (able : SessionAble top w node st) (k : Causal top w) where
   abbrev x : Run
   x = after_session (Ok st) w ev node
 
@@ -442,7 +442,7 @@ module _ (top : TopologyValue) (w : Run) (node : ℕ) (st : SessionStep) (ev : E
 -- ## A submission
 
 -- What a submission opens, in a run with these events
-module _ (top : TopologyValue) (w : Run) (es : List Event) (node n : ℕ) (o : Op) (inv : Inv top w) (lt : (w.sessions node).clock < n) (current : Open) (sends : List Envelope) (k : Causal top w) where
+module _ (top : TopologyValue) (w : Run) (es : List RunEvent) (node n : ℕ) (o : Op) (inv : Inv top w) (lt : (w.sessions node).clock < n) (current : Open) (sends : List Envelope) (k : Causal top w) where
   abbrev state_then : SessionState
   state_then = opened_state w node n current
 

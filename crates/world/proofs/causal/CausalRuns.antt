@@ -8,7 +8,7 @@ use Rattle.messages.specs.Clock.{ticked, on_clock}
 use Rattle.messages.specs.Submitting.{write_begun, read_begun, begun, plan_fault, submit_fault, submit_if as session_submit_if}
 use Rattle.messages.specs.SessionEvents.{heard, session_handle}
 use Rattle.messages.specs.ShardEvents.{handled, shard_handle, collected}
-use Rattle.world.specs.Run.{Run, Event, Submit, Deliver, Collect, after_shard, after_session, after_submission, submit_if, deliver_if, deliver_for, collect_if, step}
+use Rattle.world.specs.Run.{Run, RunEvent, Submit, Deliver, Collect, after_shard, after_session, after_submission, submit_if, deliver_if, deliver_for, collect_if, step}
 use Rattle.world.proofs.lists.Among.{Among, get_among}
 use Rattle.world.proofs.safety.Invariant.{Inv}
 use Rattle.world.proofs.keeping.HandlesKept.{handle_able, collect_able}
@@ -27,7 +27,7 @@ use Rattle.world.proofs.causal.CausalKept.{shard_causal, session_causal, submiss
 use Rattle.world.proofs.shards.RightAnswers.{hears}
 
 module _ (top : TopologyValue) (w : Run) (some : 0 < top.shards) (inv : Inv top w) (k : Causal top w) where
-  shard_hears : (e : Envelope) (x : Event) → Among e w.sent → Causal top (after_shard (shard_handle top e.to (w.shards e.to) e) w x e.to)
+  shard_hears : (e : Envelope) (x : RunEvent) → Among e w.sent → Causal top (after_shard (shard_handle top e.to (w.shards e.to) e) w x e.to)
   shard_hears e x m = go (ticked (w.shards e.to).clock e.time) refl
     where
       go : (o : Option ℕ) → ticked (w.shards e.to).clock e.time ≡ o → Causal top (after_shard (on_clock o (λ n. handled top e.to n (w.shards e.to) e.from e.body)) w x e.to)
@@ -36,7 +36,7 @@ module _ (top : TopologyValue) (w : Run) (some : 0 < top.shards) (inv : Inv top 
           let above = ticked_above (w.shards e.to).clock e.time n q in
           shard_causal top w e.to (handled top e.to n (w.shards e.to) e.from e.body) x (handle_able top w e.to n e.from e.time e.body some inv above.0 above.1 (inv.sent e m)).grows k
 
-  session_hears : (e : Envelope) (x : Event) → Among e w.sent → Causal top (after_session (session_handle top e.to (w.sessions e.to) e) w x e.to)
+  session_hears : (e : Envelope) (x : RunEvent) → Among e w.sent → Causal top (after_session (session_handle top e.to (w.sessions e.to) e) w x e.to)
   session_hears e x m = go (ticked (w.sessions e.to).clock e.time) refl
     where
       go : (o : Option ℕ) → ticked (w.sessions e.to).clock e.time ≡ o → Causal top (after_session (on_clock o (λ n. heard top e.to n (w.sessions e.to) e.from e.body)) w x e.to)
@@ -45,12 +45,12 @@ module _ (top : TopologyValue) (w : Run) (some : 0 < top.shards) (inv : Inv top 
           let above = ticked_above (w.sessions e.to).clock e.time n q in
           session_causal top w e.to (heard top e.to n (w.sessions e.to) e.from e.body) x inv (heard_able top w e.to n some inv (le_of_lt above.0) e.from e.time e.body (le_of_lt above.1) (hears top w inv e m)) k
 
-  deliver_go : (shard session : Bool) (e : Envelope) (x : Event) → Among e w.sent → Causal top (deliver_if shard session top w x e)
+  deliver_go : (shard session : Bool) (e : Envelope) (x : RunEvent) → Among e w.sent → Causal top (deliver_if shard session top w x e)
   deliver_go true session e x m = shard_hears e x m
   deliver_go false true e x m = session_hears e x m
   deliver_go false false e x m = k
 
-  message_go : (o : Option Envelope) (x : Event) → ((e : Envelope) → o ≡ Some e → Among e w.sent) → Causal top (deliver_for o top w x)
+  message_go : (o : Option Envelope) (x : RunEvent) → ((e : Envelope) → o ≡ Some e → Among e w.sent) → Causal top (deliver_for o top w x)
   message_go None x m = k
   message_go (Some e) x m = deliver_go (is_shard top e.to) (is_session top e.to) e x (m e refl)
 
@@ -106,7 +106,7 @@ module _ (top : TopologyValue) (w : Run) (some : 0 < top.shards) (inv : Inv top 
       by None q =
           go (accepted (plan_fault top (w.sessions node).home o) (is_idle (w.sessions node).current) q) (ticked (w.sessions node).clock (w.sessions node).clock) refl
 
-  pub step_causal : (x : Event) → Causal top (step top w x)
+  pub step_causal : (x : RunEvent) → Causal top (step top w x)
   step_causal (Submit node o) = submit_go (is_session top node) node o
   step_causal (Deliver i) = message_go (slice_get w.sent i) (Deliver i) (get_among w.sent i)
   step_causal (Collect node time) = collect_go (is_shard top node) node time
@@ -127,9 +127,9 @@ opening_causal top =
       one = λ c d m. absurd m;
     }
 
-run_causal : (top : TopologyValue) (w : Run) (events : List Event) → 0 < top.shards → Inv top w → Causal top w → Causal top (continued top w events)
+run_causal : (top : TopologyValue) (w : Run) (events : List RunEvent) → 0 < top.shards → Inv top w → Causal top w → Causal top (continued top w events)
 run_causal top w [] some inv k = k
 run_causal top w (x ∷ xs) some inv k = run_causal top (step top w x) xs some (step_kept top w x some inv) (step_causal top w some inv k x)
 
-pub every_causal : (top : TopologyValue) (events : List Event) → 0 < top.shards → Causal top (run top events)
+pub every_causal : (top : TopologyValue) (events : List RunEvent) → 0 < top.shards → Causal top (run top events)
 every_causal top events some = run_causal top (opening top) events some (opening_holds top) (opening_causal top)

@@ -17,7 +17,7 @@ use Rattle.messages.specs.Actors.{opening_home, home_after, home_before}
 use Rattle.messages.specs.Session.{SessionState, SessionStep, Open, Idle, Writing, FirstRound, SecondRound, Moving, Finished, is_idle, calm, ended}
 use Rattle.messages.specs.Submitting.{begun}
 use Rattle.messages.specs.SessionEvents.{heard, session_taken}
-use Rattle.world.specs.Run.{Run, Event, Submit, Submission, Completed, submission_of, completed_of, ended_by, with_ended, with_session, submission_by, opening, continued, step, run}
+use Rattle.world.specs.Run.{Run, RunEvent, Submit, Submission, Completed, submission_of, completed_of, ended_by, with_ended, with_session, submission_by, opening, continued, step, run}
 use Rattle.world.specs.Journals.{finished_as, ended_at}
 use Rattle.world.specs.Promises.{HomesAreOfMoves}
 use Rattle.world.proofs.lists.Among.{Among, last_or_old, among_append, contains_among, same_txn_self}
@@ -124,7 +124,7 @@ apart_from i m node same apart = go (i == m) refl
     go false e = e
     go true e = absurd (false≢true (sym apart ∙ eq-eqb m node (sym (eqb-true i m e) ∙ same)))
 
-module _ (top : TopologyValue) (w : Run) (x : Event) (node : ℕ) (submitted : List Submission) (st : SessionStep) (k : Homes top w) (t : Turn w node submitted st) where
+module _ (top : TopologyValue) (w : Run) (x : RunEvent) (node : ℕ) (submitted : List Submission) (st : SessionStep) (k : Homes top w) (t : Turn w node submitted st) where
   abbrev v : Run
   v = with_session w x node submitted st
 
@@ -341,7 +341,7 @@ module _ (top : TopologyValue) (w : Run) (node n : ℕ) (inv : Inv top w) where
             g.moves f e,
           )
 
-step_homes : (top : TopologyValue) (w : Run) (x : Event) → Inv top w → Homes top w → Homes top (step top w x)
+step_homes : (top : TopologyValue) (w : Run) (x : RunEvent) → Inv top w → Homes top w → Homes top (step top w x)
 step_homes top w x inv k =
     event_cases top w x (λ v. Homes top v)
     (record {
@@ -356,15 +356,15 @@ step_homes top w x inv k =
 opening_homes : (top : TopologyValue) → Homes top (opening top)
 opening_homes top = record { sessions = λ node. refl; submitted = λ b m. absurd m; number = λ b m. absurd m; ended = λ node f m. absurd m }
 
-run_homes : (top : TopologyValue) (w : Run) (events : List Event) → 0 < top.shards → Inv top w → Homes top w → Homes top (continued top w events)
+run_homes : (top : TopologyValue) (w : Run) (events : List RunEvent) → 0 < top.shards → Inv top w → Homes top w → Homes top (continued top w events)
 run_homes top w [] some inv k = k
 run_homes top w (x ∷ xs) some inv k = run_homes top (step top w x) xs some (step_kept top w x some inv) (step_homes top w x inv k)
 
-pub every_home : (top : TopologyValue) (events : List Event) → 0 < top.shards → Homes top (run top events)
+pub every_home : (top : TopologyValue) (events : List RunEvent) → 0 < top.shards → Homes top (run top events)
 every_home top events some = run_homes top (opening top) events some (opening_holds top) (opening_homes top)
 
 -- each entry is of the home where the moves before left its session
-pub homes_are_of_moves : (top : TopologyValue) (events : List Event) → 0 < top.shards → HomesAreOfMoves top (run top events)
+pub homes_are_of_moves : (top : TopologyValue) (events : List RunEvent) → 0 < top.shards → HomesAreOfMoves top (run top events)
 homes_are_of_moves top events some c has =
     let w = run top events in
     let o = ((every_run top events some).transcript c (contains_among c w.transcript has)).opened in

@@ -10,7 +10,7 @@ use Rattle.messages.specs.Topology.{TopologyValue, is_topology}
 use Rattle.messages.specs.Actors.{opening_home, home_after, home_before}
 use Rattle.messages.specs.Session.{Finished}
 use Rattle.messages.specs.Submitting.{move_fault_if, plan_fault}
-use Rattle.world.specs.Run.{Run, Event, Completed, run}
+use Rattle.world.specs.Run.{Run, RunEvent, Completed, run}
 use Rattle.world.specs.Journals.{finished_as, ended_at}
 use Rattle.world.specs.Promises.{Fits}
 use Rattle.world.proofs.lists.Among.{Among, map_only, filter_only}
@@ -81,7 +81,7 @@ all_there top w inv node f m =
 
 -- ## Runs
 
-pub home_is_there : (top : TopologyValue) (events : List Event) → is_topology top.dcs top.shards top.homes ≡ true → (node n : ℕ)
+pub home_is_there : (top : TopologyValue) (events : List RunEvent) → is_topology top.dcs top.shards top.homes ≡ true → (node n : ℕ)
     → home_before (opening_home top node) (ended_at (run top events) node) n < top.dcs
 home_is_there top events ok node n =
     let s = stands top ok in

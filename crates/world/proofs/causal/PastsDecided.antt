@@ -2,7 +2,7 @@
 use Rattle.std.proofs.Common.{◌<◌, List, subst}
 use Rattle.messages.specs.Topology.{TopologyValue, shard_node}
 use Rattle.messages.proofs.Numbering.{dc_of_shard}
-use Rattle.world.specs.Run.{Event, run}
+use Rattle.world.specs.Run.{RunEvent, run}
 use Rattle.world.specs.Causes.{PastsAreDecided}
 use Rattle.world.proofs.safety.Facts.{IsDone}
 use Rattle.world.proofs.causal.CausalRuns.{every_causal}
@@ -11,7 +11,7 @@ use Rattle.world.proofs.causal.Pasts.{past_reached}
 use Rattle.world.proofs.safety.Runs.{every_run}
 use Rattle.world.proofs.promised.Laws.{rests, committed, done_here, stamps_follow_causes}
 
-pub pasts_are_decided : (top : TopologyValue) (events : List Event) → 0 < top.shards → PastsAreDecided top (run top events)
+pub pasts_are_decided : (top : TopologyValue) (events : List RunEvent) → 0 < top.shards → PastsAreDecided top (run top events)
 pasts_are_decided top events some u v dc e past has same =
     let w = run top events in
     let inv = every_run top events some in

@@ -13,7 +13,7 @@ use Rattle.messages.specs.Clock.{ticked, on_clock}
 use Rattle.messages.specs.Shard.{ShardState, ShardStep}
 use Rattle.messages.specs.ShardEvents.{handled as handled_by, shard_handle}
 use Rattle.messages.specs.SessionEvents.{heard, session_handle}
-use Rattle.world.specs.Run.{Run, Event, Deliver, with_actor, after_shard, after_session, deliver_if, deliver_for, step, run}
+use Rattle.world.specs.Run.{Run, RunEvent, Deliver, with_actor, after_shard, after_session, deliver_if, deliver_for, step, run}
 use Rattle.world.specs.Quiet.{number_delivered, handled}
 use Rattle.world.specs.Refusals.{Refused, NoSuchActor, refused_by, refusal_of_envelope, refusal_of_message, clock_at}
 use Rattle.world.specs.Drains.{rank, total, decisions_taken, ComesNearer, MeetsSpentClock, DeliveriesComeNearer, DecisionsAreCapped, sizes_of, cost, cost_of_all, cost_of_decision, cost_of_waiting}
@@ -237,7 +237,7 @@ module _ (top : TopologyValue) (w : Run) (some : 0 < top.shards) (inv : Inv top 
       }
 
 -- the message of a number, and for whom it is
-pub delivered : (top : TopologyValue) (events : List Event) → is_topology top.dcs top.shards top.homes ≡ true → (k : ℕ) (e : Envelope)
+pub delivered : (top : TopologyValue) (events : List RunEvent) → is_topology top.dcs top.shards top.homes ≡ true → (k : ℕ) (e : Envelope)
     → slice_get (run top events).sent k ≡ Some e
     → Nearer top (run top events) (step top (run top events) (Deliver k)) k e ⊎ (IsSpent top (run top events) e × MeetsSpentClock top (run top events) k e)
 delivered top events ok k e there =
@@ -247,8 +247,8 @@ delivered top events ok k e there =
     let actor = messages_are_for_actors top events ok e (among_contains e w.sent (get_among w.sent k e there)) in
     elim (delivery top w some inv k e there actor) [ inl nearer ↦ inl nearer | inr spent ↦ inr (spent, meets top w some inv k e there actor spent) ]
 
-pub deliveries_come_nearer : (top : TopologyValue) (events : List Event) → is_topology top.dcs top.shards top.homes ≡ true → DeliveriesComeNearer top (run top events)
+pub deliveries_come_nearer : (top : TopologyValue) (events : List RunEvent) → is_topology top.dcs top.shards top.homes ≡ true → DeliveriesComeNearer top (run top events)
 deliveries_come_nearer top events ok k e there = elim (delivered top events ok k e there) [ inl nearer ↦ inl nearer.comes | inr spent ↦ inr spent.1 ]
 
-pub decisions_are_capped : (top : TopologyValue) (events : List Event) → 0 < top.shards → DecisionsAreCapped top (run top events)
+pub decisions_are_capped : (top : TopologyValue) (events : List RunEvent) → 0 < top.shards → DecisionsAreCapped top (run top events)
 decisions_are_capped top events some = decisions_capped top (run top events) some (every_run top events some)

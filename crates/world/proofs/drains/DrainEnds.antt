@@ -7,7 +7,7 @@ use Rattle.std.proofs.lemmas.List.{length-append}
 use Rattle.std.proofs.lemmas.List.Sums.{sum_by-cons}
 use Rattle.messages.specs.declared.envelope.Envelope.{Envelope}
 use Rattle.messages.specs.Topology.{TopologyValue, is_topology, is_shard}
-use Rattle.world.specs.Run.{Run, Event, Deliver, opening, step, run}
+use Rattle.world.specs.Run.{Run, RunEvent, Deliver, opening, step, run}
 use Rattle.world.specs.Quiet.{handled, IsQuiet}
 use Rattle.world.specs.Lookups.{first_unhandled}
 use Rattle.world.specs.Refusals.{clock_at}
@@ -134,7 +134,7 @@ drained_quiet top (suc n) w none = ap (λ o. drained top n (with_delivered top w
 
 module _ (top : TopologyValue) (ok : is_topology top.dcs top.shards top.homes ≡ true) where
   -- a run with one more delivery, of what wasn't handled and isn't refused
-  onwards : (events : List Event) (k : ℕ) (e : Envelope) → slice_get (run top events).sent k ≡ Some e → (Contains (handled (run top events)) k → ⊥)
+  onwards : (events : List RunEvent) (k : ℕ) (e : Envelope) → slice_get (run top events).sent k ≡ Some e → (Contains (handled (run top events)) k → ⊥)
       → Nearer top (run top events) (step top (run top events) (Deliver k)) k e
       → deliveries_left top (step top (run top events) (Deliver k)) < deliveries_left top (run top events)
   onwards events k e there none nearer =
@@ -143,7 +143,7 @@ module _ (top : TopologyValue) (ok : is_topology top.dcs top.shards top.homes �
       leaves_fewer top (run top events) (step top (run top events) (Deliver k)) k e (decisions_are_capped top events some)
       (subst (DecisionsAreCapped top) more (decisions_are_capped top (events ++ Deliver k ∷ []) some)) nearer there none
 
-  pub deliveries_leave_fewer : (events : List Event) → DeliveriesLeaveFewer top (run top events)
+  pub deliveries_leave_fewer : (events : List RunEvent) → DeliveriesLeaveFewer top (run top events)
   deliveries_leave_fewer events k lt none allowed =
       let e = get_there (run top events).sent k lt in
       elim (delivered top events ok k e.0 e.1) [
@@ -174,7 +174,7 @@ module _ (top : TopologyValue) (ok : is_topology top.dcs top.shards top.homes �
       by false = counts.sessions e.to
 
   -- so with room for what is left the delivery of a message is handled
-  goes : (events : List Event) (k : ℕ) (e : Envelope) → slice_get (run top events).sent k ≡ Some e → (Contains (handled (run top events)) k → ⊥)
+  goes : (events : List RunEvent) (k : ℕ) (e : Envelope) → slice_get (run top events).sent k ≡ Some e → (Contains (handled (run top events)) k → ⊥)
       → length (run top events).events + deliveries_left top (run top events) < 2 ^ 48
       → Nearer top (run top events) (step top (run top events) (Deliver k)) k e
   goes events k e there none room =
@@ -186,30 +186,30 @@ module _ (top : TopologyValue) (ok : is_topology top.dcs top.shards top.homes �
             absurd (omega arith)
       ]
 
-  pub deliveries_are_allowed : (events : List Event) → DeliveriesAreAllowed top (run top events)
+  pub deliveries_are_allowed : (events : List RunEvent) → DeliveriesAreAllowed top (run top events)
   deliveries_are_allowed events k lt none room =
       let e = get_there (run top events).sent k lt in
       added_is_allowed top (run top events) (Deliver k) (goes events k e.0 e.1 none room).events
 
   -- a drain of a run is a run, quiet, with no more events than were left
   record Ended (w x : Run) (left : ℕ) : Type 0 where
-    events : List Event
+    events : List RunEvent
     is : x ≡ run top events
     quiet : IsQuiet x
     count : length x.events ≤ length w.events + left
 
   -- so many deliveries of a run
-  abbrev EndsBy : ℕ → List Event → Type 0
+  abbrev EndsBy : ℕ → List RunEvent → Type 0
   EndsBy n events =
       deliveries_left top (run top events) ≤ n → length (run top events).events + deliveries_left top (run top events) < 2 ^ 48
       → Ended (run top events) (drained top n (run top events)) (deliveries_left top (run top events))
 
-  ended : (n : ℕ) (events : List Event) → first_unhandled (run top events) ≡ None → EndsBy n events
+  ended : (n : ℕ) (events : List RunEvent) → first_unhandled (run top events) ≡ None → EndsBy n events
   ended n events none le room =
       subst (λ x. Ended (run top events) x (deliveries_left top (run top events))) (sym (drained_quiet top n (run top events) none))
       (record { events = events; is = refl; quiet = (finds_unhandled (run top events)).none.0 none; count = omega arith })
 
-  goes_on : (n : ℕ) (events : List Event) (k : ℕ) → first_unhandled (run top events) ≡ Some k → EndsBy n (events ++ Deliver k ∷ []) → EndsBy (suc n) events
+  goes_on : (n : ℕ) (events : List RunEvent) (k : ℕ) → first_unhandled (run top events) ≡ Some k → EndsBy n (events ++ Deliver k ∷ []) → EndsBy (suc n) events
   goes_on n events k first rest le room =
       let w = run top events in
       let f = (finds_unhandled w).found k first in
@@ -227,7 +227,7 @@ module _ (top : TopologyValue) (ok : is_topology top.dcs top.shards top.homes �
       (subst (λ x. Ended w (drained top n x) (deliveries_left top w)) more
       (record { events = d.events; is = d.is; quiet = d.quiet; count = omega arith }))
 
-  ends : (n : ℕ) (events : List Event) → EndsBy n events
+  ends : (n : ℕ) (events : List RunEvent) → EndsBy n events
   ends zero events = by (first_unhandled (run top events)) refl
     where
       by : (o : Option ℕ) → first_unhandled (run top events) ≡ o → EndsBy 0 events
@@ -243,7 +243,7 @@ module _ (top : TopologyValue) (ok : is_topology top.dcs top.shards top.homes �
       by None none rest = ended (suc n) events none
       by (Some k) first rest = goes_on n events k first (rest k)
 
-  pub drains_end : (events : List Event) → DrainsEnd top (run top events)
+  pub drains_end : (events : List RunEvent) → DrainsEnd top (run top events)
   drains_end events n le room =
       let d = ends n events le room in
       record {

@@ -11,7 +11,7 @@ use Rattle.messages.specs.SessionEvents.{heard, session_taken}
 use Rattle.messages.specs.ShardEvents.{handled, collected}
 use Rattle.messages.specs.Submitting.{begun}
 use Rattle.store.proofs.lists.Lists.{none_in_empty}
-use Rattle.world.specs.Run.{Run, Event, Submit, Submission, submission_by, opening, after_shard, with_session, step, continued, run}
+use Rattle.world.specs.Run.{Run, RunEvent, Submit, Submission, submission_by, opening, after_shard, with_session, step, continued, run}
 use Rattle.world.specs.Drains.{ClocksCountEvents}
 use Rattle.world.proofs.lists.Among.{among_append, get_among, among_contains, contains_among}
 use Rattle.world.proofs.steps.EventCases.{timed_cases}
@@ -27,7 +27,7 @@ next c t n m e p q = by (nat_lt (max c t + 1) (2 ^ 48)) e
     by true f = let is : max c t + 1 ≡ n = cc in omega arith
     by false f = absurd (cc)
 
-module _ (w : Run) (x : Event) (k : ClocksCountEvents w) where
+module _ (w : Run) (x : RunEvent) (k : ClocksCountEvents w) where
   longer : length (w.events ++ x ∷ []) ≡ length w.events + 1
   longer = length-append w.events (x ∷ [])
 
@@ -63,7 +63,7 @@ module _ (w : Run) (x : Event) (k : ClocksCountEvents w) where
         messages = sent node n st.sends le own;
       }
 
-step_counts : (top : TopologyValue) (w : Run) (x : Event) → ClocksCountEvents w → ClocksCountEvents (step top w x)
+step_counts : (top : TopologyValue) (w : Run) (x : RunEvent) → ClocksCountEvents w → ClocksCountEvents (step top w x)
 step_counts top w x k =
     timed_cases top w x ClocksCountEvents
     (record {
@@ -92,11 +92,11 @@ step_counts top w x k =
           (next (w.shards node).clock (w.shards node).clock n (length w.events) ticks (k.shards node) (k.shards node)) refl none;
     })
 
-counts_later : (top : TopologyValue) (w : Run) (xs : List Event) → ClocksCountEvents w → ClocksCountEvents (continued top w xs)
+counts_later : (top : TopologyValue) (w : Run) (xs : List RunEvent) → ClocksCountEvents w → ClocksCountEvents (continued top w xs)
 counts_later top w [] k = k
 counts_later top w (x ∷ xs) k = counts_later top (step top w x) xs (step_counts top w x k)
 
-pub clocks_count_events : (top : TopologyValue) (events : List Event) → ClocksCountEvents (run top events)
+pub clocks_count_events : (top : TopologyValue) (events : List RunEvent) → ClocksCountEvents (run top events)
 clocks_count_events top events =
     counts_later top (opening top) events
     (record { shards = λ node. omega arith; sessions = λ node. omega arith; messages = λ e has. absurd (none_in_empty e has) })

@@ -9,7 +9,7 @@ use Rattle.messages.specs.Shard.{ShardState, WaitingRead}
 use Rattle.messages.specs.ShardEvents.{handled}
 use Rattle.shard.proofs.lists.Lists.{each_contained}
 use Rattle.shard.proofs.steps.Sending.{Gives, handled_gives}
-use Rattle.world.specs.Run.{Run, Event, opening, step, continued, run}
+use Rattle.world.specs.Run.{Run, RunEvent, opening, step, continued, run}
 use Rattle.world.specs.Lookups.{MessagesAreForActors}
 use Rattle.world.proofs.lists.Among.{Among, among_contains, contains_among, among_append, get_among}
 use Rattle.world.proofs.safety.Invariant.{Says, Inv}
@@ -89,7 +89,7 @@ module _ (top : TopologyValue) (w : Run) (k : Addressed top w) where
           repl_part = λ dc t rows commit stamp coordinator told. tt;
         })
 
-  step_addressed : (x : Event) → Addressed top (step top w x)
+  step_addressed : (x : RunEvent) → Addressed top (step top w x)
   step_addressed x =
       event_cases top w x (Addressed top)
       (record {
@@ -129,7 +129,7 @@ record Placed (top : TopologyValue) (w : Run) : Type 0 where
   addressed : Addressed top w
   stations : Stations top w
 
-placed_later : (top : TopologyValue) (w : Run) (xs : List Event) → Placed top w → Placed top (continued top w xs)
+placed_later : (top : TopologyValue) (w : Run) (xs : List RunEvent) → Placed top w → Placed top (continued top w xs)
 placed_later top w [] k = k
 placed_later top w (x ∷ xs) k =
     placed_later top (step top w x) xs (record { addressed = step_addressed top w k.addressed x; stations = step_stations top w k.stations x })
@@ -169,7 +169,7 @@ module _ (top : TopologyValue) (w : Run) (some : 0 < top.shards) (inv : Inv top 
   for_actor from to time (DepOk dependency waiter commit) s l f =
       who_waits top w some inv live k.stations (dc_of top from) to waiter dependency l
 
-pub messages_are_for_actors : (top : TopologyValue) (events : List Event) → is_topology top.dcs top.shards top.homes ≡ true
+pub messages_are_for_actors : (top : TopologyValue) (events : List RunEvent) → is_topology top.dcs top.shards top.homes ≡ true
     → MessagesAreForActors top (run top events)
 messages_are_for_actors top events ok e has =
     let w = run top events in

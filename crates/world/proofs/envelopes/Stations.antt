@@ -15,7 +15,7 @@ use Rattle.messages.specs.Session.{SessionState, SessionStep, Idle}
 use Rattle.messages.specs.Submitting.{session_submit}
 use Rattle.messages.specs.ShardEvents.{shard_handle, shard_collect}
 use Rattle.messages.specs.SessionEvents.{session_handle, session_taken}
-use Rattle.world.specs.Run.{Run, Event, Submit, Deliver, Collect, Submission, opening, after_shard, after_session, after_submission, submit_if, deliver_if, deliver_for, collect_if, step}
+use Rattle.world.specs.Run.{Run, RunEvent, Submit, Deliver, Collect, Submission, opening, after_shard, after_session, after_submission, submit_if, deliver_if, deliver_for, collect_if, step}
 use Rattle.world.specs.Quiet.{number_delivered, handled}
 use Rattle.world.proofs.lists.Among.{Among, among_append, last_or_old}
 
@@ -27,7 +27,7 @@ pub record Stations (top : TopologyValue) (w : Run) : Type 0 where
 
 -- ## What was handled
 
-one_number : (x : Event) (k : ℕ) (o : Option ℕ) → number_delivered x ≡ o → Among k (filter_map number_delivered (x ∷ []))
+one_number : (x : RunEvent) (k : ℕ) (o : Option ℕ) → number_delivered x ≡ o → Among k (filter_map number_delivered (x ∷ []))
     → number_delivered x ≡ Some k
 one_number (Submit session o) k n e m = absurd m
 one_number (Deliver j) k n e (inl q) = ap Some (sym q)
@@ -35,7 +35,7 @@ one_number (Deliver j) k n e (inr m) = absurd m
 one_number (Collect shard time) k n e m = absurd m
 
 -- after one more event: what was handled before, and what it delivers
-pub handled_more : (events : List Event) (x : Event) (k : ℕ) → Among k (filter_map number_delivered (events ++ x ∷ []))
+pub handled_more : (events : List RunEvent) (x : RunEvent) (k : ℕ) → Among k (filter_map number_delivered (events ++ x ∷ []))
     → Among k (filter_map number_delivered events) ⊎ (number_delivered x ≡ Some k)
 handled_more events x k m =
     elim (among_append k (filter_map number_delivered events) (filter_map number_delivered (x ∷ []))
@@ -53,7 +53,7 @@ get_front [] ys k x lt e = absurd (omega arith)
 get_front (z ∷ xs) ys zero x lt e = e
 get_front (z ∷ xs) ys (suc k) x lt e = get_front xs ys k x (omega arith) e
 
-handled_go : (w : Run) (x : Event) (sends : List Envelope) → ((k : ℕ) → Among k (handled w) → k < length w.sent)
+handled_go : (w : Run) (x : RunEvent) (sends : List Envelope) → ((k : ℕ) → Among k (handled w) → k < length w.sent)
     → ((k : ℕ) → number_delivered x ≡ Some k → k < length w.sent)
     → (k : ℕ) → Among k (filter_map number_delivered (w.events ++ x ∷ [])) → k < length (w.sent ++ sends)
 handled_go w x sends old new k m =
@@ -66,7 +66,7 @@ handled_go w x sends old new k m =
 -- ## Steps
 
 module _ (top : TopologyValue) (w : Run) (k : Stations top w) where
-  shard_stations : (s : Result ShardStep Fault) (x : Event) (node : ℕ) → is_shard top node ≡ true
+  shard_stations : (s : Result ShardStep Fault) (x : RunEvent) (node : ℕ) → is_shard top node ≡ true
       → ((j : ℕ) → number_delivered x ≡ Some j → j < length w.sent) → Stations top (after_shard s w x node)
   shard_stations (Err e) x node is sent = k
   shard_stations (Ok s) x node is sent =
@@ -86,7 +86,7 @@ module _ (top : TopologyValue) (w : Run) (k : Stations top w) where
   session_go a node m is false q e = k.sessions m e
   session_go a node m is true q e = absurd (false≢true (sym e ∙ ap (is_session top) (eqb-true m node q) ∙ is))
 
-  session_stations : (s : Result SessionStep Fault) (x : Event) (node : ℕ) → is_session top node ≡ true
+  session_stations : (s : Result SessionStep Fault) (x : RunEvent) (node : ℕ) → is_session top node ≡ true
       → ((j : ℕ) → number_delivered x ≡ Some j → j < length w.sent) → Stations top (after_session s w x node)
   session_stations (Err e) x node is sent = k
   session_stations (Ok s) x node is sent =
@@ -129,7 +129,7 @@ module _ (top : TopologyValue) (w : Run) (k : Stations top w) where
   submit_stations false node o is = k
   submit_stations true node o is = submission_stations (session_submit top node (w.sessions node) o) node o is
 
-  pub step_stations : (x : Event) → Stations top (step top w x)
+  pub step_stations : (x : RunEvent) → Stations top (step top w x)
   step_stations (Submit node o) = submit_stations (is_session top node) node o refl
   step_stations (Deliver j) = message_stations j (slice_get w.sent j) refl
   step_stations (Collect node time) = collect_stations (is_shard top node) node time refl

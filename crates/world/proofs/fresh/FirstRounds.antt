@@ -13,7 +13,7 @@ use Rattle.messages.specs.Topology.{TopologyValue, shard_node}
 use Rattle.messages.specs.Session.{SessionState, HeardNow}
 use Rattle.messages.specs.Submitting.{home_node}
 use Rattle.messages.specs.Rounds.{was_heard, asked_nodes, is_missing, all_heard}
-use Rattle.world.specs.Run.{Run, Event, Deliver, Completed, opening, step, continued, run}
+use Rattle.world.specs.Run.{Run, RunEvent, Deliver, Completed, opening, step, continued, run}
 use Rattle.world.specs.Fresh.{IsKept, HasOneKept, FirstRoundsAreWhole}
 use Rattle.world.proofs.lists.Among.{Among, contains_among, last_or_old, any_true, any_among, all_among, map_among}
 use Rattle.world.proofs.growing.Growth.{Grows}
@@ -48,7 +48,7 @@ next_is xs y z ys more rest e = same_start xs y z ys (more ++ rest) (e ∙ appen
 module _ (top : TopologyValue) (some : 0 < top.shards) (w : Run) (replayed : run top w.events ≡ w) (session number : ℕ) where
   -- after an answer was kept, none of its shard is
   no_second : (k j : ℕ) (e f : Envelope) (first : IsKept top w session number k e) (second : IsKept top w session number j f) → e.from ≡ f.from
-      → (z : Event) (zs : List Event) → second.before ≡ first.before ++ z ∷ zs → ⊥
+      → (z : RunEvent) (zs : List RunEvent) → second.before ≡ first.before ++ z ∷ zs → ⊥
   no_second k j e f first second same z zs split =
       let h : HeardNow = record { from = e.from; rows = first.rows } in
       let now = accepted top w replayed first.before (Deliver k) first.after first.delivery in
@@ -80,7 +80,7 @@ module _ (top : TopologyValue) (some : 0 < top.shards) (w : Run) (replayed : run
           same_start p.before (Deliver k) (Deliver j) p.after q.after (sym p.delivery ∙ q.delivery ∙ ap (λ l. l ++ Deliver j ∷ q.after) i) in
           (cc, i)
 
-      by : ((zs : List Event) × (q.before ≡ p.before ++ zs)) ⊎ ((zs : List Event) × (p.before ≡ q.before ++ zs)) → (j ≡ k) × (q.before ≡ p.before)
+      by : ((zs : List RunEvent) × (q.before ≡ p.before ++ zs)) ⊎ ((zs : List RunEvent) × (p.before ≡ q.before ++ zs)) → (j ≡ k) × (q.before ≡ p.before)
       by (inl ([], i)) = equal (i ∙ append-nil p.before)
       by (inl (z ∷ zs, i)) = absurd (no_second k j e f p q same z zs i)
       by (inr ([], i)) = equal (sym (append-nil q.before) ∙ sym i)
@@ -191,7 +191,7 @@ module _ (top : TopologyValue) (some : 0 < top.shards) (w : Run) (replayed : run
       subst (HasKept top w c.node c.number) one.2
       (to_end one.0.from (all_kept top came.before c.node one.0 (subst (λ o. Among one.0 (first_heard o)) (sym k.answer.current) one.1)))
 
-pub first_rounds_are_whole : (top : TopologyValue) (events : List Event) → 0 < top.shards → FirstRoundsAreWhole top (run top events)
+pub first_rounds_are_whole : (top : TopologyValue) (events : List RunEvent) → 0 < top.shards → FirstRoundsAreWhole top (run top events)
 first_rounds_are_whole top events some c read time answer shard has is end asked =
     let w = run top events in
     let replayed = runs_replayed top events in

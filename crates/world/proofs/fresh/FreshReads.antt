@@ -32,7 +32,7 @@ use Rattle.messages.specs.Rows.{row_now}
 use Rattle.messages.specs.Session.{SessionState, Open, FirstRound, HeardNow}
 use Rattle.messages.specs.Submitting.{home_node, share_of}
 use Rattle.messages.specs.Rounds.{asked_nodes, was_heard, is_missing}
-use Rattle.world.specs.Run.{Run, Event, Deliver, Submission, Completed, run}
+use Rattle.world.specs.Run.{Run, RunEvent, Deliver, Submission, Completed, run}
 use Rattle.world.specs.Collected.{WasSent}
 use Rattle.world.specs.Fresh.{IsKept, WasApplied, IsNoOlder, IsFreshFor, IsFresh}
 use Rattle.messages.proofs.Numbering.{dc_of_shard}
@@ -104,9 +104,9 @@ asked_share top a read asked hs number node is count current = subst (λ (o : Op
 
 -- ## Fresh reads
 
-module _ (top : TopologyValue) (some : 0 < top.shards) (every : (events : List Event) → Inv top (run top events))
-    (grows : (before after : List Event) → Grows top (run top before) (run top (before ++ after)))
-    (causal : (events : List Event) → Causal top (run top events)) where
+module _ (top : TopologyValue) (some : 0 < top.shards) (every : (events : List RunEvent) → Inv top (run top events))
+    (grows : (before after : List RunEvent) → Grows top (run top before) (run top (before ++ after)))
+    (causal : (events : List RunEvent) → Causal top (run top events)) where
   -- one answer of a shard that was kept, and one part that it had applied before
   module _ (w : Run) (replayed : run top w.events ≡ w) (inv : Inv top w) (c : Completed) (there : Among c w.transcript)
       (k : ℕ) (e : Envelope) (kept : IsKept top w c.node c.number k e) (x : Applied) (was : WasApplied top w e.from k x) where
@@ -117,7 +117,7 @@ module _ (top : TopologyValue) (some : 0 < top.shards) (every : (events : List E
     abbrev later : Run
     later = run top kept.before
 
-    to_end : (before after : List Event) → w.events ≡ before ++ after → Grows top (run top before) w
+    to_end : (before after : List RunEvent) → w.events ≡ before ++ after → Grows top (run top before) w
     to_end before after split = subst (λ z. Grows top (run top before) z) (ap (run top) (sym split) ∙ replayed) (grows before after)
 
     -- the event at which the answer was sent
@@ -130,7 +130,7 @@ module _ (top : TopologyValue) (some : 0 < top.shards) (every : (events : List E
     grown : Grows top then later
     grown =
         let first = sent_first top w replayed k e kept.message was.before was.event sending kept.before kept.after kept.delivery in
-        subst (λ (es : List Event). Grows top then (run top es)) (sym first.1) (grows was.before first.0)
+        subst (λ (es : List RunEvent). Grows top then (run top es)) (sym first.1) (grows was.before first.0)
 
     -- ---- what was asked, and what was answered
     from : e.from ≡ answer.asking.to
@@ -233,7 +233,7 @@ module _ (top : TopologyValue) (some : 0 < top.shards) (every : (events : List E
       }) o end
 
   -- whatever a run completed is fresh
-  pub completed_fresh : (events : List Event) (c : Completed) → Contains (run top events).transcript c → IsFresh top (run top events) c
+  pub completed_fresh : (events : List RunEvent) (c : Completed) → Contains (run top events).transcript c → IsFresh top (run top events) c
   completed_fresh events c has =
       fresh_for (run top events) (runs_replayed top events) (every events) c (contains_among c (run top events).transcript has) c.op c.outcome
       ((every events).transcript c (contains_among c (run top events).transcript has)).fits refl refl

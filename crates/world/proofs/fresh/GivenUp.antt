@@ -14,7 +14,7 @@ use Rattle.messages.specs.Shard.{ShardState}
 use Rattle.messages.specs.Session.{SessionState, HeardNow, HeardAt}
 use Rattle.messages.specs.Submitting.{home_node}
 use Rattle.messages.specs.Rounds.{asked_nodes, is_late, late_nodes, was_heard_at, is_missing_at}
-use Rattle.world.specs.Run.{Run, Event, Deliver, Completed, step, continued, run}
+use Rattle.world.specs.Run.{Run, RunEvent, Deliver, Completed, step, continued, run}
 use Rattle.world.specs.Met.{horizon}
 use Rattle.world.specs.Collected.{IsGivenUp, CollectedIsBelowHorizon}
 use Rattle.world.proofs.lists.Among.{Among, among_contains, contains_among, any_true, filter_only, map_only, get_among}
@@ -34,7 +34,7 @@ use Rattle.world.proofs.steps.OwnSends.{handled_low}
 use Rattle.world.proofs.fresh.HeardRuns.{changed_actor}
 
 -- an event that sends something moves no horizon
-low_stays : (top : TopologyValue) (w : Run) (x : Event) (k : ℕ) (e : Envelope) (node : ℕ) → length w.sent ≤ k → slice_get (step top w x).sent k ≡ Some e
+low_stays : (top : TopologyValue) (w : Run) (x : RunEvent) (k : ℕ) (e : Envelope) (node : ℕ) → length w.sent ≤ k → slice_get (step top w x).sent k ≡ Some e
     → ((step top w x).shards node).low ≡ (w.shards node).low
 low_stays top w x k e node le sent =
     event_cases top w x (λ v. slice_get v.sent k ≡ Some e → (v.shards node).low ≡ (w.shards node).low)
@@ -133,7 +133,7 @@ module _ (top : TopologyValue) (some : 0 < top.shards)
         past = record { before = before; event = sending.1; sent = was; above = subst (λ node. gave.time < horizon earlier node) from low };
       }
 
-pub collected_in_runs : (top : TopologyValue) (events : List Event) → 0 < top.shards → CollectedIsBelowHorizon top (run top events)
+pub collected_in_runs : (top : TopologyValue) (events : List RunEvent) → 0 < top.shards → CollectedIsBelowHorizon top (run top events)
 collected_in_runs top events some c has is =
     let w = run top events in
     let there = contains_among c w.transcript has in

@@ -11,7 +11,7 @@ use Rattle.messages.specs.Session.{SessionState, SessionStep, Open, Idle, FirstR
 use Rattle.messages.specs.Submitting.{begun}
 use Rattle.messages.specs.Rounds.{asked_nodes, is_missing}
 use Rattle.messages.specs.SessionEvents.{heard, session_taken}
-use Rattle.world.specs.Run.{Run, Event, Submit, Deliver, Submission, Completed, opening, submission_of, completed_of, ended_by, submission_by, with_actor, with_session, step, continued, run}
+use Rattle.world.specs.Run.{Run, RunEvent, Submit, Deliver, Submission, Completed, opening, submission_of, completed_of, ended_by, submission_by, with_actor, with_session, step, continued, run}
 use Rattle.world.specs.Fresh.{IsKept}
 use Rattle.world.proofs.lists.Among.{Among}
 use Rattle.world.proofs.steps.EventCases.{event_cases}
@@ -73,7 +73,7 @@ only_go top w node b k is m no_session =
     changed_actor (λ (a : SessionState). a.current ≡ Idle) w.sessions node b m
     (λ same. absurd (false≢true (sym no_session ∙ ap (λ (n : ℕ). is_session top n) same ∙ is))) (λ other. k m no_session)
 
-only_step : (top : TopologyValue) (w : Run) (x : Event) → OnlySessions top w → OnlySessions top (step top w x)
+only_step : (top : TopologyValue) (w : Run) (x : RunEvent) → OnlySessions top w → OnlySessions top (step top w x)
 only_step top w x k =
     event_cases top w x (OnlySessions top)
     (record {
@@ -84,11 +84,11 @@ only_step top w x k =
       collected = λ node time n is. k;
     })
 
-only_later : (top : TopologyValue) (w : Run) (xs : List Event) → OnlySessions top w → OnlySessions top (continued top w xs)
+only_later : (top : TopologyValue) (w : Run) (xs : List RunEvent) → OnlySessions top w → OnlySessions top (continued top w xs)
 only_later top w [] k = k
 only_later top w (x ∷ xs) k = only_later top (step top w x) xs (only_step top w x k)
 
-pub only_sessions : (top : TopologyValue) (events : List Event) → OnlySessions top (run top events)
+pub only_sessions : (top : TopologyValue) (events : List RunEvent) → OnlySessions top (run top events)
 only_sessions top events = only_later top (opening top) events (λ node no_session. refl)
 
 -- ## What was heard, over a run
@@ -98,7 +98,7 @@ pub record RunHeard (w : Run) (session number : ℕ) (h : HeardNow) : Type 0 whe
   pub ended : (c : Completed) → Among c w.transcript → c.node ≡ session → c.number ≡ number → EndsTimely c.outcome h
 
 -- a session's step, where these operations are accepted by then
-session_after : (w : Run) (x : Event) (node : ℕ) (submitted : List Submission) (st : SessionStep) (session number : ℕ) (h : HeardNow)
+session_after : (w : Run) (x : RunEvent) (node : ℕ) (submitted : List Submission) (st : SessionStep) (session number : ℕ) (h : HeardNow)
     → ((c : Completed) → Among c w.transcript → c.node ≡ session → c.number ≡ number → EndsTimely c.outcome h)
     → (session ≡ node → StillHeard (w.sessions node) st.state number h) → ((session == node) ≡ false → Heard (w.sessions session) number h)
     → RunHeard (with_session w x node submitted st) session number h
@@ -116,7 +116,7 @@ session_after w x node submitted st session number h old own other =
         let f = ended_is_finished submitted node st c m in
         subst (λ o. EndsTimely o h) (sym f.outcome) ((own (sym p ∙ f.node_is)).ended f.finished f.told (sym f.number ∙ q))
 
-heard_step : (top : TopologyValue) (w : Run) (x : Event) (session number : ℕ) (h : HeardNow) → RunHeard w session number h
+heard_step : (top : TopologyValue) (w : Run) (x : RunEvent) (session number : ℕ) (h : HeardNow) → RunHeard w session number h
     → RunHeard (step top w x) session number h
 heard_step top w x session number h k =
     event_cases top w x (λ v. RunHeard v session number h)
@@ -136,7 +136,7 @@ heard_step top w x session number h k =
       collected = λ node time n is. record { heard = k.heard; ended = k.ended };
     })
 
-pub heard_later : (top : TopologyValue) (w : Run) (xs : List Event) (session number : ℕ) (h : HeardNow) → RunHeard w session number h
+pub heard_later : (top : TopologyValue) (w : Run) (xs : List RunEvent) (session number : ℕ) (h : HeardNow) → RunHeard w session number h
     → RunHeard (continued top w xs) session number h
 heard_later top w [] session number h k = k
 heard_later top w (x ∷ xs) session number h k = heard_later top (step top w x) xs session number h (heard_step top w x session number h k)
@@ -213,7 +213,7 @@ kept_at top w session number k e kept only taken closed same =
         (subst (λ z. is_missing (asked_nodes top (u.sessions z) kept.read) kept.heard e.from ≡ true) (sym kept.address) kept.missing))
 
 -- the message of this number is this one wherever it was sent
-pub one_message : (top : TopologyValue) (w : Run) → run top w.events ≡ w → (before : List Event) (x : Event) (after : List Event)
+pub one_message : (top : TopologyValue) (w : Run) → run top w.events ≡ w → (before : List RunEvent) (x : RunEvent) (after : List RunEvent)
     → w.events ≡ before ++ x ∷ after
     → (k : ℕ) (e f : Envelope) → slice_get w.sent k ≡ Some e → slice_get (run top before).sent k ≡ Some f → f ≡ e
 one_message top w replayed before x after split k e f sent is =

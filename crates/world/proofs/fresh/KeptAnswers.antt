@@ -10,7 +10,7 @@ use Rattle.messages.specs.Session.{SessionState, SessionStep, Open, Idle, Writin
 use Rattle.messages.specs.Submitting.{begun}
 use Rattle.messages.specs.Rounds.{asked_nodes, is_missing}
 use Rattle.messages.specs.SessionEvents.{heard}
-use Rattle.world.specs.Run.{Run, Event, Submit, Deliver, opening, after_session, after_submission, step, continued, run}
+use Rattle.world.specs.Run.{Run, RunEvent, Submit, Deliver, opening, after_session, after_submission, step, continued, run}
 use Rattle.world.specs.Fresh.{IsKept}
 use Rattle.world.proofs.lists.Among.{Among, last_or_old}
 use Rattle.world.proofs.steps.EventCases.{event_cases}
@@ -22,7 +22,7 @@ use Rattle.world.proofs.steps.BegunCases.{begun_cases}
 
 -- ## What is kept stays
 
-kept_more : (top : TopologyValue) (w v : Run) (x : Event) (more : List Envelope) → v.events ≡ w.events ++ x ∷ [] → v.sent ≡ w.sent ++ more
+kept_more : (top : TopologyValue) (w v : Run) (x : RunEvent) (more : List Envelope) → v.events ≡ w.events ++ x ∷ [] → v.sent ≡ w.sent ++ more
     → (session number k : ℕ) (e : Envelope) → IsKept top w session number k e → IsKept top v session number k e
 kept_more top w v x more events sent session number k e kept =
     record {
@@ -40,7 +40,7 @@ kept_more top w v x more events sent session number k e kept =
       missing = kept.missing;
     }
 
-kept_step : (top : TopologyValue) (w : Run) (x : Event) (session number k : ℕ) (e : Envelope) → IsKept top w session number k e
+kept_step : (top : TopologyValue) (w : Run) (x : RunEvent) (session number k : ℕ) (e : Envelope) → IsKept top w session number k e
     → IsKept top (step top w x) session number k e
 kept_step top w x session number k e kept =
     event_cases top w x (λ v. IsKept top v session number k e)
@@ -52,7 +52,7 @@ kept_step top w x session number k e kept =
       collected = λ node time n is. kept_more top w _ x [] refl refl session number k e kept;
     })
 
-pub kept_later : (top : TopologyValue) (w : Run) (xs : List Event) (session number k : ℕ) (e : Envelope) → IsKept top w session number k e
+pub kept_later : (top : TopologyValue) (w : Run) (xs : List RunEvent) (session number k : ℕ) (e : Envelope) → IsKept top w session number k e
     → IsKept top (continued top w xs) session number k e
 kept_later top w [] session number k e kept = kept
 kept_later top w (x ∷ xs) session number k e kept = kept_later top (step top w x) xs session number k e (kept_step top w x session number k e kept)
@@ -80,8 +80,8 @@ HeardIsKept top w node a = (h : HeardNow) → Among h (first_heard a.current) �
 abbrev pub AllKept : TopologyValue → Run → Type 0
 AllKept top w = (node : ℕ) → HeardIsKept top w node (w.sessions node)
 
-module _ (top : TopologyValue) (w : Run) (replayed : run top w.events ≡ w) (x : Event) (all : AllKept top w) where
-  later : (v : Run) (more : List Envelope) (y : Event) → v.events ≡ w.events ++ y ∷ [] → v.sent ≡ w.sent ++ more → (session number shard : ℕ)
+module _ (top : TopologyValue) (w : Run) (replayed : run top w.events ≡ w) (x : RunEvent) (all : AllKept top w) where
+  later : (v : Run) (more : List Envelope) (y : RunEvent) → v.events ≡ w.events ++ y ∷ [] → v.sent ≡ w.sent ++ more → (session number shard : ℕ)
       → HasKept top w session number shard → HasKept top v session number shard
   later v more y events sent session number shard h =
       record { k = h.k; e = h.e; kept = kept_more top w v y more events sent session number h.k h.e h.kept; from = h.from }
@@ -168,10 +168,10 @@ module _ (top : TopologyValue) (w : Run) (replayed : run top w.events ≡ w) (x 
         collected = λ m time n is node h i. later _ [] x refl refl node _ h.from (all node h i);
       })
 
-kept_on : (top : TopologyValue) (w : Run) (xs : List Event) → run top w.events ≡ w → AllKept top w → AllKept top (continued top w xs)
+kept_on : (top : TopologyValue) (w : Run) (xs : List RunEvent) → run top w.events ≡ w → AllKept top w → AllKept top (continued top w xs)
 kept_on top w [] replayed all = all
 kept_on top w (x ∷ xs) replayed all =
     kept_on top (step top w x) xs (step_replayed top w x replayed) (step_keeps top w replayed x all)
 
-pub all_kept : (top : TopologyValue) (events : List Event) → AllKept top (run top events)
+pub all_kept : (top : TopologyValue) (events : List RunEvent) → AllKept top (run top events)
 all_kept top events = kept_on top (opening top) events refl (λ node h m. absurd m)

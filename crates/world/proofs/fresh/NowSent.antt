@@ -13,7 +13,7 @@ use Rattle.messages.specs.Shard.{ShardState}
 use Rattle.messages.specs.ShardEvents.{handled}
 use Rattle.shard.proofs.lists.Lists.{each_contained}
 use Rattle.shard.proofs.steps.Sending.{handled_gives}
-use Rattle.world.specs.Run.{Run, Event, step}
+use Rattle.world.specs.Run.{Run, RunEvent, step}
 use Rattle.world.proofs.lists.Among.{Among, among_contains, get_among}
 use Rattle.world.proofs.steps.EventCases.{event_cases}
 use Rattle.world.proofs.steps.SessionSends.{IsOfSession, heard_sends, begun_sends}
@@ -83,7 +83,7 @@ pub record IsNowSent (v : Run) (e : Envelope) : Type 0 where
   pub clock : ℕ
   pub answer : e ≡ envelope asking.to asking.from clock (PartNow number (map (row_now clock (v.shards asking.to) read) read.keys))
 
-pub now_sent_at : (top : TopologyValue) (v : Run) (x : Event) (k : ℕ) (e : Envelope) → length v.sent ≤ k → slice_get (step top v x).sent k ≡ Some e
+pub now_sent_at : (top : TopologyValue) (v : Run) (x : RunEvent) (k : ℕ) (e : Envelope) → length v.sent ≤ k → slice_get (step top v x).sent k ≡ Some e
     → is_now e.body ≡ true → IsNowSent v e
 now_sent_at top v x k e le sent is =
     event_cases top v x (λ z. slice_get z.sent k ≡ Some e → IsNowSent v e)

@@ -2,7 +2,7 @@
 use Rattle.std.proofs.Common.{append-nil, ◌∙◌, ap, refl, sym, subst, List, [], ◌∷◌, ◌++◌}
 use Rattle.std.proofs.lemmas.List.{append_assoc}
 use Rattle.messages.specs.Topology.{TopologyValue}
-use Rattle.world.specs.Run.{Run, Event, opening, step, continued, run}
+use Rattle.world.specs.Run.{Run, RunEvent, opening, step, continued, run}
 use Rattle.world.specs.Journals.{IsBeginning}
 use Rattle.world.specs.Promises.{RunsGrow}
 use Rattle.world.proofs.steps.EventCases.{event_cases}
@@ -24,7 +24,7 @@ pub record Grew (w v : Run) : Type 0 where
 same_grew : (w : Run) → Grew w w
 same_grew w = record { sent = itself w.sent; submitted = itself w.submitted; transcript = itself w.transcript }
 
-step_grew : (top : TopologyValue) (w : Run) (x : Event) → Grew w (step top w x)
+step_grew : (top : TopologyValue) (w : Run) (x : RunEvent) → Grew w (step top w x)
 step_grew top w x =
     event_cases top w x (Grew w)
     (record {
@@ -35,7 +35,7 @@ step_grew top w x =
       collected = λ node time n is. record { sent = (_, refl); submitted = itself w.submitted; transcript = itself w.transcript };
     })
 
-pub run_grew : (top : TopologyValue) (w : Run) (xs : List Event) → Grew w (continued top w xs)
+pub run_grew : (top : TopologyValue) (w : Run) (xs : List RunEvent) → Grew w (continued top w xs)
 run_grew top w [] = same_grew w
 run_grew top w (x ∷ xs) =
     let v = step top w x in
@@ -48,7 +48,7 @@ run_grew top w (x ∷ xs) =
       transcript = then_more w.transcript v.transcript u.transcript now.transcript later.transcript;
     }
 
-pub runs_only_grow : (top : TopologyValue) (before after : List Event) → RunsGrow top before after
+pub runs_only_grow : (top : TopologyValue) (before after : List RunEvent) → RunsGrow top before after
 runs_only_grow top before after =
     let w = run top before in
     let g = subst (λ (v : Run). Grew w v) (sym (run_after top (opening top) before after)) (run_grew top w after) in

@@ -4,7 +4,7 @@ use Rattle.std.specs.Prelude.{◌⊎◌}
 use Rattle.std.proofs.lemmas.List.{length-append}
 use Rattle.messages.specs.declared.envelope.Envelope.{Envelope}
 use Rattle.messages.specs.Topology.{TopologyValue}
-use Rattle.world.specs.Run.{Run, Event, opening, step, continued, run}
+use Rattle.world.specs.Run.{Run, RunEvent, opening, step, continued, run}
 use Rattle.world.proofs.safety.Runs.{run_after}
 use Rattle.world.proofs.lists.Among.{Among}
 use Rattle.world.proofs.growing.Grown.{run_grew}
@@ -45,13 +45,13 @@ one_begins (x ∷ xs) ys (u ∷ us) vs e =
 -- ## Runs
 
 -- a message keeps its number
-pub number_later : (top : TopologyValue) (w : Run) (xs : List Event) (k : ℕ) (e : Envelope) → slice_get w.sent k ≡ Some e
+pub number_later : (top : TopologyValue) (w : Run) (xs : List RunEvent) (k : ℕ) (e : Envelope) → slice_get w.sent k ≡ Some e
     → slice_get (continued top w xs).sent k ≡ Some e
 number_later top w xs k e is =
     let more = (run_grew top w xs).sent in
     ap (λ es. slice_get es k) more.1 ∙ get_first w.sent more.0 k e is
 
-pub sent_no_less : (top : TopologyValue) (w : Run) (xs : List Event) → length w.sent ≤ length (continued top w xs).sent
+pub sent_no_less : (top : TopologyValue) (w : Run) (xs : List RunEvent) → length w.sent ≤ length (continued top w xs).sent
 sent_no_less top w xs =
     let more = (run_grew top w xs).sent in
     let count : length (continued top w xs).sent ≡ length w.sent + length more.0 =
@@ -59,35 +59,35 @@ sent_no_less top w xs =
     omega arith
 
 -- an event adds at most itself
-no_more_events : (top : TopologyValue) (w : Run) (xs : List Event) → length (continued top w xs).events ≤ length w.events + length xs
+no_more_events : (top : TopologyValue) (w : Run) (xs : List RunEvent) → length (continued top w xs).events ≤ length w.events + length xs
 no_more_events top w [] = omega arith
 no_more_events top w (x ∷ xs) =
     let rest = no_more_events top (step top w x) xs in
     let one : length (step top w x).events ≤ length w.events + 1 = elim (happens top w x) [
       | inl same ↦ let e : length (step top w x).events ≡ length w.events = ap (λ (v : Run). length v.events) same in omega arith
       | inr added ↦
-          let e : length (step top w x).events ≡ length w.events + 1 = ap (λ (es : List Event). length es) added ∙ length-append w.events (x ∷ []) in
+          let e : length (step top w x).events ≡ length w.events + 1 = ap (λ (es : List RunEvent). length es) added ∙ length-append w.events (x ∷ []) in
           omega arith
     ] in
     omega arith
 
 -- the event was accepted
-abbrev pub IsAccepted : Run → Event → Run → Type 0
+abbrev pub IsAccepted : Run → RunEvent → Run → Type 0
 IsAccepted w x v = v.events ≡ w.events ++ x ∷ []
 
 -- what is refused isn't accepted
-pub not_both : (w : Run) (x : Event) → IsAccepted w x w → ⊥
+pub not_both : (w : Run) (x : RunEvent) → IsAccepted w x w → ⊥
 not_both w x e =
-    let count : length w.events ≡ length w.events + 1 = ap (λ (es : List Event). length es) e ∙ length-append w.events (x ∷ []) in omega arith
+    let count : length w.events ≡ length w.events + 1 = ap (λ (es : List RunEvent). length es) e ∙ length-append w.events (x ∷ []) in omega arith
 
 -- where a run's events are split, it is what follows from there
-pub splits : (top : TopologyValue) (w : Run) → run top w.events ≡ w → (before : List Event) (x : Event) (after : List Event)
+pub splits : (top : TopologyValue) (w : Run) → run top w.events ≡ w → (before : List RunEvent) (x : RunEvent) (after : List RunEvent)
     → w.events ≡ before ++ x ∷ after
     → continued top (step top (run top before) x) after ≡ w
 splits top w replayed before x after e = sym (run_after top (opening top) before (x ∷ after)) ∙ ap (run top) (sym e) ∙ replayed
 
 -- each event that a run keeps was accepted where it stands
-pub accepted : (top : TopologyValue) (w : Run) → run top w.events ≡ w → (before : List Event) (x : Event) (after : List Event)
+pub accepted : (top : TopologyValue) (w : Run) → run top w.events ≡ w → (before : List RunEvent) (x : RunEvent) (after : List RunEvent)
     → w.events ≡ before ++ x ∷ after
     → IsAccepted (run top before) x (step top (run top before) x)
 accepted top w replayed before x after e = by (happens top (run top before) x)
@@ -101,5 +101,5 @@ accepted top w replayed before x after e = by (happens top (run top before) x)
         let stays : length (step top (run top before) x).events ≡ length (run top before).events = ap (λ (v : Run). length v.events) same in
         let whole : length (continued top (step top (run top before) x) after).events ≡ length w.events =
         ap (λ (v : Run). length v.events) (splits top w replayed before x after e) in
-        let count : length w.events ≡ length before + suc (length after) = ap (λ (es : List Event). length es) e ∙ length-append before (x ∷ after) in
+        let count : length w.events ≡ length before + suc (length after) = ap (λ (es : List RunEvent). length es) e ∙ length-append before (x ∷ after) in
         absurd (omega arith)

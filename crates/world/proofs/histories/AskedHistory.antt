@@ -16,7 +16,7 @@ use Rattle.messages.specs.Words.{is_same_txn}
 use Rattle.messages.specs.Shard.{Decision}
 use Rattle.messages.specs.Known.{decision_of}
 use Rattle.messages.proofs.Numbering.{dc_of_shard}
-use Rattle.world.specs.Run.{Run, Event, Submission, run}
+use Rattle.world.specs.Run.{Run, RunEvent, Submission, run}
 use Rattle.world.specs.Histories.{batch_in, decisions_in, committed_of, history_of}
 use Rattle.world.specs.Entries.{named_by, AreNamedOnce}
 use Rattle.world.specs.Lookups.{entry_asked, history_asked, HistoriesAreAsked}
@@ -172,7 +172,7 @@ module _ (top : TopologyValue) (w : Run) (some : 0 < top.shards) (inv : Inv top 
       among_pairs (λ c e. c.stamp ≢ e.stamp) (λ c e. c ≢ e) (history_of top w dc) (λ c e m n other same. other (ap (λ (z : Committed). z.stamp) same))
       (history_tells top w dc (history_of top w dc) inv (IsPermutation-refl (history_of top w dc))).stamps
 
-pub histories_are_asked : (top : TopologyValue) (events : List Event) → 0 < top.shards → HistoriesAreAsked top (run top events)
+pub histories_are_asked : (top : TopologyValue) (events : List RunEvent) → 0 < top.shards → HistoriesAreAsked top (run top events)
 histories_are_asked top events some dc =
     let w = run top events in
     let inv = every_run top events some in

@@ -14,7 +14,7 @@ use Rattle.messages.specs.ShardEvents.{handled}
 use Rattle.shard.proofs.lists.Lists.{each_contained}
 use Rattle.shard.proofs.steps.HandledCases.{IsTelling}
 use Rattle.shard.proofs.steps.Sending.{handled_gives}
-use Rattle.world.specs.Run.{Run, Event, step, run}
+use Rattle.world.specs.Run.{Run, RunEvent, step, run}
 use Rattle.world.specs.Named.{stamp_named, StampsAreNamed}
 use Rattle.world.proofs.lists.Among.{Among, among_contains, contains_among, get_among}
 use Rattle.world.proofs.growing.Growth.{Grows}
@@ -79,7 +79,7 @@ handed_on top w f n says e m =
     })).sends
     e (among_contains e (handled top f.to n (w.shards f.to) f.from f.body).sends m)
 
-part_sent : (top : TopologyValue) (w : Run) (x : Event) (k : ℕ) (e : Envelope) (t : TxnValue) (rows : List Change) (stamp : StampValue) (coordinator : ℕ) → Inv top w
+part_sent : (top : TopologyValue) (w : Run) (x : RunEvent) (k : ℕ) (e : Envelope) (t : TxnValue) (rows : List Change) (stamp : StampValue) (coordinator : ℕ) → Inv top w
     → length w.sent ≤ k → slice_get (step top w x).sent k ≡ Some e → e.body ≡ ReplPart t rows stamp coordinator → Met w t stamp
 part_sent top w x k e t rows stamp coordinator inv le sent is =
     event_cases top w x (λ v. slice_get v.sent k ≡ Some e → Met w t stamp)
@@ -158,5 +158,5 @@ module _ (top : TopologyValue) (some : 0 < top.shards) (w : Run) (replayed : run
       one_txn : (x y : StampedTxn) → IsMet w x → IsMet w y → x.txn ≡ y.txn → x.stamp ≡ y.stamp
       one_txn x y p q same = sym p.stamp ∙ one_stamp top w p.node q.node p.decision q.decision inv p.among q.among (p.txn ∙ same ∙ sym q.txn) ∙ q.stamp
 
-pub stamps_are_named : (top : TopologyValue) (events : List Event) → 0 < top.shards → StampsAreNamed (run top events)
+pub stamps_are_named : (top : TopologyValue) (events : List RunEvent) → 0 < top.shards → StampsAreNamed (run top events)
 stamps_are_named top events some = stamps_named_so top some (run top events) (runs_replayed top events) (every_run top events some)

@@ -19,7 +19,7 @@ use Rattle.messages.specs.Topology.{TopologyValue, is_shard, is_session, is_topo
 use Rattle.world.specs.declared.actors.Actors.{Actors}
 use Rattle.world.specs.declared.log.Log.{Log}
 use Rattle.world.specs.declared.written.Written.{Written}
-use Rattle.world.specs.Run.{Run, Event, Submission, Submit, Deliver, Collect, opening, submission_by, after_submission, submit_if, step, run}
+use Rattle.world.specs.Run.{Run, RunEvent, Submission, Submit, Deliver, Collect, opening, submission_by, after_submission, submit_if, step, run}
 use Rattle.world.specs.Refusals.{NoSuchActor, refused_by, refusal_of}
 use Rattle.world.specs.Quiet.{number_delivered, handled, IsQuiet}
 use Rattle.world.specs.Lookups.{first_unhandled}
@@ -60,7 +60,7 @@ or_false : (b : Bool) → (b || false) ≡ b
 or_false true = refl
 or_false false = refl
 
-module _ (top : TopologyValue) (events : List Event) (x : Event) (kept : (run top events).events ≡ events) (allowed : refusal_of top (run top events) x ≡ None) where
+module _ (top : TopologyValue) (events : List RunEvent) (x : RunEvent) (kept : (run top events).events ≡ events) (allowed : refusal_of top (run top events) x ≡ None) where
   added : (run top (events ++ x ∷ [])).events ≡ events ++ x ∷ []
   added =
       ap (λ (w : Run). w.events) (continued_push top (opening top) events x) ∙ allowed_is_added top (run top events) x allowed ∙ ap (λ l. l ++ x ∷ []) kept
@@ -75,12 +75,12 @@ module _ (top : TopologyValue) (events : List Event) (x : Event) (kept : (run to
 
 -- ## Events
 
-same_running : (top : TopologyValue) (xs ys : List Event) (a : Actors) → xs ≡ ys → IsRunning top (run top xs) a → IsRunning top (run top ys) a
+same_running : (top : TopologyValue) (xs ys : List RunEvent) (a : Actors) → xs ≡ ys → IsRunning top (run top xs) a → IsRunning top (run top ys) a
 same_running top xs ys a e is = subst (λ l. IsRunning top (run top l) a) e is
 
 -- where nothing was noted, and the actors stand for what they stood for
 pub still_holds : (a b : Actors) (l m : Log) → Holds a.topology a l → IsSameLog l m
-    → ((top : TopologyValue) (events : List Event) → IsRunning top (run top events) a → IsRunning top (run top events) b) → b.topology ≡ a.topology → Holds b.topology b m
+    → ((top : TopologyValue) (events : List RunEvent) → IsRunning top (run top events) a → IsRunning top (run top events) b) → b.topology ≡ a.topology → Holds b.topology b m
 still_holds a b l m h same still top =
     subst (λ t. Holds t b m) (sym top)
     (record {
@@ -94,12 +94,12 @@ pub still_logged : (a : Actors) (l m : Log) → Holds a.topology a l → IsSameL
 still_logged a l m h same = still_holds a a l m h same (λ top events is. is) refl
 
 -- what was noted of an event that was taken
-record Notes (top : TopologyValue) (x : Event) (l m : Log) : Type 0 where
+record Notes (top : TopologyValue) (x : RunEvent) (l m : Log) : Type 0 where
   events : m.events.items ≡ l.events.items ++ x ∷ []
   delivered : (k : ℕ) → is_marked m.delivered.marks k ≡ (is_marked l.delivered.marks k || list_any (λ j. j == k) (filter_map number_delivered (x ∷ [])))
   writes : map write_noted m.writes.items ≡ filter_map write_of (step top (run top l.events.items) x).submitted
 
-noted : (a b : Actors) (l m : Log) (x : Event) → Holds a.topology a l → HasTaken a.topology l.events.items x b → Notes a.topology x l m → b.topology ≡ a.topology
+noted : (a b : Actors) (l m : Log) (x : RunEvent) → Holds a.topology a l → HasTaken a.topology l.events.items x b → Notes a.topology x l m → b.topology ≡ a.topology
     → Holds b.topology b m
 noted a b l m x h taken notes top =
     let pushed = continued_push a.topology (opening a.topology) l.events.items x in
@@ -117,10 +117,10 @@ noted a b l m x h taken notes top =
     })
 
 -- the actors took the event, after rooms were made for noting it
-abbrev pub Took : Actors → Actors → Event → Type 0
-Took a b x = (top : TopologyValue) (events : List Event) → IsRunning top (run top events) a → HasTaken top events x b
+abbrev pub Took : Actors → Actors → RunEvent → Type 0
+Took a b x = (top : TopologyValue) (events : List RunEvent) → IsRunning top (run top events) a → HasTaken top events x b
 
-taken_at : (a b : Actors) (l m : Log) (x : Event) → Holds a.topology a l → IsSameLog l m → Took a b x → HasTaken a.topology m.events.items x b
+taken_at : (a b : Actors) (l m : Log) (x : RunEvent) → Holds a.topology a l → IsSameLog l m → Took a b x → HasTaken a.topology m.events.items x b
 taken_at a b l m x h same took = took a.topology m.events.items (same_running a.topology _ _ a (sym same.events) h.running)
 
 -- a run's submissions stay with deliveries and collections
@@ -218,7 +218,7 @@ written xs zs ys vs node number o batch noted added is told =
     ∙ ap (λ l. ys ++ l) (noted_last node number batch ∙ ap (λ z. option_to_list (option_map (λ (b : List Change). (record { session = node; number = number }, b)) z)) is) ∙ sym told
 
 pub submission_holds : (a b : Actors) (l m n : Log) (session number : ℕ) (o told : Op) (batch : Option (List Change)) → Holds a.topology a l → IsSameLog l m
-    → ((top : TopologyValue) (events : List Event) → IsRunning top (run top events) a → HasTaken top events (Submit session o) b × (number ≡ ((run top events).sessions session).count + 1))
+    → ((top : TopologyValue) (events : List RunEvent) → IsRunning top (run top events) a → HasTaken top events (Submit session o) b × (number ≡ ((run top events).sessions session).count + 1))
     → b.topology ≡ a.topology → told ≡ o → batch ≡ batch_in o
     → n.events.items ≡ m.events.items ++ Submit session told ∷ [] → n.writes.items ≡ m.writes.items ++ written_by session number batch
     → n.delivered ≡ m.delivered → Holds b.topology b n
@@ -238,7 +238,7 @@ submission_holds a b l m n session number o told batch h same took top same_told
 
 -- ## What a call says
 
-pub takes : (a b : Actors) (l n : Log) (x : Event) → Holds a.topology a l → Took a b x → b.topology ≡ a.topology → n.events.items ≡ l.events.items ++ x ∷ []
+pub takes : (a b : Actors) (l n : Log) (x : RunEvent) → Holds a.topology a l → Took a b x → b.topology ≡ a.topology → n.events.items ≡ l.events.items ++ x ∷ []
     → Takes (record { top = a.topology; events = l.events.items }) x (record { top = b.topology; events = n.events.items })
 takes a b l n x h took top events =
     record {
@@ -332,7 +332,7 @@ told_sent a l h = sym h.running.sent
 pub told_transcript : (a : Actors) (l : Log) → Holds a.topology a l → a.transcript.items ≡ (run a.topology l.events.items).transcript
 told_transcript a l h = sym h.running.transcript
 
-pub told_quiet : (top : TopologyValue) (events : List Event) → (first_unhandled (run top events) ≡ None) ↔ IsQuiet (run top events)
+pub told_quiet : (top : TopologyValue) (events : List RunEvent) → (first_unhandled (run top events) ≡ None) ↔ IsQuiet (run top events)
 told_quiet top events = (finds_unhandled (run top events)).none
 
 pub first_is : (v : WorldValue) (a : Actors) (l : Log) (first sent : ℕ) → Holds a.topology a l → v ≡ record { top = a.topology; events = l.events.items }

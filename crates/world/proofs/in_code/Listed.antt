@@ -6,8 +6,8 @@ use Rattle.logical_time.specs.declared.fault.Fault.{Fault}
 use Rattle.logical_time.specs.Stamps.{TxnValue}
 use Rattle.messages.specs.declared.op.Op.{Op}
 use Rattle.messages.specs.declared.envelope.Envelope.{Envelope}
-use Rattle.messages.specs.declared.event.Event.{Event as ActorEvent}
-use Rattle.messages.specs.declared.event.Event.TheVariants.{Submit as SubmitHere, Handle, Collect as CollectHere}
+use Rattle.messages.specs.declared.event.ActorEvent.{ActorEvent}
+use Rattle.messages.specs.declared.event.ActorEvent.TheVariants.{Submit as SubmitHere, Handle, Collect as CollectHere}
 use Rattle.messages.specs.Topology.{TopologyValue, is_shard}
 use Rattle.messages.specs.Words.{is_same_txn}
 use Rattle.messages.specs.Clock.{ticked, on_clock}
@@ -17,7 +17,7 @@ use Rattle.messages.specs.ShardEvents.{shard_handle, shard_collect}
 use Rattle.messages.specs.SessionEvents.{heard}
 use Rattle.messages.specs.Submitting.{begun, submit_fault, submit_if as submitted_if}
 use Rattle.messages.specs.Actors.{ActorState, OfShard, OfSession, ActorStep, of_shard, of_session, actor_step}
-use Rattle.world.specs.Run.{Run, Event, Submission, Completed, submission_of, completed_of, with_ended}
+use Rattle.world.specs.Run.{Run, RunEvent, Submission, Completed, submission_of, completed_of, with_ended}
 use Rattle.world.specs.Journals.{actor_in, finished_as}
 use Rattle.world.proofs.lists.Among.{Among, same_txn_self}
 use Rattle.world.proofs.safety.Facts.{txn_of}
@@ -138,7 +138,7 @@ pub record IsListed (w v : Run) (n : ℕ) (s : ActorStep) : Type 0 where
   pub same : option_map finished_as entry ≡ s.finishes
   pub mine : (c : Completed) → entry ≡ Some c → c.node ≡ n
 
-module _ (top : TopologyValue) (w v : Run) (ev : Event) (n : ℕ) (x : ActorEvent) (s : ActorStep) (f : Moves top w v ev n x s)
+module _ (top : TopologyValue) (w v : Run) (ev : RunEvent) (n : ℕ) (x : ActorEvent) (s : ActorStep) (f : Moves top w v ev n x s)
     (some : 0 < top.shards) (inv : Inv top w) where
   found_by : (y : ActorEvent) → x ≡ y → actor_step top n (actor_in top w n) y ≡ Some s → SubmittedBy top w v n s y → (g : Finished) → s.finishes ≡ Some g
       → Found v.submitted n g

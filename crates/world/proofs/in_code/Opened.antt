@@ -16,7 +16,7 @@ use Rattle.messages.specs.SessionEvents.{session_taken}
 use Rattle.client.specs.Represents as session
 use Rattle.world.specs.declared.actors.Actors.{Actors}
 use Rattle.world.specs.declared.station.Station.{Station}
-use Rattle.world.specs.Run.{Run, Event, Submit, Submission, submission_of, submission_by, completed_of, after_submission, submit_if, step, run}
+use Rattle.world.specs.Run.{Run, RunEvent, Submit, Submission, submission_of, submission_by, completed_of, after_submission, submit_if, step, run}
 use Rattle.world.specs.Refusals.{NoSuchActor, refused_by, refusal_of}
 use Rattle.world.specs.Holds.{IsOpOf, IsRunning, HasTaken, ended_as}
 use Rattle.world.specs.World.{IsRefusedAs}
@@ -89,7 +89,7 @@ pub submission_refusal : (top : TopologyValue) (w : Run) (node : ℕ) (o : Op) �
     → refusal_of top w (Submit node o) ≡ refused_by (session_submit top node (w.sessions node) o)
 submission_refusal top w node o is = ap (λ b. if b then refused_by (session_submit top node (w.sessions node) o) else Some NoSuchActor) is
 
-station_submitted : (top : TopologyValue) (events : List Event) (i node : ℕ) (o : Op) (a b : Actors) (s t : Station) (f : Option Fault) (c : Option ℕ) → IsRunning top (run top events) a
+station_submitted : (top : TopologyValue) (events : List RunEvent) (i node : ℕ) (o : Op) (a b : Actors) (s t : Station) (f : Option Fault) (c : Option ℕ) → IsRunning top (run top events) a
     → node ≡ shard_count top + i → slice_get a.stations.items i ≡ Some s → i < length a.stations.items → b.stations.items ≡ slice_set a.stations.items i t
     → submit_fault top ((run top events).sessions node) o ≡ f → ticked ((run top events).sessions node).clock ((run top events).sessions node).clock ≡ c
     → DidSubmitOf top (session_submit top node ((run top events).sessions node) o) o s t a.network.sent b.network.sent a.transcript.items b.transcript.items
@@ -115,7 +115,7 @@ station_submitted top events i node o a b s t None (Some n) is to at lt set faul
           (subst (λ r. DidSubmitOf top r o s t a.network.sent b.network.sent a.transcript.items b.transcript.items) r did) topology shards);
     }
 
-pub station_submits : (top : TopologyValue) (events : List Event) (i node : ℕ) (o kept : Op) (a b : Actors) (s t : Station) → IsRunning top (run top events) a
+pub station_submits : (top : TopologyValue) (events : List RunEvent) (i node : ℕ) (o kept : Op) (a b : Actors) (s t : Station) → IsRunning top (run top events) a
     → node ≡ length a.shards.items + i → slice_get a.stations.items i ≡ Some s → i < length a.stations.items → b.stations.items ≡ slice_set a.stations.items i t → kept ≡ o
     → ((top' : TopologyValue) (z : SessionState) → session.Represents s.session top' z
     → DidSubmitOf top' (session_submit top' s.session.node z o) kept s t a.network.sent b.network.sent a.transcript.items b.transcript.items)
@@ -128,7 +128,7 @@ station_submits top events i node o kept a b s t is to at lt set same did topolo
     (subst (λ z. DidSubmitOf top (session_submit top s.session.node (w.sessions node) o) z s t a.network.sent b.network.sent a.transcript.items b.transcript.items) same (did top (w.sessions node) n.2)))
     topology shards
 
-pub submit_refuses : (top : TopologyValue) (events : List Event) (i node : ℕ) (o : Op) (a : Actors) (s : Station) (f : Fault) → IsRunning top (run top events) a
+pub submit_refuses : (top : TopologyValue) (events : List RunEvent) (i node : ℕ) (o : Op) (a : Actors) (s : Station) (f : Fault) → IsRunning top (run top events) a
     → node ≡ length a.shards.items + i → slice_get a.stations.items i ≡ Some s → i < length a.stations.items
     → ((top' : TopologyValue) (z : SessionState) → session.Represents s.session top' z → session.IsRefusalOf (session_submit top' s.session.node z o) f)
     → IsRefusedAs (refusal_of top (run top events) (Submit node o)) f
@@ -140,7 +140,7 @@ submit_refuses top events i node o a s f is to at lt refused =
     (subst (λ z. session.IsRefusalOf (session_submit top z (w.sessions node) o) f) n.1 (refused top (w.sessions node) n.2))
 
 -- the number that the session gives is the next one of the run's session
-pub submit_number : (top : TopologyValue) (events : List Event) (i node : ℕ) (a : Actors) (s : Station) → IsRunning top (run top events) a
+pub submit_number : (top : TopologyValue) (events : List RunEvent) (i node : ℕ) (a : Actors) (s : Station) → IsRunning top (run top events) a
     → node ≡ length a.shards.items + i → slice_get a.stations.items i ≡ Some s → s.session.count ≡ ((run top events).sessions node).count
 submit_number top events i node a s is to at =
     let n = at_node top events i a s node is at to in

@@ -18,7 +18,7 @@ use Rattle.shard.specs.Kept as shard
 use Rattle.client.specs.Represents as session
 use Rattle.world.specs.declared.actors.Actors.{Actors}
 use Rattle.world.specs.declared.station.Station.{Station}
-use Rattle.world.specs.Run.{Run, Event, Submission, submission_of, completed_of, ended_by, with_ended, with_actor, with_session, after_shard, after_session}
+use Rattle.world.specs.Run.{Run, RunEvent, Submission, submission_of, completed_of, ended_by, with_ended, with_actor, with_session, after_shard, after_session}
 use Rattle.world.specs.Holds.{AreShards, AreStations, Sits, IsOpOf, IsRunning, ended_as, kept_after}
 use Rattle.world.specs.Steps.{DidSession}
 use Rattle.world.proofs.safety.Invariant.{Inv}
@@ -80,7 +80,7 @@ shards_go_on top states xs node k b are lt here =
           (λ i l apart at. subst (λ a. shard.Represents top i l a) (sym (actor_other states node i b apart)) (are.each i l at));
     }
 
-pub after_shard_step : (top : TopologyValue) (w : Run) (x : Event) (node : ℕ) (s : ShardStep) (a b : Actors) → IsRunning top w a
+pub after_shard_step : (top : TopologyValue) (w : Run) (x : RunEvent) (node : ℕ) (s : ShardStep) (a b : Actors) → IsRunning top w a
     → AreShards top (with_actor w.shards node s.state) b.shards.items → b.network.sent ≡ a.network.sent ++ s.sends
     → b.topology ≡ a.topology → b.stations.items ≡ a.stations.items → b.transcript.items ≡ a.transcript.items → IsRunning top (after_shard (Ok s) w x node) b
 after_shard_step top w x node s a b r are sends topology stations told =
@@ -166,7 +166,7 @@ not_finished o (Some f) e = absurd (cc)
 
 -- A session did this step, with these operations accepted by then: what is told of its end is the same by the operation that was
 -- kept, and what isn't ended is kept on. So the actors stand for the run with it.
-pub session_goes_on : (top : TopologyValue) (w : Run) (x : Event) (submitted : List Submission) (i node : ℕ) (st : SessionStep) (a b : Actors) (s t : Station) (o : Option Op)
+pub session_goes_on : (top : TopologyValue) (w : Run) (x : RunEvent) (submitted : List Submission) (i node : ℕ) (st : SessionStep) (a b : Actors) (s t : Station) (o : Option Op)
     → IsRunning top w a → node ≡ shard_count top + i
     → slice_get a.stations.items i ≡ Some s → i < length a.stations.items → b.stations.items ≡ slice_set a.stations.items i t
     → DidSession top st (record s { op = o }) t a.network.sent b.network.sent a.transcript.items b.transcript.items
@@ -236,7 +236,7 @@ session_goes_on top w x submitted i node st a b s t o r is at lt set did topolog
               };
         }
 
-pub after_session_step : (top : TopologyValue) (w : Run) (x : Event) (i node n from : ℕ) (m : Body) (a b : Actors) (s t : Station) → Inv top w → IsRunning top w a → node ≡ shard_count top + i
+pub after_session_step : (top : TopologyValue) (w : Run) (x : RunEvent) (i node n from : ℕ) (m : Body) (a b : Actors) (s t : Station) → Inv top w → IsRunning top w a → node ≡ shard_count top + i
     → slice_get a.stations.items i ≡ Some s → i < length a.stations.items → b.stations.items ≡ slice_set a.stations.items i t
     → DidSession top (heard top node n (w.sessions node) from m) s t a.network.sent b.network.sent a.transcript.items b.transcript.items
     → b.topology ≡ a.topology → b.shards.items ≡ a.shards.items

@@ -8,7 +8,7 @@ use Rattle.std.proofs.lemmas.List.FromFn.{map-range_with_len_more}
 use Rattle.world.specs.declared.stretches.Stretch.{Stretch}
 use Rattle.world.specs.declared.stretches.Stretch.TheVariants.{Deliveries}
 use Rattle.world.specs.Events.{events_of, events_in}
-use Rattle.world.specs.Run.{Event, Deliver}
+use Rattle.world.specs.Run.{RunEvent, Deliver}
 
 -- one more delivery
 pub one_more : (first count number : ℕ) → first ≤ number → number - first ≡ count → events_of (Deliveries first (count + 1)) ≡ events_of (Deliveries first count) ++ Deliver number ∷ []
@@ -19,7 +19,7 @@ pub stretch_added : (xs ys : List Stretch) (s : Stretch) → ys ≡ xs ++ s ∷ 
 stretch_added xs ys s is = ap events_in is ∙ flat_map-append events_of xs (s ∷ []) ∙ ap (λ l. events_in xs ++ l) (append-nil (events_of s))
 
 -- the last one took one more
-took_at : (xs : List Stretch) (k : ℕ) (s t : Stretch) (x : Event) → length xs ≡ k + 1 → slice_get xs k ≡ Some s → events_of t ≡ events_of s ++ x ∷ []
+took_at : (xs : List Stretch) (k : ℕ) (s t : Stretch) (x : RunEvent) → length xs ≡ k + 1 → slice_get xs k ≡ Some s → events_of t ≡ events_of s ++ x ∷ []
     → events_in (slice_set xs k t) ≡ events_in xs ++ x ∷ []
 took_at [] k s t x len at took = absurd (cc)
 took_at (y ∷ []) zero s t x len at took =
@@ -29,7 +29,7 @@ took_at (y ∷ z ∷ xs) zero s t x len at took = absurd (omega (arith, len))
 took_at (y ∷ xs) (suc k) s t x len at took =
     ap (λ l. events_of y ++ l) (took_at xs k s t x (omega (arith, len)) at took) ∙ sym (append_assoc (events_of y) (events_in xs) (x ∷ []))
 
-pub last_took : (xs : List Stretch) (n : ℕ) (s t : Stretch) (x : Event) → n ≡ length xs → 0 < n → s ≡ slice_index_or xs (n - 1) s → events_of t ≡ events_of s ++ x ∷ []
+pub last_took : (xs : List Stretch) (n : ℕ) (s t : Stretch) (x : RunEvent) → n ≡ length xs → 0 < n → s ≡ slice_index_or xs (n - 1) s → events_of t ≡ events_of s ++ x ∷ []
     → events_in (slice_set xs (n - 1) t) ≡ events_in xs ++ x ∷ []
 last_took xs n s t x is some at took =
     let lt : n - 1 < length xs = omega arith in

@@ -16,7 +16,7 @@ use Rattle.shard.specs.Kept as shard
 use Rattle.client.specs.Represents as session
 use Rattle.world.specs.declared.actors.Actors.{Actors}
 use Rattle.world.specs.declared.station.Station.{Station}
-use Rattle.world.specs.Run.{Run, Event, Deliver, Collect, after_shard, after_session, deliver_if, deliver_for, collect_if, step, run}
+use Rattle.world.specs.Run.{Run, RunEvent, Deliver, Collect, after_shard, after_session, deliver_if, deliver_for, collect_if, step, run}
 use Rattle.world.specs.Refusals.{Refusal, Refused, NoSuchActor, refused_by, refusal_of, refusal_of_message}
 use Rattle.world.specs.Holds.{AreShards, AreStations, IsRunning, HasTaken}
 use Rattle.world.specs.World.{IsRefusedAs}
@@ -63,9 +63,9 @@ session_refusal top w k e sent other to =
 pub below_count : (top : TopologyValue) (xs : List ShardKept) (node : ℕ) → length xs ≡ shard_count top → node < length xs → is_shard top node ≡ true
 below_count top xs node len lt = grind (arith, nat_tests)
 
-module _ (top : TopologyValue) (events : List Event) where
+module _ (top : TopologyValue) (events : List RunEvent) where
   -- a shard's step that the run does is allowed, and the actors go on
-  shard_took : (x : Event) (node : ℕ) (r : Result ShardStep Fault) (a b : Actors) → IsRunning top (run top events) a
+  shard_took : (x : RunEvent) (node : ℕ) (r : Result ShardStep Fault) (a b : Actors) → IsRunning top (run top events) a
       → step top (run top events) x ≡ after_shard r (run top events) x node
       → refusal_of top (run top events) x ≡ refused_by r
       → (StaysApart r → DidShard top (run top events).shards node r b.shards.items a.network.sent b.network.sent)
@@ -93,7 +93,7 @@ module _ (top : TopologyValue) (events : List Event) where
 
 -- ## For the code
 
-pub shard_takes : (top : TopologyValue) (events : List Event) (k place : ℕ) (e : Envelope) (a b : Actors) → IsRunning top (run top events) a
+pub shard_takes : (top : TopologyValue) (events : List RunEvent) (k place : ℕ) (e : Envelope) (a b : Actors) → IsRunning top (run top events) a
     → slice_get a.network.sent k ≡ Some e → e.to ≡ place → place < length a.shards.items
     → ((top' : TopologyValue) (states : ℕ → ShardState) → AreShards top' states a.shards.items → StaysApart (shard_handle top' place (states place) e)
     → DidShard top' states place (shard_handle top' place (states place) e) b.shards.items a.network.sent b.network.sent)
@@ -106,7 +106,7 @@ shard_takes top events k place e a b is sent to lt did topology stations told =
     (subst (λ z. StaysApart (shard_handle top z (w.shards z) e) → DidShard top w.shards z (shard_handle top z (w.shards z) e) b.shards.items a.network.sent b.network.sent) (sym to) (did top w.shards is.shards))
     topology stations told
 
-pub shard_refuses : (top : TopologyValue) (events : List Event) (k place : ℕ) (e : Envelope) (a : Actors) (f : Fault) → IsRunning top (run top events) a
+pub shard_refuses : (top : TopologyValue) (events : List RunEvent) (k place : ℕ) (e : Envelope) (a : Actors) (f : Fault) → IsRunning top (run top events) a
     → slice_get a.network.sent k ≡ Some e → e.to ≡ place → place < length a.shards.items
     → ((top' : TopologyValue) (states : ℕ → ShardState) → AreShards top' states a.shards.items → shard.IsRefusalOf (shard_handle top' place (states place) e) f)
     → IsRefusedAs (refusal_of top (run top events) (Deliver k)) f
@@ -117,7 +117,7 @@ shard_refuses top events k place e a f is sent to lt refused =
     refused_so top events (refusal_of top w (Deliver k)) (shard_handle top e.to (w.shards e.to) e) f (shard_refusal top w k e there near)
     (subst (λ z. shard.IsRefusalOf (shard_handle top z (w.shards z) e) f) (sym to) (refused top w.shards is.shards))
 
-pub shards_still : (top : TopologyValue) (events : List Event) (a b : Actors) → IsRunning top (run top events) a
+pub shards_still : (top : TopologyValue) (events : List RunEvent) (a b : Actors) → IsRunning top (run top events) a
     → ((top' : TopologyValue) (states : ℕ → ShardState) → AreShards top' states a.shards.items → AreShards top' states b.shards.items)
     → b.topology ≡ a.topology → b.stations.items ≡ a.stations.items → b.network.sent ≡ a.network.sent → b.transcript.items ≡ a.transcript.items
     → IsRunning top (run top events) b
@@ -131,7 +131,7 @@ shards_still top events a b is still topology stations sent told =
       transcript = is.transcript ∙ sym told;
     }
 
-pub shard_collects : (top : TopologyValue) (events : List Event) (place time : ℕ) (a b : Actors) → IsRunning top (run top events) a → place < length a.shards.items
+pub shard_collects : (top : TopologyValue) (events : List RunEvent) (place time : ℕ) (a b : Actors) → IsRunning top (run top events) a → place < length a.shards.items
     → ((top' : TopologyValue) (states : ℕ → ShardState) → AreShards top' states a.shards.items → StaysApart (shard_collect (states place) time)
     → DidShard top' states place (shard_collect (states place) time) b.shards.items [] [])
     → b.topology ≡ a.topology → b.stations.items ≡ a.stations.items → b.network.sent ≡ a.network.sent → b.transcript.items ≡ a.transcript.items → HasTaken top events (Collect place time) b
@@ -146,7 +146,7 @@ shard_collects top events place time a b is lt did topology stations sent told =
     quietly (Err f) d = d
     quietly (Ok s) d = (d.0, sent ∙ sym (append-nil a.network.sent) ∙ ap (λ l. a.network.sent ++ l) d.1)
 
-pub collect_refuses : (top : TopologyValue) (events : List Event) (place time : ℕ) (a : Actors) (f : Fault) → IsRunning top (run top events) a → place < length a.shards.items
+pub collect_refuses : (top : TopologyValue) (events : List RunEvent) (place time : ℕ) (a : Actors) (f : Fault) → IsRunning top (run top events) a → place < length a.shards.items
     → ((top' : TopologyValue) (states : ℕ → ShardState) → AreShards top' states a.shards.items → shard.IsRefusalOf (shard_collect (states place) time) f)
     → IsRefusedAs (refusal_of top (run top events) (Collect place time)) f
 collect_refuses top events place time a f is lt refused =
@@ -160,7 +160,7 @@ collect_refuses top events place time a f is lt refused =
 pub session_at : (top : TopologyValue) (node i : ℕ) → node ≡ shard_count top + i → i < length top.homes → (is_shard top node ≡ false) × (is_session top node ≡ true)
 session_at top node i is lt = (grind (arith, nat_tests), grind (arith, nat_tests))
 
-station_took : (top : TopologyValue) (events : List Event) (k i : ℕ) (e : Envelope) (a b : Actors) (s t : Station) (o : Option ℕ) → IsRunning top (run top events) a
+station_took : (top : TopologyValue) (events : List RunEvent) (k i : ℕ) (e : Envelope) (a b : Actors) (s t : Station) (o : Option ℕ) → IsRunning top (run top events) a
     → slice_get a.network.sent k ≡ Some e → e.to ≡ shard_count top + i → slice_get a.stations.items i ≡ Some s → i < length a.stations.items
     → b.stations.items ≡ slice_set a.stations.items i t
     → ticked ((run top events).sessions e.to).clock e.time ≡ o
@@ -182,14 +182,14 @@ station_took top events k i e a b s t (Some m) is sent to at lt set clock did to
     }
 
 -- the session of a place has its node
-pub at_node : (top : TopologyValue) (events : List Event) (i : ℕ) (a : Actors) (s : Station) (node : ℕ) → IsRunning top (run top events) a → slice_get a.stations.items i ≡ Some s
+pub at_node : (top : TopologyValue) (events : List RunEvent) (i : ℕ) (a : Actors) (s : Station) (node : ℕ) → IsRunning top (run top events) a → slice_get a.stations.items i ≡ Some s
     → node ≡ length a.shards.items + i → (node ≡ shard_count top + i) × (s.session.node ≡ node) × session.Represents s.session top ((run top events).sessions node)
 at_node top events i a s node is at to =
     let q : node ≡ shard_count top + i = to ∙ ap (λ z. z + i) is.shards.len in
     let t = is.stations.each i s at in
     (q, t.same ∙ sym q, subst (λ z. session.Represents s.session top ((run top events).sessions z)) (sym q) t.stands)
 
-pub station_takes : (top : TopologyValue) (events : List Event) (k i : ℕ) (e : Envelope) (a b : Actors) (s t : Station) → IsRunning top (run top events) a
+pub station_takes : (top : TopologyValue) (events : List RunEvent) (k i : ℕ) (e : Envelope) (a b : Actors) (s t : Station) → IsRunning top (run top events) a
     → slice_get a.network.sent k ≡ Some e → e.to ≡ length a.shards.items + i → slice_get a.stations.items i ≡ Some s → i < length a.stations.items
     → b.stations.items ≡ slice_set a.stations.items i t
     → ((top' : TopologyValue) (z : SessionState) → session.Represents s.session top' z
@@ -202,7 +202,7 @@ station_takes top events k i e a b s t is sent to at lt set did topology shards 
     (subst (λ z. DidSessionOf top (session_handle top z (w.sessions e.to) e) s t a.network.sent b.network.sent a.transcript.items b.transcript.items) n.1 (did top (w.sessions e.to) n.2))
     topology shards
 
-pub station_refuses : (top : TopologyValue) (events : List Event) (k i : ℕ) (e : Envelope) (a : Actors) (s : Station) (f : Fault) → IsRunning top (run top events) a
+pub station_refuses : (top : TopologyValue) (events : List RunEvent) (k i : ℕ) (e : Envelope) (a : Actors) (s : Station) (f : Fault) → IsRunning top (run top events) a
     → slice_get a.network.sent k ≡ Some e → e.to ≡ length a.shards.items + i → slice_get a.stations.items i ≡ Some s → i < length a.stations.items
     → ((top' : TopologyValue) (z : SessionState) → session.Represents s.session top' z → session.IsRefusalOf (session_handle top' s.session.node z e) f)
     → IsRefusedAs (refusal_of top (run top events) (Deliver k)) f
@@ -218,11 +218,11 @@ station_refuses top events k i e a s f is sent to at lt refused =
 pub below_named : (node place n : ℕ) → place ≡ node → node < n → place < n
 below_named node place n e lt = subst (λ z. z < n) (sym e) lt
 
-pub collect_named : (top : TopologyValue) (events : List Event) (node place time : ℕ) (b : Actors) → place ≡ node → HasTaken top events (Collect place time) b
+pub collect_named : (top : TopologyValue) (events : List RunEvent) (node place time : ℕ) (b : Actors) → place ≡ node → HasTaken top events (Collect place time) b
     → HasTaken top events (Collect node time) b
 collect_named top events node place time b e taken = subst (λ z. HasTaken top events (Collect z time) b) e taken
 
-pub refused_named : (top : TopologyValue) (events : List Event) (node place time : ℕ) (f : Fault) → place ≡ node
+pub refused_named : (top : TopologyValue) (events : List RunEvent) (node place time : ℕ) (f : Fault) → place ≡ node
     → IsRefusedAs (refusal_of top (run top events) (Collect place time)) f → IsRefusedAs (refusal_of top (run top events) (Collect node time)) f
 refused_named top events node place time f e is = subst (λ z. IsRefusedAs (refusal_of top (run top events) (Collect z time)) f) e is
 

@@ -20,7 +20,7 @@ use Rattle.messages.specs.Shard.{ShardState, PreparedPart, BegunBallot, Decision
 use Rattle.messages.specs.Known.{decision_of, is_applied}
 use Rattle.messages.proofs.WritersInOrder.{writers_ascend, writers_stay}
 use Rattle.shard.specs.Unfinished.{part_of, parts_held, parts_unapplied}
-use Rattle.world.specs.Run.{Run, Event, Submission, run}
+use Rattle.world.specs.Run.{Run, RunEvent, Submission, run}
 use Rattle.world.specs.Settled.{IsClear}
 use Rattle.world.specs.Lookups.{TellsUnfinished, ShardsTellUnfinished}
 use Rattle.world.proofs.lists.Among.{Among, among_contains, contains_among, among_append, any_false, find_some, find_none, filter_only, map_only, map_among, same_txn}
@@ -253,5 +253,5 @@ module _ (top : TopologyValue) (w : Run) (some : 0 < top.shards) (inv : Inv top 
         clear = λ clear. ap (λ ps. filter_map (by_writer ps) (writers ps)) (nothing_left clear);
       }
 
-pub shards_tell_unfinished : (top : TopologyValue) (events : List Event) → 0 < top.shards → ShardsTellUnfinished top (run top events)
+pub shards_tell_unfinished : (top : TopologyValue) (events : List RunEvent) → 0 < top.shards → ShardsTellUnfinished top (run top events)
 shards_tell_unfinished top events some node = tells top (run top events) some (every_run top events some) node

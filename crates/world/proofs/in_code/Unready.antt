@@ -18,7 +18,7 @@ use Rattle.shard.specs.Kept.{IsSpentOrMemory}
 use Rattle.client.specs.Represents as session
 use Rattle.world.specs.declared.actors.Actors.{Actors}
 use Rattle.world.specs.declared.station.Station.{Station}
-use Rattle.world.specs.Run.{Run, Event, Submit, Deliver, Collect, run}
+use Rattle.world.specs.Run.{Run, RunEvent, Submit, Deliver, Collect, run}
 use Rattle.world.specs.Refusals.{Refused, NoSuchActor, refused_by, refusal_of, clock_at}
 use Rattle.world.specs.Holds.{IsRunning}
 use Rattle.world.specs.World.{IsRefusedAs}
@@ -46,7 +46,7 @@ on_time : {S : Type 0} (t : Option ℕ) (step : ℕ → S) (e : Fault) → IsSpe
 on_time None step e is = ap Refused (sym is)
 on_time (Some n) step e is = is
 
-module _ (top : TopologyValue) (events : List Event) (a : Actors) (is : IsRunning top (run top events) a) where
+module _ (top : TopologyValue) (events : List RunEvent) (a : Actors) (is : IsRunning top (run top events) a) where
   pub shard_clock : (node place : ℕ) (k : ShardKept) → place ≡ node → place < length a.shards.items → slice_get a.shards.items place ≡ Some k
       → clock_at top (run top events) node ≡ k.clock
   shard_clock node place k to lt at =

@@ -4,7 +4,7 @@ use Rattle.std.specs.Prelude.{filter, is_some}
 use Rattle.logical_time.specs.Stamps.{StampValue, TxnValue}
 use Rattle.messages.specs.declared.body.Body.{Body}
 use Rattle.messages.specs.declared.envelope.Envelope.{Envelope}
-use Rattle.messages.specs.declared.event.Event.TheVariants.{Handle, Collect as CollectHere}
+use Rattle.messages.specs.declared.event.ActorEvent.TheVariants.{Handle, Collect as CollectHere}
 use Rattle.messages.specs.Topology.{TopologyValue, dc_of}
 use Rattle.messages.specs.Words.{is_same_txn}
 use Rattle.messages.specs.Shard.{ShardStep, Cohort, Vote}
@@ -15,7 +15,7 @@ use Rattle.messages.specs.ShardEvents.{handled, collected}
 use Rattle.messages.specs.Clock.{ticked, on_clock}
 use Rattle.shard.proofs.steps.HandledCases.{IsTelling, begun, copied, StepOf, still, begin_decides, begin_holds, prepares, vote_decides, vote_counts, vote_early, applies, lets_go, tells_commit, tells_none, reads_now, reads_collected, reads_at, waits, readies, notice_early, keeps_part, prepares_replica, tells_decided, remembers, handled_cases}
 use Rattle.shard.proofs.steps.Handles.{ticked_above}
-use Rattle.world.specs.Run.{Run, Event, after_shard}
+use Rattle.world.specs.Run.{Run, RunEvent, after_shard}
 use Rattle.world.proofs.safety.Invariant.{TellsDecision, Says, Inv}
 use Rattle.world.proofs.safety.Able.{Able}
 use Rattle.world.proofs.safety.Facts.{IsDecided, PreparedBefore}
@@ -92,7 +92,7 @@ pub handle_able : (top : TopologyValue) (w : Run) (node n from time : ℕ) (b : 
 handle_able top w node n from time b some inv lt late k =
     step_able top w node n from time some inv lt late b k (handled top node n (w.shards node) from b) (handled_cases top node n (w.shards node) from b)
 
-pub handle_kept : (top : TopologyValue) (w : Run) (e : Envelope) (n : ℕ) (ev : Event) → 0 < top.shards → Inv top w → Among e w.sent
+pub handle_kept : (top : TopologyValue) (w : Run) (e : Envelope) (n : ℕ) (ev : RunEvent) → 0 < top.shards → Inv top w → Among e w.sent
     → ticked (w.shards e.to).clock e.time ≡ Some n → Inv top (after_shard (Ok (handled top e.to n (w.shards e.to) e.from e.body)) w ev e.to)
 handle_kept top w e n ev some inv m q =
     let above = ticked_above (w.shards e.to).clock e.time n q in
@@ -107,7 +107,7 @@ handle_kept top w e n ev some inv m q =
 pub collect_able : (top : TopologyValue) (w : Run) (node n time : ℕ) → Inv top w → (w.shards node).clock < n → Able top w node (w.shards node) (collected n (w.shards node) time)
 collect_able top w node n time inv lt = waits_able top w node n (w.shards node) _ _ [] lt (inv.shards node).once (λ x gr at e m. absurd m)
 
-pub collect_kept : (top : TopologyValue) (w : Run) (node n time : ℕ) (ev : Event) → Inv top w → ticked (w.shards node).clock (w.shards node).clock ≡ Some n
+pub collect_kept : (top : TopologyValue) (w : Run) (node n time : ℕ) (ev : RunEvent) → Inv top w → ticked (w.shards node).clock (w.shards node).clock ≡ Some n
     → Inv top (after_shard (Ok (collected n (w.shards node) time)) w ev node)
 collect_kept top w node n time ev inv q =
     let above = ticked_above (w.shards node).clock (w.shards node).clock n q in

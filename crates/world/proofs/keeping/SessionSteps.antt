@@ -13,7 +13,7 @@ use Rattle.messages.specs.Topology.{TopologyValue}
 use Rattle.messages.specs.Session.{SessionState, SessionStep, is_idle}
 use Rattle.messages.specs.SessionEvents.{session_taken}
 use Rattle.messages.specs.Actors.{home_after}
-use Rattle.world.specs.Run.{Run, Event, Completed, with_actor, ended_by, after_session}
+use Rattle.world.specs.Run.{Run, RunEvent, Completed, with_actor, ended_by, after_session}
 use Rattle.world.specs.Promises.{Fits}
 use Rattle.world.proofs.lists.Among.{Among, among_append}
 use Rattle.world.proofs.growing.Growth.{SessionGrows, Grows}
@@ -85,7 +85,7 @@ session_actor_sound top x f node b k new m = go (m == node) refl
     go true e = subst (λ n. SessionSound top x n b) (sym (eqb-true m node e)) new
     go false e = k m
 
-pub session_run_grows : (top : TopologyValue) (w : Run) (node : ℕ) (st : SessionStep) (ev : Event) → SessionGrows top (w.sessions node) (session_taken st.state)
+pub session_run_grows : (top : TopologyValue) (w : Run) (node : ℕ) (st : SessionStep) (ev : RunEvent) → SessionGrows top (w.sessions node) (session_taken st.state)
     → Grows top w (after_session (Ok st) w ev node)
 session_run_grows top w node st ev g =
     record {
@@ -95,7 +95,7 @@ session_run_grows top w node st ev g =
       transcript = λ c m. old_stays c w.transcript (ended_by w.submitted node st) m;
     }
 
-pub session_step_kept : (top : TopologyValue) (w : Run) (node : ℕ) (st : SessionStep) (ev : Event) → Inv top w → SessionAble top w node st
+pub session_step_kept : (top : TopologyValue) (w : Run) (node : ℕ) (st : SessionStep) (ev : RunEvent) → Inv top w → SessionAble top w node st
     → AreOfSession node st.sends → Inv top (after_session (Ok st) w ev node)
 session_step_kept top w node st ev inv k of =
     let x = after_session (Ok st) w ev node in

@@ -3,7 +3,7 @@ use Rattle.std.proofs.Common.{◌≡◌, ℕ, Bool, true, false, cond, inl, inr,
 use Rattle.std.specs.Prelude.{◌==◌}
 use Rattle.messages.specs.Topology.{TopologyValue}
 use Rattle.messages.specs.Shard.{ShardState, ShardStep}
-use Rattle.world.specs.Run.{Run, Event, with_actor, after_shard}
+use Rattle.world.specs.Run.{Run, RunEvent, with_actor, after_shard}
 use Rattle.world.proofs.lists.Among.{among_append}
 use Rattle.world.proofs.growing.Growth.{ShardGrows, Grows}
 use Rattle.world.proofs.safety.Invariant.{Played, ShardSound, Inv}
@@ -21,7 +21,7 @@ actor_grows f node b g m = go (m == node) refl
     go true e = subst (λ k. ShardGrows (f k) b) (sym (eqb-true m node e)) g
     go false e = same_shard_grows (f m)
 
-pub shard_run_grows : (top : TopologyValue) (w : Run) (node : ℕ) (st : ShardStep) (ev : Event) → ShardGrows (w.shards node) st.state → Grows top w (after_shard (Ok st) w ev node)
+pub shard_run_grows : (top : TopologyValue) (w : Run) (node : ℕ) (st : ShardStep) (ev : RunEvent) → ShardGrows (w.shards node) st.state → Grows top w (after_shard (Ok st) w ev node)
 shard_run_grows top w node st ev g =
     record {
       shards = actor_grows w.shards node st.state g;
@@ -53,7 +53,7 @@ actor_sound top x f node b k new m = go (m == node) refl
     go true e = subst (λ n. ShardSound top x n b) (sym (eqb-true m node e)) new
     go false e = k m
 
-pub shard_step_kept : (top : TopologyValue) (w : Run) (node : ℕ) (st : ShardStep) (ev : Event) → Inv top w → Able top w node (w.shards node) st → ((m : ℕ) → Played top (after_shard (Ok st) w ev node) m)
+pub shard_step_kept : (top : TopologyValue) (w : Run) (node : ℕ) (st : ShardStep) (ev : RunEvent) → Inv top w → Able top w node (w.shards node) st → ((m : ℕ) → Played top (after_shard (Ok st) w ev node) m)
     → Inv top (after_shard (Ok st) w ev node)
 shard_step_kept top w node st ev inv k played =
     let x = after_shard (Ok st) w ev node in

@@ -17,7 +17,7 @@ use Rattle.messages.specs.Session.{SessionState, SessionStep, Open, Moving, move
 use Rattle.messages.specs.SessionEvents.{session_taken}
 use Rattle.messages.specs.Submitting.{next_txn, home_node, begin_of, prepare_of, write_begun, share_of, read_begun, check_of, begun, move_fault_if, move_fault, plan_fault}
 use Rattle.messages.proofs.Numbering.{dc_of_shard, number_of_shard}
-use Rattle.world.specs.Run.{Run, Event, Submit, Submission, ended_by, after_submission}
+use Rattle.world.specs.Run.{Run, RunEvent, Submit, Submission, ended_by, after_submission}
 use Rattle.world.proofs.lists.Among.{Among, among_append, append_first, among_last, last_or_old, map_only}
 use Rattle.world.proofs.growing.Growth.{AskedNow, SessionGrows, Grows}
 use Rattle.world.proofs.safety.Facts.{txn_of, IsWritten, lead, IsDone}
@@ -45,7 +45,7 @@ later_grows top a b clock count =
     }
 
 -- What a submission opens, in a run with these events
-module _ (top : TopologyValue) (w : Run) (es : List Event) (node n : ℕ) (o : Op) (inv : Inv top w) (lt : (w.sessions node).clock < n) (current : Open) (sends : List Envelope) where
+module _ (top : TopologyValue) (w : Run) (es : List RunEvent) (node n : ℕ) (o : Op) (inv : Inv top w) (lt : (w.sessions node).clock < n) (current : Open) (sends : List Envelope) where
   -- the session after it, its submission, and the run after it
   abbrev state_then : SessionState
   state_then = opened_state w node n current
@@ -136,7 +136,7 @@ module _ (top : TopologyValue) (w : Run) (node n : ℕ) (batch : List Change) (s
   abbrev written : Run
   written = after_submission (Ok began) w node (op.Batch batch)
 
-  abbrev write_events : List Event
+  abbrev write_events : List RunEvent
   write_events = w.events ++ Submit node (op.Batch batch) ∷ []
 
   abbrev coordinator : ℕ
@@ -202,7 +202,7 @@ module _ (top : TopologyValue) (w : Run) (node n : ℕ) (read : Read) (inv : Inv
   abbrev asking : Run
   asking = after_submission (Ok starts) w node (op.Read read)
 
-  abbrev read_events : List Event
+  abbrev read_events : List RunEvent
   read_events = w.events ++ Submit node (op.Read read) ∷ []
 
   read_sound : (s : ℕ) → Among s (shards_asked top.shards read.keys)
@@ -239,7 +239,7 @@ module _ (top : TopologyValue) (w : Run) (node n dc : ℕ) (inv : Inv top w) (lt
   abbrev leaving : SessionState
   leaving = w.sessions node
 
-  moving_sound : (es : List Event) (left : List WriterValue) (sends : List Envelope) → ((k : WriterValue) → Among k leaving.dependencies → Among k left)
+  moving_sound : (es : List RunEvent) (left : List WriterValue) (sends : List Envelope) → ((k : WriterValue) → Among k leaving.dependencies → Among k left)
       → MovingSound top (opened_run es w node n (op.Move dc) (Moving dc left 0) sends) node (opened_state w node n (Moving dc left 0)) dc left 0
   unfolding is_open
   moving_sound es left sends all =

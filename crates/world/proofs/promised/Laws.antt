@@ -9,7 +9,7 @@ use Rattle.messages.specs.declared.rows_at.RowAt.{RowAt}
 use Rattle.messages.specs.Actors.{finished_in}
 use Rattle.messages.specs.Topology.{TopologyValue, is_topology, dc_of, shard_of, shard_node}
 use Rattle.messages.proofs.Numbering.{shard_again}
-use Rattle.world.specs.Run.{Run, Event, Submission, Completed, run, opening}
+use Rattle.world.specs.Run.{Run, RunEvent, Submission, Completed, run, opening}
 use Rattle.world.specs.Histories.{decisions_in, IsHistory}
 use Rattle.world.specs.Before.{ReadRestsOn}
 use Rattle.world.specs.Committed.{IsCommittedBy}
@@ -47,7 +47,7 @@ use Rattle.world.proofs.replays.EachShard.{each_is_right}
 use Rattle.world.proofs.fresh.FreshReads.{completed_fresh}
 use Rattle.world.proofs.replays.OwnJournals.{each_is_its_journal}
 
-pub reads_show_one_table : (top : TopologyValue) (events : List Event) → 0 < top.shards → ReadsShowOneTable top (run top events)
+pub reads_show_one_table : (top : TopologyValue) (events : List RunEvent) → 0 < top.shards → ReadsShowOneTable top (run top events)
 reads_show_one_table top events some c read time answer h is history =
     one_table top (run top events) (every_run top events some) some c read time answer is.completed is.op is.outcome h history
 
@@ -76,21 +76,21 @@ module _ (top : TopologyValue) (some : 0 < top.shards) (w : Run) (inv : Inv top 
 older_by_time : (s t : StampValue) → s.time < t.time → is_older s t ≡ true
 older_by_time s t lt = grind (arith, nat_tests)
 
-pub reads_show_their_past : (top : TopologyValue) (events : List Event) → 0 < top.shards → ReadsShowTheirPast top (run top events)
+pub reads_show_their_past : (top : TopologyValue) (events : List RunEvent) → 0 < top.shards → ReadsShowTheirPast top (run top events)
 reads_show_their_past top events some c read time answer u is past =
     let w = run top events in
     let inv = every_run top events some in
     let r = past_reached top w some inv (every_causal top events some) (rests top some w inv) (committed top some w inv) u (record { session = c.node; number = c.number }) past in
     done_committed top some w inv c.home time u (r.read c (contains_among c w.transcript is.completed) refl read time answer is.op is.outcome)
 
-pub moves_bring_their_past : (top : TopologyValue) (events : List Event) → 0 < top.shards → MovesBringTheirPast top (run top events)
+pub moves_bring_their_past : (top : TopologyValue) (events : List RunEvent) → 0 < top.shards → MovesBringTheirPast top (run top events)
 moves_bring_their_past top events some c dc floor u has came past =
     let w = run top events in
     let inv = every_run top events some in
     let r = past_reached top w some inv (every_causal top events some) (rests top some w inv) (committed top some w inv) u (record { session = c.node; number = c.number }) past in
     done_committed top some w inv dc floor u (r.move c (contains_among c w.transcript has) refl dc floor came)
 
-pub stamps_follow_causes : (top : TopologyValue) (events : List Event) → 0 < top.shards → StampsFollowCauses top (run top events)
+pub stamps_follow_causes : (top : TopologyValue) (events : List RunEvent) → 0 < top.shards → StampsFollowCauses top (run top events)
 stamps_follow_causes top events some u v dc ec d e past hd qd he qe =
     let w = run top events in
     let inv = every_run top events some in
@@ -107,7 +107,7 @@ stamps_follow_causes top events some u v dc ec d e past hd qd he qe =
     let commit = home.commit in
     older_by_time d.stamp e.stamp (omega arith)
 
-pub times_never_fall : (top : TopologyValue) (events : List Event) → 0 < top.shards → TimesNeverFall (run top events)
+pub times_never_fall : (top : TopologyValue) (events : List RunEvent) → 0 < top.shards → TimesNeverFall (run top events)
 times_never_fall top events some c e hc he node number stays =
     let w = run top events in
     (every_causal top events some).ordered c e (contains_among c w.transcript hc) (contains_among e w.transcript he) node number
@@ -117,10 +117,10 @@ ended_apart : (cs : List Completed) → EndedOnce cs → AllPairs (λ c e. numbe
 ended_apart [] k = no_pairs (λ c e. number_of c ≢ number_of e)
 ended_apart (c ∷ cs) k = more_pairs (λ c e. number_of c ≢ number_of e) c cs (λ e m same. k.0 e m (sym same)) (ended_apart cs k.1)
 
-pub operations_end_once : (top : TopologyValue) (events : List Event) → 0 < top.shards → OperationsEndOnce (run top events)
+pub operations_end_once : (top : TopologyValue) (events : List RunEvent) → 0 < top.shards → OperationsEndOnce (run top events)
 operations_end_once top events some = ended_apart (run top events).transcript (every_causal top events some).once
 
-pub entries_are_of_submissions : (top : TopologyValue) (events : List Event) → 0 < top.shards → EntriesAreOfSubmissions (run top events)
+pub entries_are_of_submissions : (top : TopologyValue) (events : List RunEvent) → 0 < top.shards → EntriesAreOfSubmissions (run top events)
 entries_are_of_submissions top events some c has =
     let w = run top events in
     let k = (every_run top events some).transcript c (contains_among c w.transcript has) in
@@ -136,12 +136,12 @@ entries_are_of_submissions top events some c has =
 
 -- ## Journals
 
-pub outcomes_are_listed : (top : TopologyValue) (events : List Event) → 0 < top.shards → OutcomesAreListed top (run top events)
+pub outcomes_are_listed : (top : TopologyValue) (events : List RunEvent) → 0 < top.shards → OutcomesAreListed top (run top events)
 outcomes_are_listed top events some node = sym (ap finished_in (each_is_its_journal top events node some))
 
 -- ## Later moments
 
-pub answers_stay : (top : TopologyValue) (before after : List Event) → 0 < top.shards → AnswersStay top before after
+pub answers_stay : (top : TopologyValue) (before after : List RunEvent) → 0 < top.shards → AnswersStay top before after
 answers_stay top before after some c read time answer h is history =
     let w = run top before in
     let v = run top (before ++ after) in
@@ -153,55 +153,55 @@ answers_stay top before after some c read time answer h is history =
 
 -- ## Histories
 
-pub histories_tell : (top : TopologyValue) (events : List Event) (dc : ℕ) (h : History) → 0 < top.shards → IsHistory top (run top events) dc h → TellsDecided top (run top events) dc h
+pub histories_tell : (top : TopologyValue) (events : List RunEvent) (dc : ℕ) (h : History) → 0 < top.shards → IsHistory top (run top events) dc h → TellsDecided top (run top events) dc h
 histories_tell top events dc h some is = history_tells top (run top events) dc h (every_run top events some) is
 
 named_apart : (bs : List Submission) → NamedOnce bs → AllPairs (λ s t. named_by s ≢ named_by t) bs
 named_apart [] k = no_pairs (λ s t. named_by s ≢ named_by t)
 named_apart (b ∷ bs) k = more_pairs (λ s t. named_by s ≢ named_by t) b bs (λ c m same. k.0 c m (sym same)) (named_apart bs k.1)
 
-pub named_in_runs : (top : TopologyValue) (events : List Event) → 0 < top.shards → AreNamedOnce (run top events)
+pub named_in_runs : (top : TopologyValue) (events : List RunEvent) → 0 < top.shards → AreNamedOnce (run top events)
 named_in_runs top events some = named_apart (run top events).submitted (every_causal top events some).named
 
-pub coordinators_in_runs : (top : TopologyValue) (events : List Event) → 0 < top.shards → CoordinatorsDecide top (run top events)
+pub coordinators_in_runs : (top : TopologyValue) (events : List RunEvent) → 0 < top.shards → CoordinatorsDecide top (run top events)
 coordinators_in_runs top events some = coordinators_decide top (run top events) (every_run top events some)
 
-pub prefix_grows : (top : TopologyValue) (before after : List Event) → 0 < top.shards → Grows top (run top before) (run top (before ++ after))
+pub prefix_grows : (top : TopologyValue) (before after : List RunEvent) → 0 < top.shards → Grows top (run top before) (run top (before ++ after))
 prefix_grows top before after some =
     subst (λ z. Grows top (run top before) z) (sym (run_after top (opening top) before after)) (run_grows top (run top before) after some (every_run top before some))
 
-pub histories_grow : (top : TopologyValue) (before after : List Event) → 0 < top.shards → HistoriesGrow top before after
+pub histories_grow : (top : TopologyValue) (before after : List RunEvent) → 0 < top.shards → HistoriesGrow top before after
 histories_grow top before after some dc g h is was =
     history_kept top (run top before) (run top (before ++ after)) dc g h (every_run top before some) (every_run top (before ++ after) some) (prefix_grows top before after some) is was
 
-pub later_commits_are_above : (top : TopologyValue) (before after : List Event) → 0 < top.shards → LaterCommitsAreAbove top before after
+pub later_commits_are_above : (top : TopologyValue) (before after : List RunEvent) → 0 < top.shards → LaterCommitsAreAbove top before after
 later_commits_are_above top before after some c read time answer d is m fresh touched =
     let inv = every_run top before some in
     let sound = answered top (run top before) inv c read time answer is.completed is.op is.outcome in
     commits_above top some (run top before) (run top (before ++ after)) inv (every_run top (before ++ after) some) (prefix_grows top before after some) c.home time read sound.rows sound.from d m fresh
     touched.batch touched.submitted touched.key touched.asked touched.name touched.touches
 
-pub stamps_in_runs : (top : TopologyValue) (events : List Event) → 0 < top.shards → StampsAgree top (run top events)
+pub stamps_in_runs : (top : TopologyValue) (events : List RunEvent) → 0 < top.shards → StampsAgree top (run top events)
 stamps_in_runs top events some = stamps_agree top (run top events) (every_run top events some)
 
-pub writes_in_runs : (top : TopologyValue) (events : List Event) → 0 < top.shards → WritesAreTold top (run top events)
+pub writes_in_runs : (top : TopologyValue) (events : List RunEvent) → 0 < top.shards → WritesAreTold top (run top events)
 writes_in_runs top events some = writes_are_told top (run top events) some (every_run top events some)
 
 -- ## What was handled, and what is fresh
 
-pub handled_is_honest : (top : TopologyValue) (events : List Event) → 0 < top.shards → HandledIsHonest top (run top events)
+pub handled_is_honest : (top : TopologyValue) (events : List RunEvent) → 0 < top.shards → HandledIsHonest top (run top events)
 handled_is_honest top events some node = handled_honest top (run top events) node (every_run top events some)
 
-pub each_shard_is_right : (top : TopologyValue) (events : List Event) → 0 < top.shards → EachShardIsRight top (run top events)
+pub each_shard_is_right : (top : TopologyValue) (events : List RunEvent) → 0 < top.shards → EachShardIsRight top (run top events)
 each_shard_is_right top events some node here = each_is_right top events node some here (handled_is_honest top events some node)
 
-pub reads_are_fresh : (top : TopologyValue) (events : List Event) → 0 < top.shards → ReadsAreFresh top (run top events)
+pub reads_are_fresh : (top : TopologyValue) (events : List RunEvent) → 0 < top.shards → ReadsAreFresh top (run top events)
 reads_are_fresh top events some c has =
     completed_fresh top some (λ xs. every_run top xs some) (λ xs ys. prefix_grows top xs ys some) (λ xs. every_causal top xs some) events c has
 
 -- ## Quiet runs
 
-pub quiet_means_done : (top : TopologyValue) (events : List Event) → is_topology top.dcs top.shards top.homes ≡ true → IsQuiet (run top events) → Settled top (run top events)
+pub quiet_means_done : (top : TopologyValue) (events : List RunEvent) → is_topology top.dcs top.shards top.homes ≡ true → IsQuiet (run top events) → Settled top (run top events)
 quiet_means_done top events ok quiet =
     let some = (stands top ok).some in
     settled top (run top events) some (every_run top events some) (run_live top events ok) (every_causal top events some) quiet

@@ -4,7 +4,7 @@ use Rattle.column_family.specs.History.{History}
 use Rattle.messages.specs.Topology.{is_topology}
 use Rattle.world.specs.declared.actors.Actors.{Actors}
 use Rattle.world.specs.declared.log.Log.{Log}
-use Rattle.world.specs.Run.{Event}
+use Rattle.world.specs.Run.{RunEvent}
 use Rattle.world.specs.Histories.{IsHistory}
 use Rattle.world.specs.Holds.{Holds}
 use Rattle.world.specs.World.{WorldValue, run_of}
@@ -80,13 +80,13 @@ module _ (v : WorldValue) (is : IsOf v) where
   pub tells : (dc : ℕ) (h : History) → IsHistory v.top (run_of v) dc h → TellsDecided v.top (run_of v) dc h
   tells dc h listed = histories_tell v.top v.events dc h is.some listed
 
-  pub grows : (before after : List Event) → v.events ≡ before ++ after → HistoriesGrow v.top before after
+  pub grows : (before after : List RunEvent) → v.events ≡ before ++ after → HistoriesGrow v.top before after
   grows before after e = histories_grow v.top before after is.some
 
-  pub stays : (before after : List Event) → v.events ≡ before ++ after → AnswersStay v.top before after
+  pub stays : (before after : List RunEvent) → v.events ≡ before ++ after → AnswersStay v.top before after
   stays before after e = answers_stay v.top before after is.some
 
-  pub above : (before after : List Event) → v.events ≡ before ++ after → LaterCommitsAreAbove v.top before after
+  pub above : (before after : List RunEvent) → v.events ≡ before ++ after → LaterCommitsAreAbove v.top before after
   above before after e = later_commits_are_above v.top before after is.some
 
   pub settled : IsQuiet (run_of v) → Settled v.top (run_of v)

@@ -6,7 +6,7 @@ use Rattle.messages.specs.declared.outcome.Outcome.TheVariants as outcome
 use Rattle.messages.specs.Topology.{TopologyValue, is_topology}
 use Rattle.messages.specs.Session.{Finished}
 use Rattle.messages.specs.Actors.{finished_in, outcomes_by, opening_home, home_before}
-use Rattle.messages.specs.declared.event.Event.{Event as ActorEvent}
+use Rattle.messages.specs.declared.event.ActorEvent.{ActorEvent}
 use Rattle.world.specs.Run.{Completed, run}
 use Rattle.world.specs.Histories.{history_of}
 use Rattle.world.specs.Journals.{finished_as, ended_at, DoFit}

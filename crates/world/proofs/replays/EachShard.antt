@@ -5,8 +5,8 @@ use Rattle.std.specs.List.{cons_option}
 use Rattle.std.proofs.lemmas.List.{append_assoc}
 use Rattle.logical_time.specs.declared.fault.Fault.{Fault}
 use Rattle.messages.specs.declared.envelope.Envelope.{Envelope}
-use Rattle.messages.specs.declared.event.Event.{Event as ActorEvent}
-use Rattle.messages.specs.declared.event.Event.TheVariants.{Submit as SubmitHere, Handle, Collect as CollectHere}
+use Rattle.messages.specs.declared.event.ActorEvent.{ActorEvent}
+use Rattle.messages.specs.declared.event.ActorEvent.TheVariants.{Submit as SubmitHere, Handle, Collect as CollectHere}
 use Rattle.messages.specs.Topology.{TopologyValue, is_shard}
 use Rattle.messages.specs.Shard.{ShardState, ShardStep}
 use Rattle.messages.specs.ShardEvents.{shard_handle, shard_collect}
@@ -16,7 +16,7 @@ use Rattle.shard.specs.Events.{ShardRun, after_step, shard_continued, fresh_shar
 use Rattle.shard.proofs.right.OneShard.{shard_is_right}
 use Rattle.world.specs.Quiet.{number_delivered}
 use Rattle.world.specs.Met.{envelopes_to}
-use Rattle.world.specs.Run.{Run, Event, Submit, Deliver, Collect, run}
+use Rattle.world.specs.Run.{Run, RunEvent, Submit, Deliver, Collect, run}
 use Rattle.world.specs.Journals.{event_at, journal_in}
 use Rattle.world.specs.Each.{IsRightInRun}
 use Rattle.world.proofs.steps.Moves.{shard_took}
@@ -97,7 +97,7 @@ module _ (w : Run) (node : ℕ) where
   other_go true x ys none = ap (λ o. cons_option o (filter_map envelope_of ys)) none
   other_go false x ys none = refl
 
-  same_envelopes : (xs : List Event) → filter_map envelope_of (filter_map (event_at w node) xs)
+  same_envelopes : (xs : List RunEvent) → filter_map envelope_of (filter_map (event_at w node) xs)
       ≡ filter (λ (e : Envelope). e.to == node) (filter_map (λ k. slice_get w.sent k) (filter_map number_delivered xs))
   same_envelopes [] = refl
   same_envelopes (Submit session o ∷ xs) = other_go (session == node) (SubmitHere o) (filter_map (event_at w node) xs) refl ∙ same_envelopes xs
@@ -105,7 +105,7 @@ module _ (w : Run) (node : ℕ) where
       delivered_go (slice_get w.sent k) (filter_map (event_at w node) xs) (filter_map (λ k. slice_get w.sent k) (filter_map number_delivered xs)) (same_envelopes xs)
   same_envelopes (Collect shard time ∷ xs) = other_go (shard == node) (CollectHere time) (filter_map (event_at w node) xs) refl ∙ same_envelopes xs
 
-pub each_is_right : (top : TopologyValue) (events : List Event) (node : ℕ) → 0 < top.shards → is_shard top node ≡ true
+pub each_is_right : (top : TopologyValue) (events : List RunEvent) (node : ℕ) → 0 < top.shards → is_shard top node ≡ true
     → IsHonest ((run top events).shards node) (envelopes_to (run top events) node) → IsRightInRun top (run top events) node
 each_is_right top events node some here honest =
     let w = run top events in

@@ -4,8 +4,8 @@ use Rattle.std.specs.Prelude.{if◌then◌else◌}
 use Rattle.logical_time.specs.declared.fault.Fault.{Fault}
 use Rattle.messages.specs.declared.op.Op.{Op}
 use Rattle.messages.specs.declared.envelope.Envelope.{Envelope}
-use Rattle.messages.specs.declared.event.Event.{Event as ActorEvent}
-use Rattle.messages.specs.declared.event.Event.TheVariants.{Submit as SubmitHere, Handle, Collect as CollectHere}
+use Rattle.messages.specs.declared.event.ActorEvent.{ActorEvent}
+use Rattle.messages.specs.declared.event.ActorEvent.TheVariants.{Submit as SubmitHere, Handle, Collect as CollectHere}
 use Rattle.messages.specs.Topology.{TopologyValue, is_shard, is_session, node_count}
 use Rattle.messages.specs.Shard.{ShardStep}
 use Rattle.messages.specs.Session.{SessionStep}
@@ -13,7 +13,7 @@ use Rattle.messages.specs.ShardEvents.{shard_handle, shard_collect}
 use Rattle.messages.specs.SessionEvents.{session_handle}
 use Rattle.messages.specs.Submitting.{session_submit}
 use Rattle.messages.specs.Actors.{OfShard, OfSession, ActorStep, of_shard, of_session, actor_step}
-use Rattle.world.specs.Run.{Run, Event, Submit, Deliver, Collect, after_shard, after_session, after_submission, submit_if, deliver_if, deliver_for, collect_if, step}
+use Rattle.world.specs.Run.{Run, RunEvent, Submit, Deliver, Collect, after_shard, after_session, after_submission, submit_if, deliver_if, deliver_for, collect_if, step}
 use Rattle.world.specs.Journals.{actor_in}
 use Rattle.world.proofs.lists.Among.{Among}
 use Rattle.world.proofs.steps.Moves.{Moves, shard_took, session_took, counts_session, handle_moves, hear_moves, submit_moves, collect_moves}
@@ -25,7 +25,7 @@ among_get (y ∷ ys) x (inl q) = (zero, ap Some (sym q))
 among_get (y ∷ ys) x (inr m) = let r = among_get ys x m in (suc r.0, r.1)
 
 abbrev pub Happens : TopologyValue → Run → ℕ → ActorEvent → ActorStep → Type 0
-Happens top w n x s = (ev : Event) × Moves top w (step top w ev) ev n x s
+Happens top w n x s = (ev : RunEvent) × Moves top w (step top w ev) ev n x s
 
 module _ (top : TopologyValue) (w : Run) where
   handle_to : (k : ℕ) (e : Envelope) (s : ActorStep) → slice_get w.sent k ≡ Some e → e.to < node_count top

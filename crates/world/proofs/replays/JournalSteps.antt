@@ -5,11 +5,11 @@ use Rattle.std.specs.List.{cons_option}
 use Rattle.std.proofs.lemmas.Bool.{false≢true}
 use Rattle.std.proofs.lemmas.List.Elements.{filter_map-append}
 use Rattle.messages.specs.declared.envelope.Envelope.{Envelope}
-use Rattle.messages.specs.declared.event.Event.{Event as ActorEvent}
-use Rattle.messages.specs.declared.event.Event.TheVariants.{Handle}
+use Rattle.messages.specs.declared.event.ActorEvent.{ActorEvent}
+use Rattle.messages.specs.declared.event.ActorEvent.TheVariants.{Handle}
 use Rattle.messages.specs.Topology.{TopologyValue}
 use Rattle.messages.specs.Actors.{ActorStep}
-use Rattle.world.specs.Run.{Run, Event, Submit, Deliver, Collect}
+use Rattle.world.specs.Run.{Run, RunEvent, Submit, Deliver, Collect}
 use Rattle.world.specs.Journals.{event_at, journal_in}
 use Rattle.world.proofs.lists.Among.{Among, last_or_old}
 use Rattle.world.proofs.growing.Prefixes.{get_first}
@@ -31,7 +31,7 @@ pub same_told : {X Y : Type 0} (f g : X → Option Y) (xs : List X) → ((x : X)
 same_told f g [] e = refl
 same_told f g (x ∷ xs) e = ap (λ o. cons_option o (filter_map f xs)) (e x (inl refl)) ∙ ap (cons_option (g x)) (same_told f g xs (λ y m. e y (inr m)))
 
-module _ {top : TopologyValue} {w v : Run} {ev : Event} {n : ℕ} {x : ActorEvent} {s : ActorStep} (f : Moves top w v ev n x s) (known : AreKnown w) where
+module _ {top : TopologyValue} {w v : Run} {ev : RunEvent} {n : ℕ} {x : ActorEvent} {s : ActorStep} (f : Moves top w v ev n x s) (known : AreKnown w) where
   known_go : (k : ℕ) → Among (Deliver k) w.events ⊎ (Deliver k ≡ ev) → (e : Envelope) × (slice_get w.sent k ≡ Some e)
   known_go k (inl m) = known k m
   known_go k (inr q) = f.known k (sym q)
@@ -41,7 +41,7 @@ module _ {top : TopologyValue} {w v : Run} {ev : Event} {n : ℕ} {x : ActorEven
       let e = known_go k (last_or_old (Deliver k) ev w.events (subst (λ l. Among (Deliver k) l) f.events m)) in
       (e.0, ap (λ l. slice_get l k) f.sent ∙ get_first w.sent s.sends k e.0 e.1)
 
-  same_at : (m : ℕ) (y : Event) → KnowsNumber w y → event_at v m y ≡ event_at w m y
+  same_at : (m : ℕ) (y : RunEvent) → KnowsNumber w y → event_at v m y ≡ event_at w m y
   same_at m (Submit session o) k = refl
   same_at m (Deliver j) k =
       let e = k j refl in

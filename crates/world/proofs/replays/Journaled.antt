@@ -7,9 +7,9 @@ use Rattle.column_family.specs.declared.batch.Change.{Change}
 use Rattle.messages.specs.declared.op.Op.{Op}
 use Rattle.messages.specs.Topology.{TopologyValue, is_shard, is_session, shard_node, node_count}
 use Rattle.messages.proofs.Numbering.{shard_is_shard}
-use Rattle.messages.specs.declared.event.Event.{Event as ActorEvent}
+use Rattle.messages.specs.declared.event.ActorEvent.{ActorEvent}
 use Rattle.messages.specs.Actors.{OfShard, OfSession, replay_of}
-use Rattle.world.specs.Run.{Run, Event, Submission, run, submission_of}
+use Rattle.world.specs.Run.{Run, RunEvent, Submission, run, submission_of}
 use Rattle.world.specs.Histories.{batch_in, batch_submitted, committed_of}
 use Rattle.world.specs.Journals.{held_in, journal_in, IsRunOf}
 use Rattle.world.specs.Threads.{op_numbered, decided_of, decided_in, decided_by, batch_by, committed_by, IsToldByJournals}
@@ -25,7 +25,7 @@ same_flat : {X Y : Type 0} (f g : X → List Y) (xs : List X) → ((x : X) → A
 same_flat f g [] e = refl
 same_flat f g (x ∷ xs) e = ap (λ l. l ++ flat_map f xs) (e x (inl refl)) ∙ ap (λ l. g x ++ l) (same_flat f g xs (λ y m. e y (inr m)))
 
-module _ (top : TopologyValue) (journals : ℕ → List ActorEvent) (events : List Event) (some : 0 < top.shards) (is : IsRunOf top journals events) where
+module _ (top : TopologyValue) (journals : ℕ → List ActorEvent) (events : List RunEvent) (some : 0 < top.shards) (is : IsRunOf top journals events) where
   abbrev w : Run
   w = run top events
 

@@ -3,8 +3,8 @@ use Rattle.std.proofs.Common.{ℕ, List, refl, sym, subst, eqb-true, eq-eqb}
 use Rattle.std.specs.Prelude.{◌==◌, filter_map}
 use Rattle.messages.specs.declared.envelope.Envelope.{Envelope}
 use Rattle.messages.specs.Topology.{TopologyValue}
-use Rattle.messages.specs.declared.event.Event.{Event as ActorEvent}
-use Rattle.messages.specs.declared.event.Event.TheVariants.{Handle}
+use Rattle.messages.specs.declared.event.ActorEvent.{ActorEvent}
+use Rattle.messages.specs.declared.event.ActorEvent.TheVariants.{Handle}
 use Rattle.messages.specs.Actors.{envelope_of, sent_by}
 use Rattle.store.proofs.lists.Lists.{given}
 use Rattle.world.specs.Journals.{receipts_from, DoFit, DoLinksFit, IsThreadedRun}

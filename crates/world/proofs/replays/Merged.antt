@@ -6,10 +6,10 @@ use Rattle.std.proofs.lemmas.Bool.Decides.{nat_tests}
 use Rattle.std.proofs.lemmas.List.{append_assoc}
 use Rattle.messages.specs.declared.envelope.Envelope.{Envelope}
 use Rattle.messages.specs.Topology.{TopologyValue, node_count}
-use Rattle.messages.specs.declared.event.Event.{Event as ActorEvent}
-use Rattle.messages.specs.declared.event.Event.TheVariants.{Submit as SubmitHere, Handle, Collect as CollectHere}
+use Rattle.messages.specs.declared.event.ActorEvent.{ActorEvent}
+use Rattle.messages.specs.declared.event.ActorEvent.TheVariants.{Submit as SubmitHere, Handle, Collect as CollectHere}
 use Rattle.messages.specs.Actors.{ActorState, clock_of, ActorStep, actor_step, Replayed, replay, sent_in, sent_by}
-use Rattle.world.specs.Run.{Run, Event, opening, step, run}
+use Rattle.world.specs.Run.{Run, RunEvent, opening, step, run}
 use Rattle.world.specs.Journals.{actor_in, journal_in, DoFit, IsThreadedRun}
 use Rattle.world.proofs.lists.Among.{Among, among_contains, contains_among, among_append, append_first, append_second}
 use Rattle.world.proofs.worked.Replayed.{continued_push}
@@ -41,7 +41,7 @@ module _ (top : TopologyValue) (journals : ℕ → List ActorEvent) where
   -- ## What stays
 
   -- the others' events are where they were
-  done_there : (w v : Run) (ev : Event) (n : ℕ) (x : ActorEvent) (s : ActorStep) → Moves top w v ev n x s → AreKnown w
+  done_there : (w v : Run) (ev : RunEvent) (n : ℕ) (x : ActorEvent) (s : ActorStep) → Moves top w v ev n x s → AreKnown w
       → (m limit : ℕ) → (m == n) ≡ false → (n == m) ≡ false → IsDone w m limit → IsDone v m limit
   done_there w v ev n x s f known m limit apart apart' d =
       let same = f.others m apart in

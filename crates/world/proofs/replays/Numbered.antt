@@ -7,10 +7,10 @@ use Rattle.std.proofs.lemmas.List.Elements.{filter_map-append}
 use Rattle.logical_time.specs.Stamps.{TxnValue}
 use Rattle.messages.specs.declared.op.Op.{Op}
 use Rattle.messages.specs.Topology.{TopologyValue, is_shard, is_session}
-use Rattle.messages.specs.declared.event.Event.{Event as ActorEvent}
-use Rattle.messages.specs.declared.event.Event.TheVariants.{Submit as SubmitHere, Handle, Collect as CollectHere}
+use Rattle.messages.specs.declared.event.ActorEvent.{ActorEvent}
+use Rattle.messages.specs.declared.event.ActorEvent.TheVariants.{Submit as SubmitHere, Handle, Collect as CollectHere}
 use Rattle.messages.specs.Actors.{OfShard, OfSession, ActorStep}
-use Rattle.world.specs.Run.{Run, Event, Submission, opening, step, continued, run, submission_of}
+use Rattle.world.specs.Run.{Run, RunEvent, Submission, opening, step, continued, run, submission_of}
 use Rattle.world.specs.Journals.{actor_in, journal_in}
 use Rattle.world.specs.Threads.{op_in, op_numbered}
 use Rattle.world.proofs.lists.Among.{Among, last_or_old, same_txn}
@@ -29,7 +29,7 @@ pub record AreNumbered (top : TopologyValue) (w : Run) : Type 0 where
   pub quiet : (m : ℕ) → is_session top m ≡ false → ops_of (journal_in w m) ≡ []
   pub named : (b : Submission) → Among b w.submitted → (is_session top b.session ≡ true) × (op_numbered (journal_in w b.session) b.number ≡ Some b.op)
 
-module _ (top : TopologyValue) (w v : Run) (ev : Event) (n : ℕ) (x : ActorEvent) (s : ActorStep) (f : Moves top w v ev n x s) (k : AreNumbered top w) where
+module _ (top : TopologyValue) (w v : Run) (ev : RunEvent) (n : ℕ) (x : ActorEvent) (s : ActorStep) (f : Moves top w v ev n x s) (k : AreNumbered top w) where
   ops_here : ops_of (journal_in v n) ≡ ops_of (journal_in w n) ++ ops_of (x ∷ [])
   ops_here = ap ops_of (journal_here f k.known) ∙ filter_map-append op_in (journal_in w n) (x ∷ [])
 
@@ -150,18 +150,18 @@ module _ (top : TopologyValue) (w v : Run) (ev : Event) (n : ℕ) (x : ActorEven
           (ops_here ∙ ap (λ l. l ++ ops_of (x ∷ [])) (k.quiet n away') ∙ quiet_here x refl f.submitted away')
       still m away false q = ap ops_of (journal_there f k.known m q) ∙ k.quiet m away
 
-numbered_step : (top : TopologyValue) (w : Run) (ev : Event) → AreNumbered top w → AreNumbered top (step top w ev)
+numbered_step : (top : TopologyValue) (w : Run) (ev : RunEvent) → AreNumbered top w → AreNumbered top (step top w ev)
 numbered_step top w ev k = go (each_is_move top w ev)
   where
     go : IsMove top w ev (step top w ev) → AreNumbered top (step top w ev)
     go (inl same) = subst (λ v. AreNumbered top v) (sym same) k
     go (inr (n, x, s, f)) = numbered_on top w (step top w ev) ev n x s f k
 
-numbered_continued : (top : TopologyValue) (w : Run) (events : List Event) → AreNumbered top w → AreNumbered top (continued top w events)
+numbered_continued : (top : TopologyValue) (w : Run) (events : List RunEvent) → AreNumbered top w → AreNumbered top (continued top w events)
 numbered_continued top w [] k = k
 numbered_continued top w (ev ∷ events) k = numbered_continued top (step top w ev) events (numbered_step top w ev k)
 
-pub run_numbered : (top : TopologyValue) (events : List Event) → AreNumbered top (run top events)
+pub run_numbered : (top : TopologyValue) (events : List RunEvent) → AreNumbered top (run top events)
 run_numbered top events =
     numbered_continued top (opening top) events
     (record { known = λ k m. absurd m; counts = λ m. none m (is_shard top m); ops = λ t. nothing t t.number; quiet = λ m away. refl; named = λ b m. absurd m })

@@ -6,11 +6,11 @@ use Rattle.std.proofs.lemmas.List.{map-append}
 use Rattle.std.proofs.lemmas.List.Elements.{filter-append}
 use Rattle.messages.specs.declared.envelope.Envelope.{Envelope}
 use Rattle.messages.specs.Topology.{TopologyValue, node_count}
-use Rattle.messages.specs.declared.event.Event.{Event as ActorEvent}
-use Rattle.messages.specs.declared.event.Event.TheVariants.{Submit as SubmitHere, Handle, Collect as CollectHere}
+use Rattle.messages.specs.declared.event.ActorEvent.{ActorEvent}
+use Rattle.messages.specs.declared.event.ActorEvent.TheVariants.{Submit as SubmitHere, Handle, Collect as CollectHere}
 use Rattle.messages.specs.Actors.{ActorStep, opening_actor, replay_of, sent_in, sent_by}
 use Rattle.store.proofs.lists.Lists.{given_only}
-use Rattle.world.specs.Run.{Run, Completed, Event, Submit, Deliver, Collect, opening, step, continued, run}
+use Rattle.world.specs.Run.{Run, Completed, RunEvent, Submit, Deliver, Collect, opening, step, continued, run}
 use Rattle.world.specs.Journals.{actor_in, event_at, journal_in, finished_as, sent_from, ended_at, held_in, IsRunOf, DoFit, IsItsJournal}
 use Rattle.world.proofs.lists.Among.{Among, among_contains, contains_among, among_append, get_among, filter_among}
 use Rattle.world.proofs.steps.Ticks.{step_ticks}
@@ -39,7 +39,7 @@ pub record AreOwnJournals (top : TopologyValue) (w : Run) : Type 0 where
   pub each : (m : ℕ) → IsItsJournal top w m
   pub senders : (e : Envelope) → Among e w.sent → e.from < node_count top
 
-module _ (top : TopologyValue) (w v : Run) (ev : Event) (n : ℕ) (x : ActorEvent) (s : ActorStep) (f : Moves top w v ev n x s) (g : IsListed w v n s)
+module _ (top : TopologyValue) (w v : Run) (ev : RunEvent) (n : ℕ) (x : ActorEvent) (s : ActorStep) (f : Moves top w v ev n x s) (g : IsListed w v n s)
     (k : AreOwnJournals top w) where
   own : (e : Envelope) → Among e s.sends → e.from ≡ n
   own e m = ((step_ticks top n (actor_in top w n) x s f.takes).sends e (among_contains e s.sends m)).0
@@ -99,24 +99,24 @@ module _ (top : TopologyValue) (w v : Run) (ev : Event) (n : ℕ) (x : ActorEven
       by m true q = subst (λ z. IsItsJournal top v z) (eqb-true n m q) here
       by m false q = there m q
 
-own_step : (top : TopologyValue) (w : Run) (ev : Event) → 0 < top.shards → Inv top w → AreOwnJournals top w → AreOwnJournals top (step top w ev)
+own_step : (top : TopologyValue) (w : Run) (ev : RunEvent) → 0 < top.shards → Inv top w → AreOwnJournals top w → AreOwnJournals top (step top w ev)
 own_step top w ev some inv k = go (each_is_move top w ev)
   where
     go : IsMove top w ev (step top w ev) → AreOwnJournals top (step top w ev)
     go (inl same) = subst (λ v. AreOwnJournals top v) (sym same) k
     go (inr (n, x, s, f)) = moved_on top w (step top w ev) ev n x s f (step_is_listed top w (step top w ev) ev n x s f some inv) k
 
-own_continued : (top : TopologyValue) (w : Run) (events : List Event) → 0 < top.shards → Inv top w → AreOwnJournals top w
+own_continued : (top : TopologyValue) (w : Run) (events : List RunEvent) → 0 < top.shards → Inv top w → AreOwnJournals top w
     → AreOwnJournals top (continued top w events)
 own_continued top w [] some inv k = k
 own_continued top w (ev ∷ events) some inv k =
     own_continued top (step top w ev) events some (step_kept top w ev some inv) (own_step top w ev some inv k)
 
-pub run_journals : (top : TopologyValue) (events : List Event) → 0 < top.shards → AreOwnJournals top (run top events)
+pub run_journals : (top : TopologyValue) (events : List RunEvent) → 0 < top.shards → AreOwnJournals top (run top events)
 run_journals top events some =
     own_continued top (opening top) events some (opening_holds top) (record { known = λ k m. absurd m; each = λ m. refl; senders = λ e m. absurd m })
 
-pub each_is_its_journal : (top : TopologyValue) (events : List Event) (node : ℕ) → 0 < top.shards → IsItsJournal top (run top events) node
+pub each_is_its_journal : (top : TopologyValue) (events : List RunEvent) (node : ℕ) → 0 < top.shards → IsItsJournal top (run top events) node
 each_is_its_journal top events node some = (run_journals top events some).each node
 
 -- ## The journals of a run fit together
@@ -140,12 +140,12 @@ handled_there w m e i = let t = given_only (event_at w m) w.events (Handle e) (a
     other true y apart h = let same : y ≡ Handle e = cc in absurd (apart same)
     other false y apart h = absurd (cc)
 
-    at : (ev : Event) → event_at w m ev ≡ Some (Handle e) → Among e w.sent × (e.to ≡ m)
+    at : (ev : RunEvent) → event_at w m ev ≡ Some (Handle e) → Among e w.sent × (e.to ≡ m)
     at (Submit session o) h = other (session == m) (SubmitHere o) (λ q. absurd (cc)) h
     at (Deliver k) h = sent k (slice_get w.sent k) refl h
     at (Collect shard time) h = other (shard == m) (CollectHere time) (λ q. absurd (cc)) h
 
-pub runs_fit : (top : TopologyValue) (journals : ℕ → List ActorEvent) (events : List Event) → 0 < top.shards → IsRunOf top journals events
+pub runs_fit : (top : TopologyValue) (journals : ℕ → List ActorEvent) (events : List RunEvent) → 0 < top.shards → IsRunOf top journals events
     → DoFit top journals
 runs_fit top journals events some is =
     let w = run top events in

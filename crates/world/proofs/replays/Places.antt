@@ -6,8 +6,8 @@ use Rattle.std.proofs.lemmas.List.Elements.{filter_map-append}
 use Rattle.logical_time.specs.Stamps.{TxnValue}
 use Rattle.messages.specs.declared.op.Op.{Op}
 use Rattle.messages.specs.Words.{is_same_txn}
-use Rattle.messages.specs.declared.event.Event.{Event as ActorEvent}
-use Rattle.messages.specs.declared.event.Event.TheVariants.{Submit as SubmitHere}
+use Rattle.messages.specs.declared.event.ActorEvent.{ActorEvent}
+use Rattle.messages.specs.declared.event.ActorEvent.TheVariants.{Submit as SubmitHere}
 use Rattle.world.specs.Run.{Submission, submission_of}
 use Rattle.world.specs.Threads.{op_in, op_numbered}
 use Rattle.world.proofs.lists.Among.{same_txn, same_txn_self}

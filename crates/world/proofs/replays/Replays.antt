@@ -7,7 +7,7 @@ use Rattle.std.specs.Option.{unwrap_or}
 use Rattle.std.proofs.lemmas.List.{append_assoc}
 use Rattle.messages.specs.declared.envelope.Envelope.{Envelope}
 use Rattle.messages.specs.Topology.{TopologyValue}
-use Rattle.messages.specs.declared.event.Event.{Event as ActorEvent}
+use Rattle.messages.specs.declared.event.ActorEvent.{ActorEvent}
 use Rattle.messages.specs.Actors.{opening_actor, ActorState, clock_of, ActorStep, actor_step, Replayed, before_rest, replay}
 use Rattle.world.proofs.lists.Among.{Among, among_contains, among_append}
 use Rattle.world.specs.Journals.{clocks_from, ClocksRise}

@@ -15,7 +15,7 @@ use Rattle.messages.specs.Topology.{TopologyValue}
 use Rattle.messages.specs.Session.{SessionState, SessionStep, HeardNow, HeardAt, Finished}
 use Rattle.messages.specs.Rounds.{asked_nodes, all_heard}
 use Rattle.messages.specs.SessionEvents.{heard}
-use Rattle.world.specs.Run.{Run, Event, Deliver, Submission, Completed, ended_by, submission_by, opening, step, continued, run}
+use Rattle.world.specs.Run.{Run, RunEvent, Deliver, Submission, Completed, ended_by, submission_by, opening, step, continued, run}
 use Rattle.world.proofs.lists.Among.{Among}
 use Rattle.world.proofs.steps.EventCases.{event_cases}
 use Rattle.world.proofs.safety.Invariant.{Inv}
@@ -102,7 +102,7 @@ module _ (top : TopologyValue) (me n : ℕ) (a : SessionState) (from : ℕ) (m :
 -- ## Where an entry came
 
 -- the event brought this entry
-pub record Brings (top : TopologyValue) (w : Run) (x : Event) (c : Completed) : Type 0 where
+pub record Brings (top : TopologyValue) (w : Run) (x : RunEvent) (c : Completed) : Type 0 where
   pub k : ℕ
   pub delivery : x ≡ Deliver k
   pub message : Envelope
@@ -123,7 +123,7 @@ begun_brings top n a node o submitted c stays new = elim (submission_tells top n
       subst IsNotMoved (f.outcome ∙ ap (λ (z : Finished). z.outcome) (sym same)) stays
 ]
 
-step_brings : (top : TopologyValue) (w : Run) (x : Event) (c : Completed) → IsNotMoved c.outcome → Inv top w → Among c (step top w x).transcript
+step_brings : (top : TopologyValue) (w : Run) (x : RunEvent) (c : Completed) → IsNotMoved c.outcome → Inv top w → Among c (step top w x).transcript
     → Among c w.transcript ⊎ Brings top w x c
 step_brings top w x c stays inv m =
     event_cases top w x (λ v. Among c v.transcript → Among c w.transcript ⊎ Brings top w x c)
@@ -163,14 +163,14 @@ step_brings top w x c stays inv m =
               (subst (λ o. EndsBy o top (w.sessions e.to) e.from e.body) (sym f.outcome) k.1);
         }
 
-record CameIn (top : TopologyValue) (w : Run) (events : List Event) (c : Completed) : Type 0 where
-  before : List Event
-  event : Event
-  after : List Event
+record CameIn (top : TopologyValue) (w : Run) (events : List RunEvent) (c : Completed) : Type 0 where
+  before : List RunEvent
+  event : RunEvent
+  after : List RunEvent
   split : events ≡ before ++ event ∷ after
   brings : Brings top (continued top w before) event c
 
-came_in : (top : TopologyValue) (w : Run) (events : List Event) (c : Completed) → IsNotMoved c.outcome → 0 < top.shards → Inv top w → Among c (continued top w events).transcript
+came_in : (top : TopologyValue) (w : Run) (events : List RunEvent) (c : Completed) → IsNotMoved c.outcome → 0 < top.shards → Inv top w → Among c (continued top w events).transcript
     → Among c w.transcript ⊎ CameIn top w events c
 came_in top w [] c stays some inv m = inl m
 came_in top w (x ∷ xs) c stays some inv m = elim (came_in top (step top w x) xs c stays some (step_kept top w x some inv) m) [
@@ -183,9 +183,9 @@ came_in top w (x ∷ xs) c stays some inv m = elim (came_in top (step top w x) x
 
 -- the event that brought an entry of a run
 pub record CameAt (top : TopologyValue) (w : Run) (c : Completed) : Type 0 where
-  pub before : List Event
-  pub event : Event
-  pub after : List Event
+  pub before : List RunEvent
+  pub event : RunEvent
+  pub after : List RunEvent
   pub brings : Brings top (run top before) event c
   pub delivery : w.events ≡ before ++ Deliver brings.k ∷ after
 

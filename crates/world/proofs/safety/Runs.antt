@@ -3,7 +3,7 @@ use Rattle.std.proofs.Common.{◌≡◌, ◌<◌, List, [], ◌∷◌, ◌++◌,
 use Rattle.store.proofs.lists.Lists.{none_in_empty}
 use Rattle.messages.specs.Topology.{TopologyValue}
 use Rattle.messages.specs.Session.{SessionState}
-use Rattle.world.specs.Run.{Run, Event, opening, step, continued, run}
+use Rattle.world.specs.Run.{Run, RunEvent, opening, step, continued, run}
 use Rattle.world.proofs.growing.Growth.{SessionGrows, Grows}
 use Rattle.world.proofs.safety.Invariant.{Inv}
 use Rattle.world.proofs.safety.Ables.{same_run, then_grows}
@@ -65,25 +65,25 @@ then_run_grows f g =
     }
 
 -- the run of events and then others goes on from the run of the first
-pub run_after : (top : TopologyValue) (w : Run) (xs ys : List Event) → continued top w (xs ++ ys) ≡ continued top (continued top w xs) ys
+pub run_after : (top : TopologyValue) (w : Run) (xs ys : List RunEvent) → continued top w (xs ++ ys) ≡ continued top (continued top w xs) ys
 run_after top w [] ys = refl
 run_after top w (x ∷ xs) ys = run_after top (step top w x) xs ys
 
 -- ## Every run
 
-pub step_kept : (top : TopologyValue) (w : Run) (x : Event) → 0 < top.shards → Inv top w → Inv top (step top w x)
+pub step_kept : (top : TopologyValue) (w : Run) (x : RunEvent) → 0 < top.shards → Inv top w → Inv top (step top w x)
 step_kept top w x some inv = (event_kept top w some inv x).0
 
-pub step_grows : (top : TopologyValue) (w : Run) (x : Event) → 0 < top.shards → Inv top w → Grows top w (step top w x)
+pub step_grows : (top : TopologyValue) (w : Run) (x : RunEvent) → 0 < top.shards → Inv top w → Grows top w (step top w x)
 step_grows top w x some inv = (event_kept top w some inv x).1
 
-pub run_kept : (top : TopologyValue) (w : Run) (events : List Event) → 0 < top.shards → Inv top w → Inv top (continued top w events)
+pub run_kept : (top : TopologyValue) (w : Run) (events : List RunEvent) → 0 < top.shards → Inv top w → Inv top (continued top w events)
 run_kept top w [] some inv = inv
 run_kept top w (x ∷ xs) some inv = run_kept top (step top w x) xs some (step_kept top w x some inv)
 
-pub run_grows : (top : TopologyValue) (w : Run) (events : List Event) → 0 < top.shards → Inv top w → Grows top w (continued top w events)
+pub run_grows : (top : TopologyValue) (w : Run) (events : List RunEvent) → 0 < top.shards → Inv top w → Grows top w (continued top w events)
 run_grows top w [] some inv = same_run top w
 run_grows top w (x ∷ xs) some inv = then_run_grows (step_grows top w x some inv) (run_grows top (step top w x) xs some (step_kept top w x some inv))
 
-pub every_run : (top : TopologyValue) (events : List Event) → 0 < top.shards → Inv top (run top events)
+pub every_run : (top : TopologyValue) (events : List RunEvent) → 0 < top.shards → Inv top (run top events)
 every_run top events some = run_kept top (opening top) events some (opening_holds top)

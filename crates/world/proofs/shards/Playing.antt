@@ -7,13 +7,13 @@ use Rattle.store.proofs.lists.Lists.{given, given_only}
 use Rattle.messages.specs.declared.body.Body.{Body}
 use Rattle.messages.specs.declared.body.Body.TheVariants as body
 use Rattle.messages.specs.declared.envelope.Envelope.{Envelope}
-use Rattle.messages.specs.declared.event.Event.{Event as ActorEvent}
+use Rattle.messages.specs.declared.event.ActorEvent.{ActorEvent}
 use Rattle.messages.specs.Actors.{envelope_of}
 use Rattle.messages.specs.Topology.{TopologyValue}
 use Rattle.messages.specs.Shard.{ShardState, ShardStep}
 use Rattle.shard.specs.Events.{ShardRun, fresh_shard, shard_run, after_step, envelopes_handled}
 use Rattle.shard.proofs.steps.Handles.{event_step, by_step, run_push}
-use Rattle.world.specs.Run.{Run, Event, after_shard}
+use Rattle.world.specs.Run.{Run, RunEvent, after_shard}
 use Rattle.world.proofs.lists.Among.{Among, among_append, among_contains, append_first}
 use Rattle.world.proofs.safety.Invariant.{IsAnswer, Played}
 use Rattle.world.proofs.steps.OwnSends.{AreOwn}
@@ -77,7 +77,7 @@ own_played top w x node ev st takes came now more p =
         ])
 
 -- a shard's step
-pub shard_played : (top : TopologyValue) (w : Run) (node n : ℕ) (x : Event) (ev : ActorEvent) (st : ShardStep) → event_step top node (w.shards node) ev ≡ Ok st
+pub shard_played : (top : TopologyValue) (w : Run) (node n : ℕ) (x : RunEvent) (ev : ActorEvent) (st : ShardStep) → event_step top node (w.shards node) ev ≡ Ok st
     → ((e : Envelope) → envelope_of ev ≡ Some e → Among e w.sent × (e.to ≡ node)) → AreOwn node n st.sends → ((m : ℕ) → Played top w m)
     → (m : ℕ) → Played top (after_shard (Ok st) w x node) m
 shard_played top w node n x ev st takes came own k m = by (m == node) refl

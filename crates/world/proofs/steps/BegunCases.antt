@@ -12,7 +12,7 @@ use Rattle.messages.specs.Topology.{TopologyValue}
 use Rattle.messages.specs.Session.{SessionState, SessionStep, Open, Moving, moved}
 use Rattle.messages.specs.Submitting.{write_begun, read_begun, check_of, move_if, begun}
 use Rattle.messages.specs.SessionEvents.{session_taken}
-use Rattle.world.specs.Run.{Run, Event, Submit, Submission, with_actor, after_session, after_submission}
+use Rattle.world.specs.Run.{Run, RunEvent, Submit, Submission, with_actor, after_session, after_submission}
 use Rattle.world.proofs.keeping.ShardSteps.{actor_same}
 
 -- a move is opened: each dependency is asked for in the new data centre
@@ -70,7 +70,7 @@ abbrev pub opened_state : Run → ℕ → ℕ → Open → SessionState
 opened_state w node n current = record (w.sessions node) { clock = n; count = (w.sessions node).count + 1; current = current; untaken = None }
 
 -- the run where an operation is open in this way, with these events: a submission's, or none of it yet
-abbrev pub opened_run : List Event → Run → ℕ → ℕ → Op → Open → List Envelope → Run
+abbrev pub opened_run : List RunEvent → Run → ℕ → ℕ → Op → Open → List Envelope → Run
 opened_run events w node n o current sends =
     record {
       events = events;

@@ -11,8 +11,8 @@ use Rattle.messages.specs.Session.{SessionState, SessionStep}
 use Rattle.messages.specs.ShardEvents.{shard_handle, shard_collect}
 use Rattle.messages.specs.Submitting.{begun, submit_fault, submit_if as submitted_if}
 use Rattle.messages.specs.SessionEvents.{heard}
-use Rattle.messages.specs.declared.event.Event.{Event as ActorEvent}
-use Rattle.messages.specs.declared.event.Event.TheVariants.{Submit as SubmitHere, Handle, Collect as CollectHere}
+use Rattle.messages.specs.declared.event.ActorEvent.{ActorEvent}
+use Rattle.messages.specs.declared.event.ActorEvent.TheVariants.{Submit as SubmitHere, Handle, Collect as CollectHere}
 use Rattle.messages.specs.Actors.{ActorState, OfShard, OfSession, ActorStep, of_shard, of_session, actor_step}
 use Rattle.world.specs.Threads.{op_in}
 use Rattle.world.proofs.steps.Moves.{op_count, shard_took, session_took}

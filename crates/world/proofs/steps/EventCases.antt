@@ -8,11 +8,11 @@ use Rattle.messages.specs.Clock.{ticked, on_clock}
 use Rattle.messages.specs.ShardEvents.{handled, shard_handle, collected}
 use Rattle.messages.specs.SessionEvents.{heard, session_handle}
 use Rattle.messages.specs.Submitting.{begun, submit_fault, submit_if as submitted_if}
-use Rattle.world.specs.Run.{Run, Event, Submit, Deliver, Collect, after_shard, after_session, after_submission, submit_if, deliver_if, deliver_for, collect_if, step}
+use Rattle.world.specs.Run.{Run, RunEvent, Submit, Deliver, Collect, after_shard, after_session, after_submission, submit_if, deliver_if, deliver_for, collect_if, step}
 
 -- What holds of each thing that an event may make of the run holds of what it makes. Each step is at the clock that its
 -- actor moves to.
-pub record TimedCases (top : TopologyValue) (w : Run) (x : Event) (P : Run → Type 0) : Type 0 where
+pub record TimedCases (top : TopologyValue) (w : Run) (x : RunEvent) (P : Run → Type 0) : Type 0 where
   -- it is refused, or of no actor
   pub nothing : P w
   pub handled : (k : ℕ) (e : Envelope) (n : ℕ) → x ≡ Deliver k → slice_get w.sent k ≡ Some e → is_shard top e.to ≡ true
@@ -26,7 +26,7 @@ pub record TimedCases (top : TopologyValue) (w : Run) (x : Event) (P : Run → T
   pub collected : (node time n : ℕ) → x ≡ Collect node time → ticked (w.shards node).clock (w.shards node).clock ≡ Some n
       → P (after_shard (Ok (collected n (w.shards node) time)) w x node)
 
-handle_cases : (top : TopologyValue) (w : Run) (x : Event) (P : Run → Type 0) (k : ℕ) (e : Envelope) → x ≡ Deliver k → slice_get w.sent k ≡ Some e
+handle_cases : (top : TopologyValue) (w : Run) (x : RunEvent) (P : Run → Type 0) (k : ℕ) (e : Envelope) → x ≡ Deliver k → slice_get w.sent k ≡ Some e
     → is_shard top e.to ≡ true
     → TimedCases top w x P → P (after_shard (shard_handle top e.to (w.shards e.to) e) w x e.to)
 handle_cases top w x P k e is sent to c = go (ticked (w.shards e.to).clock e.time) refl
@@ -35,7 +35,7 @@ handle_cases top w x P k e is sent to c = go (ticked (w.shards e.to).clock e.tim
     go None ticks = c.nothing
     go (Some n) ticks = c.handled k e n is sent to ticks
 
-hear_cases : (top : TopologyValue) (w : Run) (x : Event) (P : Run → Type 0) (k : ℕ) (e : Envelope) → x ≡ Deliver k → slice_get w.sent k ≡ Some e
+hear_cases : (top : TopologyValue) (w : Run) (x : RunEvent) (P : Run → Type 0) (k : ℕ) (e : Envelope) → x ≡ Deliver k → slice_get w.sent k ≡ Some e
     → is_shard top e.to ≡ false
     → is_session top e.to ≡ true → TimedCases top w x P → P (after_session (session_handle top e.to (w.sessions e.to) e) w x e.to)
 hear_cases top w x P k e is sent other to c = go (ticked (w.sessions e.to).clock e.time) refl
@@ -86,13 +86,13 @@ collect_cases top w node time P c = by (is_shard top node)
     by true = go (ticked (w.shards node).clock (w.shards node).clock) refl
     by false = c.nothing
 
-pub timed_cases : (top : TopologyValue) (w : Run) (x : Event) (P : Run → Type 0) → TimedCases top w x P → P (step top w x)
+pub timed_cases : (top : TopologyValue) (w : Run) (x : RunEvent) (P : Run → Type 0) → TimedCases top w x P → P (step top w x)
 timed_cases top w (Submit node o) P c = submit_cases top w node o P c
 timed_cases top w (Deliver k) P c = message_cases top w k P c
 timed_cases top w (Collect node time) P c = collect_cases top w node time P c
 
 -- the same at any clock
-pub record Cases (top : TopologyValue) (w : Run) (x : Event) (P : Run → Type 0) : Type 0 where
+pub record Cases (top : TopologyValue) (w : Run) (x : RunEvent) (P : Run → Type 0) : Type 0 where
   pub nothing : P w
   pub handled : (k : ℕ) (e : Envelope) (n : ℕ) → x ≡ Deliver k → slice_get w.sent k ≡ Some e → is_shard top e.to ≡ true
       → P (after_shard (Ok (handled top e.to n (w.shards e.to) e.from e.body)) w x e.to)
@@ -102,7 +102,7 @@ pub record Cases (top : TopologyValue) (w : Run) (x : Event) (P : Run → Type 0
       → P (after_submission (Ok (begun top node n (w.sessions node) o)) w node o)
   pub collected : (node time n : ℕ) → x ≡ Collect node time → P (after_shard (Ok (collected n (w.shards node) time)) w x node)
 
-pub event_cases : (top : TopologyValue) (w : Run) (x : Event) (P : Run → Type 0) → Cases top w x P → P (step top w x)
+pub event_cases : (top : TopologyValue) (w : Run) (x : RunEvent) (P : Run → Type 0) → Cases top w x P → P (step top w x)
 event_cases top w x P c =
     timed_cases top w x P
     (record {

@@ -5,8 +5,8 @@ use Rattle.std.proofs.lemmas.Bool.Decides.{nat_tests}
 use Rattle.logical_time.specs.declared.fault.Fault.{Fault}
 use Rattle.messages.specs.declared.op.Op.{Op}
 use Rattle.messages.specs.declared.envelope.Envelope.{Envelope}
-use Rattle.messages.specs.declared.event.Event.{Event as ActorEvent}
-use Rattle.messages.specs.declared.event.Event.TheVariants.{Submit as SubmitHere, Handle, Collect as CollectHere}
+use Rattle.messages.specs.declared.event.ActorEvent.{ActorEvent}
+use Rattle.messages.specs.declared.event.ActorEvent.TheVariants.{Submit as SubmitHere, Handle, Collect as CollectHere}
 use Rattle.messages.specs.Topology.{TopologyValue, is_shard, is_session, node_count}
 use Rattle.messages.specs.Shard.{ShardStep}
 use Rattle.messages.specs.Session.{SessionStep}
@@ -14,7 +14,7 @@ use Rattle.messages.specs.ShardEvents.{shard_handle, shard_collect}
 use Rattle.messages.specs.SessionEvents.{session_handle, session_taken}
 use Rattle.messages.specs.Submitting.{session_submit}
 use Rattle.messages.specs.Actors.{ActorState, OfShard, OfSession, ActorStep, of_shard, of_session, actor_step}
-use Rattle.world.specs.Run.{Run, Submission, Completed, completed_of, with_ended, with_session, submission_by, Event, Submit, Deliver, Collect, after_shard, after_session, after_submission, submit_if, deliver_if, deliver_for, collect_if, step}
+use Rattle.world.specs.Run.{Run, Submission, Completed, completed_of, with_ended, with_session, submission_by, RunEvent, Submit, Deliver, Collect, after_shard, after_session, after_submission, submit_if, deliver_if, deliver_for, collect_if, step}
 use Rattle.world.specs.Journals.{actor_in, event_at}
 use Rattle.world.proofs.lists.Among.{Among, get_among}
 use Rattle.world.proofs.keeping.ShardSteps.{actor_same}
@@ -36,7 +36,7 @@ abbrev pub entry_of : List Submission → ℕ → ActorStep → Option Completed
 entry_of submitted n s = option_and_then (completed_of submitted n) s.finishes
 
 -- The event is a step of this actor: it alone changes, what it sends is added, and the entry of what it finishes.
-pub record Moves (top : TopologyValue) (w v : Run) (ev : Event) (n : ℕ) (x : ActorEvent) (s : ActorStep) : Type 0 where
+pub record Moves (top : TopologyValue) (w v : Run) (ev : RunEvent) (n : ℕ) (x : ActorEvent) (s : ActorStep) : Type 0 where
   pub actor : n < node_count top
   pub takes : actor_step top n (actor_in top w n) x ≡ Some s
   pub events : v.events ≡ w.events ++ ev ∷ []
@@ -65,7 +65,7 @@ counts_session top n lt e = grind (arith, nat_tests)
 
 -- ## What an accepted step does
 
-abbrev pub KnowsNumber : Run → Event → Type 0
+abbrev pub KnowsNumber : Run → RunEvent → Type 0
 KnowsNumber w ev = (k : ℕ) → ev ≡ Deliver k → (e : Envelope) × (slice_get w.sent k ≡ Some e)
 
 shard_in : (top : TopologyValue) (w : Run) (n : ℕ) → is_shard top n ≡ true → actor_in top w n ≡ OfShard (w.shards n)
@@ -81,7 +81,7 @@ shard_took st = record { state = OfShard st.state; sends = st.sends; finishes = 
 abbrev pub session_took : SessionStep → ActorStep
 session_took st = record { state = OfSession (session_taken st.state); sends = st.sends; finishes = st.state.untaken }
 
-shard_moves : (top : TopologyValue) (w : Run) (ev : Event) (n : ℕ) (x : ActorEvent) (st : ShardStep) → is_shard top n ≡ true
+shard_moves : (top : TopologyValue) (w : Run) (ev : RunEvent) (n : ℕ) (x : ActorEvent) (st : ShardStep) → is_shard top n ≡ true
     → actor_step top n (OfShard (w.shards n)) x ≡ Some (shard_took st)
     → ((m : ℕ) → event_at w m ev ≡ (if n == m then Some x else None)) → KnowsNumber w ev → ((e : Envelope) → x ≡ Handle e → (e.to ≡ n) × Among e w.sent)
     → SubmittedBy top w (after_shard (Ok st) w ev n) n (shard_took st) x → Moves top w (after_shard (Ok st) w ev n) ev n x (shard_took st)
@@ -100,7 +100,7 @@ shard_moves top w ev n x st is takes told known received submitted =
       completed = refl;
     }
 
-session_moves : (top : TopologyValue) (w : Run) (ev : Event) (n : ℕ) (x : ActorEvent) (st : SessionStep) (submitted : List Submission)
+session_moves : (top : TopologyValue) (w : Run) (ev : RunEvent) (n : ℕ) (x : ActorEvent) (st : SessionStep) (submitted : List Submission)
     → is_session top n ≡ true → actor_step top n (OfSession (w.sessions n)) x ≡ Some (session_took st)
     → ((m : ℕ) → event_at w m ev ≡ (if n == m then Some x else None)) → KnowsNumber w ev → ((e : Envelope) → x ≡ Handle e → (e.to ≡ n) × Among e w.sent)
     → SubmittedBy top w (with_session w ev n submitted st) n (session_took st) x → Moves top w (with_session w ev n submitted st) ev n x (session_took st)
@@ -167,7 +167,7 @@ collect_moves top w n time st is ok =
 
 -- ## Each event is nothing, or one actor's step
 
-abbrev pub IsMove : TopologyValue → Run → Event → Run → Type 0
+abbrev pub IsMove : TopologyValue → Run → RunEvent → Run → Type 0
 IsMove top w ev v = (v ≡ w) ⊎ ((n : ℕ) × (x : ActorEvent) × (s : ActorStep) × Moves top w v ev n x s)
 
 module _ (top : TopologyValue) (w : Run) where
@@ -209,7 +209,7 @@ module _ (top : TopologyValue) (w : Run) where
   collection_is false n time is = inl refl
   collection_is true n time is = collected_is n time (shard_collect (w.shards n) time) is refl
 
-  pub each_is_move : (ev : Event) → IsMove top w ev (step top w ev)
+  pub each_is_move : (ev : RunEvent) → IsMove top w ev (step top w ev)
   each_is_move (Submit n o) = submission_is (is_session top n) n o refl
   each_is_move (Deliver k) = message_is k (slice_get w.sent k) refl
   each_is_move (Collect n time) = collection_is (is_shard top n) n time refl

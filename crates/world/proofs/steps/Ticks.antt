@@ -16,8 +16,8 @@ use Rattle.messages.specs.Session.{SessionState, SessionStep}
 use Rattle.messages.specs.ShardEvents.{handled, collected}
 use Rattle.messages.specs.Submitting.{home_node, begin_of, prepare_of, share_of, check_of, begun, submit_fault, submit_if as submitted_if}
 use Rattle.messages.specs.SessionEvents.{read_at_of, heard, session_taken}
-use Rattle.messages.specs.declared.event.Event.{Event as ActorEvent}
-use Rattle.messages.specs.declared.event.Event.TheVariants.{Submit as SubmitHere, Handle, Collect as CollectHere}
+use Rattle.messages.specs.declared.event.ActorEvent.{ActorEvent}
+use Rattle.messages.specs.declared.event.ActorEvent.TheVariants.{Submit as SubmitHere, Handle, Collect as CollectHere}
 use Rattle.messages.specs.Actors.{ActorState, OfShard, OfSession, clock_of, ActorStep, of_shard, of_session, actor_step}
 use Rattle.world.specs.Journals.{Ticks, KeepsTime}
 use Rattle.world.proofs.lists.Among.{contains_among}

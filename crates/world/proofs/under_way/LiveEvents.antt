@@ -13,7 +13,7 @@ use Rattle.messages.specs.Session.{is_idle}
 use Rattle.messages.specs.Submitting.{begun, busy_or, plan_fault, submit_fault, submit_if as session_submit_if}
 use Rattle.messages.specs.SessionEvents.{heard, session_handle}
 use Rattle.messages.specs.ShardEvents.{handled, shard_handle, collected}
-use Rattle.world.specs.Run.{Run, Submission, Event, Submit, Deliver, Collect, opening, after_shard, after_session, after_submission, submit_if, deliver_if, deliver_for, collect_if, step, continued, run}
+use Rattle.world.specs.Run.{Run, Submission, RunEvent, Submit, Deliver, Collect, opening, after_shard, after_session, after_submission, submit_if, deliver_if, deliver_for, collect_if, step, continued, run}
 use Rattle.world.proofs.lists.Among.{Among, get_among}
 use Rattle.world.proofs.safety.Invariant.{Says, Inv}
 use Rattle.world.proofs.keeping.HandlesKept.{handle_kept}
@@ -160,7 +160,7 @@ module _ (top : TopologyValue) (ok : Stands top) (w : Run) (inv : Inv top w) (li
 
   -- ## Every event
 
-  pub step_live : (x : Event) → Live top (step top w x)
+  pub step_live : (x : RunEvent) → Live top (step top w x)
   step_live (Submit node o) = submit_go (is_session top node) node o
   step_live (Deliver k) = message_go k (slice_get w.sent k) refl
   step_live (Collect node time) = collect_go (is_shard top node) node time
@@ -202,12 +202,12 @@ opening_live top ok =
       ends = λ b m. absurd m;
     }
 
-continued_live : (top : TopologyValue) → Stands top → (events : List Event) (w : Run) → Inv top w → Live top w → Stations top w
+continued_live : (top : TopologyValue) → Stands top → (events : List RunEvent) (w : Run) → Inv top w → Live top w → Stations top w
     → Live top (continued top w events)
 continued_live top ok [] w inv live stations = live
 continued_live top ok (x ∷ xs) w inv live stations =
     continued_live top ok xs (step top w x) (step_kept top w x ok.some inv) (step_live top ok w inv live stations x) (step_stations top w stations x)
 
-pub run_live : (top : TopologyValue) (events : List Event) → is_topology top.dcs top.shards top.homes ≡ true → Live top (run top events)
+pub run_live : (top : TopologyValue) (events : List RunEvent) → is_topology top.dcs top.shards top.homes ≡ true → Live top (run top events)
 run_live top events e =
     let ok = stands top e in continued_live top ok events (opening top) (opening_holds top) (opening_live top ok) (opening_stations top)

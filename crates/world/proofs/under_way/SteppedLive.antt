@@ -9,7 +9,7 @@ use Rattle.messages.specs.Shard.{ShardState, ShardStep, WaitingRead}
 use Rattle.messages.specs.Session.{SessionState, SessionStep, is_idle}
 use Rattle.messages.specs.SessionEvents.{session_taken}
 use Rattle.shard.specs.Sound.{IsWithin}
-use Rattle.world.specs.Run.{Run, Event, Submission, with_actor, ended_by, after_shard, after_session}
+use Rattle.world.specs.Run.{Run, RunEvent, Submission, with_actor, ended_by, after_shard, after_session}
 use Rattle.world.specs.Quiet.{number_delivered, handled}
 use Rattle.world.proofs.lists.Among.{Among, among_append, append_first, append_second}
 use Rattle.world.proofs.steps.Transcripts.{old_stays, ended_is_last}
@@ -38,12 +38,12 @@ session_actor_on top f node b g m = go (m == node) refl
     go false e = same_session_on top (f m)
 
 -- what an event delivers is in the network before it, and it left in the run after it what it leaves
-abbrev pub Delivers : TopologyValue → Run → Run → Event → Type 0
+abbrev pub Delivers : TopologyValue → Run → Run → RunEvent → Type 0
 Delivers top w x ev =
     (j : ℕ) → number_delivered ev ≡ Some j → (e : Envelope) × (slice_get w.sent j ≡ Some e) × Acted top x e.from e.to (kind_of e.body)
 
 -- what was handled in the run after an event
-pub acted_after : (top : TopologyValue) (w x : Run) (ev : Event) (sends : List Envelope) → x.events ≡ w.events ++ ev ∷ [] → x.sent ≡ w.sent ++ sends
+pub acted_after : (top : TopologyValue) (w x : Run) (ev : RunEvent) (sends : List Envelope) → x.events ≡ w.events ++ ev ∷ [] → x.sent ≡ w.sent ++ sends
     → Onward top w x → Live top w → ((k : ℕ) → Among k (handled w) → k < length w.sent)
     → Delivers top w x ev → (k : ℕ) (e : Envelope) → Among k (handled x) → slice_get x.sent k ≡ Some e → Acted top x e.from e.to (kind_of e.body)
 acted_after top w x ev sends events sent g live below delivers k e m is =
@@ -62,7 +62,7 @@ still_so e k = record { number = k.number ∙ ap (λ a. a.count) (sym e); curren
 
 -- ## A shard's step
 
-module _ (top : TopologyValue) (w : Run) (node from : ℕ) (kind : Kind) (st : ShardStep) (ev : Event) (on : IsWithin (w.shards node) st.state)
+module _ (top : TopologyValue) (w : Run) (node from : ℕ) (kind : Kind) (st : ShardStep) (ev : RunEvent) (on : IsWithin (w.shards node) st.state)
     (ws : WaitStep node (w.shards node) st.state st.sends from kind) where
   abbrev x : Run
   x = after_shard (Ok st) w ev node
@@ -128,7 +128,7 @@ module _ (top : TopologyValue) (w : Run) (node from : ℕ) (kind : Kind) (st : S
 
 -- ## A session's step at a message
 
-module _ (top : TopologyValue) (w : Run) (node : ℕ) (st : SessionStep) (ev : Event) where
+module _ (top : TopologyValue) (w : Run) (node : ℕ) (st : SessionStep) (ev : RunEvent) where
   abbrev xs : Run
   xs = after_session (Ok st) w ev node
 

@@ -9,7 +9,7 @@ use Rattle.messages.specs.declared.envelope.Envelope.{Envelope}
 use Rattle.messages.specs.Words.{envelope}
 use Rattle.shard.proofs.lists.Lists.{no_truth}
 use Rattle.shard.proofs.worked.Closed.{below, not_more, at}
-use Rattle.world.specs.Run.{Event, Deliver, run}
+use Rattle.world.specs.Run.{RunEvent, Deliver, run}
 use Rattle.world.specs.Histories.{history_of}
 use Rattle.world.specs.Fresh.{IsKept, WasApplied}
 use Rattle.world.specs.Promises.{IsAnswered}
@@ -21,7 +21,7 @@ use Rattle.world.proofs.worked.RefutedReads.{back, back_answered, of_nothing, no
 
 -- ## As new, and no newer
 
-abbrev before_reading : List Event
+abbrev before_reading : List RunEvent
 before_reading = write 1 (insert key_b name_x 1 ∷ []) ∷ deliver (0 ∷ 1 ∷ []) ++ read 1 (key_b ∷ []) (name_x ∷ []) ∷ []
 
 abbrev told_back : Envelope
@@ -74,7 +74,7 @@ newer all =
 
 -- ## Where it asked
 
-abbrev before_asking : List Event
+abbrev before_asking : List RunEvent
 before_asking =
     write 2 (insert key_b name_y 1 ∷ insert key_d name_x 2 ∷ []) ∷ deliver (0 ∷ 1 ∷ []) ++ read 3 (key_b ∷ []) (name_x ∷ []) ∷ []
 

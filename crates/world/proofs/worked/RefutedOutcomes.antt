@@ -11,7 +11,7 @@ use Rattle.messages.specs.Actors.{outcomes_by}
 use Rattle.messages.specs.Session.{Finished}
 use Rattle.shard.proofs.lists.Lists.{no_truth}
 use Rattle.shard.proofs.worked.Closed.{below, not_above, are_equal, differ, at, none}
-use Rattle.world.specs.Run.{Event, Submission, Completed, run}
+use Rattle.world.specs.Run.{RunEvent, Submission, Completed, run}
 use Rattle.world.specs.Journals.{journal_in}
 use Rattle.world.specs.Histories.{history_of}
 use Rattle.world.specs.Worked.{delete, one_shard, three_at_home, submitted_twice, deletion_is_read, column, row, wrote, insert, key_a, key_b, name_x, two_centres, insert_and_read_back, only_submitted, second_round_collected, read_beside_a_write, concurrent_inserts_meet}
@@ -120,4 +120,4 @@ next_number all =
     none (λ e. e.number == 3) insert_and_read_back.transcript c refl r.1 (are_equal c.number 3 r.3)
 
 pub refused_events : ¬ (RunsKeepAllEvents one_shard submitted_twice)
-refused_events all = differ (λ (xs : List Event). length xs) (run one_shard submitted_twice).events submitted_twice refl all
+refused_events all = differ (λ (xs : List RunEvent). length xs) (run one_shard submitted_twice).events submitted_twice refl all

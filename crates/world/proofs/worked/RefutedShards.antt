@@ -10,7 +10,7 @@ use Rattle.messages.specs.declared.op.Op.TheVariants as op
 use Rattle.messages.specs.declared.outcome.Outcome.TheVariants as outcome
 use Rattle.messages.specs.Shard.{new_shard}
 use Rattle.messages.specs.Honest.{ToldCommit, all_told}
-use Rattle.messages.specs.declared.event.Event.TheVariants.{Handle}
+use Rattle.messages.specs.declared.event.ActorEvent.TheVariants.{Handle}
 use Rattle.shard.specs.Events.{shard_run}
 use Rattle.shard.proofs.lists.Lists.{no_truth}
 use Rattle.shard.proofs.worked.Closed.{below, differ, at, no_more}

@@ -7,13 +7,13 @@ use Rattle.store.specs.declared.part.Applied.{Applied}
 use Rattle.messages.specs.declared.rows_now.RowNow.{RowNow}
 use Rattle.messages.specs.declared.body.Body.TheVariants.{PartNow}
 use Rattle.messages.specs.declared.envelope.Envelope.{Envelope}
-use Rattle.world.specs.Run.{Event, Deliver, run}
+use Rattle.world.specs.Run.{RunEvent, Deliver, run}
 use Rattle.world.specs.Fresh.{IsKept, WasApplied}
 use Rattle.world.specs.Worked.{operation, column, insert, write, read, family_f, key_b, name_x, one_shard, insert_and_read_back}
 use Rattle.shard.proofs.worked.Closed.{at}
 
 -- the column was inserted, and is then read
-abbrev asked : List Event
+abbrev asked : List RunEvent
 asked = write 1 (insert key_b name_x 1 ∷ []) ∷ Deliver 0 ∷ Deliver 1 ∷ read 1 (key_b ∷ []) (name_x ∷ []) ∷ []
 
 abbrev shown : RowNow

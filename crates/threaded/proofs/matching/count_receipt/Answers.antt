@@ -1,6 +1,6 @@
 use Rattle.std.proofs.Common.{◌∙◌, length, Some, inl, inr, ap, arith}
 use Rattle.std.proofs.lemmas.Option.{get_or_from_slice_get}
-use Rattle.messages.specs.declared.event.Event.TheVariants.{Handle}
+use Rattle.messages.specs.declared.event.ActorEvent.TheVariants.{Handle}
 use Rattle.messages.specs.Actors.{envelope_of}
 use Rattle.world.proofs.lists.Replacing.{item_at}
 use Rattle.threaded.proofs.Counting.{count_within, own_counted, counted_then}

@@ -1,6 +1,6 @@
 use Rattle.std.proofs.Common.{refl}
 use Rattle.world.specs.declared.run_event.RunEvent.TheVariants.{Submit}
-use Rattle.workload.specs.declared.script.Event.TheVariants as script
+use Rattle.workload.specs.declared.script.ScriptEvent.TheVariants as script
 use Rattle.workload.proofs.Plays.{taken_plays}
 use Rattle.tracing.proofs.Tracings.{refusal_told}
 use Rattle.tracing.proofs.playing.submit.Goals as goal

@@ -1,6 +1,6 @@
 use Rattle.std.proofs.Common.{◌≡◌, ◌-◌, ◌++◌, ◌≤◌, not, List, length, sym, subst, arith, rules}
 use Rattle.world.specs.World.{run_of}
-use Rattle.workload.specs.declared.script.Event.{Event as ScriptEvent}
+use Rattle.workload.specs.declared.script.ScriptEvent.{ScriptEvent}
 use Rattle.workload.specs.HasTold.{HasNoted}
 use Rattle.workload.proofs.Since.{ArePlaying, none_playing, more_playing, all_played}
 use Rattle.workload.proofs.along.play_along.Goals as goal

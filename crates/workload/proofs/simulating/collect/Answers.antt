@@ -1,7 +1,7 @@
 use Rattle.std.proofs.Common.{refl}
 use Rattle.std.proofs.lemmas.Result.{on_ok_weaker}
 use Rattle.world.specs.declared.run_event.RunEvent.TheVariants.{Collect}
-use Rattle.workload.specs.declared.script.Event.TheVariants as script
+use Rattle.workload.specs.declared.script.ScriptEvent.TheVariants as script
 use Rattle.workload.proofs.Plays.{taken_plays}
 use Rattle.workload.proofs.simulating.collect.Goals as goal
 

@@ -1,6 +1,6 @@
 use Rattle.std.proofs.Common.{refl}
 use Rattle.world.specs.declared.run_event.RunEvent.TheVariants.{Submit}
-use Rattle.workload.specs.declared.script.Event.TheVariants as script
+use Rattle.workload.specs.declared.script.ScriptEvent.TheVariants as script
 use Rattle.workload.proofs.Plays.{taken_plays}
 use Rattle.workload.proofs.Noted.{refusal_told}
 use Rattle.workload.proofs.simulating.submit.Goals as goal

@@ -2,7 +2,7 @@ use Rattle.std.proofs.Common.{◌≡◌, ◌∙◌, ◌++◌, ◌∷◌, ℕ, �
 use Rattle.std.specs.Prelude.{min, slice_get, option_to_list}
 use Rattle.std.proofs.lemmas.Grind.{common_steps}
 use Rattle.messages.specs.declared.envelope.Envelope.{Envelope}
-use Rattle.messages.specs.declared.event.Event.{Event}
+use Rattle.messages.specs.declared.event.ActorEvent.{ActorEvent}
 use Rattle.actors.specs.Journals.{followed_by}
 use Rattle.actors.specs.Shown.{clock_with}
 use Rattle.actors.proofs.Recording.{recorded_more, followed_twice, all_in_first}
@@ -27,7 +27,7 @@ returns-clause-recorded g c = λ top node before was.
     (subst (λ (sends : ℕ → List Envelope). g.M.Machine.came_from top node (old.journal.items ++ c.args.event ∷ []) sends (old.outcomes.items ++ option_to_list (g.M.Machine.untaken c.step.new.self)) c.take_answer-outcome.new.self)
     (followed_twice before made.outbox.sent fresh) answered)
     c.take_answer-outcome.ensures.taken (search rules) (search rules) (c.in-Ok-step.ensures.number top node _ _ _ start) (search rules) (ap (λ es. es ++ fresh) whole)
-    (λ k is. c.clock_with-self.ensures.value k (same.3 ∙ is) ∙ ap (λ (x : Event). min (clock_with k x) (2 ^ 48)) c.in-Ok.ensures.copy)
+    (λ k is. c.clock_with-self.ensures.value k (same.3 ∙ is) ∙ ap (λ (x : ActorEvent). min (clock_with k x) (2 ^ 48)) c.in-Ok.ensures.copy)
     (search rules) (subst (λ (es : List Envelope). (e : Envelope) → slice_get es 0 ≡ Some e → e.time < 2 ^ 48) c.as_slice.ensures c.are_at-on_time.ensures.below)
 
 pub returns-clause-fault : goal.returns-clause-fault

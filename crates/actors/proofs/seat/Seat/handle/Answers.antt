@@ -1,6 +1,6 @@
 use Rattle.std.proofs.Common.{◌≡◌, Some, refl, rules}
 use Rattle.actors.specs.Seats.{through}
-use Rattle.messages.specs.declared.event.Event.TheVariants.{Handle}
+use Rattle.messages.specs.declared.event.ActorEvent.TheVariants.{Handle}
 use Rattle.actors.proofs.Seating.{kept_handled, kept_same}
 use Rattle.actors.proofs.Refusing.{refusal_of, held_refused}
 use Rattle.actors.proofs.seat.Seat.handle.Goals as goal

@@ -2,7 +2,7 @@ use Rattle.std.proofs.Common.{◌≡◌, ◌∙◌, ◌<◌, ◌∷◌, ◌++◌
 use Rattle.std.specs.Prelude.{All}
 use Rattle.std.proofs.lemmas.Grind.{common_steps}
 use Rattle.logical_time.specs.declared.fault.Fault.{Fault}
-use Rattle.messages.specs.declared.event.Event.{Event}
+use Rattle.messages.specs.declared.event.ActorEvent.{ActorEvent}
 use Rattle.actors.specs.Journals.{IsOwn}
 use Rattle.actors.specs.Turns.{IsOfRequest}
 use Rattle.actors.proofs.Refusing.{refusal_of, kept_back, taken_off}
@@ -43,7 +43,7 @@ invariant_of-self-then-not-is_of_request g c =
     let back : s.backlog.items ≡ c.push_front_reserved.new.self.items = search rules in
     kept_same g.M.Machine.came_from g.M.Machine.untaken s.recorded.machine c.happen.new.self.machine _ _ inv
     (c.in-Err.ensures.refused s.topology s.node (through s.outgoing) inv.recorded) c.in-Err.ensures.same.0 refl refl refl
-    (subst (λ (es : List Event). All IsOwn es) back inv.own) refl
+    (subst (λ (es : List ActorEvent). All IsOwn es) back inv.own) refl
 
 pub invariant_of-self-in-Err-reserve : goal.invariant_of-self-in-Err-reserve
 invariant_of-self-in-Err-reserve g c =
@@ -52,7 +52,7 @@ invariant_of-self-in-Err-reserve g c =
     let back : s.backlog.items ≡ c.push_front_reserved-in-Err-reserve.new.self.items = search rules in
     kept_same g.M.Machine.came_from g.M.Machine.untaken s.recorded.machine c.happen.new.self.machine _ _ inv
     (c.in-Err-2.ensures.refused s.topology s.node (through s.outgoing) inv.recorded) c.in-Err-2.ensures.same.0 refl refl refl
-    (subst (λ (es : List Event). All IsOwn es) back inv.own) refl
+    (subst (λ (es : List ActorEvent). All IsOwn es) back inv.own) refl
 
 pub returns-in-Err-clause-refused : goal.returns-in-Err-clause-refused
 returns-in-Err-clause-refused g c =

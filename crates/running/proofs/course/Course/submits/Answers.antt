@@ -1,5 +1,5 @@
 use Rattle.std.proofs.Common.{◌≡◌, ◌∷◌, [], refl}
-use Rattle.messages.specs.declared.event.Event.TheVariants as event
+use Rattle.messages.specs.declared.event.ActorEvent.TheVariants as event
 use Rattle.actors.specs.Journals.{submissions}
 use Rattle.running.proofs.Exact.{own_came, own_differs}
 use Rattle.running.proofs.course.Course.submits.Goals as goal
