@@ -1,5 +1,5 @@
 -- The steps of many sessions, as moments of their world.
-use Rattle.std.proofs.Common.{◌≡◌, ◌∙◌, ◌&&◌, true, ℕ, zero, suc, ◌<◌, ◌≤◌, List, [], ◌∷◌, Option, Result, Ok, Err, IfOk, refl, ap, sym, subst, length, ◌⊎◌, inl, inr, arith}
+use Rattle.std.proofs.Common.{◌≡◌, ◌∙◌, ◌&&◌, true, ℕ, zero, suc, ◌<◌, ◌≤◌, List, [], ◌∷◌, ◌++◌, Option, Result, Ok, Err, IfOk, refl, ap, sym, subst, length, ◌⊎◌, inl, inr, arith}
 use Rattle.std.specs.Prelude.{nat_le, nat_lt}
 use Rattle.std.specs.List.{list_all}
 use Rattle.std.proofs.lemmas.Bool.{and_parts}
@@ -14,13 +14,16 @@ use Rattle.readiness.specs.Lines.{ReadyValue}
 use Rattle.readiness.specs.Exchanges.{Entry, LogChain}
 use Rattle.readiness.specs.Places.{Turns}
 use Rattle.readiness.specs.Runs.{RanFor}
+use Rattle.readiness.proofs.Positions.{log-then}
 use Rattle.world.specs.declared.run_event.RunEvent.{RunEvent}
-use Rattle.world.specs.Run.{run}
+use Rattle.world.specs.Run.{Run as WorldRun, run}
 use Rattle.world.specs.Journals.{IsBeginning}
-use Rattle.world.specs.World.{WorldValue}
+use Rattle.world.specs.World.{WorldValue, run_of}
+use Rattle.world.proofs.envelopes.Addresses.{stands}
 use Rattle.service.specs.declared.sessions.WorldSessions.{WorldSessions}
 use Rattle.service.specs.Port.{Asks}
-use Rattle.service.specs.Sessions.{IsSessionStep, SessionReplies}
+use Rattle.service.specs.Meaning.{Replies}
+use Rattle.service.specs.Sessions.{IsSessionStep, SessionReplies, AreAnswered}
 use Rattle.service.proofs.Meant.{begins_so, begins_at, answer_begins, answer_means}
 
 below : (a b : ℕ) → (a < b) ⊎ (b ≤ a)
@@ -93,6 +96,54 @@ log_means p log q some c =
     subst (λ (z : TopologyValue). LogChain (SessionReplies p.world.now.top (run z q.world.now.events)) p.world.now.events log q.world.now.events) (sym (log_same p log q c).topology)
     (log_until p.world.now.top some q.world.now.events p log q refl c (begins_at q.world.now.events))
 
+-- ## What was answered stays answered
+
+replies_ask : (top : TopologyValue) (session : ℕ) (w : WorldRun) (before : List RunEvent) (o : Op) (a : Reply) (after : List RunEvent) → Replies top session w before o a after → Asks top session before o a after
+replies_ask top session w before o (Ok result) after r = r.answered
+replies_ask top session w before o (Err f) after r = r
+
+module _ (top : TopologyValue) (w : WorldRun) where
+  replied_begins : (place : ℕ) (before : List RunEvent) (o : Op) (a : Reply) (after : List RunEvent) → SessionReplies top w place before o a after → IsBeginning before after
+  replied_begins place before o a after s =
+      elim (below place (length top.homes)) [
+        | inl lt ↦ answer_begins top (session_node top place) before o a after (replies_ask top (session_node top place) w before o a after (s.replies lt))
+        | inr le ↦ subst (λ (z : List RunEvent). IsBeginning before z) (sym (s.otherwise le).1) (begins_at before)
+      ]
+
+  answered_begins : (p : List RunEvent) (log : List Entry) (q : List RunEvent) → LogChain (SessionReplies top w) p log q → IsBeginning p q
+  answered_begins p [] q c = subst (λ (z : List RunEvent). IsBeginning p z) c (begins_at p)
+  answered_begins p (e ∷ log) q c = begins_so p c.0 q (replied_begins e.place p e.exchange.asked e.exchange.told c.0 c.1) (answered_begins c.0 log q c.2)
+
+  module _ (some : 0 < top.shards) (left : List RunEvent) where
+    replied_later : (place : ℕ) (before : List RunEvent) (o : Op) (a : Reply) (after : List RunEvent) → SessionReplies top w place before o a after → IsBeginning after left
+        → SessionReplies top (run top left) place before o a after
+    replied_later place before o a after s begins = record {
+      replies = λ lt. answer_means top (session_node top place) some before o a after left (replies_ask top (session_node top place) w before o a after (s.replies lt)) begins;
+      otherwise = s.otherwise;
+    }
+
+    answered_later : (p : List RunEvent) (log : List Entry) (q : List RunEvent) → LogChain (SessionReplies top w) p log q → IsBeginning q left → LogChain (SessionReplies top (run top left)) p log q
+    answered_later p [] q c begins = c
+    answered_later p (e ∷ log) q c begins = (
+      c.0,
+      replied_later e.place p e.exchange.asked e.exchange.told c.0 c.1 (begins_so c.0 q left (answered_begins c.0 log q c.2) begins),
+      answered_later c.0 log q c.2 begins,
+    )
+
+-- nothing happened
+pub answered_none : (a : WorldValue) → AreAnswered a a
+answered_none a = ([], refl)
+
+-- and then more is answered
+pub answered_then : (a b c : WorldValue) → is_topology a.top.dcs a.top.shards a.top.homes ≡ true → b.top ≡ a.top → c.top ≡ a.top → AreAnswered a b → AreAnswered b c → AreAnswered a c
+answered_then a b c limits t u h k =
+    let some = (stands a.top limits).some in
+    let next : LogChain (SessionReplies a.top (run_of c)) b.events k.0 c.events = subst (λ (z : TopologyValue). LogChain (SessionReplies z (run_of c)) b.events k.0 c.events) t k.1 in
+    let first : LogChain (SessionReplies a.top (run a.top c.events)) a.events h.0 b.events =
+    answered_later a.top (run_of b) some c.events a.events h.0 b.events h.1 (answered_begins a.top (run_of c) b.events k.0 c.events next) in
+    let then : LogChain (SessionReplies a.top (run_of c)) a.events h.0 b.events = subst (λ (z : TopologyValue). LogChain (SessionReplies a.top (run z c.events)) a.events h.0 b.events) (sym u) first in
+    (h.0 ++ k.0, log-then (SessionReplies a.top (run_of c)) a.events h.0 b.events k.0 c.events then next)
+
 -- ## Turns and runs
 
 pub turns_mean : {L : Type 0} (seen : L → ReadyValue) (x y : List (Option (Connection L))) (p q : WorldSessions) → 0 < p.world.now.top.shards → ((log : List Entry) × Turns seen IsSessionStep log x p y q)
@@ -105,6 +156,10 @@ turns_same seen x y p q h = log_same p h.0 q h.1.chain
 run_means : {L : Type 0} (seen : L → ReadyValue) (lines : List L) (gone : List (Gone L)) (places : List (Option (Connection L))) (p q : WorldSessions) → 0 < p.world.now.top.shards → RanFor seen IsSessionStep lines gone p places q
     → RanFor seen (SessionReplies p.world.now.top (run q.world.now.top q.world.now.events)) lines gone p.world.now.events places q.world.now.events
 run_means seen lines gone places p q some h = (h.0, h.1, h.2, record { chain = log_means p h.2 q some h.3.chain; lives = h.3.lives })
+
+-- all that the port was asked is answered
+pub chain_means : (p q : WorldSessions) → 0 < p.world.now.top.shards → ((log : List Entry) × LogChain IsSessionStep p log q) → AreAnswered p.world.now q.world.now
+chain_means p q some h = (h.0, log_means p h.0 q some h.1)
 
 pub chain_same : (p q : WorldSessions) → ((log : List Entry) × LogChain IsSessionStep p log q) → IsSameWorld p q
 chain_same p q h = log_same p h.0 q h.1

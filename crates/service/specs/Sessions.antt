@@ -4,8 +4,10 @@ use Rattle.logical_time.specs.declared.fault.Fault.TheVariants.{Busy}
 use Rattle.messages.specs.declared.op.Op.{Op}
 use Rattle.messages.specs.Topology.{TopologyValue, session_node}
 use Rattle.wire.specs.Replies.{Reply}
+use Rattle.readiness.specs.Exchanges.{Entry, LogChain}
 use Rattle.world.specs.declared.run_event.RunEvent.{RunEvent}
 use Rattle.world.specs.Run.{Run}
+use Rattle.world.specs.World.{WorldValue, run_of}
 use Rattle.service.specs.declared.sessions.WorldSessions.{WorldSessions}
 use Rattle.service.specs.Port.{Asks}
 use Rattle.service.specs.Meaning.{Replies}
@@ -22,3 +24,8 @@ pub record IsSessionStep (place : ℕ) (old : WorldSessions) (op : Op) (answer :
 pub record SessionReplies (top : TopologyValue) (left : Run) (place : ℕ) (before : List RunEvent) (op : Op) (answer : Reply) (after : List RunEvent) : Type 0 where
   pub replies : place < length top.homes → Replies top (session_node top place) left before op answer after
   pub otherwise : length top.homes ≤ place → (answer ≡ Err Busy) × (after ≡ before)
+
+-- All that happened between two worlds is requests of the connections at places, one after the other, each answered by its
+-- session, and each outcome has its meaning in the later world.
+abbrev pub AreAnswered : WorldValue → WorldValue → Type 0
+AreAnswered old new = (log : List Entry) × LogChain (SessionReplies old.top (run_of new)) old.events log new.events

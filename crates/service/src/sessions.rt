@@ -5,7 +5,7 @@ ghost use Rattle.readiness.specs.Places.{Turns, Rests, AreBounded};
 ghost use Rattle.readiness.specs.Runs.{RanFor, arrivals};
 ghost use Rattle.readiness.specs.declared.connection.TheConstants.{LIMIT};
 ghost use Rattle.world.specs.World.{run_of};
-ghost use Rattle.service.specs.Sessions.{IsSessionStep, SessionReplies};
+ghost use Rattle.service.specs.Sessions.{IsSessionStep, SessionReplies, AreAnswered};
 
 use crate::asking::ask;
 use logical_time::Fault;
@@ -62,6 +62,7 @@ impl<'w> WorldSessions<'w> {
         requires { 0 < length buffer.old }
         ensures same_world { self.new.world.ghost_name ≡ self.old.world.ghost_name }
         ensures topology { self.new.world.now.top ≡ self.old.world.now.top }
+        ensures answered { AreAnswered self.old.world.now self.new.world.now }
         ensures ran { IfOk result (λ run. RanFor L.seen (SessionReplies self.old.world.now.top (run_of self.new.world.now)) (arrivals acts.items) run.gone.items self.old.world.now.events run.places.places.items self.new.world.now.events) }
         ensures bounded { IfOk result (λ run. AreBounded LIMIT L.seen run.places.places.items) }
     {
@@ -117,6 +118,8 @@ pub fn run_sessions<L: ReadyLine + Drop>(
     buffer: &mut [u8],
 ) -> Result<Run<L>, AllocError>
     requires { 0 < length buffer.old }
+    // all that happened to the world is requests that were answered; also where memory was refused for the run itself
+    ensures answered { AreAnswered world.old world.new }
     // at each place the lines that were given it account for all that its session was asked, and each outcome means its request
     // in the world left behind
     ensures ran { IfOk result (λ run. RanFor L.seen (SessionReplies world.old.top (run_of world.new)) (arrivals acts.items) run.gone.items world.old.events run.places.places.items world.new.events) }
