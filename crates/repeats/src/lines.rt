@@ -8,27 +8,27 @@ use std::alloc::Global;
 use world::World;
 
 /// A batch that inserts column x with value 1 into row b.
-const BATCH: &[u8] =
+pub(crate) const BATCH: &[u8] =
     b"\x00\x00\x00\x13\x01\x00\x00\x00\x01\x01f\x00\x01b\x00\x00\x01x\x00\x00\x00\x011";
 
 /// A read of that column.
-const QUERY: &[u8] =
+pub(crate) const QUERY: &[u8] =
     b"\x00\x00\x00\x12\x02\x01f\x00\x00\x00\x01\x00\x01b\x00\x00\x00\x00\x01\x00\x01x";
 
 /// The reply to the batch: commit 2, stamp 2.0.
-const WROTE: &[u8] =
+pub(crate) const WROTE: &[u8] =
     b"\x00\x00\x00\x13\x81\x00\x00\x00\x00\x00\x00\x00\x02\x00\x00\x00\x00\x00\x00\x00\x02\x00\x00";
 
 /// The reply to the read after it: effective time 2, row b with the column.
-const READ: &[u8] =
+pub(crate) const READ: &[u8] =
     b"\x00\x00\x00\x1c\x82\x00\x00\x00\x00\x00\x00\x00\x02\x00\x00\x00\x01\x00\x01b\x00\x00\x00\x01\x00\x01x\x00\x00\x00\x011";
 
 /// The reply to the read where the batch was refused: effective time 0, row b without a column.
-const EMPTY: &[u8] =
+pub(crate) const EMPTY: &[u8] =
     b"\x00\x00\x00\x14\x82\x00\x00\x00\x00\x00\x00\x00\x00\x00\x00\x00\x01\x00\x01b\x00\x00\x00\x00";
 
 /// The reply that refuses with 23.
-const MEMORY: &[u8] = b"\x00\x00\x00\x03\x84\x00\x17";
+pub(crate) const MEMORY: &[u8] = b"\x00\x00\x00\x03\x84\x00\x17";
 
 /// How many bytes a call of the line gives or takes at most.
 const STEPS: [usize; 3] = [1, 7, 4096];
@@ -94,7 +94,7 @@ fn requests(alloc: Global) -> Result<Vec<u8>, Fault> {
     Ok(requests)
 }
 
-fn copy_of(alloc: Global, bytes: &[u8]) -> Result<Vec<u8>, Fault> {
+pub(crate) fn copy_of(alloc: Global, bytes: &[u8]) -> Result<Vec<u8>, Fault> {
     Ok(Vec::from_slice(alloc, bytes)?)
 }
 

@@ -22,6 +22,7 @@ mod building;
 mod lines;
 mod seats;
 mod showing;
+mod together;
 mod worlds;
 
 use logical_time::Fault;
@@ -29,5 +30,6 @@ use logical_time::Fault;
 fn main(rt: HostRuntime) -> Result<(), Fault> {
     worlds::tell(&rt)?;
     seats::tell(&rt)?;
-    lines::tell(&rt)
+    lines::tell(&rt)?;
+    together::tell(&rt)
 }
