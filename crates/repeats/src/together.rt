@@ -12,7 +12,8 @@ use world::World;
 /// How many calls of a line are told what to do, at most.
 const CALLS: usize = 9;
 
-/// The calls of the line with the batch: it is read in two pieces, and its reply is written in two, at first with no room for it.
+/// The calls of the line with the batch: it is read in two pieces, and its reply is written in two, at first with no
+/// room for it.
 const WRITER: [Call; CALLS] = [
     Call::Bytes(9),
     Call::Nothing,
@@ -133,7 +134,8 @@ fn line(
     Ok(MemoryLine::new(alloc, input, calls))
 }
 
-/// The lines arrive, and each has turns until it is over. The last arrives when the first has left, and is given its place.
+/// The lines arrive, and each has turns until it is over. The last arrives when the first has left, and is given its
+/// place.
 fn acts(alloc: Global, failing: Failing) -> Result<Vec<Act<MemoryLine>>, Fault> {
     let fails = |line: usize| (failing.line == line).then_some(failing.call);
     let mut acts = Vec::new(alloc);

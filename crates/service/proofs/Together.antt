@@ -1,9 +1,5 @@
 -- The steps of many sessions, as moments of their world.
-use Rattle.std.proofs.Common.{◌≡◌, ◌∙◌, ◌&&◌, true, ℕ, zero, suc, ◌<◌, ◌≤◌, List, [], ◌∷◌, ◌++◌, Option, Result, Ok, Err, IfOk, refl, ap, sym, subst, length, ◌⊎◌, inl, inr, arith}
-use Rattle.std.specs.Prelude.{nat_le, nat_lt}
-use Rattle.std.specs.List.{list_all}
-use Rattle.std.proofs.lemmas.Bool.{and_parts}
-use Rattle.std.proofs.lemmas.Bool.Decides.{nat_tests}
+use Rattle.std.proofs.Common.{◌≡◌, ◌∙◌, true, ℕ, zero, suc, ◌<◌, ◌≤◌, List, [], ◌∷◌, ◌++◌, Option, Result, Ok, Err, IfOk, refl, ap, sym, subst, length, ◌⊎◌, inl, inr, arith}
 use Rattle.messages.specs.declared.op.Op.{Op}
 use Rattle.messages.specs.Topology.{TopologyValue, is_topology, session_node}
 use Rattle.wire.specs.Replies.{Reply}
@@ -35,14 +31,6 @@ below (suc a) (suc b) =
       | inl h ↦ inl (omega arith)
       | inr h ↦ inr (omega arith)
     ]
-
--- there are few sessions
-pub few_sessions : (top : TopologyValue) → is_topology top.dcs top.shards top.homes ≡ true → length top.homes ≤ 16
-few_sessions top e =
-    let p = and_parts (nat_le 1 top.dcs && nat_le top.dcs 4 && nat_le 1 top.shards && nat_le top.shards 8 && nat_le 1 (length top.homes) && nat_le (length top.homes) 16) (list_all (λ d. nat_lt d top.dcs) top.homes) e in
-    let a = and_parts (nat_le 1 top.dcs && nat_le top.dcs 4 && nat_le 1 top.shards && nat_le top.shards 8 && nat_le 1 (length top.homes)) (nat_le (length top.homes) 16) p.0 in
-    let le = a.1 in
-    grind (arith, nat_tests)
 
 -- the port is of the same world
 pub record IsSameWorld (p q : WorldSessions) : Type 0 where

@@ -1,4 +1,4 @@
--- The sessions of a world, as what the connections at places ask: the connection at a place asks as the session of that index.
+-- The sessions of a world, as what the connections at places ask: each asks as the session of its place's index.
 use Rattle.std.specs.Prelude.{◌≡◌, ℕ, ◌<◌, ◌≤◌, List, length, Err}
 use Rattle.logical_time.specs.declared.fault.Fault.TheVariants.{Busy}
 use Rattle.messages.specs.declared.op.Op.{Op}
@@ -19,13 +19,13 @@ pub record IsSessionStep (place : ℕ) (old : WorldSessions) (op : Op) (answer :
   pub asks : place < length old.world.now.top.homes → Asks old.world.now.top (session_node old.world.now.top place) old.world.now.events op answer new.world.now.events
   pub otherwise : length old.world.now.top.homes ≤ place → (answer ≡ Err Busy) × (new.world.now ≡ old.world.now)
 
--- A step of the connection at a place, where `left` is the run after all of them: its session's request is answered, and an
--- outcome has its meaning in `left`; at a place past the last session it is refused.
+-- A step of the connection at a place, where `left` is the run after all of them: its session's request is answered,
+-- and an outcome has its meaning in `left`; at a place past the last session it is refused.
 pub record SessionReplies (top : TopologyValue) (left : Run) (place : ℕ) (before : List RunEvent) (op : Op) (answer : Reply) (after : List RunEvent) : Type 0 where
   pub replies : place < length top.homes → Replies top (session_node top place) left before op answer after
   pub otherwise : length top.homes ≤ place → (answer ≡ Err Busy) × (after ≡ before)
 
--- All that happened between two worlds is requests of the connections at places, one after the other, each answered by its
--- session, and each outcome has its meaning in the later world.
+-- All that happened between two worlds is requests of the connections at places, one after the other, each answered by
+-- its session, and each outcome has its meaning in the later world.
 abbrev pub AreAnswered : WorldValue → WorldValue → Type 0
 AreAnswered old new = (log : List Entry) × LogChain (SessionReplies old.top (run_of new)) old.events log new.events

@@ -14,8 +14,9 @@ use readiness::{Act, Places, ReadyLine, Run, SharedPort, run_all, turns};
 use std::alloc::{AllocError, Global};
 use world::World;
 
-/// The sessions of a world, as the port of many connections: the connection at a place asks as the session of that index. So
-/// the next connection at a place goes on with what that session did before.
+/// The sessions of a world, as the port of many connections: the connection at a place asks as the session of that
+/// index. So the next connection at a place goes on with what that session did before. At a place past the last session
+/// each request is refused with `Busy`.
 #[derive(Drop)]
 pub struct WorldSessions<'w> {
     world: &'w mut World,
@@ -75,7 +76,7 @@ impl<'w> WorldSessions<'w> {
 impl SharedPort for WorldSessions<'_> {
     ghost steps = { IsSessionStep };
 
-    #[tactic(auto, using(crate::proofs::Homes::session_here, crate::proofs::Together::few_sessions))]
+    #[tactic(auto, using(crate::proofs::Homes::session_here))]
     fn ask(&mut self, place: usize, op: Op) -> Result<Outcome, Fault> {
         let topology = self.world.topology();
         let sessions = topology.homes().len();
@@ -87,8 +88,10 @@ impl SharedPort for WorldSessions<'_> {
     }
 }
 
-/// A turn for the connection at each of these places, whose requests the world's sessions of these indices answer. What is put
-/// into `again` and `over` is as `readiness::turns` says. The cost of each request is what its submission and its drain cost.
+/// A turn for the connection at each of these places, in this order, whichever they are: the sessions of these indices
+/// answer what it asks. Places of connections that could go on at once are put into `again`, and of those that are over
+/// into `over`. Where memory for that is refused, it ends early. Each request costs what its submission and its drain do,
+/// beside the bytes of its frames.
 pub fn turn_sessions<L: ReadyLine + Drop>(
     alloc: Global,
     world: &mut World,
@@ -109,8 +112,9 @@ pub fn turn_sessions<L: ReadyLine + Drop>(
     port.turn(alloc, places, ready, again, over, buffer)
 }
 
-/// Serves lines together by the sessions of a world, as they arrive, have turns and leave, in whatever order. The connections at
-/// a place, one after the other, ask as one session, and each goes on with what that session did before.
+/// Serves lines together by the sessions of a world, as they arrive, have turns and leave, in whatever order. The
+/// connections at a place, one after the other, ask as one session, and each goes on with what that session did before.
+/// Where memory for places and connections is refused, it ends early, and the lines are dropped.
 pub fn run_sessions<L: ReadyLine + Drop>(
     alloc: Global,
     world: &mut World,
@@ -120,8 +124,8 @@ pub fn run_sessions<L: ReadyLine + Drop>(
     requires { 0 < length buffer.old }
     // all that happened to the world is requests that were answered; also where memory was refused for the run itself
     ensures answered { AreAnswered world.old world.new }
-    // at each place the lines that were given it account for all that its session was asked, and each outcome means its request
-    // in the world left behind
+    // at each place the lines that were given it account for all that its session was asked, and each outcome means its
+    // request in the world left behind
     ensures ran { IfOk result (λ run. RanFor L.seen (SessionReplies world.old.top (run_of world.new)) (arrivals acts.items) run.gone.items world.old.events run.places.places.items world.new.events) }
     ensures bounded { IfOk result (λ run. AreBounded LIMIT L.seen run.places.places.items) }
     ensures topology { world.new.top ≡ world.old.top }
