@@ -2,7 +2,7 @@ use Rattle.std.proofs.Common.{subst, OnOk}
 use Rattle.slice.specs.declared.read.Read.{Read}
 use Rattle.messages.specs.Reads.{on_read}
 use Rattle.shard.specs.Kept.{Does}
-use Rattle.shard.proofs.HeardAt.{there}
+use Rattle.shard.proofs.in_code.HeardAt.{there}
 use Rattle.shard.proofs.handling.act_at.Goals as goal
 
 pub returns-in-NotBy-clause-step : goal.returns-in-NotBy-clause-step

@@ -8,7 +8,7 @@ use Rattle.shard.specs.declared.repl_begun.ReplBegun.{ReplBegun}
 use Rattle.shard.specs.Begun.{ballot_of}
 use Rattle.shard.specs.ReplBegun.{ballot_begun}
 use Rattle.shard.specs.Kept.{Does}
-use Rattle.shard.proofs.HeardAt.{there, one_of_five}
+use Rattle.shard.proofs.in_code.HeardAt.{there, one_of_five}
 use Rattle.shard.proofs.handling.keep_at.Goals.{in-Ok, in-Err, in-Ok-prepare, in-Err-prepare, in-Ok-repl_begin, in-Err-repl_begin}
 use Rattle.shard.proofs.handling.keep_at.Goals as goal
 
