@@ -1,6 +1,6 @@
 -- What was asked, and how far an actor came with it, one event more at a time.
 use Rattle.std.proofs.Common.{◌≡◌, ◌∙◌, ℕ, zero, suc, ◌+◌, ◌<◌, ◌≤◌, Bool, true, false, cond, List, [], ◌∷◌, ◌++◌, length, take, slice_get, Option, Some, None, inl, inr, refl, sym, ap, subst, arith}
-use Rattle.std.specs.Prelude.{◌==◌, All, filter_map, option_map, option_to_list, get_or, slice_index_or}
+use Rattle.std.specs.Prelude.{◌==◌, All, filter_map, option_map, option_to_list, get_or, slice_index_or, Contains}
 use Rattle.std.proofs.lemmas.Option.{slice_get_within, slice_get-get_or}
 use Rattle.std.specs.Option.{is_none}
 use Rattle.std.proofs.lemmas.List.{append-nil, append_assoc, length-append}
@@ -14,7 +14,9 @@ use Rattle.actors.specs.Journals.{op_in, submissions, IsOwn}
 use Rattle.actors.specs.Seats.{SeatValue}
 use Rattle.workload.specs.declared.script.ScriptEvent.{ScriptEvent}
 use Rattle.workload.specs.declared.script.ScriptEvent.TheVariants as script
-use Rattle.world.proofs.lists.Among.{Among, among_append, get_among}
+use Rattle.workload.specs.declared.script.Event.{Event as ScriptEvent}
+use Rattle.workload.specs.declared.script.Event.TheVariants as script
+use Rattle.world.proofs.lists.Members.{none_in_empty, contains_one, Contains-append_cases, contains_get}
 use Rattle.world.proofs.lists.Replacing.{item_at}
 use Rattle.threaded.proofs.Lists.{take_one_more}
 use Rattle.running.specs.declared.course.Course.{Course}
@@ -201,29 +203,27 @@ asked_end node events place list le is = is ∙ ap (asked_in node) (take_past ev
 pub asked_own : (node : ℕ) (events : List ScriptEvent) → All IsOwn (asked_in node events)
 asked_own node events = all_at (asked_in node events) (each events)
   where
-    all_at : (xs : List ActorEvent) → ((x : ActorEvent) → Among x xs → IsOwn x) → All IsOwn xs
-    all_at xs own k d lt = own (get_or xs k d) (get_among xs k (get_or xs k d) (slice_get-get_or xs k d lt))
+    all_at : (xs : List ActorEvent) → ((x : ActorEvent) → Contains xs x → IsOwn x) → All IsOwn xs
+    all_at xs own k d lt = own (get_or xs k d) (contains_get xs k (get_or xs k d) (slice_get-get_or xs k d lt))
 
-    one : (x : ScriptEvent) (y : ActorEvent) → Among y (option_to_list (asked_by node x)) → IsOwn y
+    one : (x : ScriptEvent) (y : ActorEvent) → Contains (option_to_list (asked_by node x)) y → IsOwn y
     one (script.Submit session o) y m = by (session == node) m
       where
-        by : (b : Bool) → Among y (option_to_list (cond b (Some (event.Submit o)) None)) → IsOwn y
-        by true (inl q) = ap envelope_of q
-        by true (inr n) = absurd n
-        by false n = absurd n
-    one (script.Deliver number) y m = absurd m
+        by : (b : Bool) → Contains (option_to_list (cond b (Some (event.Submit o)) None)) y → IsOwn y
+        by true n = ap envelope_of (contains_one _ y n)
+        by false n = absurd (none_in_empty y n)
+    one (script.Deliver number) y m = absurd (none_in_empty y m)
     one (script.Collect shard time) y m = by (shard == node) m
       where
-        by : (b : Bool) → Among y (option_to_list (cond b (Some (event.Collect time)) None)) → IsOwn y
-        by true (inl q) = ap envelope_of q
-        by true (inr n) = absurd n
-        by false n = absurd n
-    one script.Drain y m = absurd m
+        by : (b : Bool) → Contains (option_to_list (cond b (Some (event.Collect time)) None)) y → IsOwn y
+        by true n = ap envelope_of (contains_one _ y n)
+        by false n = absurd (none_in_empty y n)
+    one script.Drain y m = absurd (none_in_empty y m)
 
-    each : (xs : List ScriptEvent) (y : ActorEvent) → Among y (asked_in node xs) → IsOwn y
-    each [] y m = absurd m
+    each : (xs : List ScriptEvent) (y : ActorEvent) → Contains (asked_in node xs) y → IsOwn y
+    each [] y m = absurd (none_in_empty y m)
     each (x ∷ xs) y m =
-        elim (among_append y (option_to_list (asked_by node x)) (asked_in node xs) (subst (λ l. Among y l) (filter_map-append (asked_by node) (x ∷ []) xs ∙ ap (λ l. l ++ asked_in node xs) (asked_one node x)) m)) [
+        elim (Contains-append_cases (option_to_list (asked_by node x)) (asked_in node xs) y (subst (λ l. Contains l y) (filter_map-append (asked_by node) (x ∷ []) xs ∙ ap (λ l. l ++ asked_in node xs) (asked_one node x)) m)) [
           | inl here ↦ one x y here
           | inr later ↦ each xs y later
         ]

@@ -1,6 +1,6 @@
 -- What an audit finds in what seats concluded.
 use Rattle.std.proofs.Common.{◌≡◌, ◌∙◌, ℕ, ◌+◌, true, List, [], ◌∷◌, ◌++◌, length, Result, Ok, Err, refl, ap, sym, subst}
-use Rattle.std.specs.Prelude.{◌==◌, IfOk, filter}
+use Rattle.std.specs.Prelude.{◌==◌, IfOk, filter, Contains}
 use Rattle.std.specs.List.{count_by, range_with_len}
 use Rattle.logical_time.specs.declared.fault.Fault.{Fault}
 use Rattle.column_family.specs.History.{History}
@@ -9,8 +9,7 @@ use Rattle.actors.specs.Seats.{SeatValue}
 use Rattle.world.specs.declared.completed.Completed.{Completed}
 use Rattle.world.specs.Run.{run}
 use Rattle.world.specs.Histories.{IsHistory}
-use Rattle.world.proofs.lists.Among.{Among, filter_only}
-use Rattle.world.proofs.envelopes.Asking.{flat_only}
+use Rattle.world.proofs.lists.Members.{flat_contains, filter_contains}
 use Rattle.threaded.specs.Concluded.{ConcludedValue, InEachRun, AreConcluded, by_session}
 use Rattle.audit.specs.declared.found.Audit.{Audit}
 use Rattle.audit.specs.Audit.{is_read, is_wrong}
@@ -35,10 +34,10 @@ one_more_in_each top seats n histories h are history events is = one_more_histor
 
 -- ## Counts
 
-in_sessions : (top : TopologyValue) (cs : List Completed) (c : Completed) → Among c (by_session top cs) → Among c cs
+in_sessions : (top : TopologyValue) (cs : List Completed) (c : Completed) → Contains (by_session top cs) c → Contains cs c
 in_sessions top cs c among =
-    let r = flat_only (λ i. filter (λ (d : Completed). d.node == session_node top i) cs) (range_with_len 0 (length top.homes)) c among in
-    (filter_only (λ (d : Completed). d.node == session_node top r.0) cs c r.2).0
+    let r = flat_contains (λ i. filter (λ (d : Completed). d.node == session_node top i) cs) (range_with_len 0 (length top.homes)) c among in
+    (filter_contains (λ (d : Completed). d.node == session_node top r.0) cs c r.2).0
 
 pub audit_in_each : (r : Result Audit Fault) (top : TopologyValue) (seats : List SeatValue) (histories given : List History) (completed ended : List Completed)
     → InEachRun top seats (λ w. AreFirstHistories top w top.dcs histories) → given ≡ histories → completed ≡ ended → InEachRun top seats (λ w. ended ≡ by_session top w.transcript)

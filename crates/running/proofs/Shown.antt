@@ -18,7 +18,7 @@ use Rattle.actors.specs.Draining.{AreLater, OneCanRefuse}
 use Rattle.world.specs.declared.completed.Completed.{Completed}
 use Rattle.world.specs.Run.{run}
 use Rattle.world.specs.Journals.{finished_as}
-use Rattle.world.proofs.lists.Among.{Among, among_append, among_contains, contains_among, filter_among, filter_only, map_among, map_only}
+use Rattle.world.proofs.lists.Members.{none_in_empty, Contains-append_cases, contains_map, mapped_from, contains_filter, filter_contains}
 use Rattle.threaded.specs.Machines.{as_finished, Refuses}
 use Rattle.threaded.specs.OneRun.{seat_of, AreSeatsOf, AreOfOneRun}
 use Rattle.threaded.specs.Matching.{IsUnconcluded}
@@ -105,9 +105,9 @@ module _ {X Y : Type 0} where
   map_flat g f [] = refl
   map_flat g f (x ∷ xs) = map_append g (f x) (flat_map f xs) ∙ ap (λ l. map g (f x) ++ l) (map_flat g f xs)
 
-  among_flat : (f : X → List Y) (xs : List X) (y : Y) → Among y (flat_map f xs) → (x : X) × Among y (f x)
-  among_flat f [] y m = absurd m
-  among_flat f (x ∷ xs) y m = elim (among_append y (f x) (flat_map f xs) m) [ inl here ↦ (x, here) | inr later ↦ among_flat f xs y later ]
+  among_flat : (f : X → List Y) (xs : List X) (y : Y) → Contains (flat_map f xs) y → (x : X) × Contains (f x) y
+  among_flat f [] y m = absurd (none_in_empty y m)
+  among_flat f (x ∷ xs) y m = elim (Contains-append_cases (f x) (flat_map f xs) y m) [ inl here ↦ (x, here) | inr later ↦ among_flat f xs y later ]
 
 flat_same : {Y : Type 0} (f g : ℕ → List Y) (start n : ℕ) → ((i : ℕ) → i < start + n → f i ≡ g i) → flat_map f (range_with_len start n) ≡ flat_map g (range_with_len start n)
 flat_same f g start zero same = refl
@@ -151,13 +151,13 @@ module _ (top : TopologyValue) (entries : List Entry) (seats : List SeatValue) (
   reads_in_each node number time answer has events is =
       let e = entry.Read node number time answer in
       let w = run top events in
-      let here : Among e (filter is_outcome entries) = filter_among is_outcome entries e (contains_among _ _ has) refl in
-      let there : Among e (map entry_of (by_session top w.transcript)) = subst (λ l. Among e l) (outcomes_in_each events is) here in
-      let (c, listed, shown) = map_only entry_of (by_session top w.transcript) e there in
+      let here : Contains (filter is_outcome entries) e = contains_filter is_outcome entries e has refl in
+      let there : Contains (map entry_of (by_session top w.transcript)) e = subst (λ l. Contains l e) (outcomes_in_each events is) here in
+      let (c, listed, shown) = mapped_from entry_of (by_session top w.transcript) e there in
       let (i, among) = among_flat (λ i. filter (λ (d : Completed). d.node == session_node top i) w.transcript) (range_with_len 0 (length top.homes)) c listed in
-      let in_all : Among c w.transcript = (filter_only (λ (d : Completed). d.node == session_node top i) w.transcript c among).0 in
-      let back : Among e (map entry_of w.transcript) = subst (λ x. Among x (map entry_of w.transcript)) (sym shown) (map_among entry_of w.transcript c in_all) in
-      shows top events (some_shards top are.are.sound) node number time answer (among_contains _ _ back)
+      let in_all : Contains w.transcript c = (filter_contains (λ (d : Completed). d.node == session_node top i) w.transcript c among).0 in
+      let back : Contains (map entry_of w.transcript) e = subst (λ x. Contains (map entry_of w.transcript) x) (sym shown) (contains_map entry_of w.transcript c in_all) in
+      shows top events (some_shards top are.are.sound) node number time answer back
 
 -- ## Seats of a script
 

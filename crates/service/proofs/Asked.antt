@@ -1,9 +1,9 @@
 -- Operations that are turned away.
-use Rattle.std.proofs.Common.{◌≡◌, ◌∙◌, ℕ, ◌<◌, ◌≤◌, Bool, true, false, List, Option, Some, None, ◌⊎◌, inl, inr, refl, ap, sym, subst, arith}
+use Rattle.std.proofs.Common.{◌≡◌, ◌∙◌, ℕ, ◌<◌, ◌≤◌, Bool, true, false, List, Option, Some, None, inl, inr, refl, ap, sym, subst, arith}
 use Rattle.std.specs.Prelude.{nat_lt}
 use Rattle.std.proofs.lemmas.Bool.Decides.{nat_tests}
 use Rattle.logical_time.specs.declared.fault.Fault.{Fault}
-use Rattle.logical_time.specs.declared.fault.Fault.TheVariants.{Busy, Memory}
+use Rattle.logical_time.specs.declared.fault.Fault.TheVariants.{Busy}
 use Rattle.messages.specs.declared.op.Op.{Op}
 use Rattle.messages.specs.Topology.{TopologyValue}
 use Rattle.world.specs.declared.run_event.RunEvent.{RunEvent}
@@ -11,9 +11,8 @@ use Rattle.world.specs.declared.run_event.RunEvent.TheVariants.{Submit}
 use Rattle.world.specs.Run.{run}
 use Rattle.world.specs.Refusals.{Refusal, Refused}
 use Rattle.world.specs.World.{WorldValue, run_of, refusal_in, IsRefusedAs}
-use Rattle.world.proofs.lists.Among.{among_contains}
 use Rattle.workload.specs.Drain.{IsDrained, LeavesNothing}
-use Rattle.service.specs.Port.{HasOpen, WasDrained, IsSubmitted, IsTurnedAway, IsOpen, IsLeftOpen}
+use Rattle.service.specs.Port.{HasOpen, IsSubmitted, IsTurnedAway, IsOpen, IsLeftOpen}
 use Rattle.service.proofs.Idle.{not_busy}
 use Rattle.service.proofs.Meant.{handled_listed}
 
@@ -60,7 +59,7 @@ still_open top session op before submitted after number count some is_submitted 
     let l = handled_listed top session some op before number after (record { submitted = submitted; is_submitted = is_submitted; count = count; drained = drained }) in
     let s = l.submission in
     let w = run top after in
-    let out = (nothing (grind (arith, nat_tests))).settled.outcomes s (among_contains s w.submitted l.among) in
+    let out = (nothing (grind (arith, nat_tests))).settled.outcomes s l.among in
     let c = out.0 in
     absurd (still c (record { listed = out.1.ended; node = out.1.node ∙ l.session_is; numbered = out.1.number ∙ l.numbered }))
 still_open top session op before submitted after number count some is_submitted drained nothing still false is = grind (arith, nat_tests)

@@ -1,6 +1,6 @@
 -- The entry of a submitted operation is of this operation.
 use Rattle.std.proofs.Common.{◌≡◌, ◌∙◌, ℕ, ◌+◌, ◌<◌, Bool, true, false, List, [], ◌∷◌, ◌++◌, Option, Some, None, Ok, refl, ap, sym, subst}
-use Rattle.std.specs.Prelude.{if◌then◌else◌}
+use Rattle.std.specs.Prelude.{if◌then◌else◌, Contains}
 use Rattle.logical_time.specs.declared.fault.Fault.{Fault}
 use Rattle.messages.specs.declared.op.Op.{Op}
 use Rattle.messages.specs.Topology.{TopologyValue, is_session}
@@ -12,7 +12,7 @@ use Rattle.world.specs.declared.run_event.RunEvent.TheVariants.{Submit}
 use Rattle.world.specs.declared.completed.Completed.{Completed}
 use Rattle.world.specs.Run.{Run, Submission, opening, after_submission, submit_if, step, run}
 use Rattle.world.specs.Refusals.{Refusal, Refused, NoSuchActor, refused_by, refusal_of}
-use Rattle.world.proofs.lists.Among.{Among, contains_among, among_last, append_first}
+use Rattle.world.proofs.lists.Members.{Contains-push, Contains-append_left}
 use Rattle.world.proofs.safety.Facts.{txn_of}
 use Rattle.world.proofs.growing.Grown.{runs_only_grow}
 use Rattle.world.proofs.promised.Laws.{entries_are_of_submissions}
@@ -25,7 +25,7 @@ use Rattle.service.specs.Meaning.{home_in}
 -- the operation is submitted, as this one of the session
 pub record IsListed (w : Run) (session number : ℕ) (o : Op) : Type 0 where
   pub submission : Submission
-  pub among : Among submission w.submitted
+  pub among : Contains w.submitted submission
   pub session_is : submission.session ≡ session
   pub numbered : submission.number ≡ number
   pub op : submission.op ≡ o
@@ -61,7 +61,7 @@ module _ (top : TopologyValue) (w : Run) (node : ℕ) (o : Op) where
       ap (λ b. submit_if b top w node o) here.0 ∙ ap (λ r. after_submission r w node o) took.1 in
       let b : Submission = record { session = node; number = s.state.count; home = a.home; time = s.state.clock; op = o; dependencies = a.dependencies } in
       subst (λ v. IsListed v node (a.count + 1) o) (sym is)
-      (record { submission = b; among = among_last b w.submitted; session_is = refl; numbered = (begins top node took.0 a o).count; op = refl })
+      (record { submission = b; among = Contains-push w.submitted b; session_is = refl; numbered = (begins top node took.0 a o).count; op = refl })
 
 named : (b c : Submission) (session number : ℕ) → b.session ≡ session → b.number ≡ number → c.session ≡ session → c.number ≡ number → txn_of b ≡ txn_of c
 named b c session number p q s t = cc
@@ -73,7 +73,7 @@ module _ (top : TopologyValue) (some : 0 < top.shards) where
       let grew = (runs_only_grow top before more).submitted in
       record {
         submission = l.submission;
-        among = subst (λ bs. Among l.submission bs) (sym grew.1) (append_first l.submission (run top before).submitted grew.0 l.among);
+        among = subst (λ bs. Contains bs l.submission) (sym grew.1) (Contains-append_left (run top before).submitted grew.0 l.submission l.among);
         session_is = l.session_is;
         numbered = l.numbered;
         op = l.op;
@@ -91,7 +91,7 @@ module _ (top : TopologyValue) (some : 0 < top.shards) where
   own_op events session number o c l is =
       let w = run top events in
       let of = entries_are_of_submissions top events some c is.listed in
-      let same = (every_run top events some).submitted.one of.submission l.submission (contains_among of.submission w.submitted of.submitted) l.among
+      let same = (every_run top events some).submitted.one of.submission l.submission of.submitted l.among
       (named of.submission l.submission session number (of.session ∙ is.node) (of.number ∙ is.numbered) l.session_is l.numbered) in
       sym of.op ∙ (ap (λ (b : Submission). b.op) same ∙ l.op)
 

@@ -1,8 +1,7 @@
 -- An answer keeps its meaning in whatever the world becomes.
-use Rattle.std.proofs.Common.{◌≡◌, ◌∙◌, ℕ, ◌<◌, List, [], ◌∷◌, ◌++◌, Ok, Err, ◌⊎◌, inl, inr, refl, ap, sym, subst, append_assoc, append-nil}
+use Rattle.std.proofs.Common.{◌≡◌, ◌∙◌, ℕ, ◌<◌, List, [], ◌∷◌, ◌++◌, Ok, Err, inl, inr, refl, ap, sym, subst, append_assoc, append-nil}
 use Rattle.std.specs.Prelude.{Contains}
 use Rattle.logical_time.specs.declared.fault.Fault.{Fault}
-use Rattle.column_family.specs.History.{History}
 use Rattle.slice.specs.declared.read.Read.{Read}
 use Rattle.slice.specs.declared.read.AnsweredRow.{AnsweredRow}
 use Rattle.messages.specs.declared.op.Op.{Op}
@@ -15,16 +14,15 @@ use Rattle.front.specs.Ports.{Chain}
 use Rattle.world.specs.declared.run_event.RunEvent.{RunEvent}
 use Rattle.world.specs.declared.run_event.RunEvent.TheVariants.{Submit}
 use Rattle.world.specs.declared.completed.Completed.{Completed}
-use Rattle.world.specs.Run.{Run, run}
-use Rattle.world.specs.Histories.{IsHistory}
+use Rattle.world.specs.Run.{run}
 use Rattle.world.specs.Journals.{IsBeginning}
 use Rattle.world.specs.Promises.{Fits}
-use Rattle.world.proofs.lists.Among.{among_contains, contains_among, append_first, Among}
+use Rattle.world.proofs.lists.Members.{Contains-append_left}
 use Rattle.world.proofs.growing.Grown.{runs_only_grow}
 use Rattle.world.proofs.promised.Laws.{entries_are_of_submissions, moves_bring_their_past, reads_show_one_table, writes_in_runs}
 use Rattle.workload.specs.Drain.{IsDrained, IsDrainedUntil}
 use Rattle.workload.specs.Simulation.{deliveries}
-use Rattle.service.specs.Port.{IsReady, IsSubmitted, IsTurnedAway, IsEndOf, EndedWith, IsHandled, Asks}
+use Rattle.service.specs.Port.{IsReady, IsSubmitted, EndedWith, IsHandled, Asks}
 use Rattle.service.specs.Meaning.{Tells, IsMeant, Replies}
 use Rattle.service.proofs.Entries.{IsListed, listed_still, listed_after, own_op, own_home}
 
@@ -111,7 +109,7 @@ module _ (top : TopologyValue) (session : ℕ) where
         let grew = (runs_only_grow top after begins.0).transcript in
         let w = run top (after ++ begins.0) in
         let still : Contains w.transcript c =
-        among_contains c w.transcript (subst (λ l. Among c l) (sym grew.1) (append_first c (run top after).transcript grew.0 (contains_among c (run top after).transcript ended.listed))) in
+        (subst (λ l. Contains l c) (sym grew.1) (Contains-append_left (run top after).transcript grew.0 c ended.listed)) in
         subst (λ xs. IsMeant top (run top xs) session number o result) (sym begins.1)
         (record {
           entry = c;

@@ -1,6 +1,6 @@
 -- What one gets by asking the shards of a run for the writes in the journals of its sessions is the history of the run.
-use Rattle.std.proofs.Common.{◌≡◌, ◌∙◌, ℕ, zero, suc, ◌+◌, ◌-◌, ◌<◌, ◌≤◌, Bool, true, false, ◌⊎◌, List, [], ◌∷◌, ◌++◌, length, slice_get, Option, Some, None, inl, inr, refl, sym, ap, subst, arith}
-use Rattle.std.specs.Prelude.{◌≢◌, nat_lt, AllPairs, IsPermutation, filter_map, flat_map, option_map, option_and_then, option_to_list}
+use Rattle.std.proofs.Common.{◌≡◌, ◌∙◌, ℕ, zero, suc, ◌+◌, ◌-◌, ◌<◌, ◌≤◌, Bool, true, List, [], ◌∷◌, ◌++◌, length, slice_get, Option, Some, None, inl, inr, refl, sym, ap, subst, arith}
+use Rattle.std.specs.Prelude.{◌≢◌, AllPairs, IsPermutation, filter_map, flat_map, option_map, option_and_then, option_to_list, Contains}
 use Rattle.std.specs.List.{range_with_len, cons_option}
 use Rattle.std.proofs.lemmas.Bool.Decides.{nat_tests}
 use Rattle.std.proofs.lemmas.List.Elements.{filter_map-append}
@@ -9,7 +9,7 @@ use Rattle.logical_time.specs.Stamps.{TxnValue}
 use Rattle.column_family.specs.declared.batch.Change.{Change}
 use Rattle.column_family.specs.declared.batch.Committed.{Committed}
 use Rattle.messages.specs.declared.op.Op.{Op}
-use Rattle.store.proofs.lists.Lists.{given}
+use Rattle.store.proofs.lists.Lists.{given, given_only}
 use Rattle.messages.specs.Words.{is_same_txn}
 use Rattle.messages.specs.Topology.{TopologyValue, is_topology, is_session, shard_count, session_node}
 use Rattle.actors.specs.Seats.{SeatValue}
@@ -22,14 +22,13 @@ use Rattle.world.specs.Journals.{IsRunOf}
 use Rattle.world.specs.Lookups.{entry_asked, history_asked}
 use Rattle.world.specs.Threads.{op_in, op_numbered}
 use Rattle.world.proofs.envelopes.Addresses.{stands}
-use Rattle.world.proofs.lists.Among.{Among, among_contains, contains_among, among_append, append_first, append_second, find_some, same_txn}
-use Rattle.world.proofs.envelopes.Asking.{flat_only, flat_among}
+use Rattle.world.proofs.lists.Members.{none_in_empty, contains_first, contains_rest, contains_cases, contains_one, Contains-append_left, Contains-append_right, Contains-append_cases, contains_flat, flat_contains, contains_below, within_range, found, same_txn}
 use Rattle.world.proofs.histories.AskedHistory.{histories_are_asked}
 use Rattle.world.proofs.replays.Journaled.{operation_there, told_by_journals}
 use Rattle.world.proofs.promised.Laws.{named_in_runs}
 use Rattle.world.proofs.envelopes.Near.{listed_below}
 use Rattle.world.proofs.replays.Numbered.{run_numbered}
-use Rattle.world.proofs.lists.Pairs.{first_pairs, later_pairs, no_pairs, more_pairs, append_pairs, given_among, given_pairs}
+use Rattle.world.proofs.lists.Pairs.{first_pairs, later_pairs, no_pairs, more_pairs, append_pairs, given_pairs}
 use Rattle.threaded.specs.OneRun.{journal_of}
 use Rattle.threaded.specs.Asking.{writes_from, writes_by, writes_of, asked_of}
 
@@ -37,19 +36,20 @@ use Rattle.threaded.specs.Asking.{writes_from, writes_by, writes_of, asked_of}
 
 module _ {X : Type 0} where
   -- a list that has the element has others before and after it
-  split_at : (x : X) (ys : List X) → Among x ys → (us : List X) × (vs : List X) × (ys ≡ us ++ x ∷ vs)
-  split_at x [] m = absurd m
-  split_at x (y ∷ ys) (inl q) = ([], ys, ap (λ z. z ∷ ys) (sym q))
-  split_at x (y ∷ ys) (inr m) = let r = split_at x ys m in (y ∷ r.0, r.1, ap (λ l. y ∷ l) r.2)
+  split_at : (x : X) (ys : List X) → Contains ys x → (us : List X) × (vs : List X) × (ys ≡ us ++ x ∷ vs)
+  split_at x [] m = absurd (none_in_empty x m)
+  split_at x (y ∷ ys) m = elim (contains_cases y x ys m) [
+    | inl q ↦ ([], ys, ap (λ z. z ∷ ys) (sym q))
+    | inr later ↦ let r = split_at x ys later in (y ∷ r.0, r.1, ap (λ l. y ∷ l) r.2)
+  ]
 
-  with_it : (us : List X) (x : X) (vs : List X) (z : X) → Among z (us ++ vs) → Among z (us ++ x ∷ vs)
-  with_it us x vs z m = elim (among_append z us vs m) [ inl a ↦ append_first z us (x ∷ vs) a | inr b ↦ append_second z us (x ∷ vs) (inr b) ]
+  with_it : (us : List X) (x : X) (vs : List X) (z : X) → Contains (us ++ vs) z → Contains (us ++ x ∷ vs) z
+  with_it us x vs z m = elim (Contains-append_cases us vs z m) [ inl a ↦ Contains-append_left us (x ∷ vs) z a | inr b ↦ Contains-append_right us (x ∷ vs) z (contains_rest x z vs b) ]
 
-  without_it : (us : List X) (x : X) (vs : List X) (z : X) → Among z (us ++ x ∷ vs) → (z ≢ x) → Among z (us ++ vs)
-  without_it us x vs z m other = elim (among_append z us (x ∷ vs) m) [
-    | inl a ↦ append_first z us vs a
-    | inr (inl same) ↦ absurd (other same)
-    | inr (inr b) ↦ append_second z us vs b
+  without_it : (us : List X) (x : X) (vs : List X) (z : X) → Contains (us ++ x ∷ vs) z → (z ≢ x) → Contains (us ++ vs) z
+  without_it us x vs z m other = elim (Contains-append_cases us (x ∷ vs) z m) [
+    | inl a ↦ Contains-append_left us vs z a
+    | inr b ↦ elim (contains_cases x z vs b) [ inl same ↦ absurd (other same) | inr later ↦ Contains-append_right us vs z later ]
   ]
 
   others_apart : (us : List X) (x : X) (vs : List X) → AllPairs (λ a b. a ≢ b) (us ++ x ∷ vs) → AllPairs (λ a b. a ≢ b) (us ++ vs)
@@ -58,10 +58,12 @@ module _ {X : Type 0} where
       more_pairs (λ a b. a ≢ b) u (us ++ vs) (λ y m. first_pairs (λ a b. a ≢ b) u (us ++ x ∷ vs) pairs y (with_it us x vs y m))
       (others_apart us x vs (later_pairs (λ a b. a ≢ b) u (us ++ x ∷ vs) pairs))
 
-  not_again : (us : List X) (x : X) (vs : List X) → AllPairs (λ a b. a ≢ b) (us ++ x ∷ vs) → Among x (us ++ vs) → ⊥
+  not_again : (us : List X) (x : X) (vs : List X) → AllPairs (λ a b. a ≢ b) (us ++ x ∷ vs) → Contains (us ++ vs) x → ⊥
   not_again [] x vs pairs m = first_pairs (λ a b. a ≢ b) x vs pairs x m refl
-  not_again (u ∷ us) x vs pairs (inl q) = first_pairs (λ a b. a ≢ b) u (us ++ x ∷ vs) pairs x (append_second x us (x ∷ vs) (inl refl)) (sym q)
-  not_again (u ∷ us) x vs pairs (inr m) = not_again us x vs (later_pairs (λ a b. a ≢ b) u (us ++ x ∷ vs) pairs) m
+  not_again (u ∷ us) x vs pairs m = elim (contains_cases u x (us ++ vs) m) [
+    | inl q ↦ first_pairs (λ a b. a ≢ b) u (us ++ x ∷ vs) pairs x (Contains-append_right us (x ∷ vs) x (contains_first x vs)) (sym q)
+    | inr later ↦ not_again us x vs (later_pairs (λ a b. a ≢ b) u (us ++ x ∷ vs) pairs) later
+  ]
 
   module _ {Y : Type 0} (f : X → Option Y) where
     -- what is given of an element in the middle may as well stand first
@@ -80,20 +82,20 @@ module _ {X : Type 0} where
             (IsPermutation-sym (filter_map f us ++ y ∷ filter_map f vs) (y ∷ (filter_map f us ++ filter_map f vs)) (IsPermutation-middle (filter_map f us) y (filter_map f vs)))
 
     -- of two lists with the same elements, each once, a function gives the same in two orders
-    same_given : (xs ys : List X) → AllPairs (λ a b. a ≢ b) xs → AllPairs (λ a b. a ≢ b) ys → ((x : X) → Among x xs → Among x ys)
-        → ((y : X) → Among y ys → Among y xs) → IsPermutation (filter_map f xs) (filter_map f ys)
+    same_given : (xs ys : List X) → AllPairs (λ a b. a ≢ b) xs → AllPairs (λ a b. a ≢ b) ys → ((x : X) → Contains xs x → Contains ys x)
+        → ((y : X) → Contains ys y → Contains xs y) → IsPermutation (filter_map f xs) (filter_map f ys)
     same_given [] [] p q to from = IsPermutation-refl []
-    same_given [] (y ∷ ys) p q to from = absurd (from y (inl refl))
+    same_given [] (y ∷ ys) p q to from = absurd (none_in_empty y (from y (contains_first y ys)))
     same_given (x ∷ xs) ys p q to from =
-        let r = split_at x ys (to x (inl refl)) in
+        let r = split_at x ys (to x (contains_first x xs)) in
         let us = r.0 in
         let vs = r.1 in
         let pairs = subst (λ (l : List X). AllPairs (λ a b. a ≢ b) l) r.2 q in
         let rest : IsPermutation (filter_map f xs) (filter_map f (us ++ vs)) =
         same_given xs (us ++ vs) (later_pairs (λ a b. a ≢ b) x xs p) (others_apart us x vs pairs)
-        (λ z m. without_it us x vs z (subst (λ (l : List X). Among z l) r.2 (to z (inr m))) (λ same. first_pairs (λ a b. a ≢ b) x xs p z m (sym same)))
-        (λ z m. elim (from z (subst (λ (l : List X). Among z l) (sym r.2) (with_it us x vs z m))) [
-          | inl same ↦ absurd (not_again us x vs pairs (subst (λ a. Among a (us ++ vs)) same m))
+        (λ z m. without_it us x vs z (subst (λ (l : List X). Contains l z) r.2 (to z (contains_rest x z xs m))) (λ same. first_pairs (λ a b. a ≢ b) x xs p z m (sym same)))
+        (λ z m. elim (contains_cases x z xs (from z (subst (λ (l : List X). Contains l z) (sym r.2) (with_it us x vs z m)))) [
+          | inl same ↦ absurd (not_again us x vs pairs (subst (λ a. Contains (us ++ vs) a) same m))
           | inr there ↦ there
         ]) in
         subst (λ (l : List X). IsPermutation (filter_map f (x ∷ xs)) (filter_map f l)) (sym r.2) (moved_first us x vs xs rest)
@@ -118,14 +120,14 @@ record IsWriteAt (node count : ℕ) (os : List Op) (z : Write) : Type 0 where
   pub batch : batch_in op ≡ Some z.1
   pub txn : z.0 ≡ txn_at node (count + place + 1)
 
-first_write : (node count : ℕ) (o : Op) (os : List Op) (z : Write) → Among z (option_to_list (numbered node count o)) → IsWriteAt node count (o ∷ os) z
+first_write : (node count : ℕ) (o : Op) (os : List Op) (z : Write) → Contains (option_to_list (numbered node count o)) z → IsWriteAt node count (o ∷ os) z
 first_write node count o os z m = go (batch_in o) refl m
   where
     go : (b : Option (List Change)) → batch_in o ≡ b
-        → Among z (option_to_list (option_map (λ (batch : List Change). (txn_at node (count + 1), batch)) b)) → IsWriteAt node count (o ∷ os) z
-    go None q n = absurd n
-    go (Some batch) q (inr n) = absurd n
-    go (Some batch) q (inl same) =
+        → Contains (option_to_list (option_map (λ (batch : List Change). (txn_at node (count + 1), batch)) b)) z → IsWriteAt node count (o ∷ os) z
+    go None q n = absurd (none_in_empty z n)
+    go (Some batch) q n =
+        let same = contains_one (txn_at node (count + 1), batch) z n in
         let number : count + 1 ≡ count + 0 + 1 = omega arith in
         record {
           place = 0;
@@ -135,9 +137,9 @@ first_write node count o os z m = go (batch_in o) refl m
           txn = ap (λ (y : Write). y.0) same ∙ ap (λ n. txn_at node n) number;
         }
 
-write_at : (node count : ℕ) (os : List Op) (z : Write) → Among z (writes_from node count os) → IsWriteAt node count os z
-write_at node count [] z m = absurd m
-write_at node count (o ∷ os) z m = elim (among_append z (option_to_list (numbered node count o)) (writes_from node (count + 1) os) m) [
+write_at : (node count : ℕ) (os : List Op) (z : Write) → Contains (writes_from node count os) z → IsWriteAt node count os z
+write_at node count [] z m = absurd (none_in_empty z m)
+write_at node count (o ∷ os) z m = elim (Contains-append_cases (option_to_list (numbered node count o)) (writes_from node (count + 1) os) z m) [
   | inl here ↦ first_write node count o os z here
   | inr later ↦
       let r = write_at node (count + 1) os z later in
@@ -153,7 +155,7 @@ write_at node count (o ∷ os) z m = elim (among_append z (option_to_list (numbe
 
 -- each write among the operations is one of them
 write_there : (node count : ℕ) (os : List Op) (k : ℕ) (o : Op) (batch : List Change) → slice_get os k ≡ Some o → batch_in o ≡ Some batch
-    → Among (txn_at node (count + k + 1), batch) (writes_from node count os)
+    → Contains (writes_from node count os) (txn_at node (count + k + 1), batch)
 write_there node count [] k o batch at is = absurd (cc)
 write_there node count (p ∷ os) zero o batch at is =
     let same : p ≡ o = cc in
@@ -162,12 +164,10 @@ write_there node count (p ∷ os) zero o batch at is =
     ap (λ q. option_to_list (numbered node count q)) same
     ∙ ap (λ b. option_to_list (option_map (λ (c : List Change). (txn_at node (count + 1), c)) b)) is
     ∙ ap (λ n. (txn_at node n, batch) ∷ []) (sym number) in
-    append_first (txn_at node (count + 0 + 1), batch) (option_to_list (numbered node count p)) (writes_from node (count + 1) os)
-    (subst (λ (l : List Write). Among (txn_at node (count + 0 + 1), batch) l) (sym all) (inl refl))
+    Contains-append_left (option_to_list (numbered node count p)) (writes_from node (count + 1) os) (txn_at node (count + 0 + 1), batch) (subst (λ (l : List Write). Contains l (txn_at node (count + 0 + 1), batch)) (sym all) (contains_first (txn_at node (count + 0 + 1), batch) []))
 write_there node count (p ∷ os) (suc k) o batch at is =
     let number : count + 1 + k + 1 ≡ count + suc k + 1 = omega arith in
-    append_second (txn_at node (count + suc k + 1), batch) (option_to_list (numbered node count p)) (writes_from node (count + 1) os)
-    (subst (λ n. Among (txn_at node n, batch) (writes_from node (count + 1) os)) number (write_there node (count + 1) os k o batch at is))
+    Contains-append_right (option_to_list (numbered node count p)) (writes_from node (count + 1) os) (txn_at node (count + suc k + 1), batch) (subst (λ n. Contains (writes_from node (count + 1) os) (txn_at node n, batch)) number (write_there node (count + 1) os k o batch at is))
 
 -- no two of them are one
 writes_apart : (node count : ℕ) (os : List Op) → AllPairs (λ (y z : Write). y ≢ z) (writes_from node count os)
@@ -178,9 +178,9 @@ writes_apart node count (o ∷ os) =
   where
     one : (w : Option Write) → AllPairs (λ (y z : Write). y ≢ z) (option_to_list w)
     one None = no_pairs (λ (y z : Write). y ≢ z)
-    one (Some w) = more_pairs (λ (y z : Write). y ≢ z) w [] (λ y m. absurd m) (no_pairs (λ (y z : Write). y ≢ z))
+    one (Some w) = more_pairs (λ (y z : Write). y ≢ z) w [] (λ y m. absurd (none_in_empty y m)) (no_pairs (λ (y z : Write). y ≢ z))
 
-    across : (y z : Write) → Among y (option_to_list (numbered node count o)) → Among z (writes_from node (count + 1) os) → y ≢ z
+    across : (y z : Write) → Contains (option_to_list (numbered node count o)) y → Contains (writes_from node (count + 1) os) z → y ≢ z
     across y z m n same =
         let a = first_write node count o [] y m in
         let b = write_at node (count + 1) os z n in
@@ -200,14 +200,9 @@ module _ (top : TopologyValue) (seats : List SeatValue) where
   abbrev of_session : ℕ → List Write
   of_session i = writes_by (session_node top i) (journal_of seats (session_node top i))
 
-  by_session : (i : ℕ) (z : Write) → Among z (of_session i) → z.0.session ≡ session_node top i
+  by_session : (i : ℕ) (z : Write) → Contains (of_session i) z → z.0.session ≡ session_node top i
   by_session i z m =
       ap (λ (t : TxnValue). t.session) (write_at (session_node top i) 0 (filter_map op_in (journal_of seats (session_node top i))) z m).txn
-
-  range_from : (a n i : ℕ) → Among i (range_with_len a n) → a ≤ i
-  range_from a zero i m = absurd m
-  range_from a (suc n) i (inl same) = omega arith
-  range_from a (suc n) i (inr m) = let le = range_from (a + 1) n i m in omega arith
 
   pub all_apart : (a n : ℕ) → AllPairs (λ (y z : Write). y ≢ z) (flat_map of_session (range_with_len a n))
   all_apart a zero = no_pairs (λ (y z : Write). y ≢ z)
@@ -215,24 +210,16 @@ module _ (top : TopologyValue) (seats : List SeatValue) where
       append_pairs (λ (y z : Write). y ≢ z) (of_session a) (flat_map of_session (range_with_len (a + 1) n))
       (writes_apart (session_node top a) 0 (filter_map op_in (journal_of seats (session_node top a)))) (all_apart (a + 1) n) across
     where
-      across : (y z : Write) → Among y (of_session a) → Among z (flat_map of_session (range_with_len (a + 1) n)) → y ≢ z
+      across : (y z : Write) → Contains (of_session a) y → Contains (flat_map of_session (range_with_len (a + 1) n)) z → y ≢ z
       across y z m k same =
-          let r = flat_only of_session (range_with_len (a + 1) n) z k in
-          let above = range_from (a + 1) n r.0 r.1 in
+          let r = flat_contains of_session (range_with_len (a + 1) n) z k in
+          let above = (within_range (a + 1) n r.0 r.1).0 in
           let p : y.0.session ≡ shard_count top + a = by_session a y m in
           let q : z.0.session ≡ shard_count top + r.0 = by_session r.0 z r.2 in
           let e : y.0.session ≡ z.0.session = ap (λ (x : Write). x.0.session) same in
           absurd (omega (arith, above, p, q, e))
 
 -- ## The run
-
-in_range : (a n k : ℕ) → a ≤ k → k < a + n → Among k (range_with_len a n)
-in_range a zero k le lt = absurd (omega arith)
-in_range a (suc n) k le lt = by (nat_lt a k) refl (λ above. in_range (a + 1) n k above (omega arith))
-  where
-    by : (b : Bool) → nat_lt a k ≡ b → (a + 1 ≤ k → Among k (range_with_len (a + 1) n)) → (k ≡ a) ⊎ Among k (range_with_len (a + 1) n)
-    by true q later = inr (later (grind (arith, nat_tests)))
-    by false q later = inl (grind (arith, nat_tests))
 
 session_is : (top : TopologyValue) (i : ℕ) → i < length top.homes → is_session top (session_node top i) ≡ true
 session_is top i lt = grind (arith, nat_tests)
@@ -249,35 +236,35 @@ module _ (top : TopologyValue) (seats : List SeatValue) (events : List RunEvent)
   w = run top events
 
   -- the write of a submission is in its session's journal
-  in_journals : (z : Write) → Among z (filter_map write_of w.submitted) → Among z (writes_of top seats)
+  in_journals : (z : Write) → Contains (filter_map write_of w.submitted) z → Contains (writes_of top seats) z
   in_journals z m =
-      let g = given_among write_of w.submitted z m in
+      let g = given_only write_of w.submitted z m in
       by g.0 g.1 (batch_in (g.0).op) refl g.2
     where
       placed : (s : Submission) (batch : List Change) (number : ℕ) → s.number ≡ number → op_numbered (journal_of seats s.session) number ≡ Some s.op → batch_in s.op ≡ Some batch
-          → Among (named_by s, batch) (writes_by s.session (journal_of seats s.session))
+          → Contains (writes_by s.session (journal_of seats s.session)) (named_by s, batch)
       placed s batch zero n at q = absurd (cc)
       placed s batch (suc k) n at q =
           let number : 0 + k + 1 ≡ s.number = omega arith in
-          subst (λ m. Among (txn_at s.session m, batch) (writes_by s.session (journal_of seats s.session))) number
+          subst (λ m. Contains (writes_by s.session (journal_of seats s.session)) (txn_at s.session m, batch)) number
           (write_there s.session 0 (filter_map op_in (journal_of seats s.session)) k s.op batch at q)
 
-      by : (s : Submission) → Among s w.submitted → (b : Option (List Change)) → batch_in s.op ≡ b
-          → option_map (λ (batch : List Change). (named_by s, batch)) b ≡ Some z → Among z (writes_of top seats)
+      by : (s : Submission) → Contains w.submitted s → (b : Option (List Change)) → batch_in s.op ≡ b
+          → option_map (λ (batch : List Change). (named_by s, batch)) b ≡ Some z → Contains (writes_of top seats) z
       by s m None q e = absurd (cc)
       by s m (Some batch) q e =
           let same : (named_by s, batch) ≡ z = cc in
           let here = ((run_numbered top events).named s m).0 in
           let i = node_is top s.session here in
-          let at = operation_there top (journal_of seats) events some is s (among_contains s w.submitted m) in
+          let at = operation_there top (journal_of seats) events some is s m in
           let there = placed s batch s.number refl at q in
-          flat_among (of_session top seats) (range_with_len 0 (length top.homes)) i.0 z (in_range 0 (length top.homes) i.0 (omega arith) (let lt = i.1 in omega arith))
-          (subst (λ (y : Write). Among y (of_session top seats i.0)) same (subst (λ n. Among (named_by s, batch) (writes_by n (journal_of seats n))) (sym i.2) there))
+          contains_flat (of_session top seats) (range_with_len 0 (length top.homes)) i.0 z (contains_below (length top.homes) i.0 (let lt = i.1 in omega arith))
+          (subst (λ (y : Write). Contains (of_session top seats i.0) y) same (subst (λ n. Contains (writes_by n (journal_of seats n)) (named_by s, batch)) (sym i.2) there))
 
   -- each write of a journal was submitted
-  in_run : (z : Write) → Among z (writes_of top seats) → Among z (filter_map write_of w.submitted)
+  in_run : (z : Write) → Contains (writes_of top seats) z → Contains (filter_map write_of w.submitted) z
   in_run z m =
-      let r = flat_only (of_session top seats) (range_with_len 0 (length top.homes)) z m in
+      let r = flat_contains (of_session top seats) (range_with_len 0 (length top.homes)) z m in
       let node = session_node top r.0 in
       let a = write_at node 0 (filter_map op_in (journal_of seats node)) z r.2 in
       let t : TxnValue = txn_at node (suc a.place) in
@@ -288,15 +275,15 @@ module _ (top : TopologyValue) (seats : List SeatValue) (events : List RunEvent)
       by t a.op txn a.batch (submission_of w.submitted t) refl told
     where
       by : (t : TxnValue) (o : Op) → z.0 ≡ t → batch_in o ≡ Some z.1 → (g : Option Submission) → submission_of w.submitted t ≡ g → option_map (λ (b : Submission). b.op) g ≡ Some o
-          → Among z (filter_map write_of w.submitted)
+          → Contains (filter_map write_of w.submitted) z
       by t o txn batch None q e = absurd (cc)
       by t o txn batch (Some s) q e =
           let same : s.op ≡ o = cc in
-          let f = find_some (λ (b : Submission). is_same_txn (record { session = b.session; number = b.number }) t) w.submitted s q in
+          let f = found (λ (b : Submission). is_same_txn (record { session = b.session; number = b.number }) t) w.submitted s q in
           let name : named_by s ≡ t = same_txn (named_by s) t f.1 in
           let gives : write_of s ≡ Some z =
           ap (option_map (λ (b : List Change). (named_by s, b))) (ap batch_in same ∙ batch) ∙ ap (λ (u : TxnValue). Some (u, z.1)) (name ∙ sym txn) in
-          contains_among z (filter_map write_of w.submitted) (given write_of w.submitted s z (among_contains s w.submitted f.0) gives)
+          given write_of w.submitted s z f.0 gives
 
   -- no two submissions give one write
   submitted_apart : AllPairs (λ (y z : Write). y ≢ z) (filter_map write_of w.submitted)

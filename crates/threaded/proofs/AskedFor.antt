@@ -23,7 +23,7 @@ use Rattle.world.specs.Asked.{entry_of}
 use Rattle.world.specs.Histories.{batch_in}
 use Rattle.world.specs.Threads.{op_in}
 use Rattle.world.proofs.envelopes.Addresses.{stands}
-use Rattle.world.proofs.lists.Among.{find_some}
+use Rattle.world.proofs.lists.Members.{found}
 use Rattle.world.proofs.steps.Moves.{shard_node_counts}
 use Rattle.world.proofs.envelopes.Near.{coordinator_below}
 use Rattle.world.proofs.lists.Replacing.{item_at}
@@ -56,10 +56,10 @@ module _ (top : TopologyValue) (states : ℕ → ShardState) (home : HomeValue) 
   machine_stands place s machine p here keeps =
       let both : Some p.seat ≡ Some s = sym p.at ∙ here in
       let same : p.seat ≡ s = cc in
-      let found : seat_of seats node ≡ Some s = p.found ∙ ap Some same in
-      let journal : s.journal ≡ journal_of seats node = sym (ap journal_at found) in
+      let there : seat_of seats node ≡ Some s = p.found ∙ ap Some same in
+      let journal : s.journal ≡ journal_of seats node = sym (ap journal_at there) in
       let of : s.topology ≡ top = asked.are.topology place s here in
-      let own : s.node ≡ node = eqb-true s.node node (find_some (λ (z : SeatValue). z.node == node) seats s found).1 in
+      let own : s.node ≡ node = eqb-true s.node node (found (λ (z : SeatValue). z.node == node) seats s there).1 in
       let sent : ℕ → List _ = followed_by (through s.outgoing) s.outbox in
       let came : CameFrom top node (journal_of seats node) sent s.outcomes machine =
       subst (λ (t : TopologyValue). CameFrom t node (journal_of seats node) sent s.outcomes machine) of

@@ -21,7 +21,7 @@ use Rattle.world.specs.Run.{Run, run}
 use Rattle.world.specs.Journals.{event_at, IsRunOf}
 use Rattle.world.specs.Quiet.{number_delivered, IsQuiet}
 use Rattle.world.specs.Settled.{Settled}
-use Rattle.world.proofs.lists.Among.{Among, contains_among, get_among, filter_only, filter_among}
+use Rattle.world.proofs.lists.Members.{none_in_empty, contains_cases, contains_filter, filter_contains, contains_get}
 use Rattle.world.proofs.growing.Prefixes.{get_there}
 use Rattle.world.proofs.promised.Laws.{quiet_means_done}
 use Rattle.threaded.specs.Machines.{StaysApart, has_none_open}
@@ -47,23 +47,25 @@ no_more p (x ∷ xs) = by (p x) (no_more p xs)
 abbrev others : ℕ → List ℕ → List ℕ
 others n xs = filter (λ m. not (m == n)) xs
 
-fewer_others : (n : ℕ) (xs : List ℕ) → Among n xs → length (others n xs) < length xs
-fewer_others n [] m = absurd m
-fewer_others n (x ∷ xs) (inl same) =
-    let le = no_more (λ m. not (m == n)) xs in
-    let is : not (x == n) ≡ false = grind (arith, nat_tests) in
-    subst (λ b. length (cond b (x ∷ others n xs) (others n xs)) < suc (length xs)) (sym is) (omega (arith, le))
-fewer_others n (x ∷ xs) (inr m) = by (not (x == n)) (fewer_others n xs m)
+fewer_others : (n : ℕ) (xs : List ℕ) → Contains xs n → length (others n xs) < length xs
+fewer_others n [] m = absurd (none_in_empty n m)
+fewer_others n (x ∷ xs) m = elim (contains_cases x n xs m) [
+  | inl same ↦
+      let le = no_more (λ m. not (m == n)) xs in
+      let is : not (x == n) ≡ false = grind (arith, nat_tests) in
+      subst (λ b. length (cond b (x ∷ others n xs) (others n xs)) < suc (length xs)) (sym is) (omega (arith, le))
+  | inr later ↦ by (not (x == n)) (fewer_others n xs later)
+]
   where
     by : (b : Bool) → length (others n xs) < length xs → length (cond b (x ∷ others n xs) (others n xs)) < suc (length xs)
     by true lt = omega (arith, lt)
     by false lt = omega (arith, lt)
 
 -- a list with all numbers below one is as long as that
-all_there : (n : ℕ) (xs : List ℕ) → ((r : ℕ) → r < n → Among r xs) → n ≤ length xs
+all_there : (n : ℕ) (xs : List ℕ) → ((r : ℕ) → r < n → Contains xs r) → n ≤ length xs
 all_there zero xs all = omega arith
 all_there (suc n) xs all =
-    let rest = all_there n (others n xs) (λ r lt. filter_among (λ m. not (m == n)) xs r (all r (omega (arith, lt))) (apart r lt)) in
+    let rest = all_there n (others n xs) (λ r lt. contains_filter (λ m. not (m == n)) xs r (all r (omega (arith, lt))) (apart r lt)) in
     let less = fewer_others n xs (all n (omega arith)) in
     omega (arith, rest, less)
   where
@@ -140,16 +142,16 @@ quiet_received top w quiet from to f t =
     let same = as_many w from to w.events in
     omega (arith, up, same)
   where
-    there : (r : ℕ) → r < length (on_link from to w.sent) → Among r (filter_map (hit w from to) w.events)
+    there : (r : ℕ) → r < length (on_link from to w.sent) → Contains (filter_map (hit w from to) w.events) r
     there r lt =
         let z = get_there (on_link from to w.sent) r lt in
         let k = there_at (is_on from to) w.sent r z.0 z.1 in
-        let on = (filter_only (is_on from to) w.sent z.0 (get_among (on_link from to w.sent) r z.0 z.1)).1 in
+        let on = (filter_contains (is_on from to) w.sent z.0 (contains_get (on_link from to w.sent) r z.0 z.1)).1 in
         let g = given_only number_delivered w.events k.0 (quiet k.0 (slice_get_within w.sent k.0 z.0 k.1)) in
         let has : Contains w.events (Deliver k.0) = subst (λ x. Contains w.events x) (is_delivery g.0 k.0 g.2) g.1 in
         let is : hit w from to (Deliver k.0) ≡ Some r =
         ap (λ o. rank_of from to o (rank (is_on from to) w.sent k.0)) k.1 ∙ ap (λ b. if b then Some (rank (is_on from to) w.sent k.0) else None) on ∙ ap Some k.2 in
-        contains_among r (filter_map (hit w from to) w.events) (given (hit w from to) w.events (Deliver k.0) r has is)
+        given (hit w from to) w.events (Deliver k.0) r has is
 
 -- ## Seats
 

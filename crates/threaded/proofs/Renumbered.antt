@@ -1,7 +1,7 @@
 -- Where links match, the deliveries of a run can be numbered anew: the first message of a link that is delivered is the first that
 -- was sent there, and so on. So where all that was sent was received, some run with the same journals is quiet.
 use Rattle.std.proofs.Common.{◌≡◌, ◌∙◌, ℕ, ◌+◌, ◌<◌, ◌≤◌, Bool, true, false, ◌&&◌, cond, List, [], ◌∷◌, ◌++◌, length, take, Option, Some, None, Result, Ok, Err, ◌⊎◌, inl, inr, refl, sym, ap, subst, arith, slice_get, eqb-true, eq-eqb, append-nil}
-use Rattle.std.specs.Prelude.{◌==◌, if◌then◌else◌, nat_lt, filter, filter_map}
+use Rattle.std.specs.Prelude.{◌==◌, if◌then◌else◌, nat_lt, filter, filter_map, Contains}
 use Rattle.std.specs.List.{cons_option}
 use Rattle.std.proofs.lemmas.Bool.Decides.{nat_tests}
 use Rattle.std.proofs.lemmas.List.{length-append, append_assoc, take-append-le}
@@ -26,7 +26,7 @@ use Rattle.world.specs.Journals.{actor_in, journal_in, sent_from, held_in}
 use Rattle.world.proofs.envelopes.Addressed.{messages_are_for_actors}
 use Rattle.world.proofs.envelopes.Addresses.{stands}
 use Rattle.world.proofs.steps.Refusals.{kept_is_run}
-use Rattle.world.proofs.lists.Among.{Among, among_contains, get_among, among_append, append_first, among_last, filter_only}
+use Rattle.world.proofs.lists.Members.{none_in_empty, Contains-push, Contains-append_left, Contains-append_cases, filter_contains, contains_get}
 use Rattle.world.proofs.growing.Prefixes.{get_first, get_added, get_there}
 use Rattle.world.proofs.safety.Runs.{run_after}
 use Rattle.world.proofs.steps.Ticks.{step_ticks}
@@ -152,8 +152,8 @@ pub record GoesLike (top : TopologyValue) (w : Run) (mine : List RunEvent) : Typ
   pub sent : (run top mine).sent ≡ w.sent
   pub journals : (m : ℕ) → journal_in (run top mine) m ≡ journal_in w m
   pub fewer : (from to : ℕ) → got w from to ≤ length (on_link from to w.sent)
-  pub delivered : (k : ℕ) (e : Envelope) → slice_get w.sent k ≡ Some e → rank (is_on e.from e.to) w.sent k < got w e.from e.to → Among (Deliver k) mine
-  pub times : (e : Envelope) → Among e w.sent → e.time ≤ clock_of (actor_in top w e.from)
+  pub delivered : (k : ℕ) (e : Envelope) → slice_get w.sent k ≡ Some e → rank (is_on e.from e.to) w.sent k < got w e.from e.to → Contains mine (Deliver k)
+  pub times : (e : Envelope) → Contains w.sent e → e.time ≤ clock_of (actor_in top w e.from)
 
 -- the next message of a link, where so many were received
 pub record IsNextSent (sent : List Envelope) (e : Envelope) (count k : ℕ) : Type 0 where
@@ -203,13 +203,13 @@ module _ (top : TopologyValue) (some : 0 < top.shards) (done mine : List RunEven
         omega (arith, up, more, len)
 
     -- a message that was sent before the event, and is among the first so many
-    old_delivered : (k : ℕ) (e : Envelope) → slice_get w.sent k ≡ Some e → rank (is_on e.from e.to) w.sent k < got u e.from e.to → Among (Deliver k) (mine ++ own ∷ [])
+    old_delivered : (k : ℕ) (e : Envelope) → slice_get w.sent k ≡ Some e → rank (is_on e.from e.to) w.sent k < got u e.from e.to → Contains (mine ++ own ∷ []) (Deliver k)
     old_delivered k e at lt = by (nat_lt (rank (is_on e.from e.to) w.sent k) (got w e.from e.to)) refl
       where
-        by : (b : Bool) → nat_lt (rank (is_on e.from e.to) w.sent k) (got w e.from e.to) ≡ b → Among (Deliver k) (mine ++ own ∷ [])
+        by : (b : Bool) → nat_lt (rank (is_on e.from e.to) w.sent k) (got w e.from e.to) ≡ b → Contains (mine ++ own ∷ []) (Deliver k)
         by true q =
             let less : rank (is_on e.from e.to) w.sent k < got w e.from e.to = grind (arith, nat_tests) in
-            append_first (Deliver k) mine (own ∷ []) (g.delivered k e at less)
+            Contains-append_left mine (own ∷ []) (Deliver k) (g.delivered k e at less)
         by false q =
             let up : got w e.from e.to ≤ rank (is_on e.from e.to) w.sent k = grind (arith, nat_tests) in
             let is = got_now f known e.from e.to in
@@ -225,10 +225,10 @@ module _ (top : TopologyValue) (some : 0 < top.shards) (done mine : List RunEven
                   (subst (λ a. rank (is_on a d.to) w.sent p.0 ≡ got w a d.to) link.0 p.2.ranks) in
                   let equal : rank (is_on e.from e.to) w.sent k ≡ rank (is_on e.from e.to) w.sent p.0 = omega (arith, is, one, up, lt, ranks) in
                   let same = same_rank (is_on e.from e.to) w.sent k p.0 e d at (on_itself e) p.2.at z.2 equal in
-                  subst (λ z. Among z (mine ++ own ∷ [])) (p.1 ∙ ap Deliver (sym same)) (among_last own mine)
+                  subst (λ z. Contains (mine ++ own ∷ []) z) (p.1 ∙ ap Deliver (sym same)) (Contains-push mine own)
             ]
 
-    delivered_later : (k : ℕ) (e : Envelope) → slice_get u.sent k ≡ Some e → rank (is_on e.from e.to) u.sent k < got u e.from e.to → Among (Deliver k) (mine ++ own ∷ [])
+    delivered_later : (k : ℕ) (e : Envelope) → slice_get u.sent k ≡ Some e → rank (is_on e.from e.to) u.sent k < got u e.from e.to → Contains (mine ++ own ∷ []) (Deliver k)
     delivered_later k e at lt = by (nat_lt k (length w.sent)) refl
       where
         at_more : slice_get (w.sent ++ s.sends) k ≡ Some e
@@ -237,7 +237,7 @@ module _ (top : TopologyValue) (some : 0 < top.shards) (done mine : List RunEven
         lt_more : rank (is_on e.from e.to) (w.sent ++ s.sends) k < got u e.from e.to
         lt_more = subst (λ l. rank (is_on e.from e.to) l k < got u e.from e.to) f.sent lt
 
-        by : (b : Bool) → nat_lt k (length w.sent) ≡ b → Among (Deliver k) (mine ++ own ∷ [])
+        by : (b : Bool) → nat_lt k (length w.sent) ≡ b → Contains (mine ++ own ∷ []) (Deliver k)
         by true q =
             let less : k < length w.sent = grind (arith, nat_tests) in
             let there = get_there w.sent k less in
@@ -262,11 +262,11 @@ module _ (top : TopologyValue) (some : 0 < top.shards) (done mine : List RunEven
             subst (λ z. clock_of (actor_in top w z) ≤ clock_of (actor_in top u z)) (sym here) (omega (arith, rises, now))
         by false q = let same = ap clock_of (f.others m q) in omega (arith, same)
 
-    times_later : (e : Envelope) → Among e u.sent → e.time ≤ clock_of (actor_in top u e.from)
-    times_later e m = elim (among_append e w.sent s.sends (subst (λ l. Among e l) f.sent m)) [
+    times_later : (e : Envelope) → Contains u.sent e → e.time ≤ clock_of (actor_in top u e.from)
+    times_later e m = elim (Contains-append_cases w.sent s.sends e (subst (λ l. Contains l e) f.sent m)) [
       | inl old ↦ let before = g.times e old in let up = clock_later e.from in omega (arith, before, up)
       | inr new ↦
-          let t = (step_ticks top n (actor_in top w n) x s f.takes).sends e (among_contains e s.sends new) in
+          let t = (step_ticks top n (actor_in top w n) x s f.takes).sends e new in
           let now : clock_of (actor_in top u e.from) ≡ clock_of s.state = ap (λ z. clock_of (actor_in top u z)) t.0 ∙ ap clock_of f.here in
           let time = t.1 in
           omega (arith, now, time)
@@ -322,7 +322,7 @@ module _ (top : TopologyValue) (some : 0 < top.shards) (events : List RunEvent) 
   module _ (done rest mine : List RunEvent) (split : events ≡ done ++ rest) (g : GoesLike top (run top done) mine) where
     -- what an actor sends later is later than all that it sent
     sent_later : (from : ℕ) → (later : List Envelope) × (sent_from (run top events) from ≡ sent_from (run top done) from ++ later)
-        × ((e : Envelope) → Among e later → clock_of (actor_in top (run top done) from) < e.time)
+        × ((e : Envelope) → Contains later e → clock_of (actor_in top (run top done) from) < e.time)
     sent_later from =
         let grows = journal_grows top some rest done from in
         let law = (run_journals top done some).each from in
@@ -331,7 +331,7 @@ module _ (top : TopologyValue) (some : 0 < top.shards) (events : List RunEvent) 
         (ap (replay_of top from) (sym grows.1) ∙ ap (λ l. replay_of top from (journal_in (run top l) from)) (sym split) ∙ whole) in
         (c.rest.sent, c.sent, sent_above top from (actor_in top (run top done) from) grows.0 c.rest c.replays)
 
-    next_sent : (e : Envelope) (more : List ActorEvent) → e.to < node_count top → Among e (run top done).sent
+    next_sent : (e : Envelope) (more : List ActorEvent) → e.to < node_count top → Contains (run top done).sent e
         → journal_in (run top events) e.to ≡ journal_in (run top done) e.to ++ Handle e ∷ more
         → (k : ℕ) × IsNextSent (run top done).sent e (got (run top done) e.from e.to) k
     next_sent e more lt sent whole = by (nat_lt count (length (on_link e.from e.to (run top done).sent))) refl
@@ -376,7 +376,7 @@ module _ (top : TopologyValue) (some : 0 < top.shards) (events : List RunEvent) 
         by false q =
             let past : length (on_link e.from e.to (run top done).sent) ≤ count = grind (arith, nat_tests) in
             let late = get_added (on_link e.from e.to (run top done).sent) (sends_to e.to (sent_later e.from).0) count e past there in
-            let among = filter_only (λ (z : Envelope). z.to == e.to) (sent_later e.from).0 e late in
+            let among = filter_contains (λ (z : Envelope). z.to == e.to) (sent_later e.from).0 e late in
             let above = (sent_later e.from).2 e among.0 in
             let before = g.times e sent in
             absurd (omega (arith, above, before))
@@ -461,7 +461,7 @@ module _ (top : TopologyValue) (some : 0 < top.shards) (events : List RunEvent) 
         journals = λ m. refl;
         fewer = λ from to. omega arith;
         delivered = λ k e at lt. absurd (cc);
-        times = λ e m. absurd m;
+        times = λ e m. absurd (none_in_empty e m);
       }
 
   -- a run with the same journals, by whose numbers the first messages of each link were delivered
@@ -476,7 +476,7 @@ IsAllReceived top w = (from to : ℕ) → from < node_count top → to < node_co
 
 below_count : (top : TopologyValue) (events : List RunEvent) → is_topology top.dcs top.shards top.homes ≡ true → (k : ℕ) (e : Envelope) → slice_get (run top events).sent k ≡ Some e
     → e.to < node_count top
-below_count top events ok k e at = elim (messages_are_for_actors top events ok e (among_contains e (run top events).sent (get_among (run top events).sent k e at))) [
+below_count top events ok k e at = elim (messages_are_for_actors top events ok e (contains_get (run top events).sent k e at)) [
   | inl shard ↦ shard_node_counts top e.to shard
   | inr session ↦ session_node_counts top e.to session
 ]
@@ -507,9 +507,9 @@ goes_quietly top events ok begins all =
         let z = get_there (run top own).sent k lt in
         let e = z.0 in
         let at : slice_get (run top events).sent k ≡ Some e = ap (λ l. slice_get l k) (sym g.sent) ∙ z.1 in
-        let from = (run_journals top events some).senders e (get_among (run top events).sent k e at) in
+        let from = (run_journals top events some).senders e (contains_get (run top events).sent k e at) in
         let to = below_count top events ok k e at in
         let below = rank_below (is_on e.from e.to) (run top events).sent k e at (on_itself e) in
         let up = all e.from e.to from to in
         let d = g.delivered k e at (omega (arith, below, up)) in
-        given number_delivered (run top own).events (Deliver k) k (among_contains (Deliver k) (run top own).events (subst (λ l. Among (Deliver k) l) (sym g.kept) d)) refl
+        given number_delivered (run top own).events (Deliver k) k (subst (λ l. Contains l (Deliver k)) (sym g.kept) d) refl

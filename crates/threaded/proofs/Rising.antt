@@ -1,6 +1,6 @@
 -- The operations of a session end in the order of their numbers: at each outcome its home is the one that the earlier numbers left.
 use Rattle.std.proofs.Common.{◌≡◌, ◌∙◌, ℕ, ◌+◌, ◌<◌, ◌≤◌, Bool, true, false, cond, List, [], ◌∷◌, map, Option, Some, None, Result, Ok, Err, ◌⊎◌, inl, inr, refl, sym, ap, subst, arith}
-use Rattle.std.specs.Prelude.{nat_lt, if◌then◌else◌}
+use Rattle.std.specs.Prelude.{nat_lt, if◌then◌else◌, Contains}
 use Rattle.std.specs.List.{cons_option}
 use Rattle.std.specs.Option.{unwrap_or}
 use Rattle.std.proofs.lemmas.Bool.Decides.{nat_tests}
@@ -20,12 +20,12 @@ use Rattle.messages.specs.Submitting.{move_if, begun, plan_fault, busy_or, submi
 use Rattle.messages.specs.Actors.{OfSession, ActorStep, of_session, actor_step, Replayed, replay, replay_of, home_after, home_before}
 use Rattle.world.specs.declared.completed.Completed.{Completed}
 use Rattle.world.specs.Journals.{finished_as}
-use Rattle.world.proofs.lists.Among.{Among}
 use Rattle.world.proofs.steps.HeardCases.{heard_kinds}
 use Rattle.world.proofs.steps.Moves.{session_took}
 use Rattle.world.proofs.replays.Replays.{unfolds}
 use Rattle.threaded.proofs.Ending.{on_clock_is}
 use Rattle.threaded.proofs.Machines.{opens_session}
+use Rattle.world.proofs.lists.Members.{none_in_empty, contains_first, contains_rest, contains_cases}
 
 -- ## What an event ends
 
@@ -131,18 +131,20 @@ later_stays home n m (f ∷ fs) rise le =
     let not_before : nat_lt f.number n ≡ false = grind (arith, nat_tests) in
     rw not_before (later_stays home n f.number fs rise.1 (omega (arith, lt, le)))
 
-above : (m : ℕ) (cs : List Completed) (d : Completed) → Rises m (map finished_as cs) → Among d cs → m < d.number
-above m [] d rise among = absurd among
-above m (c ∷ cs) d rise (inl same) = subst (λ (z : Completed). m < z.number) (sym same) rise.0
-above m (c ∷ cs) d rise (inr later) = let lt = rise.0 in let more = above c.number cs d rise.1 later in omega (arith, lt, more)
+above : (m : ℕ) (cs : List Completed) (d : Completed) → Rises m (map finished_as cs) → Contains cs d → m < d.number
+above m [] d rise has = absurd (none_in_empty d has)
+above m (c ∷ cs) d rise has = elim (contains_cases c d cs has) [
+  | inl same ↦ subst (λ (z : Completed). m < z.number) (sym same) rise.0
+  | inr later ↦ let lt = rise.0 in let more = above c.number cs d rise.1 later in omega (arith, lt, more)
+]
 
 -- so the home by numbers is the home one after the other
 pub go_home : (home m : ℕ) (cs : List Completed) → Rises m (map finished_as cs)
-    → ((c : Completed) → Among c cs → c.home ≡ home_before home (map finished_as cs) c.number) → GoHome home cs
+    → ((c : Completed) → Contains cs c → c.home ≡ home_before home (map finished_as cs) c.number) → GoHome home cs
 go_home home m [] rise each = tt
 go_home home m (c ∷ cs) rise each = (
-  each c (inl refl) ∙ at c.number false (itself c.number) ∙ later_stays home c.number c.number (map finished_as cs) rise.1 (omega arith),
-  go_home (home_after home c.outcome) c.number cs rise.1 (λ d later. each d (inr later) ∙ at d.number true (before c.number d.number (above c.number cs d rise.1 later))),
+  each c (contains_first c cs) ∙ at c.number false (itself c.number) ∙ later_stays home c.number c.number (map finished_as cs) rise.1 (omega arith),
+  go_home (home_after home c.outcome) c.number cs rise.1 (λ d later. each d (contains_rest c d cs later) ∙ at d.number true (before c.number d.number (above c.number cs d rise.1 later))),
 )
   where
     at : (n : ℕ) (b : Bool) → nat_lt c.number n ≡ b

@@ -8,13 +8,12 @@ use Rattle.messages.specs.Topology.{TopologyValue, node_count}
 use Rattle.actors.specs.Journals.{receipts_from, sends_to, followed_by}
 use Rattle.actors.specs.Seats.{SeatValue, through}
 use Rattle.actors.specs.Shown.{Shown, AreTimed, IsShown}
-use Rattle.world.proofs.lists.Among.{find_some}
-use Rattle.world.proofs.replays.Happenings.{among_get}
 use Rattle.threaded.specs.declared.actor.Actor.{Actor}
 use Rattle.threaded.specs.Machines.{CameFrom, untaken_of, is_free}
 use Rattle.threaded.specs.OneRun.{seat_of, journal_at, journal_of, AreSeatsOf}
 use Rattle.threaded.specs.Matching.{AreKept, AreAllTimed, sent_at, sent_to, DoReceive}
 use Rattle.threaded.specs.Shown.{DidCome, DoShownMatch, HaveSenders}
+use Rattle.world.proofs.lists.Members.{contains_at}
 
 -- ## The seat of a node
 
@@ -33,8 +32,8 @@ pub record IsSeated (top : TopologyValue) (seats : List SeatValue) (node : ℕ) 
 pub seated : (top : TopologyValue) (seats : List SeatValue) (node : ℕ) → AreSeatsOf top seats → AreKept (node_count top) seats → node < node_count top → IsSeated top seats node
 seated top seats node are kept lt =
     let s = are.each node lt in
-    let f = find_some (λ (z : SeatValue). z.node == node) seats s.0 s.1 in
-    let k = among_get seats s.0 f.0 in
+    let f = found (λ (z : SeatValue). z.node == node) seats s.0 s.1 in
+    let k = contains_at seats s.0 f.0 in
     let m = kept node s.0 lt s.1 in
     let own = eqb-true s.0.node node f.1 in
     let of = are.topology k.0 s.0 k.1 in

@@ -1,6 +1,6 @@
 -- What seats show tells whether their journals are a run.
 use Rattle.std.proofs.Common.{◌≡◌, ◌∙◌, ℕ, zero, suc, ◌<◌, ◌≤◌, Bool, true, false, List, [], ◌∷◌, ◌++◌, length, take, drop, slice_get, Option, Some, None, inl, inr, refl, sym, ap, subst, arith, eqb-true, eq-eqb, le_refl}
-use Rattle.std.specs.Prelude.{◌==◌, ◌↔◌, nat_lt, filter_map}
+use Rattle.std.specs.Prelude.{◌==◌, ◌↔◌, nat_lt, filter_map, Contains}
 use Rattle.std.specs.Option.{unwrap_or}
 use Rattle.std.specs.List.{cons_option}
 use Rattle.std.proofs.lemmas.Bool.Decides.{nat_tests}
@@ -18,8 +18,7 @@ use Rattle.actors.specs.Journals.{receipts_from, sends_to}
 use Rattle.world.specs.declared.run_event.RunEvent.{RunEvent}
 use Rattle.world.specs.Run.{Run, run}
 use Rattle.world.specs.Journals.{actor_in, journal_in, held_in, sent_from, DoFit}
-use Rattle.world.proofs.lists.Among.{Among, among_contains, contains_among, append_first, append_second, among_append, filter_only, filter_among}
-use Rattle.world.proofs.replays.Happenings.{among_get}
+use Rattle.world.proofs.lists.Members.{contains_first, contains_rest, Contains-append_left, Contains-append_right, Contains-append_cases, contains_filter, filter_contains, contains_get, contains_at}
 use Rattle.world.proofs.steps.Ticks.{step_ticks}
 use Rattle.world.proofs.replays.Replays.{replay_push, NextAbove, rest_above}
 use Rattle.world.proofs.replays.OwnJournals.{run_journals, runs_fit}
@@ -37,17 +36,17 @@ use Rattle.threaded.proofs.Stages.{runs_stay_apart, DoGoOn, IsReached, AreSentBe
 -- ## Lists
 
 -- what stands below a length is in the beginning of that length
-get_take : {X : Type 0} (xs : List X) (i n : ℕ) (x : X) → slice_get xs i ≡ Some x → i < n → Among x (take n xs)
+get_take : {X : Type 0} (xs : List X) (i n : ℕ) (x : X) → slice_get xs i ≡ Some x → i < n → Contains (take n xs) x
 get_take [] i n x at lt = absurd (cc)
 get_take (y ∷ ys) i zero x at lt = absurd (omega arith)
-get_take (y ∷ ys) zero (suc n) x at lt = let same : y ≡ x = cc in inl (sym same)
-get_take (y ∷ ys) (suc i) (suc n) x at lt = inr (get_take ys i n x at (omega arith))
+get_take (y ∷ ys) zero (suc n) x at lt = contains_get (y ∷ take n ys) zero x at
+get_take (y ∷ ys) (suc i) (suc n) x at lt = contains_rest y x (take n ys) (get_take ys i n x at (omega arith))
 
 -- the part of a list between two lengths
 record Segment {X : Type 0} (xs : List X) (first last : ℕ) (x : X) : Type 0 where
   pub part : List X
   pub whole : take last xs ≡ take first xs ++ part
-  pub among : Among x part
+  pub among : Contains part x
 
 segment : {X : Type 0} (xs : List X) (first last i : ℕ) (x : X) → first ≤ i → i < last → slice_get xs i ≡ Some x → Segment xs first last x
 segment [] first last i x le lt at = absurd (cc)
@@ -98,10 +97,10 @@ event_at (x ∷ xs) zero lt = (x, refl)
 event_at (x ∷ xs) (suc k) lt = event_at xs k (omega arith)
 
 -- what is handled from a node is a receipt from there
-among_receipts : (e : Envelope) (journal : List ActorEvent) → Among (Handle e) journal → Among e (receipts_from e.from journal)
+among_receipts : (e : Envelope) (journal : List ActorEvent) → Contains journal (Handle e) → Contains (receipts_from e.from journal) e
 among_receipts e journal m =
-    filter_among (λ (z : Envelope). z.from == e.from) (filter_map envelope_of journal) e
-    (contains_among e (filter_map envelope_of journal) (given envelope_of journal (Handle e) e (among_contains (Handle e) journal m) refl)) (eq-eqb e.from e.from refl)
+    contains_filter (λ (z : Envelope). z.from == e.from) (filter_map envelope_of journal) e
+    (given envelope_of journal (Handle e) e m refl) (eq-eqb e.from e.from refl)
 
 -- ## One actor
 
@@ -169,9 +168,9 @@ module _ (top : TopologyValue) (node : ℕ) (s : Shown) (along : DidCome top nod
         ∙ filter-append (λ (z : Envelope). z.to == e.to) f.replay.sent t.0.sends
         ∙ ap (λ l. l ++ sends_to e.to t.0.sends) (sym (f.sends e.to)) in
         let rest = same_rest (sends_to e.to (sent_after s k)) (sends_to e.to p.part) (sends_to e.to t.0.sends) split in
-        let there = filter_among (λ (z : Envelope). z.to == e.to) p.part e p.among (eq-eqb e.to e.to refl) in
-        let now = filter_only (λ (z : Envelope). z.to == e.to) t.0.sends e (subst (λ l. Among e l) rest there) in
-        let time = ((step_ticks top node f.replay.state x.0 t.0 t.1).sends e (among_contains e t.0.sends now.0)).1 in
+        let there = contains_filter (λ (z : Envelope). z.to == e.to) p.part e p.among (eq-eqb e.to e.to refl) in
+        let now = filter_contains (λ (z : Envelope). z.to == e.to) t.0.sends e (subst (λ l. Contains l e) rest there) in
+        let time = ((step_ticks top node f.replay.state x.0 t.0 t.1).sends e now.0).1 in
         time ∙ ap (λ (z : Replayed). clock_of z.state) same ∙ clock_told top node (take (suc k) s.journal) g.replay g.replays
 
 -- ## What a run tells of all actors
@@ -209,11 +208,11 @@ module _ (top : TopologyValue) (shown : ℕ → Shown) (some : 0 < top.shards) (
   go_on : DoGoOn top (λ n. (shown n).journal) some
   go_on node before x after lt = goes_on top node (shown node) (along node lt) before x after
 
-  among_whole : (done : List ActorEvent) (e : Envelope) (more journal : List ActorEvent) → journal ≡ done ++ Handle e ∷ more → Among (Handle e) journal
-  among_whole done e more journal whole = subst (λ l. Among (Handle e) l) (sym whole) (append_second (Handle e) done (Handle e ∷ more) (inl refl))
+  among_whole : (done : List ActorEvent) (e : Envelope) (more journal : List ActorEvent) → journal ≡ done ++ Handle e ∷ more → Contains journal (Handle e)
+  among_whole done e more journal whole = subst (λ l. Contains l (Handle e)) (sym whole) (Contains-append_right done (Handle e ∷ more) (Handle e) (contains_first (Handle e) more))
 
-  sender_of : (node : ℕ) (e : Envelope) → node < node_count top → Among (Handle e) (shown node).journal → e.from < node_count top
-  sender_of node e lt m = senders node e lt (among_contains (Handle e) (shown node).journal m)
+  sender_of : (node : ℕ) (e : Envelope) → node < node_count top → Contains (shown node).journal (Handle e) → e.from < node_count top
+  sender_of node e lt m = senders node e lt m
 
   -- ## By what is shown
 
@@ -221,7 +220,7 @@ module _ (top : TopologyValue) (shown : ℕ → Shown) (some : 0 < top.shards) (
     -- what was sent up to a clock is sent by those who have come so far
     sent_so_far : (events : List RunEvent) (clock m i : ℕ) (e : Envelope) (lt : m < node_count top)
         → IsReached top (λ n. (shown n).journal) some (journal_in (run top events) m) m clock
-        → slice_get (shown m).sent i ≡ Some e → e.time ≤ clock → Among e (run top events).sent
+        → slice_get (shown m).sent i ≡ Some e → e.time ≤ clock → Contains (run top events).sent e
     sent_so_far events clock m i e lt d at le =
         let w = run top events in
         let s = shown m in
@@ -236,21 +235,21 @@ module _ (top : TopologyValue) (shown : ℕ → Shown) (some : 0 < top.shards) (
         apart_before top m (take (suc p.k) s.journal) (drop (suc p.k) (journal_in w m))
         (subst (λ l. StaysApart top m l) begins (runs_stay_apart top events m some)) in
         let f = so_far top m s (along m lt) (suc p.k) p.within apart in
-        let there = filter_among (λ (z : Envelope). z.to == e.to) (sent_after s (suc p.k)) e (get_take s.sent i (mark_after s.marks (suc p.k)) e at p.below) (eq-eqb e.to e.to refl) in
-        let early = filter_only (λ (z : Envelope). z.to == e.to) f.replay.sent e (subst (λ l. Among e l) (f.sends e.to) there) in
+        let there = contains_filter (λ (z : Envelope). z.to == e.to) (sent_after s (suc p.k)) e (get_take s.sent i (mark_after s.marks (suc p.k)) e at p.below) (eq-eqb e.to e.to refl) in
+        let early = filter_contains (λ (z : Envelope). z.to == e.to) f.replay.sent e (subst (λ l. Contains l e) (f.sends e.to) there) in
         let c = replay_continues top m (opening_actor top m) (take (suc p.k) s.journal) (drop (suc p.k) (journal_in w m)) f.replay (held_in top w m) f.replays
         (ap (replay_of top m) (sym begins) ∙ (run_journals top events some).each m) in
-        let held : Among e (sent_from w m) = subst (λ l. Among e l) (sym c.sent) (append_first e f.replay.sent c.rest.sent early.0) in
-        (filter_only (λ (z : Envelope). z.from == m) w.sent e held).0
+        let held : Contains (sent_from w m) e = subst (λ l. Contains l e) (sym c.sent) (Contains-append_left f.replay.sent c.rest.sent e early.0) in
+        (filter_contains (λ (z : Envelope). z.from == m) w.sent e held).0
 
     shown_before : AreSentBefore top (λ n. (shown n).journal) some
     shown_before events clock node e more lt reached whole le =
         let has = among_whole (journal_in (run top events) node) e more (shown node).journal whole in
         let from = sender_of node e lt has in
         let b = match e.from node from lt in
-        let sent = filter_only (λ (z : Envelope). z.to == node) (shown e.from).sent e
-        (subst (λ l. Among e l) (sym b.1) (append_first e (receipts_from e.from (shown node).journal) b.0 (among_receipts e (shown node).journal has))) in
-        let i = among_get (shown e.from).sent e sent.0 in
+        let sent = filter_contains (λ (z : Envelope). z.to == node) (shown e.from).sent e
+        (subst (λ l. Contains l e) (sym b.1) (Contains-append_left (receipts_from e.from (shown node).journal) b.0 e (among_receipts e (shown node).journal has))) in
+        let i = contains_at (shown e.from).sent e sent.0 in
         (eqb-true e.to node sent.1, sent_so_far events clock e.from i.0 e from (reached e.from from) i.1 le)
 
     pub shown_fit : DoFit top (λ n. (shown n).journal)
@@ -271,17 +270,17 @@ module _ (top : TopologyValue) (shown : ℕ → Shown) (some : 0 < top.shards) (
 
     sends_so_far : (events : List RunEvent) (clock m : ℕ) (e : Envelope)
         → IsReached top (λ n. (shown n).journal) some (journal_in (run top events) m) m clock
-        → Among e (sent_by top m (shown m).journal) → e.time ≤ clock → Among e (run top events).sent
+        → Contains (sent_by top m (shown m).journal) e → e.time ≤ clock → Contains (run top events).sent e
     sends_so_far events clock m e d sent le = by (replay_of top m (shown m).journal) refl sent
       where
-        by : (o : Option Replayed) → replay_of top m (shown m).journal ≡ o → Among e (sent_in o) → Among e (run top events).sent
+        by : (o : Option Replayed) → replay_of top m (shown m).journal ≡ o → Contains (sent_in o) e → Contains (run top events).sent e
         by None q sent = absurd sent
         by (Some r) q sent =
             let w = run top events in
             let law = (run_journals top events some).each m in
             let c = replay_continues top m (opening_actor top m) (journal_in w m) d.left (held_in top w m) r law (ap (replay_of top m) (sym d.whole) ∙ q) in
-            elim (among_append e (sent_from w m) c.rest.sent (subst (λ l. Among e l) c.sent sent)) [
-              | inl now ↦ (filter_only (λ (z : Envelope). z.from == m) w.sent e now).0
+            elim (Contains-append_cases (sent_from w m) c.rest.sent e (subst (λ l. Contains l e) c.sent sent)) [
+              | inl now ↦ (filter_contains (λ (z : Envelope). z.from == m) w.sent e now).0
               | inr later ↦
                   let above = rest_above top m clock (actor_in top w m) d.left c.rest c.replays
                   (next_is_above m clock w d.left (clock_told top m (journal_in w m) (held_in top w m) law) d.above) e later in
@@ -293,8 +292,8 @@ module _ (top : TopologyValue) (shown : ℕ → Shown) (some : 0 < top.shards) (
         let has = among_whole (journal_in (run top events) node) e more (shown node).journal whole in
         let from = sender_of node e lt has in
         let b = match e.from node from lt in
-        let sent = filter_only (λ (z : Envelope). z.to == node) (sent_by top e.from (shown e.from).journal) e
-        (subst (λ l. Among e l) (sym b.1) (append_first e (receipts_from e.from (shown node).journal) b.0 (among_receipts e (shown node).journal has))) in
+        let sent = filter_contains (λ (z : Envelope). z.to == node) (sent_by top e.from (shown e.from).journal) e
+        (subst (λ l. Contains l e) (sym b.1) (Contains-append_left (receipts_from e.from (shown node).journal) b.0 e (among_receipts e (shown node).journal has))) in
         (eqb-true e.to node sent.1, sends_so_far events clock e.from e (reached e.from from) sent.0 le)
 
     pub matching_fit : DoFit top (λ n. (shown n).journal)

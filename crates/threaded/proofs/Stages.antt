@@ -1,7 +1,7 @@
 -- Journals whose replays go on wherever stamps stay apart are a run, if what is handled was sent by journals that have come
 -- so far: their events in the order of the clocks after them, and at one clock of the nodes.
 use Rattle.std.proofs.Common.{append-nil, ◌≡◌, ◌∙◌, ℕ, zero, suc, ◌<◌, ◌≤◌, ◌^◌, Bool, true, false, List, [], ◌∷◌, ◌++◌, Some, inl, inr, refl, sym, ap, subst, arith, eqb-true, le_refl}
-use Rattle.std.specs.Prelude.{◌==◌, nat_lt}
+use Rattle.std.specs.Prelude.{◌==◌, nat_lt, Contains}
 use Rattle.std.proofs.lemmas.Bool.Decides.{nat_tests}
 use Rattle.std.proofs.lemmas.List.{append_assoc}
 use Rattle.messages.specs.declared.envelope.Envelope.{Envelope}
@@ -12,7 +12,6 @@ use Rattle.messages.specs.Actors.{clock_of, opening_actor, ActorStep, actor_step
 use Rattle.world.specs.declared.run_event.RunEvent.{RunEvent}
 use Rattle.world.specs.Run.{Run, opening, step, run}
 use Rattle.world.specs.Journals.{actor_in, journal_in, held_in, IsThreadedRun}
-use Rattle.world.proofs.lists.Among.{Among}
 use Rattle.world.proofs.steps.Refusals.{kept_is_run}
 use Rattle.world.proofs.safety.Runs.{run_after}
 use Rattle.world.proofs.steps.Ticks.{step_ticks}
@@ -81,7 +80,7 @@ module _ (top : TopologyValue) (journals : ℕ → List ActorEvent) (some : 0 < 
   AreSentBefore =
       (events : List RunEvent) (clock node : ℕ) (e : Envelope) (more : List ActorEvent) → node < node_count top
       → ((m : ℕ) → m < node_count top → IsReached (journal_in (run top events) m) m clock)
-      → journals node ≡ journal_in (run top events) node ++ Handle e ∷ more → e.time ≤ clock → (e.to ≡ node) × Among e (run top events).sent
+      → journals node ≡ journal_in (run top events) node ++ Handle e ∷ more → e.time ≤ clock → (e.to ≡ node) × Contains (run top events).sent e
 
   -- ## Stages
 

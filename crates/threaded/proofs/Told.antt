@@ -1,6 +1,6 @@
 -- The entries that the seats of sessions tell are those of the run.
-use Rattle.std.proofs.Common.{◌≡◌, ◌∙◌, ℕ, zero, suc, ◌+◌, ◌<◌, true, false, List, [], ◌∷◌, ◌++◌, map, length, Some, inl, inr, refl, sym, ap, arith, eqb-true}
-use Rattle.std.specs.Prelude.{◌==◌, filter, flat_map, option_map}
+use Rattle.std.proofs.Common.{◌≡◌, ◌∙◌, ℕ, zero, suc, ◌+◌, ◌<◌, true, false, List, [], ◌∷◌, ◌++◌, map, length, Some, refl, sym, ap, arith, eqb-true}
+use Rattle.std.specs.Prelude.{◌==◌, filter, flat_map, option_map, Contains}
 use Rattle.std.specs.List.{range_with_len, cons_option}
 use Rattle.std.proofs.lemmas.Bool.Decides.{nat_tests}
 use Rattle.messages.specs.declared.op.Op.{Op}
@@ -15,7 +15,7 @@ use Rattle.world.specs.declared.run_event.RunEvent.{RunEvent}
 use Rattle.world.specs.Run.{Run, run}
 use Rattle.world.specs.Journals.{journal_in, finished_as, ended_at, held_in, IsRunOf}
 use Rattle.world.specs.Threads.{op_numbered}
-use Rattle.world.proofs.lists.Among.{Among, among_contains, filter_only}
+use Rattle.world.proofs.lists.Members.{contains_first, contains_rest, filter_contains}
 use Rattle.world.proofs.causal.Homes.{homes_are_of_moves}
 use Rattle.world.proofs.promised.Laws.{entries_are_of_submissions}
 use Rattle.world.proofs.replays.OwnJournals.{run_journals}
@@ -48,7 +48,7 @@ module _ (node : ℕ) (journal : List ActorEvent) where
 
   -- so it is of all outcomes, one after the other
   entries_agree : (home : ℕ) (os : List (ℕ × Outcome)) (cs : List Completed) → map as_finished os ≡ map finished_as cs
-      → ((c : Completed) → Among c cs → IsOf node journal c) → GoHome home cs → entries_from node home journal os ≡ cs
+      → ((c : Completed) → Contains cs c → IsOf node journal c) → GoHome home cs → entries_from node home journal os ≡ cs
   entries_agree home [] [] same each homes = refl
   entries_agree home [] (c ∷ cs) same each homes = absurd (cc)
   entries_agree home (o ∷ os) [] same each homes = absurd (cc)
@@ -56,9 +56,9 @@ module _ (node : ℕ) (journal : List ActorEvent) where
       let first : as_finished o ≡ finished_as c = cc in
       let rest : map as_finished os ≡ map finished_as cs = cc in
       let outcome : o.1 ≡ c.outcome = ap (λ (f : Finished). f.outcome) first in
-      ap (λ p. cons_option p (entries_from node (home_after home o.1) journal os)) (entry_is home o c first (each c (inl refl)) homes.0)
+      ap (λ p. cons_option p (entries_from node (home_after home o.1) journal os)) (entry_is home o c first (each c (contains_first c cs)) homes.0)
       ∙ ap (λ (z : Outcome). c ∷ entries_from node (home_after home z) journal os) outcome
-      ∙ ap (λ l. c ∷ l) (entries_agree (home_after home c.outcome) os cs rest (λ d m. each d (inr m)) homes.1)
+      ∙ ap (λ l. c ∷ l) (entries_agree (home_after home c.outcome) os cs rest (λ d m. each d (contains_rest c d cs m)) homes.1)
 
 -- ## All sessions
 
@@ -81,10 +81,10 @@ module _ (top : TopologyValue) (seats : List SeatValue) (events : List RunEvent)
   of_node node = filter (λ (c : Completed). c.node == node) w.transcript
 
   -- each entry of a session in the transcript is of the operation in its seat's journal
-  own_entry : (node : ℕ) (s : SeatValue) → seat_of seats node ≡ Some s → (c : Completed) → Among c (of_node node) → IsOf node s.journal c
+  own_entry : (node : ℕ) (s : SeatValue) → seat_of seats node ≡ Some s → (c : Completed) → Contains (of_node node) c → IsOf node s.journal c
   own_entry node s found c m =
-      let (listed, here) = filter_only (λ (z : Completed). z.node == node) w.transcript c m in
-      let of = entries_are_of_submissions top events some c (among_contains c w.transcript listed) in
+      let (listed, here) = filter_contains (λ (z : Completed). z.node == node) w.transcript c m in
+      let of = entries_are_of_submissions top events some c listed in
       let b = of.submission in
       let mine : c.node ≡ node = eqb-true c.node node here in
       let session : b.session ≡ node = of.session ∙ mine in
@@ -99,10 +99,10 @@ module _ (top : TopologyValue) (seats : List SeatValue) (events : List RunEvent)
       }
 
   -- and of the home where the moves before it left the session
-  own_home : (node : ℕ) (c : Completed) → Among c (of_node node) → c.home ≡ home_before (opening_home top node) (ended_at w node) c.number
+  own_home : (node : ℕ) (c : Completed) → Contains (of_node node) c → c.home ≡ home_before (opening_home top node) (ended_at w node) c.number
   own_home node c m =
-      let (listed, here) = filter_only (λ (z : Completed). z.node == node) w.transcript c m in
-      homes_are_of_moves top events some c (among_contains c w.transcript listed)
+      let (listed, here) = filter_contains (λ (z : Completed). z.node == node) w.transcript c m in
+      homes_are_of_moves top events some c listed
       ∙ ap (λ (n : ℕ). home_before (opening_home top n) (ended_at w n) c.number) (eqb-true c.node node here)
 
   go_homes : (node : ℕ) → is_shard top node ≡ false → GoHome (opening_home top node) (of_node node)

@@ -1,6 +1,6 @@
 -- The histories that an audit goes by, and that it finds no wrong read in a run.
 use Rattle.std.proofs.Common.{◌≡◌, ◌∙◌, ℕ, zero, suc, ◌+◌, ◌<◌, Bool, true, false, not, List, [], ◌∷◌, ◌++◌, length, Option, Some, Result, Ok, Err, ◌⊎◌, inl, inr, refl, ap, sym, subst, slice_get, arith}
-use Rattle.std.specs.Prelude.{IfOk, IsOkAnd}
+use Rattle.std.specs.Prelude.{IfOk, IsOkAnd, Contains}
 use Rattle.std.specs.List.{count_by}
 use Rattle.std.proofs.lemmas.List.{length-append}
 use Rattle.logical_time.specs.declared.fault.Fault.{Fault}
@@ -19,7 +19,6 @@ use Rattle.world.specs.Run.{Run, run}
 use Rattle.world.specs.Histories.{IsHistory}
 use Rattle.world.specs.Promises.{Fits}
 use Rattle.world.proofs.envelopes.Addresses.{stands}
-use Rattle.world.proofs.lists.Among.{Among, among_contains}
 use Rattle.world.proofs.causal.Homes.{homes_are_of_moves}
 use Rattle.world.proofs.causal.HomesThere.{home_is_there}
 use Rattle.world.proofs.promised.Laws.{reads_show_one_table, entries_are_of_submissions}
@@ -33,6 +32,7 @@ use Rattle.workload.specs.Audited.{AreFirstHistories}
 use Rattle.workload.specs.HasTold.{HasTold}
 use Rattle.workload.specs.Simulation.{run_of, events_in, IsTranscriptOf}
 use Rattle.workload.proofs.Shown.{read_of, shown_told}
+use Rattle.world.proofs.lists.Members.{contains_first, contains_rest}
 
 -- ## Histories
 
@@ -62,34 +62,34 @@ there_is [] k lt = absurd (omega arith)
 there_is (x ∷ xs) zero lt = (x, refl)
 there_is (x ∷ xs) (suc k) lt = there_is xs k (omega arith)
 
-pub none_counted : {X : Type 0} (p : X → Bool) (xs : List X) → ((x : X) → Among x xs → p x ≡ false) → count_by p xs ≡ 0
+pub none_counted : {X : Type 0} (p : X → Bool) (xs : List X) → ((x : X) → Contains xs x → p x ≡ false) → count_by p xs ≡ 0
 none_counted p [] fails = refl
-none_counted p (x ∷ xs) fails = rw (fails x (inl refl)) (none_counted p xs (λ y among. fails y (inr among)))
+none_counted p (x ∷ xs) fails = rw (fails x (contains_first x xs)) (none_counted p xs (λ y among. fails y (contains_rest x y xs among)))
 
 right_by : (o : Option History) (a : Op) (h : History) (read : Read) (time : ℕ) (answer : List AnsweredRow) → o ≡ Some h → a ≡ op.Read read → answer ≡ meaning read h time
     → is_right o a time answer ≡ true
 right_by o a h read time answer there asked means = rw (there, asked) ((right_is_meaning h read time answer).1 means)
 
 module _ (top : TopologyValue) (events : List RunEvent) (histories : List History) (is : is_topology top.dcs top.shards top.homes ≡ true) (are : AreFirstHistories top (run top events) top.dcs histories) where
-  has_history : (c : Completed) → Among c (run top events).transcript → (h : History) × (slice_get histories c.home ≡ Some h)
+  has_history : (c : Completed) → Contains (run top events).transcript c → (h : History) × (slice_get histories c.home ≡ Some h)
   has_history c among =
-      let at = homes_are_of_moves top events (stands top is).some c (among_contains c (run top events).transcript among) in
+      let at = homes_are_of_moves top events (stands top is).some c among in
       let there : c.home < top.dcs = subst (λ h. h < top.dcs) (sym at) (home_is_there top events is c.node c.number) in
       there_is histories c.home (subst (λ n. c.home < n) (sym are.all) there)
 
-  right_there : (c : Completed) → Among c (run top events).transcript → (read : Read) (time : ℕ) (answer : List AnsweredRow) → c.op ≡ op.Read read
+  right_there : (c : Completed) → Contains (run top events).transcript c → (read : Read) (time : ℕ) (answer : List AnsweredRow) → c.op ≡ op.Read read
       → c.outcome ≡ outcome.Read time answer → is_right (slice_get histories c.home) c.op time answer ≡ true
   right_there c among read time answer asked came =
       let (h, there) = has_history c among in
       right_by (slice_get histories c.home) c.op h read time answer there asked
       (reads_show_one_table top events (stands top is).some c read time answer h
-      (record { completed = among_contains c (run top events).transcript among; op = asked; outcome = came }) (are.each c.home h there))
+      (record { completed = among; op = asked; outcome = came }) (are.each c.home h there))
 
-  pub never_wrong : (c : Completed) → Among c (run top events).transcript → is_wrong histories c ≡ false
+  pub never_wrong : (c : Completed) → Contains (run top events).transcript c → is_wrong histories c ≡ false
   never_wrong c among = by c.outcome refl
     where
       fits : Fits c.op c.outcome
-      fits = (entries_are_of_submissions top events (stands top is).some c (among_contains c (run top events).transcript among)).fits
+      fits = (entries_are_of_submissions top events (stands top is).some c among).fits
 
       by : (o : Outcome) → c.outcome ≡ o → is_wrong_on (slice_get histories c.home) c.op o ≡ false
       by (outcome.Wrote commit stamp) q = refl

@@ -13,7 +13,7 @@ use Rattle.world.specs.declared.run_event.RunEvent.{RunEvent}
 use Rattle.world.specs.declared.completed.Completed.{Completed}
 use Rattle.world.specs.Run.{Run, opening, run}
 use Rattle.world.specs.Promises.{Fits}
-use Rattle.world.proofs.lists.Among.{among_contains, contains_among, filter_among, map_only}
+use Rattle.world.proofs.lists.Members.{mapped_from, contains_filter}
 use Rattle.world.proofs.promised.Laws.{reads_show_one_table, entries_are_of_submissions}
 use Rattle.workload.specs.declared.script.ScriptEvent.{ScriptEvent}
 use Rattle.workload.specs.declared.script.Script.{Script}
@@ -52,9 +52,9 @@ pub shows : (top : TopologyValue) (events : List RunEvent) → 0 < top.shards �
     → ShowsOneTable top (run top events) node number time answer
 shows top events some node number time answer has =
     let w = run top events in
-    let (c, among, is) = map_only entry_of w.transcript (entry.Read node number time answer) (contains_among _ _ has) in
+    let (c, among, is) = mapped_from entry_of w.transcript (entry.Read node number time answer) has in
     let r = of_read c node number time answer is in
-    let there : Contains w.transcript c = among_contains c w.transcript among in
+    let there : Contains w.transcript c = among in
     let (read, asked) = read_of c.op time answer (subst (Fits c.op) r.came (entries_are_of_submissions top events some c there).fits) in
     let same : c ≡ record { node = node; number = number; home = c.home; op = op.Read read; outcome = outcome.Read time answer } =
     λ i. record { node = r.by i; number = r.of i; home = c.home; op = asked i; outcome = r.came i } in
@@ -75,7 +75,7 @@ is_transcript s entries some h =
       reads = λ node number time answer has.
           shows s.topology (events_of s) some node number time answer
           (subst (λ es. Contains es (entry.Read node number time answer)) t.outcomes
-          (among_contains _ _ (filter_among is_outcome entries (entry.Read node number time answer) (contains_among _ _ has) refl)));
+          (contains_filter is_outcome entries (entry.Read node number time answer) has refl));
     }
 
 -- the entries that were told of the events of a script are its transcript

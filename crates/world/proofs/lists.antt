@@ -1,5 +1,5 @@
 -- Lists: membership, pairs of places, sums, one place replaced.
-pub mod Among
+pub mod Members
 pub mod Pairs
 pub mod Totals
 pub mod Replacing

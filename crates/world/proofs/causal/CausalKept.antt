@@ -1,6 +1,6 @@
 -- Each event keeps causal order: a shard's step, a session's step, and a submission.
 use Rattle.std.proofs.Common.{◌≡◌, ℕ, ◌<◌, ◌≤◌, Bool, true, false, cond, List, [], ◌∷◌, ◌++◌, Option, Some, None, Ok, ◌⊎◌, inl, inr, refl, sym, ap, ◌∙◌, subst, arith, eqb-true, le_refl, le_trans, le_of_lt}
-use Rattle.std.specs.Prelude.{◌==◌, option_map}
+use Rattle.std.specs.Prelude.{◌==◌, option_map, Contains}
 use Rattle.std.proofs.lemmas.Bool.{false≢true}
 use Rattle.logical_time.specs.Stamps.{TxnValue, WriterValue}
 use Rattle.messages.specs.declared.rows_at.RowAt.{RowAt}
@@ -19,7 +19,7 @@ use Rattle.messages.specs.Actors.{home_after}
 use Rattle.world.specs.Run.{Run, RunEvent, Submission, Completed, submission_of, completed_of, ended_by, with_ended, after_shard, after_session}
 use Rattle.messages.proofs.WritersInOrder.{writers_stay}
 use Rattle.world.specs.Committed.{time_of, IsNotBelow}
-use Rattle.world.proofs.lists.Among.{Among, among_contains, append_first, append_second, last_or_old, contains_among, find_some, same_txn}
+use Rattle.world.proofs.lists.Members.{none_in_empty, contains_first, contains_rest, last_or_old, Contains-append_left, Contains-append_right, found, same_txn}
 use Rattle.world.specs.Promises.{Fits}
 use Rattle.world.proofs.steps.EndCases.{end_cases}
 use Rattle.world.proofs.growing.Growth.{ShardGrows, Grows}
@@ -35,11 +35,11 @@ use Rattle.world.proofs.causal.Causal.{txn_ended, Covered, direct, via, LaterCov
 
 -- ## What is covered stays so
 
-pub covered_grows : {w x : Run} {t : TxnValue} (deps : List WriterValue) → ((b : Submission) → Among b w.submitted → Among b x.submitted) → Covered w t deps → Covered x t deps
+pub covered_grows : {w x : Run} {t : TxnValue} (deps : List WriterValue) → ((b : Submission) → Contains w.submitted b → Contains x.submitted b) → Covered w t deps → Covered x t deps
 covered_grows deps f (direct l k m e) = direct l k m e
 covered_grows deps f (via l k b m i e c) = via l k b m (f b i) e (covered_grows b.dependencies f c)
 
-pub covered_more : {w : Run} {t : TxnValue} (deps more : List WriterValue) → ((k : WriterValue) → Among k deps → Among k more) → Covered w t deps → Covered w t more
+pub covered_more : {w : Run} {t : TxnValue} (deps more : List WriterValue) → ((k : WriterValue) → Contains deps k → Contains more k) → Covered w t deps → Covered w t more
 covered_more deps more f (direct l k m e) = direct more k (f k m) e
 covered_more deps more f (via l k b m i e c) = via more k b (f k m) i e c
 
@@ -101,7 +101,7 @@ found_new top w node what came inv opened c e = go (submission_of w.submitted t)
     go None q r = absurd (cc)
     go (Some s) q r =
         let is : ended_as s ≡ c = cc in
-        let i = find_some (λ s. is_same_txn (record { session = s.session; number = s.number }) t) w.submitted s q in
+        let i = found (λ s. is_same_txn (record { session = s.session; number = s.number }) t) w.submitted s q in
         let same : s ≡ opened.submission =
         inv.submitted.one s opened.submission i.0 opened.among (same_txn (txn_of s) t i.1 ∙ λ j. record { session = sym opened.session j; number = sym opened.number j }) in
         record {
@@ -114,15 +114,13 @@ found_new top w node what came inv opened c e = go (submission_of w.submitted t)
 
 -- ## The writers that a read adds
 
-old_writers : (rows : List RowAt) (old : List WriterValue) (k : WriterValue) → Among k old → Among k (with_writers old rows)
+old_writers : (rows : List RowAt) (old : List WriterValue) (k : WriterValue) → Contains old k → Contains (with_writers old rows) k
 old_writers rows old k m =
-    contains_among k (with_writers old rows)
-    ((writers_stay (old ++ writers_in rows) k).1 (among_contains k (old ++ writers_in rows) (append_first k old (writers_in rows) m)))
+    (writers_stay (old ++ writers_in rows) k).1 (Contains-append_left old (writers_in rows) k m)
 
-pub new_writers : (rows : List RowAt) (old : List WriterValue) (k : WriterValue) → Among k (writers_in rows) → Among k (with_writers old rows)
+pub new_writers : (rows : List RowAt) (old : List WriterValue) (k : WriterValue) → Contains (writers_in rows) k → Contains (with_writers old rows) k
 new_writers rows old k m =
-    contains_among k (with_writers old rows)
-    ((writers_stay (old ++ writers_in rows) k).1 (among_contains k (old ++ writers_in rows) (append_second k old (writers_in rows) m)))
+    (writers_stay (old ++ writers_in rows) k).1 (Contains-append_right old (writers_in rows) k m)
 
 -- ## A session's step
 
@@ -134,7 +132,7 @@ module _ (top : TopologyValue) (w : Run) (node : ℕ) (st : SessionStep) (ev : R
   grows = session_run_grows top w node st ev able.grows
 
   -- what its next operation depends on covers what it covered
-  step_covers : (c : Completed) → Among c w.transcript → c.node ≡ node → (t : TxnValue) → LaterCovered w c.node c.number t → Stays (w.sessions node) st.state ⊎ Ends top w node st.state → Covered w t st.state.dependencies
+  step_covers : (c : Completed) → Contains w.transcript c → c.node ≡ node → (t : TxnValue) → LaterCovered w c.node c.number t → Stays (w.sessions node) st.state ⊎ Ends top w node st.state → Covered w t st.state.dependencies
   step_covers c m is t l (inl s) = subst (λ d. Covered w t d) (ap (λ i. (w.sessions i).dependencies) is ∙ sym s.dependencies) l.next
   step_covers c m is t l (inr e) = go e.what e.came e.fits e.leaves
     where
@@ -154,7 +152,7 @@ module _ (top : TopologyValue) (w : Run) (node : ℕ) (st : SessionStep) (ev : R
                 let number = s.number in
                 let lt = before in
                 subst (λ d. Covered w t d) (sym v.1.1)
-                (via (own ∷ []) own s.submission (inl refl) s.among (λ j. record { session = s.session j; number = s.number j })
+                (via (own ∷ []) own s.submission (contains_first own []) s.among (λ j. record { session = s.session j; number = s.number j })
                 (l.submitted s.submission s.among (s.session ∙ sym is) (omega arith)));
             answered = λ read time answer v.
                 subst (λ d. Covered w t d) (sym v.1.2) (covered_more (w.sessions node).dependencies (with_writers (w.sessions node).dependencies v.1.0) (old_writers v.1.0 (w.sessions node).dependencies) old);
@@ -162,14 +160,14 @@ module _ (top : TopologyValue) (w : Run) (node : ℕ) (st : SessionStep) (ev : R
             moved = λ dc floor v. subst (λ d. Covered w t d) (sym v.1) old;
           })
 
-  same_submitted : (b : Submission) → Among b w.submitted → Among b x.submitted
+  same_submitted : (b : Submission) → Contains w.submitted b → Contains x.submitted b
   same_submitted b m = m
 
-  next_go : (c : Completed) → Among c w.transcript → (t : TxnValue) → LaterCovered w c.node c.number t → (b : Bool) → (c.node == node) ≡ b → Covered w t (cond b (session_taken st.state) (w.sessions c.node)).dependencies
+  next_go : (c : Completed) → Contains w.transcript c → (t : TxnValue) → LaterCovered w c.node c.number t → (b : Bool) → (c.node == node) ≡ b → Covered w t (cond b (session_taken st.state) (w.sessions c.node)).dependencies
   next_go c m t l true e = step_covers c m (eqb-true c.node node e) t l able.turn
   next_go c m t l false e = l.next
 
-  later_kept : (c : Completed) → Among c w.transcript → (t : TxnValue) → LaterCovered w c.node c.number t → LaterCovered x c.node c.number t
+  later_kept : (c : Completed) → Contains w.transcript c → (t : TxnValue) → LaterCovered w c.node c.number t → LaterCovered x c.node c.number t
   later_kept c m t l =
       record {
         submitted = λ b i e lt. covered_grows {w = w} {x = x} b.dependencies same_submitted (l.submitted b i e lt);
@@ -191,7 +189,7 @@ module _ (top : TopologyValue) (w : Run) (node : ℕ) (st : SessionStep) (ev : R
       go (inl s) = absurd (nothing_ended w.submitted node st c s.untaken m)
       go (inr e) = (e, found_new top w node e.what e.came inv e.opened c (sym (ended_as_told w.submitted node st (told e) e.untaken) ∙ m))
 
-  no_later : (c : Completed) → (e : Ends top w node st.state) → IsNew w node e.what e.came c → (b : Submission) → Among b w.submitted → b.session ≡ c.node → c.number < b.number → ⊥
+  no_later : (c : Completed) → (e : Ends top w node st.state) → IsNew w node e.what e.came c → (b : Submission) → Contains w.submitted b → b.session ≡ c.node → c.number < b.number → ⊥
   no_later c e n b i q lt =
       let le = inv.submitted.number b i in
       let number = n.number in
@@ -218,7 +216,7 @@ module _ (top : TopologyValue) (w : Run) (node : ℕ) (st : SessionStep) (ev : R
           (record {
             wrote = λ batch commit stamp v.
                 let own : WriterValue = record { txn = record { session = node; number = (w.sessions node).count }; shard = v.1.0 } in
-                new_later c e n (txn_ended c) (subst (λ d. Covered w (txn_ended c) d) (sym v.1.1) (direct (own ∷ []) own (inl refl) (λ j. record { session = sym n.node_is j; number = sym n.number j })));
+                new_later c e n (txn_ended c) (subst (λ d. Covered w (txn_ended c) d) (sym v.1.1) (direct (own ∷ []) own (contains_first own []) (λ j. record { session = sym n.node_is j; number = sym n.number j })));
             answered = λ read time answer v. (
               v.1.0,
               subst (λ d. AnsweredFrom top x d read time v.1.0) (sym n.home) (from_grows grows v.1.1),
@@ -228,11 +226,11 @@ module _ (top : TopologyValue) (w : Run) (node : ℕ) (st : SessionStep) (ev : R
             moved = λ dc floor v. tt;
           })
 
-  fits_go : (c : Completed) → Among c w.transcript ⊎ (added ≡ Some c) → Fits c.op c.outcome
+  fits_go : (c : Completed) → Contains w.transcript c ⊎ (added ≡ Some c) → Fits c.op c.outcome
   fits_go c (inl m) = k.fits c m
   fits_go c (inr m) = let e = added_new c m in subst (λ o. Fits o c.outcome) (sym e.1.op) (subst (λ r. Fits e.0.what r) (sym e.1.outcome) e.0.fits)
 
-  ended_go : (c : Completed) → Among c w.transcript ⊎ (added ≡ Some c) → EndCausal c.op c.outcome top x c
+  ended_go : (c : Completed) → Contains w.transcript c ⊎ (added ≡ Some c) → EndCausal c.op c.outcome top x c
   ended_go c (inl m) = end_grows c.op c.outcome top c grows (later_kept c m) (k.fits c m) (k.ended c m)
   ended_go c (inr m) = let e = added_new c m in ended_new c e.0 e.1
 
@@ -243,10 +241,10 @@ module _ (top : TopologyValue) (w : Run) (node : ℕ) (st : SessionStep) (ev : R
       end_cases (λ o r. EndLeaves o r top w node st.state.floor st.state.dependencies → time_of r ≤ st.state.floor)
       (record { wrote = λ batch commit stamp v. v.0; answered = λ read time answer v. let q = v.0 in omega arith; given_up = λ read v. omega arith; moved = λ dc floor v. omega arith })
 
-  still_there : (d : Completed) → Among d w.transcript → Among d x.transcript
+  still_there : (d : Completed) → Contains w.transcript d → Contains x.transcript d
   still_there d m = old_stays d w.transcript added m
 
-  new_there : (d : Completed) → added ≡ Some d → Among d x.transcript
+  new_there : (d : Completed) → added ≡ Some d → Contains x.transcript d
   new_there d n = ended_is_last d w.transcript added n
 
   -- what it ends is an entry
@@ -260,11 +258,11 @@ module _ (top : TopologyValue) (w : Run) (node : ℕ) (st : SessionStep) (ev : R
       (entry e e.opened.submission, ended_as_told w.submitted node st (told e) e.untaken ∙ ap (option_map (entry e)) is)
 
   -- an operation that ended before has a smaller number than the one that ends
-  old_number : (c : Completed) → Among c w.transcript → Ends top w node st.state → c.node ≡ node → c.number < (w.sessions node).count
+  old_number : (c : Completed) → Contains w.transcript c → Ends top w node st.state → c.node ≡ node → c.number < (w.sessions node).count
   old_number c m e q = subst (λ i. c.number < (w.sessions i).count) q (k.closed c m (ap (λ i. is_idle (w.sessions i).current) q ∙ e.busy))
 
   -- where the session is still in the home of an entry, it left it at no end
-  ends_at_home : (c : Completed) → Among c w.transcript → c.node ≡ node → HomeSince x c → (e : Ends top w node st.state) → st.state.home ≡ (w.sessions node).home
+  ends_at_home : (c : Completed) → Contains w.transcript c → c.node ≡ node → HomeSince x c → (e : Ends top w node st.state) → st.state.home ≡ (w.sessions node).home
   ends_at_home c m q h e =
       let new = adds_one e in
       let is = added_new new.0 new.1 in
@@ -274,12 +272,12 @@ module _ (top : TopologyValue) (w : Run) (node : ℕ) (st : SessionStep) (ev : R
       ap (λ z. z.home) (sym (state_at c q)) ∙ h.0 ∙ sym here ∙ is.1.home
 
   -- so its home is as it was, and its floor isn't less
-  home_turn : (c : Completed) → Among c w.transcript → c.node ≡ node → HomeSince x c → Stays (w.sessions node) st.state ⊎ Ends top w node st.state
+  home_turn : (c : Completed) → Contains w.transcript c → c.node ≡ node → HomeSince x c → Stays (w.sessions node) st.state ⊎ Ends top w node st.state
       → (st.state.home ≡ (w.sessions node).home) × ((w.sessions node).floor ≤ st.state.floor)
   home_turn c m q h (inl s) = (s.home, let same = s.floor in omega arith)
   home_turn c m q h (inr e) = let same = ends_at_home c m q h e in (same, e.floor same)
 
-  home_go : (c : Completed) → Among c w.transcript → HomeSince x c → (b : Bool) → (c.node == node) ≡ b
+  home_go : (c : Completed) → Contains w.transcript c → HomeSince x c → (b : Bool) → (c.node == node) ≡ b
       → ((cond b (session_taken st.state) (w.sessions c.node)).home ≡ (w.sessions c.node).home)
       × ((w.sessions c.node).floor ≤ (cond b (session_taken st.state) (w.sessions c.node)).floor)
   home_go c m h true e =
@@ -288,17 +286,17 @@ module _ (top : TopologyValue) (w : Run) (node : ℕ) (st : SessionStep) (ev : R
       (k.0 ∙ ap (λ j. (w.sessions j).home) (sym q), subst (λ j. (w.sessions j).floor ≤ st.state.floor) (sym q) k.1)
   home_go c m h false e = (refl, le_refl (w.sessions c.node).floor)
 
-  home_before : (c : Completed) → Among c w.transcript → HomeSince x c → HomeSince w c
+  home_before : (c : Completed) → Contains w.transcript c → HomeSince x c → HomeSince w c
   home_before c m h = (sym (home_go c m h (c.node == node) refl).0 ∙ h.0, λ d i. h.1 d (still_there d i))
 
-  floor_go : (c : Completed) → Among c w.transcript ⊎ (added ≡ Some c) → HomeSince x c → time_of c.outcome ≤ (x.sessions c.node).floor
+  floor_go : (c : Completed) → Contains w.transcript c ⊎ (added ≡ Some c) → HomeSince x c → time_of c.outcome ≤ (x.sessions c.node).floor
   floor_go c (inl m) h = le_trans (k.floor c m (home_before c m h)) (home_go c m h (c.node == node) refl).1
   floor_go c (inr m) h =
       let e = added_new c m in
       let le = time_new e.0.what e.0.came e.0.fits e.0.leaves in
       subst (λ z. time_of c.outcome ≤ z.floor) (sym (state_at c e.1.node_is)) (subst (λ r. time_of r ≤ st.state.floor) (sym e.1.outcome) le)
 
-  early_go : (c : Completed) → Among c w.transcript ⊎ (added ≡ Some c) → time_of c.outcome ≤ (x.sessions c.node).clock
+  early_go : (c : Completed) → Contains w.transcript c ⊎ (added ≡ Some c) → time_of c.outcome ≤ (x.sessions c.node).clock
   early_go c (inl m) = le_trans (k.early c m) (grows.sessions c.node).clock
   early_go c (inr m) =
       let e = added_new c m in
@@ -306,7 +304,7 @@ module _ (top : TopologyValue) (w : Run) (node : ℕ) (st : SessionStep) (ev : R
       subst (λ z. time_of c.outcome ≤ z.clock) (sym (state_at c e.1.node_is))
       (subst (λ r. time_of r ≤ st.state.clock) (sym e.1.outcome) (le_trans le able.session.floor))
 
-  number_go : (c : Completed) → Among c w.transcript ⊎ (added ≡ Some c) → c.number ≤ (x.sessions c.node).count
+  number_go : (c : Completed) → Contains w.transcript c ⊎ (added ≡ Some c) → c.number ≤ (x.sessions c.node).count
   number_go c (inl m) = le_trans (k.number c m) (grows.sessions c.node).count
   number_go c (inr m) =
       let e = added_new c m in
@@ -314,7 +312,7 @@ module _ (top : TopologyValue) (w : Run) (node : ℕ) (st : SessionStep) (ev : R
       let r = e.1.number in
       subst (λ z. c.number ≤ z.count) (sym (state_at c e.1.node_is)) (omega arith)
 
-  above_go : (c : Completed) → Among c w.transcript → (e : Ends top w node st.state) → (d : Completed) → added ≡ Some d → IsNew w node e.what e.came d → c.node ≡ node → HomeSince w c
+  above_go : (c : Completed) → Contains w.transcript c → (e : Ends top w node st.state) → (d : Completed) → added ≡ Some d → IsNew w node e.what e.came d → c.node ≡ node → HomeSince w c
       → (o : Op) (r : Outcome) → Fits o r → e.what ≡ o → d.outcome ≡ r → EndLeaves o r top w node st.state.floor st.state.dependencies → IsNotBelow r (time_of c.outcome)
   above_go c m e d n is q home =
       end_cases (λ o r. e.what ≡ o → d.outcome ≡ r → EndLeaves o r top w node st.state.floor st.state.dependencies → IsNotBelow r (time_of c.outcome))
@@ -344,7 +342,7 @@ module _ (top : TopologyValue) (w : Run) (node : ℕ) (st : SessionStep) (ev : R
         moved = λ dc floor t p v. tt;
       })
 
-  ordered_go : (c d : Completed) → Among c w.transcript ⊎ (added ≡ Some c) → Among d w.transcript ⊎ (added ≡ Some d) → c.node ≡ d.node → c.number < d.number → HomeBetween x c d
+  ordered_go : (c d : Completed) → Contains w.transcript c ⊎ (added ≡ Some c) → Contains w.transcript d ⊎ (added ≡ Some d) → c.node ≡ d.node → c.number < d.number → HomeBetween x c d
       → IsNotBelow d.outcome (time_of c.outcome)
   ordered_go c d (inl m) (inl n) q lt h = k.ordered c d m n q lt (λ e i. h e (still_there e i))
   ordered_go c d (inl m) (inr n) q lt h =
@@ -369,28 +367,28 @@ module _ (top : TopologyValue) (w : Run) (node : ℕ) (st : SessionStep) (ev : R
       let b = f.1.number in
       absurd (omega arith)
 
-  closed_turn : (c : Completed) → Among c w.transcript → c.node ≡ node → is_idle st.state.current ≡ false → Stays (w.sessions node) st.state ⊎ Ends top w node st.state → c.number < st.state.count
+  closed_turn : (c : Completed) → Contains w.transcript c → c.node ≡ node → is_idle st.state.current ≡ false → Stays (w.sessions node) st.state ⊎ Ends top w node st.state → c.number < st.state.count
   closed_turn c m q busy (inl s) =
       let lt = subst (λ i. c.number < (w.sessions i).count) q (k.closed c m (ap (λ i. is_idle (w.sessions i).current) q ∙ sym s.idle ∙ busy)) in
       let same = s.count in
       omega arith
   closed_turn c m q busy (inr e) = absurd (false≢true (sym busy ∙ e.idle))
 
-  closed_old : (c : Completed) → Among c w.transcript → (b : Bool) → (c.node == node) ≡ b → is_idle (cond b (session_taken st.state) (w.sessions c.node)).current ≡ false → c.number < (cond b (session_taken st.state) (w.sessions c.node)).count
+  closed_old : (c : Completed) → Contains w.transcript c → (b : Bool) → (c.node == node) ≡ b → is_idle (cond b (session_taken st.state) (w.sessions c.node)).current ≡ false → c.number < (cond b (session_taken st.state) (w.sessions c.node)).count
   closed_old c m true e busy = closed_turn c m (eqb-true c.node node e) busy able.turn
   closed_old c m false e busy = k.closed c m busy
 
-  closed_go : (c : Completed) → Among c w.transcript ⊎ (added ≡ Some c) → is_idle (x.sessions c.node).current ≡ false → c.number < (x.sessions c.node).count
+  closed_go : (c : Completed) → Contains w.transcript c ⊎ (added ≡ Some c) → is_idle (x.sessions c.node).current ≡ false → c.number < (x.sessions c.node).count
   closed_go c (inl m) busy = closed_old c m (c.node == node) refl busy
   closed_go c (inr m) busy =
       let e = added_new c m in
       absurd (false≢true (sym busy ∙ ap (λ z. is_idle z.current) (state_at c e.1.node_is) ∙ e.0.idle))
 
-  begun_go : (b : Submission) (c : Completed) → Among b w.submitted → Among c w.transcript ⊎ (added ≡ Some c) → c.node ≡ b.session → c.number < b.number → time_of c.outcome ≤ b.time
+  begun_go : (b : Submission) (c : Completed) → Contains w.submitted b → Contains w.transcript c ⊎ (added ≡ Some c) → c.node ≡ b.session → c.number < b.number → time_of c.outcome ≤ b.time
   begun_go b c i (inl m) q lt = k.begun b c i m q lt
   begun_go b c i (inr m) q lt = let e = added_new c m in absurd (no_later c e.0 e.1 b i (sym q) lt)
 
-  one_go : (c d : Completed) → Among c w.transcript ⊎ (added ≡ Some c) → Among d w.transcript ⊎ (added ≡ Some d) → txn_ended c ≡ txn_ended d → c ≡ d
+  one_go : (c d : Completed) → Contains w.transcript c ⊎ (added ≡ Some c) → Contains w.transcript d ⊎ (added ≡ Some d) → txn_ended c ≡ txn_ended d → c ≡ d
   one_go c d (inl m) (inl n) q = k.one c d m n q
   one_go c d (inl m) (inr n) q =
       let e = added_new d n in
@@ -405,18 +403,18 @@ module _ (top : TopologyValue) (w : Run) (node : ℕ) (st : SessionStep) (ev : R
   one_go c d (inr m) (inr n) q = let same : Some c ≡ Some d = sym m ∙ n in cc
 
   -- nothing that ended before is of the operation that ends
-  once_after : (cs : List Completed) → ((c : Completed) → Among c cs → Among c w.transcript) → EndedOnce cs → (d : Completed) → added ≡ Some d → EndedOnce (cs ++ d ∷ [])
-  once_after [] f o d n = ((λ e m q. m), tt)
+  once_after : (cs : List Completed) → ((c : Completed) → Contains cs c → Contains w.transcript c) → EndedOnce cs → (d : Completed) → added ≡ Some d → EndedOnce (cs ++ d ∷ [])
+  once_after [] f o d n = ((λ e m q. none_in_empty e m), tt)
   once_after (c ∷ cs) f o d n = (
     λ e m q. elim (last_or_old e d cs m) [
       | inl old ↦ o.0 e old q
       | inr new ↦
           let a = added_new e (n ∙ ap Some (sym new)) in
-          let lt = old_number c (f c (inl refl)) a.0 (ap (λ z. z.session) (sym q) ∙ a.1.node_is) in
+          let lt = old_number c (f c (contains_first c cs)) a.0 (ap (λ z. z.session) (sym q) ∙ a.1.node_is) in
           let same = ap (λ z. z.number) (sym q) ∙ a.1.number in
           omega arith
     ],
-    once_after cs (λ e m. f e (inr m)) o.1 d n,
+    once_after cs (λ e m. f e (contains_rest c e cs m)) o.1 d n,
   )
 
   once_go : (o : Option Completed) → added ≡ o → EndedOnce (with_ended w.transcript o)
@@ -452,8 +450,8 @@ module _ (top : TopologyValue) (w : Run) (es : List RunEvent) (node n : ℕ) (o 
   abbrev its : Submission
   its = its_submission w node n o
 
-  more_submitted : (b : Submission) → Among b w.submitted → Among b then.submitted
-  more_submitted b m = append_first b w.submitted (its ∷ []) m
+  more_submitted : (b : Submission) → Contains w.submitted b → Contains then.submitted b
+  more_submitted b m = Contains-append_left w.submitted (its ∷ []) b m
 
   -- what a session has but for its clock, count and what is open
   state_go : {X : Type 0} (f : SessionState → X) → f state_then ≡ f (w.sessions node) → (i : ℕ) (b : Bool) → (i == node) ≡ b → f (cond b state_then (w.sessions i)) ≡ f (w.sessions i)
@@ -464,26 +462,26 @@ module _ (top : TopologyValue) (w : Run) (es : List RunEvent) (node n : ℕ) (o 
   count_go i true e = let q = ap (λ j. (w.sessions j).count) (eqb-true i node e) in omega arith
   count_go i false e = le_refl (w.sessions i).count
 
-  submitted_go : (c : Completed) → Among c w.transcript → (t : TxnValue) → LaterCovered w c.node c.number t → (b : Submission) → Among b w.submitted ⊎ (b ≡ its) → b.session ≡ c.node → c.number < b.number → Covered w t b.dependencies
+  submitted_go : (c : Completed) → Contains w.transcript c → (t : TxnValue) → LaterCovered w c.node c.number t → (b : Submission) → Contains w.submitted b ⊎ (b ≡ its) → b.session ≡ c.node → c.number < b.number → Covered w t b.dependencies
   submitted_go c m t l b (inl i) e less = l.submitted b i e less
   submitted_go c m t l b (inr q) e less =
       subst (λ d. Covered w t d) (ap (λ j. (w.sessions j).dependencies) (sym e ∙ ap (λ z. z.session) q) ∙ sym (ap (λ z. z.dependencies) q)) l.next
 
-  still_covered : (c : Completed) → Among c w.transcript → (t : TxnValue) → LaterCovered w c.node c.number t → LaterCovered then c.node c.number t
+  still_covered : (c : Completed) → Contains w.transcript c → (t : TxnValue) → LaterCovered w c.node c.number t → LaterCovered then c.node c.number t
   still_covered c m t l =
       record {
         submitted = λ b i e less. covered_grows {w = w} {x = then} b.dependencies more_submitted (submitted_go c m t l b (last_or_old b its w.submitted i) e less);
         next = subst (λ d. Covered then t d) (sym (state_go (λ s. s.dependencies) refl c.node (c.node == node) refl)) (covered_grows {w = w} {x = then} (w.sessions c.node).dependencies more_submitted l.next);
       }
 
-  closed_then : (c : Completed) → Among c w.transcript → (b : Bool) → (c.node == node) ≡ b → is_idle (cond b state_then (w.sessions c.node)).current ≡ false → c.number < (cond b state_then (w.sessions c.node)).count
+  closed_then : (c : Completed) → Contains w.transcript c → (b : Bool) → (c.node == node) ≡ b → is_idle (cond b state_then (w.sessions c.node)).current ≡ false → c.number < (cond b state_then (w.sessions c.node)).count
   closed_then c m true e busy =
       let le = k.number c m in
       let q = ap (λ j. (w.sessions j).count) (eqb-true c.node node e) in
       omega arith
   closed_then c m false e busy = k.closed c m busy
 
-  begun_then : (b : Submission) (c : Completed) → Among b w.submitted ⊎ (b ≡ its) → Among c w.transcript → c.node ≡ b.session → c.number < b.number → time_of c.outcome ≤ b.time
+  begun_then : (b : Submission) (c : Completed) → Contains w.submitted b ⊎ (b ≡ its) → Contains w.transcript c → c.node ≡ b.session → c.number < b.number → time_of c.outcome ≤ b.time
   begun_then b c (inl i) m q less = k.begun b c i m q less
   begun_then b c (inr p) m q less =
       let le = k.early c m in
@@ -491,17 +489,17 @@ module _ (top : TopologyValue) (w : Run) (es : List RunEvent) (node n : ℕ) (o 
       let time = ap (λ z. z.time) p in
       omega arith
 
-  named_after : (bs : List Submission) → ((b : Submission) → Among b bs → Among b w.submitted) → NamedOnce bs → NamedOnce (bs ++ its ∷ [])
-  named_after [] f o = ((λ c m q. m), tt)
+  named_after : (bs : List Submission) → ((b : Submission) → Contains bs b → Contains w.submitted b) → NamedOnce bs → NamedOnce (bs ++ its ∷ [])
+  named_after [] f o = ((λ c m q. none_in_empty c m), tt)
   named_after (b ∷ bs) f o = (
     λ c m q. elim (last_or_old c its bs m) [
       | inl old ↦ o.0 c old q
-      | inr new ↦ let le = inv.submitted.number b (f b (inl refl)) in
+      | inr new ↦ let le = inv.submitted.number b (f b (contains_first b bs)) in
           let number = ap (λ z. z.number) (sym q ∙ ap txn_of new) in
           let count = ap (λ z. (w.sessions z.session).count) (sym q ∙ ap txn_of new) in
           omega arith
     ],
-    named_after bs (λ c m. f c (inr m)) o.1,
+    named_after bs (λ c m. f c (contains_rest b c bs m)) o.1,
   )
 
   pub submission_causal : Grows top w then → Causal top then

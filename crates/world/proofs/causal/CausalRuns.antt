@@ -1,5 +1,6 @@
 -- Every run keeps causal order.
 use Rattle.std.proofs.Common.{Ok, List, [], ◌∷◌, ◌++◌, ◌≡◌, ℕ, ◌<◌, Bool, true, false, Option, Some, None, refl, subst, le_of_lt, slice_get}
+use Rattle.std.specs.Prelude.{Contains}
 use Rattle.logical_time.specs.declared.fault.Fault.{Fault}
 use Rattle.messages.specs.declared.op.Op.{Op}
 use Rattle.messages.specs.declared.envelope.Envelope.{Envelope}
@@ -9,7 +10,7 @@ use Rattle.messages.specs.Submitting.{write_begun, read_begun, begun, plan_fault
 use Rattle.messages.specs.SessionEvents.{heard, session_handle}
 use Rattle.messages.specs.ShardEvents.{handled, shard_handle, collected}
 use Rattle.world.specs.Run.{Run, RunEvent, Submit, Deliver, Collect, after_shard, after_session, after_submission, submit_if, deliver_if, deliver_for, collect_if, step}
-use Rattle.world.proofs.lists.Among.{Among, get_among}
+use Rattle.world.proofs.lists.Members.{none_in_empty, contains_get}
 use Rattle.world.proofs.safety.Invariant.{Inv}
 use Rattle.world.proofs.keeping.HandlesKept.{handle_able, collect_able}
 use Rattle.world.proofs.keeping.SessionsKept.{heard_able}
@@ -27,7 +28,7 @@ use Rattle.world.proofs.causal.CausalKept.{shard_causal, session_causal, submiss
 use Rattle.world.proofs.shards.RightAnswers.{hears}
 
 module _ (top : TopologyValue) (w : Run) (some : 0 < top.shards) (inv : Inv top w) (k : Causal top w) where
-  shard_hears : (e : Envelope) (x : RunEvent) → Among e w.sent → Causal top (after_shard (shard_handle top e.to (w.shards e.to) e) w x e.to)
+  shard_hears : (e : Envelope) (x : RunEvent) → Contains w.sent e → Causal top (after_shard (shard_handle top e.to (w.shards e.to) e) w x e.to)
   shard_hears e x m = go (ticked (w.shards e.to).clock e.time) refl
     where
       go : (o : Option ℕ) → ticked (w.shards e.to).clock e.time ≡ o → Causal top (after_shard (on_clock o (λ n. handled top e.to n (w.shards e.to) e.from e.body)) w x e.to)
@@ -36,7 +37,7 @@ module _ (top : TopologyValue) (w : Run) (some : 0 < top.shards) (inv : Inv top 
           let above = ticked_above (w.shards e.to).clock e.time n q in
           shard_causal top w e.to (handled top e.to n (w.shards e.to) e.from e.body) x (handle_able top w e.to n e.from e.time e.body some inv above.0 above.1 (inv.sent e m)).grows k
 
-  session_hears : (e : Envelope) (x : RunEvent) → Among e w.sent → Causal top (after_session (session_handle top e.to (w.sessions e.to) e) w x e.to)
+  session_hears : (e : Envelope) (x : RunEvent) → Contains w.sent e → Causal top (after_session (session_handle top e.to (w.sessions e.to) e) w x e.to)
   session_hears e x m = go (ticked (w.sessions e.to).clock e.time) refl
     where
       go : (o : Option ℕ) → ticked (w.sessions e.to).clock e.time ≡ o → Causal top (after_session (on_clock o (λ n. heard top e.to n (w.sessions e.to) e.from e.body)) w x e.to)
@@ -45,12 +46,12 @@ module _ (top : TopologyValue) (w : Run) (some : 0 < top.shards) (inv : Inv top 
           let above = ticked_above (w.sessions e.to).clock e.time n q in
           session_causal top w e.to (heard top e.to n (w.sessions e.to) e.from e.body) x inv (heard_able top w e.to n some inv (le_of_lt above.0) e.from e.time e.body (le_of_lt above.1) (hears top w inv e m)) k
 
-  deliver_go : (shard session : Bool) (e : Envelope) (x : RunEvent) → Among e w.sent → Causal top (deliver_if shard session top w x e)
+  deliver_go : (shard session : Bool) (e : Envelope) (x : RunEvent) → Contains w.sent e → Causal top (deliver_if shard session top w x e)
   deliver_go true session e x m = shard_hears e x m
   deliver_go false true e x m = session_hears e x m
   deliver_go false false e x m = k
 
-  message_go : (o : Option Envelope) (x : RunEvent) → ((e : Envelope) → o ≡ Some e → Among e w.sent) → Causal top (deliver_for o top w x)
+  message_go : (o : Option Envelope) (x : RunEvent) → ((e : Envelope) → o ≡ Some e → Contains w.sent e) → Causal top (deliver_for o top w x)
   message_go None x m = k
   message_go (Some e) x m = deliver_go (is_shard top e.to) (is_session top e.to) e x (m e refl)
 
@@ -108,23 +109,23 @@ module _ (top : TopologyValue) (w : Run) (some : 0 < top.shards) (inv : Inv top 
 
   pub step_causal : (x : RunEvent) → Causal top (step top w x)
   step_causal (Submit node o) = submit_go (is_session top node) node o
-  step_causal (Deliver i) = message_go (slice_get w.sent i) (Deliver i) (get_among w.sent i)
+  step_causal (Deliver i) = message_go (slice_get w.sent i) (Deliver i) (contains_get w.sent i)
   step_causal (Collect node time) = collect_go (is_shard top node) node time
 
 opening_causal : (top : TopologyValue) → Causal top (opening top)
 opening_causal top =
     record {
-      fits = λ c m. absurd m;
-      ended = λ c m. absurd m;
-      floor = λ c m h. absurd m;
-      ordered = λ c d m. absurd m;
-      number = λ c m. absurd m;
-      closed = λ c m. absurd m;
-      early = λ c m. absurd m;
-      begun = λ b c m. absurd m;
+      fits = λ c m. absurd (none_in_empty c m);
+      ended = λ c m. absurd (none_in_empty c m);
+      floor = λ c m h. absurd (none_in_empty c m);
+      ordered = λ c d m. absurd (none_in_empty c m);
+      number = λ c m. absurd (none_in_empty c m);
+      closed = λ c m. absurd (none_in_empty c m);
+      early = λ c m. absurd (none_in_empty c m);
+      begun = λ b c m. absurd (none_in_empty b m);
       once = tt;
       named = tt;
-      one = λ c d m. absurd m;
+      one = λ c d m. absurd (none_in_empty c m);
     }
 
 run_causal : (top : TopologyValue) (w : Run) (events : List RunEvent) → 0 < top.shards → Inv top w → Causal top w → Causal top (continued top w events)

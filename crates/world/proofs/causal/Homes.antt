@@ -2,7 +2,7 @@
 use Rattle.std.proofs.Common.{append-nil, le_refl, ◌≡◌, ◌∙◌, refl, sym, ap, subst, arith, ℕ, ◌+◌, ◌<◌, ◌≤◌, Bool, true, false, cond, List, [], ◌∷◌, ◌++◌, map, nat_lt, Option, Some, None, ◌⊎◌, inl, inr, eqb-true, eq-eqb}
 use Rattle.std.proofs.lemmas.List.Elements.{filter-append}
 use Rattle.std.proofs.lemmas.List.{map-append}
-use Rattle.std.specs.Prelude.{◌==◌, filter, option_map, option_and_then, if◌then◌else◌}
+use Rattle.std.specs.Prelude.{◌==◌, filter, option_map, option_and_then, if◌then◌else◌, Contains}
 use Rattle.std.specs.List.{cons_option}
 use Rattle.std.proofs.lemmas.Bool.{false≢true}
 use Rattle.std.proofs.lemmas.Bool.Decides.{nat_tests}
@@ -20,7 +20,7 @@ use Rattle.messages.specs.SessionEvents.{heard, session_taken}
 use Rattle.world.specs.Run.{Run, RunEvent, Submit, Submission, Completed, submission_of, completed_of, ended_by, with_ended, with_session, submission_by, opening, continued, step, run}
 use Rattle.world.specs.Journals.{finished_as, ended_at}
 use Rattle.world.specs.Promises.{HomesAreOfMoves}
-use Rattle.world.proofs.lists.Among.{Among, last_or_old, among_append, contains_among, same_txn_self}
+use Rattle.world.proofs.lists.Members.{none_in_empty, contains_first, contains_rest, contains_one, last_or_old, Contains-append_cases, same_txn_self}
 use Rattle.world.proofs.safety.Facts.{txn_of}
 use Rattle.world.proofs.safety.Invariant.{Inv, IsOpen, OpenSound}
 use Rattle.world.proofs.steps.Begun.{begins}
@@ -35,11 +35,11 @@ use Rattle.world.proofs.safety.Runs.{every_run, opening_holds, step_kept}
 -- ## The home before an operation
 
 -- it is the same before any number that is above those of all that ended
-same_above : (home : ℕ) (fs : List Finished) (m n : ℕ) → ((f : Finished) → Among f fs → (f.number < m) × (f.number < n)) → home_before home fs m ≡ home_before home fs n
+same_above : (home : ℕ) (fs : List Finished) (m n : ℕ) → ((f : Finished) → Contains fs f → (f.number < m) × (f.number < n)) → home_before home fs m ≡ home_before home fs n
 same_above home [] m n above = refl
 same_above home (f ∷ fs) m n above =
-    ap (λ h. home_before h fs m) (by f.number m n (above f (inl refl)))
-    ∙ same_above (if nat_lt f.number n then home_after home f.outcome else home) fs m n (λ g i. above g (inr i))
+    ap (λ h. home_before h fs m) (by f.number m n (above f (contains_first f fs)))
+    ∙ same_above (if nat_lt f.number n then home_after home f.outcome else home) fs m n (λ g i. above g (contains_rest f g fs i))
   where
     by : (k m n : ℕ) → (k < m) × (k < n) → (if nat_lt k m then home_after home f.outcome else home) ≡ (if nat_lt k n then home_after home f.outcome else home)
     by k m n lt = ap (λ b. if b then home_after home f.outcome else home) (both k m n lt.0 lt.1)
@@ -62,15 +62,15 @@ not_below m n le = grind (arith, nat_tests)
 
 pub record Homes (top : TopologyValue) (w : Run) : Type 0 where
   pub sessions : (node : ℕ) → (w.sessions node).home ≡ home_before (opening_home top node) (ended_at w node) ((w.sessions node).count + 1)
-  pub submitted : (b : Submission) → Among b w.submitted → b.home ≡ home_before (opening_home top b.session) (ended_at w b.session) b.number
-  pub number : (b : Submission) → Among b w.submitted → b.number ≤ (w.sessions b.session).count
-  pub ended : (node : ℕ) (f : Finished) → Among f (ended_at w node) → f.number ≤ (w.sessions node).count
+  pub submitted : (b : Submission) → Contains w.submitted b → b.home ≡ home_before (opening_home top b.session) (ended_at w b.session) b.number
+  pub number : (b : Submission) → Contains w.submitted b → b.number ≤ (w.sessions b.session).count
+  pub ended : (node : ℕ) (f : Finished) → Contains (ended_at w node) f → f.number ≤ (w.sessions node).count
 
 -- what a session's step does to its home, and which entry it adds
 record Turn (w : Run) (node : ℕ) (submitted : List Submission) (st : SessionStep) : Type 0 where
   count : (w.sessions node).count ≤ st.state.count
-  accepted : (b : Submission) → Among b submitted
-      → Among b w.submitted ⊎ ((b.session ≡ node) × (b.number ≡ st.state.count) × (b.home ≡ (w.sessions node).home) × ((w.sessions node).count < st.state.count))
+  accepted : (b : Submission) → Contains submitted b
+      → Contains w.submitted b ⊎ ((b.session ≡ node) × (b.number ≡ st.state.count) × (b.home ≡ (w.sessions node).home) × ((w.sessions node).count < st.state.count))
   came : ((ended_by submitted node st ≡ None) × (st.state.home ≡ (w.sessions node).home))
       ⊎ ((c : Completed) × (ended_by submitted node st ≡ Some c) × (c.node ≡ node) × (c.number ≡ st.state.count) × (st.state.home ≡ home_after (w.sessions node).home c.outcome))
 
@@ -228,25 +228,24 @@ module _ (top : TopologyValue) (w : Run) (x : RunEvent) (node : ℕ) (submitted 
           ∙ ap (λ z. home_before (opening_home top z) (ended_at v z) st.state.count) (sym of)
           ∙ ap (home_before (opening_home top b.session) (ended_at v b.session)) (sym number)
 
-      added : (f : Finished) → IsAdded (w.sessions node).home st fs → Among f fs → f.number ≤ st.state.count
-      added f (inl none) i = absurd (subst (λ l. Among f l) none.0 i)
-      added f (inr some) i = elim (subst (λ l. Among f l) some.1 i) [
-        | inl same ↦ subst (λ (z : Finished). z.number ≤ st.state.count) (sym same) (subst (λ z. z ≤ st.state.count) (sym some.2) (le_refl st.state.count))
-        | inr none_left ↦ absurd none_left
-      ]
+      added : (f : Finished) → IsAdded (w.sessions node).home st fs → Contains fs f → f.number ≤ st.state.count
+      added f (inl none) i = absurd (none_in_empty f (subst (λ l. Contains l f) none.0 i))
+      added f (inr some) i =
+          subst (λ (z : Finished). z.number ≤ st.state.count) (sym (contains_one _ f (subst (λ l. Contains l f) some.1 i)))
+          (subst (λ z. z ≤ st.state.count) (sym some.2) (le_refl st.state.count))
 
-      ended_now : (m : ℕ) (f : Finished) → Among f (ended_at v m) → f.number ≤ (v.sessions m).count
+      ended_now : (m : ℕ) (f : Finished) → Contains (ended_at v m) f → f.number ≤ (v.sessions m).count
       ended_now m f i = go (m == node) refl
         where
-          here : Among f (ended_at v node) → f.number ≤ (v.sessions node).count
-          here i = subst (λ (a : SessionState). f.number ≤ a.count) (sym state_here) (elim (among_append f (ended_at w node) fs (subst (λ l. Among f l) ended_here i)) [
+          here : Contains (ended_at v node) f → f.number ≤ (v.sessions node).count
+          here i = subst (λ (a : SessionState). f.number ≤ a.count) (sym state_here) (elim (Contains-append_cases (ended_at w node) fs f (subst (λ l. Contains l f) ended_here i)) [
             | inl old ↦ let low = k.ended node f old in let le = t.count in omega arith
             | inr new ↦ added f own_added new
           ])
 
           go : (b : Bool) → (m == node) ≡ b → f.number ≤ (v.sessions m).count
-          go true e = let q = eqb-true m node e in subst (λ z. f.number ≤ (v.sessions z).count) (sym q) (here (subst (λ z. Among f (ended_at v z)) q i))
-          go false e = subst (λ (a : SessionState). f.number ≤ a.count) (sym (state_there m e)) (k.ended m f (subst (λ l. Among f l) (ended_there m e) i))
+          go true e = let q = eqb-true m node e in subst (λ z. f.number ≤ (v.sessions z).count) (sym q) (here (subst (λ z. Contains (ended_at v z) f) q i))
+          go false e = subst (λ (a : SessionState). f.number ≤ a.count) (sym (state_there m e)) (k.ended m f (subst (λ l. Contains l f) (ended_there m e) i))
 
 -- ## Each event
 
@@ -354,7 +353,7 @@ step_homes top w x inv k =
     })
 
 opening_homes : (top : TopologyValue) → Homes top (opening top)
-opening_homes top = record { sessions = λ node. refl; submitted = λ b m. absurd m; number = λ b m. absurd m; ended = λ node f m. absurd m }
+opening_homes top = record { sessions = λ node. refl; submitted = λ b m. absurd (none_in_empty b m); number = λ b m. absurd (none_in_empty b m); ended = λ node f m. absurd (none_in_empty f m) }
 
 run_homes : (top : TopologyValue) (w : Run) (events : List RunEvent) → 0 < top.shards → Inv top w → Homes top w → Homes top (continued top w events)
 run_homes top w [] some inv k = k
@@ -367,7 +366,7 @@ every_home top events some = run_homes top (opening top) events some (opening_ho
 pub homes_are_of_moves : (top : TopologyValue) (events : List RunEvent) → 0 < top.shards → HomesAreOfMoves top (run top events)
 homes_are_of_moves top events some c has =
     let w = run top events in
-    let o = ((every_run top events some).transcript c (contains_among c w.transcript has)).opened in
+    let o = ((every_run top events some).transcript c has).opened in
     sym o.home ∙ (every_home top events some).submitted o.submission o.among
     ∙ ap (λ z. home_before (opening_home top z) (ended_at w z) o.submission.number) o.session
     ∙ ap (home_before (opening_home top c.node) (ended_at w c.node)) o.number

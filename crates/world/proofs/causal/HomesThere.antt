@@ -1,6 +1,6 @@
 -- A session is always in a data centre that there is: only accepted moves change its home.
-use Rattle.std.proofs.Common.{◌≡◌, ◌∙◌, refl, sym, ap, subst, arith, ℕ, ◌<◌, Bool, true, false, List, [], ◌∷◌, nat_lt, None, inl, inr}
-use Rattle.std.specs.Prelude.{◌==◌, filter, if◌then◌else◌}
+use Rattle.std.proofs.Common.{◌≡◌, ◌∙◌, refl, sym, ap, subst, arith, ℕ, ◌<◌, Bool, true, false, List, [], ◌∷◌, nat_lt, None}
+use Rattle.std.specs.Prelude.{◌==◌, filter, if◌then◌else◌, Contains}
 use Rattle.std.proofs.lemmas.Bool.Decides.{nat_tests}
 use Rattle.messages.specs.declared.op.Op.{Op}
 use Rattle.messages.specs.declared.op.Op.TheVariants as op
@@ -13,7 +13,7 @@ use Rattle.messages.specs.Submitting.{move_fault_if, plan_fault}
 use Rattle.world.specs.Run.{Run, RunEvent, Completed, run}
 use Rattle.world.specs.Journals.{finished_as, ended_at}
 use Rattle.world.specs.Promises.{Fits}
-use Rattle.world.proofs.lists.Among.{Among, map_only, filter_only}
+use Rattle.world.proofs.lists.Members.{contains_first, contains_rest, mapped_from, filter_contains}
 use Rattle.world.proofs.safety.Invariant.{Inv}
 use Rattle.world.proofs.envelopes.Addresses.{stands}
 use Rattle.world.proofs.safety.Runs.{every_run}
@@ -33,12 +33,12 @@ after_there dcs home (outcome.Wrote commit stamp) lt there = lt
 after_there dcs home (outcome.Read time answer) lt there = lt
 after_there dcs home outcome.Collected lt there = lt
 
-before_there : (dcs home : ℕ) (fs : List Finished) (n : ℕ) → home < dcs → ((f : Finished) → Among f fs → IsThere dcs f.outcome) → home_before home fs n < dcs
+before_there : (dcs home : ℕ) (fs : List Finished) (n : ℕ) → home < dcs → ((f : Finished) → Contains fs f → IsThere dcs f.outcome) → home_before home fs n < dcs
 before_there dcs home [] n lt there = lt
-before_there dcs home (f ∷ fs) n lt there = before_there dcs (if nat_lt f.number n then home_after home f.outcome else home) fs n (by (nat_lt f.number n)) (λ g i. there g (inr i))
+before_there dcs home (f ∷ fs) n lt there = before_there dcs (if nat_lt f.number n then home_after home f.outcome else home) fs n (by (nat_lt f.number n)) (λ g i. there g (contains_rest f g fs i))
   where
     by : (b : Bool) → (if b then home_after home f.outcome else home) < dcs
-    by true = after_there dcs home f.outcome lt (there f (inl refl))
+    by true = after_there dcs home f.outcome lt (there f (contains_first f fs))
     by false = lt
 
 -- ## Accepted moves
@@ -68,11 +68,11 @@ ended_there top home (op.Move dc) (outcome.Read time answer) fits none = absurd 
 ended_there top home (op.Move dc) outcome.Collected fits none = absurd fits
 
 -- what ended in a run moved to data centres that there are
-all_there : (top : TopologyValue) (w : Run) → Inv top w → (node : ℕ) (f : Finished) → Among f (ended_at w node) → IsThere top.dcs f.outcome
+all_there : (top : TopologyValue) (w : Run) → Inv top w → (node : ℕ) (f : Finished) → Contains (ended_at w node) f → IsThere top.dcs f.outcome
 all_there top w inv node f m =
     let own = filter (λ (z : Completed). z.node == node) w.transcript in
-    let c = map_only finished_as own f m in
-    let among = (filter_only (λ (z : Completed). z.node == node) w.transcript c.0 c.1).0 in
+    let c = mapped_from finished_as own f m in
+    let among = (filter_contains (λ (z : Completed). z.node == node) w.transcript c.0 c.1).0 in
     let k = inv.transcript c.0 among in
     let o = k.opened in
     let none = inv.submitted.accepted o.submission o.among in

@@ -1,6 +1,6 @@
 -- What is before an operation is committed before it: the past of a read stands in its table.
 use Rattle.std.proofs.Common.{◌≡◌, ℕ, ◌+◌, ◌<◌, List, [], ◌∷◌, Some, None, Option, ◌⊎◌, inl, inr, refl, sym, ap, ◌∙◌, subst, arith}
-use Rattle.std.specs.Prelude.{option_and_then}
+use Rattle.std.specs.Prelude.{option_and_then, Contains}
 use Rattle.logical_time.specs.Stamps.{TxnValue, WriterValue}
 use Rattle.column_family.specs.declared.batch.Change.{Change}
 use Rattle.slice.specs.declared.read.Read.{Read}
@@ -19,7 +19,7 @@ use Rattle.world.specs.Histories.{batch_in}
 use Rattle.world.specs.Before.{IsSubmitted, IsWrite, IsCompleted, ReadRestsOn, EndRestsOn, RestsOn, IsJustBefore, IsBeforeOver, Past}
 use Rattle.world.specs.Promises.{Fits}
 use Rattle.world.proofs.steps.EndCases.{end_cases}
-use Rattle.world.proofs.lists.Among.{Among, contains_among, find_some, same_txn}
+use Rattle.world.proofs.lists.Members.{found, same_txn}
 use Rattle.world.proofs.safety.Facts.{txn_of, IsWritten, IsDone}
 use Rattle.world.proofs.safety.Invariant.{AnsweredFrom, DependsOnDone, EndSound, Inv}
 use Rattle.world.proofs.safety.Lasting.{done_later}
@@ -37,23 +37,23 @@ written_at w t k = go (submission_of w.submitted t) refl k.1
     go : (o : Option Submission) → submission_of w.submitted t ≡ o → option_and_then (λ s. batch_in s.op) o ≡ Some k.0 → (b : Submission) × (batch : List Change) × IsWritten w t b batch
     go None e q = absurd (cc)
     go (Some b) e q =
-        let f = find_some (λ s. is_same_txn (record { session = s.session; number = s.number }) t) w.submitted b e in
+        let f = found (λ s. is_same_txn (record { session = s.session; number = s.number }) t) w.submitted b e in
         (b, k.0, record { among = f.0; txn = same_txn (txn_of b) t f.1; op = op_go b b.op refl q })
 
 module _ (top : TopologyValue) (w : Run) (some : 0 < top.shards) (inv : Inv top w) (causal : Causal top w)
-    (rests : (dc time : ℕ) (read : Read) (rows : List RowAt) → AnsweredFrom top w dc read time rows → (u : TxnValue) → ReadRestsOn top w dc read time u → (k : WriterValue) × Among k (writers_in rows) × (k.txn ≡ u))
-    (committed : (dc time : ℕ) (read : Read) (rows : List RowAt) → AnsweredFrom top w dc read time rows → (k : WriterValue) → Among k (writers_in rows) → IsDone top w dc k.txn (time + 1)) where
+    (rests : (dc time : ℕ) (read : Read) (rows : List RowAt) → AnsweredFrom top w dc read time rows → (u : TxnValue) → ReadRestsOn top w dc read time u → (k : WriterValue) × Contains (writers_in rows) k × (k.txn ≡ u))
+    (committed : (dc time : ℕ) (read : Read) (rows : List RowAt) → AnsweredFrom top w dc read time rows → (k : WriterValue) → Contains (writers_in rows) k → IsDone top w dc k.txn (time + 1)) where
   -- ## What reaches an operation
 
   -- the transaction is committed before the operation: below each commit time of a write, not above a read's time, nor above a
   -- move's floor in the new home
   pub record Reached (u v : TxnValue) : Type 0 where
-    pub write : (node : ℕ) (d : Decision) → Among d (w.shards node).decided → d.txn ≡ v → IsDone top w (dc_of top node) u d.commit
-    pub read : (c : Completed) → Among c w.transcript → txn_ended c ≡ v → (r : Read) (time : ℕ) (answer : List AnsweredRow) → c.op ≡ op.Read r → c.outcome ≡ outcome.Read time answer → IsDone top w c.home u (time + 1)
-    pub move : (c : Completed) → Among c w.transcript → txn_ended c ≡ v → (dc floor : ℕ) → c.outcome ≡ outcome.Moved dc floor → IsDone top w dc u (floor + 1)
+    pub write : (node : ℕ) (d : Decision) → Contains (w.shards node).decided d → d.txn ≡ v → IsDone top w (dc_of top node) u d.commit
+    pub read : (c : Completed) → Contains w.transcript c → txn_ended c ≡ v → (r : Read) (time : ℕ) (answer : List AnsweredRow) → c.op ≡ op.Read r → c.outcome ≡ outcome.Read time answer → IsDone top w c.home u (time + 1)
+    pub move : (c : Completed) → Contains w.transcript c → txn_ended c ≡ v → (dc floor : ℕ) → c.outcome ≡ outcome.Moved dc floor → IsDone top w dc u (floor + 1)
 
   -- what dependencies cover is committed where they are, before them
-  covered_done : (t : TxnValue) (deps : List WriterValue) (dc n : ℕ) → ((k : WriterValue) → Among k deps → IsDone top w dc k.txn n) → Covered w t deps → IsDone top w dc t n
+  covered_done : (t : TxnValue) (deps : List WriterValue) (dc n : ℕ) → ((k : WriterValue) → Contains deps k → IsDone top w dc k.txn n) → Covered w t deps → IsDone top w dc t n
   covered_done t deps dc n f (direct l k m q) = subst (λ z. IsDone top w dc z n) q (f k m)
   covered_done t deps dc n f (via l k b m among q c) =
       let d = f k m in
@@ -61,10 +61,10 @@ module _ (top : TopologyValue) (w : Run) (some : 0 < top.shards) (inv : Inv top 
       let same : s.submission ≡ b = inv.submitted.one s.submission b s.written.among among (s.written.txn ∙ d.txn ∙ sym q) in
       let lt = d.commit in
       let here : IsDone top w (dc_of top d.node) t d.decision.commit =
-      covered_done t b.dependencies (dc_of top d.node) d.decision.commit (λ k m. s.done k (subst (λ z. Among k z.dependencies) (sym same) m)) c in
+      covered_done t b.dependencies (dc_of top d.node) d.decision.commit (λ k m. s.done k (subst (λ z. Contains z.dependencies k) (sym same) m)) c in
       subst (λ z. IsDone top w z t n) d.here (done_later (omega arith) here)
 
-  later_write : (session m : ℕ) (t : TxnValue) → LaterCovered w session m t → (y : TxnValue) → y.session ≡ session → m < y.number → (node : ℕ) (d : Decision) → Among d (w.shards node).decided → d.txn ≡ y → IsDone top w (dc_of top node) t d.commit
+  later_write : (session m : ℕ) (t : TxnValue) → LaterCovered w session m t → (y : TxnValue) → y.session ≡ session → m < y.number → (node : ℕ) (d : Decision) → Contains (w.shards node).decided d → d.txn ≡ y → IsDone top w (dc_of top node) t d.commit
   later_write session m t k y es lt node d among q =
       let s = (inv.shards node).decided d among in
       let e : txn_of s.submission ≡ y = s.written.txn ∙ q in
@@ -79,7 +79,7 @@ module _ (top : TopologyValue) (w : Run) (some : 0 < top.shards) (inv : Inv top 
       subst (λ z. EndSound (op.Read read) z top w e.home (txn_ended e)) q (subst (λ z. EndSound z out top w e.home (txn_ended e)) p k) in
       s.depends
 
-  later_read : (session m : ℕ) (t : TxnValue) → LaterCovered w session m t → (e : Completed) → Among e w.transcript → e.node ≡ session → m < e.number
+  later_read : (session m : ℕ) (t : TxnValue) → LaterCovered w session m t → (e : Completed) → Contains w.transcript e → e.node ≡ session → m < e.number
       → (read : Read) (time : ℕ) (answer : List AnsweredRow) → e.op ≡ op.Read read → e.outcome ≡ outcome.Read time answer → IsDone top w e.home t (time + 1)
   later_read session m t k e among es lt read time answer o a =
       let d = read_go e e.op e.outcome (inv.transcript e among).came read time answer o a in
@@ -101,7 +101,7 @@ module _ (top : TopologyValue) (w : Run) (some : 0 < top.shards) (inv : Inv top 
             subst (λ z. DependsOnDone top w z (txn_ended e) (floor + 1)) homes (subst (λ z. DependsOnDone top w there (txn_ended e) (z + 1)) floors k);
       }) o out
 
-  later_move : (session m : ℕ) (t : TxnValue) → LaterCovered w session m t → (e : Completed) → Among e w.transcript → e.node ≡ session → m < e.number
+  later_move : (session m : ℕ) (t : TxnValue) → LaterCovered w session m t → (e : Completed) → Contains w.transcript e → e.node ≡ session → m < e.number
       → (dc floor : ℕ) → e.outcome ≡ outcome.Moved dc floor → IsDone top w dc t (floor + 1)
   later_move session m t k e among es lt dc floor a =
       let c = inv.transcript e among in
@@ -142,7 +142,7 @@ module _ (top : TopologyValue) (w : Run) (some : 0 < top.shards) (inv : Inv top 
         moved = λ dc floor p l. let z : op.Batch batch ≡ op.Move dc = sym is ∙ same ∙ p in absurd (cc);
       }) o e
 
-  write_end : (c : Completed) → Among c w.transcript → (b : Submission) (batch : List Change) → IsWritten w (txn_ended c) b batch
+  write_end : (c : Completed) → Contains w.transcript c → (b : Submission) (batch : List Change) → IsWritten w (txn_ended c) b batch
       → LaterCovered w c.node c.number (txn_ended c)
   write_end c m b batch k =
       let s = inv.transcript c m in
@@ -155,7 +155,7 @@ module _ (top : TopologyValue) (w : Run) (some : 0 < top.shards) (inv : Inv top 
     where
       go : (b : Submission) × (batch : List Change) × IsWritten w u b batch → IsCompleted w u → (y : TxnValue) → u.session ≡ y.session → u.number < y.number → Reached u y
       go (b, batch, k) (c, (m, q), t) y es lt =
-          let later = write_end c (contains_among c w.transcript m) b batch (record { among = k.among; txn = k.txn ∙ sym q; op = k.op }) in
+          let later = write_end c m b batch (record { among = k.among; txn = k.txn ∙ sym q; op = k.op }) in
           let number : c.number ≡ u.number = ap (λ z. z.number) q in
           subst (λ z. Reached z y) q (later_reached c.node c.number (txn_ended c) later y (ap (λ z. z.session) q ∙ es) (omega arith))
 
@@ -188,7 +188,7 @@ module _ (top : TopologyValue) (w : Run) (some : 0 < top.shards) (inv : Inv top 
         moved = λ dc floor p q r k. absurd r;
       }) o e
 
-  read_end : (c : Completed) → Among c w.transcript → (z : TxnValue) → EndRestsOn c.op c.outcome top w c.home z → ReadEnd c z
+  read_end : (c : Completed) → Contains w.transcript c → (z : TxnValue) → EndRestsOn c.op c.outcome top w c.home z → ReadEnd c z
   read_end c m z r = rests_go c z c.op c.outcome (causal.fits c m) refl refl r (causal.ended c m)
 
   -- where what carries the transaction is decided or done, so is the transaction
@@ -200,7 +200,7 @@ module _ (top : TopologyValue) (w : Run) (some : 0 < top.shards) (inv : Inv top 
       ]
 
   -- a read is no write
-  no_decision : (c : Completed) → Among c w.transcript → (r : Read) → c.op ≡ op.Read r → (node : ℕ) (d : Decision) → Among d (w.shards node).decided → d.txn ≡ txn_ended c → ⊥
+  no_decision : (c : Completed) → Contains w.transcript c → (r : Read) → c.op ≡ op.Read r → (node : ℕ) (d : Decision) → Contains (w.shards node).decided d → d.txn ≡ txn_ended c → ⊥
   no_decision c m r e node d among q =
       let s = (inv.shards node).decided d among in
       let o = (inv.transcript c m).opened in
@@ -211,7 +211,7 @@ module _ (top : TopologyValue) (w : Run) (some : 0 < top.shards) (inv : Inv top 
 
   rests_reached : (u z y : TxnValue) → Carries u z → RestsOn top w y z → Reached u y
   rests_reached u z y k (c, (m, q), r) =
-      let among = contains_among c w.transcript m in
+      let among = m in
       let e = read_end c among z r in
       let done : IsDone top w c.home u (e.time + 1) = through u z k c.home (e.time + 1) e.done in
       record {
@@ -228,7 +228,7 @@ module _ (top : TopologyValue) (w : Run) (some : 0 < top.shards) (inv : Inv top 
 
   rests_later : (u z y : TxnValue) → Carries u z → RestsOn top w y z → (v : TxnValue) → y.session ≡ v.session → y.number < v.number → Reached u v
   rests_later u z y k (c, (m, q), r) v es lt =
-      let e = read_end c (contains_among c w.transcript m) z r in
+      let e = read_end c m z r in
       let number : c.number ≡ y.number = ap (λ v. v.number) q in
       let reached = later_reached c.node c.number z e.later v (ap (λ v. v.session) q ∙ es) (omega arith) in
       record {

@@ -1,7 +1,7 @@
 -- How many there can be at most, by the submissions: decisions of a shard, transactions that a read asks for, cohorts and
 -- dependencies of a ballot.
-use Rattle.std.proofs.Common.{◌≡◌, ◌∙◌, ℕ, ◌+◌, ◌<◌, ◌≤◌, true, eq-eqb, List, [], ◌∷◌, map, length, ◌⊎◌, inl, inr, refl, sym, ap, subst, arith, not, ◌&&◌}
-use Rattle.std.specs.Prelude.{◌==◌, filter}
+use Rattle.std.proofs.Common.{◌≡◌, ◌∙◌, ℕ, ◌+◌, ◌<◌, ◌≤◌, true, eq-eqb, List, [], ◌∷◌, map, length, ◌⊎◌, inl, inr, sym, ap, subst, arith, not, ◌&&◌}
+use Rattle.std.specs.Prelude.{◌==◌, filter, Contains}
 use Rattle.std.specs.declared.cmp.Ordering.TheVariants.{Less}
 use Rattle.std.specs.List.{range_with_len, AllByRecursion}
 use Rattle.std.specs.List.Sorted.{IsStrictlySortedBy}
@@ -22,7 +22,7 @@ use Rattle.messages.specs.Reads.{marks_below, asked_below}
 use Rattle.messages.proofs.WritersInOrder.{writers_ascend}
 use Rattle.world.specs.Run.{Run, Submission}
 use Rattle.world.specs.Drains.{is_led, DecisionsAreCapped, most_dependencies, sizes_of}
-use Rattle.world.proofs.lists.Among.{Among, filter_among}
+use Rattle.world.proofs.lists.Members.{none_in_empty, contains_first, contains_rest, contains_cases, contains_filter}
 use Rattle.world.proofs.safety.Facts.{txn_of, lead, DecidedOnce}
 use Rattle.world.proofs.envelopes.Near.{lead_number}
 use Rattle.world.proofs.safety.Invariant.{Says, Inv}
@@ -35,28 +35,36 @@ use Rattle.world.proofs.drains.DecisionDescents.{Fits, AreWithin, IsWithin}
 -- ## Lists
 
 -- one of a list taken out: what else there is stays
-taken_out : {X : Type 0} (x : X) (xs : List X) → Among x xs
-    → (ys : List X) × (length xs ≡ length ys + 1) × ((y : X) → Among y xs → (y ≡ x) ⊎ Among y ys)
-taken_out x [] m = absurd m
-taken_out x (z ∷ zs) (inl q) = (zs, omega arith, λ y m. elim m [ inl p ↦ inl (p ∙ sym q) | inr o ↦ inr o ])
-taken_out x (z ∷ zs) (inr m) =
-    let r = taken_out x zs m in
-    let count = r.1 in
-    (z ∷ r.0, omega arith, λ y n. elim n [ inl p ↦ inr (inl p) | inr o ↦ elim (r.2 y o) [ inl p ↦ inl p | inr i ↦ inr (inr i) ] ])
+taken_out : {X : Type 0} (x : X) (xs : List X) → Contains xs x
+    → (ys : List X) × (length xs ≡ length ys + 1) × ((y : X) → Contains xs y → (y ≡ x) ⊎ Contains ys y)
+taken_out x [] m = absurd (none_in_empty x m)
+taken_out x (z ∷ zs) m = elim (contains_cases z x zs m) [
+  | inl q ↦ (zs, omega arith, λ y n. elim (contains_cases z y zs n) [ inl p ↦ inl (p ∙ sym q) | inr o ↦ inr o ])
+  | inr later ↦
+      let r = taken_out x zs later in
+      let count = r.1 in (
+        z ∷ r.0,
+        omega arith,
+        λ y n. elim (contains_cases z y zs n) [
+          | inl p ↦ inr (subst (Contains (z ∷ r.0)) (sym p) (contains_first z r.0))
+          | inr o ↦ elim (r.2 y o) [ inl p ↦ inl p | inr i ↦ inr (contains_rest z y r.0 i) ]
+        ],
+      )
+]
 
 -- no two of these have one transaction
 abbrev Apart : {X : Type 0} → (X → TxnValue) → List X → Type 0
 Apart txn [] = Unit {0}
-Apart txn (x ∷ xs) = ((y : _) → Among y xs → txn y ≡ txn x → ⊥) × Apart txn xs
+Apart txn (x ∷ xs) = ((y : _) → Contains xs y → txn y ≡ txn x → ⊥) × Apart txn xs
 
 -- then they are no more than the submissions that have their transactions
 no_more : {X : Type 0} (txn : X → TxnValue) (xs : List X) (bs : List Submission) → Apart txn xs
-    → ((x : X) → Among x xs → (b : Submission) × Among b bs × (txn_of b ≡ txn x)) → length xs ≤ length bs
+    → ((x : X) → Contains xs x → (b : Submission) × Contains bs b × (txn_of b ≡ txn x)) → length xs ≤ length bs
 no_more txn [] bs apart of = omega arith
 no_more txn (x ∷ xs) bs (new, apart) of =
-    let b = of x (inl refl) in
+    let b = of x (contains_first x xs) in
     let r = taken_out b.0 bs b.1 in
-    let rest = no_more txn xs r.0 apart (λ y m. let c = of y (inr m) in elim (r.2 c.0 c.1) [
+    let rest = no_more txn xs r.0 apart (λ y m. let c = of y (contains_rest x y xs m) in elim (r.2 c.0 c.1) [
       | inl q ↦ absurd (new y m (sym c.2 ∙ ap txn_of q ∙ b.2))
       | inr i ↦ (c.0, i, c.2)
     ]) in
@@ -69,19 +77,21 @@ less_other : (v w : WriterValue) → writer_cmp v w ≡ Less → w ≡ v → ⊥
 less_other v w less same =
     false≢true (sym (ap is_eq (subst (λ (z : WriterValue). writer_cmp v z ≡ Less) same less)) ∙ equal_self v.txn.session v.txn.number v.shard)
 
-each_less : (v : WriterValue) (ws : List WriterValue) → AllByRecursion (λ w. writer_cmp v w ≡ Less) ws → (w : WriterValue) → Among w ws → writer_cmp v w ≡ Less
-each_less v [] all w m = absurd m
-each_less v (x ∷ ws) all w (inl q) = subst (λ (z : WriterValue). writer_cmp v z ≡ Less) (sym q) all.0
-each_less v (x ∷ ws) all w (inr m) = each_less v ws all.1 w m
+each_less : (v : WriterValue) (ws : List WriterValue) → AllByRecursion (λ w. writer_cmp v w ≡ Less) ws → (w : WriterValue) → Contains ws w → writer_cmp v w ≡ Less
+each_less v [] all w m = absurd (none_in_empty w m)
+each_less v (x ∷ ws) all w m = elim (contains_cases x w ws m) [
+  | inl q ↦ subst (λ (z : WriterValue). writer_cmp v z ≡ Less) (sym q) all.0
+  | inr r ↦ each_less v ws all.1 w r
+]
 
 -- in order, and each transaction with one coordinator
 ascending_apart : (ws : List WriterValue) → IsStrictlySortedBy writer_cmp ws
-    → ((v u : WriterValue) → Among v ws → Among u ws → v.txn ≡ u.txn → v ≡ u) → Apart (λ (v : WriterValue). v.txn) ws
+    → ((v u : WriterValue) → Contains ws v → Contains ws u → v.txn ≡ u.txn → v ≡ u) → Apart (λ (v : WriterValue). v.txn) ws
 unfolding IsStrictlySortedBy
 ascending_apart [] h one = tt
 ascending_apart (w ∷ ws) h one = (
-  λ u m same. less_other w u (each_less w ws h.0 u m) (one u w (inr m) (inl refl) same),
-  ascending_apart ws h.1 (λ u v m n. one u v (inr m) (inr n)),
+  λ u m same. less_other w u (each_less w ws h.0 u m) (one u w (contains_rest w u ws m) (contains_first w ws) same),
+  ascending_apart ws h.1 (λ u v m n. one u v (contains_rest w u ws m) (contains_rest w v ws n)),
 )
 
 -- ## Decisions
@@ -107,16 +117,18 @@ decisions_capped top w some inv =
         (λ d m.
         let s = (inv.shards node).decided d m in (
           s.submission,
-          filter_among (λ (b : Submission). is_led top node b.op) w.submitted s.submission s.written.among (led top node s.submission s.batch some s.written.op s.here),
+          contains_filter (λ (b : Submission). is_led top node b.op) w.submitted s.submission s.written.among (led top node s.submission s.batch some s.written.op s.here),
           s.written.txn,
         ))
 
 -- ## Ballots
 
-longest : (b : Submission) (bs : List Submission) → Among b bs → length b.dependencies ≤ most_dependencies bs
-longest b [] m = absurd m
-longest b (c ∷ bs) (inl q) = let same : length b.dependencies ≡ length c.dependencies = ap (λ (z : Submission). length z.dependencies) q in omega arith
-longest b (c ∷ bs) (inr m) = let rest = longest b bs m in omega arith
+longest : (b : Submission) (bs : List Submission) → Contains bs b → length b.dependencies ≤ most_dependencies bs
+longest b [] m = absurd (none_in_empty b m)
+longest b (c ∷ bs) m = elim (contains_cases c b bs m) [
+  | inl q ↦ let same : length b.dependencies ≡ length c.dependencies = ap (λ (z : Submission). length z.dependencies) q in omega arith
+  | inr r ↦ let rest = longest b bs r in omega arith
+]
 
 cohorts_capped : (shards : ℕ) (batch : List Change) → length (cohorts_of shards batch) ≤ shards
 cohorts_capped shards batch =
@@ -124,7 +136,7 @@ cohorts_capped shards batch =
     let all = length-range_with_len 0 shards in
     omega arith
 
-ballot_fits : (top : TopologyValue) (w : Run) (cohorts : List ℕ) (dependencies : List WriterValue) (b : Submission) (batch : List Change) → Among b w.submitted
+ballot_fits : (top : TopologyValue) (w : Run) (cohorts : List ℕ) (dependencies : List WriterValue) (b : Submission) (batch : List Change) → Contains w.submitted b
     → cohorts ≡ cohorts_of top.shards batch → dependencies ≡ b.dependencies → Fits top (sizes_of w.submitted) cohorts dependencies
 ballot_fits top w cohorts dependencies b batch m q r = (
   subst (λ (l : List ℕ). length l ≤ top.shards) (sym q) (cohorts_capped top.shards batch),
@@ -135,7 +147,7 @@ ballot_fits top w cohorts dependencies b batch m q r = (
 
 module _ (top : TopologyValue) (w : Run) (inv : Inv top w) where
   -- of one transaction a shard prepared one part
-  one_writer : (node time : ℕ) (read : Read) (v u : WriterValue) → Among v (asked_below (w.shards node) time read) → Among u (asked_below (w.shards node) time read)
+  one_writer : (node time : ℕ) (read : Read) (v u : WriterValue) → Contains (asked_below (w.shards node) time read) v → Contains (asked_below (w.shards node) time read) u
       → v.txn ≡ u.txn → v ≡ u
   one_writer node time read v u m n same =
       let p = asked_prepared (w.shards node) time read v m in
@@ -169,5 +181,5 @@ module _ (top : TopologyValue) (w : Run) (inv : Inv top w) where
       ballot_fits top w cohorts dependencies s.submission s.batch s.written.among s.cohorts s.dependencies
   body_within from to time _ s = tt
 
-  pub message_within : (e : Envelope) → Among e w.sent → IsWithin top (sizes_of w.submitted) e.body
+  pub message_within : (e : Envelope) → Contains w.sent e → IsWithin top (sizes_of w.submitted) e.body
   message_within e m = body_within e.from e.to e.time e.body (inv.sent e m)

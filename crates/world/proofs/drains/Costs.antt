@@ -1,31 +1,31 @@
 -- The ranks and the costs of lists of messages.
 use Rattle.std.proofs.Common.{◌≡◌, ℕ, ◌+◌, ◌*◌, ◌<◌, ◌≤◌, List, [], ◌∷◌, ◌++◌, map, length, inl, inr, sym, subst, arith}
+use Rattle.std.specs.Prelude.{Contains}
 use Rattle.std.proofs.lemmas.List.Sums.{sum_by-cons, sum_by-append}
 use Rattle.messages.specs.declared.body.Body.{Body}
 use Rattle.messages.specs.declared.body.Body.TheVariants.{Begin, Prepare, Yes, Commit, At, NotBy, Check, Read, ReadAt, ReplBegin, ReplPart, Notify, PrepareRemote, DepCheck, DepOk, Done, PartNow, PartAt}
 use Rattle.messages.specs.declared.envelope.Envelope.{Envelope}
 use Rattle.messages.specs.Topology.{TopologyValue}
 use Rattle.world.specs.Drains.{rank, Sizes, cost, cost_of_all}
-use Rattle.world.proofs.lists.Among.{Among, among_append, map_only}
+use Rattle.world.proofs.lists.Members.{none_in_empty, contains_one, Contains-append_cases, mapped_from}
 
 -- ## Ranks
 
 -- all of these are of a lower rank
 abbrev pub Low : ℕ → List Envelope → Type 0
-Low r es = (e : Envelope) → Among e es → rank e.body < r
+Low r es = (e : Envelope) → Contains es e → rank e.body < r
 
 pub low_none : (r : ℕ) → Low r []
-low_none r e m = absurd m
+low_none r e m = absurd (none_in_empty e m)
 
 pub low_one : (r : ℕ) (e : Envelope) → rank e.body < r → Low r (e ∷ [])
-low_one r e lt u (inl q) = subst (λ (z : Envelope). rank z.body < r) (sym q) lt
-low_one r e lt u (inr m) = absurd m
+low_one r e lt u m = subst (λ (z : Envelope). rank z.body < r) (sym (contains_one e u m)) lt
 
 pub low_map : {X : Type 0} (r : ℕ) (f : X → Envelope) (xs : List X) → ((x : X) → rank (f x).body < r) → Low r (map f xs)
-low_map r f xs lt u m = let x = map_only f xs u m in subst (λ (z : Envelope). rank z.body < r) (sym x.2) (lt x.0)
+low_map r f xs lt u m = let x = mapped_from f xs u m in subst (λ (z : Envelope). rank z.body < r) (sym x.2) (lt x.0)
 
 pub low_both : (r : ℕ) (xs ys : List Envelope) → Low r xs → Low r ys → Low r (xs ++ ys)
-low_both r xs ys f g u m = elim (among_append u xs ys m) [ inl o ↦ f u o | inr o ↦ g u o ]
+low_both r xs ys f g u m = elim (Contains-append_cases xs ys u m) [ inl o ↦ f u o | inr o ↦ g u o ]
 
 -- ## Costs
 

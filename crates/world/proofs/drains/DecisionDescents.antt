@@ -1,6 +1,6 @@
 -- What it is that a shard's step descends, and that a decision and reads let go do.
 use Rattle.std.proofs.Common.{◌≡◌, ℕ, ◌+◌, ◌*◌, ◌<◌, ◌≤◌, Bool, true, not, List, [], ◌∷◌, ◌++◌, map, length, Option, Some, None, ◌⊎◌, inr, refl, arith, le_refl}
-use Rattle.std.specs.Prelude.{filter, ◌==◌}
+use Rattle.std.specs.Prelude.{filter, ◌==◌, Contains}
 use Rattle.std.specs.List.{range_with_len}
 use Rattle.std.proofs.Math.Nat.{mul-le-mul_right}
 use Rattle.std.proofs.lemmas.List.{length-map}
@@ -17,7 +17,6 @@ use Rattle.messages.specs.Shard.{ShardState, ShardStep, BegunBallot, Decision, K
 use Rattle.messages.specs.Reads.{part_at, lessened, is_free, let_go, asked_below}
 use Rattle.messages.specs.Commits.{applied_part, stamp_for, commits, announcements, dep_oks, decide}
 use Rattle.world.specs.Drains.{Sizes, cost_of_notice, cost_of_part, cost_of_commit, cost_of_ballot, cost_of_all, cost_of_decision, cost_of_waiting}
-use Rattle.world.proofs.lists.Among.{Among}
 use Rattle.world.proofs.safety.Facts.{DecidedOnce}
 use Rattle.world.proofs.drains.NewDecisions.{filter_short, undecided, asked_for}
 use Rattle.world.proofs.drains.Costs.{Low, low_map, low_both, cost_each, cost_both, cost_cons, cost_three}
@@ -34,8 +33,8 @@ Fits top s cohorts dependencies = (length cohorts ≤ top.shards) × (length dep
 
 -- so of what a shard keeps, and a read asks for no more transactions than were submitted
 pub record AreWithin (top : TopologyValue) (s : Sizes) (a : ShardState) : Type 0 where
-  pub ballots : (b : BegunBallot) → Among b a.ballots → Fits top s b.cohorts b.dependencies
-  pub kept : (r : KeptBallot) → Among r a.kept_ballots → Fits top s r.cohorts r.dependencies
+  pub ballots : (b : BegunBallot) → Contains a.ballots b → Fits top s b.cohorts b.dependencies
+  pub kept : (r : KeptBallot) → Contains a.kept_ballots r → Fits top s r.cohorts r.dependencies
   pub asked : (time : ℕ) (read : Read) → length (asked_below a time read) ≤ s.operations
 
 -- and of a message

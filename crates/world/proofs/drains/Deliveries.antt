@@ -17,7 +17,7 @@ use Rattle.world.specs.Run.{Run, RunEvent, Deliver, with_actor, after_shard, aft
 use Rattle.world.specs.Quiet.{number_delivered, handled}
 use Rattle.world.specs.Refusals.{Refused, NoSuchActor, refused_by, refusal_of_envelope, refusal_of_message, clock_at}
 use Rattle.world.specs.Drains.{rank, total, decisions_taken, ComesNearer, MeetsSpentClock, DeliveriesComeNearer, DecisionsAreCapped, sizes_of, cost, cost_of_all, cost_of_decision, cost_of_waiting}
-use Rattle.world.proofs.lists.Among.{get_among, among_contains, contains_among}
+use Rattle.world.proofs.lists.Members.{contains_get}
 use Rattle.world.proofs.safety.Facts.{DecidedOnce}
 use Rattle.world.proofs.safety.Invariant.{Inv}
 use Rattle.world.proofs.safety.Runs.{every_run, step_kept}
@@ -109,7 +109,7 @@ module _ (top : TopologyValue) (w : Run) (some : 0 < top.shards) (inv : Inv top 
                       λ m.
                           changed_actor (λ (a : ShardState). a.decided ≡ (w.shards m).decided) w.shards e.to st.state m
                           (λ q. same ∙ ap (λ (i : ℕ). (w.shards i).decided) (sym q)) (λ apart. refl),
-                      λ u has. low u (contains_among u st.sends has),
+                      λ u has. low u has,
                     );
               };
           events = refl;
@@ -158,7 +158,7 @@ module _ (top : TopologyValue) (w : Run) (some : 0 < top.shards) (inv : Inv top 
       inl
       (handles st is
       (handled_descends top (sizes_of w.submitted) e.to n (w.shards e.to) (shard_within top w inv e.to) e.from e.body
-      (message_within top w inv e (get_among w.sent k e there)))
+      (message_within top w inv e (contains_get w.sent k e there)))
       (subst (λ (a : ShardState). DecidedOnce a.decided) (here st is) (kept.shards e.to).once))
 
   -- ## A session hears it
@@ -176,7 +176,7 @@ module _ (top : TopologyValue) (w : Run) (some : 0 < top.shards) (inv : Inv top 
               handled = more_handled;
               sends = st.sends;
               sent = refl;
-              nearer = inr (λ m. refl, λ u has. sinks.0 u (contains_among u st.sends has));
+              nearer = inr (λ m. refl, λ u has. sinks.0 u has);
             };
         events = refl;
         submitted = refl;
@@ -244,7 +244,7 @@ delivered top events ok k e there =
     let w = run top events in
     let some = (stands top ok).some in
     let inv = every_run top events some in
-    let actor = messages_are_for_actors top events ok e (among_contains e w.sent (get_among w.sent k e there)) in
+    let actor = messages_are_for_actors top events ok e (contains_get w.sent k e there) in
     elim (delivery top w some inv k e there actor) [ inl nearer ↦ inl nearer | inr spent ↦ inr (spent, meets top w some inv k e there actor spent) ]
 
 pub deliveries_come_nearer : (top : TopologyValue) (events : List RunEvent) → is_topology top.dcs top.shards top.homes ≡ true → DeliveriesComeNearer top (run top events)

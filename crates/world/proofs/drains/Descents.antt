@@ -20,7 +20,6 @@ use Rattle.messages.specs.Replication.{ballot_of, with_ballot, dep_checks, sent_
 use Rattle.messages.specs.ShardEvents.{handled}
 use Rattle.shard.proofs.steps.HandledCases.{begun, replicated, the_ballot, a_notice, an_answer, ReadyStep, misses, alone, asks, StepOf, still, begin_decides, begin_holds, prepares, vote_decides, vote_counts, vote_early, applies, lets_go, tells_commit, tells_none, reads_now, reads_collected, reads_at, waits, readies, notice_early, keeps_part, prepares_replica, tells_decided, remembers, handled_cases}
 use Rattle.world.specs.Drains.{rank, Sizes, cost_of_notice, cost_of_part, cost_of_commit, cost_of_check, cost_of_read_at, cost_of_ballot, cost, cost_of_all}
-use Rattle.world.proofs.lists.Among.{contains_among}
 use Rattle.world.proofs.drains.NewDecisions.{one_more, undecided}
 use Rattle.world.proofs.drains.Costs.{Low, low_none, low_one, low_map, low_both, cost_some, cost_each, cost_both, cost_cons}
 use Rattle.world.proofs.drains.DecisionDescents.{other_count, Fits, AreWithin, IsWithin, Descends, let_go_costs, let_go_low, decides}
@@ -101,7 +100,7 @@ module _ (top : TopologyValue) (s : Sizes) where
   step_descends me n a within from m fits st (begin_holds t rows cohorts dependencies new some) = inl (refl, low_none 0, omega arith)
   step_descends me n a within from m fits st (prepares t rows coordinator new) = yes_descends me n a t rows coordinator Cohort
   step_descends me n a within from m fits st (vote_decides t b is awaited all) =
-      decides top s me n (with_vote a b.txn from) 0 1 b (omega arith) (within.ballots b (contains_among b a.ballots is.among))
+      decides top s me n (with_vote a b.txn from) 0 1 b (omega arith) (within.ballots b is.among)
   step_descends me n a within from m fits st (vote_counts t b is awaited some) = inl (refl, low_none 0, omega arith)
   step_descends me n a within from m fits st (vote_early t none new first) = inl (refl, low_none 0, omega arith)
   step_descends me n a within from m fits st (applies t commit stamp (inl tells) p has is theirs new) =
@@ -131,9 +130,9 @@ module _ (top : TopologyValue) (s : Sizes) where
       let k = replicated t rows stamp cohorts dependencies in
       checks_descend me n a k z (ready_descends me n (with_ballot a k) 4 k z step (omega arith) fits)
   step_descends me n a within from m fits st (readies (a_notice t k has is awaited unready) step) =
-      ready_descends me n (with_notice a k.txn from) 2 k _ step (omega arith) (within.kept k (contains_among k a.kept_ballots has))
+      ready_descends me n (with_notice a k.txn from) 2 k _ step (omega arith) (within.kept k has)
   step_descends me n a within from m fits st (readies (an_answer dependency waiter commit k has is unmet unready) step) =
-      ready_descends me n (with_met a k.txn dependency) 2 k _ step (omega arith) (within.kept k (contains_among k a.kept_ballots has))
+      ready_descends me n (with_met a k.txn dependency) 2 k _ step (omega arith) (within.kept k has)
   step_descends me n a within from m fits st (notice_early t none new first) = inl (refl, low_none 2, omega arith)
   step_descends me n a within from m fits st (keeps_part t rows stamp coordinator new) =
       one_descends a n 3 (cost_of_part top) (envelope me (shard_node top (dc_of top me) coordinator) n (Notify t)) (omega arith) (omega arith)

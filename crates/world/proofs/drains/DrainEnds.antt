@@ -13,7 +13,7 @@ use Rattle.world.specs.Lookups.{first_unhandled}
 use Rattle.world.specs.Refusals.{clock_at}
 use Rattle.world.specs.Settled.{Settled}
 use Rattle.world.specs.Drains.{decisions_taken, decisions_to_take, DecisionsAreCapped, ClocksCountEvents, Sizes, sizes_of, cost, cost_of_all, cost_of_decision, cost_of_unhandled, deliveries_left, with_delivered, drained, DrainsEnd, DeliveriesAreAllowed, DeliveriesLeaveFewer}
-use Rattle.world.proofs.lists.Among.{Among, append_first, among_last, any_true, any_among, get_among, among_contains}
+use Rattle.world.proofs.lists.Members.{Contains-push, Contains-append_left, contains_get, any_found, any_has}
 use Rattle.world.proofs.safety.Runs.{run_after}
 use Rattle.world.proofs.growing.Prefixes.{get_there}
 use Rattle.world.proofs.steps.Refusals.{added_is_allowed}
@@ -44,7 +44,7 @@ module _ (top : TopologyValue) (s : Sizes) where
 
   still_there : (hs : List ℕ) (i k : ℕ) → list_any (λ j. j == i) hs ≡ true → list_any (λ j. j == i) (hs ++ k ∷ []) ≡ true
   still_there hs i k e =
-      let f = any_true (λ j. j == i) hs e in any_among (λ j. j == i) (hs ++ k ∷ []) f.0 (append_first f.0 hs (k ∷ []) f.1) f.2
+      let f = any_found (λ j. j == i) hs e in any_has (λ j. j == i) (hs ++ k ∷ []) f.0 (Contains-append_left hs (k ∷ []) f.0 f.1) f.2
 
   fewer : (hs : List ℕ) (k i : ℕ) (es : List Envelope) → cost_of_unhandled top s (hs ++ k ∷ []) i es ≤ cost_of_unhandled top s hs i es
   fewer hs k i [] = omega arith
@@ -65,7 +65,7 @@ module _ (top : TopologyValue) (s : Sizes) where
       let same : x ≡ e = cc in
       let here : k ≡ i = omega arith in
       go (list_any (λ m. m == i) hs) (list_any (λ m. m == i) (hs ++ k ∷ [])) (subst (λ n. list_any (λ m. m == n) hs ≡ false) here left)
-      (any_among (λ m. m == i) (hs ++ k ∷ []) k (among_last k hs) (eq-eqb k i here)) (fewer hs k (i + 1) es) (ap (λ (z : Envelope). cost top s z.body) same)
+      (any_has (λ m. m == i) (hs ++ k ∷ []) k (Contains-push hs k) (eq-eqb k i here)) (fewer hs k (i + 1) es) (ap (λ (z : Envelope). cost top s z.body) same)
     where
       go : (b c : Bool) → b ≡ false → c ≡ true → cost_of_unhandled top s (hs ++ k ∷ []) (i + 1) es ≤ cost_of_unhandled top s hs (i + 1) es
           → cost top s x.body ≡ cost top s e.body
@@ -103,7 +103,7 @@ unhandled_number hs k none = by (list_any (λ m. m == k) hs) refl
   where
     by : (b : Bool) → list_any (λ m. m == k) hs ≡ b → b ≡ false
     by false e = refl
-    by true e = let f = any_true (λ m. m == k) hs e in absurd (none (subst (Contains hs) (eqb-true f.0 k f.2) (among_contains f.0 hs f.1)))
+    by true e = let f = any_found (λ m. m == k) hs e in absurd (none (subst (Contains hs) (eqb-true f.0 k f.2) f.1))
 
 leaves_fewer : (top : TopologyValue) (w x : Run) (k : ℕ) (e : Envelope) → DecisionsAreCapped top w → DecisionsAreCapped top x → Nearer top w x k e
     → slice_get w.sent k ≡ Some e
@@ -162,9 +162,9 @@ module _ (top : TopologyValue) (ok : is_topology top.dcs top.shards top.homes �
       omega arith
 
   -- a clock that is spent had as many events as clocks have room for
-  past_room : (w : Run) (e : Envelope) → ClocksCountEvents w → Among e w.sent → IsSpent top w e → 2 ^ 48 ≤ length w.events + 1
+  past_room : (w : Run) (e : Envelope) → ClocksCountEvents w → Contains w.sent e → IsSpent top w e → 2 ^ 48 ≤ length w.events + 1
   past_room w e counts m spent =
-      let time = counts.messages e (among_contains e w.sent m) in
+      let time = counts.messages e m in
       let clock = by (is_shard top e.to) in
       let past = past_range (clock_at top w e.to) e.time spent in
       omega arith
@@ -181,7 +181,7 @@ module _ (top : TopologyValue) (ok : is_topology top.dcs top.shards top.homes �
       elim (delivered top events ok k e there) [
         | inl nearer ↦ nearer
         | inr spent ↦
-            let past = past_room (run top events) e (clocks_count_events top events) (get_among (run top events).sent k e there) spent.0 in
+            let past = past_room (run top events) e (clocks_count_events top events) (contains_get (run top events).sent k e there) spent.0 in
             let some = some_left (run top events) k e there none in
             absurd (omega arith)
       ]

@@ -13,7 +13,7 @@ use Rattle.messages.specs.Submitting.{begun}
 use Rattle.store.proofs.lists.Lists.{none_in_empty}
 use Rattle.world.specs.Run.{Run, RunEvent, Submit, Submission, submission_by, opening, after_shard, with_session, step, continued, run}
 use Rattle.world.specs.Drains.{ClocksCountEvents}
-use Rattle.world.proofs.lists.Among.{among_append, get_among, among_contains, contains_among}
+use Rattle.world.proofs.lists.Members.{Contains-append_cases, contains_get}
 use Rattle.world.proofs.steps.EventCases.{timed_cases}
 use Rattle.world.proofs.fresh.HeardRuns.{changed_actor}
 use Rattle.world.proofs.steps.OwnSends.{AreOwn, none, handled_own}
@@ -34,8 +34,8 @@ module _ (w : Run) (x : RunEvent) (k : ClocksCountEvents w) where
   -- what was sent before, and what is sent at this clock
   sent : (me n : ℕ) (es : List Envelope) → n ≤ length w.events + 1 → AreOwn me n es → (e : Envelope) → Contains (w.sent ++ es) e
       → e.time ≤ length (w.events ++ x ∷ [])
-  sent me n es le own e has = elim (among_append e w.sent es (contains_among e (w.sent ++ es) has)) [
-    | inl old ↦ (let before = k.messages e (among_contains e w.sent old) in omega (arith, longer))
+  sent me n es le own e has = elim (Contains-append_cases w.sent es e has) [
+    | inl old ↦ (let before = k.messages e old in omega (arith, longer))
     | inr new ↦ (let now = (own e new).1 in omega (arith, longer))
   ]
 
@@ -71,13 +71,13 @@ step_counts top w x k =
       handled =
           λ j e n is there to ticks.
           let own = handled_own top e.to n (w.shards e.to) e.from e.body in
-          let time = k.messages e (among_contains e w.sent (get_among w.sent j e there)) in
+          let time = k.messages e (contains_get w.sent j e there) in
           shard_counts w x k e.to n (handled top e.to n (w.shards e.to) e.from e.body)
           (next (w.shards e.to).clock e.time n (length w.events) ticks (k.shards e.to) time) own.0 own.1;
       heard =
           λ j e n is there other to ticks.
           let own = heard_own top e.to n (w.sessions e.to) e.from e.body in
-          let time = k.messages e (among_contains e w.sent (get_among w.sent j e there)) in
+          let time = k.messages e (contains_get w.sent j e there) in
           session_counts w x k e.to n w.submitted (heard top e.to n (w.sessions e.to) e.from e.body)
           (next (w.sessions e.to).clock e.time n (length w.events) ticks (k.sessions e.to) time) own.0 own.1;
       begun =

@@ -1,6 +1,6 @@
 -- After one more decision: which transactions aren't decided, and who asked for them.
 use Rattle.std.proofs.Common.{◌≡◌, ◌+◌, ◌≤◌, Bool, true, false, cond, not, List, [], ◌∷◌, ◌++◌, length, Option, Some, None, inl, inr, refl, sym, ap, ◌∙◌, subst, arith}
-use Rattle.std.specs.Prelude.{filter, find, is_some}
+use Rattle.std.specs.Prelude.{filter, find, is_some, Contains}
 use Rattle.std.proofs.lemmas.Bool.{false≢true}
 use Rattle.std.proofs.lemmas.List.{length-append}
 use Rattle.std.proofs.lemmas.List.Elements.{filter-append}
@@ -8,7 +8,7 @@ use Rattle.std.proofs.lemmas.List.Sums.{length-filter, count_by-le-length}
 use Rattle.logical_time.specs.Stamps.{TxnValue}
 use Rattle.messages.specs.Words.{is_same_txn}
 use Rattle.messages.specs.Shard.{Decision, Asker}
-use Rattle.world.proofs.lists.Among.{Among, among_last, find_some, same_txn, same_txn_self}
+use Rattle.world.proofs.lists.Members.{none_in_empty, contains_cases, Contains-push, found, same_txn, same_txn_self}
 use Rattle.world.proofs.safety.Facts.{DecidedOnce}
 use Rattle.world.proofs.replays.Places.{find_onto, find_past}
 
@@ -48,10 +48,12 @@ parted {X} p q r (x ∷ xs) f = let h = f x in go (p x) (q x) (r x) h.0 h.1 h.2 
 abbrev pub undecided : List Decision → TxnValue → Bool
 undecided ds t = not (is_some (find (λ d. is_same_txn d.txn t) ds))
 
-once_last : (ds : List Decision) (d e : Decision) → DecidedOnce (ds ++ d ∷ []) → Among e ds → e.txn ≡ d.txn → ⊥
-once_last [] d e once m same = absurd m
-once_last (x ∷ ds) d e once (inl q) same = once.0 d (among_last d ds) (sym same ∙ ap (λ (z : Decision). z.txn) q)
-once_last (x ∷ ds) d e once (inr m) same = once_last ds d e once.1 m same
+once_last : (ds : List Decision) (d e : Decision) → DecidedOnce (ds ++ d ∷ []) → Contains ds e → e.txn ≡ d.txn → ⊥
+once_last [] d e once m same = none_in_empty e m
+once_last (x ∷ ds) d e once m same = elim (contains_cases x e ds m) [
+  | inl q ↦ once.0 d (Contains-push ds d) (sym same ∙ ap (λ (z : Decision). z.txn) q)
+  | inr r ↦ once_last ds d e once.1 r same
+]
 
 -- what isn't decided after one more decision wasn't before, and is another transaction; and that one wasn't before
 newly : (ds : List Decision) (d : Decision) (t : TxnValue) → DecidedOnce (ds ++ d ∷ [])
@@ -74,7 +76,7 @@ newly ds d t once = by (find (λ x. is_same_txn x.txn t) ds) refl
       λ left. last (is_same_txn t d.txn) refl (ap (λ z. not (is_some z)) (sym (find_past (λ x. is_same_txn x.txn t) ds (d ∷ []) q)) ∙ left),
     )
     by (Some x) q =
-        let f = find_some (λ x. is_same_txn x.txn t) ds x q in
+        let f = found (λ x. is_same_txn x.txn t) ds x q in
         let still : undecided (ds ++ d ∷ []) t ≡ false = ap (λ z. not (is_some z)) (find_onto (λ x. is_same_txn x.txn t) ds (d ∷ []) x q) in (
           λ left. absurd (false≢true (sym still ∙ left)),
           λ same. absurd (once_last ds d x once f.0 (same_txn x.txn t f.1 ∙ same_txn t d.txn same)),

@@ -1,10 +1,9 @@
 -- What messages are about, and which were sent.
-use Rattle.std.specs.Prelude.{◌≡◌, ℕ, List}
+use Rattle.std.specs.Prelude.{◌≡◌, ℕ, List, Contains}
 use Rattle.logical_time.specs.Stamps.{TxnValue}
 use Rattle.messages.specs.declared.body.Body.{Body}
 use Rattle.messages.specs.declared.body.Body.TheVariants.{Begin, Prepare, Yes, Commit, At, NotBy, Check, Read as ReadNow, ReadAt, ReplBegin, ReplPart, Notify, PrepareRemote, DepCheck, DepOk, Done, PartNow, PartAt}
 use Rattle.messages.specs.declared.envelope.Envelope.{Envelope}
-use Rattle.world.proofs.lists.Among.{Among}
 
 -- a body with only the numbers that say what it is about
 pub data Kind : Type 0 where
@@ -50,7 +49,7 @@ kind_of (PartAt number time answer) = OfPartAt number time
 -- such a message is in the list
 pub record Sent (net : List Envelope) (sender receiver : ℕ) (kind : Kind) : Type 0 where
   pub message : Envelope
-  pub among : Among message net
+  pub among : Contains net message
   pub by : message.from ≡ sender
   pub for : message.to ≡ receiver
   pub is : kind_of message.body ≡ kind

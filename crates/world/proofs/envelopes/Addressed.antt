@@ -1,5 +1,6 @@
 -- Each message of a run is for an actor that there is.
 use Rattle.std.proofs.Common.{◌≡◌, ℕ, ◌*◌, ◌<◌, true, ◌⊎◌, inl, inr, List, [], ◌∷◌, ◌++◌, refl, ap, ◌∙◌, subst, append-nil, ltb-true}
+use Rattle.std.specs.Prelude.{Contains}
 use Rattle.std.proofs.lemmas.Nat.{div_below}
 use Rattle.messages.specs.declared.body.Body.{Body}
 use Rattle.messages.specs.declared.body.Body.TheVariants.{Begin, Prepare, Yes, Commit, At, NotBy, Check, Read as ReadNow, ReadAt, ReplBegin, ReplPart, Notify, PrepareRemote, DepCheck, DepOk, Done, PartNow, PartAt}
@@ -11,7 +12,7 @@ use Rattle.shard.proofs.lists.Lists.{each_contained}
 use Rattle.shard.proofs.steps.Sending.{Gives, handled_gives}
 use Rattle.world.specs.Run.{Run, RunEvent, opening, step, continued, run}
 use Rattle.world.specs.Lookups.{MessagesAreForActors}
-use Rattle.world.proofs.lists.Among.{Among, among_contains, contains_among, among_append, get_among}
+use Rattle.world.proofs.lists.Members.{none_in_empty, Contains-append_cases, contains_get}
 use Rattle.world.proofs.safety.Invariant.{Says, Inv}
 use Rattle.world.proofs.envelopes.Near.{lead_dc}
 use Rattle.world.proofs.steps.EventCases.{event_cases}
@@ -39,8 +40,8 @@ Fits top from to (PartAt number time answer) = is_session top to ≡ true
 Fits top from to other = Unit {0}
 
 record Addressed (top : TopologyValue) (w : Run) : Type 0 where
-  sent : (e : Envelope) → Among e w.sent → Fits top e.from e.to e.body
-  waiting : (node : ℕ) (y : WaitingRead) → Among y (w.shards node).waiting → is_session top y.session ≡ true
+  sent : (e : Envelope) → Contains w.sent e → Fits top e.from e.to e.body
+  waiting : (node : ℕ) (y : WaitingRead) → Contains (w.shards node).waiting y → is_session top y.session ≡ true
 
 of_session : (top : TopologyValue) (from to : ℕ) (b : Body) → IsOfSession b → is_session top from ≡ true → Fits top from to b
 of_session top from to (Begin t rows cohorts dependencies) i q = q
@@ -53,13 +54,13 @@ of_session top from to _ i q = absurd i
 module _ (top : TopologyValue) (w : Run) (k : Addressed top w) where
   -- what a session sends
   session_sends : (me : ℕ) (es : List Envelope) → is_session top me ≡ true → AreOfSession me es
-      → (e : Envelope) → Among e (w.sent ++ es) → Fits top e.from e.to e.body
-  session_sends me es is own e m = elim (among_append e w.sent es m) [
+      → (e : Envelope) → Contains (w.sent ++ es) e → Fits top e.from e.to e.body
+  session_sends me es is own e m = elim (Contains-append_cases w.sent es e m) [
     | inl old ↦ k.sent e old
     | inr new ↦ (let o = own e new in of_session top e.from e.to e.body o.1 (ap (is_session top) o.0 ∙ is))
   ]
 
-  module _ (f : Envelope) (n : ℕ) (m : Among f w.sent) (here : is_shard top f.to ≡ true) where
+  module _ (f : Envelope) (n : ℕ) (m : Contains w.sent f) (here : is_shard top f.to ≡ true) where
     reader : (b : Body) → f.body ≡ b → Fits top f.from f.to b
     reader b is = subst (Fits top f.from f.to) is (k.sent f m)
 
@@ -80,7 +81,7 @@ module _ (top : TopologyValue) (w : Run) (k : Addressed top w) where
                 check = λ s t time. here;
               };
           less = λ y left h. h;
-          old = λ y has. k.waiting f.to y (contains_among y (w.shards f.to).waiting has);
+          old = λ y has. k.waiting f.to y has;
           asked = λ number time read left is new. reader (ReadAt number time read) is;
           answers = λ y h. h;
           now = λ number read is. reader (ReadNow number read) is;
@@ -96,17 +97,17 @@ module _ (top : TopologyValue) (w : Run) (k : Addressed top w) where
         nothing = k;
         handled =
             λ j f n is there here.
-            let g = given f n (get_among w.sent j f there) here in
+            let g = given f n (contains_get w.sent j f there) here in
             record {
-              sent = λ e m. elim (among_append e w.sent (handled top f.to n (w.shards f.to) f.from f.body).sends m) [
+              sent = λ e m. elim (Contains-append_cases w.sent (handled top f.to n (w.shards f.to) f.from f.body).sends e m) [
                 | inl old ↦ k.sent e old
                 | inr new ↦ each_contained (λ (z : Envelope). Fits top z.from z.to z.body) (handled top f.to n (w.shards f.to) f.from f.body).sends g.sends e
-                    (among_contains e (handled top f.to n (w.shards f.to) f.from f.body).sends new)
+                    new
               ];
               waiting =
                   λ node.
-                  changed_actor (λ (a : ShardState). (y : WaitingRead) → Among y a.waiting → is_session top y.session ≡ true) w.shards f.to _ node
-                  (λ same y m. g.waiting y (among_contains y (handled top f.to n (w.shards f.to) f.from f.body).state.waiting m)) (λ other. k.waiting node);
+                  changed_actor (λ (a : ShardState). (y : WaitingRead) → Contains a.waiting y → is_session top y.session ≡ true) w.shards f.to _ node
+                  (λ same y m. g.waiting y m) (λ other. k.waiting node);
             };
         heard =
             λ j f n is there other here.
@@ -117,10 +118,10 @@ module _ (top : TopologyValue) (w : Run) (k : Addressed top w) where
         collected =
             λ node time n is.
             record {
-              sent = λ e m. k.sent e (subst (λ (l : List Envelope). Among e l) (append-nil w.sent) m);
+              sent = λ e m. k.sent e (subst (λ (l : List Envelope). Contains l e) (append-nil w.sent) m);
               waiting =
                   λ other.
-                  changed_actor (λ (a : ShardState). (y : WaitingRead) → Among y a.waiting → is_session top y.session ≡ true) w.shards node _ other
+                  changed_actor (λ (a : ShardState). (y : WaitingRead) → Contains a.waiting y → is_session top y.session ≡ true) w.shards node _ other
                   (λ same. k.waiting node) (λ apart. k.waiting other);
             };
       })
@@ -173,8 +174,8 @@ pub messages_are_for_actors : (top : TopologyValue) (events : List RunEvent) →
     → MessagesAreForActors top (run top events)
 messages_are_for_actors top events ok e has =
     let w = run top events in
-    let m = contains_among e w.sent has in
-    let k = placed_later top (opening top) events (record { addressed = record { sent = λ e m. absurd m; waiting = λ node y m. absurd m }; stations = opening_stations top }) in
+    let m = has in
+    let k = placed_later top (opening top) events (record { addressed = record { sent = λ e m. absurd (none_in_empty e m); waiting = λ node y m. absurd (none_in_empty y m) }; stations = opening_stations top }) in
     let some = (stands top ok).some in
     for_actor top w some (every_run top events some) (run_live top events ok) k e.from e.to e.time e.body ((every_run top events some).sent e m)
     ((run_live top events ok).sent e m) (k.addressed.sent e m)

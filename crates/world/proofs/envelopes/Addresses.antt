@@ -1,6 +1,6 @@
 -- Where messages go: what is for a shard goes to one, Done goes to a session, and DepOk to either.
 use Rattle.std.proofs.Common.{◌≡◌, ℕ, ◌<◌, Bool, true, false, ◌&&◌, length, slice_get, Option, Some, None, ◌⊎◌, inl, inr, refl, sym, ap, ◌∙◌, subst, arith, leb-true, ltb-true}
-use Rattle.std.specs.Prelude.{nat_le, nat_lt, option_and_then}
+use Rattle.std.specs.Prelude.{nat_le, nat_lt, option_and_then, Contains}
 use Rattle.std.specs.List.{list_all}
 use Rattle.std.specs.Option.{unwrap_or}
 use Rattle.std.proofs.lemmas.Bool.{false≢true, and_parts}
@@ -12,7 +12,7 @@ use Rattle.messages.specs.Topology.{TopologyValue, is_topology, dc_of, shard_of,
 use Rattle.messages.specs.Shard.{new_shard}
 use Rattle.messages.proofs.Numbering.{shard_again, shard_is_shard}
 use Rattle.world.specs.Run.{Run}
-use Rattle.world.proofs.lists.Among.{Among, get_among, all_among}
+use Rattle.world.proofs.lists.Members.{none_in_empty, contains_get, all_have}
 use Rattle.world.proofs.safety.Invariant.{home, Says, Inv}
 use Rattle.world.proofs.envelopes.Near.{shard_below}
 use Rattle.world.proofs.envelopes.About.{kind_of}
@@ -52,15 +52,15 @@ stands top e =
     above : (n : ℕ) → nat_le 1 n ≡ true → 0 < n
     above n q = leb-true 1 n q
 
-    of : 0 < top.dcs → list_all (λ d. nat_lt d top.dcs) top.homes ≡ true → (o : Option ℕ) → ((d : ℕ) → o ≡ Some d → Among d top.homes)
+    of : 0 < top.dcs → list_all (λ d. nat_lt d top.dcs) top.homes ≡ true → (o : Option ℕ) → ((d : ℕ) → o ≡ Some d → Contains top.homes d)
         → unwrap_or o 0 < top.dcs
     of lt all None f = lt
-    of lt all (Some d) f = let t = all_among (λ d. nat_lt d top.dcs) top.homes all d (f d refl) in ltb-true d top.dcs t
+    of lt all (Some d) f = let t = all_have (λ d. nat_lt d top.dcs) top.homes d all (f d refl) in ltb-true d top.dcs t
 
     by : 0 < top.dcs → list_all (λ d. nat_lt d top.dcs) top.homes ≡ true → (o : Option ℕ)
         → unwrap_or (option_and_then (λ i. slice_get top.homes i) o) 0 < top.dcs
     by lt all None = lt
-    by lt all (Some i) = of lt all (slice_get top.homes i) (get_among top.homes i)
+    by lt all (Some i) = of lt all (slice_get top.homes i) (contains_get top.homes i)
 
 module _ (top : TopologyValue) (w : Run) (some : 0 < top.shards) (inv : Inv top w) (live : Live top w) (stations : Stations top w) where
   origin_shard : (node : ℕ) (t : TxnValue) → AtOrigin top w node t → is_shard top node ≡ true
@@ -72,8 +72,8 @@ module _ (top : TopologyValue) (w : Run) (some : 0 < top.shards) (inv : Inv top 
   known_shard node t k = go (is_shard top node) refl
     where
       none : Knows new_shard t → ⊥
-      none (inl p) = absurd p.1
-      none (inr d) = absurd d.1
+      none (inl p) = none_in_empty p.0 p.1
+      none (inr d) = none_in_empty d.0 d.1
 
       go : (b : Bool) → is_shard top node ≡ b → is_shard top node ≡ true
       go true e = e

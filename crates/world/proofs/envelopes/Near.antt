@@ -1,6 +1,6 @@
 -- Which shards stand for a batch in each data centre.
-use Rattle.std.proofs.Common.{◌≡◌, ℕ, zero, suc, ◌+◌, ◌<◌, not, ◌&&◌, List, [], ◌∷◌, inl, inr, sym, ap, ◌∙◌, arith, sum, eq-eqb}
-use Rattle.std.specs.Prelude.{◌==◌}
+use Rattle.std.proofs.Common.{◌≡◌, ℕ, ◌<◌, not, ◌&&◌, List, [], ◌∷◌, sym, ap, ◌∙◌, arith, sum, eq-eqb}
+use Rattle.std.specs.Prelude.{◌==◌, Contains}
 use Rattle.std.specs.List.{range_with_len}
 use Rattle.std.proofs.lemmas.Bool.{false≢true, and_parts}
 use Rattle.std.proofs.lemmas.Nat.{mod_below}
@@ -13,13 +13,8 @@ use Rattle.planner.proofs.Parts.{normal_part}
 use Rattle.messages.specs.Topology.{TopologyValue, dc_of, shard_of, shard_node}
 use Rattle.messages.proofs.Numbering.{dc_of_shard, number_of_shard}
 use Rattle.planner.specs.Partition.{shard_of as shard_of_key}
-use Rattle.world.proofs.lists.Among.{Among, filter_only}
+use Rattle.world.proofs.lists.Members.{filter_contains, within_range}
 use Rattle.world.proofs.safety.Facts.{near, lead, part_on}
-
-range_below : (a n c : ℕ) → Among c (range_with_len a n) → c < a + n
-range_below a zero c m = absurd m
-range_below a (suc n) c (inl q) = omega arith
-range_below a (suc n) c (inr m) = let lt = range_below (a + 1) n c m in omega arith
 
 -- ## Numbers within a data centre
 
@@ -30,14 +25,14 @@ pub coordinator_below : (shards : ℕ) (batch : List Change) → 0 < shards → 
 coordinator_below shards [] some = some
 coordinator_below shards (c ∷ cs) some = key_below shards c.row.key some
 
-pub cohort_below : (shards : ℕ) (batch : List Change) (c : ℕ) → Among c (cohorts_of shards batch) → c < shards
+pub cohort_below : (shards : ℕ) (batch : List Change) (c : ℕ) → Contains (cohorts_of shards batch) c → c < shards
 cohort_below shards batch c m =
-    let lt = range_below 0 shards c (filter_only (λ s. not (s == coordinator_of shards batch) && is_touched shards batch s) (range_with_len 0 shards) c m).0 in omega arith
+    let lt = (within_range 0 shards c (filter_contains (λ s. not (s == coordinator_of shards batch) && is_touched shards batch s) (range_with_len 0 shards) c m).0).1 in omega arith
 
 -- a cohort isn't the coordinator
-pub cohort_other : (shards : ℕ) (batch : List Change) (c : ℕ) → Among c (cohorts_of shards batch) → c ≡ coordinator_of shards batch → ⊥
+pub cohort_other : (shards : ℕ) (batch : List Change) (c : ℕ) → Contains (cohorts_of shards batch) c → c ≡ coordinator_of shards batch → ⊥
 cohort_other shards batch c m e =
-    let p = filter_only (λ s. not (s == coordinator_of shards batch) && is_touched shards batch s) (range_with_len 0 shards) c m in
+    let p = filter_contains (λ s. not (s == coordinator_of shards batch) && is_touched shards batch s) (range_with_len 0 shards) c m in
     let q = (and_parts (not (c == coordinator_of shards batch)) (is_touched shards batch c) p.1).0 in
     false≢true (sym (ap not (eq-eqb c (coordinator_of shards batch) e)) ∙ q)
 
@@ -73,5 +68,5 @@ normal_on top batch node = normal_part top.shards (shard_of top node) (normal_of
 
 -- ## Numbers of shards in order
 
-pub listed_below : (n s : ℕ) → Among s (range_with_len 0 n) → s < n
-listed_below n s m = let lt = range_below 0 n s m in omega arith
+pub listed_below : (n s : ℕ) → Contains (range_with_len 0 n) s → s < n
+listed_below n s m = let lt = (within_range 0 n s m).1 in omega arith

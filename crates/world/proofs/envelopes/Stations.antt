@@ -1,7 +1,7 @@
 -- Which actors have anything: what isn't a shard keeps nothing, what isn't a session submits nothing; and what was handled
 -- was sent.
 use Rattle.std.proofs.Common.{◌≡◌, ℕ, zero, suc, ◌<◌, ◌≤◌, Bool, true, false, cond, List, [], ◌∷◌, ◌++◌, length, slice_get, Option, Some, None, Result, Ok, Err, ◌⊎◌, inl, inr, refl, sym, ap, ◌∙◌, subst, arith, eqb-true}
-use Rattle.std.specs.Prelude.{◌==◌, filter_map}
+use Rattle.std.specs.Prelude.{◌==◌, filter_map, Contains}
 use Rattle.std.proofs.lemmas.Bool.{false≢true}
 use Rattle.std.proofs.lemmas.List.{length-append}
 use Rattle.std.proofs.lemmas.List.Elements.{filter_map-append}
@@ -17,29 +17,27 @@ use Rattle.messages.specs.ShardEvents.{shard_handle, shard_collect}
 use Rattle.messages.specs.SessionEvents.{session_handle, session_taken}
 use Rattle.world.specs.Run.{Run, RunEvent, Submit, Deliver, Collect, Submission, opening, after_shard, after_session, after_submission, submit_if, deliver_if, deliver_for, collect_if, step}
 use Rattle.world.specs.Quiet.{number_delivered, handled}
-use Rattle.world.proofs.lists.Among.{Among, among_append, last_or_old}
+use Rattle.world.proofs.lists.Members.{none_in_empty, contains_one, last_or_old, Contains-append_cases}
 
 pub record Stations (top : TopologyValue) (w : Run) : Type 0 where
-  pub handled : (k : ℕ) → Among k (handled w) → k < length w.sent
+  pub handled : (k : ℕ) → Contains (handled w) k → k < length w.sent
   pub shards : (node : ℕ) → is_shard top node ≡ false → w.shards node ≡ new_shard
   pub sessions : (node : ℕ) → is_session top node ≡ false → (w.sessions node).current ≡ Idle
-  pub submitted : (b : Submission) → Among b w.submitted → is_session top b.session ≡ true
+  pub submitted : (b : Submission) → Contains w.submitted b → is_session top b.session ≡ true
 
 -- ## What was handled
 
-one_number : (x : RunEvent) (k : ℕ) (o : Option ℕ) → number_delivered x ≡ o → Among k (filter_map number_delivered (x ∷ []))
+one_number : (x : RunEvent) (k : ℕ) (o : Option ℕ) → number_delivered x ≡ o → Contains (filter_map number_delivered (x ∷ [])) k
     → number_delivered x ≡ Some k
-one_number (Submit session o) k n e m = absurd m
-one_number (Deliver j) k n e (inl q) = ap Some (sym q)
-one_number (Deliver j) k n e (inr m) = absurd m
-one_number (Collect shard time) k n e m = absurd m
+one_number (Submit session o) k n e m = absurd (none_in_empty k m)
+one_number (Deliver j) k n e m = ap Some (sym (contains_one j k m))
+one_number (Collect shard time) k n e m = absurd (none_in_empty k m)
 
 -- after one more event: what was handled before, and what it delivers
-pub handled_more : (events : List RunEvent) (x : RunEvent) (k : ℕ) → Among k (filter_map number_delivered (events ++ x ∷ []))
-    → Among k (filter_map number_delivered events) ⊎ (number_delivered x ≡ Some k)
+pub handled_more : (events : List RunEvent) (x : RunEvent) (k : ℕ) → Contains (filter_map number_delivered (events ++ x ∷ [])) k
+    → Contains (filter_map number_delivered events) k ⊎ (number_delivered x ≡ Some k)
 handled_more events x k m =
-    elim (among_append k (filter_map number_delivered events) (filter_map number_delivered (x ∷ []))
-    (subst (λ l. Among k l) (filter_map-append number_delivered events (x ∷ [])) m)) [
+    elim (Contains-append_cases (filter_map number_delivered events) (filter_map number_delivered (x ∷ [])) k (subst (λ l. Contains l k) (filter_map-append number_delivered events (x ∷ [])) m)) [
       | inl o ↦ inl o
       | inr n ↦ inr (one_number x k _ refl n)
     ]
@@ -53,9 +51,9 @@ get_front [] ys k x lt e = absurd (omega arith)
 get_front (z ∷ xs) ys zero x lt e = e
 get_front (z ∷ xs) ys (suc k) x lt e = get_front xs ys k x (omega arith) e
 
-handled_go : (w : Run) (x : RunEvent) (sends : List Envelope) → ((k : ℕ) → Among k (handled w) → k < length w.sent)
+handled_go : (w : Run) (x : RunEvent) (sends : List Envelope) → ((k : ℕ) → Contains (handled w) k → k < length w.sent)
     → ((k : ℕ) → number_delivered x ≡ Some k → k < length w.sent)
-    → (k : ℕ) → Among k (filter_map number_delivered (w.events ++ x ∷ [])) → k < length (w.sent ++ sends)
+    → (k : ℕ) → Contains (filter_map number_delivered (w.events ++ x ∷ [])) k → k < length (w.sent ++ sends)
 handled_go w x sends old new k m =
     let le = more_sent w.sent sends in
     elim (handled_more w.events x k m) [
@@ -137,8 +135,8 @@ module _ (top : TopologyValue) (w : Run) (k : Stations top w) where
 pub opening_stations : (top : TopologyValue) → Stations top (opening top)
 opening_stations top =
     record {
-      handled = λ k m. absurd m;
+      handled = λ k m. absurd (none_in_empty k m);
       shards = λ node e. refl;
       sessions = λ node e. refl;
-      submitted = λ b m. absurd m;
+      submitted = λ b m. absurd (none_in_empty b m);
     }

@@ -15,7 +15,7 @@ use Rattle.messages.specs.Submitting.{home_node}
 use Rattle.messages.specs.Rounds.{was_heard, asked_nodes, is_missing, all_heard}
 use Rattle.world.specs.Run.{Run, RunEvent, Deliver, Completed, opening, step, continued, run}
 use Rattle.world.specs.Fresh.{IsKept, HasOneKept, FirstRoundsAreWhole}
-use Rattle.world.proofs.lists.Among.{Among, contains_among, last_or_old, any_true, any_among, all_among, map_among}
+use Rattle.world.proofs.lists.Members.{last_or_old, contains_map, any_found, any_has, all_have}
 use Rattle.world.proofs.growing.Growth.{Grows}
 use Rattle.world.proofs.safety.Invariant.{IsOpen, OpenSound, FirstSound, SecondSound, Inv}
 use Rattle.world.proofs.growing.Prefixes.{one_begins, number_later, splits, accepted}
@@ -32,9 +32,9 @@ use Rattle.world.proofs.fresh.KeptAnswers.{HasKept, first_heard, kept_later, all
 -- ## One answer of each shard
 
 -- a shard whose answer was kept isn't missing any more
-not_missing : (asked : List ℕ) (hs : List HeardNow) (h : HeardNow) (node : ℕ) → Among h hs → h.from ≡ node → is_missing asked hs node ≡ true → ⊥
+not_missing : (asked : List ℕ) (hs : List HeardNow) (h : HeardNow) (node : ℕ) → Contains hs h → h.from ≡ node → is_missing asked hs node ≡ true → ⊥
 not_missing asked hs h node m from missing =
-    let heard : was_heard hs node ≡ true = any_among (λ (z : HeardNow). z.from == node) hs h m (eq-eqb h.from node from) in
+    let heard : was_heard hs node ≡ true = any_has (λ (z : HeardNow). z.from == node) hs h m (eq-eqb h.from node from) in
     let none = (and_parts (list_any (λ (z : ℕ). z == node) asked) (not (was_heard hs node)) missing).1 in
     false≢true (ap not (sym heard) ∙ none)
 
@@ -66,7 +66,7 @@ module _ (top : TopologyValue) (some : 0 < top.shards) (w : Run) (replayed : run
       let open_now = later.heard.current (sym second.count) in
       has_it second h (subst (λ o. HasHeard o h) second.first_round open_now) same
     where
-      has_it : (second : IsKept top w session number j f) (h : HeardNow) → Among h second.heard → h.from ≡ f.from → ⊥
+      has_it : (second : IsKept top w session number j f) (h : HeardNow) → Contains second.heard h → h.from ≡ f.from → ⊥
       has_it second h m from =
           not_missing (asked_nodes top ((run top second.before).sessions session) second.read) second.heard h f.from m from second.missing
 
@@ -98,7 +98,7 @@ module _ (top : TopologyValue) (some : 0 < top.shards) (w : Run) (replayed : run
 
 -- ## Completed reads
 
-module _ (top : TopologyValue) (some : 0 < top.shards) (w : Run) (replayed : run top w.events ≡ w) (inv : Inv top w) (c : Completed) (there : Among c w.transcript)
+module _ (top : TopologyValue) (some : 0 < top.shards) (w : Run) (replayed : run top w.events ≡ w) (inv : Inv top w) (c : Completed) (there : Contains w.transcript c)
     (came : CameAt top w c) where
   abbrev u : Run
   u = run top came.before
@@ -157,18 +157,18 @@ module _ (top : TopologyValue) (some : 0 < top.shards) (w : Run) (replayed : run
 
   -- a shard that the read asked is among those that its session asked
   asked_there : (read mine : Read) → IsOf top w c s mine → c.op ≡ op.Read read → (shard : ℕ) → Contains (shards_asked top.shards read.keys) shard
-      → Among (shard_node top c.home shard) (asked_nodes top s mine)
+      → Contains (asked_nodes top s mine) (shard_node top c.home shard)
   asked_there read mine is own shard has =
       let both : op.Read mine ≡ op.Read read = sym is.op ∙ own in
       let same : mine ≡ read = cc in
-      subst (λ dc. Among (shard_node top dc shard) (asked_nodes top s mine)) (sym is.home)
-      (subst (λ (r : Read). Among (home_node top s shard) (asked_nodes top s r)) (sym same)
-      (map_among (home_node top s) (shards_asked top.shards read.keys) shard (contains_among shard (shards_asked top.shards read.keys) has)))
+      subst (λ dc. Contains (asked_nodes top s mine) (shard_node top dc shard)) (sym is.home)
+      (subst (λ (r : Read). Contains (asked_nodes top s r) (home_node top s shard)) (sym same)
+      (contains_map (home_node top s) (shards_asked top.shards read.keys) shard has))
 
   -- its answer was heard
-  heard_one : (asked : List ℕ) (hs : List HeardNow) (node : ℕ) → all_heard asked hs ≡ true → Among node asked → (h : HeardNow) × Among h hs × (h.from ≡ node)
+  heard_one : (asked : List ℕ) (hs : List HeardNow) (node : ℕ) → all_heard asked hs ≡ true → Contains asked node → (h : HeardNow) × Contains hs h × (h.from ≡ node)
   heard_one asked hs node all m =
-      let r = any_true (λ (z : HeardNow). z.from == node) hs (all_among (was_heard hs) asked all node m) in
+      let r = any_found (λ (z : HeardNow). z.from == node) hs (all_have (was_heard hs) asked node all m) in
       (r.0, r.1, eqb-true r.0.from node r.2)
 
   each_kept : (read : Read) → c.op ≡ op.Read read → LastFirst top s came.brings.message.from came.brings.message.body ⊎ LastSecond top s came.brings.message.from came.brings.message.body
@@ -180,7 +180,7 @@ module _ (top : TopologyValue) (some : 0 < top.shards) (w : Run) (replayed : run
       (asked_there read k.read (own k.read first.opened) is shard has) in
       subst (HasKept top w c.node c.number) one.2
       (elim (last_or_old one.0 (record { from = came.brings.message.from; rows = k.rows }) k.heard one.1) [
-        | inl old ↦ to_end one.0.from (all_kept top came.before c.node one.0 (subst (λ o. Among one.0 (first_heard o)) (sym k.answer.current) old))
+        | inl old ↦ to_end one.0.from (all_kept top came.before c.node one.0 (subst (λ o. Contains (first_heard o) one.0) (sym k.answer.current) old))
         | inr q ↦ subst (λ (z : HeardNow). HasKept top w c.node c.number z.from) (sym q) (last_kept k)
       ])
   each_kept read is (inr k) shard has =
@@ -189,13 +189,13 @@ module _ (top : TopologyValue) (some : 0 < top.shards) (w : Run) (replayed : run
       let one = heard_one (asked_nodes top s k.read) k.first (shard_node top c.home shard) second.all
       (asked_there read k.read (own k.read second.opened) is shard has) in
       subst (HasKept top w c.node c.number) one.2
-      (to_end one.0.from (all_kept top came.before c.node one.0 (subst (λ o. Among one.0 (first_heard o)) (sym k.answer.current) one.1)))
+      (to_end one.0.from (all_kept top came.before c.node one.0 (subst (λ o. Contains (first_heard o) one.0) (sym k.answer.current) one.1)))
 
 pub first_rounds_are_whole : (top : TopologyValue) (events : List RunEvent) → 0 < top.shards → FirstRoundsAreWhole top (run top events)
 first_rounds_are_whole top events some c read time answer shard has is end asked =
     let w = run top events in
     let replayed = runs_replayed top events in
-    let there = contains_among c w.transcript has in
+    let there = has in
     let came = came_at top w some replayed c (subst IsNotMoved (sym end) tt) there in
     one_kept top some w replayed c.node c.number (shard_node top c.home shard)
     (each_kept top some w replayed (every_run top events some) c there came read is

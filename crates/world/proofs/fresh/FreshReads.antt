@@ -39,7 +39,7 @@ use Rattle.messages.proofs.Numbering.{dc_of_shard}
 use Rattle.world.proofs.envelopes.Near.{listed_below}
 use Rattle.world.specs.Promises.{Fits}
 use Rattle.world.proofs.steps.EndCases.{end_cases}
-use Rattle.world.proofs.lists.Among.{Among, contains_among, any_true, filter_only, map_only, map_among}
+use Rattle.world.proofs.lists.Members.{contains_map, mapped_from, filter_contains, any_found}
 use Rattle.world.proofs.growing.Growth.{FirstAsked, AskedNow, Grows}
 use Rattle.world.proofs.safety.Facts.{part_on}
 use Rattle.world.proofs.safety.Invariant.{Says, IsOpen, OpenSound, FirstSound, Inv}
@@ -59,8 +59,8 @@ row_here : (top : TopologyValue) (node : ℕ) (batch part : List Change) (row : 
     → list_any (touches (at row name)) part ≡ true
     → shard_of_key top.shards row.key ≡ shard_of top node
 row_here top node batch part row name is touched =
-    let c = any_true (λ (z : Change). is_same_row row z.row) part (touched_row (at row name) part touched) in
-    let on = filter_only (λ (z : Change). is_on top.shards (shard_of top node) z.row.key) (normal_of batch) c.0 (subst (λ cs. Among c.0 cs) is c.1) in
+    let c = any_found (λ (z : Change). is_same_row row z.row) part (touched_row (at row name) part touched) in
+    let on = filter_contains (λ (z : Change). is_on top.shards (shard_of top node) z.row.key) (normal_of batch) c.0 (subst (λ cs. Contains cs c.0) is c.1) in
     let same : row ≡ c.0.row = one_row row c.0.row c.2 in
     ap (λ (z : Row). shard_of_key top.shards z.key) same ∙ eqb-true (shard_of_key top.shards c.0.row.key) (shard_of top node) on.1
 
@@ -70,10 +70,10 @@ home_of_asked : (top : TopologyValue) (a : SessionState) (read : Read) (heard : 
     → dc_of top node ≡ a.home
 home_of_asked top a read heard node missing =
     let s =
-    any_true (λ (z : ℕ). z == node) (asked_nodes top a read)
+    any_found (λ (z : ℕ). z == node) (asked_nodes top a read)
     (and_parts (list_any (λ (z : ℕ). z == node) (asked_nodes top a read)) (not (was_heard heard node)) missing).0 in
-    let m = map_only (home_node top a) (shards_asked top.shards read.keys) s.0 s.1 in
-    let listed = filter_only (λ (z : ℕ). list_any (is_on top.shards z) read.keys) (range_with_len 0 top.shards) m.0 m.1 in
+    let m = mapped_from (home_node top a) (shards_asked top.shards read.keys) s.0 s.1 in
+    let listed = filter_contains (λ (z : ℕ). list_any (is_on top.shards z) read.keys) (range_with_len 0 top.shards) m.0 m.1 in
     ap (dc_of top) (sym (eqb-true s.0 node s.2) ∙ m.2) ∙ dc_of_shard top a.home m.0 (listed_below top.shards m.0 listed.0)
 
 -- ## What was asked
@@ -83,7 +83,7 @@ pub record IsOf (top : TopologyValue) (w : Run) (c : Completed) (a : SessionStat
   pub op : c.op ≡ op.Read read
   pub home : c.home ≡ a.home
 
-pub open_of : (top : TopologyValue) (u w : Run) (c : Completed) (a : SessionState) (read : Read) → Inv top w → Grows top u w → Among c w.transcript
+pub open_of : (top : TopologyValue) (u w : Run) (c : Completed) (a : SessionState) (read : Read) → Inv top w → Grows top u w → Contains w.transcript c
     → a.count ≡ c.number
     → IsOpen u c.node a.count a.home (op.Read read) → IsOf top w c a read
 open_of top u w c a read inv g m count is =
@@ -108,7 +108,7 @@ module _ (top : TopologyValue) (some : 0 < top.shards) (every : (events : List R
     (grows : (before after : List RunEvent) → Grows top (run top before) (run top (before ++ after)))
     (causal : (events : List RunEvent) → Causal top (run top events)) where
   -- one answer of a shard that was kept, and one part that it had applied before
-  module _ (w : Run) (replayed : run top w.events ≡ w) (inv : Inv top w) (c : Completed) (there : Among c w.transcript)
+  module _ (w : Run) (replayed : run top w.events ≡ w) (inv : Inv top w) (c : Completed) (there : Contains w.transcript c)
       (k : ℕ) (e : Envelope) (kept : IsKept top w c.node c.number k e) (x : Applied) (was : WasApplied top w e.from k x) where
     -- the run when the answer was sent, and the run when it was kept
     abbrev then : Run
@@ -178,12 +178,12 @@ module _ (top : TopologyValue) (some : 0 < top.shards) (every : (events : List R
     row_timely key has on time shown came =
         let given : Contains (keys_for top.shards kept.read.keys (shard_of top e.from)) key =
         subst (λ s. Contains (keys_for top.shards kept.read.keys s) key) on (asked_key top.shards kept.read.keys key has) in
-        let asked : Among key answer.read.keys =
-        subst (λ (r : Read). Among key r.keys) (sym share) (contains_among key (keys_for top.shards kept.read.keys (shard_of top e.from)) given) in
+        let asked : Contains answer.read.keys key =
+        subst (λ (r : Read). Contains r.keys key) (sym share) given in
         let r = row_now answer.clock (then.shards answer.asking.to) answer.read key in
-        let among : Among r kept.rows =
-        subst (λ (l : List RowNow). Among r l) (sym rows)
-        (map_among (row_now answer.clock (then.shards answer.asking.to) answer.read) answer.read.keys key asked) in
+        let among : Contains kept.rows r =
+        subst (λ (l : List RowNow). Contains l r) (sym rows)
+        (contains_map (row_now answer.clock (then.shards answer.asking.to) answer.read) answer.read.keys key asked) in
         let heard = kept_heard top w replayed c.node c.number k e kept ((every kept.before).sessions e.to).taken ((causal kept.before).closed) in
         let ends : EndsTimely c.outcome (record { from = e.from; rows = kept.rows }) = heard.ended c there refl refl in
         let timely : IsTimely (record { from = e.from; rows = kept.rows }) time =
@@ -200,7 +200,7 @@ module _ (top : TopologyValue) (some : 0 < top.shards) (every : (events : List R
         let both : op.Read kept.read ≡ op.Read read = sym own.op ∙ is in
         let same : kept.read ≡ read = cc in
         let sound = every was.before in
-        let had : Among x (then.shards e.from).applied = contains_among x (then.shards e.from).applied was.applied in
+        let had : Contains (then.shards e.from).applied x = was.applied in
         let part = (sound.shards e.from).applied x had in
         let on = row_here top e.from part.batch x.part.batch (row_of read key) name part.rows touched in
         let evt : evt_of (parts_of (then.shards e.from).applied) (row_of read key) read.predicate ≤ time =
@@ -220,7 +220,7 @@ module _ (top : TopologyValue) (some : 0 < top.shards) (every : (events : List R
           newer = cover.newer;
         }))
 
-  fresh_for : (w : Run) → run top w.events ≡ w → Inv top w → (c : Completed) → Among c w.transcript → (o : Op) (end : Outcome) → Fits o end → c.op ≡ o
+  fresh_for : (w : Run) → run top w.events ≡ w → Inv top w → (c : Completed) → Contains w.transcript c → (o : Op) (end : Outcome) → Fits o end → c.op ≡ o
       → c.outcome ≡ end → IsFreshFor o end top w c
   fresh_for w replayed inv c m o end =
       end_cases (λ o end. c.op ≡ o → c.outcome ≡ end → IsFreshFor o end top w c)
@@ -235,5 +235,5 @@ module _ (top : TopologyValue) (some : 0 < top.shards) (every : (events : List R
   -- whatever a run completed is fresh
   pub completed_fresh : (events : List RunEvent) (c : Completed) → Contains (run top events).transcript c → IsFresh top (run top events) c
   completed_fresh events c has =
-      fresh_for (run top events) (runs_replayed top events) (every events) c (contains_among c (run top events).transcript has) c.op c.outcome
-      ((every events).transcript c (contains_among c (run top events).transcript has)).fits refl refl
+      fresh_for (run top events) (runs_replayed top events) (every events) c has c.op c.outcome
+      ((every events).transcript c has).fits refl refl

@@ -1,7 +1,7 @@
 -- What a shard had applied to an asked location is covered by the row's earliest valid time: from it on, the table of the
 -- shard's data centre shows nothing older there.
 use Rattle.std.proofs.Common.{◌≡◌, ◌∙◌, ℕ, ◌<◌, ◌≤◌, sym, ap, refl, Bool, true, false, nat_le, List, Option, Some, None, arith, leb-true}
-use Rattle.std.specs.Prelude.{is_some}
+use Rattle.std.specs.Prelude.{is_some, Contains}
 use Rattle.std.specs.List.{list_any}
 use Rattle.logical_time.specs.Stamps.{StampValue, is_older}
 use Rattle.column_family.specs.declared.batch.Row.{Row}
@@ -27,7 +27,7 @@ use Rattle.messages.specs.Topology.{TopologyValue, dc_of, shard_of}
 use Rattle.world.specs.Run.{Run}
 use Rattle.world.specs.Histories.{history_of}
 use Rattle.world.specs.Fresh.{IsNoOlder}
-use Rattle.world.proofs.lists.Among.{Among, among_contains, contains_among, filter_only, filter_among, map_only, map_among}
+use Rattle.world.proofs.lists.Members.{contains_map, mapped_from, contains_filter, filter_contains}
 use Rattle.world.proofs.safety.Invariant.{Inv}
 use Rattle.world.proofs.safety.Facts.{part_on}
 use Rattle.world.proofs.envelopes.PartRows.{part_changes}
@@ -44,7 +44,7 @@ last_there q cs e = go (last_of q cs) refl
 -- a part that was applied, committed by the time, that touches the location and isn't older than the given one
 pub record IsCover (all : List Applied) (l : Location) (time : ℕ) (x : Applied) : Type 0 where
   pub part : Applied
-  pub among : Among part all
+  pub among : Contains all part
   pub commit : part.commit ≤ time
   pub mutation : Mutation
   pub last : last_of (touches l) part.part.batch ≡ Some mutation
@@ -53,14 +53,14 @@ pub record IsCover (all : List Applied) (l : Location) (time : ℕ) (x : Applied
 -- what touches an asked location is covered by the time of the row's newest versions
 pub covered : (all : List Applied) (row : Row) (p : Predicate) (name : List ℕ) (time : ℕ) (x : Applied) → AreApart all
     → evt_of (parts_of all) row p ≤ time
-    → is_asked p name ≡ true → Among x all → list_any (touches (at row name)) x.part.batch ≡ true → IsCover all (at row name) time x
+    → is_asked p name ≡ true → Contains all x → list_any (touches (at row name)) x.part.batch ≡ true → IsCover all (at row name) time x
 covered all row p name time x apart le asked has touched =
     let q = touches (at row name) in
     let own = last_there q x.part.batch touched in
-    let n = no_newer q (parts_of all) (part_entry x) own.0 (among_contains (part_entry x) (parts_of all) (map_among part_entry all x has)) own.1 in
+    let n = no_newer q (parts_of all) (part_entry x) own.0 (contains_map part_entry all x has) own.1 in
     let by = newest_some q (parts_of (applied_by time all)) n.0 (sym (touch_agrees all row p time apart le name asked) ∙ n.1) in
-    let r = map_only part_entry (applied_by time all) by.entry (contains_among by.entry (parts_of (applied_by time all)) by.among) in
-    let f = filter_only (λ (a : Applied). nat_le a.commit time) all r.0 r.1 in
+    let r = mapped_from part_entry (applied_by time all) by.entry by.among in
+    let f = filter_contains (λ (a : Applied). nat_le a.commit time) all r.0 r.1 in
     record {
       part = r.0;
       among = f.0;
@@ -83,9 +83,9 @@ shown top w inv some node row name here time x is =
     let le = is.commit in
     let low : nat_le own.decision.commit time ≡ true = ap (λ (n : ℕ). nat_le n time) own.commit ∙ grind arith in
     let entered = entry_among top w inv (dc_of top node) own.decision own.among own.decided in
-    let has = filter_among (λ (c : Committed). nat_le c.commit time) (history_of top w (dc_of top node)) d entered low in
+    let has = contains_filter (λ (c : Committed). nat_le c.commit time) (history_of top w (dc_of top node)) d entered low in
     let last : last_of q batch ≡ Some is.mutation =
     sym (last_alike row q (touches_test (at row name)) (part_on top batch node) batch (part_changes top.shards (shard_of top node) row here (normal_of batch)))
     ∙ ap (last_of q) (sym own.batch) ∙ is.last in
-    let n = no_newer q (up_to time (history_of top w (dc_of top node))) d is.mutation (among_contains d (up_to time (history_of top w (dc_of top node))) has) last in
+    let n = no_newer q (up_to time (history_of top w (dc_of top node))) d is.mutation has last in
     (n.0, n.1, not_older_trans n.0.stamp v.stamp x.stamp (ap (λ (s : StampValue). is_older n.0.stamp s) (sym own.stamp) ∙ n.2) is.newer)

@@ -17,7 +17,7 @@ use Rattle.messages.specs.Rounds.{asked_nodes, is_late, late_nodes, was_heard_at
 use Rattle.world.specs.Run.{Run, RunEvent, Deliver, Completed, step, continued, run}
 use Rattle.world.specs.Met.{horizon}
 use Rattle.world.specs.Collected.{IsGivenUp, CollectedIsBelowHorizon}
-use Rattle.world.proofs.lists.Among.{Among, among_contains, contains_among, any_true, filter_only, map_only, get_among}
+use Rattle.world.proofs.lists.Members.{none_in_empty, mapped_from, filter_contains, contains_get, any_found}
 use Rattle.world.proofs.growing.Growth.{SecondAsked, AskedAt, Grows}
 use Rattle.world.proofs.safety.Invariant.{OpenSound, SecondSound, Inv, Hears, TellsCollected}
 use Rattle.world.proofs.steps.EventCases.{event_cases}
@@ -45,7 +45,7 @@ low_stays top w x k e node le sent =
           (λ same. handled_low top f.to n (w.shards f.to) f.from f.body ∙ ap (λ z. (w.shards z).low) (sym same)) (λ other. refl);
       heard = λ j f n q there other to g. refl;
       begun = λ m o n q to g. refl;
-      collected = λ m t n q g. absurd (get_added w.sent [] k e le g);
+      collected = λ m t n q g. absurd (none_in_empty e (get_added w.sent [] k e le g));
     })
     sent
 
@@ -57,13 +57,13 @@ awaited : (top : TopologyValue) (a : SessionState) (read : Read) (time : ℕ) (f
     → (shard : ℕ) × Contains (shards_asked top.shards read.keys) shard × (node ≡ shard_node top a.home shard)
 awaited top a read time first heard node missing =
     let s =
-    any_true (λ (z : ℕ). z == node) (late_nodes (asked_nodes top a read) time first)
+    any_found (λ (z : ℕ). z == node) (late_nodes (asked_nodes top a read) time first)
     (and_parts (list_any (λ (z : ℕ). z == node) (late_nodes (asked_nodes top a read) time first)) (not (was_heard_at heard node)) missing).0 in
-    let m = map_only (home_node top a) (shards_asked top.shards read.keys) s.0 (filter_only (is_late time first) (asked_nodes top a read) s.0 s.1).0 in
-    (m.0, among_contains m.0 (shards_asked top.shards read.keys) m.1, sym (eqb-true s.0 node s.2) ∙ m.2)
+    let m = mapped_from (home_node top a) (shards_asked top.shards read.keys) s.0 (filter_contains (is_late time first) (asked_nodes top a read) s.0 s.1).0 in
+    (m.0, m.1, sym (eqb-true s.0 node s.2) ∙ m.2)
 
 module _ (top : TopologyValue) (some : 0 < top.shards)
-    (w : Run) (replayed : run top w.events ≡ w) (inv : Inv top w) (c : Completed) (there : Among c w.transcript) (came : CameAt top w c)
+    (w : Run) (replayed : run top w.events ≡ w) (inv : Inv top w) (c : Completed) (there : Contains w.transcript c) (came : CameAt top w c)
     (gave : SaidCollected top ((run top came.before).sessions c.node) came.brings.message.from came.brings.message.body) where
   -- the run when the session heard it
   abbrev later : Run
@@ -100,10 +100,10 @@ module _ (top : TopologyValue) (some : 0 < top.shards)
       gave.answer.body ∙ ap (λ m. body.PartAt m gave.answer.bound at.Collected) came.brings.count in
       let event = sending.1 in
       let sent = sent_then top w replayed came.brings.k heard number before event was in
-      let gave_up : (v : Run) → Inv top v → Among heard v.sent → TellsCollected v heard.from heard.to c.number gave.answer.bound =
+      let gave_up : (v : Run) → Inv top v → Contains v.sent heard → TellsCollected v heard.from heard.to c.number gave.answer.bound =
       λ v good m. subst (λ b. Hears top v heard.from heard.to heard.time b) says (hears top v good heard m) in
-      let first = gave_up (step top earlier event) (step_kept top earlier event some (every_run top before some)) (get_among (step top earlier event).sent came.brings.k heard sent) in
-      let asked = (gave_up later (every_run top came.before some) (get_among later.sent came.brings.k heard came.brings.number)) in
+      let first = gave_up (step top earlier event) (step_kept top earlier event some (every_run top before some)) (contains_get (step top earlier event).sent came.brings.k heard sent) in
+      let asked = gave_up later (every_run top came.before some) (contains_get later.sent came.brings.k heard came.brings.number) in
       let time = its_time asked.read (subst (λ z. AskedAt (later.sessions z) c.number gave.answer.bound heard.from asked.read) came.brings.to asked.asked) in
       let shard = awaited top (later.sessions c.node) gave.read gave.time gave.first gave.heard heard.from gave.answer.missing in
       let from : heard.from ≡ shard_node top c.home shard.0 = shard.2 ∙ ap (λ dc. shard_node top dc shard.0) (sym own.home) in
@@ -136,7 +136,7 @@ module _ (top : TopologyValue) (some : 0 < top.shards)
 pub collected_in_runs : (top : TopologyValue) (events : List RunEvent) → 0 < top.shards → CollectedIsBelowHorizon top (run top events)
 collected_in_runs top events some c has is =
     let w = run top events in
-    let there = contains_among c w.transcript has in
+    let there = has in
     let came = came_at top w some (runs_replayed top events) c (subst IsNotMoved (sym is) tt) there in
     given_up top some w (runs_replayed top events) (every_run top events some) c there came
     (subst (λ o. EndsBy o top ((run top came.before).sessions c.node) came.brings.message.from came.brings.message.body) is came.brings.ends)

@@ -1,7 +1,7 @@
 -- What a session heard of a shard in the first round of a read stays with it: the effective time isn't below the earliest
 -- valid time of any row that was heard.
 use Rattle.std.proofs.Common.{◌≡◌, ◌∙◌, ℕ, ◌+◌, ◌≤◌, ap, refl, sym, subst, arith, Bool, true, false, ◌&&◌, List, [], ◌∷◌, ◌++◌, Option, Some, None, eq-eqb}
-use Rattle.std.specs.Prelude.{◌==◌}
+use Rattle.std.specs.Prelude.{◌==◌, Contains}
 use Rattle.logical_time.specs.Stamps.{WriterValue}
 use Rattle.planner.proofs.Members.{contains_flat}
 use Rattle.slice.specs.declared.read.Read.{Read}
@@ -18,18 +18,18 @@ use Rattle.messages.specs.Rounds.{asked_nodes, is_missing, all_heard, effective_
 use Rattle.messages.specs.SessionEvents.{second_if, heard_if, heard_now, part_now_if, part_now_in, heard, session_taken}
 use Rattle.messages.proofs.Greatest.{effective_above_each}
 use Rattle.world.proofs.steps.HeardCases.{FirstAnswer, with_rows_now, heard_cases}
-use Rattle.world.proofs.lists.Among.{Among, append_first, among_last, among_contains}
+use Rattle.world.proofs.lists.Members.{Contains-push, Contains-append_left}
 use Rattle.world.proofs.steps.Begun.{begins}
 
 -- the time isn't below the earliest valid time of any row that was heard
 abbrev pub IsTimely : HeardNow → ℕ → Type 0
-IsTimely h time = (r : RowNow) → Among r h.rows → r.evt ≤ time
+IsTimely h time = (r : RowNow) → Contains h.rows r → r.evt ≤ time
 
 -- the open read has heard this in its first round
 abbrev pub HasHeard : Open → HeardNow → Type 0
 HasHeard Idle h = Unit {0}
 HasHeard (Writing coordinator) h = Unit {0}
-HasHeard (FirstRound read heard) h = Among h heard
+HasHeard (FirstRound read heard) h = Contains heard h
 HasHeard (SecondRound read time first heard) h = IsTimely h time
 HasHeard (Moving dc left floor) h = Unit {0}
 
@@ -87,9 +87,9 @@ still_ended n a home floor deps o number h le k =
 -- ## PartNow
 
 -- the effective time is timely for all that was heard
-timely : (floor : ℕ) (hs : List HeardNow) (h : HeardNow) → Among h hs → IsTimely h (effective_time floor hs)
+timely : (floor : ℕ) (hs : List HeardNow) (h : HeardNow) → Contains hs h → IsTimely h (effective_time floor hs)
 timely floor hs h m r i =
-    effective_above_each floor hs r (contains_flat (λ (z : HeardNow). z.rows) hs h r (among_contains h hs m) (among_contains r h.rows i))
+    effective_above_each floor hs r (contains_flat (λ (z : HeardNow). z.rows) hs h r m i)
 
 second_still : (nodes : List ℕ) (me n : ℕ) (a : SessionState) (read : Read) (time : ℕ) (hs : List HeardNow) (number : ℕ) (h : HeardNow)
     → a.untaken ≡ None → number ≤ a.count
@@ -98,7 +98,7 @@ second_still [] me n a read time hs number h none le k = still_ended n a a.home 
 second_still (s ∷ ss) me n a read time hs number h none le k = still_open n a (SecondRound read time hs []) number h none le k
 
 heard_still : (top : TopologyValue) (me n : ℕ) (a : SessionState) (read : Read) (hs : List HeardNow) (number : ℕ) (h : HeardNow) → a.untaken ≡ None
-    → number ≤ a.count → (number ≡ a.count → Among h hs) → StillHeard a (heard_now top me n a read hs).state number h
+    → number ≤ a.count → (number ≡ a.count → Contains hs h) → StillHeard a (heard_now top me n a read hs).state number h
 heard_still top me n a read hs number h none le k = by (all_heard (asked_nodes top a read) hs)
   where
     by : (b : Bool) → StillHeard a (heard_if b top me n a read hs).state number h
@@ -118,7 +118,7 @@ part_now_heard top me n a from number rows read hs none count current missing =
     ap (λ b. b && is_missing (asked_nodes top a read) hs from) (eq-eqb number a.count (sym count)) ∙ missing in
     subst (λ o. StillHeard a (part_now_in o top me n a from number rows).state number h) (sym current)
     (subst (λ b. StillHeard a (part_now_if b top me n a read hs from rows).state number h) (sym test)
-    (heard_still top me n a read (hs ++ h ∷ []) number h none (omega arith) (λ q. among_last h hs)))
+    (heard_still top me n a read (hs ++ h ∷ []) number h none (omega arith) (λ q. Contains-push hs h)))
 
 -- ## Events
 
@@ -144,8 +144,8 @@ message_still top me n a from b number h k =
     open_so : {o : Open} → a.current ≡ o → number ≡ a.count → HasHeard o h
     open_so is q = subst (λ z. HasHeard z h) is (k.current q)
 
-    in_first : (read : Read) (hs : List HeardNow) (rows : List RowNow) → FirstAnswer top a from b read hs rows → number ≡ a.count → Among h (with_rows_now hs from rows)
-    in_first read hs rows e q = append_first h hs (record { from = from; rows = rows } ∷ []) (open_so {o = FirstRound read hs} e.current q)
+    in_first : (read : Read) (hs : List HeardNow) (rows : List RowNow) → FirstAnswer top a from b read hs rows → number ≡ a.count → Contains (with_rows_now hs from rows) h
+    in_first read hs rows e q = Contains-append_left hs (record { from = from; rows = rows } ∷ []) h (open_so {o = FirstRound read hs} e.current q)
 
 -- what the session submits is its next operation, which may end at once
 still_next : (a b : SessionState) (number : ℕ) (h : HeardNow) → number ≤ a.count → b.count ≡ a.count + 1 → ((f : Finished) → b.untaken ≡ Some f → f.number ≡ a.count + 1)

@@ -1,7 +1,7 @@
 -- What a session kept of a first round stays with the read over a run: its effective time isn't below the earliest valid
 -- time of any row that was kept.
 use Rattle.std.proofs.Common.{◌≡◌, ◌∙◌, ℕ, ◌<◌, ap, sym, refl, subst, arith, Bool, true, false, cond, ◌&&◌, nat_le, nat_lt, inl, inr, List, [], ◌∷◌, ◌++◌, Option, Some, None, slice_get, eqb-true, eq-eqb}
-use Rattle.std.specs.Prelude.{◌==◌, option_map, option_and_then}
+use Rattle.std.specs.Prelude.{◌==◌, option_map, option_and_then, Contains}
 use Rattle.std.proofs.lemmas.Bool.{false≢true}
 use Rattle.std.proofs.lemmas.Bool.Decides.{nat_tests}
 use Rattle.messages.specs.declared.body.Body.{Body}
@@ -13,7 +13,6 @@ use Rattle.messages.specs.Rounds.{asked_nodes, is_missing}
 use Rattle.messages.specs.SessionEvents.{heard, session_taken}
 use Rattle.world.specs.Run.{Run, RunEvent, Submit, Deliver, Submission, Completed, opening, submission_of, completed_of, ended_by, submission_by, with_actor, with_session, step, continued, run}
 use Rattle.world.specs.Fresh.{IsKept}
-use Rattle.world.proofs.lists.Among.{Among}
 use Rattle.world.proofs.steps.EventCases.{event_cases}
 use Rattle.world.proofs.fresh.HeardFirst.{EndsTimely, Heard, StillHeard, part_now_heard, message_still, begun_still}
 use Rattle.world.proofs.steps.Transcripts.{ended_or_old}
@@ -95,11 +94,11 @@ only_sessions top events = only_later top (opening top) events (λ node no_sessi
 
 pub record RunHeard (w : Run) (session number : ℕ) (h : HeardNow) : Type 0 where
   pub heard : Heard (w.sessions session) number h
-  pub ended : (c : Completed) → Among c w.transcript → c.node ≡ session → c.number ≡ number → EndsTimely c.outcome h
+  pub ended : (c : Completed) → Contains w.transcript c → c.node ≡ session → c.number ≡ number → EndsTimely c.outcome h
 
 -- a session's step, where these operations are accepted by then
 session_after : (w : Run) (x : RunEvent) (node : ℕ) (submitted : List Submission) (st : SessionStep) (session number : ℕ) (h : HeardNow)
-    → ((c : Completed) → Among c w.transcript → c.node ≡ session → c.number ≡ number → EndsTimely c.outcome h)
+    → ((c : Completed) → Contains w.transcript c → c.node ≡ session → c.number ≡ number → EndsTimely c.outcome h)
     → (session ≡ node → StillHeard (w.sessions node) st.state number h) → ((session == node) ≡ false → Heard (w.sessions session) number h)
     → RunHeard (with_session w x node submitted st) session number h
 session_after w x node submitted st session number h old own other =
@@ -161,7 +160,7 @@ not_open top w node o only e busy is = by (is_session top node) refl
 pub kept_at : (top : TopologyValue) (w : Run) (session number k : ℕ) (e : Envelope) (kept : IsKept top w session number k e)
     → OnlySessions top (run top kept.before)
     → ((run top kept.before).sessions e.to).untaken ≡ None
-    → ((c : Completed) → Among c (run top kept.before).transcript → is_idle ((run top kept.before).sessions c.node).current ≡ false
+    → ((c : Completed) → Contains (run top kept.before).transcript c → is_idle ((run top kept.before).sessions c.node).current ≡ false
     → c.number < ((run top kept.before).sessions c.node).count)
     → ((f : Envelope) → slice_get (run top kept.before).sent k ≡ Some f → f ≡ e)
     → IsAccepted (run top kept.before) (Deliver k) (step top (run top kept.before) (Deliver k))
@@ -198,7 +197,7 @@ kept_at top w session number k e kept only taken closed same =
     addressed : (f : Envelope) → f ≡ e → f.to ≡ session
     addressed f one = ap (λ (z : Envelope). z.to) one ∙ kept.address
 
-    old : (c : Completed) → Among c u.transcript → c.node ≡ session → c.number ≡ number → EndsTimely c.outcome h
+    old : (c : Completed) → Contains u.transcript c → c.node ≡ session → c.number ≡ number → EndsTimely c.outcome h
     old c m p q =
         let lt = closed c m (ap (λ z. is_idle (u.sessions z).current) p ∙ ap is_idle kept.first_round) in
         let count : (u.sessions c.node).count ≡ number = ap (λ z. (u.sessions z).count) p ∙ kept.count in
@@ -244,7 +243,7 @@ delivered_sent top v k now =
 pub kept_heard : (top : TopologyValue) (w : Run) → run top w.events ≡ w
     → (session number k : ℕ) (e : Envelope) (kept : IsKept top w session number k e)
     → ((run top kept.before).sessions e.to).untaken ≡ None
-    → ((c : Completed) → Among c (run top kept.before).transcript → is_idle ((run top kept.before).sessions c.node).current ≡ false
+    → ((c : Completed) → Contains (run top kept.before).transcript c → is_idle ((run top kept.before).sessions c.node).current ≡ false
     → c.number < ((run top kept.before).sessions c.node).count)
     → RunHeard w session number (record { from = e.from; rows = kept.rows })
 kept_heard top w replayed session number k e kept taken closed =

@@ -1,5 +1,6 @@
 -- What an open read has heard in its first round, its session kept at the delivery of that answer.
 use Rattle.std.proofs.Common.{◌≡◌, ◌∙◌, ℕ, ap, sym, refl, subst, inl, inr, List, [], ◌∷◌, ◌++◌, Some, Ok, slice_get}
+use Rattle.std.specs.Prelude.{Contains}
 use Rattle.std.proofs.lemmas.List.{append_assoc}
 use Rattle.slice.specs.declared.read.Read.{Read}
 use Rattle.messages.specs.declared.rows_now.RowNow.{RowNow}
@@ -12,7 +13,7 @@ use Rattle.messages.specs.Rounds.{asked_nodes, is_missing}
 use Rattle.messages.specs.SessionEvents.{heard}
 use Rattle.world.specs.Run.{Run, RunEvent, Submit, Deliver, opening, after_session, after_submission, step, continued, run}
 use Rattle.world.specs.Fresh.{IsKept}
-use Rattle.world.proofs.lists.Among.{Among, last_or_old}
+use Rattle.world.proofs.lists.Members.{none_in_empty, last_or_old}
 use Rattle.world.proofs.steps.EventCases.{event_cases}
 use Rattle.world.proofs.growing.Prefixes.{get_first}
 use Rattle.world.proofs.worked.Replayed.{step_replayed}
@@ -75,7 +76,7 @@ first_heard (Moving dc left floor) = []
 
 -- whatever the session's open read has heard in its first round was kept
 abbrev pub HeardIsKept : TopologyValue → Run → ℕ → SessionState → Type 0
-HeardIsKept top w node a = (h : HeardNow) → Among h (first_heard a.current) → HasKept top w node a.count h.from
+HeardIsKept top w node a = (h : HeardNow) → Contains (first_heard a.current) h → HasKept top w node a.count h.from
 
 abbrev pub AllKept : TopologyValue → Run → Type 0
 AllKept top w = (node : ℕ) → HeardIsKept top w node (w.sessions node)
@@ -93,8 +94,8 @@ module _ (top : TopologyValue) (w : Run) (replayed : run top w.events ≡ w) (x 
     abbrev v : Run
     v = after_session (Ok (heard top e.to n (w.sessions e.to) e.from e.body)) w x e.to
 
-    stays : (o : Open) → a.current ≡ o → (h : HeardNow) → Among h (first_heard o) → HasKept top v e.to a.count h.from
-    stays o q h m = later v _ x refl refl e.to a.count h.from (all e.to h (subst (λ z. Among h (first_heard z)) (sym q) m))
+    stays : (o : Open) → a.current ≡ o → (h : HeardNow) → Contains (first_heard o) h → HasKept top v e.to a.count h.from
+    stays o q h m = later v _ x refl refl e.to a.count h.from (all e.to h (subst (λ z. Contains (first_heard z) h) (sym q) m))
 
     -- this message is kept now
     now : (read : Read) (hs : List HeardNow) (rows : List RowNow) → FirstAnswer top a e.from e.body read hs rows → HasKept top v e.to a.count e.from
@@ -121,7 +122,7 @@ module _ (top : TopologyValue) (w : Run) (replayed : run top w.events ≡ w) (x 
         }
 
     with_now : (read : Read) (hs : List HeardNow) (rows : List RowNow) → FirstAnswer top a e.from e.body read hs rows
-        → (h : HeardNow) → Among h (hs ++ record { from = e.from; rows = rows } ∷ []) → HasKept top v e.to a.count h.from
+        → (h : HeardNow) → Contains (hs ++ record { from = e.from; rows = rows } ∷ []) h → HasKept top v e.to a.count h.from
     with_now read hs rows k h m = elim (last_or_old h (record { from = e.from; rows = rows }) hs m) [
       | inl old ↦ stays (FirstRound read hs) k.current h old
       | inr q ↦ subst (λ (z : HeardNow). HasKept top v e.to a.count z.from) (sym q) (now read hs rows k)
@@ -132,21 +133,21 @@ module _ (top : TopologyValue) (w : Run) (replayed : run top w.events ≡ w) (x 
         heard_cases top e.to n a e.from e.body (λ (st : SessionStep). HeardIsKept top v e.to st.state)
         (record {
           still = λ ignored h m. stays a.current refl h m;
-          wrote = λ coordinator t commit stamp k h m. absurd m;
+          wrote = λ coordinator t commit stamp k h m. absurd (none_in_empty h m);
           kept = λ read hs rows k some h m. with_now read hs rows k h m;
           second = λ read hs rows k whole s ss q h m. with_now read hs rows k h m;
-          ends = λ read hs rows k whole q h m. absurd m;
+          ends = λ read hs rows k whole q h m. absurd (none_in_empty h m);
           kept_at = λ read time first hs rows k some h m. stays (SecondRound read time first hs) k.current h m;
-          ends_at = λ read time first hs rows k whole h m. absurd m;
-          gives_up = λ read time first hs k h m. absurd m;
-          counted = λ dc left floor dependency commit k u us e h m. absurd m;
-          arrives = λ dc left floor dependency commit k e h m. absurd m;
+          ends_at = λ read time first hs rows k whole h m. absurd (none_in_empty h m);
+          gives_up = λ read time first hs k h m. absurd (none_in_empty h m);
+          counted = λ dc left floor dependency commit k u us e h m. absurd (none_in_empty h m);
+          arrives = λ dc left floor dependency commit k e h m. absurd (none_in_empty h m);
         })
 
   begins : (node n : ℕ) (o : Op) (z : Run) → HeardIsKept top z node (begun top node n (w.sessions node) o).state
   begins node n o z =
       begun_cases top node n (w.sessions node) (λ o (st : SessionStep). HeardIsKept top z node st.state)
-      (record { writes = λ batch h m. absurd m; reads = λ read h m. absurd m; moves = λ dc k ks e h m. absurd m; at_once = λ dc e h m. absurd m }) o
+      (record { writes = λ batch h m. absurd (none_in_empty h m); reads = λ read h m. absurd (none_in_empty h m); moves = λ dc k ks e h m. absurd (none_in_empty h m); at_once = λ dc e h m. absurd (none_in_empty h m) }) o
 
   step_keeps : AllKept top (step top w x)
   step_keeps =
@@ -174,4 +175,4 @@ kept_on top w (x ∷ xs) replayed all =
     kept_on top (step top w x) xs (step_replayed top w x replayed) (step_keeps top w replayed x all)
 
 pub all_kept : (top : TopologyValue) (events : List RunEvent) → AllKept top (run top events)
-all_kept top events = kept_on top (opening top) events refl (λ node h m. absurd m)
+all_kept top events = kept_on top (opening top) events refl (λ node h m. absurd (none_in_empty h m))

@@ -1,5 +1,6 @@
 -- Each PartNow of a run is a shard's answer to a Read that was sent before, with the shard's rows as they were then.
 use Rattle.std.proofs.Common.{◌≡◌, ℕ, ◌≤◌, refl, arith, Bool, true, false, [], map, length, Some, slice_get}
+use Rattle.std.specs.Prelude.{Contains}
 use Rattle.std.proofs.lemmas.Bool.{false≢true}
 use Rattle.std.proofs.lemmas.Option.{slice_get_within}
 use Rattle.slice.specs.declared.read.Read.{Read}
@@ -14,7 +15,7 @@ use Rattle.messages.specs.ShardEvents.{handled}
 use Rattle.shard.proofs.lists.Lists.{each_contained}
 use Rattle.shard.proofs.steps.Sending.{handled_gives}
 use Rattle.world.specs.Run.{Run, RunEvent, step}
-use Rattle.world.proofs.lists.Among.{Among, among_contains, get_among}
+use Rattle.world.proofs.lists.Members.{none_in_empty, contains_get}
 use Rattle.world.proofs.steps.EventCases.{event_cases}
 use Rattle.world.proofs.steps.SessionSends.{IsOfSession, heard_sends, begun_sends}
 use Rattle.world.proofs.growing.Prefixes.{get_added}
@@ -33,7 +34,7 @@ pub record IsAnswer (me n : ℕ) (a : ShardState) (from : ℕ) (b : Body) (e : E
   pub answer : e ≡ envelope me from n (PartNow number (map (row_now n a read) read.keys))
 
 -- a PartNow that a shard sends is its answer to a Read
-now_sent : (top : TopologyValue) (me n : ℕ) (a : ShardState) (from : ℕ) (b : Body) (e : Envelope) → Among e (handled top me n a from b).sends
+now_sent : (top : TopologyValue) (me n : ℕ) (a : ShardState) (from : ℕ) (b : Body) (e : Envelope) → Contains (handled top me n a from b).sends e
     → is_now e.body ≡ true → IsAnswer me n a from b e
 now_sent top me n a from b e m =
     each_contained (λ (z : Envelope). is_now z.body ≡ true → IsAnswer me n a from b z) (handled top me n a from b).sends
@@ -60,7 +61,7 @@ now_sent top me n a from b e m =
       not_by = λ t time asked is. absurd (false≢true is);
       repl_part = λ dc t rows commit stamp coordinator told is. absurd (false≢true is);
     })).sends
-    e (among_contains e (handled top me n a from b).sends m)
+    e m
 
 -- a session sends none
 not_now : (b : Body) → IsOfSession b → is_now b ≡ true → ⊥
@@ -76,7 +77,7 @@ not_now _ k is = absurd k
 -- a shard's answer to a Read that was sent before, with its rows as they are in this run
 pub record IsNowSent (v : Run) (e : Envelope) : Type 0 where
   pub asking : Envelope
-  pub among : Among asking v.sent
+  pub among : Contains v.sent asking
   pub number : ℕ
   pub read : Read
   pub asked : asking.body ≡ ReadNow number read
@@ -94,7 +95,7 @@ now_sent_at top v x k e le sent is =
           let a = now_sent top f.to n (v.shards f.to) f.from f.body e (get_added v.sent _ k e le g) is in
           record {
             asking = f;
-            among = get_among v.sent j f there;
+            among = contains_get v.sent j f there;
             number = a.number;
             read = a.read;
             asked = a.asked;
@@ -107,6 +108,6 @@ now_sent_at top v x k e le sent is =
       begun =
           λ node o n q to g.
           absurd (not_now e.body (begun_sends top node n (v.sessions node) o e (get_added v.sent _ k e le g)).1 is);
-      collected = λ node time n q g. absurd (get_added v.sent [] k e le g);
+      collected = λ node time n q g. absurd (none_in_empty e (get_added v.sent [] k e le g));
     })
     sent

@@ -1,5 +1,5 @@
 -- How the state of a run grows: what is kept of shards, sessions, submissions and completed operations at each event.
-use Rattle.std.specs.Prelude.{◌≡◌, ℕ, ◌<◌, ◌≤◌, ◌⊎◌}
+use Rattle.std.specs.Prelude.{◌≡◌, ℕ, ◌<◌, ◌≤◌, ◌⊎◌, Contains}
 use Rattle.slice.specs.declared.read.Read.{Read}
 use Rattle.store.specs.declared.part.Applied.{Applied}
 use Rattle.messages.specs.Topology.{TopologyValue, shard_of}
@@ -8,27 +8,26 @@ use Rattle.messages.specs.Session.{SessionState, Open, Idle, Writing, FirstRound
 use Rattle.messages.specs.Submitting.{share_of}
 use Rattle.messages.specs.Rounds.{late_keys}
 use Rattle.world.specs.Run.{Run, Submission, Completed}
-use Rattle.world.proofs.lists.Among.{Among}
 
 -- ## Shards
 
 -- a part that is prepared anew: above the clock before, and the first of its transaction
 pub record NewPrepared (a : ShardState) (p : PreparedPart) : Type 0 where
   pub above : a.clock < p.time
-  pub unprepared : (g : PreparedPart) → Among g a.prepared → g.txn ≡ p.txn → ⊥
+  pub unprepared : (g : PreparedPart) → Contains a.prepared g → g.txn ≡ p.txn → ⊥
 
 -- a decision that is new: above the clock before, and the first of its transaction
 pub record NewDecision (a : ShardState) (d : Decision) : Type 0 where
   pub above : a.clock < d.commit
-  pub undecided : (e : Decision) → Among e a.decided → e.txn ≡ d.txn → ⊥
+  pub undecided : (e : Decision) → Contains a.decided e → e.txn ≡ d.txn → ⊥
 
 pub record ShardGrows (a b : ShardState) : Type 0 where
   pub clock : a.clock ≤ b.clock
-  pub prepared : (p : PreparedPart) → Among p a.prepared → Among p b.prepared
-  pub prepared_new : (p : PreparedPart) → Among p b.prepared → Among p a.prepared ⊎ NewPrepared a p
-  pub decided : (d : Decision) → Among d a.decided → Among d b.decided
-  pub decided_new : (d : Decision) → Among d b.decided → Among d a.decided ⊎ NewDecision a d
-  pub applied : (v : Applied) → Among v a.applied → Among v b.applied
+  pub prepared : (p : PreparedPart) → Contains a.prepared p → Contains b.prepared p
+  pub prepared_new : (p : PreparedPart) → Contains b.prepared p → Contains a.prepared p ⊎ NewPrepared a p
+  pub decided : (d : Decision) → Contains a.decided d → Contains b.decided d
+  pub decided_new : (d : Decision) → Contains b.decided d → Contains a.decided d ⊎ NewDecision a d
+  pub applied : (v : Applied) → Contains a.applied v → Contains b.applied v
 
 -- ## Sessions
 
@@ -70,5 +69,5 @@ pub record SessionGrows (top : TopologyValue) (a b : SessionState) : Type 0 wher
 pub record Grows (top : TopologyValue) (w x : Run) : Type 0 where
   pub shards : (node : ℕ) → ShardGrows (w.shards node) (x.shards node)
   pub sessions : (node : ℕ) → SessionGrows top (w.sessions node) (x.sessions node)
-  pub submitted : (b : Submission) → Among b w.submitted → Among b x.submitted
-  pub transcript : (c : Completed) → Among c w.transcript → Among c x.transcript
+  pub submitted : (b : Submission) → Contains w.submitted b → Contains x.submitted b
+  pub transcript : (c : Completed) → Contains w.transcript c → Contains x.transcript c

@@ -1,14 +1,14 @@
 -- Prefixes of runs: what was sent stays, and each event that a run keeps was accepted where it stands.
 use Rattle.std.proofs.Common.{◌≡◌, ◌∙◌, ℕ, zero, suc, ◌+◌, ◌<◌, ◌≤◌, ap, sym, refl, arith, inl, inr, List, [], ◌∷◌, ◌++◌, length, Some, slice_get}
-use Rattle.std.specs.Prelude.{◌⊎◌}
+use Rattle.std.specs.Prelude.{◌⊎◌, Contains}
 use Rattle.std.proofs.lemmas.List.{length-append}
 use Rattle.messages.specs.declared.envelope.Envelope.{Envelope}
 use Rattle.messages.specs.Topology.{TopologyValue}
 use Rattle.world.specs.Run.{Run, RunEvent, opening, step, continued, run}
 use Rattle.world.proofs.safety.Runs.{run_after}
-use Rattle.world.proofs.lists.Among.{Among}
 use Rattle.world.proofs.growing.Grown.{run_grew}
 use Rattle.world.proofs.worked.Replayed.{happens}
+use Rattle.world.proofs.lists.Members.{contains_rest, contains_get}
 
 -- ## Lists
 
@@ -18,10 +18,10 @@ get_first (z ∷ xs) ys zero x e = e
 get_first (z ∷ xs) ys (suc k) x e = get_first xs ys k x e
 
 -- what stands past the first list stands in the second
-pub get_added : {X : Type 0} (xs ys : List X) (k : ℕ) (x : X) → length xs ≤ k → slice_get (xs ++ ys) k ≡ Some x → Among x ys
+pub get_added : {X : Type 0} (xs ys : List X) (k : ℕ) (x : X) → length xs ≤ k → slice_get (xs ++ ys) k ≡ Some x → Contains ys x
 get_added [] [] k x le e = absurd (cc)
-get_added [] (y ∷ ys) zero x le e = inl (cc)
-get_added [] (y ∷ ys) (suc k) x le e = inr (get_added [] ys k x (omega arith) e)
+get_added [] (y ∷ ys) zero x le e = contains_get (y ∷ ys) zero x e
+get_added [] (y ∷ ys) (suc k) x le e = contains_rest y x ys (get_added [] ys k x (omega arith) e)
 get_added (z ∷ xs) ys zero x le e = absurd (omega arith)
 get_added (z ∷ xs) ys (suc k) x le e = get_added xs ys k x (omega arith) e
 

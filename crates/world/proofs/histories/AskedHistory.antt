@@ -1,6 +1,6 @@
 -- The history of a data centre is what one gets by asking, for each submitted batch, its coordinator there.
 use Rattle.std.proofs.Common.{◌≡◌, ◌∙◌, ℕ, ◌<◌, List, [], ◌∷◌, ◌++◌, Option, Some, None, inl, inr, refl, sym, ap, subst}
-use Rattle.std.specs.Prelude.{◌≢◌, AllPairs, IsPermutation, find, option_map, option_and_then}
+use Rattle.std.specs.Prelude.{◌≢◌, AllPairs, IsPermutation, find, option_map, option_and_then, Contains}
 use Rattle.std.proofs.lemmas.Bool.{false≢true}
 use Rattle.std.proofs.lemmas.List.Sorted.{IsPermutation-refl, IsPermutation-sym, IsPermutation-trans, IsPermutation-cons, IsPermutation-middle}
 use Rattle.logical_time.specs.Stamps.{TxnValue}
@@ -20,7 +20,7 @@ use Rattle.world.specs.Run.{Run, RunEvent, Submission, run}
 use Rattle.world.specs.Histories.{batch_in, decisions_in, committed_of, history_of}
 use Rattle.world.specs.Entries.{named_by, AreNamedOnce}
 use Rattle.world.specs.Lookups.{entry_asked, history_asked, HistoriesAreAsked}
-use Rattle.world.proofs.lists.Among.{Among, among_contains, contains_among, among_append, append_first, append_second, find_some, find_none, any_false, same_txn, same_txn_self}
+use Rattle.world.proofs.lists.Members.{none_in_empty, contains_first, contains_rest, contains_cases, Contains-append_left, Contains-append_right, Contains-append_cases, any_false, found, find_none, same_txn, same_txn_self}
 use Rattle.world.proofs.lists.Pairs.{first_pairs, later_pairs, more_pairs, among_pairs, given_pairs}
 use Rattle.world.proofs.safety.Facts.{IsWritten, lead}
 use Rattle.world.proofs.safety.Invariant.{Inv}
@@ -34,54 +34,57 @@ use Rattle.world.proofs.promised.Laws.{named_in_runs}
 -- ## Lists with the same elements
 
 -- a list that has the element has others before and after it
-split_at : {X : Type 0} (x : X) (ys : List X) → Among x ys → (us : List X) × (vs : List X) × (ys ≡ us ++ x ∷ vs)
-split_at x [] m = absurd m
-split_at x (y ∷ ys) (inl q) = ([], ys, ap (λ z. z ∷ ys) (sym q))
-split_at x (y ∷ ys) (inr m) = let r = split_at x ys m in (y ∷ r.0, r.1, ap (λ l. y ∷ l) r.2)
+split_at : {X : Type 0} (x : X) (ys : List X) → Contains ys x → (us : List X) × (vs : List X) × (ys ≡ us ++ x ∷ vs)
+split_at x [] m = absurd (none_in_empty x m)
+split_at x (y ∷ ys) m = elim (contains_cases y x ys m) [
+  | inl q ↦ ([], ys, ap (λ z. z ∷ ys) (sym q))
+  | inr later ↦ let r = split_at x ys later in (y ∷ r.0, r.1, ap (λ l. y ∷ l) r.2)
+]
 
 without : {X : Type 0} (R : X → X → Type 0) (us : List X) (x : X) (vs : List X) → AllPairs R (us ++ x ∷ vs) → AllPairs R (us ++ vs)
 without R [] x vs pairs = later_pairs R x vs pairs
 without R (u ∷ us) x vs pairs =
     more_pairs R u (us ++ vs) (λ y m. first_pairs R u (us ++ x ∷ vs) pairs y (with_it y m)) (without R us x vs (later_pairs R u (us ++ x ∷ vs) pairs))
   where
-    with_it : (y : _) → Among y (us ++ vs) → Among y (us ++ x ∷ vs)
-    with_it y m = elim (among_append y us vs m) [ inl a ↦ append_first y us (x ∷ vs) a | inr b ↦ append_second y us (x ∷ vs) (inr b) ]
+    with_it : (y : _) → Contains (us ++ vs) y → Contains (us ++ x ∷ vs) y
+    with_it y m = elim (Contains-append_cases us vs y m) [ inl a ↦ Contains-append_left us (x ∷ vs) y a | inr b ↦ Contains-append_right us (x ∷ vs) y (contains_rest x y vs b) ]
 
-not_again : {X : Type 0} (us : List X) (x : X) (vs : List X) → AllPairs (λ a b. a ≢ b) (us ++ x ∷ vs) → Among x (us ++ vs) → ⊥
+not_again : {X : Type 0} (us : List X) (x : X) (vs : List X) → AllPairs (λ a b. a ≢ b) (us ++ x ∷ vs) → Contains (us ++ vs) x → ⊥
 not_again [] x vs pairs m = first_pairs (λ a b. a ≢ b) x vs pairs x m refl
-not_again (u ∷ us) x vs pairs (inl q) = first_pairs (λ a b. a ≢ b) u (us ++ x ∷ vs) pairs x (append_second x us (x ∷ vs) (inl refl)) (sym q)
-not_again (u ∷ us) x vs pairs (inr m) = not_again us x vs (later_pairs (λ a b. a ≢ b) u (us ++ x ∷ vs) pairs) m
+not_again (u ∷ us) x vs pairs m = elim (contains_cases u x (us ++ vs) m) [
+  | inl q ↦ first_pairs (λ a b. a ≢ b) u (us ++ x ∷ vs) pairs x (Contains-append_right us (x ∷ vs) x (contains_first x vs)) (sym q)
+  | inr later ↦ not_again us x vs (later_pairs (λ a b. a ≢ b) u (us ++ x ∷ vs) pairs) later
+]
 
 -- two lists with the same elements, each once, are one in two orders
-same_elements : {X : Type 0} (xs ys : List X) → AllPairs (λ a b. a ≢ b) xs → AllPairs (λ a b. a ≢ b) ys → ((x : X) → Among x xs → Among x ys)
-    → ((y : X) → Among y ys → Among y xs) → IsPermutation xs ys
+same_elements : {X : Type 0} (xs ys : List X) → AllPairs (λ a b. a ≢ b) xs → AllPairs (λ a b. a ≢ b) ys → ((x : X) → Contains xs x → Contains ys x)
+    → ((y : X) → Contains ys y → Contains xs y) → IsPermutation xs ys
 same_elements [] [] p q f g = IsPermutation-refl []
-same_elements [] (y ∷ ys) p q f g = absurd (g y (inl refl))
+same_elements [] (y ∷ ys) p q f g = absurd (none_in_empty y (g y (contains_first y ys)))
 same_elements {X} (x ∷ xs) ys p q f g =
-    let r = split_at x ys (f x (inl refl)) in
+    let r = split_at x ys (f x (contains_first x xs)) in
     let us = r.0 in
     let vs = r.1 in
     let pairs = subst (λ (l : List X). AllPairs (λ a b. a ≢ b) l) r.2 q in
     let rest : IsPermutation xs (us ++ vs) =
     same_elements xs (us ++ vs) (later_pairs (λ a b. a ≢ b) x xs p) (without (λ a b. a ≢ b) us x vs pairs)
-    (λ z m. into us vs z (subst (λ (l : List X). Among z l) r.2 (f z (inr m))) (λ same. first_pairs (λ a b. a ≢ b) x xs p z m (sym same)))
-    (λ z m. elim (g z (subst (λ (l : List X). Among z l) (sym r.2) (out us vs z m))) [
-      | inl same ↦ absurd (not_again us x vs pairs (subst (λ a. Among a (us ++ vs)) same m))
+    (λ z m. into us vs z (subst (λ (l : List X). Contains l z) r.2 (f z (contains_rest x z xs m))) (λ same. first_pairs (λ a b. a ≢ b) x xs p z m (sym same)))
+    (λ z m. elim (contains_cases x z xs (g z (subst (λ (l : List X). Contains l z) (sym r.2) (out us vs z m)))) [
+      | inl same ↦ absurd (not_again us x vs pairs (subst (λ a. Contains (us ++ vs) a) same m))
       | inr there ↦ there
     ]) in
     subst (λ (l : List X). IsPermutation (x ∷ xs) l) (sym r.2)
     (IsPermutation-trans (x ∷ xs) (x ∷ (us ++ vs)) (us ++ x ∷ vs) (IsPermutation-cons x xs (us ++ vs) rest)
     (IsPermutation-sym (us ++ x ∷ vs) (x ∷ (us ++ vs)) (IsPermutation-middle us x vs)))
   where
-    into : (us vs : List X) (z : X) → Among z (us ++ x ∷ vs) → (z ≢ x) → Among z (us ++ vs)
-    into us vs z m other = elim (among_append z us (x ∷ vs) m) [
-      | inl a ↦ append_first z us vs a
-      | inr (inl same) ↦ absurd (other same)
-      | inr (inr b) ↦ append_second z us vs b
+    into : (us vs : List X) (z : X) → Contains (us ++ x ∷ vs) z → (z ≢ x) → Contains (us ++ vs) z
+    into us vs z m other = elim (Contains-append_cases us (x ∷ vs) z m) [
+      | inl a ↦ Contains-append_left us vs z a
+      | inr b ↦ elim (contains_cases x z vs b) [ inl same ↦ absurd (other same) | inr later ↦ Contains-append_right us vs z later ]
     ]
 
-    out : (us vs : List X) (z : X) → Among z (us ++ vs) → Among z (us ++ x ∷ vs)
-    out us vs z m = elim (among_append z us vs m) [ inl a ↦ append_first z us (x ∷ vs) a | inr b ↦ append_second z us (x ∷ vs) (inr b) ]
+    out : (us vs : List X) (z : X) → Contains (us ++ vs) z → Contains (us ++ x ∷ vs) z
+    out us vs z m = elim (Contains-append_cases us vs z m) [ inl a ↦ Contains-append_left us (x ∷ vs) z a | inr b ↦ Contains-append_right us (x ∷ vs) z (contains_rest x z vs b) ]
 
 -- ## What a coordinator tells
 
@@ -90,7 +93,7 @@ pub record IsAsked (top : TopologyValue) (w : Run) (dc : ℕ) (s : Submission) (
   pub batch : List Change
   pub op : s.op ≡ op.Batch batch
   pub decision : Decision
-  pub among : Among decision (w.shards (lead top dc batch)).decided
+  pub among : Contains (w.shards (lead top dc batch)).decided decision
   pub txn : decision.txn ≡ named_by s
   pub is : c ≡ committed batch decision.stamp decision.commit
 
@@ -101,7 +104,7 @@ asked_only top w dc s c e = by_op s.op refl e
         → option_map (λ d. committed batch d.stamp d.commit) o ≡ Some c → IsAsked top w dc s c
     by_decision batch is None q f = absurd (cc)
     by_decision batch is (Some d) q f =
-        let m = find_some (λ (z : Decision). is_same_txn z.txn (named_by s)) (w.shards (lead top dc batch)).decided d q in
+        let m = found (λ (z : Decision). is_same_txn z.txn (named_by s)) (w.shards (lead top dc batch)).decided d q in
         let same : committed batch d.stamp d.commit ≡ c = cc in
         record { batch = batch; op = is; decision = d; among = m.0; txn = same_txn d.txn (named_by s) m.1; is = sym same }
 
@@ -113,7 +116,7 @@ asked_only top w dc s c e = by_op s.op refl e
     by_op (op.Move there) is f = absurd (cc)
 
 -- the decision of a transaction is found by its number
-found_by : (ds : List Decision) (d : Decision) (t : TxnValue) → Among d ds → d.txn ≡ t → ((e : Decision) → Among e ds → e.txn ≡ d.txn → e ≡ d)
+found_by : (ds : List Decision) (d : Decision) (t : TxnValue) → Contains ds d → d.txn ≡ t → ((e : Decision) → Contains ds e → e.txn ≡ d.txn → e ≡ d)
     → find (λ z. is_same_txn z.txn t) ds ≡ Some d
 found_by ds d t m q one = go (find (λ (z : Decision). is_same_txn z.txn t) ds) refl
   where
@@ -122,38 +125,36 @@ found_by ds d t m q one = go (find (λ (z : Decision). is_same_txn z.txn t) ds) 
         absurd
         (false≢true (sym (any_false (λ (z : Decision). is_same_txn z.txn t) ds (find_none (λ z. is_same_txn z.txn t) ds e) d m) ∙ ap (λ u. is_same_txn u t) q ∙ same_txn_self t))
     go (Some e) f =
-        let r = find_some (λ (z : Decision). is_same_txn z.txn t) ds e f in
+        let r = found (λ (z : Decision). is_same_txn z.txn t) ds e f in
         ap Some (one e r.0 (same_txn e.txn t r.1 ∙ sym q))
 
 module _ (top : TopologyValue) (w : Run) (some : 0 < top.shards) (inv : Inv top w) (dc : ℕ) where
   -- what is told of a submission is an entry of the history
-  told : (c : Committed) → Among c (history_asked top w dc) → Among c (history_of top w dc)
+  told : (c : Committed) → Contains (history_asked top w dc) c → Contains (history_of top w dc) c
   told c m =
-      let r = given_only (entry_asked top w dc) w.submitted c (among_contains c (history_asked top w dc) m) in
+      let r = given_only (entry_asked top w dc) w.submitted c m in
       let k = asked_only top w dc r.0 c r.2 in
       let has = decided_in top w dc (coordinator_of top.shards k.batch) k.decision (coordinator_below top.shards k.batch some) k.among in
-      let written : IsWritten w k.decision.txn r.0 k.batch = record { among = contains_among r.0 w.submitted r.1; txn = sym k.txn; op = k.op } in
-      contains_among c (history_of top w dc)
-      (given (committed_of w) (decisions_in top w dc) k.decision c has (entry_found top w k.decision r.0 k.batch inv written ∙ ap Some (sym k.is)))
+      let written : IsWritten w k.decision.txn r.0 k.batch = record { among = r.1; txn = sym k.txn; op = k.op } in
+      given (committed_of w) (decisions_in top w dc) k.decision c has (entry_found top w k.decision r.0 k.batch inv written ∙ ap Some (sym k.is))
 
   -- each entry of the history is told of its submission
-  telling : (c : Committed) → Among c (history_of top w dc) → Among c (history_asked top w dc)
+  telling : (c : Committed) → Contains (history_of top w dc) c → Contains (history_asked top w dc) c
   telling c m =
-      let r = given_only (committed_of w) (decisions_in top w dc) c (among_contains c (history_of top w dc) m) in
+      let r = given_only (committed_of w) (decisions_in top w dc) c m in
       let d = r.0 in
       let a = decided_by_one top w dc d r.1 in
       let node = shard_node top dc a.0 in
       let s = sound top w node d inv a.2 in
       let at : node ≡ lead top dc s.batch = s.here ∙ ap (λ z. lead top z s.batch) (dc_of_shard top dc a.0 a.1) in
-      let found : decision_of (named_by s.submission) (w.shards (lead top dc s.batch)) ≡ Some d =
+      let there : decision_of (named_by s.submission) (w.shards (lead top dc s.batch)) ≡ Some d =
       subst (λ z. decision_of (named_by s.submission) (w.shards z) ≡ Some d) at
       (found_by (w.shards node).decided d (named_by s.submission) a.2 (sym s.written.txn) (λ e i q. s.one e i q)) in
       let asked : entry_asked top w dc s.submission ≡ Some (committed s.batch d.stamp d.commit) =
       ap (λ (o : Op). option_and_then (λ batch. option_map (λ z. committed batch z.stamp z.commit) (decision_of (named_by s.submission) (w.shards (lead top dc batch)))) (batch_in o)) s.written.op
-      ∙ ap (option_map (λ (z : Decision). committed s.batch z.stamp z.commit)) found in
+      ∙ ap (option_map (λ (z : Decision). committed s.batch z.stamp z.commit)) there in
       let same : Some (committed s.batch d.stamp d.commit) ≡ Some c = sym (entry_found top w d s.submission s.batch inv s.written) ∙ r.2 in
-      contains_among c (history_asked top w dc)
-      (given (entry_asked top w dc) w.submitted s.submission c (among_contains s.submission w.submitted s.written.among) (asked ∙ same))
+      given (entry_asked top w dc) w.submitted s.submission c s.written.among (asked ∙ same)
 
   own_told : AreNamedOnce w → AllPairs (λ c e. c ≢ e) (history_asked top w dc)
   own_told named =

@@ -1,6 +1,6 @@
 -- What the coordinators of a data centre decided, and the entries that this makes in its history: a stamp names one.
 use Rattle.std.proofs.Common.{◌≡◌, ◌∙◌, ℕ, ◌<◌, sym, ap, subst, refl, Bool, List, Option, Some, None, find}
-use Rattle.std.specs.Prelude.{option_map, option_and_then}
+use Rattle.std.specs.Prelude.{option_map, option_and_then, Contains}
 use Rattle.std.specs.List.{range_with_len}
 use Rattle.std.proofs.lemmas.Bool.{false≢true}
 use Rattle.logical_time.specs.Stamps.{StampValue, TxnValue}
@@ -18,14 +18,14 @@ use Rattle.world.specs.Run.{Run, Submission, submission_of}
 use Rattle.world.specs.Histories.{batch_in, batch_submitted, decisions_in, committed_of, history_of}
 use Rattle.messages.proofs.Numbering.{dc_of_shard}
 use Rattle.world.proofs.envelopes.Near.{coordinator_below, listed_below}
-use Rattle.world.proofs.lists.Among.{Among, among_contains, contains_among, find_some, find_none, any_false, same_txn, same_txn_self}
+use Rattle.world.proofs.lists.Members.{any_false, found, find_none, same_txn, same_txn_self}
 use Rattle.world.proofs.safety.Facts.{txn_of, IsWritten, lead, part_on, IsStamp, DecisionSound, AppliedSound}
 use Rattle.world.proofs.safety.Invariant.{SubmittedSound, Inv}
 
 -- ---- a transaction has one submission, with one batch
-pub found : (top : TopologyValue) (w : Run) → SubmittedSound top w → (b : Submission) (t : TxnValue) → Among b w.submitted → txn_of b ≡ t
+pub found_submission : (top : TopologyValue) (w : Run) → SubmittedSound top w → (b : Submission) (t : TxnValue) → Contains w.submitted b → txn_of b ≡ t
     → submission_of w.submitted t ≡ Some b
-found top w sound b t m e = go (find is_it w.submitted) refl
+found_submission top w sound b t m e = go (find is_it w.submitted) refl
   where
     is_it : Submission → Bool
     is_it s = is_same_txn (txn_of s) t
@@ -35,13 +35,13 @@ found top w sound b t m e = go (find is_it w.submitted) refl
         absurd (false≢true (sym (any_false is_it w.submitted (find_none is_it w.submitted f) b m)
         ∙ ap (λ (u : TxnValue). is_same_txn u t) e ∙ same_txn_self t))
     go (Some c) f =
-        let is = find_some is_it w.submitted c f in
+        let is = found is_it w.submitted c f in
         f ∙ ap Some (sound.one c b is.0 m (same_txn (txn_of c) t is.1 ∙ sym e))
 
 pub written_batch : (top : TopologyValue) (w : Run) → SubmittedSound top w → (b : Submission) (t : TxnValue) (batch : List Change)
     → IsWritten w t b batch → batch_submitted w t ≡ Some batch
 written_batch top w sound b t batch is =
-    ap (λ (o : Option Submission). option_and_then (λ s. batch_in s.op) o) (found top w sound b t is.among is.txn) ∙ ap (λ (o : Op). batch_in o) is.op
+    ap (λ (o : Option Submission). option_and_then (λ s. batch_in s.op) o) (found_submission top w sound b t is.among is.txn) ∙ ap (λ (o : Op). batch_in o) is.op
 
 pub one_batch : (top : TopologyValue) (w : Run) → SubmittedSound top w → {b c : Submission} {t u : TxnValue} {batch other : List Change} → t ≡ u
     → IsWritten w t b batch → IsWritten w u c other → batch ≡ other
@@ -57,35 +57,34 @@ one_stamp top w inv b c batch other s is was =
     let node : lead top b.home batch ≡ lead top c.home other = sym is.node ∙ was.node in
     let sound = (inv.shards (lead top c.home other)).decided was.decided.decision was.decided.among in
     let same : is.decided.decision ≡ was.decided.decision =
-    sound.one_time is.decided.decision (subst (λ n. Among is.decided.decision (w.shards n).decided) node is.decided.among) (is.decided.commit ∙ sym was.decided.commit) in
+    sound.one_time is.decided.decision (subst (λ n. Contains (w.shards n).decided is.decided.decision) node is.decided.among) (is.decided.commit ∙ sym was.decided.commit) in
     sym is.decided.txn ∙ ap (λ (d : Decision). d.txn) same ∙ was.decided.txn
 
 -- ---- the decisions of a data centre
 -- a coordinator of the data centre decided so
 pub record DecidedIn (top : TopologyValue) (w : Run) (dc : ℕ) (d : Decision) : Type 0 where
   pub node : ℕ
-  pub among : Among d (w.shards node).decided
+  pub among : Contains (w.shards node).decided d
   pub sound : DecisionSound top w node d
   pub here : dc_of top node ≡ dc
 
-pub decided_in : (top : TopologyValue) (w : Run) → Inv top w → (dc : ℕ) (d : Decision) → Among d (decisions_in top w dc) → DecidedIn top w dc d
+pub decided_in : (top : TopologyValue) (w : Run) → Inv top w → (dc : ℕ) (d : Decision) → Contains (decisions_in top w dc) d → DecidedIn top w dc d
 decided_in top w inv dc d m =
-    let r = flat_contains (λ shard. (w.shards (shard_node top dc shard)).decided) (range_with_len 0 top.shards) d (among_contains d (decisions_in top w dc) m) in
+    let r = flat_contains (λ shard. (w.shards (shard_node top dc shard)).decided) (range_with_len 0 top.shards) d m in
     let node = shard_node top dc r.0 in
-    let has = contains_among d (w.shards node).decided r.2 in
+    let has = r.2 in
     record {
       node = node;
       among = has;
       sound = (inv.shards node).decided d has;
-      here = dc_of_shard top dc r.0 (listed_below top.shards r.0 (contains_among r.0 (range_with_len 0 top.shards) r.1));
+      here = dc_of_shard top dc r.0 (listed_below top.shards r.0 r.1);
     }
 
 pub in_decisions : (top : TopologyValue) (w : Run) (dc shard : ℕ) (d : Decision) → shard < top.shards
-    → Among d (w.shards (shard_node top dc shard)).decided → Among d (decisions_in top w dc)
+    → Contains (w.shards (shard_node top dc shard)).decided d → Contains (decisions_in top w dc) d
 in_decisions top w dc shard d below m =
-    contains_among d (decisions_in top w dc)
     (contains_flat (λ shard. (w.shards (shard_node top dc shard)).decided) (range_with_len 0 top.shards) shard d
-    (contains_below top.shards shard below) (among_contains d (w.shards (shard_node top dc shard)).decided m))
+    (contains_below top.shards shard below) m)
 
 pub on_lead : (top : TopologyValue) (w : Run) (dc : ℕ) (d : Decision) (is : DecidedIn top w dc d) → is.node ≡ lead top dc is.sound.batch
 on_lead top w dc d is = is.sound.here ∙ ap (λ (z : ℕ). lead top z is.sound.batch) is.here
@@ -96,7 +95,7 @@ pub one_decision : (top : TopologyValue) (w : Run) → Inv top w → (dc : ℕ) 
 one_decision top w inv dc d e is was same =
     let batch = one_batch top w inv.submitted same is.sound.written was.sound.written in
     let node : is.node ≡ was.node = on_lead top w dc d is ∙ ap (lead top dc) batch ∙ sym (on_lead top w dc e was) in
-    was.sound.one d (subst (λ n. Among d (w.shards n).decided) node is.among) same
+    was.sound.one d (subst (λ n. Contains (w.shards n).decided d) node is.among) same
 
 -- and so has a stamp
 pub stamp_decision : (top : TopologyValue) (w : Run) → Inv top w → (dc : ℕ) (d e : Decision) → DecidedIn top w dc d → DecidedIn top w dc e
@@ -112,7 +111,7 @@ stamp_decision top w inv dc d e is was same =
 -- the part is that of a decision of the data centre
 pub record IsAppliedIn (top : TopologyValue) (w : Run) (node : ℕ) (v : Applied) : Type 0 where
   pub decision : Decision
-  pub among : Among decision (decisions_in top w (dc_of top node))
+  pub among : Contains (decisions_in top w (dc_of top node)) decision
   pub decided : DecidedIn top w (dc_of top node) decision
   pub txn : decision.txn ≡ v.part.writer.txn
   pub commit : decision.commit ≡ v.commit
@@ -141,7 +140,7 @@ applied_in top w inv some node v sound =
 -- the entry is that of a decision
 pub record IsEntry (top : TopologyValue) (w : Run) (dc : ℕ) (c : Committed) : Type 0 where
   pub decision : Decision
-  pub among : Among decision (decisions_in top w dc)
+  pub among : Contains (decisions_in top w dc) decision
   pub made : committed_of w decision ≡ Some c
   pub decided : DecidedIn top w dc decision
   pub batch : c.batch ≡ decided.sound.batch
@@ -158,16 +157,15 @@ made_so top w inv dc d is =
     ap (λ (o : Option (List Change)). option_map (λ batch. entry d batch) o)
     (written_batch top w inv.submitted is.sound.submission d.txn is.sound.batch is.sound.written)
 
-pub entry_among : (top : TopologyValue) (w : Run) → Inv top w → (dc : ℕ) (d : Decision) → Among d (decisions_in top w dc)
-    → (is : DecidedIn top w dc d) → Among (entry d is.sound.batch) (history_of top w dc)
+pub entry_among : (top : TopologyValue) (w : Run) → Inv top w → (dc : ℕ) (d : Decision) → Contains (decisions_in top w dc) d
+    → (is : DecidedIn top w dc d) → Contains (history_of top w dc) (entry d is.sound.batch)
 entry_among top w inv dc d m is =
-    contains_among (entry d is.sound.batch) (history_of top w dc)
-    (given (committed_of w) (decisions_in top w dc) d (entry d is.sound.batch) (among_contains d (decisions_in top w dc) m) (made_so top w inv dc d is))
+    given (committed_of w) (decisions_in top w dc) d (entry d is.sound.batch) m (made_so top w inv dc d is)
 
-pub entry_is : (top : TopologyValue) (w : Run) → Inv top w → (dc : ℕ) (c : Committed) → Among c (history_of top w dc) → IsEntry top w dc c
+pub entry_is : (top : TopologyValue) (w : Run) → Inv top w → (dc : ℕ) (c : Committed) → Contains (history_of top w dc) c → IsEntry top w dc c
 entry_is top w inv dc c m =
-    let r = given_only (committed_of w) (decisions_in top w dc) c (among_contains c (history_of top w dc) m) in
-    let has = contains_among r.0 (decisions_in top w dc) r.1 in
+    let r = given_only (committed_of w) (decisions_in top w dc) c m in
+    let has = r.1 in
     let is = decided_in top w inv dc r.0 has in
     let same = sym r.2 ∙ made_so top w inv dc r.0 is in
     let whole : c ≡ entry r.0 is.sound.batch = cc in
@@ -183,8 +181,8 @@ entry_is top w inv dc c m =
 
 pub one_each : (top : TopologyValue) (w : Run) → Inv top w → (dc : ℕ) → AreStampedApart (history_of top w dc)
 one_each top w inv dc c e mc me same =
-    let is = entry_is top w inv dc c (contains_among c (history_of top w dc) mc) in
-    let was = entry_is top w inv dc e (contains_among e (history_of top w dc) me) in
+    let is = entry_is top w inv dc c mc in
+    let was = entry_is top w inv dc e me in
     let one = stamp_decision top w inv dc is.decision was.decision is.decided was.decided (sym is.stamp ∙ same ∙ was.stamp) in
     let some : Some c ≡ Some e = sym is.made ∙ ap (committed_of w) one ∙ was.made in
     cc

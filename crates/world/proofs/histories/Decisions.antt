@@ -1,12 +1,12 @@
 -- Decisions in a run: by whom they are made, that a data centre makes one of a transaction, and their stamps.
 use Rattle.std.proofs.Common.{◌≡◌, ◌∙◌, ℕ, List, sym, ap, subst}
+use Rattle.std.specs.Prelude.{Contains}
 use Rattle.logical_time.specs.Stamps.{StampValue, TxnValue}
 use Rattle.column_family.specs.declared.batch.Change.{Change}
 use Rattle.messages.specs.declared.op.Op.TheVariants as op
 use Rattle.messages.specs.Topology.{TopologyValue, dc_of}
 use Rattle.messages.specs.Shard.{Decision}
 use Rattle.world.specs.Run.{Run, Submission}
-use Rattle.world.proofs.lists.Among.{Among}
 use Rattle.world.proofs.safety.Facts.{txn_of, IsWritten, IsStamp, DecisionSound, lead}
 use Rattle.world.proofs.safety.Invariant.{Inv, SubmittedSound}
 
@@ -27,12 +27,12 @@ same_batch top w t u b c xs ys s e p q = one_batch top w u b c xs ys s (subst (�
 
 -- ## One decision
 
-pub sound : (top : TopologyValue) (w : Run) (x : ℕ) (d : Decision) → Inv top w → Among d (w.shards x).decided → DecisionSound top w x d
+pub sound : (top : TopologyValue) (w : Run) (x : ℕ) (d : Decision) → Inv top w → Contains (w.shards x).decided d → DecisionSound top w x d
 sound top w x d inv m = (inv.shards x).decided d m
 
 -- in one data centre one shard decides a transaction
 pub one_lead : (top : TopologyValue) (w : Run) (x y : ℕ) (d e : Decision) → Inv top w
-    → Among d (w.shards x).decided → Among e (w.shards y).decided → d.txn ≡ e.txn → dc_of top x ≡ dc_of top y → x ≡ y
+    → Contains (w.shards x).decided d → Contains (w.shards y).decided e → d.txn ≡ e.txn → dc_of top x ≡ dc_of top y → x ≡ y
 one_lead top w x y d e inv m n same near =
     let p = sound top w x d inv m in
     let q = sound top w y e inv n in
@@ -41,10 +41,10 @@ one_lead top w x y d e inv m n same near =
 
 -- and once
 pub one_decision : (top : TopologyValue) (w : Run) (x y : ℕ) (d e : Decision) → Inv top w
-    → Among d (w.shards x).decided → Among e (w.shards y).decided → d.txn ≡ e.txn → dc_of top x ≡ dc_of top y → d ≡ e
+    → Contains (w.shards x).decided d → Contains (w.shards y).decided e → d.txn ≡ e.txn → dc_of top x ≡ dc_of top y → d ≡ e
 one_decision top w x y d e inv m n same near =
     let here = one_lead top w x y d e inv m n same near in
-    sym ((sound top w x d inv m).one e (subst (λ z. Among e (w.shards z).decided) (sym here) n) (sym same))
+    sym ((sound top w x d inv m).one e (subst (λ z. Contains (w.shards z).decided e) (sym here) n) (sym same))
 
 -- ## Stamps
 
@@ -54,13 +54,13 @@ stamp_of_one top w b c xs ys s t inv same batches p q =
     let at : lead top b.home xs ≡ lead top c.home ys = ap (λ (z : Submission). lead top z.home xs) same ∙ ap (lead top c.home) batches in
     let d = p.decided in
     let e = q.decided in
-    let m = subst (λ z. Among d.decision (w.shards z).decided) at d.among in
+    let m = subst (λ z. Contains (w.shards z).decided d.decision) at d.among in
     let one : d.decision ≡ e.decision = (sound top w (lead top c.home ys) e.decision inv e.among).one d.decision m (d.txn ∙ ap txn_of same ∙ sym e.txn) in
     sym d.stamp ∙ ap (λ (z : Decision). z.stamp) one ∙ e.stamp
 
 -- a transaction has one stamp, whoever decides it
 pub one_stamp : (top : TopologyValue) (w : Run) (x y : ℕ) (d e : Decision) → Inv top w
-    → Among d (w.shards x).decided → Among e (w.shards y).decided → d.txn ≡ e.txn → d.stamp ≡ e.stamp
+    → Contains (w.shards x).decided d → Contains (w.shards y).decided e → d.txn ≡ e.txn → d.stamp ≡ e.stamp
 one_stamp top w x y d e inv m n same =
     let p = sound top w x d inv m in
     let q = sound top w y e inv n in
@@ -73,13 +73,13 @@ txn_of_one top w b c xs ys s t inv same p q =
     let at : lead top b.home xs ≡ lead top c.home ys = sym p.node ∙ ap (λ (z : StampValue). z.node) same ∙ q.node in
     let d = p.decided in
     let e = q.decided in
-    let m = subst (λ z. Among d.decision (w.shards z).decided) at d.among in
+    let m = subst (λ z. Contains (w.shards z).decided d.decision) at d.among in
     let one : d.decision ≡ e.decision = (sound top w (lead top c.home ys) e.decision inv e.among).one_time d.decision m (d.commit ∙ ap (λ (z : StampValue). z.time) same ∙ sym e.commit) in
     sym d.txn ∙ ap (λ (z : Decision). z.txn) one ∙ e.txn
 
 -- two transactions have two stamps
 pub own_stamp : (top : TopologyValue) (w : Run) (x y : ℕ) (d e : Decision) → Inv top w
-    → Among d (w.shards x).decided → Among e (w.shards y).decided → d.stamp ≡ e.stamp → d.txn ≡ e.txn
+    → Contains (w.shards x).decided d → Contains (w.shards y).decided e → d.stamp ≡ e.stamp → d.txn ≡ e.txn
 own_stamp top w x y d e inv m n same =
     let p = sound top w x d inv m in
     let q = sound top w y e inv n in
@@ -87,7 +87,7 @@ own_stamp top w x y d e inv m n same =
 
 -- where the transaction was submitted, its stamp is the commit time there, and its coordinator
 pub home_stamp : (top : TopologyValue) (w : Run) (x : ℕ) (d : Decision) (b : Submission) (batch : List Change) → Inv top w
-    → Among d (w.shards x).decided → IsWritten w d.txn b batch → dc_of top x ≡ b.home → (d.stamp.time ≡ d.commit) × (d.stamp.node ≡ lead top b.home batch)
+    → Contains (w.shards x).decided d → IsWritten w d.txn b batch → dc_of top x ≡ b.home → (d.stamp.time ≡ d.commit) × (d.stamp.node ≡ lead top b.home batch)
 home_stamp top w x d b batch inv m written near =
     let p = sound top w x d inv m in
     let batches = one_batch top w d.txn p.submission b p.batch batch inv.submitted p.written written in
@@ -95,7 +95,7 @@ home_stamp top w x d b batch inv m written near =
     let o = s.decided in
     let home = ap (λ (z : Submission). z.home) batches.0 in
     let at : lead top p.submission.home p.batch ≡ x = ap (λ z. lead top z p.batch) (home ∙ sym near) ∙ sym p.here in
-    let one : o.decision ≡ d = p.one o.decision (subst (λ z. Among o.decision (w.shards z).decided) at o.among) (o.txn ∙ p.written.txn) in (
+    let one : o.decision ≡ d = p.one o.decision (subst (λ z. Contains (w.shards z).decided o.decision) at o.among) (o.txn ∙ p.written.txn) in (
       sym o.commit ∙ ap (λ (z : Decision). z.commit) one,
       s.node ∙ ap (λ z. lead top z p.batch) home ∙ ap (lead top b.home) batches.1,
     )

@@ -2,7 +2,6 @@
 use Rattle.std.proofs.Common.{◌≡◌, ◌∙◌, ℕ, zero, suc, ◌+◌, ◌<◌, ◌≤◌, Bool, List, [], ◌∷◌, Option, Some, None, refl, sym, ap, arith}
 use Rattle.std.specs.Prelude.{◌≢◌, Contains, flat_map, option_map, option_and_then}
 use Rattle.std.specs.List.{range_with_len}
-use Rattle.std.proofs.lemmas.List.FromFn.{length-range_with_len, get_or-range_with_len}
 use Rattle.logical_time.specs.Stamps.{TxnValue}
 use Rattle.column_family.specs.declared.batch.Change.{Change}
 use Rattle.column_family.specs.declared.batch.Committed.{Committed}
@@ -15,7 +14,7 @@ use Rattle.messages.proofs.Numbering.{dc_of_shard, number_of_shard}
 use Rattle.world.specs.Run.{Run, Submission, submission_of}
 use Rattle.world.specs.Histories.{batch_in, batch_submitted, decisions_in, committed_of}
 use Rattle.world.specs.Entries.{AreOnce, IsEntryOf}
-use Rattle.world.proofs.lists.Among.{Among, among_contains, contains_among, find_some, find_none, any_false, same_txn, same_txn_self}
+use Rattle.world.proofs.lists.Members.{within_range, any_false, found, find_none, same_txn, same_txn_self}
 use Rattle.world.proofs.lists.Pairs.{no_pairs, more_pairs, append_pairs}
 use Rattle.world.proofs.safety.Facts.{txn_of, IsWritten, DecidedOnce}
 use Rattle.world.proofs.safety.Invariant.{Inv, SubmittedSound}
@@ -31,28 +30,21 @@ once_pairs : (ds : List Decision) → DecidedOnce ds → AreOnce ds
 once_pairs [] k = no_pairs (λ d e. d.txn ≢ e.txn)
 once_pairs (d ∷ ds) k = more_pairs (λ d e. d.txn ≢ e.txn) d ds (λ e m same. k.0 e m (sym same)) (once_pairs ds k.1)
 
-pub decided_in : (top : TopologyValue) (w : Run) (dc s : ℕ) (d : Decision) → s < top.shards → Among d (w.shards (shard_node top dc s)).decided
+pub decided_in : (top : TopologyValue) (w : Run) (dc s : ℕ) (d : Decision) → s < top.shards → Contains (w.shards (shard_node top dc s)).decided d
     → Contains (decisions_in top w dc) d
 decided_in top w dc s d lt m =
-    contains_flat (decided_by top w dc) (range_with_len 0 top.shards) s d (contains_below top.shards s lt) (among_contains d (decided_by top w dc s) m)
-
-in_range : (a n s : ℕ) → Contains (range_with_len a n) s → (a ≤ s) × (s < a + n)
-in_range a n s c =
-    let long = length-range_with_len a n in
-    let lt = c.1 in
-    let is = sym (get_or-range_with_len a n c.0 s (omega arith)) ∙ c.2 in
-    (omega arith, omega arith)
+    contains_flat (decided_by top w dc) (range_with_len 0 top.shards) s d (contains_below top.shards s lt) m
 
 pub decided_by_one : (top : TopologyValue) (w : Run) (dc : ℕ) (d : Decision) → Contains (decisions_in top w dc) d
-    → (s : ℕ) × (s < top.shards) × Among d (w.shards (shard_node top dc s)).decided
+    → (s : ℕ) × (s < top.shards) × Contains (w.shards (shard_node top dc s)).decided d
 decided_by_one top w dc d c =
     let r = flat_contains (decided_by top w dc) (range_with_len 0 top.shards) d c in
-    let within = (in_range 0 top.shards r.0 r.1).1 in
-    (r.0, omega arith, contains_among d (decided_by top w dc r.0) r.2)
+    let within = (within_range 0 top.shards r.0 r.1).1 in
+    (r.0, omega arith, r.2)
 
 -- the shards of a data centre whose numbers differ decide different transactions
 decided_apart : (top : TopologyValue) (w : Run) (dc s t : ℕ) (d e : Decision) → Inv top w → s < top.shards → t < top.shards → s < t
-    → Among d (decided_by top w dc s) → Among e (decided_by top w dc t) → d.txn ≢ e.txn
+    → Contains (decided_by top w dc s) d → Contains (decided_by top w dc t) e → d.txn ≢ e.txn
 decided_apart top w dc s t d e inv a b lt m n same =
     let nodes = one_lead top w (shard_node top dc s) (shard_node top dc t) d e inv m n same (dc_of_shard top dc s a ∙ sym (dc_of_shard top dc t b)) in
     let numbers = sym (number_of_shard top dc s a) ∙ ap (shard_of top) nodes ∙ number_of_shard top dc t b in
@@ -66,11 +58,11 @@ once_from top w dc a (suc n) inv le =
     (once_pairs (decided_by top w dc a) (inv.shards (shard_node top dc a)).once)
     (once_from top w dc (a + 1) n inv (omega arith))
     (λ d e m later.
-    let r = flat_contains (decided_by top w dc) (range_with_len (a + 1) n) e (among_contains e (flat_map (decided_by top w dc) (range_with_len (a + 1) n)) later) in
-    let within = in_range (a + 1) n r.0 r.1 in
+    let r = flat_contains (decided_by top w dc) (range_with_len (a + 1) n) e later in
+    let within = within_range (a + 1) n r.0 r.1 in
     let low = within.0 in
     let high = within.1 in
-    decided_apart top w dc a r.0 d e inv (omega arith) (omega arith) (omega arith) m (contains_among e (decided_by top w dc r.0) r.2))
+    decided_apart top w dc a r.0 d e inv (omega arith) (omega arith) (omega arith) m r.2)
 
 -- no transaction is decided twice in a data centre
 pub decided_once : (top : TopologyValue) (w : Run) (dc : ℕ) → Inv top w → AreOnce (decisions_in top w dc)
@@ -78,7 +70,7 @@ decided_once top w dc inv = once_from top w dc 0 top.shards inv (omega arith)
 
 -- ## Batches as submitted
 
-pub submission_found : (top : TopologyValue) (w : Run) (b : Submission) (t : TxnValue) → SubmittedSound top w → Among b w.submitted → txn_of b ≡ t
+pub submission_found : (top : TopologyValue) (w : Run) (b : Submission) (t : TxnValue) → SubmittedSound top w → Contains w.submitted b → txn_of b ≡ t
     → submission_of w.submitted t ≡ Some b
 submission_found top w b t s m e = go (submission_of w.submitted t) refl
   where
@@ -89,8 +81,8 @@ submission_found top w b t s m e = go (submission_of w.submitted t) refl
     go None none =
         let no = any_false is w.submitted (find_none is w.submitted none) b m in
         let yes_ = ap (λ z. is_same_txn z t) e ∙ same_txn_self t in absurd (cc)
-    go (Some c) found =
-        let r = find_some is w.submitted c found in
+    go (Some c) q =
+        let r = found is w.submitted c q in
         ap Some (s.one c b r.0 m (same_txn (txn_of c) t r.1 ∙ sym e))
 
 pub batch_found : (top : TopologyValue) (w : Run) (t : TxnValue) (b : Submission) (batch : List Change) → SubmittedSound top w

@@ -15,7 +15,6 @@ use Rattle.messages.specs.Shard.{Decision}
 use Rattle.world.specs.Run.{Run}
 use Rattle.world.specs.Histories.{decisions_in, committed_of, history_of, IsHistory}
 use Rattle.world.specs.Entries.{CoordinatorsDecide, HaveOwnStamps, IsEntryOf, TellsDecided}
-use Rattle.world.proofs.lists.Among.{among_contains, contains_among}
 use Rattle.world.proofs.lists.Pairs.{among_pairs, given_pairs}
 use Rattle.world.proofs.safety.Invariant.{Inv}
 use Rattle.world.proofs.histories.Decisions.{sound, own_stamp}
@@ -63,8 +62,8 @@ own_entries top w dc inv =
     (λ d e x y n p q same. n (sym (entry_only w d x p).stamp ∙ same ∙ (entry_only w e y q).stamp))
     (among_pairs (λ d e. d.txn ≢ e.txn) (λ d e. d.stamp ≢ e.stamp) (decisions_in top w dc)
     (λ d e m k n same.
-    let a = decided_by_one top w dc d (among_contains d (decisions_in top w dc) m) in
-    let b = decided_by_one top w dc e (among_contains e (decisions_in top w dc) k) in
+    let a = decided_by_one top w dc d m in
+    let b = decided_by_one top w dc e k in
     n (own_stamp top w (shard_node top dc a.0) (shard_node top dc b.0) d e inv a.2 b.2 same))
     (decided_once top w dc inv))
 
@@ -105,5 +104,5 @@ history_tells top w dc h inv p = record {
 
 pub coordinators_decide : (top : TopologyValue) (w : Run) → Inv top w → CoordinatorsDecide top w
 coordinators_decide top w inv node d has =
-    let s = sound top w node d inv (contains_among d (w.shards node).decided has) in
+    let s = sound top w node d inv has in
     (s.batch, batch_found top w d.txn s.submission s.batch inv.submitted s.written, s.here)

@@ -1,5 +1,6 @@
 -- The entries of a history stay, with their commit times and stamps, as the run grows.
 use Rattle.std.proofs.Common.{◌≡◌, ◌∙◌, ℕ, List, Some, sym}
+use Rattle.std.specs.Prelude.{Contains}
 use Rattle.std.proofs.lemmas.List.Sorted.{Contains-permutation, IsPermutation-sym}
 use Rattle.logical_time.specs.Stamps.{TxnValue}
 use Rattle.column_family.specs.declared.batch.Change.{Change}
@@ -11,7 +12,6 @@ use Rattle.messages.specs.Shard.{Decision}
 use Rattle.world.specs.Run.{Run, Submission}
 use Rattle.world.specs.Histories.{decisions_in, committed_of, history_of, IsHistory}
 use Rattle.world.specs.Entries.{IsKeptIn}
-use Rattle.world.proofs.lists.Among.{Among}
 use Rattle.world.proofs.growing.Growth.{Grows}
 use Rattle.world.proofs.safety.Facts.{IsWritten}
 use Rattle.world.proofs.safety.Invariant.{Inv}
@@ -24,7 +24,7 @@ still_written top w x t b batch g p = record { among = g.submitted b p.among; tx
 
 -- the entry of a decision is its entry in every later run
 still_entry : (top : TopologyValue) (w x : Run) (node : ℕ) (d : Decision) (c : Committed) → Inv top w → Inv top x → Grows top w x
-    → Among d (w.shards node).decided → committed_of w d ≡ Some c → committed_of x d ≡ Some c
+    → Contains (w.shards node).decided d → committed_of w d ≡ Some c → committed_of x d ≡ Some c
 still_entry top w x node d c inv later g m is =
     let s = sound top w node d inv m in
     entry_found top x d s.submission s.batch later (still_written top w x d.txn s.submission s.batch g s.written)

@@ -15,7 +15,7 @@ use Rattle.slice.proofs.RowTests.{touched_normal}
 use Rattle.messages.proofs.Numbering.{dc_of_shard, number_of_shard}
 use Rattle.world.specs.Run.{Run}
 use Rattle.world.specs.Histories.{batch_submitted, decisions_in}
-use Rattle.world.proofs.lists.Among.{Among, among_contains, contains_among, map_only}
+use Rattle.world.proofs.lists.Members.{mapped_from}
 use Rattle.world.proofs.growing.Growth.{Grows}
 use Rattle.world.proofs.safety.Facts.{RowAtSound}
 use Rattle.world.proofs.safety.Invariant.{AnsweredFrom, Inv}
@@ -29,7 +29,7 @@ module _ (top : TopologyValue) (some : 0 < top.shards) (w x : Run) (inv : Inv to
   node_for key = shard_node top dc (shard_of_key top.shards key)
 
   -- decided in the later run and not in the first, it commits above
-  row_go : (r : RowAt) → RowAtSound top w (node_for r.key) time read r → (d : Decision) → Among d (decisions_in top x dc) → (Among d (decisions_in top w dc) → ⊥)
+  row_go : (r : RowAt) → RowAtSound top w (node_for r.key) time read r → (d : Decision) → Contains (decisions_in top x dc) d → (Contains (decisions_in top w dc) d → ⊥)
       → (batch : List Change) → batch_submitted x d.txn ≡ Some batch → (name : List ℕ) → list_any (touches (record { row = row_of read r.key; name = name })) batch ≡ true
       → (b : Bool) → nat_le d.commit time ≡ b → time < d.commit
   row_go r sound d m fresh batch is name hit false e = grind (arith, nat_tests)
@@ -55,12 +55,12 @@ module _ (top : TopologyValue) (some : 0 < top.shards) (w x : Run) (inv : Inv to
         here = old.decided.here;
       } in
       let one : old.decision ≡ d = one_decision top x later (dc_of top node) old.decision d kept its (old.txn ∙ seen.2) in
-      absurd (fresh (subst (λ z. Among z (decisions_in top w dc)) one (subst (λ z. Among old.decision (decisions_in top w z)) here old.among)))
+      absurd (fresh (subst (λ z. Contains (decisions_in top w dc) z) one (subst (λ z. Contains (decisions_in top w z) old.decision) here old.among)))
 
   pub commits_above : (rows : List RowAt) → AnsweredFrom top w dc read time rows → (d : Decision) → Contains (decisions_in top x dc) d → (Contains (decisions_in top w dc) d → ⊥)
       → (batch : List Change) → batch_submitted x d.txn ≡ Some batch → (key : List ℕ) → Contains read.keys key → (name : List ℕ)
       → list_any (touches (record { row = row_of read key; name = name })) batch ≡ true → time < d.commit
   commits_above rows from d m fresh batch is key asked name hit =
-      let r = map_only (λ (z : RowAt). z.key) rows key (from.given key (contains_among key read.keys asked)) in
-      row_go r.0 (from.right r.0 r.1) d (contains_among d (decisions_in top x dc) m) (λ i. fresh (among_contains d (decisions_in top w dc) i)) batch is name
+      let r = mapped_from (λ (z : RowAt). z.key) rows key (from.given key asked) in
+      row_go r.0 (from.right r.0 r.1) d m (λ i. fresh i) batch is name
       (subst (λ k. list_any (touches (record { row = row_of read k; name = name })) batch ≡ true) r.2 hit) (nat_le d.commit time) refl

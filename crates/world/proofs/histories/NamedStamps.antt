@@ -16,7 +16,7 @@ use Rattle.shard.proofs.steps.HandledCases.{IsTelling}
 use Rattle.shard.proofs.steps.Sending.{handled_gives}
 use Rattle.world.specs.Run.{Run, RunEvent, step, run}
 use Rattle.world.specs.Named.{stamp_named, StampsAreNamed}
-use Rattle.world.proofs.lists.Among.{Among, among_contains, contains_among, get_among}
+use Rattle.world.proofs.lists.Members.{none_in_empty, contains_get, contains_at}
 use Rattle.world.proofs.growing.Growth.{Grows}
 use Rattle.world.proofs.safety.Facts.{IsDecided}
 use Rattle.world.proofs.safety.Invariant.{Says, Inv}
@@ -24,7 +24,6 @@ use Rattle.world.proofs.histories.Decisions.{one_stamp}
 use Rattle.world.proofs.steps.EventCases.{event_cases}
 use Rattle.world.proofs.growing.Prefixes.{get_added}
 use Rattle.world.proofs.safety.Told.{IsMet, met_apart}
-use Rattle.world.proofs.quiet.Settling.{among_get}
 use Rattle.world.proofs.steps.SessionSends.{IsOfSession, heard_sends, begun_sends}
 use Rattle.world.proofs.safety.Sendings.{was_sent, sent_then}
 use Rattle.world.proofs.worked.Replayed.{runs_replayed}
@@ -51,7 +50,7 @@ telling_met top w from to time m t commit stamp says (inl is) = met_so w from t 
 telling_met top w from to time m t commit stamp says (inr is) = met_so w from t commit stamp (subst (Says top w from to time) is says).0.decided
 
 handed_on : (top : TopologyValue) (w : Run) (f : Envelope) (n : ℕ) → Says top w f.from f.to f.time f.body
-    → (e : Envelope) → Among e (handled top f.to n (w.shards f.to) f.from f.body).sends → PartMet w e.body
+    → (e : Envelope) → Contains (handled top f.to n (w.shards f.to) f.from f.body).sends e → PartMet w e.body
 handed_on top w f n says e m =
     each_contained (λ (z : Envelope). PartMet w z.body) (handled top f.to n (w.shards f.to) f.from f.body).sends
     (handled_gives top f.to n (w.shards f.to) f.from f.body (λ z. PartMet w z.body) (λ y. Unit {0})
@@ -77,7 +76,7 @@ handed_on top w f n says e m =
       not_by = λ t time is. tt;
       repl_part = λ dc t rows commit stamp coordinator told. telling_met top w f.from f.to f.time f.body t commit stamp says told;
     })).sends
-    e (among_contains e (handled top f.to n (w.shards f.to) f.from f.body).sends m)
+    e m
 
 part_sent : (top : TopologyValue) (w : Run) (x : RunEvent) (k : ℕ) (e : Envelope) (t : TxnValue) (rows : List Change) (stamp : StampValue) (coordinator : ℕ) → Inv top w
     → length w.sent ≤ k → slice_get (step top w x).sent k ≡ Some e → e.body ≡ ReplPart t rows stamp coordinator → Met w t stamp
@@ -87,12 +86,12 @@ part_sent top w x k e t rows stamp coordinator inv le sent is =
       nothing = λ g. let lt = slice_get_within w.sent k e g in absurd (omega arith);
       handled =
           λ j f n q there to g.
-          subst (PartMet w) is (handed_on top w f n (inv.sent f (get_among w.sent j f there)) e (get_added w.sent _ k e le g));
+          subst (PartMet w) is (handed_on top w f n (inv.sent f (contains_get w.sent j f there)) e (get_added w.sent _ k e le g));
       heard =
           λ j f n q there other to g.
           absurd (subst IsOfSession is (heard_sends top f.to n (w.sessions f.to) f.from f.body e (get_added w.sent _ k e le g)).1);
       begun = λ node o n q to g. absurd (subst IsOfSession is (begun_sends top node n (w.sessions node) o e (get_added w.sent _ k e le g)).1);
-      collected = λ node time n q g. absurd (get_added w.sent [] k e le g);
+      collected = λ node time n q g. absurd (none_in_empty e (get_added w.sent [] k e le g));
     })
     sent
 
@@ -103,10 +102,10 @@ met_later top w v t stamp g m =
 -- ## All that messages name
 
 module _ (top : TopologyValue) (some : 0 < top.shards) (w : Run) (replayed : run top w.events ≡ w) (inv : Inv top w) where
-  part_met : (e : Envelope) → Among e w.sent → (t : TxnValue) (rows : List Change) (stamp : StampValue) (coordinator : ℕ)
+  part_met : (e : Envelope) → Contains w.sent e → (t : TxnValue) (rows : List Change) (stamp : StampValue) (coordinator : ℕ)
       → e.body ≡ ReplPart t rows stamp coordinator → Met w t stamp
   part_met e m t rows stamp coordinator is =
-      let at = among_get e w.sent m in
+      let at = contains_at w.sent e m in
       let sending = was_sent top w replayed at.0 at.2 in
       let before = sending.0 in
       let was = sending.2 in
@@ -118,7 +117,7 @@ module _ (top : TopologyValue) (some : 0 < top.shards) (w : Run) (replayed : run
   same_met : (x : StampedTxn) (t : TxnValue) (stamp : StampValue) → Some (record { txn = t; stamp = stamp }) ≡ Some x → Met w t stamp → IsMet w x
   same_met x t stamp e m = let same : record { txn = t; stamp = stamp } ≡ x = cc in subst (IsMet w) same m
 
-  named_met : (e : Envelope) → Among e w.sent → (x : StampedTxn) → (b : Body) → e.body ≡ b → Says top w e.from e.to e.time b → stamp_named b ≡ Some x → IsMet w x
+  named_met : (e : Envelope) → Contains w.sent e → (x : StampedTxn) → (b : Body) → e.body ≡ b → Says top w e.from e.to e.time b → stamp_named b ≡ Some x → IsMet w x
   named_met e m x (Commit t commit stamp) is s q = same_met x t stamp q (met_so w e.from t commit stamp s.0.decided)
   named_met e m x (At t commit stamp) is s q = same_met x t stamp q (met_so w e.from t commit stamp s.0.decided)
   named_met e m x (Done t commit stamp) is s q = same_met x t stamp q (met_so w e.from t commit stamp s.0.decided)
@@ -144,13 +143,13 @@ module _ (top : TopologyValue) (some : 0 < top.shards) (w : Run) (replayed : run
   each_met : (x : StampedTxn) → Contains (filter_map (λ (e : Envelope). stamp_named e.body) w.sent) x → IsMet w x
   each_met x has =
       let r = given_only (λ (e : Envelope). stamp_named e.body) w.sent x has in
-      let m = contains_among r.0 w.sent r.1 in
+      let m = r.1 in
       named_met r.0 m x r.0.body refl (inv.sent r.0 m) r.2
 
   stamps_named_so : StampsAreNamed w
   stamps_named_so =
       record {
-        decided = λ x has. (let m = each_met x has in (m.node, m.decision, among_contains m.decision (w.shards m.node).decided m.among, m.txn, m.stamp));
+        decided = λ x has. (let m = each_met x has in (m.node, m.decision, m.among, m.txn, m.stamp));
         apart = λ x y m n same. met_apart top w x y inv (each_met x m) (each_met y n) same;
         one = λ x y m n same. one_txn x y (each_met x m) (each_met y n) same;
       }

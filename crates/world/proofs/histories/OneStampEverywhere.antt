@@ -7,7 +7,6 @@ use Rattle.messages.proofs.Numbering.{dc_of_shard}
 use Rattle.world.specs.Run.{Run, Submission}
 use Rattle.world.specs.Histories.{decisions_in}
 use Rattle.world.specs.Entries.{IsOf, IsHomeStamp, StampsAgree}
-use Rattle.world.proofs.lists.Among.{contains_among}
 use Rattle.world.proofs.safety.Facts.{IsWritten}
 use Rattle.world.proofs.safety.Invariant.{Inv}
 use Rattle.world.proofs.histories.Decisions.{sound, one_stamp, own_stamp, home_stamp}
@@ -19,9 +18,9 @@ home_of_decision top w d s inv has is =
     let a = decided_by_one top w s.home d has in
     let x = shard_node top s.home a.0 in
     let p = sound top w x d inv a.2 in
-    let same = inv.submitted.one p.submission s p.written.among (contains_among s w.submitted is.among) (p.written.txn ∙ is.txn) in
+    let same = inv.submitted.one p.submission s p.written.among is.among (p.written.txn ∙ is.txn) in
     let kind = sym (ap (λ (z : Submission). z.op) same) ∙ p.written.op in
-    let written : IsWritten w d.txn s p.batch = record { among = contains_among s w.submitted is.among; txn = sym is.txn; op = kind } in
+    let written : IsWritten w d.txn s p.batch = record { among = is.among; txn = sym is.txn; op = kind } in
     let stamp = home_stamp top w x d s p.batch inv a.2 written (dc_of_shard top s.home a.0 a.1) in
     record { time = stamp.0; batch = p.batch; op = kind; node = stamp.1 }
 

@@ -17,7 +17,6 @@ use Rattle.world.specs.Histories.{decisions_in, committed_of, history_of}
 use Rattle.world.specs.Entries.{WritesAreTold}
 use Rattle.world.specs.Promises.{Fits}
 use Rattle.world.proofs.steps.EndCases.{end_cases}
-use Rattle.world.proofs.lists.Among.{contains_among}
 use Rattle.world.proofs.safety.Facts.{IsWritten, IsDecided, lead}
 use Rattle.world.proofs.safety.Invariant.{Inv, IsOpen, EndSound}
 use Rattle.world.proofs.envelopes.Near.{coordinator_below}
@@ -60,7 +59,7 @@ named w node m dc o batch p e = record {
 pub writes_are_told : (top : TopologyValue) (w : Run) → 0 < top.shards → Inv top w → WritesAreTold top w
 writes_are_told top w some inv c n s has e =
     let t : TxnValue = record { session = c.node; number = c.number } in
-    let p = inv.transcript c (contains_among c w.transcript has) in
+    let p = inv.transcript c has in
     let r = ended_so top w c.home t c.op c.outcome n s p.fits p.came e in
     let there = decided_entry top w c.home t p.opened.submission r.0 n s some inv (named w c.node c.number c.home c.op r.0 p.opened r.1) r.2 in
     record {

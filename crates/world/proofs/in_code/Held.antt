@@ -34,7 +34,7 @@ use Rattle.world.proofs.steps.Refusals.{allowed_is_added}
 use Rattle.world.proofs.steps.EventCases.{event_cases}
 use Rattle.world.proofs.steps.Begun.{begins}
 use Rattle.world.proofs.quiet.Unhandled.{finds_unhandled}
-use Rattle.world.proofs.lists.Among.{get_among, among_contains}
+use Rattle.world.proofs.lists.Members.{contains_get}
 use Rattle.world.proofs.envelopes.Addressed.{messages_are_for_actors}
 
 -- ## Marks
@@ -304,7 +304,7 @@ addressed a l number e h at =
     let top = a.topology in
     let r = h.running in
     let there = ap (λ z. slice_get z number) r.sent ∙ at in
-    elim (messages_are_for_actors top l.events.items r.sound e (among_contains e (run top l.events.items).sent (get_among (run top l.events.items).sent number e there))) [
+    elim (messages_are_for_actors top l.events.items r.sound e (contains_get (run top l.events.items).sent number e there)) [
       | inl shard ↦ shard_below top e.to (length a.shards.items) (length a.stations.items) r.shards.len shard
       | inr session ↦ (session_below top e.to (length a.shards.items) (length a.stations.items) r.shards.len r.stations.len session).1
     ]

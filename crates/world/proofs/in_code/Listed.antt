@@ -1,6 +1,6 @@
 -- What a step finishes has its entry in the transcript after it.
 use Rattle.std.proofs.Common.{◌≡◌, ◌∙◌, ℕ, ◌<◌, refl, sym, ap, subst, le_of_lt, Bool, true, false, List, [], ◌∷◌, ◌++◌, map, Option, Some, None, Result, Ok, Err, ◌⊎◌, inl, inr}
-use Rattle.std.specs.Prelude.{if◌then◌else◌, option_map, option_and_then}
+use Rattle.std.specs.Prelude.{if◌then◌else◌, option_map, option_and_then, Contains}
 use Rattle.std.specs.List.{cons_option}
 use Rattle.logical_time.specs.declared.fault.Fault.{Fault}
 use Rattle.logical_time.specs.Stamps.{TxnValue}
@@ -19,7 +19,7 @@ use Rattle.messages.specs.Submitting.{begun, submit_fault, submit_if as submitte
 use Rattle.messages.specs.Actors.{ActorState, OfShard, OfSession, ActorStep, of_shard, of_session, actor_step}
 use Rattle.world.specs.Run.{Run, RunEvent, Submission, Completed, submission_of, completed_of, with_ended}
 use Rattle.world.specs.Journals.{actor_in, finished_as}
-use Rattle.world.proofs.lists.Among.{Among, same_txn_self}
+use Rattle.world.proofs.lists.Members.{none_in_empty, contains_one, same_txn_self}
 use Rattle.world.proofs.safety.Facts.{txn_of}
 use Rattle.world.proofs.safety.Invariant.{Inv, Hears}
 use Rattle.shard.proofs.steps.Handles.{ticked_above}
@@ -33,10 +33,9 @@ use Rattle.world.proofs.shards.RightAnswers.{hears}
 
 -- ## Optional elements
 
-pub the_element : {X : Type 0} (o : Option X) (x : X) → Among x (cons_option o []) → o ≡ Some x
-the_element None x m = absurd m
-the_element (Some y) x (inl q) = ap Some (sym q)
-the_element (Some y) x (inr m) = absurd m
+pub the_element : {X : Type 0} (o : Option X) (x : X) → Contains (cons_option o []) x → o ≡ Some x
+the_element None x m = absurd (none_in_empty x m)
+the_element (Some y) x m = ap Some (sym (contains_one y x m))
 
 pub map_element : {X Y : Type 0} (f : X → Y) (o : Option X) → map f (cons_option o []) ≡ cons_option (option_map f o) []
 map_element f None = refl

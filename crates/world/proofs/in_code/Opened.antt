@@ -1,8 +1,6 @@
 -- A submission that a session accepts is taken by the run.
-use Rattle.std.proofs.Common.{◌≡◌, ◌∙◌, ℕ, ◌+◌, ◌<◌, Bool, true, false, List, [], ◌∷◌, ◌++◌, length, slice_get, Option, Some, None, Ok, inl, inr, refl, sym, ap, subst, arith}
-use Rattle.std.specs.Prelude.{slice_set, if◌then◌else◌, find, option_and_then}
-use Rattle.std.proofs.lemmas.Bool.{false≢true}
-use Rattle.logical_time.specs.Stamps.{TxnValue, WriterValue}
+use Rattle.std.proofs.Common.{◌≡◌, ◌∙◌, ℕ, ◌+◌, ◌<◌, true, List, [], ◌∷◌, ◌++◌, length, slice_get, Option, Some, None, Ok, refl, sym, ap, subst}
+use Rattle.std.specs.Prelude.{slice_set, if◌then◌else◌, option_and_then}
 use Rattle.logical_time.specs.declared.fault.Fault.{Fault}
 use Rattle.messages.specs.declared.op.Op.{Op}
 use Rattle.messages.specs.declared.op.Op.TheVariants as op
@@ -10,8 +8,8 @@ use Rattle.messages.specs.declared.outcome.Outcome.TheVariants as outcome
 use Rattle.messages.specs.Topology.{TopologyValue, is_session, shard_count}
 use Rattle.messages.specs.Words.{is_same_txn}
 use Rattle.messages.specs.Clock.{ticked, on_clock}
-use Rattle.messages.specs.Session.{SessionState, SessionStep, Finished, is_idle}
-use Rattle.messages.specs.Submitting.{move_if, begun, submit_fault, submit_if as submitted_if, session_submit}
+use Rattle.messages.specs.Session.{SessionState, SessionStep, Finished}
+use Rattle.messages.specs.Submitting.{begun, submit_fault, submit_if as submitted_if, session_submit}
 use Rattle.messages.specs.SessionEvents.{session_taken}
 use Rattle.client.specs.Represents as session
 use Rattle.world.specs.declared.actors.Actors.{Actors}
@@ -21,7 +19,7 @@ use Rattle.world.specs.Refusals.{NoSuchActor, refused_by, refusal_of}
 use Rattle.world.specs.Holds.{IsOpOf, IsRunning, HasTaken, ended_as}
 use Rattle.world.specs.World.{IsRefusedAs}
 use Rattle.world.specs.Steps.{DidSession, DidSubmitOf}
-use Rattle.world.proofs.lists.Among.{Among, same_txn, same_txn_self}
+use Rattle.world.proofs.lists.Members.{same_txn_self}
 use Rattle.world.proofs.safety.Invariant.{Inv}
 use Rattle.world.proofs.keeping.ShardSteps.{actor_same}
 use Rattle.world.proofs.safety.Runs.{every_run}

@@ -23,7 +23,7 @@ use Rattle.shard.specs.Unfinished.{part_of, parts_held, parts_unapplied}
 use Rattle.world.specs.Run.{Run, RunEvent, Submission, run}
 use Rattle.world.specs.Settled.{IsClear}
 use Rattle.world.specs.Lookups.{TellsUnfinished, ShardsTellUnfinished}
-use Rattle.world.proofs.lists.Among.{Among, among_contains, contains_among, among_append, any_false, find_some, find_none, filter_only, map_only, map_among, same_txn}
+use Rattle.world.proofs.lists.Members.{contains_first, contains_rest, Contains-append_cases, contains_map, mapped_from, filter_contains, any_false, found, find_none, same_txn}
 use Rattle.world.proofs.safety.Facts.{IsWritten, part_on}
 use Rattle.world.proofs.safety.Invariant.{Inv}
 use Rattle.world.proofs.envelopes.Near.{lead_number}
@@ -49,22 +49,22 @@ module _ (ps : List WritePart) where
   abbrev by_writer : WriterValue → Option WritePart
   by_writer w = find (λ p. is_eq (writer_cmp p.writer w)) ps
 
-  by_found : (p : WritePart) → Among p ps → (q : WritePart) × (by_writer p.writer ≡ Some q) × Among q ps × (q.writer ≡ p.writer)
+  by_found : (p : WritePart) → Contains ps p → (q : WritePart) × (by_writer p.writer ≡ Some q) × Contains ps q × (q.writer ≡ p.writer)
   by_found p m = go (by_writer p.writer) refl
     where
-      go : (o : Option WritePart) → by_writer p.writer ≡ o → (q : WritePart) × (by_writer p.writer ≡ Some q) × Among q ps × (q.writer ≡ p.writer)
+      go : (o : Option WritePart) → by_writer p.writer ≡ o → (q : WritePart) × (by_writer p.writer ≡ Some q) × Contains ps q × (q.writer ≡ p.writer)
       go None e =
           absurd
           (false≢true (sym (any_false (λ (z : WritePart). is_eq (writer_cmp z.writer p.writer)) ps (find_none (λ z. is_eq (writer_cmp z.writer p.writer)) ps e) p m)
           ∙ equal_self p.writer.txn.session p.writer.txn.number p.writer.shard))
-      go (Some q) e = let r = find_some (λ (z : WritePart). is_eq (writer_cmp z.writer p.writer)) ps q e in (q, e, r.0, same_writer q.writer p.writer r.1)
+      go (Some q) e = let r = found (λ (z : WritePart). is_eq (writer_cmp z.writer p.writer)) ps q e in (q, e, r.0, same_writer q.writer p.writer r.1)
 
-  listed : (ws : List WriterValue) → ((w : WriterValue) → Among w ws → (q : WritePart) × (by_writer w ≡ Some q) × Among q ps × (q.writer ≡ w))
+  listed : (ws : List WriterValue) → ((w : WriterValue) → Contains ws w → (q : WritePart) × (by_writer w ≡ Some q) × Contains ps q × (q.writer ≡ w))
       → map (λ (p : WritePart). p.writer) (filter_map by_writer ws) ≡ ws
   listed [] f = refl
-  listed (w ∷ ws) f = go (by_writer w) refl (f w (inl refl)) (listed ws (λ v m. f v (inr m)))
+  listed (w ∷ ws) f = go (by_writer w) refl (f w (contains_first w ws)) (listed ws (λ v m. f v (contains_rest w v ws m)))
     where
-      go : (o : Option WritePart) → by_writer w ≡ o → (q : WritePart) × (by_writer w ≡ Some q) × Among q ps × (q.writer ≡ w)
+      go : (o : Option WritePart) → by_writer w ≡ o → (q : WritePart) × (by_writer w ≡ Some q) × Contains ps q × (q.writer ≡ w)
           → map (λ (p : WritePart). p.writer) (filter_map by_writer ws) ≡ ws
           → map (λ (p : WritePart). p.writer) (cons_option o (filter_map by_writer ws)) ≡ w ∷ ws
       go None e k rest = let no : None ≡ Some k.0 = sym e ∙ k.1 in absurd (cc)
@@ -76,26 +76,26 @@ module _ (ps : List WritePart) where
   abbrev writers : List WriterValue
   writers = in_writer_order (map (λ p. p.writer) ps)
 
-  each_found : (w : WriterValue) → Among w writers → (q : WritePart) × (by_writer w ≡ Some q) × Among q ps × (q.writer ≡ w)
+  each_found : (w : WriterValue) → Contains writers w → (q : WritePart) × (by_writer w ≡ Some q) × Contains ps q × (q.writer ≡ w)
   each_found w m =
-      let r = map_only (λ (p : WritePart). p.writer) ps w (contains_among w (map (λ p. p.writer) ps) ((writers_stay (map (λ p. p.writer) ps) w).0 (among_contains w writers m))) in
-      subst (λ v. (q : WritePart) × (by_writer v ≡ Some q) × Among q ps × (q.writer ≡ v)) (sym r.2) (by_found r.0 r.1)
+      let r = mapped_from (λ (p : WritePart). p.writer) ps w ((writers_stay (map (λ p. p.writer) ps) w).0 m) in
+      subst (λ v. (q : WritePart) × (by_writer v ≡ Some q) × Contains ps q × (q.writer ≡ v)) (sym r.2) (by_found r.0 r.1)
 
   -- ## All of them, where those of one transaction are one
 
-  module _ (one : (p q : WritePart) → Among p ps → Among q ps → p.writer.txn ≡ q.writer.txn → p ≡ q) where
+  module _ (one : (p q : WritePart) → Contains ps p → Contains ps q → p.writer.txn ≡ q.writer.txn → p ≡ q) where
     only : (p : WritePart) → Contains (filter_map by_writer writers) p → Contains ps p
     only p has =
         let r = given_only by_writer writers p has in
-        among_contains p ps (find_some (λ (z : WritePart). is_eq (writer_cmp z.writer r.0)) ps p r.2).0
+        (found (λ (z : WritePart). is_eq (writer_cmp z.writer r.0)) ps p r.2).0
 
     all : (p : WritePart) → Contains ps p → Contains (filter_map by_writer writers) p
     all p has =
-        let m = contains_among p ps has in
-        let w = contains_among p.writer writers ((writers_stay (map (λ p. p.writer) ps) p.writer).1 (among_contains p.writer (map (λ p. p.writer) ps) (map_among (λ (z : WritePart). z.writer) ps p m))) in
+        let m = has in
+        let w = (writers_stay (map (λ p. p.writer) ps) p.writer).1 (contains_map (λ (z : WritePart). z.writer) ps p m) in
         let q = by_found p m in
         let same : q.0 ≡ p = one q.0 p q.2 m (ap (λ (v : WriterValue). v.txn) q.3) in
-        given by_writer writers p.writer p (among_contains p.writer writers w) (q.1 ∙ ap Some same)
+        given by_writer writers p.writer p w (q.1 ∙ ap Some same)
 
     less_txn : (o s : Ordering) → ordering_then o s ≡ Less → (o ≡ Equal → ⊥) → o ≡ Less
     less_txn Less s e n = refl
@@ -103,7 +103,7 @@ module _ (ps : List WritePart) where
     less_txn Greater s e n = absurd (cc)
 
     abbrev OneEach : List WriterValue → Type 0
-    OneEach ws = (v w : WriterValue) → Among v ws → Among w ws → v.txn ≡ w.txn → v ≡ w
+    OneEach ws = (v w : WriterValue) → Contains ws v → Contains ws w → v.txn ≡ w.txn → v ≡ w
 
     one_each : OneEach writers
     one_each v w m n same =
@@ -111,12 +111,12 @@ module _ (ps : List WritePart) where
         let q = each_found w n in
         sym p.3 ∙ ap (λ (z : WritePart). z.writer) (one p.0 q.0 p.2 q.2 (ap (λ (z : WriterValue). z.txn) p.3 ∙ same ∙ ap (λ (z : WriterValue). z.txn) (sym q.3))) ∙ q.3
 
-    all_less : (v : WriterValue) (ws : List WriterValue) → AllByRecursion (λ w. writer_cmp v w ≡ Less) ws → ((w : WriterValue) → Among w ws → v.txn ≡ w.txn → v ≡ w)
+    all_less : (v : WriterValue) (ws : List WriterValue) → AllByRecursion (λ w. writer_cmp v w ≡ Less) ws → ((w : WriterValue) → Contains ws w → v.txn ≡ w.txn → v ≡ w)
         → AllByRecursion (λ u. txn_cmp v.txn u ≡ Less) (map (λ (w : WriterValue). w.txn) ws)
     all_less v [] h f = tt
     all_less v (w ∷ ws) h f = (
-      less_txn (txn_cmp v.txn w.txn) (nat_cmp v.shard w.shard) h.0 (λ e. differ v w h.0 (f w (inl refl) (equal_txn v.txn w.txn e))),
-      all_less v ws h.1 (λ u m. f u (inr m)),
+      less_txn (txn_cmp v.txn w.txn) (nat_cmp v.shard w.shard) h.0 (λ e. differ v w h.0 (f w (contains_first w ws) (equal_txn v.txn w.txn e))),
+      all_less v ws h.1 (λ u m. f u (contains_rest w u ws m)),
     )
       where
         equal_txn : (t u : TxnValue) → txn_cmp t u ≡ Equal → t ≡ u
@@ -130,7 +130,7 @@ module _ (ps : List WritePart) where
     by_txn : (ws : List WriterValue) → IsStrictlySortedBy writer_cmp ws → OneEach ws → IsStrictlySortedBy txn_cmp (map (λ (w : WriterValue). w.txn) ws)
     unfolding IsStrictlySortedBy
     by_txn [] h k = tt
-    by_txn (w ∷ ws) h k = (all_less w ws h.0 (λ u m. k w u (inl refl) (inr m)), by_txn ws h.1 (λ u v m n. k u v (inr m) (inr n)))
+    by_txn (w ∷ ws) h k = (all_less w ws h.0 (λ u m. k w u (contains_first w ws) (contains_rest w u ws m)), by_txn ws h.1 (λ u v m n. k u v (contains_rest w u ws m) (contains_rest w v ws n)))
 
     in_order : IsStrictlySortedBy txn_cmp (map (λ (p : WritePart). p.writer.txn) (filter_map by_writer writers))
     in_order =
@@ -151,29 +151,29 @@ pub record IsHeld (top : TopologyValue) (w : Run) (node : ℕ) (p : WritePart) :
   pub coordinator : p.writer.shard ≡ coordinator_of top.shards batch
   pub rows : p.batch ≡ part_on top batch node
 
-none_kept : {X : Type 0} (q : X → Bool) (xs : List X) → ((x : X) → Among x xs → q x ≡ false) → filter q xs ≡ []
+none_kept : {X : Type 0} (q : X → Bool) (xs : List X) → ((x : X) → Contains xs x → q x ≡ false) → filter q xs ≡ []
 none_kept q [] f = refl
-none_kept {X} q (x ∷ xs) f = ap (λ b. cond b (x ∷ filter q xs) (filter q xs)) (f x (inl refl)) ∙ none_kept q xs (λ y m. f y (inr m))
+none_kept {X} q (x ∷ xs) f = ap (λ b. cond b (x ∷ filter q xs) (filter q xs)) (f x (contains_first x xs)) ∙ none_kept q xs (λ y m. f y (contains_rest x y xs m))
 
 module _ (top : TopologyValue) (w : Run) (some : 0 < top.shards) (inv : Inv top w) (node : ℕ) where
   abbrev a : ShardState
   a = w.shards node
 
   -- what holds of the parts of each kind holds of all that are held
-  each_held : (P : WritePart → Type 0) → ((p : PreparedPart) → Among p a.prepared → P (part_of p.txn p.coordinator p.rows))
-      → ((b : BegunBallot) → Among b a.ballots → P (part_of b.txn (shard_of top node) b.rows))
-      → ((k : KeptPart) → Among k a.kept_parts → P (part_of k.txn k.coordinator k.rows))
-      → ((r : KeptBallot) → Among r a.kept_ballots → P (part_of r.txn (shard_of top node) r.rows))
-      → (p : WritePart) → Among p (parts_held top node a) → P p
-  each_held P prepared ballots kept remote p m = elim (among_append p ((own ++ begun) ++ replicas) away m) [
-    | inl l ↦ elim (among_append p (own ++ begun) replicas l) [
-      | inl k ↦ elim (among_append p own begun k) [
-        | inl i ↦ (let r = map_only (λ (x : PreparedPart). part_of x.txn x.coordinator x.rows) a.prepared p i in subst P (sym r.2) (prepared r.0 r.1))
-        | inr i ↦ (let r = map_only (λ (x : BegunBallot). part_of x.txn (shard_of top node) x.rows) a.ballots p i in subst P (sym r.2) (ballots r.0 r.1))
+  each_held : (P : WritePart → Type 0) → ((p : PreparedPart) → Contains a.prepared p → P (part_of p.txn p.coordinator p.rows))
+      → ((b : BegunBallot) → Contains a.ballots b → P (part_of b.txn (shard_of top node) b.rows))
+      → ((k : KeptPart) → Contains a.kept_parts k → P (part_of k.txn k.coordinator k.rows))
+      → ((r : KeptBallot) → Contains a.kept_ballots r → P (part_of r.txn (shard_of top node) r.rows))
+      → (p : WritePart) → Contains (parts_held top node a) p → P p
+  each_held P prepared ballots kept remote p m = elim (Contains-append_cases ((own ++ begun) ++ replicas) away p m) [
+    | inl l ↦ elim (Contains-append_cases (own ++ begun) replicas p l) [
+      | inl k ↦ elim (Contains-append_cases own begun p k) [
+        | inl i ↦ (let r = mapped_from (λ (x : PreparedPart). part_of x.txn x.coordinator x.rows) a.prepared p i in subst P (sym r.2) (prepared r.0 r.1))
+        | inr i ↦ (let r = mapped_from (λ (x : BegunBallot). part_of x.txn (shard_of top node) x.rows) a.ballots p i in subst P (sym r.2) (ballots r.0 r.1))
       ]
-      | inr i ↦ (let r = map_only (λ (x : KeptPart). part_of x.txn x.coordinator x.rows) a.kept_parts p i in subst P (sym r.2) (kept r.0 r.1))
+      | inr i ↦ (let r = mapped_from (λ (x : KeptPart). part_of x.txn x.coordinator x.rows) a.kept_parts p i in subst P (sym r.2) (kept r.0 r.1))
     ]
-    | inr i ↦ (let r = map_only (λ (x : KeptBallot). part_of x.txn (shard_of top node) x.rows) a.kept_ballots p i in subst P (sym r.2) (remote r.0 r.1))
+    | inr i ↦ (let r = mapped_from (λ (x : KeptBallot). part_of x.txn (shard_of top node) x.rows) a.kept_ballots p i in subst P (sym r.2) (remote r.0 r.1))
   ]
     where
       own : List WritePart
@@ -188,7 +188,7 @@ module _ (top : TopologyValue) (w : Run) (some : 0 < top.shards) (inv : Inv top 
       away : List WritePart
       away = map (λ r. part_of r.txn (shard_of top node) r.rows) a.kept_ballots
 
-  held : (p : WritePart) → Among p (parts_held top node a) → IsHeld top w node p
+  held : (p : WritePart) → Contains (parts_held top node a) p → IsHeld top w node p
   held =
       each_held (IsHeld top w node)
       (λ p m.
@@ -216,10 +216,10 @@ module _ (top : TopologyValue) (w : Run) (some : 0 < top.shards) (inv : Inv top 
         rows = s.rows;
       })
 
-  one_part : (p q : WritePart) → Among p (parts_unapplied top node a) → Among q (parts_unapplied top node a) → p.writer.txn ≡ q.writer.txn → p ≡ q
+  one_part : (p q : WritePart) → Contains (parts_unapplied top node a) p → Contains (parts_unapplied top node a) q → p.writer.txn ≡ q.writer.txn → p ≡ q
   one_part p q m n same =
-      let h = held p (filter_only (λ (x : WritePart). not (is_applied x.writer.txn a)) (parts_held top node a) p m).0 in
-      let k = held q (filter_only (λ (x : WritePart). not (is_applied x.writer.txn a)) (parts_held top node a) q n).0 in
+      let h = held p (filter_contains (λ (x : WritePart). not (is_applied x.writer.txn a)) (parts_held top node a) p m).0 in
+      let k = held q (filter_contains (λ (x : WritePart). not (is_applied x.writer.txn a)) (parts_held top node a) q n).0 in
       let batches = (same_batch top w p.writer.txn q.writer.txn h.submission k.submission h.batch k.batch inv.submitted same h.written k.written).1 in
       let shards = h.coordinator ∙ ap (coordinator_of top.shards) batches ∙ sym k.coordinator in
       let rows = h.rows ∙ ap (λ b. part_on top b node) batches ∙ sym k.rows in
@@ -232,7 +232,7 @@ module _ (top : TopologyValue) (w : Run) (some : 0 < top.shards) (inv : Inv top 
       go : (o : Option Decision) → decision_of t a ≡ o → is_some o ≡ true → is_applied t a ≡ true
       go None q e = absurd (false≢true e)
       go (Some d) q e =
-          let r = find_some (λ (z : Decision). is_same_txn z.txn t) a.decided d q in
+          let r = found (λ (z : Decision). is_same_txn z.txn t) a.decided d q in
           let v = ((inv.shards node).decided d r.0).applied in
           sees_applied a t (v.0, v.1, v.2 ∙ same_txn d.txn t r.1)
 
@@ -240,10 +240,10 @@ module _ (top : TopologyValue) (w : Run) (some : 0 < top.shards) (inv : Inv top 
   nothing_left clear =
       none_kept (λ (x : WritePart). not (is_applied x.writer.txn a)) (parts_held top node a)
       (each_held (λ x. not (is_applied x.writer.txn a) ≡ false)
-      (λ p m. ap not (clear.prepared p (among_contains p a.prepared m)))
-      (λ b m. ap not (decided_applied b.txn (clear.ballots b (among_contains b a.ballots m))))
-      (λ k m. ap not (clear.kept_parts k (among_contains k a.kept_parts m)))
-      (λ r m. ap not (decided_applied r.txn (clear.kept_ballots r (among_contains r a.kept_ballots m)))))
+      (λ p m. ap not (clear.prepared p m))
+      (λ b m. ap not (decided_applied b.txn (clear.ballots b m)))
+      (λ k m. ap not (clear.kept_parts k m))
+      (λ r m. ap not (decided_applied r.txn (clear.kept_ballots r m))))
 
   tells : TellsUnfinished top w node a
   tells =

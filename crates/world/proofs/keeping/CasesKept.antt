@@ -22,7 +22,7 @@ use Rattle.messages.specs.Replication.{ballot_of, sent_before, is_ready, dep_che
 use Rattle.messages.specs.declared.body.Body.{Body}
 use Rattle.shard.proofs.steps.HandledCases.{Stands, with_early, with_asker, ReadyStep, misses, alone, asks, replicated, Brings, the_ballot, a_notice, an_answer}
 use Rattle.world.specs.Run.{Run}
-use Rattle.world.proofs.lists.Among.{Among, contains_among, last_or_old, any_true, all_among, same_txn, append_first, find_none, map_only, among_append}
+use Rattle.world.proofs.lists.Members.{none_in_empty, last_or_old, Contains-append_left, Contains-append_cases, mapped_from, any_found, all_have, find_none, same_txn}
 use Rattle.world.proofs.safety.Facts.{near, PreparedBefore, lead, IsDecided, RoleFits, PreparedSound, KeptPartSound, AppliedSound, IsDone, DecidedOnce, BallotSound, KeptBallotSound}
 use Rattle.world.proofs.safety.Invariant.{Inv, IsLead, TellsDecision, EnvelopeSound, MayWait, Untouched, TellsCommit, MovesTo, of_shard, of_move, Says}
 use Rattle.world.proofs.safety.Able.{Able}
@@ -40,11 +40,11 @@ use Rattle.world.proofs.shards.RightAnswers.{unready_untouched}
 
 -- where all votes are there, each cohort has prepared its part
 pub vote_prepared : (top : TopologyValue) (w : Run) (node n : ℕ) (t : TxnValue) (votes : List Vote) (cohorts : List ℕ)
-    → ((v : Vote) → Among v votes → PreparedBefore w v.node v.txn n) → all_voted top node cohorts votes t ≡ true
-    → (c : ℕ) → Among c cohorts → PreparedBefore w (near top node c) t n
+    → ((v : Vote) → Contains votes v → PreparedBefore w v.node v.txn n) → all_voted top node cohorts votes t ≡ true
+    → (c : ℕ) → Contains cohorts c → PreparedBefore w (near top node c) t n
 vote_prepared top w node n t votes cohorts k e c m =
-    let h = all_among (λ s. has_vote votes t (shard_node top (dc_of top node) s)) cohorts e c m in
-    let r = any_true (λ v. is_same_txn v.txn t && (v.node == near top node c)) votes h in
+    let h = all_have (λ s. has_vote votes t (shard_node top (dc_of top node) s)) cohorts c e m in
+    let r = any_found (λ v. is_same_txn v.txn t && (v.node == near top node c)) votes h in
     let p = and_parts (is_same_txn r.0.txn t) (r.0.node == near top node c) r.2 in
     subst₂ (λ u z. PreparedBefore w z u n) (same_txn r.0.txn t p.0) (eqb-true r.0.node (near top node c) p.1) (k r.0 r.1)
 
@@ -76,7 +76,7 @@ module _ (top : TopologyValue) (w : Run) (node n from : ℕ) (t : TxnValue) (som
       let never = undecided_at b.txn a (subst (λ u. is_some (decision_of u a) ≡ false) (sym is.txn) is.undecided) in
       voted_able b is.txn _ refl
       (decide_able top w node n (with_vote a b.txn from) b some inv lt (record { clock = refl; prepared = refl; decided = refl; applied = refl; askers = refl })
-      (ballot_grows (same_run top w) (le_of_lt lt) ((inv.shards node).ballots b (contains_among b a.ballots is.among))) never
+      (ballot_grows (same_run top w) (le_of_lt lt) ((inv.shards node).ballots b is.among)) never
       (vote_prepared top w node n b.txn (with_vote a b.txn from).votes b.cohorts
       (λ u i. elim (last_or_old u (record { txn = b.txn; node = from }) a.votes i) [
         | inl o ↦ before_grows (same_run top w) (le_of_lt lt) ((inv.shards node).votes u o)
@@ -108,7 +108,7 @@ abbrev with_part : ShardState → Applied → ShardState
 with_part a v = record a { applied = a.applied ++ v ∷ [] }
 
 copy_sound : (top : TopologyValue) (w x : Run) (node d : ℕ) (p : PreparedPart) (k : PreparedSound top w node p) → 0 < top.shards → Grows top w x
-    → Among (shard_of top node) (cohorts_of top.shards k.batch) → (stamp : StampValue)
+    → Contains (cohorts_of top.shards k.batch) (shard_of top node) → (stamp : StampValue)
     → KeptPartSound top x (shard_node top d (shard_of top node)) (record { txn = p.txn; rows = p.rows; stamp = stamp; coordinator = p.coordinator })
 copy_sound top w x node d p k some gr cohort stamp =
     record {
@@ -117,20 +117,20 @@ copy_sound top w x node d p k some gr cohort stamp =
       written = written_grows gr k.written;
       coordinator = k.coordinator;
       rows = k.rows ∙ peer_part top k.batch node d some;
-      cohort = subst (λ s. Among s (cohorts_of top.shards k.batch)) (sym (peer_number top node d some)) cohort;
+      cohort = subst (λ s. Contains (cohorts_of top.shards k.batch) s) (sym (peer_number top node d some)) cohort;
     }
 
 -- where the write was submitted, a cohort's part goes to each other data centre
 repl_go : (top : TopologyValue) (w x : Run) (node n : ℕ) (p : PreparedPart) (stamp : StampValue) (k : PreparedSound top w node p) → 0 < top.shards → Grows top w x
-    → (r : Role) → RoleFits r top k.batch node → (e : Envelope) → Among e (repl_parts r top node n p stamp) → EnvelopeSound top x e
-repl_go top w x node n p stamp k some gr Own fits e m = absurd m
-repl_go top w x node n p stamp k some gr Replica fits e m = absurd m
+    → (r : Role) → RoleFits r top k.batch node → (e : Envelope) → Contains (repl_parts r top node n p stamp) e → EnvelopeSound top x e
+repl_go top w x node n p stamp k some gr Own fits e m = absurd (none_in_empty e m)
+repl_go top w x node n p stamp k some gr Replica fits e m = absurd (none_in_empty e m)
 repl_go top w x node n p stamp k some gr Cohort fits e m =
-    let q = map_only (λ d. envelope node (shard_node top d (shard_of top node)) n (ReplPart p.txn p.rows stamp p.coordinator)) (other_dcs top node) e m in
+    let q = mapped_from (λ d. envelope node (shard_node top d (shard_of top node)) n (ReplPart p.txn p.rows stamp p.coordinator)) (other_dcs top node) e m in
     subst (λ z. EnvelopeSound top x z) (sym q.2) (copy_sound top w x node q.0 p k some gr fits stamp)
 
 pub apply_able : (top : TopologyValue) (w : Run) (node n from : ℕ) (commit : ℕ) (stamp : StampValue) (p : PreparedPart) → 0 < top.shards → Inv top w → (w.shards node).clock < n → commit ≤ n
-    → IsDecided w from p.txn commit stamp → dc_of top from ≡ dc_of top node → Among p (w.shards node).prepared → is_applied p.txn (w.shards node) ≡ false
+    → IsDecided w from p.txn commit stamp → dc_of top from ≡ dc_of top node → Contains (w.shards node).prepared p → is_applied p.txn (w.shards node) ≡ false
     → Able top w node (w.shards node) (apply_part top node n (w.shards node) p commit stamp)
 apply_able top w node n from commit stamp p some inv lt le k here m never =
     let a = w.shards node in
@@ -144,7 +144,7 @@ apply_able top w node n from commit stamp p some inv lt le k here m never =
     let b = with_part a v in
     let sends = repl_parts p.role top node n p stamp in
     let g : ShardGrows a b =
-    record { clock = le_refl a.clock; prepared = λ e m. m; prepared_new = λ e m. inl m; decided = λ d m. m; decided_new = λ d m. inl m; applied = λ u m. append_first u a.applied (v ∷ []) m } in
+    record { clock = le_refl a.clock; prepared = λ e m. m; prepared_new = λ e m. inl m; decided = λ d m. m; decided_new = λ d m. inl m; applied = λ u m. Contains-append_left a.applied (v ∷ []) u m } in
     added top w node a b (let_go node n b p.txn (λ y. true) sends) g
     (λ x gr late. record {
       prepared = λ e m. inl m;
@@ -163,7 +163,7 @@ apply_able top w node n from commit stamp p some inv lt le k here m never =
       kept_ballots = λ e m. inl m;
       met = λ e m. inl m;
       askers = λ e m. inl m;
-      sends = λ e m. absurd m;
+      sends = λ e m. absurd (none_in_empty e m);
     })
     (let_go_able top w node n b p.txn (λ y. true) sends lt (inv.shards node).once
     (λ x gr at e i. repl_go top w x node n p stamp ps some gr p.role ps.role e i))
@@ -173,7 +173,7 @@ apply_able top w node n from commit stamp p some inv lt le k here m never =
 pub not_by_able : (top : TopologyValue) (w : Run) (node n : ℕ) (t : TxnValue) (bound : ℕ) → Inv top w → (w.shards node).clock < n
     → Able top w node (w.shards node) (let_go node n (w.shards node) t (λ y. nat_le y.time bound) [])
 not_by_able top w node n t bound inv lt =
-    let_go_able top w node n (w.shards node) t (λ y. nat_le y.time bound) [] lt (inv.shards node).once (λ x gr at e m. absurd m)
+    let_go_able top w node n (w.shards node) t (λ y. nat_le y.time bound) [] lt (inv.shards node).once (λ x gr at e m. absurd (none_in_empty e m))
 
 pub tells_none_able : (top : TopologyValue) (w : Run) (node n from : ℕ) (t : TxnValue) (bound : ℕ) → Inv top w → (w.shards node).clock < n → bound ≤ n
     → IsLead top w (dc_of top from) node t → decision_of t (w.shards node) ≡ None
@@ -183,13 +183,13 @@ tells_none_able top w node n from t bound inv lt le k e =
     (λ x gr at. (
       record {
         clock = subst (λ z. bound ≤ z.clock) (sym at) le;
-        above = λ d j z. absurd (absent (λ d. d.txn) t (w.shards node).decided (find_none (λ d. is_same_txn d.txn t) (w.shards node).decided e) d (subst (λ z. Among d z.decided) at j) z);
+        above = λ d j z. absurd (absent (λ d. d.txn) t (w.shards node).decided (find_none (λ d. is_same_txn d.txn t) (w.shards node).decided e) d (subst (λ z. Contains z.decided d) at j) z);
       },
       lead_grows gr k,
     ))
 
 -- what was decided is told
-pub decided_here : (top : TopologyValue) (w : Run) (node n : ℕ) (t : TxnValue) (d : Decision) → Inv top w → (w.shards node).clock < n → Among d (w.shards node).decided → d.txn ≡ t
+pub decided_here : (top : TopologyValue) (w : Run) (node n : ℕ) (t : TxnValue) (d : Decision) → Inv top w → (w.shards node).clock < n → Contains (w.shards node).decided d → d.txn ≡ t
     → TellsDecision w node n t d.commit d.stamp
 decided_here top w node n t d inv lt m is =
     record {
@@ -202,12 +202,12 @@ decided_here top w node n t d inv lt m is =
 module _ (top : TopologyValue) (w : Run) (node n : ℕ) (inv : Inv top w) (lt : (w.shards node).clock < n) where
   -- ## Read
 
-  early : (read : Read) (r : RowNow) → Among r (map (row_now n (w.shards node) read) read.keys) → r.evt ≤ n
+  early : (read : Read) (r : RowNow) → Contains (map (row_now n (w.shards node) read) read.keys) r → r.evt ≤ n
   early read r m =
       let a = w.shards node in
-      let q = map_only (row_now n a read) read.keys r m in
+      let q = mapped_from (row_now n a read) read.keys r m in
       subst (λ (z : RowNow). z.evt ≤ n) (sym q.2)
-      (evt_early n a.applied (row_of read q.0) read.predicate (λ v has. le_trans ((inv.shards node).applied v (contains_among v a.applied has)).early (le_of_lt lt)))
+      (evt_early n a.applied (row_of read q.0) read.predicate (λ v has. le_trans ((inv.shards node).applied v has).early (le_of_lt lt)))
 
   pub read_able : (from number : ℕ) (read : Read)
       → Able top w node (w.shards node) (answer n (w.shards node) (envelope node from n (PartNow number (map (row_now n (w.shards node) read) read.keys))))
@@ -215,7 +215,7 @@ module _ (top : TopologyValue) (w : Run) (node n : ℕ) (inv : Inv top w) (lt : 
 
   -- ## ReadAt
 
-  asked_sound : (some : 0 < top.shards) (x : Run) (time : ℕ) (read : Read) (k : WriterValue) → Grows top w x → time ≤ n → Among k (asked_below (w.shards node) time read) → EnvelopeSound top x (check_of top node n time k)
+  asked_sound : (some : 0 < top.shards) (x : Run) (time : ℕ) (read : Read) (k : WriterValue) → Grows top w x → time ≤ n → Contains (asked_below (w.shards node) time read) k → EnvelopeSound top x (check_of top node n time k)
   asked_sound some x time read k gr le m =
       let q = asked_prepared (w.shards node) time read k m in
       let p = q.0 in
@@ -233,8 +233,8 @@ module _ (top : TopologyValue) (w : Run) (node n : ℕ) (inv : Inv top w) (lt : 
   wait_able from number time read some le k ks e =
       waits_able top w node n (w.shards node) _ _ _ lt (inv.shards node).once
       (λ x gr at u m.
-      let q = map_only (check_of top node n time) (k ∷ ks) u m in
-      subst (λ z. EnvelopeSound top x z) (sym q.2) (asked_sound some x time read q.0 gr le (subst (λ l. Among q.0 l) (sym e) q.1)))
+      let q = mapped_from (check_of top node n time) (k ∷ ks) u m in
+      subst (λ z. EnvelopeSound top x z) (sym q.2) (asked_sound some x time read q.0 gr le (subst (λ l. Contains l q.0) (sym e) q.1)))
 
 -- ## ReplPart
 
@@ -258,17 +258,17 @@ keeps_part_able top w node n k inv lt sound =
 -- ## PrepareRemote
 
 -- a cohort of a transaction decides nothing of it
-pub cohort_undecided : (top : TopologyValue) (w : Run) (node : ℕ) (k : KeptPart) → 0 < top.shards → Inv top w → KeptPartSound top w node k → (d : Decision) → Among d (w.shards node).decided → d.txn ≡ k.txn → ⊥
+pub cohort_undecided : (top : TopologyValue) (w : Run) (node : ℕ) (k : KeptPart) → 0 < top.shards → Inv top w → KeptPartSound top w node k → (d : Decision) → Contains (w.shards node).decided d → d.txn ≡ k.txn → ⊥
 cohort_undecided top w node k some inv sound d m q =
     let ds = (inv.shards node).decided d m in
     let same = batch_one inv.submitted (written_at (sym q) sound.written) ds.written in
-    cohort_other top.shards ds.batch (shard_of top node) (subst (λ z. Among (shard_of top node) (cohorts_of top.shards z)) same sound.cohort) (lead_number top node (dc_of top node) ds.batch some ds.here)
+    cohort_other top.shards ds.batch (shard_of top node) (subst (λ z. Contains (cohorts_of top.shards z) (shard_of top node)) same sound.cohort) (lead_number top node (dc_of top node) ds.batch some ds.here)
 
 replica_cohort : Replica ≡ Cohort → ⊥
 replica_cohort e = cc
 
 pub prepare_replica_able : (top : TopologyValue) (w : Run) (node n : ℕ) (k : KeptPart) → 0 < top.shards → Inv top w → (w.shards node).clock < n
-    → Among k (w.shards node).kept_parts → is_some (prepared_part k.txn (w.shards node)) ≡ false
+    → Contains (w.shards node).kept_parts k → is_some (prepared_part k.txn (w.shards node)) ≡ false
     → Able top w node (w.shards node) (prepare_part top node n (w.shards node) k.txn k.rows k.coordinator Replica)
 prepare_replica_able top w node n k some inv lt m q =
     let a = w.shards node in
@@ -297,14 +297,14 @@ remember_able top w node n from dependency waiter inv lt here =
         kept_ballots = λ e m. inl m;
         met = λ e m. inl m;
         askers = one_new (λ (z : Asker). MayWait top x node z.waiter z.from) a.askers (record { dependency = dependency; waiter = waiter; from = from }) (may_wait_grows gr here);
-        sends = λ e m. absurd m;
+        sends = λ e m. absurd (none_in_empty e m);
       };
     }
 
 -- ## A replicated ballot
 
 -- these envelopes are sent before
-pub before_able : (top : TopologyValue) (w : Run) (node : ℕ) (a : ShardState) (sends : List Envelope) (st : ShardStep) → ((x : Run) → Grows top w x → (e : Envelope) → Among e sends → EnvelopeSound top x e)
+pub before_able : (top : TopologyValue) (w : Run) (node : ℕ) (a : ShardState) (sends : List Envelope) (st : ShardStep) → ((x : Run) → Grows top w x → (e : Envelope) → Contains sends e → EnvelopeSound top x e)
     → Able top w node a st → Able top w node a (sent_before sends st)
 before_able top w node a sends st f k =
     record {
@@ -323,13 +323,13 @@ before_able top w node a sends st f k =
             kept_ballots = g.kept_ballots;
             met = g.met;
             askers = g.askers;
-            sends = λ e m. elim (among_append e sends st.sends m) [ inl o ↦ f x gr e o | inr o ↦ g.sends e o ];
+            sends = λ e m. elim (Contains-append_cases sends st.sends e m) [ inl o ↦ f x gr e o | inr o ↦ g.sends e o ];
           };
     }
 
 -- the last missing thing is there, at a shard that differs in kept inputs alone, whose answers are right
 module _ (top : TopologyValue) (w : Run) (node n : ℕ) (a : ShardState) (some : 0 < top.shards) (inv : Inv top w) (lt : (w.shards node).clock < n) (like : Alike (w.shards node) a)
-    (met : (m : Met) → Among m a.met → IsDone top w (dc_of top node) m.dependency n) where
+    (met : (m : Met) → Contains a.met m → IsDone top w (dc_of top node) m.dependency n) where
   once_here : DecidedOnce a.decided
   once_here = subst DecidedOnce (sym like.decided) (inv.shards node).once
 
@@ -337,9 +337,9 @@ module _ (top : TopologyValue) (w : Run) (node n : ℕ) (a : ShardState) (some :
   clock_here = subst (λ c. c < n) (sym like.clock) lt
 
   -- each answer is there, so each dependency is done
-  done_all : (r : KeptBallot) → all_met a.met r.txn r.dependencies ≡ true → (k : WriterValue) → Among k r.dependencies → IsDone top w (dc_of top node) k.txn n
+  done_all : (r : KeptBallot) → all_met a.met r.txn r.dependencies ≡ true → (k : WriterValue) → Contains r.dependencies k → IsDone top w (dc_of top node) k.txn n
   done_all r e k m =
-      let f = any_true (λ m. is_same_txn m.waiter r.txn && is_same_txn m.dependency k.txn) a.met (all_among (λ w. is_met a.met r.txn w.txn) r.dependencies e k m) in
+      let f = any_found (λ m. is_same_txn m.waiter r.txn && is_same_txn m.dependency k.txn) a.met (all_have (λ w. is_met a.met r.txn w.txn) r.dependencies k e m) in
       let p = and_parts (is_same_txn f.0.waiter r.txn) (is_same_txn f.0.dependency k.txn) f.2 in
       subst (λ t. IsDone top w (dc_of top node) t n) (same_txn f.0.dependency k.txn p.1) (met f.0 f.1)
 
@@ -353,7 +353,7 @@ module _ (top : TopologyValue) (w : Run) (node n : ℕ) (a : ShardState) (some :
         rows = k.rows;
         cohorts = k.cohorts;
         dependencies = k.dependencies;
-        done = λ d m. done_all r e d (subst (λ l. Among d l) (sym k.dependencies) m);
+        done = λ d m. done_all r e d (subst (λ l. Contains l d) (sym k.dependencies) m);
         begun = k.begun;
         stamp = (k.stamp, k.time);
       }
@@ -364,13 +364,13 @@ module _ (top : TopologyValue) (w : Run) (node n : ℕ) (a : ShardState) (some :
   ready_able r st (alone e q) k u =
       decide_able top w node n a (ballot_of r) some inv lt like
       (ballot_ready r k (and_parts (all_voted top node r.cohorts a.notices r.txn) (all_met a.met r.txn r.dependencies) e).1) u.undecided
-      (λ c m. absurd (subst (λ l. Among c l) q m))
+      (λ c m. absurd (none_in_empty c (subst (λ l. Contains l c) q m)))
   ready_able r st (asks e c cs q) k u =
       hold_able top w node n a (ballot_of r) [] _ some clock_here once_here
-      (λ p m. u.unprepared p (subst (λ l. Among p l) like.prepared m)) (λ d m. u.undecided d (subst (λ l. Among d l) like.decided m))
-      (ballot_ready r k (and_parts (all_voted top node r.cohorts a.notices r.txn) (all_met a.met r.txn r.dependencies) e).1) (λ v m. absurd m)
+      (λ p m. u.unprepared p (subst (λ l. Contains l p) like.prepared m)) (λ d m. u.undecided d (subst (λ l. Contains l d) like.decided m))
+      (ballot_ready r k (and_parts (all_voted top node r.cohorts a.notices r.txn) (all_met a.met r.txn r.dependencies) e).1) (λ v m. absurd (none_in_empty v m))
       (λ x gr at e m.
-      let p = map_only (λ s. envelope node (shard_node top (dc_of top node) s) n (PrepareRemote r.txn)) (c ∷ cs) e m in subst (λ z. EnvelopeSound top x z) (sym p.2) tt)
+      let p = mapped_from (λ s. envelope node (shard_node top (dc_of top node) s) n (PrepareRemote r.txn)) (c ∷ cs) e m in subst (λ z. EnvelopeSound top x z) (sym p.2) tt)
 
 pub ready_clock : (top : TopologyValue) (node n : ℕ) (a : ShardState) (r : KeptBallot) (st : ShardStep) → ReadyStep top node n a r st → st.state.clock ≡ n
 ready_clock top node n a r st (misses e) = refl
@@ -379,18 +379,18 @@ ready_clock top node n a r st (asks e c cs q) = refl
 
 module _ (top : TopologyValue) (w : Run) (node n : ℕ) (some : 0 < top.shards) (inv : Inv top w) (lt : (w.shards node).clock < n) where
   -- each answer that is kept is right at this clock
-  old_met : (m : Met) → Among m (w.shards node).met → IsDone top w (dc_of top node) m.dependency n
+  old_met : (m : Met) → Contains (w.shards node).met m → IsDone top w (dc_of top node) m.dependency n
   old_met m i = done_grows (same_run top w) (le_of_lt lt) ((inv.shards node).met m i)
 
-  old_ballot : (r : KeptBallot) → Among r (w.shards node).kept_ballots → KeptBallotSound top w node n r
+  old_ballot : (r : KeptBallot) → Contains (w.shards node).kept_ballots r → KeptBallotSound top w node n r
   old_ballot r m = kept_ballot_grows (same_run top w) (le_of_lt lt) ((inv.shards node).kept_ballots r m)
 
   -- ## What the message says
 
-  check_sound : (x : Run) → Grows top w x → (r : KeptBallot) → KeptBallotSound top w node n r → (e : Envelope) → Among e (dep_checks top node n r) → EnvelopeSound top x e
+  check_sound : (x : Run) → Grows top w x → (r : KeptBallot) → KeptBallotSound top w node n r → (e : Envelope) → Contains (dep_checks top node n r) e → EnvelopeSound top x e
   check_sound x gr r k e m =
-      let q = map_only (λ u. envelope node (shard_node top (dc_of top node) u.shard) n (DepCheck u.txn r.txn)) r.dependencies e m in
-      let placed = inv.submitted.placed k.submission q.0 k.written.among (subst (λ l. Among q.0 l) k.dependencies q.1) in
+      let q = mapped_from (λ u. envelope node (shard_node top (dc_of top node) u.shard) n (DepCheck u.txn r.txn)) r.dependencies e m in
+      let placed = inv.submitted.placed k.submission q.0 k.written.among (subst (λ l. Contains l q.0) k.dependencies q.1) in
       subst (λ z. EnvelopeSound top x z) (sym q.2) (of_shard k.submission k.batch (written_grows gr k.written) (sym (near_dc top node q.0.shard placed)))
 
   -- what a kept ballot waits for is decided in its data centre
@@ -401,7 +401,7 @@ module _ (top : TopologyValue) (w : Run) (node n : ℕ) (some : 0 < top.shards) 
       absurd (subst (MovesTo (dc_of top from)) (ap (λ z. z.op) same ∙ k.written.op) to)
 
   told_done : (from time : ℕ) (dependency waiter : TxnValue) (commit : ℕ) → time < n → TellsCommit w from time dependency commit → MayWait top w from waiter node
-      → (r : KeptBallot) → Among r (w.shards node).kept_ballots → r.txn ≡ waiter → IsDone top w (dc_of top node) dependency n
+      → (r : KeptBallot) → Contains (w.shards node).kept_ballots r → r.txn ≡ waiter → IsDone top w (dc_of top node) dependency n
   told_done from time dependency waiter commit late k may r m q =
       let d = k.1.decided in
       let le = k.1.time in
@@ -436,7 +436,7 @@ module _ (top : TopologyValue) (w : Run) (node n : ℕ) (some : 0 < top.shards) 
   -- a kept ballot that misses something was never begun
   unready : (r : KeptBallot) → Contains (w.shards node).kept_ballots r → is_ready top node (w.shards node) r ≡ false
       → Untouched (w.shards node).ballots (w.shards node).prepared (w.shards node).decided r.txn
-  unready r has missing = unready_untouched top w inv node r (contains_among r _ has) missing
+  unready r has missing = unready_untouched top w inv node r has missing
 
   pub brings_able : (from time : ℕ) (m : Body) (r : KeptBallot) (b : ShardState) (first : List Envelope) (st : ShardStep)
       → Brings top node n (w.shards node) from m r b first → ReadyStep top node n b r st → time < n → Says top w from node time m
@@ -461,12 +461,12 @@ module _ (top : TopologyValue) (w : Run) (node n : ℕ) (some : 0 < top.shards) 
   brings_able from time m r b first st (a_notice t kept has same awaited missing) step late says =
       let c = with_notice (w.shards node) kept.txn from in
       notice_able kept.txn from st
-      (ready_able top w node n c some inv lt (alike c refl refl refl refl refl) old_met kept st step (old_ballot kept (contains_among kept _ has)) (unready kept has missing))
+      (ready_able top w node n c some inv lt (alike c refl refl refl refl refl) old_met kept st step (old_ballot kept has) (unready kept has missing))
   brings_able from time m r b first st (an_answer dependency waiter commit kept has same unmet missing) step late says =
       let a = w.shards node in
       let c = with_met a kept.txn dependency in
       let u : Met = record { waiter = kept.txn; dependency = dependency } in
-      let is_done = told_done from time dependency waiter commit late says.0 says.1 kept (contains_among kept _ has) same in
+      let is_done = told_done from time dependency waiter commit late says.0 says.1 kept has same in
       stores top w node a c st (alike c refl refl refl refl refl) refl (inv.shards node).once
       (λ x gr le. record {
         early = none_new _ a.early;
@@ -477,4 +477,4 @@ module _ (top : TopologyValue) (w : Run) (node n : ℕ) (some : 0 < top.shards) 
       })
       (ready_able top w node n c some inv lt (alike c refl refl refl refl refl)
       (λ i m. elim (last_or_old i u a.met m) [ inl o ↦ old_met i o | inr q ↦ subst (λ z. IsDone top w (dc_of top node) z.dependency n) (sym q) is_done ])
-      kept st step (old_ballot kept (contains_among kept _ has)) (unready kept has missing))
+      kept st step (old_ballot kept has) (unready kept has missing))

@@ -1,6 +1,6 @@
 -- A coordinator decides.
 use Rattle.std.proofs.Common.{◌≡◌, ℕ, ◌<◌, ◌≤◌, [], ◌∷◌, ◌++◌, Option, Some, None, ◌⊎◌, inl, inr, refl, sym, ap, ap₂, ◌∙◌, subst, subst₂, arith, le_refl, le_of_lt}
-use Rattle.std.specs.Prelude.{filter}
+use Rattle.std.specs.Prelude.{filter, Contains}
 use Rattle.logical_time.specs.Stamps.{StampValue}
 use Rattle.store.specs.declared.part.Applied.{Applied}
 use Rattle.planner.specs.Plan.{coordinator_of}
@@ -11,7 +11,7 @@ use Rattle.messages.specs.Words.{is_same_txn, envelope, other_dcs}
 use Rattle.messages.specs.Shard.{ShardState, BegunBallot, KeptBallot, Decision, Asker}
 use Rattle.messages.specs.Commits.{applied_part, commits, stamp_for, announcements, dep_oks, decide}
 use Rattle.world.specs.Run.{Run}
-use Rattle.world.proofs.lists.Among.{Among, among_append, append_first, among_last, last_or_old, filter_only, map_only}
+use Rattle.world.proofs.lists.Members.{none_in_empty, contains_cases, Contains-push, last_or_old, Contains-append_left, Contains-append_cases, mapped_from, filter_contains}
 use Rattle.world.proofs.growing.Growth.{NewDecision, ShardGrows}
 use Rattle.world.proofs.safety.Facts.{near, lead, IsDecided, IsStamp, DecidedOnce, PreparedBefore, StampFits, BallotSound, KeptBallotSound, DecisionSound, AppliedSound}
 use Rattle.world.proofs.safety.Invariant.{MayWait, EnvelopeSound, Inv}
@@ -30,41 +30,41 @@ decision node n b = record { txn = b.txn; commit = n; stamp = stamp_for node n b
 abbrev part : TopologyValue → ℕ → ℕ → BegunBallot → Applied
 part top node n b = applied_part b.txn (shard_of top node) b.rows n (stamp_for node n b.stamp)
 
-decided_new : (node n : ℕ) (a : ShardState) (b : BegunBallot) → a.clock < n → ((d : Decision) → Among d a.decided → d.txn ≡ b.txn → ⊥)
-    → (d : Decision) → Among d (a.decided ++ decision node n b ∷ []) → Among d a.decided ⊎ NewDecision a d
+decided_new : (node n : ℕ) (a : ShardState) (b : BegunBallot) → a.clock < n → ((d : Decision) → Contains a.decided d → d.txn ≡ b.txn → ⊥)
+    → (d : Decision) → Contains (a.decided ++ decision node n b ∷ []) d → Contains a.decided d ⊎ NewDecision a d
 decided_new node n a b lt none d m =
     elim (last_or_old d (decision node n b) a.decided m) [ inl o ↦ inl o | inr q ↦ inr (subst (λ z. NewDecision a z) (sym q) (record { above = lt; undecided = none })) ]
 
-decide_grows : (top : TopologyValue) (node n : ℕ) (a : ShardState) (b : BegunBallot) → a.clock < n → ((d : Decision) → Among d a.decided
+decide_grows : (top : TopologyValue) (node n : ℕ) (a : ShardState) (b : BegunBallot) → a.clock < n → ((d : Decision) → Contains a.decided d
     → d.txn ≡ b.txn → ⊥) → ShardGrows a (decide top node n a b).state
 decide_grows top node n a b lt none =
     record {
       clock = le_of_lt lt;
       prepared = λ p m. m;
       prepared_new = λ p m. inl m;
-      decided = λ d m. append_first d a.decided (decision node n b ∷ []) m;
+      decided = λ d m. Contains-append_left a.decided (decision node n b ∷ []) d m;
       decided_new = decided_new node n a b lt none;
-      applied = λ v m. append_first v a.applied (part top node n b ∷ []) m;
+      applied = λ v m. Contains-append_left a.applied (part top node n b ∷ []) v m;
     }
 
 -- In a run after the decision: what it adds is sound
 module _ (top : TopologyValue) (x : Run) (node n : ℕ) (a : ShardState) (b : BegunBallot)
     (some : 0 < top.shards)
     (at : x.shards node ≡ (decide top node n a b).state)
-    (early : (d : Decision) → Among d a.decided → d.commit < n)
-    (none : (d : Decision) → Among d a.decided → d.txn ≡ b.txn → ⊥)
+    (early : (d : Decision) → Contains a.decided d → d.commit < n)
+    (none : (d : Decision) → Contains a.decided d → d.txn ≡ b.txn → ⊥)
     (once : DecidedOnce a.decided)
     (ballot : BallotSound top x node n b)
-    (votes : (c : ℕ) → Among c b.cohorts → PreparedBefore x (near top node c) b.txn n)
-    (askers : (k : Asker) → Among k a.askers → MayWait top x node k.waiter k.from) where
+    (votes : (c : ℕ) → Contains b.cohorts c → PreparedBefore x (near top node c) b.txn n)
+    (askers : (k : Asker) → Contains a.askers k → MayWait top x node k.waiter k.from) where
   clock : n ≤ (x.shards node).clock
   clock = subst (λ z. n ≤ z.clock) (sym at) (le_refl n)
 
-  among_decided : Among (decision node n b) (x.shards node).decided
-  among_decided = subst (λ z. Among (decision node n b) z.decided) (sym at) (among_last (decision node n b) a.decided)
+  among_decided : Contains (x.shards node).decided (decision node n b)
+  among_decided = subst (λ z. Contains z.decided (decision node n b)) (sym at) (Contains-push a.decided (decision node n b))
 
-  among_applied : Among (part top node n b) (x.shards node).applied
-  among_applied = subst (λ z. Among (part top node n b) z.applied) (sym at) (among_last (part top node n b) a.applied)
+  among_applied : Contains (x.shards node).applied (part top node n b)
+  among_applied = subst (λ z. Contains z.applied (part top node n b)) (sym at) (Contains-push a.applied (part top node n b))
 
   is_decided : IsDecided x node b.txn n (stamp_for node n b.stamp)
   is_decided = record { decision = decision node n b; among = among_decided; txn = refl; commit = refl; stamp = refl }
@@ -80,10 +80,10 @@ module _ (top : TopologyValue) (x : Run) (node n : ℕ) (a : ShardState) (b : Be
   the_stamp : IsStamp top x ballot.submission ballot.batch (stamp_for node n b.stamp) × ((stamp_for node n b.stamp).time ≤ n)
   the_stamp = stamp_go b.stamp refl ballot.stamp
 
-  one_go : (e : Decision) → Among e (a.decided ++ decision node n b ∷ []) → e.txn ≡ b.txn → e ≡ decision node n b
+  one_go : (e : Decision) → Contains (a.decided ++ decision node n b ∷ []) e → e.txn ≡ b.txn → e ≡ decision node n b
   one_go e m r = elim (last_or_old e (decision node n b) a.decided m) [ inl o ↦ absurd (none e o r) | inr q ↦ q ]
 
-  time_go : (e : Decision) → Among e (a.decided ++ decision node n b ∷ []) → e.commit ≡ n → e ≡ decision node n b
+  time_go : (e : Decision) → Contains (a.decided ++ decision node n b ∷ []) e → e.commit ≡ n → e ≡ decision node n b
   time_go e m r = elim (last_or_old e (decision node n b) a.decided m) [ inl o ↦ (let lt = early e o in absurd (omega arith)) | inr q ↦ q ]
 
   own : shard_of top node ≡ coordinator_of top.shards ballot.batch
@@ -98,9 +98,9 @@ module _ (top : TopologyValue) (x : Run) (node n : ℕ) (a : ShardState) (b : Be
         here = ballot.here;
         commit = clock;
         applied = (part top node n b, among_applied, refl);
-        cohorts = λ c m. votes c (subst (λ l. Among c l) (sym ballot.cohorts) m);
-        one = λ e m q. one_go e (subst (λ z. Among e z.decided) at m) q;
-        one_time = λ e m q. time_go e (subst (λ z. Among e z.decided) at m) q;
+        cohorts = λ c m. votes c (subst (λ l. Contains l c) (sym ballot.cohorts) m);
+        one = λ e m q. one_go e (subst (λ z. Contains z.decided e) at m) q;
+        one_time = λ e m q. time_go e (subst (λ z. Contains z.decided e) at m) q;
         stamp = the_stamp.0;
         stamp_time = the_stamp.1;
         begun = ballot.begun;
@@ -121,10 +121,10 @@ module _ (top : TopologyValue) (x : Run) (node n : ℕ) (a : ShardState) (b : Be
 
   -- ## What it sends
 
-  commit_go : (e : Envelope) → Among e (commits top node n b.txn (stamp_for node n b.stamp) b.cohorts) → EnvelopeSound top x e
+  commit_go : (e : Envelope) → Contains (commits top node n b.txn (stamp_for node n b.stamp) b.cohorts) e → EnvelopeSound top x e
   commit_go e m =
-      let q = map_only (λ s. envelope node (shard_node top (dc_of top node) s) n (Commit b.txn n (stamp_for node n b.stamp))) b.cohorts e m in
-      let c = cohort_below top.shards ballot.batch q.0 (subst (λ l. Among q.0 l) ballot.cohorts q.1) in
+      let q = mapped_from (λ s. envelope node (shard_node top (dc_of top node) s) n (Commit b.txn n (stamp_for node n b.stamp))) b.cohorts e m in
+      let c = cohort_below top.shards ballot.batch q.0 (subst (λ l. Contains l q.0) ballot.cohorts q.1) in
       subst (λ z. EnvelopeSound top x z) (sym q.2) (record { decided = is_decided; time = le_refl n }, sym (near_dc top node q.0 c))
 
   abbrev replicated : StampValue → KeptBallot
@@ -145,32 +145,33 @@ module _ (top : TopologyValue) (x : Run) (node n : ℕ) (a : ShardState) (b : Be
         begun = ballot.begun;
       }
 
-  announce_go : (o : Option StampValue) → b.stamp ≡ o → StampFits top x node n ballot.submission ballot.batch o → (e : Envelope) → Among e (announcements top node n b o) → EnvelopeSound top x e
-  announce_go (Some s) e k u m = absurd m
-  announce_go None e k u (inl q) =
-      subst (λ z. EnvelopeSound top x z) (sym q) (
-        record { decided = subst (λ z. IsDecided x node b.txn n (stamp_for node n z)) e is_decided; time = le_refl n },
-        record { submission = ballot.submission; batch = ballot.batch; written = ballot.written; here = k },
-      )
-  announce_go None e k u (inr m) =
-      let q = map_only (λ d. envelope node (shard_node top d (shard_of top node)) n (ReplBegin b.cohorts b.txn b.rows (stamp_for node n None) b.dependencies)) (other_dcs top node) u m in
-      let s = stamp_go None e k in
-      subst (λ z. EnvelopeSound top x z) (sym q.2) (replicated_sound q.0 (stamp_for node n None) s.0 s.1)
+  announce_go : (o : Option StampValue) → b.stamp ≡ o → StampFits top x node n ballot.submission ballot.batch o → (e : Envelope) → Contains (announcements top node n b o) e → EnvelopeSound top x e
+  announce_go (Some s) e k u m = absurd (none_in_empty u m)
+  announce_go None e k u m = elim (contains_cases _ u _ m) [
+    | inl q ↦ subst (λ z. EnvelopeSound top x z) (sym q) (
+      record { decided = subst (λ z. IsDecided x node b.txn n (stamp_for node n z)) e is_decided; time = le_refl n },
+      record { submission = ballot.submission; batch = ballot.batch; written = ballot.written; here = k },
+    )
+    | inr r ↦
+        let q = mapped_from (λ d. envelope node (shard_node top d (shard_of top node)) n (ReplBegin b.cohorts b.txn b.rows (stamp_for node n None) b.dependencies)) (other_dcs top node) u r in
+        let s = stamp_go None e k in
+        subst (λ z. EnvelopeSound top x z) (sym q.2) (replicated_sound q.0 (stamp_for node n None) s.0 s.1)
+  ]
 
-  dep_ok_go : (e : Envelope) → Among e (dep_oks node n b.txn a.askers) → EnvelopeSound top x e
+  dep_ok_go : (e : Envelope) → Contains (dep_oks node n b.txn a.askers) e → EnvelopeSound top x e
   dep_ok_go e m =
-      let q = map_only (λ k. envelope node k.from n (DepOk b.txn k.waiter n)) (filter (λ k. is_same_txn k.dependency b.txn) a.askers) e m in
-      let p = filter_only (λ k. is_same_txn k.dependency b.txn) a.askers q.0 q.1 in
+      let q = mapped_from (λ k. envelope node k.from n (DepOk b.txn k.waiter n)) (filter (λ k. is_same_txn k.dependency b.txn) a.askers) e m in
+      let p = filter_contains (λ k. is_same_txn k.dependency b.txn) a.askers q.0 q.1 in
       subst (λ z. EnvelopeSound top x z) (sym q.2) ((stamp_for node n b.stamp, record { decided = is_decided; time = le_refl n }), askers q.0 p.0)
 
-  sends_go : (e : Envelope) → Among e (decide top node n a b).sends → EnvelopeSound top x e
+  sends_go : (e : Envelope) → Contains (decide top node n a b).sends e → EnvelopeSound top x e
   sends_go e m =
       let cs = commits top node n b.txn (stamp_for node n b.stamp) b.cohorts in
       let ns = announcements top node n b b.stamp in
       let ks = dep_oks node n b.txn a.askers in
-      elim (among_append e ((cs ++ ns) ++ ks) _ m) [
-        | inl l ↦ elim (among_append e (cs ++ ns) ks l) [
-          | inl d ↦ elim (among_append e cs ns d) [ inl c ↦ commit_go e c | inr k ↦ announce_go b.stamp refl ballot.stamp e k ]
+      elim (Contains-append_cases ((cs ++ ns) ++ ks) _ e m) [
+        | inl l ↦ elim (Contains-append_cases (cs ++ ns) ks e l) [
+          | inl d ↦ elim (Contains-append_cases cs ns e d) [ inl c ↦ commit_go e c | inr k ↦ announce_go b.stamp refl ballot.stamp e k ]
           | inr k ↦ dep_ok_go e k
         ]
         | inr r ↦ told_sound top x node n (record a { decided = a.decided ++ decision node n b ∷ []; applied = a.applied ++ part top node n b ∷ [] }) _ e r
@@ -195,20 +196,20 @@ module _ (top : TopologyValue) (x : Run) (node n : ℕ) (a : ShardState) (b : Be
 
 -- A coordinator decides, at a shard that differs in kept inputs alone
 pub decide_able : (top : TopologyValue) (w : Run) (node n : ℕ) (a : ShardState) (b : BegunBallot) → 0 < top.shards → Inv top w → (w.shards node).clock < n → Alike (w.shards node) a
-    → BallotSound top w node n b → ((d : Decision) → Among d (w.shards node).decided → d.txn ≡ b.txn → ⊥) → ((c : ℕ) → Among c b.cohorts → PreparedBefore w (near top node c) b.txn n)
+    → BallotSound top w node n b → ((d : Decision) → Contains (w.shards node).decided d → d.txn ≡ b.txn → ⊥) → ((c : ℕ) → Contains b.cohorts c → PreparedBefore w (near top node c) b.txn n)
     → Able top w node a (decide top node n a b)
 unfolding ballot_grows
 decide_able top w node n a b some inv lt like k none votes =
     let old = inv.shards node in
-    let never : (d : Decision) → Among d a.decided → d.txn ≡ b.txn → ⊥ = λ d m. none d (subst (λ l. Among d l) like.decided m) in
+    let never : (d : Decision) → Contains a.decided d → d.txn ≡ b.txn → ⊥ = λ d m. none d (subst (λ l. Contains l d) like.decided m) in
     record {
       grows = decide_grows top node n a b (subst (λ c. c < n) (sym like.clock) lt) never;
       fresh = λ x gr at.
           decide_fresh top x node n a b some at
-          (λ d m. let le = (old.decided d (subst (λ l. Among d l) like.decided m)).commit in omega arith)
+          (λ d m. let le = (old.decided d (subst (λ l. Contains l d) like.decided m)).commit in omega arith)
           never
           (subst DecidedOnce (sym like.decided) old.once)
           (ballot_grows gr (le_refl n) k)
           (λ c m. before_grows gr (le_refl n) (votes c m))
-          (λ u m. may_wait_grows gr (old.askers u (subst (λ l. Among u l) like.askers m)));
+          (λ u m. may_wait_grows gr (old.askers u (subst (λ l. Contains l u) like.askers m)));
     }

@@ -1,5 +1,6 @@
 -- Each event keeps all, and the run grows by it.
 use Rattle.std.proofs.Common.{◌≡◌, ℕ, ◌<◌, Bool, true, false, Option, Some, None, refl, le_of_lt, slice_get}
+use Rattle.std.specs.Prelude.{Contains}
 use Rattle.logical_time.specs.declared.fault.Fault.{Fault}
 use Rattle.messages.specs.declared.op.Op.{Op}
 use Rattle.messages.specs.declared.envelope.Envelope.{Envelope}
@@ -11,7 +12,7 @@ use Rattle.messages.specs.SessionEvents.{heard, session_handle}
 use Rattle.messages.specs.ShardEvents.{handled, shard_handle, collected}
 use Rattle.shard.proofs.steps.Handles.{ticked_above}
 use Rattle.world.specs.Run.{Run, RunEvent, Submit, Deliver, Collect, after_shard, after_session, after_submission, submit_if, deliver_if, deliver_for, collect_if, step}
-use Rattle.world.proofs.lists.Among.{Among, get_among}
+use Rattle.world.proofs.lists.Members.{contains_get}
 use Rattle.world.proofs.growing.Growth.{Grows}
 use Rattle.world.proofs.safety.Invariant.{Inv}
 use Rattle.world.proofs.keeping.ShardSteps.{shard_run_grows}
@@ -38,7 +39,7 @@ accepted fault false e = absurd (cc)
 module _ (top : TopologyValue) (w : Run) (some : 0 < top.shards) (inv : Inv top w) where
   -- ## A message comes
 
-  shard_hears : (e : Envelope) (x : RunEvent) → Among e w.sent → StaysSound top w (after_shard (shard_handle top e.to (w.shards e.to) e) w x e.to)
+  shard_hears : (e : Envelope) (x : RunEvent) → Contains w.sent e → StaysSound top w (after_shard (shard_handle top e.to (w.shards e.to) e) w x e.to)
   shard_hears e x m = go (ticked (w.shards e.to).clock e.time) refl
     where
       go : (o : Option ℕ) → ticked (w.shards e.to).clock e.time ≡ o
@@ -51,7 +52,7 @@ module _ (top : TopologyValue) (w : Run) (some : 0 < top.shards) (inv : Inv top 
             shard_run_grows top w e.to st x (handle_able top w e.to n e.from e.time e.body some inv above.0 above.1 (inv.sent e m)).grows,
           )
 
-  session_hears : (e : Envelope) (x : RunEvent) → Among e w.sent → StaysSound top w (after_session (session_handle top e.to (w.sessions e.to) e) w x e.to)
+  session_hears : (e : Envelope) (x : RunEvent) → Contains w.sent e → StaysSound top w (after_session (session_handle top e.to (w.sessions e.to) e) w x e.to)
   session_hears e x m = go (ticked (w.sessions e.to).clock e.time) refl
     where
       go : (o : Option ℕ) → ticked (w.sessions e.to).clock e.time ≡ o
@@ -63,12 +64,12 @@ module _ (top : TopologyValue) (w : Run) (some : 0 < top.shards) (inv : Inv top 
           let able = heard_able top w e.to n some inv (le_of_lt above.0) e.from e.time e.body (le_of_lt above.1) (hears top w inv e m) in
           (session_step_kept top w e.to st x inv able (heard_sends top e.to n (w.sessions e.to) e.from e.body), session_run_grows top w e.to st x able.grows)
 
-  deliver_go : (shard session : Bool) (e : Envelope) (x : RunEvent) → Among e w.sent → StaysSound top w (deliver_if shard session top w x e)
+  deliver_go : (shard session : Bool) (e : Envelope) (x : RunEvent) → Contains w.sent e → StaysSound top w (deliver_if shard session top w x e)
   deliver_go true session e x m = shard_hears e x m
   deliver_go false true e x m = session_hears e x m
   deliver_go false false e x m = same_kept top w inv
 
-  message_go : (o : Option Envelope) (x : RunEvent) → ((e : Envelope) → o ≡ Some e → Among e w.sent) → StaysSound top w (deliver_for o top w x)
+  message_go : (o : Option Envelope) (x : RunEvent) → ((e : Envelope) → o ≡ Some e → Contains w.sent e) → StaysSound top w (deliver_for o top w x)
   message_go None x m = same_kept top w inv
   message_go (Some e) x m = deliver_go (is_shard top e.to) (is_session top e.to) e x (m e refl)
 
@@ -108,5 +109,5 @@ module _ (top : TopologyValue) (w : Run) (some : 0 < top.shards) (inv : Inv top 
 
   pub event_kept : (x : RunEvent) → StaysSound top w (step top w x)
   event_kept (Submit node o) = submit_go (is_session top node) node o
-  event_kept (Deliver k) = message_go (slice_get w.sent k) (Deliver k) (get_among w.sent k)
+  event_kept (Deliver k) = message_go (slice_get w.sent k) (Deliver k) (contains_get w.sent k)
   event_kept (Collect node time) = collect_go (is_shard top node) node time

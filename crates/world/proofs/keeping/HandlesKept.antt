@@ -1,6 +1,6 @@
 -- Each envelope that a shard handles, and each collection, keeps all.
 use Rattle.std.proofs.Common.{ℕ, ◌<◌, le_trans, le_of_lt, lt_of_le_of_lt, Ok, ◌≡◌, Some, inl, inr, ap, refl, sym, subst, false, [], arith}
-use Rattle.std.specs.Prelude.{filter, is_some}
+use Rattle.std.specs.Prelude.{filter, is_some, Contains}
 use Rattle.logical_time.specs.Stamps.{StampValue, TxnValue}
 use Rattle.messages.specs.declared.body.Body.{Body}
 use Rattle.messages.specs.declared.envelope.Envelope.{Envelope}
@@ -25,13 +25,13 @@ use Rattle.world.proofs.keeping.ShardSteps.{shard_step_kept}
 use Rattle.world.proofs.safety.Ables.{same_run, alike_self, unprepared, undecided, quiet_able, waits_able, answer_able, prepare_able, hold_able}
 use Rattle.world.proofs.keeping.Decides.{decide_able}
 use Rattle.world.proofs.keeping.CasesKept.{vote_prepared, voted_able, vote_decides_able, early_able, apply_able, not_by_able, tells_none_able, decided_here, read_able, wait_able, keeps_part_able, prepare_replica_able, remember_able, notice_able, brings_able}
-use Rattle.world.proofs.lists.Among.{Among, contains_among, filter_only}
+use Rattle.world.proofs.lists.Members.{none_in_empty, filter_contains}
 use Rattle.world.proofs.shards.Playing.{shard_played}
 use Rattle.world.proofs.steps.OwnSends.{handled_own, none}
 
 module _ (top : TopologyValue) (w : Run) (node n from time : ℕ) (some : 0 < top.shards) (inv : Inv top w) (lt : (w.shards node).clock < n) (late : time < n) where
   -- what was kept is right at this clock too
-  early_now : (v : Vote) → Among v (w.shards node).early → PreparedBefore w v.node v.txn n
+  early_now : (v : Vote) → Contains (w.shards node).early v → PreparedBefore w v.node v.txn n
   early_now v m = before_grows (same_run top w) (le_of_lt lt) ((inv.shards node).early v m)
 
   -- a decision that is told
@@ -49,7 +49,7 @@ module _ (top : TopologyValue) (w : Run) (node n from time : ℕ) (some : 0 < to
   step_able m k st (begin_holds t rows cohorts dependencies new missing) =
       hold_able top w node n (w.shards node) (begun t rows cohorts dependencies) (filter (λ v. is_same_txn v.txn t) (w.shards node).early) [] some lt (inv.shards node).once
       (unprepared t (w.shards node) new) (undecided t (w.shards node) new) (ballot_grows (same_run top w) (le_of_lt late) k)
-      (λ v m. early_now v (filter_only (λ v. is_same_txn v.txn t) (w.shards node).early v m).0) (λ x gr at e m. absurd m)
+      (λ v m. early_now v (filter_contains (λ v. is_same_txn v.txn t) (w.shards node).early v m).0) (λ x gr at e m. absurd (none_in_empty e m))
   step_able m k st (prepares t rows coordinator new) =
       prepare_able top w node n (w.shards node) t rows coordinator Cohort k.submission k.batch lt (inv.shards node).once
       (unprepared t (w.shards node) new) (undecided t (w.shards node) new) k.written k.coordinator k.rows k.cohort (λ q. k.origin)
@@ -62,10 +62,10 @@ module _ (top : TopologyValue) (w : Run) (node n from time : ℕ) (some : 0 < to
   step_able m k st (applies t commit stamp tells p has is theirs new) =
       let says = told m t commit stamp tells k in
       apply_able top w node n from commit stamp p some inv lt (le_of_lt (lt_of_le_of_lt says.0.time late))
-      (subst (λ u. IsDecided w from u commit stamp) (sym is) says.0.decided) says.1 (contains_among p _ has) new
+      (subst (λ u. IsDecided w from u commit stamp) (sym is) says.0.decided) says.1 has new
   step_able m k st (lets_go t bound) = not_by_able top w node n t bound inv lt
   step_able m k st (tells_commit t bound d has is) =
-      let told = decided_here top w node n t d inv lt (contains_among d _ has) is in
+      let told = decided_here top w node n t d inv lt has is in
       answer_able top w node n (w.shards node) _ lt (inv.shards node).once
       (λ x gr at. (record { decided = decided_grows gr told.decided; time = told.time }, sym k.1))
   step_able m k st (tells_none t bound none) = tells_none_able top w node n from t bound inv lt (le_of_lt (lt_of_le_of_lt k.0 late)) k.2 none
@@ -80,10 +80,10 @@ module _ (top : TopologyValue) (w : Run) (node n from time : ℕ) (some : 0 < to
       notice_able top w node n some inv lt t from _ (quiet_able top w node n (with_notice (w.shards node) t from) lt (inv.shards node).once)
   step_able m k st (keeps_part t rows stamp coordinator new) = keeps_part_able top w node n (copied t rows stamp coordinator) inv lt k
   step_able m k st (prepares_replica t kept has is new) =
-      prepare_replica_able top w node n kept some inv lt (contains_among kept _ has)
+      prepare_replica_able top w node n kept some inv lt has
       (subst (λ u. is_some (prepared_part u (w.shards node)) ≡ false) (sym is) new)
   step_able m k st (tells_decided dependency waiter d has is) =
-      let told = decided_here top w node n dependency d inv lt (contains_among d _ has) is in
+      let told = decided_here top w node n dependency d inv lt has is in
       answer_able top w node n (w.shards node) _ lt (inv.shards node).once (λ x gr at. ((d.stamp, tells_grows gr told), may_wait_grows gr k))
   step_able m k st (remembers dependency waiter none new) = remember_able top w node n from dependency waiter inv lt k
 
@@ -92,20 +92,20 @@ pub handle_able : (top : TopologyValue) (w : Run) (node n from time : ℕ) (b : 
 handle_able top w node n from time b some inv lt late k =
     step_able top w node n from time some inv lt late b k (handled top node n (w.shards node) from b) (handled_cases top node n (w.shards node) from b)
 
-pub handle_kept : (top : TopologyValue) (w : Run) (e : Envelope) (n : ℕ) (ev : RunEvent) → 0 < top.shards → Inv top w → Among e w.sent
+pub handle_kept : (top : TopologyValue) (w : Run) (e : Envelope) (n : ℕ) (ev : RunEvent) → 0 < top.shards → Inv top w → Contains w.sent e
     → ticked (w.shards e.to).clock e.time ≡ Some n → Inv top (after_shard (Ok (handled top e.to n (w.shards e.to) e.from e.body)) w ev e.to)
 handle_kept top w e n ev some inv m q =
     let above = ticked_above (w.shards e.to).clock e.time n q in
     let st = handled top e.to n (w.shards e.to) e.from e.body in
     shard_step_kept top w e.to st ev inv (handle_able top w e.to n e.from e.time e.body some inv above.0 above.1 (inv.sent e m))
     (shard_played top w e.to n ev (Handle e) st (ap (λ o. on_clock o (λ k. handled top e.to k (w.shards e.to) e.from e.body)) q)
-    (λ f is. let same : e ≡ f = cc in subst (λ z. Among z w.sent × (z.to ≡ e.to)) same (m, refl))
+    (λ f is. let same : e ≡ f = cc in subst (λ z. Contains w.sent z × (z.to ≡ e.to)) same (m, refl))
     (handled_own top e.to n (w.shards e.to) e.from e.body).1 inv.played)
 
 -- ## Collections
 
 pub collect_able : (top : TopologyValue) (w : Run) (node n time : ℕ) → Inv top w → (w.shards node).clock < n → Able top w node (w.shards node) (collected n (w.shards node) time)
-collect_able top w node n time inv lt = waits_able top w node n (w.shards node) _ _ [] lt (inv.shards node).once (λ x gr at e m. absurd m)
+collect_able top w node n time inv lt = waits_able top w node n (w.shards node) _ _ [] lt (inv.shards node).once (λ x gr at e m. absurd (none_in_empty e m))
 
 pub collect_kept : (top : TopologyValue) (w : Run) (node n time : ℕ) (ev : RunEvent) → Inv top w → ticked (w.shards node).clock (w.shards node).clock ≡ Some n
     → Inv top (after_shard (Ok (collected n (w.shards node) time)) w ev node)

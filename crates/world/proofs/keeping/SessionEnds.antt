@@ -1,6 +1,6 @@
 -- A session's step that ends its operation, and one that leaves it open.
 use Rattle.std.proofs.Common.{◌≡◌, ℕ, ◌+◌, ◌<◌, ◌≤◌, false, List, [], Option, Some, None, inl, inr, refl, sym, ap, ap₂, ◌∙◌, subst, le_refl, le_trans}
-use Rattle.std.specs.Prelude.{option_map}
+use Rattle.std.specs.Prelude.{option_map, Contains}
 use Rattle.logical_time.specs.Stamps.{TxnValue, WriterValue}
 use Rattle.slice.specs.declared.read.Read.{Read}
 use Rattle.messages.specs.declared.op.Op.{Op}
@@ -14,7 +14,7 @@ use Rattle.messages.specs.Session.{SessionState, Open, Idle, Writing, FirstRound
 use Rattle.messages.specs.Actors.{home_after}
 use Rattle.world.specs.Run.{Run, Submission, Completed, submission_of, completed_of}
 use Rattle.world.specs.Promises.{Fits}
-use Rattle.world.proofs.lists.Among.{Among, find_some, same_txn}
+use Rattle.world.proofs.lists.Members.{none_in_empty, found, same_txn}
 use Rattle.world.proofs.growing.Growth.{FirstAsked, SecondAsked, Grows}
 use Rattle.world.proofs.safety.Facts.{txn_of, IsDone}
 use Rattle.world.proofs.safety.Invariant.{EnvelopeSound, IsOpen, HeardNowSound, HeardAtSound, MovingSound, OpenSound, SubmittedSound, EndSound, CompletedSound, Inv}
@@ -31,7 +31,7 @@ open_txn k = ap₂ (λ s n. record { session = s; number = n }) k.session k.numb
 -- what ended is the operation that was open
 open_completed : (top : TopologyValue) (w : Run) (node m dc : ℕ) (o : Op) (out : Outcome) → SubmittedSound top w → IsOpen w node m dc o
     → Fits o out → EndSound o out top w dc (record { session = node; number = m })
-    → (s : Submission) → Among s w.submitted → txn_of s ≡ record { session = node; number = m } → CompletedSound top w (record { node = node; number = m; home = s.home; op = s.op; outcome = out })
+    → (s : Submission) → Contains w.submitted s → txn_of s ≡ record { session = node; number = m } → CompletedSound top w (record { node = node; number = m; home = s.home; op = s.op; outcome = out })
 open_completed top w node m dc o out k b fits came s i e =
     let same : s ≡ b.submission = k.one s b.submission i b.among (e ∙ sym (open_txn b)) in
     record {
@@ -57,7 +57,7 @@ found_completed top w node m dc o out k b fits came c e = go (submission_of w.su
     go None q r = absurd (cc)
     go (Some s) q r =
         let same : ended_as s ≡ c = cc in
-        let i = find_some (λ s. is_same_txn (record { session = s.session; number = s.number }) t) w.submitted s q in
+        let i = found (λ s. is_same_txn (record { session = s.session; number = s.number }) t) w.submitted s q in
         subst (λ z. CompletedSound top w z) same (open_completed top w node m dc o out k b fits came s i.0 (same_txn (txn_of s) t i.1))
 
 module _ (top : TopologyValue) (w : Run) (node n : ℕ) (inv : Inv top w) (le : (w.sessions node).clock ≤ n) where
@@ -72,8 +72,8 @@ module _ (top : TopologyValue) (w : Run) (node n : ℕ) (inv : Inv top w) (le : 
   -- the operation ends, and leaves the session in this home
   pub ended_able : (home floor : ℕ) (dependencies : List WriterValue) (out : Outcome) (o : Op) → (home ≡ a.home → a.floor ≤ floor) → floor ≤ n
       → IsOpen w node a.count a.home o → Fits o out → EndSound o out top w a.home (record { session = node; number = a.count })
-      → ((k : WriterValue) → Among k dependencies → IsDone top w home k.txn (floor + 1))
-      → ((k : WriterValue) → Among k dependencies → k.shard < top.shards) → is_idle a.current ≡ false → home ≡ home_after a.home out
+      → ((k : WriterValue) → Contains dependencies k → IsDone top w home k.txn (floor + 1))
+      → ((k : WriterValue) → Contains dependencies k → k.shard < top.shards) → is_idle a.current ≡ false → home ≡ home_after a.home out
       → EndLeaves o out top w node floor dependencies → SessionAble top w node (ended n (record a { home = home }) floor dependencies out)
   ended_able home floor dependencies out o above below b fits came done placed busy there leaves =
       record {
@@ -86,7 +86,7 @@ module _ (top : TopologyValue) (w : Run) (node n : ℕ) (inv : Inv top w) (le : 
             };
         session = record { floor = below; current = tt; dependencies = done; placed = placed; taken = refl };
         completed = found_completed top w node a.count a.home o out inv.submitted b fits came;
-        sends = λ x g at e m. absurd m;
+        sends = λ x g at e m. absurd (none_in_empty e m);
         turn =
             inr
             (record {
@@ -107,7 +107,7 @@ module _ (top : TopologyValue) (w : Run) (node n : ℕ) (inv : Inv top w) (le : 
   -- the open move ends: what the session depends on is decided at the new home
   pub moved_able : (dc floor : ℕ) → floor ≤ n → (b : IsOpen w node a.count a.home (op.Move dc)) → b.submission.dependencies ≡ a.dependencies
       → (dc ≡ a.home → ⊥)
-      → ((k : WriterValue) → Among k a.dependencies → IsDone top w dc k.txn (floor + 1)) → is_idle a.current ≡ false
+      → ((k : WriterValue) → Contains a.dependencies k → IsDone top w dc k.txn (floor + 1)) → is_idle a.current ≡ false
       → SessionAble top w node (moved n a dc floor)
   moved_able dc floor below opened depends away done busy =
       ended_able dc floor a.dependencies (outcome.Moved dc floor) (op.Move dc) (λ same. absurd (away same)) below opened refl
@@ -115,7 +115,7 @@ module _ (top : TopologyValue) (w : Run) (node n : ℕ) (inv : Inv top w) (le : 
         submission = opened.submission;
         among = opened.among;
         txn = open_txn opened;
-        done = λ k m. done k (subst (λ ds. Among k ds) depends m);
+        done = λ k m. done k (subst (λ ds. Contains ds k) depends m);
       }) done
       (inv.sessions node).placed busy refl (away, refl)
 
@@ -123,12 +123,12 @@ module _ (top : TopologyValue) (w : Run) (node n : ℕ) (inv : Inv top w) (le : 
   pub nothing_left_able : (dc floor : ℕ) → a.current ≡ Moving dc [] floor → SessionAble top w node (moved n a dc floor)
   nothing_left_able dc floor is =
       let k : MovingSound top w node a dc [] floor = subst (λ o. OpenSound top w node a o) is (inv.sessions node).current in
-      moved_able dc floor (le_trans k.clock le) k.opened k.depends k.away (λ u m. elim (k.answered u m) [ inl i ↦ absurd i | inr d ↦ d ]) (ap is_idle is)
+      moved_able dc floor (le_trans k.clock le) k.opened k.depends k.away (λ u m. elim (k.answered u m) [ inl i ↦ absurd (none_in_empty u i) | inr d ↦ d ]) (ap is_idle is)
 
   -- the operation is left open
   pub waits_able : (o : Open) (sends : List Envelope) → ((m : ℕ) (asked : Read) → FirstAsked top a.current m asked → FirstAsked top o m asked)
       → ((time m : ℕ) (asked : Read) → SecondAsked a.current time m asked → SecondAsked o time m asked) → OpenSound top w node (later o) o
-      → ((x : Run) → Grows top w x → x.sessions node ≡ later o → (e : Envelope) → Among e sends → EnvelopeSound top x e)
+      → ((x : Run) → Grows top w x → x.sessions node ≡ later o → (e : Envelope) → Contains sends e → EnvelopeSound top x e)
       → is_idle o ≡ is_idle a.current → SessionAble top w node (record { state = record a { clock = n; current = o }; sends = sends })
   waits_able o sends asked_first asked_second sound send idle =
       record {
@@ -181,4 +181,4 @@ module _ (top : TopologyValue) (w : Run) (node n : ℕ) (inv : Inv top w) (le : 
   pub calm_able : SessionAble top w node (calm n a)
   calm_able =
       let now = a.current in
-      waits_able now [] (λ m asked k. k) (λ time m asked k. k) (open_later now now (inv.sessions node).current) (λ x g at e m. absurd m) refl
+      waits_able now [] (λ m asked k. k) (λ time m asked k. k) (open_later now now (inv.sessions node).current) (λ x g at e m. absurd (none_in_empty e m)) refl

@@ -1,6 +1,6 @@
 -- One session's step keeps all, if what it adds is sound.
 use Rattle.std.proofs.Common.{◌≡◌, ℕ, ◌≤◌, Bool, true, false, cond, List, [], ◌∷◌, ◌⊎◌, inl, inr, refl, sym, subst, eqb-true, le_trans, Some, None, Ok}
-use Rattle.std.specs.Prelude.{◌==◌}
+use Rattle.std.specs.Prelude.{◌==◌, Contains}
 use Rattle.logical_time.specs.Stamps.{WriterValue}
 use Rattle.messages.specs.declared.rows_at.RowAt.{RowAt}
 use Rattle.messages.specs.declared.op.Op.{Op}
@@ -15,7 +15,7 @@ use Rattle.messages.specs.SessionEvents.{session_taken}
 use Rattle.messages.specs.Actors.{home_after}
 use Rattle.world.specs.Run.{Run, RunEvent, Completed, with_actor, ended_by, after_session}
 use Rattle.world.specs.Promises.{Fits}
-use Rattle.world.proofs.lists.Among.{Among, among_append}
+use Rattle.world.proofs.lists.Members.{Contains-append_cases}
 use Rattle.world.proofs.growing.Growth.{SessionGrows, Grows}
 use Rattle.world.proofs.safety.Invariant.{EnvelopeSound, IsOpen, SessionSound, AnsweredFrom, CompletedSound, Inv}
 use Rattle.world.proofs.safety.Lasting.{same_shard_grows, same_session_grows}
@@ -66,7 +66,7 @@ pub record SessionAble (top : TopologyValue) (w : Run) (node : ℕ) (st : Sessio
   pub grows : SessionGrows top (w.sessions node) (session_taken st.state)
   pub session : SessionSound top w node (session_taken st.state)
   pub completed : (c : Completed) → ended_by w.submitted node st ≡ Some c → CompletedSound top w c
-  pub sends : (x : Run) → Grows top w x → x.sessions node ≡ session_taken st.state → (e : Envelope) → Among e st.sends → EnvelopeSound top x e
+  pub sends : (x : Run) → Grows top w x → x.sessions node ≡ session_taken st.state → (e : Envelope) → Contains st.sends e → EnvelopeSound top x e
   pub turn : Stays (w.sessions node) st.state ⊎ Ends top w node st.state
 
 pub session_actor_grows : (top : TopologyValue) (f : ℕ → SessionState) (node : ℕ) (b : SessionState) → SessionGrows top (f node) b → (m : ℕ)
@@ -104,7 +104,7 @@ session_step_kept top w node st ev inv k of =
       shards = λ m. shard_grows gr (inv.shards m);
       played = session_played top w x node st.sends (λ m. refl) refl of inv.played;
       sessions = session_actor_sound top x w.sessions node (session_taken st.state) (λ m. session_grows gr (inv.sessions m)) (session_grows gr k.session);
-      sent = λ e m. elim (among_append e w.sent st.sends m) [
+      sent = λ e m. elim (Contains-append_cases w.sent st.sends e m) [
         | inl o ↦ says_grows top e.from e.to e.time gr e.body (inv.sent e o)
         | inr n ↦ k.sends x gr (actor_same w.sessions node (session_taken st.state)) e n
       ];

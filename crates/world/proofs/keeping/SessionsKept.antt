@@ -1,5 +1,6 @@
 -- Each message that a session hears keeps all.
 use Rattle.std.proofs.Common.{◌≡◌, ℕ, ◌+◌, ◌<◌, ◌≤◌, max, Bool, true, false, not, List, [], ◌∷◌, map, ◌⊎◌, None, inl, inr, refl, sym, ap, ap₂, ◌∙◌, subst, arith, le_refl, le_trans}
+use Rattle.std.specs.Prelude.{Contains}
 use Rattle.std.specs.List.{list_all}
 use Rattle.logical_time.specs.Stamps.{StampValue, TxnValue, WriterValue}
 use Rattle.slice.specs.declared.read.Read.{Read}
@@ -18,7 +19,7 @@ use Rattle.messages.specs.Rounds.{asked_nodes, all_heard, effective_time, late_k
 use Rattle.messages.specs.SessionEvents.{answered, given_up, written, read_at_of, left_after, heard}
 use Rattle.messages.proofs.Greatest.{effective_above_floor}
 use Rattle.world.specs.Run.{Run, Submission}
-use Rattle.world.proofs.lists.Among.{Among, last_or_old, map_only, filter_among, same_txn}
+use Rattle.world.proofs.lists.Members.{none_in_empty, contains_one, last_or_old, mapped_from, contains_filter, same_txn}
 use Rattle.world.proofs.growing.Growth.{FirstAsked, SecondAsked, AskedAt}
 use Rattle.world.proofs.safety.Facts.{txn_of, IsWritten, lead, IsDecided, IsDone, DecisionSound, AnswersNow, AnswersAt}
 use Rattle.world.proofs.safety.Invariant.{IsAtHome, TellsCommit, MovesTo, MayWait, of_shard, of_move, TellsNow, TellsAt, EnvelopeSound, IsOpen, HeardNowSound, HeardAtSound, WritingSound, FirstSound, SecondSound, MovingSound, OpenSound, AnsweredFrom, Inv, Hears}
@@ -78,11 +79,8 @@ module _ (top : TopologyValue) (w : Run) (node n : ℕ) (some : 0 < top.shards) 
       ended_able top w node n inv le a.home (max a.floor commit) (record { txn = t; shard = c } ∷ []) (outcome.Wrote commit stamp) (op.Batch k.batch) (λ same. omega arith) (omega arith) k.opened tt
       (subst (λ m. IsDecided w m (record { session = node; number = a.count }) commit stamp) (decided_lead c from t commit stamp k d here is)
       (subst (λ u. IsDecided w from u commit stamp) is d))
-      (λ u m. elim m [ inl q ↦ subst (λ z. IsDone top w a.home z.txn (max a.floor commit + 1)) (sym q) done | inr o ↦ absurd o ])
-      (λ u m. elim m [
-        | inl q ↦ subst (λ s. s < top.shards) (sym (ap (λ z. z.shard) q ∙ k.coordinator)) (coordinator_below top.shards k.batch some)
-        | inr o ↦ absurd o
-      ])
+      (λ u m. subst (λ z. IsDone top w a.home z.txn (max a.floor commit + 1)) (sym (contains_one _ u m)) done)
+      (λ u m. subst (λ s. s < top.shards) (sym (ap (λ z. z.shard) (contains_one _ u m) ∙ k.coordinator)) (coordinator_below top.shards k.batch some))
       (ap is_idle current) refl
       (omega arith, (c, ap (λ (u : TxnValue). let z : WriterValue = record { txn = u; shard = c } in z ∷ []) is))
 
@@ -103,7 +101,7 @@ module _ (top : TopologyValue) (w : Run) (node n : ℕ) (some : 0 < top.shards) 
               among = opened.among;
               txn = open_txn opened;
               done = λ k m.
-                  done_grows (same_run top w) (omega arith) ((inv.sessions node).dependencies k (subst (λ ds. Among k ds) depends m));
+                  done_grows (same_run top w) (omega arith) ((inv.sessions node).dependencies k (subst (λ ds. Contains ds k) depends m));
             };
       })
       (writers_done top w some inv a.home a.floor time read rows a.dependencies from above (inv.sessions node).dependencies)
@@ -130,7 +128,7 @@ module _ (top : TopologyValue) (w : Run) (node n : ℕ) (some : 0 < top.shards) 
       first_is_open = first.opened
 
       -- the answers that were kept before, and this one
-      pub heard_first : (o : Open) (h : HeardNow) → Among h hs → HeardNowSound top w (later o) read h
+      pub heard_first : (o : Open) (h : HeardNow) → Contains hs h → HeardNowSound top w (later o) read h
       heard_first o h m = by (last_or_old h (record { from = from; rows = rows }) old m)
         where
           tells : TellsNow top w from node sent a.count rows
@@ -146,7 +144,7 @@ module _ (top : TopologyValue) (w : Run) (node n : ℕ) (some : 0 < top.shards) 
                 answers = subst (λ z. AnswersNow top w from n z rows) share (answers_now_grow (same_run top w) early tells.answers);
               }
 
-          by : Among h old ⊎ (h ≡ record { from = from; rows = rows }) → HeardNowSound top w (later o) read h
+          by : Contains old h ⊎ (h ≡ record { from = from; rows = rows }) → HeardNowSound top w (later o) read h
           by (inl i) = heard_now_later top w node n inv le o read h (first.heard h i)
           by (inr e) = subst (λ z. HeardNowSound top w (later o) read z) (sym e) new
 
@@ -156,14 +154,14 @@ module _ (top : TopologyValue) (w : Run) (node n : ℕ) (some : 0 < top.shards) 
       pub first_answers : all_heard (asked_nodes top a read) hs ≡ true → late_nodes (asked_nodes top a read) (effective_time a.floor hs) hs ≡ []
           → AnsweredFrom top w a.home read (effective_time a.floor hs) (rows_taken (effective_time a.floor hs) hs [])
       first_answers all none =
-          taken_answers top w (later Idle) read hs some (heard_first Idle) (effective_time a.floor hs) [] refl (λ h m. absurd m) all
+          taken_answers top w (later Idle) read hs some (heard_first Idle) (effective_time a.floor hs) [] refl (λ h m. absurd (none_in_empty h m)) all
           (ap (list_all (was_heard_at [])) none)
 
       kept_able : SessionAble top w node (opened_as n a (FirstRound read hs) [])
       kept_able =
           waits_able top w node n inv le (FirstRound read hs) [] (λ m asked q. subst (λ z. FirstAsked top z m asked) answer.current q)
           (λ t m asked q. absurd (subst (λ z. SecondAsked z t m asked) answer.current q))
-          (record { opened = first.opened; depends = first.depends; heard = heard_first (FirstRound read hs) }) (λ x g is env m. absurd m)
+          (record { opened = first.opened; depends = first.depends; heard = heard_first (FirstRound read hs) }) (λ x g is env m. absurd (none_in_empty env m))
           (sym (ap is_idle answer.current))
 
       second_able : all_heard (asked_nodes top a read) hs ≡ true → (late : List ℕ)
@@ -173,9 +171,9 @@ module _ (top : TopologyValue) (w : Run) (node n : ℕ) (some : 0 < top.shards) 
           let o = SecondRound read time hs [] in
           waits_able top w node n inv le o (map (read_at_of node n a read time hs) late) (λ m asked q. tt)
           (λ t m asked q. absurd (subst (λ z. SecondAsked z t m asked) answer.current q))
-          (record { opened = first.opened; depends = first.depends; first = heard_first o; all = all; time = refl; clock = effective_early; heard = λ h m. absurd m })
+          (record { opened = first.opened; depends = first.depends; first = heard_first o; all = all; time = refl; clock = effective_early; heard = λ h m. absurd (none_in_empty h m) })
           (λ x g is env m.
-          let q = map_only (read_at_of node n a read time hs) late env m in
+          let q = mapped_from (read_at_of node n a read time hs) late env m in
           subst (λ z. EnvelopeSound top x z) (sym q.2)
           (effective_early, subst (λ z. AskedAt z a.count time q.0 (record read { keys = late_keys time hs q.0 })) (sym is) (record { number = le_refl a.count; round = λ r. (refl, refl) })))
           (sym (ap is_idle answer.current))
@@ -195,7 +193,7 @@ module _ (top : TopologyValue) (w : Run) (node n : ℕ) (some : 0 < top.shards) 
       pub second_is_open : IsOpen w node a.count a.home (op.Read read)
       second_is_open = second.opened
 
-      first_later : (o : Open) (h : HeardNow) → Among h first → HeardNowSound top w (later o) read h
+      first_later : (o : Open) (h : HeardNow) → Contains first h → HeardNowSound top w (later o) read h
       first_later o h m = heard_now_later top w node n inv le o read h (second.first h m)
 
       module _ (rows : List RowAt) (answer : SecondAnswer top a from b read time first old (at.Rows rows)) where
@@ -203,7 +201,7 @@ module _ (top : TopologyValue) (w : Run) (node n : ℕ) (some : 0 < top.shards) 
         gs = with_rows_at old from rows
 
         -- the answers that were kept before, and this one
-        heard_second : (o : Open) (h : HeardAt) → Among h gs → HeardAtSound top w (later o) read time first h
+        heard_second : (o : Open) (h : HeardAt) → Contains gs h → HeardAtSound top w (later o) read time first h
         heard_second o h m = by (last_or_old h (record { from = from; rows = rows }) old m)
           where
             tells : TellsAt top w from node a.count answer.bound rows
@@ -220,7 +218,7 @@ module _ (top : TopologyValue) (w : Run) (node n : ℕ) (some : 0 < top.shards) 
                       subst (λ z. AnswersAt top w from time z rows) share.1 (subst (λ z. AnswersAt top w from z tells.read rows) (sym share.0) tells.answers);
                 }
 
-            by : Among h old ⊎ (h ≡ record { from = from; rows = rows }) → HeardAtSound top w (later o) read time first h
+            by : Contains old h ⊎ (h ≡ record { from = from; rows = rows }) → HeardAtSound top w (later o) read time first h
             by (inl i) = heard_at_later top w node n inv le o read time first h (second.heard h i)
             by (inr e) = subst (λ z. HeardAtSound top w (later o) read time first z) (sym e) new
 
@@ -239,7 +237,7 @@ module _ (top : TopologyValue) (w : Run) (node n : ℕ) (some : 0 < top.shards) 
               time = second.time;
               clock = le_trans second.clock le;
               heard = heard_second o;
-            }) (λ x g is env m. absurd m) (sym (ap is_idle is_open))
+            }) (λ x g is env m. absurd (none_in_empty env m)) (sym (ap is_idle is_open))
 
         ends_at_able : all_heard_at (asked_nodes top a read) time first gs ≡ true → SessionAble top w node (answered n a read time (rows_taken time first gs))
         ends_at_able all =
@@ -264,7 +262,7 @@ module _ (top : TopologyValue) (w : Run) (node n : ℕ) (some : 0 < top.shards) 
       there : dc_of top from ≡ dc
       there = by tells.1
         where
-          one : (s : Submission) → Among s w.submitted → txn_of s ≡ record { session = node; number = a.count } → s.op ≡ op.Move dc
+          one : (s : Submission) → Contains w.submitted s → txn_of s ≡ record { session = node; number = a.count } → s.op ≡ op.Move dc
           one s m e = ap (λ z. z.op) (inv.submitted.one s moving.opened.submission m moving.opened.among (e ∙ sym (open_txn moving.opened))) ∙ moving.opened.op
 
           by : MayWait top w from (record { session = node; number = a.count }) node → dc_of top from ≡ dc
@@ -281,26 +279,26 @@ module _ (top : TopologyValue) (w : Run) (node n : ℕ) (some : 0 < top.shards) 
       floor_early = let below = moving.clock in let time = tells.0.1.time in omega arith
 
       -- each dependency is still missing, or decided there by the greatest time so far
-      still_or_done : (u : WriterValue) → Among u a.dependencies → Among u (left_after dependency left) ⊎ IsDone top w dc u.txn (max floor commit + 1)
+      still_or_done : (u : WriterValue) → Contains a.dependencies u → Contains (left_after dependency left) u ⊎ IsDone top w dc u.txn (max floor commit + 1)
       still_or_done u m = go (moving.answered u m) (is_same_txn u.txn dependency) refl
         where
-          go : Among u left ⊎ IsDone top w dc u.txn (floor + 1) → (s : Bool) → is_same_txn u.txn dependency ≡ s
-              → Among u (left_after dependency left) ⊎ IsDone top w dc u.txn (max floor commit + 1)
+          go : Contains left u ⊎ IsDone top w dc u.txn (floor + 1) → (s : Bool) → is_same_txn u.txn dependency ≡ s
+              → Contains (left_after dependency left) u ⊎ IsDone top w dc u.txn (max floor commit + 1)
           go (inr d) s e = inr (done_later (omega arith) d)
           go (inl i) true e = inr (subst (λ t. IsDone top w dc t (max floor commit + 1)) (sym (same_txn u.txn dependency e)) told)
-          go (inl i) false e = inl (filter_among (λ (z : WriterValue). not (is_same_txn z.txn dependency)) left u i (ap not e))
+          go (inl i) false e = inl (contains_filter (λ (z : WriterValue). not (is_same_txn z.txn dependency)) left u i (ap not e))
 
       counted_able : SessionAble top w node (opened_as n a (Moving dc (left_after dependency left) (max floor commit)) [])
       counted_able =
           waits_able top w node n inv le (Moving dc (left_after dependency left) (max floor commit)) [] (λ m asked q. tt) (λ t m asked q. tt)
           (record { opened = moving.opened; depends = moving.depends; below = moving.below; away = moving.away; clock = floor_early; answered = still_or_done })
-          (λ x g is env m. absurd m) (sym (ap is_idle answer.current))
+          (λ x g is env m. absurd (none_in_empty env m)) (sym (ap is_idle answer.current))
 
       -- at the last answer all is decided there
       arrives_able : left_after dependency left ≡ [] → SessionAble top w node (moved n a dc (max floor commit))
       arrives_able none =
           moved_able top w node n inv le dc (max floor commit) floor_early moving.opened moving.depends moving.away
-          (λ u m. elim (still_or_done u m) [ inl i ↦ absurd (subst (λ l. Among u l) none i) | inr d ↦ d ]) (ap is_idle answer.current)
+          (λ u m. elim (still_or_done u m) [ inl i ↦ absurd (none_in_empty u (subst (λ l. Contains l u) none i)) | inr d ↦ d ]) (ap is_idle answer.current)
 
     -- ## Every message
 

@@ -4,7 +4,7 @@ use Rattle.std.specs.Prelude.{◌==◌}
 use Rattle.messages.specs.Topology.{TopologyValue}
 use Rattle.messages.specs.Shard.{ShardState, ShardStep}
 use Rattle.world.specs.Run.{Run, RunEvent, with_actor, after_shard}
-use Rattle.world.proofs.lists.Among.{among_append}
+use Rattle.world.proofs.lists.Members.{Contains-append_cases}
 use Rattle.world.proofs.growing.Growth.{ShardGrows, Grows}
 use Rattle.world.proofs.safety.Invariant.{Played, ShardSound, Inv}
 use Rattle.world.proofs.safety.Able.{AddsSound, Able}
@@ -63,7 +63,7 @@ shard_step_kept top w node st ev inv k played =
       shards = actor_sound top x w.shards node st.state (λ m. shard_grows gr (inv.shards m)) (fresh_sound (shard_grows gr (inv.shards node)) f);
       played = played;
       sessions = λ i. session_grows gr (inv.sessions i);
-      sent = λ e m. elim (among_append e w.sent st.sends m) [ inl o ↦ says_grows top e.from e.to e.time gr e.body (inv.sent e o) | inr n ↦ f.sends e n ];
+      sent = λ e m. elim (Contains-append_cases w.sent st.sends e m) [ inl o ↦ says_grows top e.from e.to e.time gr e.body (inv.sent e o) | inr n ↦ f.sends e n ];
       submitted = record { accepted = inv.submitted.accepted; number = inv.submitted.number; one = inv.submitted.one; placed = inv.submitted.placed };
       transcript = λ c m. completed_grows gr (inv.transcript c m);
     }

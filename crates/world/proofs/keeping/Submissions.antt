@@ -1,6 +1,6 @@
 -- A submission keeps all: its messages are sound, and so is the operation that it opens.
-use Rattle.std.proofs.Common.{◌≡◌, ℕ, ◌+◌, ◌<◌, ◌≤◌, Bool, true, false, List, [], ◌∷◌, ◌++◌, None, ◌⊎◌, inl, inr, refl, sym, ap, ◌∙◌, subst, arith, le_refl, le_trans, le_of_lt, eq-eqb, ltb-true, Ok}
-use Rattle.std.specs.Prelude.{◌==◌, nat_lt}
+use Rattle.std.proofs.Common.{◌≡◌, ℕ, ◌+◌, ◌<◌, ◌≤◌, Bool, true, false, List, [], ◌∷◌, ◌++◌, map, None, ◌⊎◌, inl, inr, refl, sym, ap, ◌∙◌, subst, arith, le_refl, le_trans, le_of_lt, eq-eqb, ltb-true, Ok}
+use Rattle.std.specs.Prelude.{◌==◌, nat_lt, Contains}
 use Rattle.std.proofs.lemmas.Bool.{false≢true}
 use Rattle.logical_time.specs.Stamps.{WriterValue}
 use Rattle.column_family.specs.declared.batch.Change.{Change}
@@ -18,7 +18,7 @@ use Rattle.messages.specs.SessionEvents.{session_taken}
 use Rattle.messages.specs.Submitting.{next_txn, home_node, begin_of, prepare_of, write_begun, share_of, read_begun, check_of, begun, move_fault_if, move_fault, plan_fault}
 use Rattle.messages.proofs.Numbering.{dc_of_shard, number_of_shard}
 use Rattle.world.specs.Run.{Run, RunEvent, Submit, Submission, ended_by, after_submission}
-use Rattle.world.proofs.lists.Among.{Among, among_append, append_first, among_last, last_or_old, map_only}
+use Rattle.world.proofs.lists.Members.{none_in_empty, contains_cases, Contains-push, last_or_old, Contains-append_left, Contains-append_cases, mapped_from}
 use Rattle.world.proofs.growing.Growth.{AskedNow, SessionGrows, Grows}
 use Rattle.world.proofs.safety.Facts.{txn_of, IsWritten, lead, IsDone}
 use Rattle.world.proofs.safety.Invariant.{of_move, EnvelopeSound, IsOpen, MovingSound, OpenSound, SessionSound, SubmittedSound, Inv}
@@ -61,7 +61,7 @@ module _ (top : TopologyValue) (w : Run) (es : List RunEvent) (node n : ℕ) (o 
       record {
         shards = λ m. same_shard_grows (w.shards m);
         sessions = session_actor_grows top w.sessions node state_then (later_grows top (w.sessions node) state_then (le_of_lt lt) refl);
-        submitted = λ b m. append_first b w.submitted (sub ∷ []) m;
+        submitted = λ b m. Contains-append_left w.submitted (sub ∷ []) b m;
         transcript = λ c m. m;
       }
 
@@ -69,7 +69,7 @@ module _ (top : TopologyValue) (w : Run) (es : List RunEvent) (node n : ℕ) (o 
   at_node = actor_same w.sessions node state_then
 
   is_open : IsOpen after node state_then.count state_then.home o
-  is_open = record { submission = sub; among = among_last sub w.submitted; session = refl; number = refl; home = refl; op = refl }
+  is_open = record { submission = sub; among = Contains-push w.submitted sub; session = refl; number = refl; home = refl; op = refl }
 
   session_sound : OpenSound top after node state_then current → SessionSound top after node state_then
   session_sound sound =
@@ -82,20 +82,20 @@ module _ (top : TopologyValue) (w : Run) (es : List RunEvent) (node n : ℕ) (o 
       }
 
   -- no earlier operation has its number
-  old_below : (b : Submission) → Among b w.submitted → txn_of b ≡ txn_of sub → ⊥
+  old_below : (b : Submission) → Contains w.submitted b → txn_of b ≡ txn_of sub → ⊥
   old_below b m e =
       let le = inv.submitted.number b m in
       let numbers = ap (λ t. t.number) e in
       let counts = ap (λ t. (w.sessions t.session).count) e in
       omega arith
 
-  one_go : (b c : Submission) → Among b w.submitted ⊎ (b ≡ sub) → Among c w.submitted ⊎ (c ≡ sub) → txn_of b ≡ txn_of c → b ≡ c
+  one_go : (b c : Submission) → Contains w.submitted b ⊎ (b ≡ sub) → Contains w.submitted c ⊎ (c ≡ sub) → txn_of b ≡ txn_of c → b ≡ c
   one_go b c (inl i) (inl j) e = inv.submitted.one b c i j e
   one_go b c (inl i) (inr q) e = absurd (old_below b i (e ∙ ap txn_of q))
   one_go b c (inr p) (inl j) e = absurd (old_below c j (sym e ∙ ap txn_of p))
   one_go b c (inr p) (inr q) e = p ∙ sym q
 
-  number_go : (b : Submission) → Among b w.submitted ⊎ (b ≡ sub) → b.number ≤ (after.sessions b.session).count
+  number_go : (b : Submission) → Contains w.submitted b ⊎ (b ≡ sub) → b.number ≤ (after.sessions b.session).count
   number_go b (inl i) = le_trans (inv.submitted.number b i) (submission_grows.sessions b.session).count
   number_go b (inr q) =
       subst (λ z. z.number ≤ (after.sessions z.session).count) (sym q) (subst (λ z. sub.number ≤ z.count) (sym at_node) (le_refl sub.number))
@@ -108,18 +108,18 @@ module _ (top : TopologyValue) (w : Run) (es : List RunEvent) (node n : ℕ) (o 
         one = λ b c i j e. one_go b c (last_or_old b sub w.submitted i) (last_or_old c sub w.submitted j) e;
         placed = λ b k m i. elim (last_or_old b sub w.submitted m) [
           | inl j ↦ inv.submitted.placed b k j i
-          | inr q ↦ (inv.sessions node).placed k (subst (λ ds. Among k ds) (ap (λ z. z.dependencies) q) i)
+          | inr q ↦ (inv.sessions node).placed k (subst (λ ds. Contains ds k) (ap (λ z. z.dependencies) q) i)
         ];
       }
 
-  pub opens_kept : plan_fault top (w.sessions node).home o ≡ None → OpenSound top after node state_then current → ((e : Envelope) → Among e sends → EnvelopeSound top after e) → AreOfSession node sends → Inv top after
+  pub opens_kept : plan_fault top (w.sessions node).home o ≡ None → OpenSound top after node state_then current → ((e : Envelope) → Contains sends e → EnvelopeSound top after e) → AreOfSession node sends → Inv top after
   opens_kept accepted sound send of =
       let gr = submission_grows in
       record {
         shards = λ m. shard_grows gr (inv.shards m);
         played = session_played top w after node sends (λ m. refl) refl of inv.played;
         sessions = session_actor_sound top after w.sessions node state_then (λ m. session_grows gr (inv.sessions m)) (session_sound sound);
-        sent = λ e m. elim (among_append e w.sent sends m) [ inl i ↦ says_grows top e.from e.to e.time gr e.body (inv.sent e i) | inr i ↦ send e i ];
+        sent = λ e m. elim (Contains-append_cases w.sent sends e m) [ inl i ↦ says_grows top e.from e.to e.time gr e.body (inv.sent e i) | inr i ↦ send e i ];
         submitted = submitted_sound accepted;
         transcript = λ c m. completed_grows gr (inv.transcript c m);
       }
@@ -146,7 +146,7 @@ module _ (top : TopologyValue) (w : Run) (node n : ℕ) (batch : List Change) (s
   write_grows = submission_grows top w write_events node n (op.Batch batch) inv lt began.state.current began.sends
 
   is_written : IsWritten written (next_txn node state) (its_submission w node n (op.Batch batch)) batch
-  is_written = record { among = among_last _ w.submitted; txn = refl; op = refl }
+  is_written = record { among = Contains-push w.submitted _; txn = refl; op = refl }
 
   begin_sound : EnvelopeSound top written (begin_of top node n state batch)
   begin_sound =
@@ -167,7 +167,7 @@ module _ (top : TopologyValue) (w : Run) (node n : ℕ) (batch : List Change) (s
         stamp = here;
       }
 
-  prepare_sound : (s : ℕ) → Among s (cohorts_of top.shards batch) → EnvelopeSound top written (prepare_of top node n state batch s)
+  prepare_sound : (s : ℕ) → Contains (cohorts_of top.shards batch) s → EnvelopeSound top written (prepare_of top node n state batch s)
   prepare_sound s m =
       let c = cohort_below top.shards batch s m in
       let number = number_of_shard top state.home s c in
@@ -177,15 +177,17 @@ module _ (top : TopologyValue) (w : Run) (node n : ℕ) (batch : List Change) (s
         written = is_written;
         coordinator = refl;
         rows = ap (part_for top.shards (normal_of batch)) (sym number);
-        cohort = subst (λ z. Among z (cohorts_of top.shards batch)) (sym number) m;
+        cohort = subst (λ z. Contains (cohorts_of top.shards batch) z) (sym number) m;
         origin = dc_of_shard top state.home s c;
       }
 
-  write_sends : (e : Envelope) → Among e began.sends → EnvelopeSound top written e
-  write_sends e (inl q) = subst (λ z. EnvelopeSound top written z) (sym q) begin_sound
-  write_sends e (inr m) =
-      let q = map_only (prepare_of top node n state batch) (cohorts_of top.shards batch) e m in
-      subst (λ z. EnvelopeSound top written z) (sym q.2) (prepare_sound q.0 q.1)
+  write_sends : (e : Envelope) → Contains began.sends e → EnvelopeSound top written e
+  write_sends e m = elim (contains_cases (begin_of top node n state batch) e (map (prepare_of top node n state batch) (cohorts_of top.shards batch)) m) [
+    | inl q ↦ subst (λ z. EnvelopeSound top written z) (sym q) begin_sound
+    | inr r ↦
+        let q = mapped_from (prepare_of top node n state batch) (cohorts_of top.shards batch) e r in
+        subst (λ z. EnvelopeSound top written z) (sym q.2) (prepare_sound q.0 q.1)
+  ]
 
   write_kept : plan_fault top (w.sessions node).home (op.Batch batch) ≡ None → Inv top written
   write_kept accepted =
@@ -205,16 +207,16 @@ module _ (top : TopologyValue) (w : Run) (node n : ℕ) (read : Read) (inv : Inv
   abbrev read_events : List RunEvent
   read_events = w.events ++ Submit node (op.Read read) ∷ []
 
-  read_sound : (s : ℕ) → Among s (shards_asked top.shards read.keys)
+  read_sound : (s : ℕ) → Contains (shards_asked top.shards read.keys) s
       → AskedNow top (asking.sessions node) starts.state.count (home_node top (w.sessions node) s) (share_of top read s)
   read_sound s m =
       let number = number_of_shard top (w.sessions node).home s (asked_below top.shards read.keys s m) in
       subst (λ z. AskedNow top z starts.state.count (home_node top (w.sessions node) s) (share_of top read s)) (sym (actor_same w.sessions node starts.state))
       (record { number = le_refl starts.state.count; round = λ q. ap (share_of top read) (sym number) })
 
-  read_sends : (e : Envelope) → Among e starts.sends → EnvelopeSound top asking e
+  read_sends : (e : Envelope) → Contains starts.sends e → EnvelopeSound top asking e
   read_sends e m =
-      let q = map_only (λ s. envelope node (home_node top (w.sessions node) s) n (body.Read starts.state.count (share_of top read s))) (shards_asked top.shards read.keys) e m in
+      let q = mapped_from (λ s. envelope node (home_node top (w.sessions node) s) n (body.Read starts.state.count (share_of top read s))) (shards_asked top.shards read.keys) e m in
       subst (λ z. EnvelopeSound top asking z) (sym q.2) (read_sound q.0 q.1)
 
   read_kept : plan_fault top (w.sessions node).home (op.Read read) ≡ None → Inv top asking
@@ -222,7 +224,7 @@ module _ (top : TopologyValue) (w : Run) (node n : ℕ) (read : Read) (inv : Inv
   read_kept accepted =
       let o = op.Read read in
       opens_kept top w read_events node n o inv lt starts.state.current starts.sends accepted
-      (record { opened = is_open top w read_events node n o inv lt starts.state.current starts.sends; depends = refl; heard = λ h m. absurd m }) read_sends (begun_sends top node n (w.sessions node) o)
+      (record { opened = is_open top w read_events node n o inv lt starts.state.current starts.sends; depends = refl; heard = λ h m. absurd (none_in_empty h m) }) read_sends (begun_sends top node n (w.sessions node) o)
 
 -- ## A move
 
@@ -239,7 +241,7 @@ module _ (top : TopologyValue) (w : Run) (node n dc : ℕ) (inv : Inv top w) (lt
   abbrev leaving : SessionState
   leaving = w.sessions node
 
-  moving_sound : (es : List RunEvent) (left : List WriterValue) (sends : List Envelope) → ((k : WriterValue) → Among k leaving.dependencies → Among k left)
+  moving_sound : (es : List RunEvent) (left : List WriterValue) (sends : List Envelope) → ((k : WriterValue) → Contains leaving.dependencies k → Contains left k)
       → MovingSound top (opened_run es w node n (op.Move dc) (Moving dc left 0) sends) node (opened_state w node n (Moving dc left 0)) dc left 0
   unfolding is_open
   moving_sound es left sends all =
@@ -262,18 +264,18 @@ module _ (top : TopologyValue) (w : Run) (node n dc : ℕ) (inv : Inv top w) (lt
   departed = after_submission (Ok departs) w node (op.Move dc)
 
   -- each check goes to the data centre that the session moves to
-  check_sound : (k : WriterValue) → Among k leaving.dependencies → EnvelopeSound top departed (check_of top node n leaving dc k)
+  check_sound : (k : WriterValue) → Contains leaving.dependencies k → EnvelopeSound top departed (check_of top node n leaving dc k)
   check_sound k m =
-      of_move (its_submission w node n (op.Move dc)) (among_last _ w.submitted) refl refl (sym (dc_of_shard top dc k.shard ((inv.sessions node).placed k m)))
+      of_move (its_submission w node n (op.Move dc)) (Contains-push w.submitted _) refl refl (sym (dc_of_shard top dc k.shard ((inv.sessions node).placed k m)))
 
-  check_sends : (e : Envelope) → Among e departs.sends → EnvelopeSound top departed e
+  check_sends : (e : Envelope) → Contains departs.sends e → EnvelopeSound top departed e
   check_sends e m =
-      let q = map_only (check_of top node n leaving dc) leaving.dependencies e m in
+      let q = mapped_from (check_of top node n leaving dc) leaving.dependencies e m in
       subst (λ z. EnvelopeSound top departed z) (sym q.2) (check_sound q.0 q.1)
 
   checks_own : AreOfSession node departs.sends
   checks_own e m =
-      let q = map_only (check_of top node n leaving dc) leaving.dependencies e m in
+      let q = mapped_from (check_of top node n leaving dc) leaving.dependencies e m in
       subst (λ (z : Envelope). (z.from ≡ node) × IsOfSession z.body) (sym q.2) (refl, tt)
 
   pub move_kept : Inv top departed
@@ -291,7 +293,7 @@ module _ (top : TopologyValue) (w : Run) (node n dc : ℕ) (inv : Inv top w) (lt
     pub move_open_kept : Inv top (move_open w node n dc)
     move_open_kept =
         opens_kept top w w.events node n (op.Move dc) inv lt (Moving dc [] 0) [] accepted
-        (moving_sound w.events [] [] (λ k m. subst (λ ds. Among k ds) none m)) (λ e m. absurd m) (λ e m. absurd m)
+        (moving_sound w.events [] [] (λ k m. subst (λ ds. Contains ds k) none m)) (λ e m. absurd (none_in_empty e m)) (λ e m. absurd (none_in_empty e m))
 
     -- what is open ends at the same clock
     pub at_once_able : SessionAble top (move_open w node n dc) node (moved n ((move_open w node n dc).sessions node) dc 0)
@@ -303,7 +305,7 @@ module _ (top : TopologyValue) (w : Run) (node n dc : ℕ) (inv : Inv top w) (lt
     at_once_kept =
         let x = move_open w node n dc in
         subst (Inv top) (ends_at_once w node n dc)
-        (session_step_kept top x node (moved n (x.sessions node) dc 0) (Submit node (op.Move dc)) move_open_kept at_once_able (λ e m. absurd m))
+        (session_step_kept top x node (moved n (x.sessions node) dc 0) (Submit node (op.Move dc)) move_open_kept at_once_able (λ e m. absurd (none_in_empty e m)))
 
 at_once_grows : (top : TopologyValue) (w : Run) (node n dc : ℕ) → (w.sessions node).clock < n
     → Grows top w (after_submission (Ok (moved_at_once n (w.sessions node) dc)) w node (op.Move dc))
@@ -312,7 +314,7 @@ at_once_grows top w node n dc lt =
     record {
       shards = λ m. same_shard_grows (w.shards m);
       sessions = session_actor_grows top w.sessions node (session_taken st.state) (later_grows top (w.sessions node) (session_taken st.state) (le_of_lt lt) refl);
-      submitted = λ b m. append_first b w.submitted (its_submission w node n (op.Move dc) ∷ []) m;
+      submitted = λ b m. Contains-append_left w.submitted (its_submission w node n (op.Move dc) ∷ []) b m;
       transcript = λ c m. old_stays c w.transcript (ended_by (w.submitted ++ its_submission w node n (op.Move dc) ∷ []) node st) m;
     }
 

@@ -18,7 +18,7 @@ use Rattle.world.specs.Quiet.{IsQuiet}
 use Rattle.world.specs.Settled.{Settled}
 use Rattle.world.specs.Each.{EachShardIsRight}
 use Rattle.world.specs.Promises.{number_of, LaterCommitsAreAbove, EntriesAreOfSubmissions, OutcomesAreListed, ReadsShowOneTable, AnswersStay, ReadsShowTheirPast, MovesBringTheirPast, ReadsAreFresh, StampsFollowCauses, TimesNeverFall, OperationsEndOnce, HistoriesGrow, HandledIsHonest}
-use Rattle.world.proofs.lists.Among.{Among, among_contains, contains_among, append_first}
+use Rattle.world.proofs.lists.Members.{none_in_empty, Contains-append_left}
 use Rattle.world.proofs.growing.Growth.{Grows}
 use Rattle.world.proofs.safety.Facts.{lead, IsDone}
 use Rattle.world.proofs.safety.Invariant.{AnsweredFrom, Inv}
@@ -54,21 +54,21 @@ reads_show_one_table top events some c read time answer h is history =
 -- ## Causal order
 
 module _ (top : TopologyValue) (some : 0 < top.shards) (w : Run) (inv : Inv top w) where
-  pub rests : (dc time : ℕ) (read : Read) (rows : List RowAt) → AnsweredFrom top w dc read time rows → (u : TxnValue) → ReadRestsOn top w dc read time u → (k : WriterValue) × Among k (writers_in rows) × (k.txn ≡ u)
+  pub rests : (dc time : ℕ) (read : Read) (rows : List RowAt) → AnsweredFrom top w dc read time rows → (u : TxnValue) → ReadRestsOn top w dc read time u → (k : WriterValue) × Contains (writers_in rows) k × (k.txn ≡ u)
   rests dc time read rows from u r =
       let k = rests_on_written top w inv some dc time read rows from u r in
-      (k.0, contains_among k.0 (writers_in rows) k.1, k.2)
+      (k.0, k.1, k.2)
 
-  pub committed : (dc time : ℕ) (read : Read) (rows : List RowAt) → AnsweredFrom top w dc read time rows → (k : WriterValue) → Among k (writers_in rows) → IsDone top w dc k.txn (time + 1)
+  pub committed : (dc time : ℕ) (read : Read) (rows : List RowAt) → AnsweredFrom top w dc read time rows → (k : WriterValue) → Contains (writers_in rows) k → IsDone top w dc k.txn (time + 1)
   committed dc time read rows from k m =
-      writers_done top w some inv dc time time read rows [] from (le_refl time) (λ k m. absurd m) k (new_writers rows [] k m)
+      writers_done top w some inv dc time time read rows [] from (le_refl time) (λ k m. absurd (none_in_empty k m)) k (new_writers rows [] k m)
 
   pub done_here : (dc time : ℕ) (u : TxnValue) (d : IsDone top w dc u time) → Contains (decisions_in top w dc) d.decision
   done_here dc time u d =
-      let at : Among d.decision (w.shards (shard_node top dc (shard_of top d.node))).decided =
-      subst (λ z. Among d.decision (w.shards (shard_node top z (shard_of top d.node))).decided) d.here
-      (subst (λ z. Among d.decision (w.shards z).decided) (sym (shard_again top d.node)) d.among) in
-      among_contains d.decision (decisions_in top w dc) (in_decisions top w dc (shard_of top d.node) d.decision (shard_below top d.node some) at)
+      let at : Contains (w.shards (shard_node top dc (shard_of top d.node))).decided d.decision =
+      subst (λ z. Contains (w.shards (shard_node top z (shard_of top d.node))).decided d.decision) d.here
+      (subst (λ z. Contains (w.shards z).decided d.decision) (sym (shard_again top d.node)) d.among) in
+      in_decisions top w dc (shard_of top d.node) d.decision (shard_below top d.node some) at
 
   done_committed : (dc time : ℕ) (u : TxnValue) → IsDone top w dc u (time + 1) → IsCommittedBy top w dc u time
   done_committed dc time u d = let lt = d.commit in (d.decision, done_here dc (time + 1) u d, d.txn, omega arith)
@@ -81,21 +81,21 @@ reads_show_their_past top events some c read time answer u is past =
     let w = run top events in
     let inv = every_run top events some in
     let r = past_reached top w some inv (every_causal top events some) (rests top some w inv) (committed top some w inv) u (record { session = c.node; number = c.number }) past in
-    done_committed top some w inv c.home time u (r.read c (contains_among c w.transcript is.completed) refl read time answer is.op is.outcome)
+    done_committed top some w inv c.home time u (r.read c is.completed refl read time answer is.op is.outcome)
 
 pub moves_bring_their_past : (top : TopologyValue) (events : List RunEvent) → 0 < top.shards → MovesBringTheirPast top (run top events)
 moves_bring_their_past top events some c dc floor u has came past =
     let w = run top events in
     let inv = every_run top events some in
     let r = past_reached top w some inv (every_causal top events some) (rests top some w inv) (committed top some w inv) u (record { session = c.node; number = c.number }) past in
-    done_committed top some w inv dc floor u (r.move c (contains_among c w.transcript has) refl dc floor came)
+    done_committed top some w inv dc floor u (r.move c has refl dc floor came)
 
 pub stamps_follow_causes : (top : TopologyValue) (events : List RunEvent) → 0 < top.shards → StampsFollowCauses top (run top events)
 stamps_follow_causes top events some u v dc ec d e past hd qd he qe =
     let w = run top events in
     let inv = every_run top events some in
     let r = past_reached top w some inv (every_causal top events some) (rests top some w inv) (committed top some w inv) u v past in
-    let at = decided_in top w inv ec e (contains_among e (decisions_in top w ec) he) in
+    let at = decided_in top w inv ec e he in
     let home = at.sound.stamp.decided in
     let done = r.write (lead top at.sound.submission.home at.sound.batch) home.decision home.among (home.txn ∙ at.sound.written.txn ∙ qe) in
     let first = (inv.shards done.node).decided done.decision done.among in
@@ -110,8 +110,8 @@ stamps_follow_causes top events some u v dc ec d e past hd qd he qe =
 pub times_never_fall : (top : TopologyValue) (events : List RunEvent) → 0 < top.shards → TimesNeverFall (run top events)
 times_never_fall top events some c e hc he node number stays =
     let w = run top events in
-    (every_causal top events some).ordered c e (contains_among c w.transcript hc) (contains_among e w.transcript he) node number
-    (λ d m. stays d (among_contains d w.transcript m))
+    (every_causal top events some).ordered c e hc he node number
+    (λ d m. stays d m)
 
 ended_apart : (cs : List Completed) → EndedOnce cs → AllPairs (λ c e. number_of c ≢ number_of e) cs
 ended_apart [] k = no_pairs (λ c e. number_of c ≢ number_of e)
@@ -123,10 +123,10 @@ operations_end_once top events some = ended_apart (run top events).transcript (e
 pub entries_are_of_submissions : (top : TopologyValue) (events : List RunEvent) → 0 < top.shards → EntriesAreOfSubmissions (run top events)
 entries_are_of_submissions top events some c has =
     let w = run top events in
-    let k = (every_run top events some).transcript c (contains_among c w.transcript has) in
+    let k = (every_run top events some).transcript c has in
     record {
       submission = k.opened.submission;
-      submitted = among_contains k.opened.submission w.submitted k.opened.among;
+      submitted = k.opened.among;
       session = k.opened.session;
       number = k.opened.number;
       home = k.opened.home;
@@ -146,10 +146,10 @@ answers_stay top before after some c read time answer h is history =
     let w = run top before in
     let v = run top (before ++ after) in
     let more = (runs_only_grow top before after).transcript in
-    let still : Among c v.transcript =
-    subst (λ l. Among c l) (sym more.1) (append_first c w.transcript more.0 (contains_among c w.transcript is.completed)) in
+    let still : Contains v.transcript c =
+    subst (λ l. Contains l c) (sym more.1) (Contains-append_left w.transcript more.0 c is.completed) in
     reads_show_one_table top (before ++ after) some c read time answer h
-    (record { completed = among_contains c v.transcript still; op = is.op; outcome = is.outcome }) history
+    (record { completed = still; op = is.op; outcome = is.outcome }) history
 
 -- ## Histories
 

@@ -11,7 +11,7 @@ use Rattle.world.specs.Run.{Completed, run}
 use Rattle.world.specs.Histories.{history_of}
 use Rattle.world.specs.Journals.{finished_as, ended_at, DoFit}
 use Rattle.world.specs.Threads.{op_numbered, home_by, JournalsShowOneTable, ThreadsKeepPromises}
-use Rattle.world.proofs.lists.Among.{Among, among_contains, contains_among, map_only, filter_only}
+use Rattle.world.proofs.lists.Members.{mapped_from, filter_contains}
 use Rattle.world.proofs.causal.Homes.{homes_are_of_moves}
 use Rattle.world.proofs.causal.HomesThere.{home_is_there}
 use Rattle.world.proofs.envelopes.Addresses.{stands}
@@ -30,11 +30,11 @@ show_one_table top journals ok fit node read time answer h here a all =
     let told = told_by_journals top journals events s.some found.1 in
     let f : Finished = record { number = a.number; outcome = outcome.Read time answer } in
     let own = filter (λ (z : Completed). z.node == node) w.transcript in
-    let ended : Among f (map finished_as own) =
-    contains_among f (map finished_as own) (subst (λ l. Contains l f) (ap finished_in (told.actors node (session_node_counts top node here))) a.ended) in
-    let c = map_only finished_as own f ended in
-    let among = filter_only (λ (z : Completed). z.node == node) w.transcript c.0 c.1 in
-    let is = among_contains c.0 w.transcript among.0 in
+    let ended : Contains (map finished_as own) f =
+    (subst (λ l. Contains l f) (ap finished_in (told.actors node (session_node_counts top node here))) a.ended) in
+    let c = mapped_from finished_as own f ended in
+    let among = filter_contains (λ (z : Completed). z.node == node) w.transcript c.0 c.1 in
+    let is = among.0 in
     let of = entries_are_of_submissions top events s.some c.0 is in
     let b = of.submission in
     let session : b.session ≡ node = of.session ∙ eqb-true c.0.node node among.1 in

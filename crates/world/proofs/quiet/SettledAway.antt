@@ -1,6 +1,6 @@
 -- In a quiet run what another data centre submitted is decided here, once what it depends on is.
 use Rattle.std.proofs.Common.{◌≡◌, ℕ, ◌<◌, not, List, ◌⊎◌, inl, inr, refl, sym, ap, ◌∙◌, subst, subst₂}
-use Rattle.std.specs.Prelude.{◌==◌}
+use Rattle.std.specs.Prelude.{◌==◌, Contains}
 use Rattle.std.specs.List.{range_with_len}
 use Rattle.std.proofs.lemmas.Bool.{ne_eqb}
 use Rattle.logical_time.specs.Stamps.{TxnValue, WriterValue}
@@ -14,7 +14,7 @@ use Rattle.messages.specs.Shard.{Role, Own, Cohort, Replica, KeptBallot}
 use Rattle.messages.proofs.Numbering.{dc_of_shard, number_of_shard}
 use Rattle.world.specs.Run.{Run, Submission}
 use Rattle.world.specs.Quiet.{IsQuiet}
-use Rattle.world.proofs.lists.Among.{Among, contains_among, filter_among}
+use Rattle.world.proofs.lists.Members.{contains_filter}
 use Rattle.world.proofs.safety.Facts.{txn_of, IsWritten, near, lead, RoleFits}
 use Rattle.world.proofs.safety.Invariant.{MovesTo, Inv}
 use Rattle.world.proofs.safety.OneBatch.{written_at, submitted_one, batch_one}
@@ -26,7 +26,7 @@ use Rattle.world.proofs.quiet.Settling.{each_or, act, cohort_undecided, known_de
 module _ (top : TopologyValue) (w : Run) (some : 0 < top.shards) (inv : Inv top w) (live : Live top w) (quiet : IsQuiet w)
     (b : Submission) (batch : List Change) (k : IsWritten w (txn_of b) b batch) (dc : ℕ) (lt : dc < top.dcs) (ne : dc ≡ b.home → ⊥)
     -- what it depends on is decided in this data centre
-    (before : (u : WriterValue) → Among u b.dependencies → (c : Submission) (other : List Change) → IsWritten w u.txn c other → HasDecision
+    (before : (u : WriterValue) → Contains b.dependencies u → (c : Submission) (other : List Change) → IsWritten w u.txn c other → HasDecision
     (w.shards (lead top dc other)) u.txn) where
   abbrev t : TxnValue
   t = txn_of b
@@ -48,9 +48,9 @@ module _ (top : TopologyValue) (w : Run) (some : 0 < top.shards) (inv : Inv top 
   here = ap (λ d. lead top d batch) (sym dc_here)
 
   -- this data centre is another than that of a shard there
-  other : (node : ℕ) → dc_of top node ≡ b.home → Among dc (other_dcs top node)
+  other : (node : ℕ) → dc_of top node ≡ b.home → Contains (other_dcs top node) dc
   other node e =
-      filter_among (λ d. not (d == dc_of top node)) (range_with_len 0 top.dcs) dc (contains_among dc _ (contains_below top.dcs dc lt))
+      contains_filter (λ d. not (d == dc_of top node)) (range_with_len 0 top.dcs) dc (contains_below top.dcs dc lt)
       (ap not (ne_eqb dc (dc_of top node) (λ q. ne (q ∙ e))))
 
   decided_there : HasDecision (w.shards s0) t
@@ -68,7 +68,7 @@ module _ (top : TopologyValue) (w : Run) (some : 0 < top.shards) (inv : Inv top 
 
   -- ## Each cohort's notice
 
-  module _ (c : ℕ) (m : Among c (cohorts_of top.shards batch)) where
+  module _ (c : ℕ) (m : Contains (cohorts_of top.shards batch) c) where
     below : c < top.shards
     below = cohort_below top.shards batch c m
 
@@ -94,11 +94,11 @@ module _ (top : TopologyValue) (w : Run) (some : 0 < top.shards) (inv : Inv top 
     number_c0 : shard_of top c0 ≡ c
     number_c0 = number_of_shard top (dc_of top s0) c below
 
-    cohort_here : Among (shard_of top c1) (cohorts_of top.shards batch)
-    cohort_here = subst (λ z. Among z (cohorts_of top.shards batch)) (sym number_c1) m
+    cohort_here : Contains (cohorts_of top.shards batch) (shard_of top c1)
+    cohort_here = subst (λ z. Contains (cohorts_of top.shards batch) z) (sym number_c1) m
 
     abbrev Noticed : Type 0
-    Noticed = Among (vote_of t c1) (w.shards s).notices ⊎ Knows (w.shards s) t
+    Noticed = Contains (w.shards s).notices (vote_of t c1) ⊎ Knows (w.shards s) t
 
     kept_notice : HasKeptPart (w.shards c1) t → Noticed
     kept_notice (p, i, e) =
@@ -148,7 +148,7 @@ module _ (top : TopologyValue) (w : Run) (some : 0 < top.shards) (inv : Inv top 
   -- ## Each dependency's answer
 
   -- who waits here is a ballot, so no move
-  ballot_met : (r : KeptBallot) → Among r (w.shards s).kept_ballots → (u : TxnValue) → WasCounted w s r.txn u → Among (met_of r.txn u) (w.shards s).met
+  ballot_met : (r : KeptBallot) → Contains (w.shards s).kept_ballots r → (u : TxnValue) → WasCounted w s r.txn u → Contains (w.shards s).met (met_of r.txn u)
   ballot_met r m u (by_ballot k i) = i
   ballot_met r m u (by_move c i is there moves h) =
       let rs = (inv.shards s).kept_ballots r m in
@@ -156,8 +156,8 @@ module _ (top : TopologyValue) (w : Run) (some : 0 < top.shards) (inv : Inv top 
       let none : MovesTo there (op.Batch rs.batch) = subst (MovesTo there) (ap (λ z. z.op) same ∙ rs.written.op) moves in
       absurd none
 
-  met : (r : KeptBallot) → Among r (w.shards s).kept_ballots → (u : WriterValue) → Among u r.dependencies → Among u b.dependencies
-      → Among (met_of r.txn u.txn) (w.shards s).met
+  met : (r : KeptBallot) → Contains (w.shards s).kept_ballots r → (u : WriterValue) → Contains r.dependencies u → Contains b.dependencies u
+      → Contains (w.shards s).met (met_of r.txn u.txn)
   met r m u i j =
       let p = (live.submitted b batch k.among k.op).dependencies u j in
       let s' = near top s u.shard in
@@ -180,11 +180,11 @@ module _ (top : TopologyValue) (w : Run) (some : 0 < top.shards) (inv : Inv top 
       let k' = written_at e rs.written in
       let cs : r.cohorts ≡ cohorts_of top.shards batch = rs.cohorts ∙ ap (cohorts_of top.shards) (batch_one inv.submitted k' k) in
       let ds : r.dependencies ≡ b.dependencies = rs.dependencies ∙ ap (λ z. z.dependencies) (submitted_one inv.submitted k' k) in
-      elim (each_or r.cohorts (λ c m. notice c (subst (λ l. Among c l) cs m))) [
+      elim (each_or r.cohorts (λ c m. notice c (subst (λ l. Contains l c) cs m))) [
         | inl all ↦
             subst (λ u. Knows (w.shards s) u) e
-            ((live.shards s).ready r i (λ c m. subst (λ u. Among (vote_of u (near top s c)) (w.shards s).notices) (sym e) (all c m))
-            (λ u m. met r i u m (subst (λ l. Among u l) ds m)))
+            ((live.shards s).ready r i (λ c m. subst (λ u. Contains (w.shards s).notices (vote_of u (near top s c))) (sym e) (all c m))
+            (λ u m. met r i u m (subst (λ l. Contains l u) ds m)))
         | inr y ↦ y
       ]
 

@@ -15,9 +15,8 @@ use Rattle.store.proofs.lists.Lists.{kept, kept_only}
 use Rattle.messages.specs.Topology.{TopologyValue}
 use Rattle.messages.specs.Shard.{Decision}
 use Rattle.world.specs.Run.{Run, Submission}
-use Rattle.world.specs.Histories.{decisions_in, history_of, IsHistory}
+use Rattle.world.specs.Histories.{history_of, IsHistory}
 use Rattle.world.specs.Settled.{IsCommittedIn, AreEqualTables}
-use Rattle.world.proofs.lists.Among.{Among, among_contains, contains_among}
 use Rattle.world.proofs.safety.Facts.{IsWritten, lead, IsStamp}
 use Rattle.world.proofs.safety.Invariant.{Inv}
 use Rattle.world.proofs.safety.OneBatch.{written_at, submitted_one, batch_one}
@@ -80,13 +79,13 @@ module _ (top : TopologyValue) (w : Run) (inv : Inv top w) (time : ℕ) (l : Loc
   -- what one data centre committed stands in the history of another that committed it by the time
   across : (dc other : ℕ) (h g : History) → IsHistory top w dc h → IsHistory top w other g
       → ((t : TxnValue) (b : Submission) (batch : List Change) → IsWritten w t b batch → IsCommittedIn top w other t)
-      → ((c : Committed) → Among c g → c.commit ≤ time) → HasStamped (touches l) (up_to time h) (up_to time g)
+      → ((c : Committed) → Contains g c → c.commit ≤ time) → HasStamped (touches l) (up_to time h) (up_to time g)
   across dc other h g is was all early c m has e =
       let f = kept_only (λ (a : Committed). nat_le a.commit time) h c has in
-      let k = entry_is top w inv dc c (contains_among c (history_of top w dc) (Contains-permutation h (history_of top w dc) c is f.0)) in
+      let k = entry_is top w inv dc c (Contains-permutation h (history_of top w dc) c is f.0) in
       let from = k.decided.sound in
       let d = all k.decision.txn from.submission from.batch from.written in
-      let there = contains_among d.0 (decisions_in top w other) d.1 in
+      let there = d.1 in
       let to = decided_in top w inv other d.0 there in
       let v : IsWritten w k.decision.txn to.sound.submission to.sound.batch = written_at d.2 to.sound.written in
       let b = submitted_one inv.submitted v from.written in
@@ -94,12 +93,12 @@ module _ (top : TopologyValue) (w : Run) (inv : Inv top w) (time : ℕ) (l : Loc
       let stamp = one_stamp_of top w inv from.submission from.batch d.0.stamp k.decision.stamp (stamp_at b batch to.sound.stamp) from.stamp in
       let r = entry d.0 to.sound.batch in
       let in_there = entry_among top w inv other d.0 there to in
-      let in_g : Among r g = contains_among r g (Contains-permutation (history_of top w other) g r (IsPermutation-sym g (history_of top w other) was)
-      (among_contains r (history_of top w other) in_there)) in
+      let in_g : Contains g r = (Contains-permutation (history_of top w other) g r (IsPermutation-sym g (history_of top w other) was)
+      in_there) in
       let le = early r in_g in
       let low : nat_le r.commit time ≡ true = grind (arith, nat_tests) in (
         r,
-        kept (λ (a : Committed). nat_le a.commit time) g r (among_contains r g in_g) low,
+        kept (λ (a : Committed). nat_le a.commit time) g r in_g low,
         stamp ∙ sym k.stamp,
         ap (last_of (touches l)) (batch ∙ sym k.batch) ∙ e,
       )
@@ -115,6 +114,6 @@ pub equal_tables : (top : TopologyValue) (w : Run) → Inv top w → (dc other :
     → AreEqualTables top w dc other
 equal_tables top w inv dc other all time h g l is was early late =
     same_mutation (touches l) (up_to time h) (up_to time g)
-    (across top w inv time l dc other h g is was (λ t b batch k. (all t b batch k).1) (λ c m. late c (among_contains c g m)))
-    (across top w inv time l other dc g h was is (λ t b batch k. (all t b batch k).0) (λ c m. early c (among_contains c h m)))
+    (across top w inv time l dc other h g is was (λ t b batch k. (all t b batch k).1) (λ c m. late c m))
+    (across top w inv time l other dc g h was is (λ t b batch k. (all t b batch k).0) (λ c m. early c m))
     (one_by top w inv time l dc h is)

@@ -1,6 +1,6 @@
 -- A quiet run is settled.
 use Rattle.std.proofs.Common.{◌≡◌, ℕ, ◌<◌, List, Some, ◌⊎◌, inl, inr, refl, sym, ap, ◌∙◌, subst, subst₂, arith}
-use Rattle.std.specs.Prelude.{false}
+use Rattle.std.specs.Prelude.{false, Contains}
 use Rattle.std.proofs.lemmas.Bool.{false≢true}
 use Rattle.logical_time.specs.Stamps.{TxnValue, WriterValue}
 use Rattle.std.proofs.lemmas.List.Sorted.{Contains-permutation, IsPermutation-sym}
@@ -12,10 +12,9 @@ use Rattle.messages.specs.Topology.{TopologyValue, shard_node}
 use Rattle.messages.specs.SessionEvents.{is_left}
 use Rattle.messages.specs.Session.{Open, Idle, Writing, FirstRound, SecondRound, Moving, is_idle}
 use Rattle.world.specs.Run.{Run, Submission, Completed}
-use Rattle.world.specs.Histories.{decisions_in, history_of, IsHistory}
+use Rattle.world.specs.Histories.{history_of, IsHistory}
 use Rattle.world.specs.Quiet.{IsQuiet}
 use Rattle.world.specs.Settled.{IsOutcomeOf, IsCommittedIn, HasEntry, Settled}
-use Rattle.world.proofs.lists.Among.{Among, among_contains, contains_among}
 use Rattle.world.proofs.safety.Facts.{txn_of, IsWritten, lead}
 use Rattle.world.proofs.safety.Invariant.{MovingSound, OpenSound, Inv}
 use Rattle.world.proofs.causal.Causal.{txn_ended, Causal}
@@ -39,7 +38,7 @@ module _ (top : TopologyValue) (w : Run) (some : 0 < top.shards) (inv : Inv top 
   committed_in t b batch k dc lt =
       let d = each_decided top w some inv live quiet t b batch k dc lt in (
         d.0,
-        among_contains d.0 (decisions_in top w dc) (in_decisions top w dc (coordinator_of top.shards batch) d.0
+        (in_decisions top w dc (coordinator_of top.shards batch) d.0
             (coordinator_below top.shards batch some) d.1),
         d.2,
       )
@@ -50,7 +49,7 @@ module _ (top : TopologyValue) (w : Run) (some : 0 < top.shards) (inv : Inv top 
   stands_in b batch k dc lt h is =
       let d = committed_in (txn_of b) b batch k dc lt in
       let e = entry_there top w dc d.0 inv d.1 in
-      let s = (decided_in top w inv dc d.0 (contains_among d.0 (decisions_in top w dc) d.1)).sound in
+      let s = (decided_in top w inv dc d.0 d.1).sound in
       let found : Some s.batch ≡ Some e.0.batch = sym (batch_found top w d.0.txn s.submission s.batch inv.submitted s.written) ∙ e.2.batch in
       let same : s.batch ≡ e.0.batch = cc in
       record {
@@ -75,7 +74,7 @@ module _ (top : TopologyValue) (w : Run) (some : 0 < top.shards) (inv : Inv top 
 
   -- ## Sessions
 
-  not_idle : (node : ℕ) (o : Open) → (w.sessions node).current ≡ o → is_idle o ≡ false → (c : Completed) → Among c w.transcript → c.node ≡ node
+  not_idle : (node : ℕ) (o : Open) → (w.sessions node).current ≡ o → is_idle o ≡ false → (c : Completed) → Contains w.transcript c → c.node ≡ node
       → c.number ≡ (w.sessions node).count → ⊥
   not_idle node o e busy c m at is =
       let lt = causal.closed c m (ap (λ i. is_idle (w.sessions i).current) at ∙ ap is_idle e ∙ busy) in
@@ -148,7 +147,7 @@ module _ (top : TopologyValue) (w : Run) (some : 0 < top.shards) (inv : Inv top 
           ]
       go (Moving dc left floor) e s k = absurd (not_moving node dc left floor e s k)
 
-  outcome : (b : Submission) → Among b w.submitted → (c : Completed) × IsOutcomeOf w b c
+  outcome : (b : Submission) → Contains w.submitted b → (c : Completed) × IsOutcomeOf w b c
   outcome b m = go (live.ends b m)
     where
       go : StillOpen w b ⊎ HasEnded w (txn_of b) → (c : Completed) × IsOutcomeOf w b c
@@ -158,7 +157,7 @@ module _ (top : TopologyValue) (w : Run) (some : 0 < top.shards) (inv : Inv top 
           let same = inv.submitted.one k.submission b k.among m (open_txn k ∙ e) in (
             c,
             record {
-              ended = among_contains c w.transcript i;
+              ended = i;
               node = ap (λ z. z.session) e;
               number = ap (λ z. z.number) e;
               home = sym k.home ∙ ap (λ z. z.home) same;
@@ -171,11 +170,11 @@ module _ (top : TopologyValue) (w : Run) (some : 0 < top.shards) (inv : Inv top 
   pub settled : Settled top w
   settled =
       record {
-        outcomes = λ b c. outcome b (contains_among b w.submitted c);
+        outcomes = λ b c. outcome b c;
         idle = idle;
-        committed = λ b batch dc c e lt. committed_in (txn_of b) b batch (record { among = contains_among b w.submitted c; txn = refl; op = e }) dc lt;
+        committed = λ b batch dc c e lt. committed_in (txn_of b) b batch (record { among = c; txn = refl; op = e }) dc lt;
         histories = λ b batch dc h c e lt is.
-            stands_in b batch (record { among = contains_among b w.submitted c; txn = refl; op = e }) dc lt h is;
+            stands_in b batch (record { among = c; txn = refl; op = e }) dc lt h is;
         shards = shard_clear top w some inv live quiet;
         tables = λ dc other lt below. equal_tables top w inv dc other (λ t b batch k. (committed_in t b batch k dc lt, committed_in t b batch k other below));
       }

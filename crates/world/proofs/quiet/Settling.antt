@@ -1,5 +1,6 @@
 -- In a quiet run each coordinator that knows a transaction has decided it, and its cohorts have applied it.
-use Rattle.std.proofs.Common.{◌≡◌, ℕ, zero, suc, ◌<◌, List, [], ◌∷◌, length, slice_get, Some, ◌⊎◌, inl, inr, refl, sym, ap, ◌∙◌, subst, subst₂, arith}
+use Rattle.std.proofs.Common.{◌≡◌, ℕ, ◌<◌, List, [], ◌∷◌, ◌⊎◌, inl, inr, refl, sym, ap, ◌∙◌, subst, subst₂}
+use Rattle.std.specs.Prelude.{Contains}
 use Rattle.logical_time.specs.Stamps.{TxnValue}
 use Rattle.column_family.specs.declared.batch.Change.{Change}
 use Rattle.planner.specs.Plan.{coordinator_of, cohorts_of}
@@ -8,45 +9,39 @@ use Rattle.messages.specs.Shard.{Role, Own, Cohort, Replica, BegunBallot}
 use Rattle.messages.proofs.Numbering.{number_of_shard}
 use Rattle.world.specs.Run.{Run, Submission}
 use Rattle.world.specs.Quiet.{IsQuiet}
-use Rattle.world.proofs.lists.Among.{Among, contains_among}
 use Rattle.world.proofs.safety.Facts.{txn_of, IsWritten, near, lead, RoleFits, StampFits, Sees}
 use Rattle.world.proofs.safety.Invariant.{Inv}
 use Rattle.world.proofs.safety.OneBatch.{written_at, submitted_one, batch_one}
 use Rattle.world.proofs.envelopes.Near.{cohort_below, cohort_other, near_dc, lead_dc, lead_number}
 use Rattle.world.proofs.envelopes.About.{Kind, OfBegin, OfPrepare, OfYes, OfCommit, OfPrepareRemote, kind_of, Sent}
 use Rattle.world.proofs.under_way.Underway.{HasDecision, Knows, vote_of, Leads, RoleLive, Acted, Live}
+use Rattle.world.proofs.lists.Members.{none_in_empty, contains_first, contains_rest, contains_cases, contains_at}
 
 -- ## Lists
 
--- an element has a number
-pub among_get : {X : Type 0} (x : X) (xs : List X) → Among x xs → (k : ℕ) × (slice_get xs k ≡ Some x) × (k < length xs)
-among_get x [] m = absurd m
-among_get x (y ∷ ys) (inl q) = (zero, ap Some (sym q), omega arith)
-among_get x (y ∷ ys) (inr m) = let r = among_get x ys m in let lt = r.2 in (suc r.0, r.1, omega arith)
-
 -- each element has the property, or something else is so
-pub each_or : {X : Type 0} {P : X → Type 0} {Q : Type 0} (xs : List X) → ((x : X) → Among x xs → P x ⊎ Q) → ((x : X) → Among x xs → P x) ⊎ Q
-each_or [] f = inl (λ x m. absurd m)
-each_or {X} {P} {Q} (y ∷ ys) f = go (f y (inl refl)) (each_or ys (λ x m. f x (inr m)))
+pub each_or : {X : Type 0} {P : X → Type 0} {Q : Type 0} (xs : List X) → ((x : X) → Contains xs x → P x ⊎ Q) → ((x : X) → Contains xs x → P x) ⊎ Q
+each_or [] f = inl (λ x m. absurd (none_in_empty x m))
+each_or {X} {P} {Q} (y ∷ ys) f = go (f y (contains_first y ys)) (each_or ys (λ x m. f x (contains_rest y x ys m)))
   where
-    go : P y ⊎ Q → ((x : X) → Among x ys → P x) ⊎ Q → ((x : X) → (x ≡ y) ⊎ Among x ys → P x) ⊎ Q
+    go : P y ⊎ Q → ((x : X) → Contains ys x → P x) ⊎ Q → ((x : X) → Contains (y ∷ ys) x → P x) ⊎ Q
     go (inr q) r = inr q
     go (inl p) (inr q) = inr q
-    go (inl p) (inl g) = inl (λ x m. elim (m) [ inl e ↦ subst P (sym e) p | inr n ↦ g x n ])
+    go (inl p) (inl g) = inl (λ x m. elim (contains_cases y x ys m) [ inl e ↦ subst P (sym e) p | inr n ↦ g x n ])
 
 module _ (top : TopologyValue) (w : Run) (some : 0 < top.shards) (inv : Inv top w) (live : Live top w) (quiet : IsQuiet w) where
   -- what was sent was handled, so it left what it leaves
   pub act : (s r : ℕ) (k : Kind) → Sent w.sent s r k → Acted top w s r k
   act s r k m =
-      let g = among_get m.message w.sent m.among in
-      let a = live.acted g.0 m.message (contains_among g.0 _ (quiet g.0 g.2)) g.1 in
+      let g = contains_at w.sent m.message m.among in
+      let a = live.acted g.0 m.message (quiet g.0 g.2) g.1 in
       subst (λ z. Acted top w s r z) m.is (subst₂ (λ a b. Acted top w a b (kind_of m.message.body)) m.by m.for a)
 
   -- ## Cohorts aren't coordinators
 
   -- a cohort decides nothing
   pub cohort_undecided : (node : ℕ) (t : TxnValue) (b : Submission) (batch : List Change) → IsWritten w t b batch
-      → Among (shard_of top node) (cohorts_of top.shards batch) → HasDecision (w.shards node) t → ⊥
+      → Contains (cohorts_of top.shards batch) (shard_of top node) → HasDecision (w.shards node) t → ⊥
   cohort_undecided node t b batch k m d =
       let ds = (inv.shards node).decided d.0 d.1 in
       let same = batch_one inv.submitted (written_at d.2 ds.written) k in
@@ -55,7 +50,7 @@ module _ (top : TopologyValue) (w : Run) (some : 0 < top.shards) (inv : Inv top 
   -- ## A coordinator that knows its transaction has decided it
 
   -- a part that a cohort prepared has its vote, unless it is decided
-  role_vote : (r : Role) (c s : ℕ) (t : TxnValue) (batch : List Change) → Among (shard_of top c) (cohorts_of top.shards batch)
+  role_vote : (r : Role) (c s : ℕ) (t : TxnValue) (batch : List Change) → Contains (cohorts_of top.shards batch) (shard_of top c)
       → RoleFits r top batch c → RoleLive r w c s t
       → Acted top w c s (OfYes t)
   role_vote Own c s t batch m fits k = absurd (cohort_other top.shards batch (shard_of top c) m fits)
@@ -63,7 +58,7 @@ module _ (top : TopologyValue) (w : Run) (some : 0 < top.shards) (inv : Inv top 
   role_vote Replica c s t batch m fits k = act c s (OfYes t) k.0
 
   cohort_vote : (c s : ℕ) (t : TxnValue) (b : Submission) (batch : List Change) → IsWritten w t b batch → s ≡ lead top (dc_of top c) batch
-      → Among (shard_of top c) (cohorts_of top.shards batch) → Knows (w.shards c) t
+      → Contains (cohorts_of top.shards batch) (shard_of top c) → Knows (w.shards c) t
       → Acted top w c s (OfYes t)
   cohort_vote c s t b batch k here m (inr d) = absurd (cohort_undecided c t b batch k m d)
   cohort_vote c s t b batch k here m (inl (p, i, e)) =
@@ -74,21 +69,21 @@ module _ (top : TopologyValue) (w : Run) (some : 0 < top.shards) (inv : Inv top 
       (subst₂ (λ n u. RoleLive p.role w c n u) to e ((live.shards c).entries.prepared p i))
 
   -- each cohort of a ballot was asked
-  asked : (s : ℕ) (u : BegunBallot) → Among u (w.shards s).ballots → (c : ℕ) → Among c u.cohorts → Knows (w.shards (near top s c)) u.txn
+  asked : (s : ℕ) (u : BegunBallot) → Contains (w.shards s).ballots u → (c : ℕ) → Contains u.cohorts c → Knows (w.shards (near top s c)) u.txn
   asked s u m c i =
       let bs = (inv.shards s).ballots u m in
       elim ((live.shards s).entries.ballots u m).1 [
         | inl none ↦
             let home : dc_of top s ≡ bs.submission.home = subst (λ z. StampFits top w s (w.shards s).clock bs.submission bs.batch z) none bs.stamp in
-            let p = (live.submitted bs.submission bs.batch bs.written.among bs.written.op).prepared c (subst (λ l. Among c l) bs.cohorts i) in
+            let p = (live.submitted bs.submission bs.batch bs.written.among bs.written.op).prepared c (subst (λ l. Contains l c) bs.cohorts i) in
             let q = subst (λ d. Sent w.sent bs.submission.session (shard_node top d c) (OfPrepare (txn_of bs.submission))) (sym home) p in
             subst (λ t. Knows (w.shards (near top s c)) t) bs.written.txn (act bs.submission.session (near top s c) (OfPrepare (txn_of bs.submission)) q)
         | inr y ↦ act s (near top s c) (OfPrepareRemote u.txn) (y.1 c i)
       ]
 
   -- an early vote for a ballot is counted: nobody votes early in another data centre
-  early_counted : (s m : ℕ) (u : BegunBallot) → Among u (w.shards s).ballots → Among (vote_of u.txn m) (w.shards s).early
-      → Among (vote_of u.txn m) (w.shards s).votes
+  early_counted : (s m : ℕ) (u : BegunBallot) → Contains (w.shards s).ballots u → Contains (w.shards s).early (vote_of u.txn m)
+      → Contains (w.shards s).votes (vote_of u.txn m)
   early_counted s m u i v =
       elim ((live.shards s).entries.ballots u i).1 [
         | inl none ↦ (live.shards s).counted u (vote_of u.txn m) i none v refl
@@ -97,27 +92,27 @@ module _ (top : TopologyValue) (w : Run) (some : 0 < top.shards) (inv : Inv top 
             absurd (y.0.away (o.here ∙ ap (λ z. z.home) (submitted_one inv.submitted o.written y.0.written)))
       ]
 
-  pub ballot_decided : (s : ℕ) (u : BegunBallot) → Among u (w.shards s).ballots → HasDecision (w.shards s) u.txn
+  pub ballot_decided : (s : ℕ) (u : BegunBallot) → Contains (w.shards s).ballots u → HasDecision (w.shards s) u.txn
   ballot_decided s u i =
       elim (each_or u.cohorts vote) [
         | inl all ↦ (live.shards s).voted u i all
         | inr d ↦ d
       ]
     where
-      counted : (m : ℕ) → Acted top w m s (OfYes u.txn) → Among (vote_of u.txn m) (w.shards s).votes ⊎ HasDecision (w.shards s) u.txn
+      counted : (m : ℕ) → Acted top w m s (OfYes u.txn) → Contains (w.shards s).votes (vote_of u.txn m) ⊎ HasDecision (w.shards s) u.txn
       counted m (inl v) = inl v
       counted m (inr (inl v)) = inl (early_counted s m u i v)
       counted m (inr (inr d)) = inr d
 
-      vote : (c : ℕ) → Among c u.cohorts → Among (vote_of u.txn (near top s c)) (w.shards s).votes ⊎ HasDecision (w.shards s) u.txn
+      vote : (c : ℕ) → Contains u.cohorts c → Contains (w.shards s).votes (vote_of u.txn (near top s c)) ⊎ HasDecision (w.shards s) u.txn
       vote c j =
           let bs = (inv.shards s).ballots u i in
-          let n = subst (λ l. Among c l) bs.cohorts j in
+          let n = subst (λ l. Contains l c) bs.cohorts j in
           let lt = cohort_below top.shards bs.batch c n in
           counted (near top s c)
           (cohort_vote (near top s c) s u.txn bs.submission bs.batch bs.written
           (bs.here ∙ ap (λ d. lead top d bs.batch) (sym (near_dc top s c lt)))
-          (subst (λ z. Among z (cohorts_of top.shards bs.batch)) (sym (number_of_shard top (dc_of top s) c lt)) n)
+          (subst (λ z. Contains (cohorts_of top.shards bs.batch) z) (sym (number_of_shard top (dc_of top s) c lt)) n)
           (asked s u i c j))
 
   -- what a coordinator prepared has its ballot
@@ -149,9 +144,9 @@ module _ (top : TopologyValue) (w : Run) (some : 0 < top.shards) (inv : Inv top 
 
   -- the cohorts of what is decided have applied it
   pub cohort_applied : (s : ℕ) (t : TxnValue) (b : Submission) (batch : List Change) → IsWritten w t b batch → HasDecision (w.shards s) t → (c : ℕ)
-      → Among c (cohorts_of top.shards batch) → Sees (w.shards (near top s c)).applied t
+      → Contains (cohorts_of top.shards batch) c → Sees (w.shards (near top s c)).applied t
   cohort_applied s t b batch k (d, i, e) c m =
       let l = (live.shards s).entries.decided d i in
       let same = batch_one inv.submitted (written_at e l.written) k in
-      let r = act s (near top s c) (OfCommit d.txn) (l.cohorts c (subst (λ z. Among c (cohorts_of top.shards z)) (sym same) m)) in
+      let r = act s (near top s c) (OfCommit d.txn) (l.cohorts c (subst (λ z. Contains (cohorts_of top.shards z) c) (sym same) m)) in
       (r.0, r.1, r.2 ∙ e)

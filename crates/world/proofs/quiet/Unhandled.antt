@@ -1,5 +1,5 @@
 -- The first message that wasn't handled is found, and there is none exactly in a quiet run.
-use Rattle.std.proofs.Common.{◌≡◌, ℕ, zero, suc, ◌+◌, ◌<◌, ◌≤◌, Bool, true, false, cond, not, List, length, Option, Some, None, ◌⊎◌, inl, inr, refl, sym, ap, ◌∙◌, subst, arith, eqb-true, eq-eqb}
+use Rattle.std.proofs.Common.{◌≡◌, ℕ, zero, suc, ◌+◌, ◌<◌, ◌≤◌, Bool, true, false, cond, not, List, length, Option, Some, None, refl, sym, ap, ◌∙◌, subst, arith, eqb-true, eq-eqb}
 use Rattle.std.specs.Prelude.{◌==◌, find, Contains}
 use Rattle.std.specs.List.{list_any, range_with_len}
 use Rattle.std.proofs.lemmas.Bool.{false≢true}
@@ -7,7 +7,7 @@ use Rattle.std.proofs.lemmas.Bool.Decides.{nat_tests}
 use Rattle.world.specs.Run.{Run}
 use Rattle.world.specs.Quiet.{handled, IsQuiet}
 use Rattle.world.specs.Lookups.{first_unhandled, IsFirstUnhandled, FindsUnhandled}
-use Rattle.world.proofs.lists.Among.{Among, any_true, any_false, any_among, find_none, among_contains, contains_among}
+use Rattle.world.proofs.lists.Members.{contains_below, any_found, any_false, any_has, find_none}
 
 -- the first number of a range that passes a test
 record IsFirst (p : ℕ → Bool) (a n k : ℕ) : Type 0 where
@@ -46,23 +46,15 @@ first_found p a (suc n) k e = go (p a) refl e (first_found p (a + 1) n k)
 -- a number is among those that were handled, or not
 was : (xs : List ℕ) (k : ℕ) → not (list_any (λ j. j == k) xs) ≡ false → Contains xs k
 was xs k e =
-    let r = any_true (λ j. j == k) xs (turned (list_any (λ j. j == k) xs) e) in
-    subst (Contains xs) (eqb-true r.0 k r.2) (among_contains r.0 xs r.1)
+    let r = any_found (λ j. j == k) xs (turned (list_any (λ j. j == k) xs) e) in
+    subst (Contains xs) (eqb-true r.0 k r.2) r.1
   where
     turned : (b : Bool) → not b ≡ false → b ≡ true
     turned true q = refl
     turned false q = absurd (false≢true (sym q))
 
 was_not : (xs : List ℕ) (k : ℕ) → not (list_any (λ j. j == k) xs) ≡ true → Contains xs k → ⊥
-was_not xs k e has = false≢true (ap not (sym (any_among (λ j. j == k) xs k (contains_among k xs has) (eq-eqb k k refl))) ∙ e)
-
-in_range : (a n k : ℕ) → a ≤ k → k < a + n → Among k (range_with_len a n)
-in_range a zero k le lt = absurd (omega arith)
-in_range a (suc n) k le lt = go (a == k) refl (λ more. in_range (a + 1) n k more (omega arith))
-  where
-    go : (b : Bool) → (a == k) ≡ b → (a + 1 ≤ k → Among k (range_with_len (a + 1) n)) → (k ≡ a) ⊎ Among k (range_with_len (a + 1) n)
-    go true q rest = inl (sym (eqb-true a k q))
-    go false q rest = inr (rest (next a k le q))
+was_not xs k e has = false≢true (ap not (sym (any_has (λ j. j == k) xs k has (eq-eqb k k refl))) ∙ e)
 
 pub finds_unhandled : (w : Run) → FindsUnhandled w
 finds_unhandled w = record { found = found; none = (none_quiet, quiet_none) }
@@ -77,7 +69,7 @@ finds_unhandled w = record { found = found; none = (none_quiet, quiet_none) }
     none_quiet e k lt =
         was (handled w) k
         (any_false (λ k. not (list_any (λ j. j == k) (handled w))) (range_with_len 0 (length w.sent))
-        (find_none (λ k. not (list_any (λ j. j == k) (handled w))) (range_with_len 0 (length w.sent)) e) k (in_range 0 (length w.sent) k (omega arith) (omega arith)))
+        (find_none (λ k. not (list_any (λ j. j == k) (handled w))) (range_with_len 0 (length w.sent)) e) k (contains_below (length w.sent) k lt))
 
     quiet_none : IsQuiet w → first_unhandled w ≡ None
     quiet_none quiet = go (first_unhandled w) refl

@@ -1,6 +1,6 @@
 -- What an actor can do next is an event of the run.
-use Rattle.std.proofs.Common.{◌≡◌, ℕ, zero, suc, ◌<◌, Bool, true, false, List, [], ◌∷◌, Some, Result, Ok, Err, inl, inr, refl, sym, ap, subst, slice_get}
-use Rattle.std.specs.Prelude.{if◌then◌else◌}
+use Rattle.std.proofs.Common.{◌≡◌, ℕ, ◌<◌, Bool, true, false, Some, Result, Ok, Err, refl, sym, subst, slice_get}
+use Rattle.std.specs.Prelude.{if◌then◌else◌, Contains}
 use Rattle.logical_time.specs.declared.fault.Fault.{Fault}
 use Rattle.messages.specs.declared.op.Op.{Op}
 use Rattle.messages.specs.declared.envelope.Envelope.{Envelope}
@@ -15,14 +15,8 @@ use Rattle.messages.specs.Submitting.{session_submit}
 use Rattle.messages.specs.Actors.{OfShard, OfSession, ActorStep, of_shard, of_session, actor_step}
 use Rattle.world.specs.Run.{Run, RunEvent, Submit, Deliver, Collect, after_shard, after_session, after_submission, submit_if, deliver_if, deliver_for, collect_if, step}
 use Rattle.world.specs.Journals.{actor_in}
-use Rattle.world.proofs.lists.Among.{Among}
 use Rattle.world.proofs.steps.Moves.{Moves, shard_took, session_took, counts_session, handle_moves, hear_moves, submit_moves, collect_moves}
-
--- the number of what was sent
-pub among_get : {X : Type 0} (xs : List X) (x : X) → Among x xs → (k : ℕ) × (slice_get xs k ≡ Some x)
-among_get [] x m = absurd m
-among_get (y ∷ ys) x (inl q) = (zero, ap Some (sym q))
-among_get (y ∷ ys) x (inr m) = let r = among_get ys x m in (suc r.0, r.1)
+use Rattle.world.proofs.lists.Members.{contains_at}
 
 abbrev pub Happens : TopologyValue → Run → ℕ → ActorEvent → ActorStep → Type 0
 Happens top w n x s = (ev : RunEvent) × Moves top w (step top w ev) ev n x s
@@ -51,10 +45,10 @@ module _ (top : TopologyValue) (w : Run) where
           subst (λ z. Moves top w (after_session (Ok st) w (Deliver k) e.to) (Deliver k) e.to (Handle e) z) is
           (hear_moves top w k e st sent (counts_session top e.to lt away) q)
 
-  pub handle_happens : (n : ℕ) (e : Envelope) (s : ActorStep) → e.to ≡ n → Among e w.sent → n < node_count top
+  pub handle_happens : (n : ℕ) (e : Envelope) (s : ActorStep) → e.to ≡ n → Contains w.sent e → n < node_count top
       → actor_step top n (actor_in top w n) (Handle e) ≡ Some s → Happens top w n (Handle e) s
   handle_happens n e s to m lt takes =
-      let k = among_get w.sent e m in (
+      let k = contains_at w.sent e m in (
         Deliver k.0,
         subst (λ o. Moves top w (deliver_for o top w (Deliver k.0)) (Deliver k.0) n (Handle e) s) (sym k.1)
             (subst (λ z. z < node_count top → actor_step top z (actor_in top w z) (Handle e) ≡ Some s

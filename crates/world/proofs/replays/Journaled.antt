@@ -1,5 +1,5 @@
 -- The histories, outcomes and operations of a run are those that its journals give.
-use Rattle.std.proofs.Common.{◌≡◌, ◌∙◌, ℕ, zero, suc, ◌<◌, sym, ap, refl, Bool, true, false, List, [], ◌∷◌, ◌++◌, Option, Some, None, inl, inr}
+use Rattle.std.proofs.Common.{◌≡◌, ◌∙◌, ℕ, zero, suc, ◌<◌, sym, ap, refl, Bool, true, false, List, [], ◌∷◌, ◌++◌, Option, Some, None}
 use Rattle.std.specs.Prelude.{if◌then◌else◌, filter_map, flat_map, option_map, option_and_then, slice_get, Contains}
 use Rattle.std.specs.List.{range_with_len}
 use Rattle.logical_time.specs.Stamps.{TxnValue}
@@ -13,17 +13,17 @@ use Rattle.world.specs.Run.{Run, RunEvent, Submission, run, submission_of}
 use Rattle.world.specs.Histories.{batch_in, batch_submitted, committed_of}
 use Rattle.world.specs.Journals.{held_in, journal_in, IsRunOf}
 use Rattle.world.specs.Threads.{op_numbered, decided_of, decided_in, decided_by, batch_by, committed_by, IsToldByJournals}
-use Rattle.world.proofs.lists.Among.{Among, contains_among}
 use Rattle.world.proofs.envelopes.Near.{listed_below}
 use Rattle.world.proofs.steps.Moves.{shard_node_counts, session_node_counts}
 use Rattle.world.proofs.replays.JournalSteps.{same_told}
 use Rattle.world.proofs.replays.OwnJournals.{run_journals}
 use Rattle.world.proofs.steps.Counted.{ops_of}
 use Rattle.world.proofs.replays.Numbered.{AreNumbered, run_numbered}
+use Rattle.world.proofs.lists.Members.{contains_first, contains_rest}
 
-same_flat : {X Y : Type 0} (f g : X → List Y) (xs : List X) → ((x : X) → Among x xs → f x ≡ g x) → flat_map f xs ≡ flat_map g xs
+same_flat : {X Y : Type 0} (f g : X → List Y) (xs : List X) → ((x : X) → Contains xs x → f x ≡ g x) → flat_map f xs ≡ flat_map g xs
 same_flat f g [] e = refl
-same_flat f g (x ∷ xs) e = ap (λ l. l ++ flat_map f xs) (e x (inl refl)) ∙ ap (λ l. g x ++ l) (same_flat f g xs (λ y m. e y (inr m)))
+same_flat f g (x ∷ xs) e = ap (λ l. l ++ flat_map f xs) (e x (contains_first x xs)) ∙ ap (λ l. g x ++ l) (same_flat f g xs (λ y m. e y (contains_rest x y xs m)))
 
 module _ (top : TopologyValue) (journals : ℕ → List ActorEvent) (events : List RunEvent) (some : 0 < top.shards) (is : IsRunOf top journals events) where
   abbrev w : Run
@@ -59,7 +59,7 @@ module _ (top : TopologyValue) (journals : ℕ → List ActorEvent) (events : Li
 
   pub operation_there : (b : Submission) → Contains w.submitted b → op_numbered (journals b.session) b.number ≡ Some b.op
   operation_there b has =
-      let h = (run_numbered top events).named b (contains_among b w.submitted has) in
+      let h = (run_numbered top events).named b has in
       ap (λ l. op_numbered l b.number) (sym (is.each b.session (session_node_counts top b.session h.0))) ∙ h.1
 
   pub told_by_journals : IsToldByJournals top journals w

@@ -1,7 +1,7 @@
 -- Journals that fit together are a run: their events in the order of the clocks after them, and at one clock of the
 -- nodes. All events up to a clock are carried out before any event above it, so what an event handles was sent.
 use Rattle.std.proofs.Common.{append-nil, ◌≡◌, ◌∙◌, ℕ, zero, suc, ◌<◌, ◌≤◌, ◌^◌, Bool, true, false, List, [], ◌∷◌, ◌++◌, Some, ◌⊎◌, inl, inr, refl, sym, ap, subst, arith, eqb-true, le_refl}
-use Rattle.std.specs.Prelude.{◌==◌, nat_lt}
+use Rattle.std.specs.Prelude.{◌==◌, nat_lt, Contains}
 use Rattle.std.proofs.lemmas.Bool.Decides.{nat_tests}
 use Rattle.std.proofs.lemmas.List.{append_assoc}
 use Rattle.messages.specs.declared.envelope.Envelope.{Envelope}
@@ -9,9 +9,9 @@ use Rattle.messages.specs.Topology.{TopologyValue, node_count}
 use Rattle.messages.specs.declared.event.ActorEvent.{ActorEvent}
 use Rattle.messages.specs.declared.event.ActorEvent.TheVariants.{Submit as SubmitHere, Handle, Collect as CollectHere}
 use Rattle.messages.specs.Actors.{ActorState, clock_of, ActorStep, actor_step, Replayed, replay, sent_in, sent_by}
-use Rattle.world.specs.Run.{Run, RunEvent, opening, step, run}
+use Rattle.world.specs.Run.{Run, Deliver, RunEvent, opening, step, run}
 use Rattle.world.specs.Journals.{actor_in, journal_in, DoFit, IsThreadedRun}
-use Rattle.world.proofs.lists.Among.{Among, among_contains, contains_among, among_append, append_first, append_second}
+use Rattle.world.proofs.lists.Members.{none_in_empty, contains_first, Contains-append_left, Contains-append_right, Contains-append_cases}
 use Rattle.world.proofs.worked.Replayed.{continued_push}
 use Rattle.world.proofs.steps.Refusals.{kept_is_run}
 use Rattle.world.proofs.steps.Ticks.{step_ticks}
@@ -27,7 +27,7 @@ module _ (top : TopologyValue) (journals : ℕ → List ActorEvent) where
     pub rest : Replayed
     pub whole : journals m ≡ journal_in w m ++ left
     pub replays : replay top m (actor_in top w m) left ≡ Some rest
-    pub sends : (e : Envelope) → Among e (sent_by top m (journals m)) → Among e w.sent ⊎ Among e rest.sent
+    pub sends : (e : Envelope) → Contains (sent_by top m (journals m)) e → Contains w.sent e ⊎ Contains rest.sent e
     pub above : NextAbove top m limit (actor_in top w m) left
 
   -- the run has carried out all events up to this clock, and those of the nodes below this one at the next clock
@@ -50,7 +50,7 @@ module _ (top : TopologyValue) (journals : ℕ → List ActorEvent) where
         rest = d.rest;
         whole = d.whole ∙ ap (λ l. l ++ d.left) (sym (journal_there f known m apart'));
         replays = ap (λ a. replay top m a d.left) same ∙ d.replays;
-        sends = λ e i. elim (d.sends e i) [ inl sent ↦ inl (subst (λ l. Among e l) (sym f.sent) (append_first e w.sent s.sends sent)) | inr later ↦ inr later ];
+        sends = λ e i. elim (d.sends e i) [ inl sent ↦ inl (subst (λ l. Contains l e) (sym f.sent) (Contains-append_left w.sent s.sends e sent)) | inr later ↦ inr later ];
         above = subst (λ a. NextAbove top m limit a d.left) (sym same) d.above;
       }
 
@@ -72,16 +72,16 @@ module _ (top : TopologyValue) (journals : ℕ → List ActorEvent) where
     w = g.run_now
 
     -- an envelope up to this clock that some journal sends was sent
-    was_sent : (m : ℕ) → m < node_count top → (e : Envelope) → Among e (sent_by top m (journals m)) → e.time ≤ clock → Among e w.sent
+    was_sent : (m : ℕ) → m < node_count top → (e : Envelope) → Contains (sent_by top m (journals m)) e → e.time ≤ clock → Contains w.sent e
     was_sent m lt e i le = by (nat_lt m n) refl
       where
-        of : (limit : ℕ) → clock ≤ limit → IsDone w m limit → Among e w.sent
+        of : (limit : ℕ) → clock ≤ limit → IsDone w m limit → Contains w.sent e
         of limit up d = elim (d.sends e i) [
           | inl sent ↦ sent
           | inr later ↦ let above = rest_above top m limit (actor_in top w m) d.left d.rest d.replays d.above e later in absurd (omega arith)
         ]
 
-        by : (b : Bool) → nat_lt m n ≡ b → Among e w.sent
+        by : (b : Bool) → nat_lt m n ≡ b → Contains w.sent e
         by true q = let below : m < n = grind (arith, nat_tests) in of (suc clock) (omega arith) (g.before m below lt)
         by false q = let up : n ≤ m = grind (arith, nat_tests) in of clock (le_refl clock) (g.after m up lt)
 
@@ -126,9 +126,9 @@ module _ (top : TopologyValue) (journals : ℕ → List ActorEvent) where
               whole = d.whole ∙ ap (λ l. journal_in w n ++ l) left ∙ sym (ap (λ l. l ++ xs) (journal_here f g.known) ∙ append_assoc (journal_in w n) (x ∷ []) xs);
               replays = ap (λ a. replay top n a xs) f.here ∙ replays;
               sends = λ e i. elim (d.sends e i) [
-                | inl old ↦ inl (subst (λ l. Among e l) (sym f.sent) (append_first e w.sent s.sends old))
-                | inr new ↦ elim (among_append e s.sends rest.sent (subst (λ l. Among e l) sent new)) [
-                  | inl now ↦ inl (subst (λ l. Among e l) (sym f.sent) (append_second e w.sent s.sends now))
+                | inl old ↦ inl (subst (λ l. Contains l e) (sym f.sent) (Contains-append_left w.sent s.sends e old))
+                | inr new ↦ elim (Contains-append_cases s.sends rest.sent e (subst (λ l. Contains l e) sent new)) [
+                  | inl now ↦ inl (subst (λ l. Contains l e) (sym f.sent) (Contains-append_right w.sent s.sends e now))
                   | inr later ↦ inr later
                 ]
               ];
@@ -143,21 +143,21 @@ module _ (top : TopologyValue) (journals : ℕ → List ActorEvent) where
             done_there w (step top w h.0) h.0 n x s h.1 g.known m (suc clock) apart.0 apart.1 (g.before m below c)
 
     -- what the node can do next is an event
-    can : (x : ActorEvent) (s : ActorStep) → Among x (journals n) → actor_step top n (actor_in top w n) x ≡ Some s → clock_of s.state ≡ suc clock
+    can : (x : ActorEvent) (s : ActorStep) → Contains (journals n) x → actor_step top n (actor_in top w n) x ≡ Some s → clock_of s.state ≡ suc clock
         → Happens top w n x s
     can (SubmitHere o) s i takes at = submit_happens top w n o s counts takes
     can (CollectHere time) s i takes at = collect_happens top w n time s counts takes
     can (Handle e) s i takes at =
-        let r = fit.received n e counts (among_contains (Handle e) (journals n) i) in
+        let r = fit.received n e counts i in
         let lt = (step_ticks top n (actor_in top w n) (Handle e) s takes).handled e refl in
-        handle_happens top w n e s r.here (was_sent e.from r.sender e (contains_among e (sent_by top e.from (journals e.from)) r.sent) (omega arith)) counts takes
+        handle_happens top w n e s r.here (was_sent e.from r.sender e r.sent (omega arith)) counts takes
 
     pub next_node : Stage clock (suc n)
     next_node = let d = g.after n (le_refl n) counts in by d d.left refl
       where
-        among_there : (d : IsDone w n clock) (x : ActorEvent) (xs : List ActorEvent) → d.left ≡ x ∷ xs → Among x (journals n)
+        among_there : (d : IsDone w n clock) (x : ActorEvent) (xs : List ActorEvent) → d.left ≡ x ∷ xs → Contains (journals n) x
         among_there d x xs left =
-            subst (λ l. Among x l) (sym (d.whole ∙ ap (λ l. journal_in w n ++ l) left)) (append_second x (journal_in w n) (x ∷ xs) (inl refl))
+            subst (λ l. Contains l x) (sym (d.whole ∙ ap (λ l. journal_in w n ++ l) left)) (Contains-append_right (journal_in w n) (x ∷ xs) x (contains_first x xs))
 
         taken : (d : IsDone w n clock) (x : ActorEvent) (xs : List ActorEvent) → d.left ≡ x ∷ xs → Stage clock (suc n)
         taken d x xs left =
@@ -203,7 +203,7 @@ module _ (top : TopologyValue) (journals : ℕ → List ActorEvent) where
   first_stage fit =
       record {
         run_now = opening top;
-        known = λ k m. absurd m;
+        known = λ k m. absurd (none_in_empty (Deliver k) m);
         replayed = refl;
         before = λ m lt c. absurd (omega arith);
         after = λ m up c.
@@ -213,7 +213,7 @@ module _ (top : TopologyValue) (journals : ℕ → List ActorEvent) where
               rest = r.0;
               whole = refl;
               replays = r.1;
-              sends = λ e i. inr (subst (λ l. Among e l) (ap sent_in r.1) i);
+              sends = λ e i. inr (subst (λ l. Contains l e) (ap sent_in r.1) i);
               above = from_start m (journals m);
             };
       }

@@ -1,6 +1,6 @@
 -- The operations of a run are those of its journals, each numbered by its place there.
 use Rattle.std.proofs.Common.{append-nil, ◌≡◌, ◌∙◌, ℕ, zero, suc, ◌+◌, sym, ap, refl, subst, arith, Bool, true, false, List, [], ◌∷◌, ◌++◌, length, Option, Some, None, slice_get, inl, inr, eqb-true, eq-eqb}
-use Rattle.std.specs.Prelude.{◌==◌, if◌then◌else◌, option_map}
+use Rattle.std.specs.Prelude.{◌==◌, if◌then◌else◌, option_map, Contains}
 use Rattle.std.proofs.lemmas.Bool.{false≢true}
 use Rattle.std.proofs.lemmas.List.{length-append}
 use Rattle.std.proofs.lemmas.List.Elements.{filter_map-append}
@@ -10,10 +10,10 @@ use Rattle.messages.specs.Topology.{TopologyValue, is_shard, is_session}
 use Rattle.messages.specs.declared.event.ActorEvent.{ActorEvent}
 use Rattle.messages.specs.declared.event.ActorEvent.TheVariants.{Submit as SubmitHere, Handle, Collect as CollectHere}
 use Rattle.messages.specs.Actors.{OfShard, OfSession, ActorStep}
-use Rattle.world.specs.Run.{Run, RunEvent, Submission, opening, step, continued, run, submission_of}
+use Rattle.world.specs.Run.{Run, Deliver, RunEvent, Submission, opening, step, continued, run, submission_of}
 use Rattle.world.specs.Journals.{actor_in, journal_in}
 use Rattle.world.specs.Threads.{op_in, op_numbered}
-use Rattle.world.proofs.lists.Among.{Among, last_or_old, same_txn}
+use Rattle.world.proofs.lists.Members.{none_in_empty, last_or_old, same_txn}
 use Rattle.world.proofs.steps.Moves.{Moves, SubmittedBy, op_count, IsMove, each_is_move}
 use Rattle.world.proofs.replays.JournalSteps.{apart_too, AreKnown, known_later, journal_here, journal_there}
 use Rattle.world.proofs.steps.Counted.{ops_of, step_count}
@@ -27,7 +27,7 @@ pub record AreNumbered (top : TopologyValue) (w : Run) : Type 0 where
   pub counts : (m : ℕ) → op_count (actor_in top w m) ≡ length (ops_of (journal_in w m))
   pub ops : (t : TxnValue) → option_map (λ (b : Submission). b.op) (submission_of w.submitted t) ≡ op_numbered (journal_in w t.session) t.number
   pub quiet : (m : ℕ) → is_session top m ≡ false → ops_of (journal_in w m) ≡ []
-  pub named : (b : Submission) → Among b w.submitted → (is_session top b.session ≡ true) × (op_numbered (journal_in w b.session) b.number ≡ Some b.op)
+  pub named : (b : Submission) → Contains w.submitted b → (is_session top b.session ≡ true) × (op_numbered (journal_in w b.session) b.number ≡ Some b.op)
 
 module _ (top : TopologyValue) (w v : Run) (ev : RunEvent) (n : ℕ) (x : ActorEvent) (s : ActorStep) (f : Moves top w v ev n x s) (k : AreNumbered top w) where
   ops_here : ops_of (journal_in v n) ≡ ops_of (journal_in w n) ++ ops_of (x ∷ [])
@@ -96,7 +96,7 @@ module _ (top : TopologyValue) (w v : Run) (ev : RunEvent) (n : ℕ) (x : ActorE
   quiet_here (Handle e) is same away = ap (λ z. ops_of (z ∷ [])) is
   quiet_here (CollectHere time) is same away = ap (λ z. ops_of (z ∷ [])) is
 
-  old_named : (b : Submission) → Among b w.submitted → (is_session top b.session ≡ true) × (op_numbered (journal_in v b.session) b.number ≡ Some b.op)
+  old_named : (b : Submission) → Contains w.submitted b → (is_session top b.session ≡ true) × (op_numbered (journal_in v b.session) b.number ≡ Some b.op)
   old_named b m = let h = k.named b m in (h.0, go (n == b.session) refl h.1)
     where
       go : (t : Bool) → (n == b.session) ≡ t → op_numbered (journal_in w b.session) b.number ≡ Some b.op → op_numbered (journal_in v b.session) b.number ≡ Some b.op
@@ -106,11 +106,11 @@ module _ (top : TopologyValue) (w v : Run) (ev : RunEvent) (n : ℕ) (x : ActorE
           (λ g. ap (λ l. op_numbered l b.number) (journal_here f k.known) ∙ numbered_onto (journal_in w n) (x ∷ []) b.number b.op g) h
       go false q h = ap (λ l. op_numbered l b.number) (journal_there f k.known b.session q) ∙ h
 
-  named_later : (y : ActorEvent) → x ≡ y → SubmittedBy top w v n s y → (b : Submission) → Among b v.submitted
+  named_later : (y : ActorEvent) → x ≡ y → SubmittedBy top w v n s y → (b : Submission) → Contains v.submitted b
       → (is_session top b.session ≡ true) × (op_numbered (journal_in v b.session) b.number ≡ Some b.op)
-  named_later (Handle e) is same b m = old_named b (subst (λ l. Among b l) same m)
-  named_later (CollectHere time) is same b m = old_named b (subst (λ l. Among b l) same m)
-  named_later (SubmitHere o) is added b m = elim (last_or_old b added.0 w.submitted (subst (λ l. Among b l) added.2 m)) [
+  named_later (Handle e) is same b m = old_named b (subst (λ l. Contains l b) same m)
+  named_later (CollectHere time) is same b m = old_named b (subst (λ l. Contains l b) same m)
+  named_later (SubmitHere o) is added b m = elim (last_or_old b added.0 w.submitted (subst (λ l. Contains l b) added.2 m)) [
     | inl old ↦ old_named b old
     | inr new ↦ subst (λ (z : Submission). (is_session top z.session ≡ true) × (op_numbered (journal_in v z.session) z.number ≡ Some z.op)) (sym new) this
   ]
@@ -164,7 +164,7 @@ numbered_continued top w (ev ∷ events) k = numbered_continued top (step top w 
 pub run_numbered : (top : TopologyValue) (events : List RunEvent) → AreNumbered top (run top events)
 run_numbered top events =
     numbered_continued top (opening top) events
-    (record { known = λ k m. absurd m; counts = λ m. none m (is_shard top m); ops = λ t. nothing t t.number; quiet = λ m away. refl; named = λ b m. absurd m })
+    (record { known = λ k m. absurd (none_in_empty (Deliver k) m); counts = λ m. none m (is_shard top m); ops = λ t. nothing t t.number; quiet = λ m away. refl; named = λ b m. absurd (none_in_empty b m) })
   where
     none : (m : ℕ) (b : Bool) → op_count (if b then OfShard ((opening top).shards m) else OfSession ((opening top).sessions m)) ≡ 0
     none m true = refl

@@ -1,6 +1,6 @@
 -- The actors of every run are the replays of their own journals, which fit together.
 use Rattle.std.proofs.Common.{append-nil, ◌≡◌, ◌∙◌, ℕ, ◌<◌, Bool, true, false, cond, List, [], ◌∷◌, ◌++◌, map, Option, Some, None, inl, inr, refl, sym, ap, subst, slice_get, eqb-true, eq-eqb}
-use Rattle.std.specs.Prelude.{◌==◌, if◌then◌else◌, filter, option_and_then}
+use Rattle.std.specs.Prelude.{◌==◌, if◌then◌else◌, filter, option_and_then, Contains}
 use Rattle.std.specs.List.{cons_option}
 use Rattle.std.proofs.lemmas.List.{map-append}
 use Rattle.std.proofs.lemmas.List.Elements.{filter-append}
@@ -12,7 +12,7 @@ use Rattle.messages.specs.Actors.{ActorStep, opening_actor, replay_of, sent_in, 
 use Rattle.store.proofs.lists.Lists.{given_only}
 use Rattle.world.specs.Run.{Run, Completed, RunEvent, Submit, Deliver, Collect, opening, step, continued, run}
 use Rattle.world.specs.Journals.{actor_in, event_at, journal_in, finished_as, sent_from, ended_at, held_in, IsRunOf, DoFit, IsItsJournal}
-use Rattle.world.proofs.lists.Among.{Among, among_contains, contains_among, among_append, get_among, filter_among}
+use Rattle.world.proofs.lists.Members.{none_in_empty, contains_first, contains_rest, Contains-append_cases, contains_filter, contains_get}
 use Rattle.world.proofs.steps.Ticks.{step_ticks}
 use Rattle.world.proofs.steps.Moves.{Moves, IsMove, each_is_move}
 use Rattle.world.proofs.replays.JournalSteps.{apart_too, AreKnown, known_later, journal_here, journal_there}
@@ -24,25 +24,25 @@ use Rattle.world.proofs.replays.Replays.{replay_push}
 
 -- ## Lists
 
-pub all_stay : {X : Type 0} (p : X → Bool) (xs : List X) → ((x : X) → Among x xs → p x ≡ true) → filter p xs ≡ xs
+pub all_stay : {X : Type 0} (p : X → Bool) (xs : List X) → ((x : X) → Contains xs x → p x ≡ true) → filter p xs ≡ xs
 all_stay p [] f = refl
-all_stay p (x ∷ xs) f = ap (λ b. cond b (x ∷ filter p xs) (filter p xs)) (f x (inl refl)) ∙ ap (λ l. x ∷ l) (all_stay p xs (λ y m. f y (inr m)))
+all_stay p (x ∷ xs) f = ap (λ b. cond b (x ∷ filter p xs) (filter p xs)) (f x (contains_first x xs)) ∙ ap (λ l. x ∷ l) (all_stay p xs (λ y m. f y (contains_rest x y xs m)))
 
-pub none_stays : {X : Type 0} (p : X → Bool) (xs : List X) → ((x : X) → Among x xs → p x ≡ false) → filter p xs ≡ []
+pub none_stays : {X : Type 0} (p : X → Bool) (xs : List X) → ((x : X) → Contains xs x → p x ≡ false) → filter p xs ≡ []
 none_stays p [] f = refl
-none_stays p (x ∷ xs) f = ap (λ b. cond b (x ∷ filter p xs) (filter p xs)) (f x (inl refl)) ∙ none_stays p xs (λ y m. f y (inr m))
+none_stays p (x ∷ xs) f = ap (λ b. cond b (x ∷ filter p xs) (filter p xs)) (f x (contains_first x xs)) ∙ none_stays p xs (λ y m. f y (contains_rest x y xs m))
 
 -- ## Every run
 
 pub record AreOwnJournals (top : TopologyValue) (w : Run) : Type 0 where
   pub known : AreKnown w
   pub each : (m : ℕ) → IsItsJournal top w m
-  pub senders : (e : Envelope) → Among e w.sent → e.from < node_count top
+  pub senders : (e : Envelope) → Contains w.sent e → e.from < node_count top
 
 module _ (top : TopologyValue) (w v : Run) (ev : RunEvent) (n : ℕ) (x : ActorEvent) (s : ActorStep) (f : Moves top w v ev n x s) (g : IsListed w v n s)
     (k : AreOwnJournals top w) where
-  own : (e : Envelope) → Among e s.sends → e.from ≡ n
-  own e m = ((step_ticks top n (actor_in top w n) x s f.takes).sends e (among_contains e s.sends m)).0
+  own : (e : Envelope) → Contains s.sends e → e.from ≡ n
+  own e m = ((step_ticks top n (actor_in top w n) x s f.takes).sends e m).0
 
   sent_now : (m : ℕ) → sent_from v m ≡ sent_from w m ++ filter (λ (e : Envelope). e.from == m) s.sends
   sent_now m = ap (filter (λ (e : Envelope). e.from == m)) f.sent ∙ filter-append (λ (e : Envelope). e.from == m) w.sent s.sends
@@ -89,7 +89,7 @@ module _ (top : TopologyValue) (w v : Run) (ev : RunEvent) (n : ℕ) (x : ActorE
       record {
         known = known_later f k.known;
         each = λ m. by m (n == m) refl;
-        senders = λ e m. elim (among_append e w.sent s.sends (subst (λ l. Among e l) f.sent m)) [
+        senders = λ e m. elim (Contains-append_cases w.sent s.sends e (subst (λ l. Contains l e) f.sent m)) [
           | inl old ↦ k.senders e old
           | inr new ↦ subst (λ z. z < node_count top) (sym (own e new)) f.actor
         ];
@@ -114,7 +114,7 @@ own_continued top w (ev ∷ events) some inv k =
 
 pub run_journals : (top : TopologyValue) (events : List RunEvent) → 0 < top.shards → AreOwnJournals top (run top events)
 run_journals top events some =
-    own_continued top (opening top) events some (opening_holds top) (record { known = λ k m. absurd m; each = λ m. refl; senders = λ e m. absurd m })
+    own_continued top (opening top) events some (opening_holds top) (record { known = λ k m. absurd (none_in_empty (Deliver k) m); each = λ m. refl; senders = λ e m. absurd (none_in_empty e m) })
 
 pub each_is_its_journal : (top : TopologyValue) (events : List RunEvent) (node : ℕ) → 0 < top.shards → IsItsJournal top (run top events) node
 each_is_its_journal top events node some = (run_journals top events some).each node
@@ -122,25 +122,25 @@ each_is_its_journal top events node some = (run_journals top events some).each n
 -- ## The journals of a run fit together
 
 -- what an actor of a run handles was sent to it
-pub handled_there : (w : Run) (m : ℕ) (e : Envelope) → Among (Handle e) (journal_in w m) → Among e w.sent × (e.to ≡ m)
-handled_there w m e i = let t = given_only (event_at w m) w.events (Handle e) (among_contains (Handle e) (journal_in w m) i) in at t.0 t.2
+pub handled_there : (w : Run) (m : ℕ) (e : Envelope) → Contains (journal_in w m) (Handle e) → Contains w.sent e × (e.to ≡ m)
+handled_there w m e i = let t = given_only (event_at w m) w.events (Handle e) i in at t.0 t.2
   where
     sent : (k : ℕ) (o : Option Envelope) → slice_get w.sent k ≡ o → option_and_then (λ (z : Envelope). if z.to == m then Some (Handle z) else None) o ≡ Some (Handle e)
-        → Among e w.sent × (e.to ≡ m)
+        → Contains w.sent e × (e.to ≡ m)
     sent k None q h = absurd (cc)
     sent k (Some z) q h = by (z.to == m) refl h
       where
-        by : (b : Bool) → (z.to == m) ≡ b → (if b then Some (Handle z) else None) ≡ Some (Handle e) → Among e w.sent × (e.to ≡ m)
+        by : (b : Bool) → (z.to == m) ≡ b → (if b then Some (Handle z) else None) ≡ Some (Handle e) → Contains w.sent e × (e.to ≡ m)
         by false p g = absurd (cc)
         by true p g =
             let same : z ≡ e = cc in
-            (subst (λ y. Among y w.sent) same (get_among w.sent k z q), ap (λ (y : Envelope). y.to) (sym same) ∙ eqb-true z.to m p)
+            (subst (λ y. Contains w.sent y) same (contains_get w.sent k z q), ap (λ (y : Envelope). y.to) (sym same) ∙ eqb-true z.to m p)
 
-    other : (b : Bool) (y : ActorEvent) → (y ≡ Handle e → ⊥) → (if b then Some y else None) ≡ Some (Handle e) → Among e w.sent × (e.to ≡ m)
+    other : (b : Bool) (y : ActorEvent) → (y ≡ Handle e → ⊥) → (if b then Some y else None) ≡ Some (Handle e) → Contains w.sent e × (e.to ≡ m)
     other true y apart h = let same : y ≡ Handle e = cc in absurd (apart same)
     other false y apart h = absurd (cc)
 
-    at : (ev : RunEvent) → event_at w m ev ≡ Some (Handle e) → Among e w.sent × (e.to ≡ m)
+    at : (ev : RunEvent) → event_at w m ev ≡ Some (Handle e) → Contains w.sent e × (e.to ≡ m)
     at (Submit session o) h = other (session == m) (SubmitHere o) (λ q. absurd (cc)) h
     at (Deliver k) h = sent k (slice_get w.sent k) refl h
     at (Collect shard time) h = other (shard == m) (CollectHere time) (λ q. absurd (cc)) h
@@ -153,14 +153,13 @@ runs_fit top journals events some is =
     record {
       replays = λ n c. (_, ap (replay_of top n) (sym (is.each n c)) ∙ k.each n);
       received = λ n e c has.
-          let h = handled_there w n e (subst (λ l. Among (Handle e) l) (sym (is.each n c)) (contains_among (Handle e) (journals n) has)) in
+          let h = handled_there w n e (subst (λ l. Contains l (Handle e)) (sym (is.each n c)) has) in
           let from = k.senders e h.0 in
           let sent : sent_by top e.from (journals e.from) ≡ filter (λ (z : Envelope). z.from == e.from) w.sent =
           ap (λ l. sent_by top e.from l) (sym (is.each e.from from)) ∙ ap sent_in (k.each e.from) in
           record {
             here = h.1;
             sender = from;
-            sent = among_contains e (sent_by top e.from (journals e.from))
-                (subst (λ l. Among e l) (sym sent) (filter_among (λ (z : Envelope). z.from == e.from) w.sent e h.0 (eq-eqb e.from e.from refl)));
+            sent = subst (λ l. Contains l e) (sym sent) (contains_filter (λ (z : Envelope). z.from == e.from) w.sent e h.0 (eq-eqb e.from e.from refl));
           };
     }

@@ -10,7 +10,7 @@ use Rattle.messages.specs.declared.event.ActorEvent.{ActorEvent}
 use Rattle.messages.specs.declared.event.ActorEvent.TheVariants.{Submit as SubmitHere}
 use Rattle.world.specs.Run.{Submission, submission_of}
 use Rattle.world.specs.Threads.{op_in, op_numbered}
-use Rattle.world.proofs.lists.Among.{same_txn, same_txn_self}
+use Rattle.world.proofs.lists.Members.{same_txn, same_txn_self}
 use Rattle.world.proofs.growing.Prefixes.{get_first}
 use Rattle.world.proofs.steps.Counted.{ops_of}
 

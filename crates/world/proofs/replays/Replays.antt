@@ -1,6 +1,6 @@
 -- Replays: one event less at the front, one more at the end, and the times of what is sent.
 use Rattle.std.proofs.Common.{append-nil, ◌≡◌, ◌∙◌, ℕ, ◌<◌, List, [], ◌∷◌, ◌++◌, Option, Some, None, inl, inr, refl, sym, ap, subst, arith}
-use Rattle.std.specs.Prelude.{option_map, option_and_then}
+use Rattle.std.specs.Prelude.{option_map, option_and_then, Contains}
 use Rattle.std.specs.Prelude.{AllPairs}
 use Rattle.std.specs.List.{cons_option}
 use Rattle.std.specs.Option.{unwrap_or}
@@ -9,7 +9,7 @@ use Rattle.messages.specs.declared.envelope.Envelope.{Envelope}
 use Rattle.messages.specs.Topology.{TopologyValue}
 use Rattle.messages.specs.declared.event.ActorEvent.{ActorEvent}
 use Rattle.messages.specs.Actors.{opening_actor, ActorState, clock_of, ActorStep, actor_step, Replayed, before_rest, replay}
-use Rattle.world.proofs.lists.Among.{Among, among_contains, among_append}
+use Rattle.world.proofs.lists.Members.{none_in_empty, contains_cases, Contains-append_cases}
 use Rattle.world.specs.Journals.{clocks_from, ClocksRise}
 use Rattle.world.proofs.lists.Pairs.{no_pairs, more_pairs}
 use Rattle.world.proofs.steps.Ticks.{step_ticks}
@@ -67,15 +67,15 @@ replay_push top me a (y ∷ ys) x r s e takes =
 
 -- what a replay sends is above the clock that it begins with
 pub sent_above : (top : TopologyValue) (me : ℕ) (a : ActorState) (xs : List ActorEvent) (r : Replayed) → replay top me a xs ≡ Some r
-    → (e : Envelope) → Among e r.sent → clock_of a < e.time
+    → (e : Envelope) → Contains r.sent e → clock_of a < e.time
 sent_above top me a [] r h e m =
     let is : record { state = a; sent = []; finished = [] } ≡ r = cc in
-    absurd (subst (λ (z : Replayed). Among e z.sent) (sym is) m)
+    absurd (none_in_empty e (subst (λ (z : Replayed). Contains z.sent e) (sym is) m))
 sent_above top me a (x ∷ xs) r h e m =
     let u = unfolds top me a x xs r h in
     let t = step_ticks top me a x u.step u.takes in
-    elim (among_append e u.step.sends u.rest.sent (subst (λ (z : Replayed). Among e z.sent) (sym u.whole) m)) [
-      | inl now ↦ let is = (t.sends e (among_contains e u.step.sends now)).1 in subst (λ z. clock_of a < z) (sym is) t.rises
+    elim (Contains-append_cases u.step.sends u.rest.sent e (subst (λ (z : Replayed). Contains z.sent e) (sym u.whole) m)) [
+      | inl now ↦ let is = (t.sends e now).1 in subst (λ z. clock_of a < z) (sym is) t.rises
       | inr later ↦
           let above = sent_above top me u.step.state xs u.rest u.replays e later in
           let rises = t.rises in
@@ -89,16 +89,16 @@ NextAbove top me limit a (x ∷ xs) = (s : ActorStep) → actor_step top me a x 
 
 -- and then so is all that is sent
 pub rest_above : (top : TopologyValue) (me limit : ℕ) (a : ActorState) (xs : List ActorEvent) (r : Replayed) → replay top me a xs ≡ Some r
-    → NextAbove top me limit a xs → (e : Envelope) → Among e r.sent → limit < e.time
+    → NextAbove top me limit a xs → (e : Envelope) → Contains r.sent e → limit < e.time
 rest_above top me limit a [] r h k e m =
     let is : record { state = a; sent = []; finished = [] } ≡ r = cc in
-    absurd (subst (λ (z : Replayed). Among e z.sent) (sym is) m)
+    absurd (none_in_empty e (subst (λ (z : Replayed). Contains z.sent e) (sym is) m))
 rest_above top me limit a (x ∷ xs) r h k e m =
     let u = unfolds top me a x xs r h in
     let t = step_ticks top me a x u.step u.takes in
     let lt = k u.step u.takes in
-    elim (among_append e u.step.sends u.rest.sent (subst (λ (z : Replayed). Among e z.sent) (sym u.whole) m)) [
-      | inl now ↦ subst (λ z. limit < z) (sym (t.sends e (among_contains e u.step.sends now)).1) lt
+    elim (Contains-append_cases u.step.sends u.rest.sent e (subst (λ (z : Replayed). Contains z.sent e) (sym u.whole) m)) [
+      | inl now ↦ subst (λ z. limit < z) (sym (t.sends e now).1) lt
       | inr later ↦ let above = sent_above top me u.step.state xs u.rest u.replays e later in omega arith
     ]
 
@@ -111,21 +111,21 @@ next_above top me a (x ∷ xs) = λ s takes. (step_ticks top me a x s takes).ris
 
 -- they are above the clock that it begins with, and rise
 clocks_above : (top : TopologyValue) (me : ℕ) (xs : List ActorEvent) (a : ActorState)
-    → ((m : ℕ) → Among m (clocks_from top me a xs) → clock_of a < m) × AllPairs (λ m n. m < n) (clocks_from top me a xs)
-clocks_above top me [] a = (λ m i. absurd i, no_pairs (λ m n. m < n))
+    → ((m : ℕ) → Contains (clocks_from top me a xs) m → clock_of a < m) × AllPairs (λ m n. m < n) (clocks_from top me a xs)
+clocks_above top me [] a = (λ m i. absurd (none_in_empty m i), no_pairs (λ m n. m < n))
 clocks_above top me (x ∷ xs) a = go (λ b. clocks_above top me xs b) (actor_step top me a x) refl
   where
     clocks_after : Option ActorStep → List ℕ
     clocks_after o = unwrap_or (option_map (λ (s : ActorStep). clock_of s.state ∷ clocks_from top me s.state xs) o) []
 
-    go : ((b : ActorState) → ((m : ℕ) → Among m (clocks_from top me b xs) → clock_of b < m) × AllPairs (λ m n. m < n) (clocks_from top me b xs))
+    go : ((b : ActorState) → ((m : ℕ) → Contains (clocks_from top me b xs) m → clock_of b < m) × AllPairs (λ m n. m < n) (clocks_from top me b xs))
         → (o : Option ActorStep) → actor_step top me a x ≡ o
-        → ((m : ℕ) → Among m (clocks_after o) → clock_of a < m) × AllPairs (λ m n. m < n) (clocks_after o)
-    go ih None q = (λ m i. absurd i, no_pairs (λ m n. m < n))
+        → ((m : ℕ) → Contains (clocks_after o) m → clock_of a < m) × AllPairs (λ m n. m < n) (clocks_after o)
+    go ih None q = (λ m i. absurd (none_in_empty m i), no_pairs (λ m n. m < n))
     go ih (Some s) q =
         let up = (step_ticks top me a x s q).rises in
         let rest = ih s.state in (
-          λ m i. elim i [ inl same ↦ (omega arith) | inr later ↦ let above = rest.0 m later in omega arith ],
+          λ m i. elim (contains_cases _ m _ i) [ inl same ↦ (omega arith) | inr later ↦ let above = rest.0 m later in omega arith ],
           more_pairs (λ m n. m < n) (clock_of s.state) (clocks_from top me s.state xs) rest.0 rest.1,
         )
 

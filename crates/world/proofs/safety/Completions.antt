@@ -1,7 +1,7 @@
 -- Each entry of the transcript came at an event: the delivery of a message that ended the operation of its session. Of moves
 -- nothing is said, since one without dependencies ends where it is submitted.
 use Rattle.std.proofs.Common.{◌<◌, Option, None, ◌≡◌, ◌∙◌, ℕ, ◌+◌, ap, sym, refl, subst, true, inl, inr, List, [], ◌∷◌, ◌++◌, Some, slice_get}
-use Rattle.std.specs.Prelude.{◌⊎◌}
+use Rattle.std.specs.Prelude.{◌⊎◌, Contains}
 use Rattle.slice.specs.declared.read.Read.{Read}
 use Rattle.messages.specs.declared.rows_now.RowNow.{RowNow}
 use Rattle.messages.specs.declared.rows_at.RowAt.{RowAt}
@@ -16,7 +16,6 @@ use Rattle.messages.specs.Session.{SessionState, SessionStep, HeardNow, HeardAt,
 use Rattle.messages.specs.Rounds.{asked_nodes, all_heard}
 use Rattle.messages.specs.SessionEvents.{heard}
 use Rattle.world.specs.Run.{Run, RunEvent, Deliver, Submission, Completed, ended_by, submission_by, opening, step, continued, run}
-use Rattle.world.proofs.lists.Among.{Among}
 use Rattle.world.proofs.steps.EventCases.{event_cases}
 use Rattle.world.proofs.safety.Invariant.{Inv}
 use Rattle.world.proofs.safety.Runs.{opening_holds, step_kept}
@@ -25,6 +24,7 @@ use Rattle.world.proofs.steps.Transcripts.{ended_or_old, nothing_ended, submissi
 use Rattle.world.proofs.fresh.HeardRuns.{ended_is_finished}
 use Rattle.messages.specs.Submitting.{begun}
 use Rattle.world.proofs.steps.HeardCases.{FirstAnswer, SecondAnswer, heard_cases}
+use Rattle.world.proofs.lists.Members.{none_in_empty}
 
 -- ## What ends an operation
 
@@ -123,10 +123,10 @@ begun_brings top n a node o submitted c stays new = elim (submission_tells top n
       subst IsNotMoved (f.outcome ∙ ap (λ (z : Finished). z.outcome) (sym same)) stays
 ]
 
-step_brings : (top : TopologyValue) (w : Run) (x : RunEvent) (c : Completed) → IsNotMoved c.outcome → Inv top w → Among c (step top w x).transcript
-    → Among c w.transcript ⊎ Brings top w x c
+step_brings : (top : TopologyValue) (w : Run) (x : RunEvent) (c : Completed) → IsNotMoved c.outcome → Inv top w → Contains (step top w x).transcript c
+    → Contains w.transcript c ⊎ Brings top w x c
 step_brings top w x c stays inv m =
-    event_cases top w x (λ v. Among c v.transcript → Among c w.transcript ⊎ Brings top w x c)
+    event_cases top w x (λ v. Contains v.transcript c → Contains w.transcript c ⊎ Brings top w x c)
     (record {
       nothing = λ i. inl i;
       handled = λ j e n is sent to i. inl i;
@@ -170,8 +170,8 @@ record CameIn (top : TopologyValue) (w : Run) (events : List RunEvent) (c : Comp
   split : events ≡ before ++ event ∷ after
   brings : Brings top (continued top w before) event c
 
-came_in : (top : TopologyValue) (w : Run) (events : List RunEvent) (c : Completed) → IsNotMoved c.outcome → 0 < top.shards → Inv top w → Among c (continued top w events).transcript
-    → Among c w.transcript ⊎ CameIn top w events c
+came_in : (top : TopologyValue) (w : Run) (events : List RunEvent) (c : Completed) → IsNotMoved c.outcome → 0 < top.shards → Inv top w → Contains (continued top w events).transcript c
+    → Contains w.transcript c ⊎ CameIn top w events c
 came_in top w [] c stays some inv m = inl m
 came_in top w (x ∷ xs) c stays some inv m = elim (came_in top (step top w x) xs c stays some (step_kept top w x some inv) m) [
   | inl here ↦ elim (step_brings top w x c stays inv here) [
@@ -189,10 +189,10 @@ pub record CameAt (top : TopologyValue) (w : Run) (c : Completed) : Type 0 where
   pub brings : Brings top (run top before) event c
   pub delivery : w.events ≡ before ++ Deliver brings.k ∷ after
 
-pub came_at : (top : TopologyValue) (w : Run) → 0 < top.shards → run top w.events ≡ w → (c : Completed) → IsNotMoved c.outcome → Among c w.transcript
+pub came_at : (top : TopologyValue) (w : Run) → 0 < top.shards → run top w.events ≡ w → (c : Completed) → IsNotMoved c.outcome → Contains w.transcript c
     → CameAt top w c
-came_at top w some replayed c stays m = elim (came_in top (opening top) w.events c stays some (opening_holds top) (subst (λ (z : Run). Among c z.transcript) (sym replayed) m)) [
-  | inl none ↦ absurd none
+came_at top w some replayed c stays m = elim (came_in top (opening top) w.events c stays some (opening_holds top) (subst (λ (z : Run). Contains z.transcript c) (sym replayed) m)) [
+  | inl none ↦ absurd (none_in_empty c none)
   | inr r ↦ record {
     before = r.before;
     event = r.event;

@@ -1,6 +1,6 @@
 -- What holds of each entry and each envelope of every run. Each fact speaks of what only grows, so it is kept once it
 -- holds.
-use Rattle.std.specs.Prelude.{◌≡◌, ℕ, ◌<◌, ◌≤◌, true, List, [], ◌∷◌, map, Option, Some, None, ◌⊎◌, false}
+use Rattle.std.specs.Prelude.{◌≡◌, ℕ, ◌<◌, ◌≤◌, true, List, [], ◌∷◌, map, Option, Some, None, ◌⊎◌, false, Contains}
 use Rattle.logical_time.specs.Stamps.{StampValue, TxnValue, WriterValue}
 use Rattle.column_family.specs.declared.batch.Change.{Change}
 use Rattle.column_family.specs.declared.batch.Row.{Row}
@@ -19,7 +19,6 @@ use Rattle.slice.specs.Rows.{row_of}
 use Rattle.messages.specs.Rows.{touches_row}
 use Rattle.shard.specs.Right.{part_now, part_then}
 use Rattle.world.specs.Run.{Run, Submission}
-use Rattle.world.proofs.lists.Among.{Among}
 
 -- ## Submissions and decisions
 
@@ -28,7 +27,7 @@ txn_of b = record { session = b.session; number = b.number }
 
 -- the transaction was submitted so, with this batch
 pub record IsWritten (w : Run) (t : TxnValue) (b : Submission) (batch : List Change) : Type 0 where
-  pub among : Among b w.submitted
+  pub among : Contains w.submitted b
   pub txn : txn_of b ≡ t
   pub op : b.op ≡ op.Batch batch
 
@@ -47,7 +46,7 @@ part_on top batch node = part_for top.shards (normal_of batch) (shard_of top nod
 -- the shard with this node decided so
 pub record IsDecided (w : Run) (node : ℕ) (t : TxnValue) (n : ℕ) (s : StampValue) : Type 0 where
   pub decision : Decision
-  pub among : Among decision (w.shards node).decided
+  pub among : Contains (w.shards node).decided decision
   pub txn : decision.txn ≡ t
   pub commit : decision.commit ≡ n
   pub stamp : decision.stamp ≡ s
@@ -62,29 +61,29 @@ pub record IsDone (top : TopologyValue) (w : Run) (dc : ℕ) (t : TxnValue) (tim
   pub node : ℕ
   pub here : dc_of top node ≡ dc
   pub decision : Decision
-  pub among : Among decision (w.shards node).decided
+  pub among : Contains (w.shards node).decided decision
   pub txn : decision.txn ≡ t
   pub commit : decision.commit < time
 
 -- the shard prepared a part of the transaction, at a time below this one
 pub record PreparedBefore (w : Run) (node : ℕ) (t : TxnValue) (n : ℕ) : Type 0 where
   pub part : PreparedPart
-  pub among : Among part (w.shards node).prepared
+  pub among : Contains (w.shards node).prepared part
   pub txn : part.txn ≡ t
   pub time : part.time < n
 
 -- no two of these decisions are of one transaction
 abbrev pub DecidedOnce : List Decision → Type 0
 DecidedOnce [] = Unit {0}
-DecidedOnce (d ∷ ds) = ((e : Decision) → Among e ds → e.txn ≡ d.txn → ⊥) × DecidedOnce ds
+DecidedOnce (d ∷ ds) = ((e : Decision) → Contains ds e → e.txn ≡ d.txn → ⊥) × DecidedOnce ds
 
 -- ## What a shard kept
 
 -- the coordinator's own part is on the coordinator, every other on a cohort
 abbrev pub RoleFits : Role → TopologyValue → List Change → ℕ → Type 0
 RoleFits Own top batch node = shard_of top node ≡ coordinator_of top.shards batch
-RoleFits Cohort top batch node = Among (shard_of top node) (cohorts_of top.shards batch)
-RoleFits Replica top batch node = Among (shard_of top node) (cohorts_of top.shards batch)
+RoleFits Cohort top batch node = Contains (cohorts_of top.shards batch) (shard_of top node)
+RoleFits Replica top batch node = Contains (cohorts_of top.shards batch) (shard_of top node)
 
 pub record PreparedSound (top : TopologyValue) (w : Run) (node : ℕ) (p : PreparedPart) : Type 0 where
   pub submission : Submission
@@ -95,9 +94,9 @@ pub record PreparedSound (top : TopologyValue) (w : Run) (node : ℕ) (p : Prepa
   pub role : RoleFits p.role top batch node
   pub origin : p.role ≡ Cohort → dc_of top node ≡ submission.home
   pub time : p.time ≤ (w.shards node).clock
-  pub one : (g : PreparedPart) → Among g (w.shards node).prepared → g.txn ≡ p.txn → g ≡ p
+  pub one : (g : PreparedPart) → Contains (w.shards node).prepared g → g.txn ≡ p.txn → g ≡ p
   -- where the shard itself decides the transaction, it is above
-  pub below : (d : Decision) → Among d (w.shards node).decided → d.txn ≡ p.txn → p.time < d.commit
+  pub below : (d : Decision) → Contains (w.shards node).decided d → d.txn ≡ p.txn → p.time < d.commit
 
 -- its origin's stamp, not above this time, or none at the origin
 abbrev pub StampFits : TopologyValue → Run → ℕ → ℕ → Submission → List Change → Option StampValue → Type 0
@@ -113,7 +112,7 @@ pub record BallotSound (top : TopologyValue) (w : Run) (node n : ℕ) (b : Begun
   pub rows : b.rows ≡ part_on top batch node
   pub cohorts : b.cohorts ≡ cohorts_of top.shards batch
   pub dependencies : b.dependencies ≡ submission.dependencies
-  pub done : (k : WriterValue) → Among k submission.dependencies → IsDone top w (dc_of top node) k.txn n
+  pub done : (k : WriterValue) → Contains submission.dependencies k → IsDone top w (dc_of top node) k.txn n
   pub begun : submission.time ≤ n
   pub stamp : StampFits top w node n submission batch b.stamp
 
@@ -136,7 +135,7 @@ pub record KeptPartSound (top : TopologyValue) (w : Run) (node : ℕ) (k : KeptP
   pub written : IsWritten w k.txn submission batch
   pub coordinator : k.coordinator ≡ coordinator_of top.shards batch
   pub rows : k.rows ≡ part_on top batch node
-  pub cohort : Among (shard_of top node) (cohorts_of top.shards batch)
+  pub cohort : Contains (cohorts_of top.shards batch) (shard_of top node)
 
 pub record DecisionSound (top : TopologyValue) (w : Run) (node : ℕ) (d : Decision) : Type 0 where
   pub submission : Submission
@@ -144,15 +143,15 @@ pub record DecisionSound (top : TopologyValue) (w : Run) (node : ℕ) (d : Decis
   pub written : IsWritten w d.txn submission batch
   pub here : node ≡ lead top (dc_of top node) batch
   pub commit : d.commit ≤ (w.shards node).clock
-  pub applied : (v : Applied) × Among v (w.shards node).applied × (v.part.writer.txn ≡ d.txn)
-  pub cohorts : (c : ℕ) → Among c (cohorts_of top.shards batch) → PreparedBefore w (near top node c) d.txn d.commit
-  pub one : (e : Decision) → Among e (w.shards node).decided → e.txn ≡ d.txn → e ≡ d
-  pub one_time : (e : Decision) → Among e (w.shards node).decided → e.commit ≡ d.commit → e ≡ d
+  pub applied : (v : Applied) × Contains (w.shards node).applied v × (v.part.writer.txn ≡ d.txn)
+  pub cohorts : (c : ℕ) → Contains (cohorts_of top.shards batch) c → PreparedBefore w (near top node c) d.txn d.commit
+  pub one : (e : Decision) → Contains (w.shards node).decided e → e.txn ≡ d.txn → e ≡ d
+  pub one_time : (e : Decision) → Contains (w.shards node).decided e → e.commit ≡ d.commit → e ≡ d
   pub stamp : IsStamp top w submission batch d.stamp
   pub stamp_time : d.stamp.time ≤ d.commit
   pub begun : submission.time ≤ d.commit
   -- what it depends on was decided here before
-  pub done : (k : WriterValue) → Among k submission.dependencies → IsDone top w (dc_of top node) k.txn d.commit
+  pub done : (k : WriterValue) → Contains submission.dependencies k → IsDone top w (dc_of top node) k.txn d.commit
 
 pub record AppliedSound (top : TopologyValue) (w : Run) (node : ℕ) (v : Applied) : Type 0 where
   pub submission : Submission
@@ -168,7 +167,7 @@ pub record AppliedSound (top : TopologyValue) (w : Run) (node : ℕ) (v : Applie
 -- what the shard decides of the transaction commits above the time
 pub record Excluded (w : Run) (node : ℕ) (t : TxnValue) (time : ℕ) : Type 0 where
   pub clock : time ≤ (w.shards node).clock
-  pub above : (d : Decision) → Among d (w.shards node).decided → d.txn ≡ t → time < d.commit
+  pub above : (d : Decision) → Contains (w.shards node).decided d → d.txn ≡ t → time < d.commit
 
 -- the transaction was submitted with nothing on this row of the shard
 pub record Misses (top : TopologyValue) (w : Run) (node : ℕ) (r : Row) (t : TxnValue) : Type 0 where
@@ -178,16 +177,16 @@ pub record Misses (top : TopologyValue) (w : Run) (node : ℕ) (r : Row) (t : Tx
   pub misses : has_row r (part_on top batch node) ≡ false
 
 abbrev pub Sees : List Applied → TxnValue → Type 0
-Sees seen t = (v : Applied) × Among v seen × (v.part.writer.txn ≡ t)
+Sees seen t = (v : Applied) × Contains seen v × (v.part.writer.txn ≡ t)
 
 -- of a row of the shard, these parts are all that is ever committed up to the time
 pub record Complete (top : TopologyValue) (w : Run) (node : ℕ) (r : Row) (time : ℕ) (seen : List Applied) : Type 0 where
   pub clock : time ≤ (w.shards node).clock
   pub apart : AreApart seen
-  pub applied : (v : Applied) → Among v seen → Among v (w.shards node).applied
-  pub prepared : (p : PreparedPart) → Among p (w.shards node).prepared → touches_row r p ≡ true
+  pub applied : (v : Applied) → Contains seen v → Contains (w.shards node).applied v
+  pub prepared : (p : PreparedPart) → Contains (w.shards node).prepared p → touches_row r p ≡ true
       → Sees seen p.txn ⊎ (time ≤ p.time) ⊎ Excluded w (near top node p.coordinator) p.txn time
-  pub decided : (d : Decision) → Among d (w.shards node).decided → Sees seen d.txn ⊎ (time < d.commit) ⊎ Misses top w node r d.txn
+  pub decided : (d : Decision) → Contains (w.shards node).decided d → Sees seen d.txn ⊎ (time < d.commit) ⊎ Misses top w node r d.txn
 
 -- a row of a first round shows the newest of what was complete at its latest valid time
 pub record RowNowSound (top : TopologyValue) (w : Run) (node time : ℕ) (read : Read) (r : RowNow) : Type 0 where
@@ -205,8 +204,8 @@ pub record RowAtSound (top : TopologyValue) (w : Run) (node time : ℕ) (read : 
 -- rows that answer a read's keys, in its order
 pub record AnswersNow (top : TopologyValue) (w : Run) (node time : ℕ) (asked : Read) (given : List RowNow) : Type 0 where
   pub keys : map (λ r. r.key) given ≡ asked.keys
-  pub rows : (r : RowNow) → Among r given → RowNowSound top w node time asked r
+  pub rows : (r : RowNow) → Contains given r → RowNowSound top w node time asked r
 
 pub record AnswersAt (top : TopologyValue) (w : Run) (node time : ℕ) (asked : Read) (given : List RowAt) : Type 0 where
   pub keys : map (λ r. r.key) given ≡ asked.keys
-  pub rows : (r : RowAt) → Among r given → RowAtSound top w node time asked r
+  pub rows : (r : RowAt) → Contains given r → RowAtSound top w node time asked r

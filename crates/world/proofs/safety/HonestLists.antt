@@ -13,7 +13,6 @@ use Rattle.messages.specs.Topology.{TopologyValue, shard_of}
 use Rattle.messages.specs.Honest.{IsHonest, ToldCommit, all_told, part_in}
 use Rattle.world.specs.Run.{Run}
 use Rattle.world.specs.Met.{envelopes_to}
-use Rattle.world.proofs.lists.Among.{contains_among}
 use Rattle.world.proofs.safety.Facts.{part_on}
 use Rattle.world.proofs.safety.Invariant.{Inv, Says}
 use Rattle.world.proofs.safety.Told.{said, told_true, told_commit, told_stamp, told_above, told_excluded, stamp_met, met_apart, WereSent, IsTrue, handled_were_sent}
@@ -64,7 +63,7 @@ module _ (top : TopologyValue) (w : Run) (node : ℕ) (inv : Inv top w) (es : Li
   sent_honest = record {
     commit = λ x y m n same. told_commit top w node x y inv (is_true x m) (is_true y n) same;
     stamp = λ x y m n same. told_stamp top w node x y inv (is_true x m) (is_true y n) same;
-    prepared = λ x p m k same. told_above top w node p x inv (contains_among p (w.shards node).prepared k) (is_true x m) same;
+    prepared = λ x p m k same. told_above top w node p x inv k (is_true x m) same;
     told = λ x m. (is_true x m).time;
     excluded = excluded_above;
     stamps = λ y z m k same. met_apart top w y z inv (stamp_met top w node es sent y inv m) (stamp_met top w node es sent z inv k) same;

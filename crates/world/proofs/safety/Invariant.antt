@@ -28,7 +28,6 @@ use Rattle.messages.specs.Rounds.{asked_nodes, all_heard, effective_time, late_k
 use Rattle.shard.specs.Events.{shard_run, envelopes_handled}
 use Rattle.world.specs.Run.{Run, Submission, Completed}
 use Rattle.world.specs.Promises.{Fits}
-use Rattle.world.proofs.lists.Among.{Among}
 use Rattle.world.proofs.growing.Growth.{AskedNow, AskedAt}
 use Rattle.world.proofs.safety.Facts.{txn_of, IsWritten, lead, part_on, IsDecided, IsDone, DecidedOnce, PreparedBefore, PreparedSound, BallotSound, KeptBallotSound, KeptPartSound, DecisionSound, AppliedSound, Excluded, RowAtSound, AnswersNow, AnswersAt}
 
@@ -59,7 +58,7 @@ pub record PrepareSound (top : TopologyValue) (w : Run) (node : ℕ) (t : TxnVal
   pub written : IsWritten w t submission batch
   pub coordinator : c ≡ coordinator_of top.shards batch
   pub rows : changes ≡ part_on top batch node
-  pub cohort : Among (shard_of top node) (cohorts_of top.shards batch)
+  pub cohort : Contains (cohorts_of top.shards batch) (shard_of top node)
   pub origin : dc_of top node ≡ submission.home
 
 -- the sender decided so, not above this time
@@ -81,7 +80,7 @@ MovesTo dc (op.Move there) = there ≡ dc
 -- the waiter is
 pub data MayWait (top : TopologyValue) (w : Run) (node : ℕ) (waiter : TxnValue) (from : ℕ) : Type 0 where
   of_shard : (b : Submission) (batch : List Change) → IsWritten w waiter b batch → dc_of top from ≡ dc_of top node → MayWait top w node waiter from
-  of_move : (b : Submission) → Among b w.submitted → txn_of b ≡ waiter → b.session ≡ from → MovesTo (dc_of top node) b.op → MayWait top w node waiter from
+  of_move : (b : Submission) → Contains w.submitted b → txn_of b ≡ waiter → b.session ≡ from → MovesTo (dc_of top node) b.op → MayWait top w node waiter from
 
 -- rows that answer what a session asked in its first round
 pub record TellsNow (top : TopologyValue) (w : Run) (from to time number : ℕ) (rows : List RowNow) : Type 0 where
@@ -126,7 +125,7 @@ Says top w from to time (PrepareRemote t) = Unit {0}
 Says top w from to time (DepCheck dependency waiter) = MayWait top w to waiter from
 Says top w from to time (DepOk dependency waiter commit) = TellsCommit w from time dependency commit × MayWait top w from waiter to
 Says top w from to time (Done t commit stamp) = TellsDecision w from time t commit stamp × IsAtHome top w from t
-Says top w from to time (PartNow number rows) = (r : RowNow) → Among r rows → r.evt ≤ time
+Says top w from to time (PartNow number rows) = (r : RowNow) → Contains rows r → r.evt ≤ time
 Says top w from to time (PartAt number bound answer) = Unit {0}
 
 -- and what a session hears of it: answers are right besides, which follows from what holds of their shard
@@ -141,23 +140,23 @@ EnvelopeSound top w e = Says top w e.from e.to e.time e.body
 -- ## Shards
 
 pub record ShardSound (top : TopologyValue) (w : Run) (node : ℕ) (a : ShardState) : Type 0 where
-  pub prepared : (p : PreparedPart) → Among p a.prepared → PreparedSound top w node p
-  pub ballots : (b : BegunBallot) → Among b a.ballots → BallotSound top w node (w.shards node).clock b
-  pub early : (v : Vote) → Among v a.early → PreparedBefore w v.node v.txn (w.shards node).clock
-  pub votes : (v : Vote) → Among v a.votes → PreparedBefore w v.node v.txn (w.shards node).clock
-  pub decided : (d : Decision) → Among d a.decided → DecisionSound top w node d
+  pub prepared : (p : PreparedPart) → Contains a.prepared p → PreparedSound top w node p
+  pub ballots : (b : BegunBallot) → Contains a.ballots b → BallotSound top w node (w.shards node).clock b
+  pub early : (v : Vote) → Contains a.early v → PreparedBefore w v.node v.txn (w.shards node).clock
+  pub votes : (v : Vote) → Contains a.votes v → PreparedBefore w v.node v.txn (w.shards node).clock
+  pub decided : (d : Decision) → Contains a.decided d → DecisionSound top w node d
   pub once : DecidedOnce a.decided
-  pub applied : (v : Applied) → Among v a.applied → AppliedSound top w node v
-  pub kept_parts : (k : KeptPart) → Among k a.kept_parts → KeptPartSound top w node k
-  pub kept_ballots : (r : KeptBallot) → Among r a.kept_ballots → KeptBallotSound top w node (w.shards node).clock r
-  pub met : (m : Met) → Among m a.met → IsDone top w (dc_of top node) m.dependency (w.shards node).clock
-  pub askers : (k : Asker) → Among k a.askers → MayWait top w node k.waiter k.from
+  pub applied : (v : Applied) → Contains a.applied v → AppliedSound top w node v
+  pub kept_parts : (k : KeptPart) → Contains a.kept_parts k → KeptPartSound top w node k
+  pub kept_ballots : (r : KeptBallot) → Contains a.kept_ballots r → KeptBallotSound top w node (w.shards node).clock r
+  pub met : (m : Met) → Contains a.met m → IsDone top w (dc_of top node) m.dependency (w.shards node).clock
+  pub askers : (k : Asker) → Contains a.askers k → MayWait top w node k.waiter k.from
 
 -- none of these is of the transaction
 pub record Untouched (ballots : List BegunBallot) (prepared : List PreparedPart) (decided : List Decision) (t : TxnValue) : Type 0 where
-  pub unbegun : (b : BegunBallot) → Among b ballots → b.txn ≡ t → ⊥
-  pub unprepared : (p : PreparedPart) → Among p prepared → p.txn ≡ t → ⊥
-  pub undecided : (d : Decision) → Among d decided → d.txn ≡ t → ⊥
+  pub unbegun : (b : BegunBallot) → Contains ballots b → b.txn ≡ t → ⊥
+  pub unprepared : (p : PreparedPart) → Contains prepared p → p.txn ≡ t → ⊥
+  pub undecided : (d : Decision) → Contains decided d → d.txn ≡ t → ⊥
 
 -- a body that answers a read
 abbrev pub IsAnswer : Body → Type 0
@@ -170,15 +169,15 @@ IsAnswer other = ⊥
 pub record Played (top : TopologyValue) (w : Run) (node : ℕ) : Type 0 where
   pub events : List ActorEvent
   pub state : (shard_run top node events).state ≡ w.shards node
-  pub handled : (e : Envelope) → Contains (envelopes_handled (shard_run top node events)) e → Among e w.sent × (e.to ≡ node)
-  pub answers : (e : Envelope) → Among e w.sent → e.from ≡ node → IsAnswer e.body → Contains (shard_run top node events).sent e
+  pub handled : (e : Envelope) → Contains (envelopes_handled (shard_run top node events)) e → Contains w.sent e × (e.to ≡ node)
+  pub answers : (e : Envelope) → Contains w.sent e → e.from ≡ node → IsAnswer e.body → Contains (shard_run top node events).sent e
 
 -- ## Sessions
 
 -- the operation of this number is this one
 pub record IsOpen (w : Run) (node m dc : ℕ) (o : Op) : Type 0 where
   pub submission : Submission
-  pub among : Among submission w.submitted
+  pub among : Contains w.submitted submission
   pub session : submission.session ≡ node
   pub number : submission.number ≡ m
   pub home : submission.home ≡ dc
@@ -186,12 +185,12 @@ pub record IsOpen (w : Run) (node m dc : ℕ) (o : Op) : Type 0 where
 
 -- an answer of a first round that was kept
 pub record HeardNowSound (top : TopologyValue) (w : Run) (a : SessionState) (read : Read) (h : HeardNow) : Type 0 where
-  pub asked : Among h.from (asked_nodes top a read)
+  pub asked : Contains (asked_nodes top a read) h.from
   pub answers : AnswersNow top w h.from a.clock (share_of top read (shard_of top h.from)) h.rows
 
 -- an answer of a second round that was kept
 pub record HeardAtSound (top : TopologyValue) (w : Run) (a : SessionState) (read : Read) (time : ℕ) (first : List HeardNow) (h : HeardAt) : Type 0 where
-  pub asked : Among h.from (late_nodes (asked_nodes top a read) time first)
+  pub asked : Contains (late_nodes (asked_nodes top a read) time first) h.from
   pub answers : AnswersAt top w h.from time (record read { keys = late_keys time first h.from }) h.rows
 
 pub record WritingSound (top : TopologyValue) (w : Run) (node : ℕ) (a : SessionState) (c : ℕ) : Type 0 where
@@ -202,16 +201,16 @@ pub record WritingSound (top : TopologyValue) (w : Run) (node : ℕ) (a : Sessio
 pub record FirstSound (top : TopologyValue) (w : Run) (node : ℕ) (a : SessionState) (read : Read) (hs : List HeardNow) : Type 0 where
   pub opened : IsOpen w node a.count a.home (op.Read read)
   pub depends : opened.submission.dependencies ≡ a.dependencies
-  pub heard : (h : HeardNow) → Among h hs → HeardNowSound top w a read h
+  pub heard : (h : HeardNow) → Contains hs h → HeardNowSound top w a read h
 
 pub record SecondSound (top : TopologyValue) (w : Run) (node : ℕ) (a : SessionState) (read : Read) (n : ℕ) (fs : List HeardNow) (hs : List HeardAt) : Type 0 where
   pub opened : IsOpen w node a.count a.home (op.Read read)
   pub depends : opened.submission.dependencies ≡ a.dependencies
-  pub first : (h : HeardNow) → Among h fs → HeardNowSound top w a read h
+  pub first : (h : HeardNow) → Contains fs h → HeardNowSound top w a read h
   pub all : all_heard (asked_nodes top a read) fs ≡ true
   pub time : n ≡ effective_time a.floor fs
   pub clock : n ≤ a.clock
-  pub heard : (h : HeardAt) → Among h hs → HeardAtSound top w a read n fs h
+  pub heard : (h : HeardAt) → Contains hs h → HeardAtSound top w a read n fs h
 
 -- an open move: each dependency is still to be answered, or is decided in the new data centre by the greatest time so far
 pub record MovingSound (top : TopologyValue) (w : Run) (node : ℕ) (a : SessionState) (dc : ℕ) (left : List WriterValue) (floor : ℕ) : Type 0 where
@@ -221,7 +220,7 @@ pub record MovingSound (top : TopologyValue) (w : Run) (node : ℕ) (a : Session
   -- it leaves the present home
   pub away : dc ≡ a.home → ⊥
   pub clock : floor ≤ a.clock
-  pub answered : (k : WriterValue) → Among k a.dependencies → Among k left ⊎ IsDone top w dc k.txn (floor + 1)
+  pub answered : (k : WriterValue) → Contains a.dependencies k → Contains left k ⊎ IsDone top w dc k.txn (floor + 1)
 
 abbrev pub OpenSound : TopologyValue → Run → ℕ → SessionState → Open → Type 0
 OpenSound top w node a Idle = Unit {0}
@@ -233,33 +232,33 @@ OpenSound top w node a (Moving dc left floor) = MovingSound top w node a dc left
 pub record SessionSound (top : TopologyValue) (w : Run) (node : ℕ) (a : SessionState) : Type 0 where
   pub floor : a.floor ≤ a.clock
   pub current : OpenSound top w node a a.current
-  pub dependencies : (k : WriterValue) → Among k a.dependencies → IsDone top w a.home k.txn (a.floor + 1)
+  pub dependencies : (k : WriterValue) → Contains a.dependencies k → IsDone top w a.home k.txn (a.floor + 1)
   -- each is of a shard that there is
-  pub placed : (k : WriterValue) → Among k a.dependencies → k.shard < top.shards
+  pub placed : (k : WriterValue) → Contains a.dependencies k → k.shard < top.shards
   -- its last outcome was taken
   pub taken : a.untaken ≡ None
 
 -- ## Submissions and completed operations
 
 pub record SubmittedSound (top : TopologyValue) (w : Run) : Type 0 where
-  pub accepted : (b : Submission) → Among b w.submitted → plan_fault top b.home b.op ≡ None
-  pub number : (b : Submission) → Among b w.submitted → b.number ≤ (w.sessions b.session).count
-  pub one : (b c : Submission) → Among b w.submitted → Among c w.submitted → txn_of b ≡ txn_of c → b ≡ c
+  pub accepted : (b : Submission) → Contains w.submitted b → plan_fault top b.home b.op ≡ None
+  pub number : (b : Submission) → Contains w.submitted b → b.number ≤ (w.sessions b.session).count
+  pub one : (b c : Submission) → Contains w.submitted b → Contains w.submitted c → txn_of b ≡ txn_of c → b ≡ c
   -- each write depends on transactions of shards that there are
-  pub placed : (b : Submission) (k : WriterValue) → Among b w.submitted → Among k b.dependencies → k.shard < top.shards
+  pub placed : (b : Submission) (k : WriterValue) → Contains w.submitted b → Contains b.dependencies k → k.shard < top.shards
 
 -- A read was answered from these rows: each asked key has one, and each is right at the effective time, on the shard of its
 -- key.
 pub record AnsweredFrom (top : TopologyValue) (w : Run) (dc : ℕ) (read : Read) (time : ℕ) (rows : List RowAt) : Type 0 where
-  pub given : (key : List ℕ) → Among key read.keys → Among key (map (λ r. r.key) rows)
-  pub right : (r : RowAt) → Among r rows → RowAtSound top w (shard_node top dc (shard_of_key top.shards r.key)) time read r
+  pub given : (key : List ℕ) → Contains read.keys key → Contains (map (λ r. r.key) rows) key
+  pub right : (r : RowAt) → Contains rows r → RowAtSound top w (shard_node top dc (shard_of_key top.shards r.key)) time read r
 
 -- what the operation depends on is decided in this data centre below this time
 pub record DependsOnDone (top : TopologyValue) (w : Run) (dc : ℕ) (t : TxnValue) (n : ℕ) : Type 0 where
   pub submission : Submission
-  pub among : Among submission w.submitted
+  pub among : Contains w.submitted submission
   pub txn : txn_of submission ≡ t
-  pub done : (k : WriterValue) → Among k submission.dependencies → IsDone top w dc k.txn n
+  pub done : (k : WriterValue) → Contains submission.dependencies k → IsDone top w dc k.txn n
 
 pub record AnsweredSound (top : TopologyValue) (w : Run) (dc : ℕ) (t : TxnValue) (read : Read) (time : ℕ) (shown : List AnsweredRow) : Type 0 where
   pub rows : List RowAt
@@ -285,6 +284,6 @@ pub record Inv (top : TopologyValue) (w : Run) : Type 0 where
   pub shards : (node : ℕ) → ShardSound top w node (w.shards node)
   pub played : (node : ℕ) → Played top w node
   pub sessions : (node : ℕ) → SessionSound top w node (w.sessions node)
-  pub sent : (e : Envelope) → Among e w.sent → EnvelopeSound top w e
+  pub sent : (e : Envelope) → Contains w.sent e → EnvelopeSound top w e
   pub submitted : SubmittedSound top w
-  pub transcript : (c : Completed) → Among c w.transcript → CompletedSound top w c
+  pub transcript : (c : Completed) → Contains w.transcript c → CompletedSound top w c

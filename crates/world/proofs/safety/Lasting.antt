@@ -1,5 +1,6 @@
 -- Each fact that holds goes on holding as the run grows.
 use Rattle.std.proofs.Common.{◌≡◌, ℕ, ◌<◌, ◌≤◌, true, List, Option, Some, None, ◌⊎◌, inl, inr, sym, arith, le_refl, le_trans, lt_of_lt_of_le, lt_of_le_of_lt}
+use Rattle.std.specs.Prelude.{Contains}
 use Rattle.logical_time.specs.Stamps.{StampValue, TxnValue}
 use Rattle.column_family.specs.declared.batch.Change.{Change}
 use Rattle.column_family.specs.declared.batch.Row.{Row}
@@ -12,7 +13,6 @@ use Rattle.messages.specs.Shard.{ShardState, PreparedPart, BegunBallot, Decision
 use Rattle.messages.specs.Session.{SessionState}
 use Rattle.messages.specs.Rows.{touches_row}
 use Rattle.world.specs.Run.{Run, Submission}
-use Rattle.world.proofs.lists.Among.{Among}
 use Rattle.world.proofs.growing.Growth.{NewPrepared, NewDecision, ShardGrows, SessionGrows, Grows}
 use Rattle.world.proofs.safety.Facts.{IsWritten, near, IsDecided, IsStamp, IsDone, PreparedBefore, PreparedSound, StampFits, BallotSound, KeptBallotSound, KeptPartSound, DecisionSound, AppliedSound, Excluded, Sees, Complete, RowNowSound, RowAtSound, AnswersNow, AnswersAt, Misses}
 
@@ -65,15 +65,15 @@ before_grows {node = node} g le k = record { part = k.part; among = (g.shards no
 
 -- ## What a shard kept
 
-one_prepared : {top : TopologyValue} {w : Run} {node : ℕ} {p : PreparedPart} (k : PreparedSound top w node p) → Among p (w.shards node).prepared → (e : PreparedPart) → Among e (w.shards node).prepared ⊎ NewPrepared (w.shards node) e → e.txn ≡ p.txn → e ≡ p
+one_prepared : {top : TopologyValue} {w : Run} {node : ℕ} {p : PreparedPart} (k : PreparedSound top w node p) → Contains (w.shards node).prepared p → (e : PreparedPart) → Contains (w.shards node).prepared e ⊎ NewPrepared (w.shards node) e → e.txn ≡ p.txn → e ≡ p
 one_prepared k m e (inl old) q = k.one e old q
 one_prepared {p = p} k m e (inr new) q = absurd (new.unprepared p m (sym q))
 
-below_decided : {top : TopologyValue} {w : Run} {node : ℕ} {p : PreparedPart} (k : PreparedSound top w node p) (d : Decision) → Among d (w.shards node).decided ⊎ NewDecision (w.shards node) d → d.txn ≡ p.txn → p.time < d.commit
+below_decided : {top : TopologyValue} {w : Run} {node : ℕ} {p : PreparedPart} (k : PreparedSound top w node p) (d : Decision) → Contains (w.shards node).decided d ⊎ NewDecision (w.shards node) d → d.txn ≡ p.txn → p.time < d.commit
 below_decided k d (inl old) q = k.below d old q
 below_decided k d (inr new) q = let le = k.time in let lt = new.above in omega arith
 
-pub prepared_grows : {top : TopologyValue} {w x : Run} {node : ℕ} {p : PreparedPart} → Grows top w x → Among p (w.shards node).prepared → PreparedSound top w node p → PreparedSound top x node p
+pub prepared_grows : {top : TopologyValue} {w x : Run} {node : ℕ} {p : PreparedPart} → Grows top w x → Contains (w.shards node).prepared p → PreparedSound top w node p → PreparedSound top x node p
 prepared_grows {node = node} g m k =
     record {
       submission = k.submission;
@@ -133,15 +133,15 @@ kept_part_grows g k =
       cohort = k.cohort;
     }
 
-one_decision : {top : TopologyValue} {w : Run} {node : ℕ} {d : Decision} (k : DecisionSound top w node d) → Among d (w.shards node).decided → (e : Decision) → Among e (w.shards node).decided ⊎ NewDecision (w.shards node) e → e.txn ≡ d.txn → e ≡ d
+one_decision : {top : TopologyValue} {w : Run} {node : ℕ} {d : Decision} (k : DecisionSound top w node d) → Contains (w.shards node).decided d → (e : Decision) → Contains (w.shards node).decided e ⊎ NewDecision (w.shards node) e → e.txn ≡ d.txn → e ≡ d
 one_decision k m e (inl old) q = k.one e old q
 one_decision {d = d} k m e (inr new) q = absurd (new.undecided d m (sym q))
 
-one_at_time : {top : TopologyValue} {w : Run} {node : ℕ} {d : Decision} (k : DecisionSound top w node d) (e : Decision) → Among e (w.shards node).decided ⊎ NewDecision (w.shards node) e → e.commit ≡ d.commit → e ≡ d
+one_at_time : {top : TopologyValue} {w : Run} {node : ℕ} {d : Decision} (k : DecisionSound top w node d) (e : Decision) → Contains (w.shards node).decided e ⊎ NewDecision (w.shards node) e → e.commit ≡ d.commit → e ≡ d
 one_at_time k e (inl old) q = k.one_time e old q
 one_at_time k e (inr new) q = let le = k.commit in let lt = new.above in absurd (omega arith)
 
-pub decision_grows : {top : TopologyValue} {w x : Run} {node : ℕ} {d : Decision} → Grows top w x → Among d (w.shards node).decided → DecisionSound top w node d → DecisionSound top x node d
+pub decision_grows : {top : TopologyValue} {w x : Run} {node : ℕ} {d : Decision} → Grows top w x → Contains (w.shards node).decided d → DecisionSound top w node d → DecisionSound top x node d
 decision_grows {node = node} g m k =
     record {
       submission = k.submission;
@@ -173,7 +173,7 @@ applied_grows {node = node} g k =
 
 -- ## What a shard answered
 
-excluded_above : {w : Run} {node : ℕ} {t : TxnValue} {n : ℕ} → Excluded w node t n → (d : Decision) → Among d (w.shards node).decided ⊎ NewDecision (w.shards node) d → d.txn ≡ t → n < d.commit
+excluded_above : {w : Run} {node : ℕ} {t : TxnValue} {n : ℕ} → Excluded w node t n → (d : Decision) → Contains (w.shards node).decided d ⊎ NewDecision (w.shards node) d → d.txn ≡ t → n < d.commit
 excluded_above k d (inl old) e = k.above d old e
 excluded_above k d (inr new) e = let le = k.clock in let lt = new.above in omega arith
 
@@ -185,12 +185,12 @@ excluded_grows {node = node} g k =
 pub excluded_below : {w : Run} {node : ℕ} {t : TxnValue} {n m : ℕ} → m ≤ n → Excluded w node t n → Excluded w node t m
 excluded_below le k = record { clock = le_trans le k.clock; above = λ d i e. lt_of_le_of_lt le (k.above d i e) }
 
-prepared_cases : {top : TopologyValue} {w x : Run} {node n : ℕ} {r : Row} {seen : List Applied} → Grows top w x → Complete top w node r n seen → (p : PreparedPart) → Among p (w.shards node).prepared ⊎ NewPrepared (w.shards node) p → touches_row r p ≡ true → Sees seen p.txn ⊎ (n ≤ p.time) ⊎ Excluded x (near top node p.coordinator) p.txn n
+prepared_cases : {top : TopologyValue} {w x : Run} {node n : ℕ} {r : Row} {seen : List Applied} → Grows top w x → Complete top w node r n seen → (p : PreparedPart) → Contains (w.shards node).prepared p ⊎ NewPrepared (w.shards node) p → touches_row r p ≡ true → Sees seen p.txn ⊎ (n ≤ p.time) ⊎ Excluded x (near top node p.coordinator) p.txn n
 prepared_cases g k p (inr new) e = inr (inl (let le = k.clock in let lt = new.above in omega arith))
 prepared_cases g k p (inl old) e = elim (k.prepared p old e) [ inl s ↦ inl s | inr (inl le) ↦ inr (inl le) | inr (inr ex) ↦ inr (inr (excluded_grows g ex)) ]
 
 decided_cases : {top : TopologyValue} {w x : Run} {node n : ℕ} {r : Row} {seen : List Applied} → Grows top w x → Complete top w node r n seen → (d : Decision)
-    → Among d (w.shards node).decided ⊎ NewDecision (w.shards node) d → Sees seen d.txn ⊎ (n < d.commit) ⊎ Misses top x node r d.txn
+    → Contains (w.shards node).decided d ⊎ NewDecision (w.shards node) d → Sees seen d.txn ⊎ (n < d.commit) ⊎ Misses top x node r d.txn
 decided_cases g k d (inl old) =
     elim (k.decided d old) [
       | inl s ↦ inl s

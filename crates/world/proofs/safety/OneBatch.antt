@@ -1,5 +1,6 @@
 -- A transaction was submitted once, with one batch; what is applied of it is seen; and no shard decides it twice.
-use Rattle.std.proofs.Common.{◌≡◌, true, List, [], ◌∷◌, ◌++◌, inl, inr, refl, sym, ap, ◌∙◌}
+use Rattle.std.proofs.Common.{◌≡◌, true, List, [], ◌∷◌, ◌++◌, inl, inr, sym, ap, ◌∙◌}
+use Rattle.std.specs.Prelude.{Contains}
 use Rattle.logical_time.specs.Stamps.{TxnValue}
 use Rattle.column_family.specs.declared.batch.Change.{Change}
 use Rattle.messages.specs.declared.op.Op.TheVariants as op
@@ -8,7 +9,7 @@ use Rattle.messages.specs.Shard.{Decision, ShardState}
 use Rattle.messages.specs.Known.{is_applied}
 use Rattle.messages.specs.Words.{is_same_txn}
 use Rattle.world.specs.Run.{Run, Submission}
-use Rattle.world.proofs.lists.Among.{Among, last_or_old, any_true, same_txn}
+use Rattle.world.proofs.lists.Members.{none_in_empty, contains_first, contains_rest, last_or_old, any_found, same_txn}
 use Rattle.world.proofs.safety.Facts.{IsWritten, DecidedOnce, Sees}
 use Rattle.world.proofs.safety.Invariant.{SubmittedSound}
 
@@ -32,11 +33,11 @@ batch_one {batch = batch} {other = other} k h i = same_batch batch other (sym h.
 
 pub applied_sees : (t : TxnValue) (a : ShardState) → is_applied t a ≡ true → Sees a.applied t
 applied_sees t a e =
-    let r = any_true (λ v. is_same_txn v.part.writer.txn t) a.applied e in
+    let r = any_found (λ v. is_same_txn v.part.writer.txn t) a.applied e in
     (r.0, r.1, same_txn r.0.part.writer.txn t r.2)
 
 -- one more decision
-pub once_more : (ds : List Decision) (d : Decision) → DecidedOnce ds → ((e : Decision) → Among e ds → e.txn ≡ d.txn → ⊥) → DecidedOnce (ds ++ d ∷ [])
-once_more [] d once none = (λ e m. absurd m, tt)
+pub once_more : (ds : List Decision) (d : Decision) → DecidedOnce ds → ((e : Decision) → Contains ds e → e.txn ≡ d.txn → ⊥) → DecidedOnce (ds ++ d ∷ [])
+once_more [] d once none = (λ e m. absurd (none_in_empty e m), tt)
 once_more (x ∷ ds) d once none =
-    (λ e m q. elim (last_or_old e d ds m) [ inl o ↦ once.0 e o q | inr r ↦ none x (inl refl) (sym q ∙ ap (λ z. z.txn) r) ], once_more ds d once.1 (λ e m. none e (inr m)))
+    (λ e m q. elim (last_or_old e d ds m) [ inl o ↦ once.0 e o q | inr r ↦ none x (contains_first x ds) (sym q ∙ ap (λ z. z.txn) r) ], once_more ds d once.1 (λ e m. none e (contains_rest x e ds m)))

@@ -14,36 +14,36 @@ opening_holds top =
     record {
       shards = λ node.
           record {
-            prepared = λ p m. absurd m;
-            ballots = λ b m. absurd m;
-            early = λ v m. absurd m;
-            votes = λ v m. absurd m;
-            decided = λ d m. absurd m;
+            prepared = λ p m. absurd (none_in_empty p m);
+            ballots = λ b m. absurd (none_in_empty b m);
+            early = λ v m. absurd (none_in_empty v m);
+            votes = λ v m. absurd (none_in_empty v m);
+            decided = λ d m. absurd (none_in_empty d m);
             once = tt;
-            applied = λ v m. absurd m;
-            kept_parts = λ k m. absurd m;
-            kept_ballots = λ r m. absurd m;
-            met = λ u m. absurd m;
-            askers = λ k m. absurd m;
+            applied = λ v m. absurd (none_in_empty v m);
+            kept_parts = λ k m. absurd (none_in_empty k m);
+            kept_ballots = λ r m. absurd (none_in_empty r m);
+            met = λ u m. absurd (none_in_empty u m);
+            askers = λ k m. absurd (none_in_empty k m);
           };
-      played = λ node. record { events = []; state = refl; handled = λ e has. absurd (none_in_empty e has); answers = λ e m from is. absurd m };
+      played = λ node. record { events = []; state = refl; handled = λ e has. absurd (none_in_empty e has); answers = λ e m from is. absurd (none_in_empty e m) };
       sessions = λ node.
           record {
             floor = le_refl _;
             current = tt;
-            dependencies = λ k m. absurd m;
-            placed = λ k m. absurd m;
+            dependencies = λ k m. absurd (none_in_empty k m);
+            placed = λ k m. absurd (none_in_empty k m);
             taken = refl;
           };
-      sent = λ e m. absurd m;
+      sent = λ e m. absurd (none_in_empty e m);
       submitted =
           record {
-            accepted = λ b m. absurd m;
-            number = λ b m. absurd m;
-            one = λ b c m. absurd m;
-            placed = λ b k m. absurd m;
+            accepted = λ b m. absurd (none_in_empty b m);
+            number = λ b m. absurd (none_in_empty b m);
+            one = λ b c m. absurd (none_in_empty b m);
+            placed = λ b k m. absurd (none_in_empty b m);
           };
-      transcript = λ c m. absurd m;
+      transcript = λ c m. absurd (none_in_empty c m);
     }
 
 then_session_grows : {top : TopologyValue} {a b c : SessionState} → SessionGrows top a b → SessionGrows top b c → SessionGrows top a c

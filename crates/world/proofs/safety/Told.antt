@@ -15,7 +15,7 @@ use Rattle.messages.proofs.Numbering.{shard_again}
 use Rattle.world.specs.Run.{Run}
 use Rattle.world.specs.Quiet.{handled}
 use Rattle.world.specs.Met.{envelopes_to}
-use Rattle.world.proofs.lists.Among.{Among, among_contains, contains_among, among_append, map_only, get_among}
+use Rattle.world.proofs.lists.Members.{Contains-append_cases, mapped_from, contains_get}
 use Rattle.world.proofs.safety.Facts.{IsDecided, Excluded, PreparedSound, RoleFits, lead, near}
 use Rattle.world.proofs.safety.Invariant.{Inv, Says, IsLead}
 use Rattle.world.proofs.histories.Decisions.{same_batch, sound, one_decision, own_stamp}
@@ -24,21 +24,21 @@ use Rattle.world.proofs.histories.Decisions.{same_batch, sound, one_decision, ow
 
 -- each of these envelopes was sent to this node
 abbrev pub WereSent : Run → ℕ → List Envelope → Type 0
-WereSent w node es = (e : Envelope) → Contains es e → Among e w.sent × (e.to ≡ node)
+WereSent w node es = (e : Envelope) → Contains es e → Contains w.sent e × (e.to ≡ node)
 
 -- all that was sent to it
 abbrev pub sent_to : Run → ℕ → List Envelope
 sent_to w node = filter (λ e. e.to == node) w.sent
 
 pub all_were_sent : (w : Run) (node : ℕ) → WereSent w node (sent_to w node)
-all_were_sent w node e has = let r = kept_only (λ e. e.to == node) w.sent e has in (contains_among e w.sent r.0, eqb-true e.to node r.1)
+all_were_sent w node e has = let r = kept_only (λ e. e.to == node) w.sent e has in (r.0, eqb-true e.to node r.1)
 
 -- what it handled
 pub handled_were_sent : (w : Run) (node : ℕ) → WereSent w node (envelopes_to w node)
 handled_were_sent w node e has =
     let r = kept_only (λ e. e.to == node) (filter_map (λ k. slice_get w.sent k) (handled w)) e has in
     let s = given_only (λ k. slice_get w.sent k) (handled w) e r.0 in
-    (get_among w.sent s.0 e s.2, eqb-true e.to node r.1)
+    (contains_get w.sent s.0 e s.2, eqb-true e.to node r.1)
 
 pub said : (top : TopologyValue) (w : Run) (node : ℕ) (es : List Envelope) → WereSent w node es → (e : Envelope) → Inv top w → Contains es e
     → Says top w e.from node e.time e.body
@@ -116,13 +116,13 @@ near_itself top from node here = ap (λ z. shard_node top z (shard_of top node))
 
 cohort_before : (top : TopologyValue) (w : Run) (node : ℕ) (p : PreparedPart) (x : ToldCommit) → Inv top w → (s : PreparedSound top w node p)
     → IsTrue top w node x → p.txn ≡ x.txn
-    → Among (shard_of top node) (cohorts_of top.shards s.batch) → p.time < x.commit
+    → Contains (cohorts_of top.shards s.batch) (shard_of top node) → p.time < x.commit
 cohort_before top w node p x inv s q same cohort =
     let d = q.decided in
     let k = sound top w q.from d.decision inv d.among in
     let batches = same_batch top w p.txn d.decision.txn s.submission k.submission s.batch k.batch inv.submitted (same ∙ sym d.txn) s.written k.written in
-    let b = k.cohorts (shard_of top node) (subst (λ z. Among (shard_of top node) (cohorts_of top.shards z)) batches.1 cohort) in
-    let here = subst (λ z. Among b.part (w.shards z).prepared) (near_itself top q.from node q.near) b.among in
+    let b = k.cohorts (shard_of top node) (subst (λ z. Contains (cohorts_of top.shards z) (shard_of top node)) batches.1 cohort) in
+    let here = subst (λ z. Contains (w.shards z).prepared b.part) (near_itself top q.from node q.near) b.among in
     let one : b.part ≡ p = s.one b.part here (b.txn ∙ d.txn ∙ sym same) in
     subst (λ z. p.time < z) d.commit (subst (λ (z : PreparedPart). z.time < d.decision.commit) one b.time)
 
@@ -134,7 +134,7 @@ own_before top w node p x inv s q same role own =
     let k = sound top w q.from d.decision inv d.among in
     let batches = same_batch top w p.txn d.decision.txn s.submission k.submission s.batch k.batch inv.submitted (same ∙ sym d.txn) s.written k.written in
     let at = led_by top q.from node k.batch q.near (own ∙ ap (coordinator_of top.shards) batches.1) k.here in
-    subst (λ z. p.time < z) d.commit (s.below d.decision (subst (λ z. Among d.decision (w.shards z).decided) at d.among) (d.txn ∙ sym same))
+    subst (λ z. p.time < z) d.commit (s.below d.decision (subst (λ z. Contains (w.shards z).decided d.decision) at d.among) (d.txn ∙ sym same))
 
 told_after : (top : TopologyValue) (w : Run) (node : ℕ) (p : PreparedPart) (x : ToldCommit) → Inv top w → (s : PreparedSound top w node p)
     → IsTrue top w node x → p.txn ≡ x.txn
@@ -143,7 +143,7 @@ told_after top w node p x inv s q same Own role fits = own_before top w node p x
 told_after top w node p x inv s q same Cohort role fits = cohort_before top w node p x inv s q same fits
 told_after top w node p x inv s q same Replica role fits = cohort_before top w node p x inv s q same fits
 
-pub told_above : (top : TopologyValue) (w : Run) (node : ℕ) (p : PreparedPart) (x : ToldCommit) → Inv top w → Among p (w.shards node).prepared
+pub told_above : (top : TopologyValue) (w : Run) (node : ℕ) (p : PreparedPart) (x : ToldCommit) → Inv top w → Contains (w.shards node).prepared p
     → IsTrue top w node x → p.txn ≡ x.txn → p.time < x.commit
 told_above top w node p x inv m q same =
     let s = (inv.shards node).prepared p m in told_after top w node p x inv s q same p.role refl s.role
@@ -157,7 +157,7 @@ told_excluded top w from node time x inv q out is =
     let k = sound top w q.from d.decision inv d.among in
     let batches = same_batch top w d.decision.txn x.txn k.submission is.submission k.batch is.batch inv.submitted d.txn k.written is.written in
     let at = k.here ∙ ap (λ z. lead top z k.batch) q.near ∙ ap (lead top (dc_of top node)) batches.1 ∙ sym is.here in
-    subst (λ z. time < z) d.commit (out.above d.decision (subst (λ z. Among d.decision (w.shards z).decided) at d.among) d.txn)
+    subst (λ z. time < z) d.commit (out.above d.decision (subst (λ z. Contains (w.shards z).decided d.decision) at d.among) d.txn)
 
 -- ## Stamps
 
@@ -165,15 +165,15 @@ told_excluded top w from node time x inv q out is =
 pub record IsMet (w : Run) (z : StampedTxn) : Type 0 where
   pub node : ℕ
   pub decision : Decision
-  pub among : Among decision (w.shards node).decided
+  pub among : Contains (w.shards node).decided decision
   pub txn : decision.txn ≡ z.txn
   pub stamp : decision.stamp ≡ z.stamp
 
 pub stamp_met : (top : TopologyValue) (w : Run) (node : ℕ) (es : List Envelope) → WereSent w node es → (z : StampedTxn) → Inv top w
     → Contains (stamps_met (w.shards node) es) z → IsMet w z
-stamp_met top w node es sent z inv has = elim (among_append z (map told_stamped (all_told es)) (map decided_stamped (w.shards node).decided) (contains_among z (stamps_met (w.shards node) es) has)) [
-  | inl m ↦ (let r = map_only told_stamped (all_told es) z m in let q = told_true top w node es sent r.0 inv (among_contains r.0 (all_told es) r.1) in by_told r.0 r.2 q)
-  | inr m ↦ (let r = map_only decided_stamped (w.shards node).decided z m in by_itself r.0 r.1 r.2)
+stamp_met top w node es sent z inv has = elim (Contains-append_cases (map told_stamped (all_told es)) (map decided_stamped (w.shards node).decided) z has) [
+  | inl m ↦ (let r = mapped_from told_stamped (all_told es) z m in let q = told_true top w node es sent r.0 inv r.1 in by_told r.0 r.2 q)
+  | inr m ↦ (let r = mapped_from decided_stamped (w.shards node).decided z m in by_itself r.0 r.1 r.2)
 ]
   where
     told_stamped : ToldCommit → StampedTxn
@@ -191,7 +191,7 @@ stamp_met top w node es sent z inv has = elim (among_append z (map told_stamped 
       stamp = q.decided.stamp ∙ sym (ap (λ (y : StampedTxn). y.stamp) e);
     }
 
-    by_itself : (d : Decision) → Among d (w.shards node).decided → z ≡ decided_stamped d → IsMet w z
+    by_itself : (d : Decision) → Contains (w.shards node).decided d → z ≡ decided_stamped d → IsMet w z
     by_itself d m e = record {
       node = node;
       decision = d;

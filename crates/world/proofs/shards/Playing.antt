@@ -14,7 +14,7 @@ use Rattle.messages.specs.Shard.{ShardState, ShardStep}
 use Rattle.shard.specs.Events.{ShardRun, fresh_shard, shard_run, after_step, envelopes_handled}
 use Rattle.shard.proofs.steps.Handles.{event_step, by_step, run_push}
 use Rattle.world.specs.Run.{Run, RunEvent, after_shard}
-use Rattle.world.proofs.lists.Among.{Among, among_append, among_contains, append_first}
+use Rattle.world.proofs.lists.Members.{Contains-append_cases}
 use Rattle.world.proofs.safety.Invariant.{IsAnswer, Played}
 use Rattle.world.proofs.steps.OwnSends.{AreOwn}
 use Rattle.world.proofs.steps.SessionSends.{IsOfSession, AreOfSession}
@@ -26,13 +26,13 @@ no_answer other of is = is
 
 -- another actor's step: the shard stays, and no answer of its is added
 beside : (top : TopologyValue) (w x : Run) (node : ℕ) → x.shards node ≡ w.shards node → (sends : List Envelope) → x.sent ≡ w.sent ++ sends
-    → ((e : Envelope) → Among e sends → e.from ≡ node → IsAnswer e.body → ⊥) → Played top w node → Played top x node
+    → ((e : Envelope) → Contains sends e → e.from ≡ node → IsAnswer e.body → ⊥) → Played top w node → Played top x node
 beside top w x node same sends more none p =
     record {
       events = p.events;
       state = p.state ∙ sym same;
-      handled = λ e has. let h = p.handled e has in (subst (λ l. Among e l) (sym more) (append_first e w.sent sends h.0), h.1);
-      answers = λ e m from is. elim (among_append e w.sent sends (subst (λ l. Among e l) more m)) [
+      handled = λ e has. let h = p.handled e has in (subst (λ l. Contains l e) (sym more) (Contains-append_left w.sent sends e h.0), h.1);
+      answers = λ e m from is. elim (Contains-append_cases w.sent sends e (subst (λ l. Contains l e) more m)) [
         | inl old ↦ p.answers e old from is
         | inr new ↦ absurd (none e new from is)
       ];
@@ -46,7 +46,7 @@ session_played top w x me sends same more of k node =
 
 -- the shard's own step
 own_played : (top : TopologyValue) (w x : Run) (node : ℕ) (ev : ActorEvent) (st : ShardStep) → event_step top node (w.shards node) ev ≡ Ok st
-    → ((e : Envelope) → envelope_of ev ≡ Some e → Among e w.sent × (e.to ≡ node)) → x.shards node ≡ st.state → x.sent ≡ w.sent ++ st.sends
+    → ((e : Envelope) → envelope_of ev ≡ Some e → Contains w.sent e × (e.to ≡ node)) → x.shards node ≡ st.state → x.sent ≡ w.sent ++ st.sends
     → Played top w node → Played top x node
 own_played top w x node ev st takes came now more p =
     let r = shard_run top node p.events in
@@ -58,16 +58,16 @@ own_played top w x node ev st takes came now more p =
       state = ap (λ (z : ShardRun). z.state) is ∙ sym now;
       handled = λ e has. handled e (subst (λ (z : ShardRun). Contains (envelopes_handled z) e) is has);
       answers = λ e m from is_answer. subst (λ (z : ShardRun). Contains z.sent e) (sym is)
-          (elim (among_append e w.sent st.sends (subst (λ l. Among e l) more m)) [
+          (elim (Contains-append_cases w.sent st.sends e (subst (λ l. Contains l e) more m)) [
             | inl old ↦ Contains-append_left r.sent st.sends e (p.answers e old from is_answer)
-            | inr new ↦ Contains-append_right r.sent st.sends e (among_contains e st.sends new)
+            | inr new ↦ Contains-append_right r.sent st.sends e new
           ]);
     }
   where
-    later : (e : Envelope) → Among e w.sent × (e.to ≡ node) → Among e x.sent × (e.to ≡ node)
-    later e h = (subst (λ l. Among e l) (sym more) (append_first e w.sent st.sends h.0), h.1)
+    later : (e : Envelope) → Contains w.sent e × (e.to ≡ node) → Contains x.sent e × (e.to ≡ node)
+    later e h = (subst (λ l. Contains l e) (sym more) (Contains-append_left w.sent st.sends e h.0), h.1)
 
-    handled : (e : Envelope) → Contains (envelopes_handled (after_step (Ok st) (shard_run top node p.events) ev)) e → Among e x.sent × (e.to ≡ node)
+    handled : (e : Envelope) → Contains (envelopes_handled (after_step (Ok st) (shard_run top node p.events) ev)) e → Contains x.sent e × (e.to ≡ node)
     handled e has =
         let r = shard_run top node p.events in
         let g = given_only envelope_of (r.events ++ ev ∷ []) e has in
@@ -78,7 +78,7 @@ own_played top w x node ev st takes came now more p =
 
 -- a shard's step
 pub shard_played : (top : TopologyValue) (w : Run) (node n : ℕ) (x : RunEvent) (ev : ActorEvent) (st : ShardStep) → event_step top node (w.shards node) ev ≡ Ok st
-    → ((e : Envelope) → envelope_of ev ≡ Some e → Among e w.sent × (e.to ≡ node)) → AreOwn node n st.sends → ((m : ℕ) → Played top w m)
+    → ((e : Envelope) → envelope_of ev ≡ Some e → Contains w.sent e × (e.to ≡ node)) → AreOwn node n st.sends → ((m : ℕ) → Played top w m)
     → (m : ℕ) → Played top (after_shard (Ok st) w x node) m
 shard_played top w node n x ev st takes came own k m = by (m == node) refl
   where

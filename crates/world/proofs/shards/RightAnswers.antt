@@ -26,7 +26,7 @@ use Rattle.shard.specs.Events.{shard_run}
 use Rattle.shard.specs.Sound.{IsBallot, IsDecided as Decided, IsExcluded, IsComplete, BodySound}
 use Rattle.shard.proofs.right.OneShard.{Knows, IsSaid, shard_knows, asked_in}
 use Rattle.world.specs.Run.{Run}
-use Rattle.world.proofs.lists.Among.{Among, among_contains, among_append, append_first}
+use Rattle.world.proofs.lists.Members.{Contains-append_left, Contains-append_cases}
 use Rattle.world.proofs.safety.Facts.{near, lead, part_on, IsDecided, PreparedSound, DecisionSound, AppliedSound, Excluded, Sees, Misses, Complete}
 use Rattle.world.proofs.safety.Invariant.{IsAnswer, Says, Hears, Inv, Untouched}
 use Rattle.world.proofs.safety.OneBatch.{batch_one, written_at, applied_sees}
@@ -59,22 +59,22 @@ module _ (top : TopologyValue) (w : Run) (inv : Inv top w) (node : ℕ) where
       subst (λ (a : ShardState). Knows top node es a (shard_run top node p.events).sent) p.state
       (shard_knows top node p.events es
       (subst (λ (a : ShardState). IsHonest a es) (sym p.state) (sent_honest top w node inv es (all_were_sent w node)))
-      (λ e has. let h = p.handled e has in kept (λ (z : Envelope). z.to == node) w.sent e (among_contains e w.sent h.0) (eq-eqb e.to node h.1)))
+      (λ e has. let h = p.handled e has in kept (λ (z : Envelope). z.to == node) w.sent e h.0 (eq-eqb e.to node h.1)))
 
   -- its parts have each their own stamp
   pub parts_apart : AreApart (w.shards node).applied
   parts_apart = known.holds.stamped_apart
 
   -- of a kept ballot that misses a notice or an answer nothing is held or decided
-  pub unready_untouched : (r : KeptBallot) → Among r a.kept_ballots → is_ready top node a r ≡ false → Untouched a.ballots a.prepared a.decided r.txn
+  pub unready_untouched : (r : KeptBallot) → Contains a.kept_ballots r → is_ready top node a r ≡ false → Untouched a.ballots a.prepared a.decided r.txn
   unready_untouched r m e = record {
-    unbegun = λ b i same. unready (inl (b, among_contains b a.ballots i, same));
-    unprepared = λ p i same. prepared p (among_contains p a.prepared i) same p.role refl;
-    undecided = λ d i same. unready (inr (d, among_contains d a.decided i, same));
+    unbegun = λ b i same. unready (inl (b, i, same));
+    unprepared = λ p i same. prepared p i same p.role refl;
+    undecided = λ d i same. unready (inr (d, i, same));
   }
     where
       has : Contains a.kept_ballots r
-      has = among_contains r a.kept_ballots m
+      has = m
 
       unready : IsBallot a r.txn ⊎ Decided a r.txn → ⊥
       unready begun = false≢true (sym e ∙ known.holds.readied r has begun)
@@ -111,14 +111,14 @@ module _ (top : TopologyValue) (w : Run) (inv : Inv top w) (node : ℕ) where
       }
 
   module _ (r : Row) (time : ℕ) (seen : List Applied) (c : IsComplete es (w.shards node) r time seen) where
-    seen_or_later : (v : Applied) → Among v (w.shards node).applied → Among v seen ⊎ Among v c.later
-    seen_or_later v m = among_append v seen c.later (subst (λ l. Among v l) c.split m)
+    seen_or_later : (v : Applied) → Contains (w.shards node).applied v → Contains seen v ⊎ Contains c.later v
+    seen_or_later v m = Contains-append_cases seen c.later v (subst (λ l. Contains l v) c.split m)
 
-    later_above : (v : Applied) → Among v c.later → has_row r v.part.batch ≡ true → time < v.commit
-    later_above v m touches = c.above v (among_contains v c.later m) touches
+    later_above : (v : Applied) → Contains c.later v → has_row r v.part.batch ≡ true → time < v.commit
+    later_above v m touches = c.above v m touches
 
     -- its coordinator decided above the time
-    later_excluded : (p : PreparedPart) → PreparedSound top w node p → touches_row r p ≡ true → (v : Applied) → AppliedSound top w node v → Among v c.later
+    later_excluded : (p : PreparedPart) → PreparedSound top w node p → touches_row r p ≡ true → (v : Applied) → AppliedSound top w node v → Contains c.later v
         → v.part.writer.txn ≡ p.txn → Excluded w (near top node p.coordinator) p.txn time
     later_excluded p ps touches v vs m same =
         let batch : vs.batch ≡ ps.batch = batch_one inv.submitted (written_at same vs.written) ps.written in
@@ -136,9 +136,9 @@ module _ (top : TopologyValue) (w : Run) (inv : Inv top w) (node : ℕ) where
         let at : x.told.from ≡ near top node p.coordinator = k.1.here ∙ ap (lead top (dc_of top node)) batch ∙ sym (ap (shard_node top (dc_of top node)) ps.coordinator) in
         subst (λ i. Excluded w i p.txn time) at (excluded_below x.bounded k.0)
 
-    prepared_so : (p : PreparedPart) → Among p (w.shards node).prepared → touches_row r p ≡ true
+    prepared_so : (p : PreparedPart) → Contains (w.shards node).prepared p → touches_row r p ≡ true
         → Sees seen p.txn ⊎ (time ≤ p.time) ⊎ Excluded w (near top node p.coordinator) p.txn time
-    prepared_so p m touches = elim (c.settled p (among_contains p (w.shards node).prepared m) touches) [
+    prepared_so p m touches = elim (c.settled p m touches) [
       | inl is ↦
           (let v = applied_sees p.txn (w.shards node) is in
           elim (seen_or_later v.0 v.1) [
@@ -150,7 +150,7 @@ module _ (top : TopologyValue) (w : Run) (inv : Inv top w) (node : ℕ) where
       | inr (inr (inr none)) ↦ absurd (none_in_empty p.txn none)
     ]
 
-    decided_so : (d : Decision) → Among d (w.shards node).decided → Sees seen d.txn ⊎ (time < d.commit) ⊎ Misses top w node r d.txn
+    decided_so : (d : Decision) → Contains (w.shards node).decided d → Sees seen d.txn ⊎ (time < d.commit) ⊎ Misses top w node r d.txn
     decided_so d m = elim (seen_or_later v v_in) [ inl i ↦ inl (v, i, ds.applied.2) | inr i ↦ by i (has_row r v.part.batch) refl ]
       where
         ds : DecisionSound top w node d
@@ -159,7 +159,7 @@ module _ (top : TopologyValue) (w : Run) (inv : Inv top w) (node : ℕ) where
         v : Applied
         v = ds.applied.0
 
-        v_in : Among v (w.shards node).applied
+        v_in : Contains (w.shards node).applied v
         v_in = ds.applied.1
 
         vs : AppliedSound top w node v
@@ -173,7 +173,7 @@ module _ (top : TopologyValue) (w : Run) (inv : Inv top w) (node : ℕ) where
             let k = subst (λ i. IsDecided w i v.part.writer.txn v.commit v.stamp) at vs.decided in
             sym k.commit ∙ ap (λ (z : Decision). z.commit) (ds.one k.decision k.among (k.txn ∙ ds.applied.2))
 
-        by : Among v c.later → (b : Bool) → has_row r v.part.batch ≡ b → Sees seen d.txn ⊎ (time < d.commit) ⊎ Misses top w node r d.txn
+        by : Contains c.later v → (b : Bool) → has_row r v.part.batch ≡ b → Sees seen d.txn ⊎ (time < d.commit) ⊎ Misses top w node r d.txn
         by i true e = inr (inl (subst (λ n. time < n) commit (later_above v i e)))
         by i false e =
             inr (inr (record { submission = vs.submission; batch = vs.batch; written = written_at ds.applied.2 vs.written; misses = ap (has_row r) (sym vs.rows) ∙ e }))
@@ -182,7 +182,7 @@ module _ (top : TopologyValue) (w : Run) (inv : Inv top w) (node : ℕ) where
     complete_in = record {
       clock = c.clock;
       apart = apart_first seen c.later (subst AreApart c.split parts_apart);
-      applied = λ v m. subst (λ l. Among v l) (sym c.split) (append_first v seen c.later m);
+      applied = λ v m. subst (λ l. Contains l v) (sym c.split) (Contains-append_left seen c.later v m);
       prepared = prepared_so;
       decided = decided_so;
     }
@@ -198,7 +198,7 @@ module _ (top : TopologyValue) (w : Run) (inv : Inv top w) (node : ℕ) where
         answers = record {
           keys = k.keys;
           rows = λ r i.
-              let s = k.each r (among_contains r rows i) in
+              let s = k.each r i in
               record { seen = s.seen; shown = s.newest; early = early r i; complete = complete_in (row_of k.read r.key) r.lvt s.seen s.complete };
         };
       }
@@ -209,7 +209,7 @@ module _ (top : TopologyValue) (w : Run) (inv : Inv top w) (node : ℕ) where
         answers = record {
           keys = k.keys;
           rows = λ r i.
-              let s = k.each r (among_contains r rows i) in
+              let s = k.each r i in
               record { seen = s.seen; shown = s.right; complete = complete_in (row_of k.read r.key) bound s.seen s.complete };
         };
       }
@@ -218,7 +218,7 @@ module _ (top : TopologyValue) (w : Run) (inv : Inv top w) (node : ℕ) where
   told e other k says = says
 
 -- what each envelope says that was sent
-pub hears : (top : TopologyValue) (w : Run) → Inv top w → (e : Envelope) → Among e w.sent → Hears top w e.from e.to e.time e.body
+pub hears : (top : TopologyValue) (w : Run) → Inv top w → (e : Envelope) → Contains w.sent e → Hears top w e.from e.to e.time e.body
 hears top w inv e m = by e.body refl
   where
     answer : (b : Body) → e.body ≡ b → IsAnswer b → Hears top w e.from e.to e.time b

@@ -20,7 +20,7 @@ use Rattle.messages.specs.Session.{SessionState, SessionStep, Open, Idle, Writin
 use Rattle.messages.specs.Rounds.{asked_nodes, is_missing, all_heard, effective_time, late_nodes, is_missing_at, all_heard_at, rows_taken}
 use Rattle.messages.specs.SessionEvents.{answered, given_up, written, done_if, done_in, read_at_of, second_if, heard_if, heard_now, part_now_if, part_now_in, heard_at_if, taken_at, part_at_if, part_at_in, left_after, is_left, moving_on, dep_ok_if, dep_ok_in, heard}
 use Rattle.messages.specs.Actors.{home_after}
-use Rattle.world.proofs.lists.Among.{same_txn, same_txn_self}
+use Rattle.world.proofs.lists.Members.{same_txn, same_txn_self}
 use Rattle.world.proofs.under_way.Underway.{FirstHas, IsNotLeft}
 
 -- ## What comes

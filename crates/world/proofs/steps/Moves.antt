@@ -1,6 +1,6 @@
 -- What an event makes of a run, as one actor's step: each event is nothing, or the step of one actor.
 use Rattle.std.proofs.Common.{◌≡◌, ◌∙◌, ℕ, ◌<◌, Bool, true, false, List, [], ◌∷◌, ◌++◌, Option, Some, None, Result, Ok, Err, ◌⊎◌, inl, inr, refl, sym, ap, subst, arith, slice_get}
-use Rattle.std.specs.Prelude.{◌==◌, if◌then◌else◌, option_and_then}
+use Rattle.std.specs.Prelude.{◌==◌, if◌then◌else◌, option_and_then, Contains}
 use Rattle.std.proofs.lemmas.Bool.Decides.{nat_tests}
 use Rattle.logical_time.specs.declared.fault.Fault.{Fault}
 use Rattle.messages.specs.declared.op.Op.{Op}
@@ -16,7 +16,7 @@ use Rattle.messages.specs.Submitting.{session_submit}
 use Rattle.messages.specs.Actors.{ActorState, OfShard, OfSession, ActorStep, of_shard, of_session, actor_step}
 use Rattle.world.specs.Run.{Run, Submission, Completed, completed_of, with_ended, with_session, submission_by, RunEvent, Submit, Deliver, Collect, after_shard, after_session, after_submission, submit_if, deliver_if, deliver_for, collect_if, step}
 use Rattle.world.specs.Journals.{actor_in, event_at}
-use Rattle.world.proofs.lists.Among.{Among, get_among}
+use Rattle.world.proofs.lists.Members.{contains_get}
 use Rattle.world.proofs.keeping.ShardSteps.{actor_same}
 
 -- how many operations an actor accepted
@@ -45,7 +45,7 @@ pub record Moves (top : TopologyValue) (w v : Run) (ev : RunEvent) (n : ℕ) (x 
   pub others : (m : ℕ) → (m == n) ≡ false → actor_in top v m ≡ actor_in top w m
   pub told : (m : ℕ) → event_at w m ev ≡ (if n == m then Some x else None)
   pub known : (k : ℕ) → ev ≡ Deliver k → (e : Envelope) × (slice_get w.sent k ≡ Some e)
-  pub received : (e : Envelope) → x ≡ Handle e → (e.to ≡ n) × Among e w.sent
+  pub received : (e : Envelope) → x ≡ Handle e → (e.to ≡ n) × Contains w.sent e
   pub submitted : SubmittedBy top w v n s x
   pub completed : v.transcript ≡ with_ended w.transcript (entry_of v.submitted n s)
 
@@ -83,7 +83,7 @@ session_took st = record { state = OfSession (session_taken st.state); sends = s
 
 shard_moves : (top : TopologyValue) (w : Run) (ev : RunEvent) (n : ℕ) (x : ActorEvent) (st : ShardStep) → is_shard top n ≡ true
     → actor_step top n (OfShard (w.shards n)) x ≡ Some (shard_took st)
-    → ((m : ℕ) → event_at w m ev ≡ (if n == m then Some x else None)) → KnowsNumber w ev → ((e : Envelope) → x ≡ Handle e → (e.to ≡ n) × Among e w.sent)
+    → ((m : ℕ) → event_at w m ev ≡ (if n == m then Some x else None)) → KnowsNumber w ev → ((e : Envelope) → x ≡ Handle e → (e.to ≡ n) × Contains w.sent e)
     → SubmittedBy top w (after_shard (Ok st) w ev n) n (shard_took st) x → Moves top w (after_shard (Ok st) w ev n) ev n x (shard_took st)
 shard_moves top w ev n x st is takes told known received submitted =
     record {
@@ -102,7 +102,7 @@ shard_moves top w ev n x st is takes told known received submitted =
 
 session_moves : (top : TopologyValue) (w : Run) (ev : RunEvent) (n : ℕ) (x : ActorEvent) (st : SessionStep) (submitted : List Submission)
     → is_session top n ≡ true → actor_step top n (OfSession (w.sessions n)) x ≡ Some (session_took st)
-    → ((m : ℕ) → event_at w m ev ≡ (if n == m then Some x else None)) → KnowsNumber w ev → ((e : Envelope) → x ≡ Handle e → (e.to ≡ n) × Among e w.sent)
+    → ((m : ℕ) → event_at w m ev ≡ (if n == m then Some x else None)) → KnowsNumber w ev → ((e : Envelope) → x ≡ Handle e → (e.to ≡ n) × Contains w.sent e)
     → SubmittedBy top w (with_session w ev n submitted st) n (session_took st) x → Moves top w (with_session w ev n submitted st) ev n x (session_took st)
 session_moves top w ev n x st submitted is takes told known received adds =
     let away = session_no_shard top n is in
@@ -138,21 +138,21 @@ knows_collection w n time j q = absurd (cc)
 
 -- ## Each kind of step
 
-same_envelope : (w : Run) (e : Envelope) → Among e w.sent → (f : Envelope) → Handle e ≡ Handle f → (f.to ≡ e.to) × Among f w.sent
-same_envelope w e m f q = let is : e ≡ f = cc in (ap (λ (z : Envelope). z.to) (sym is), subst (λ z. Among z w.sent) is m)
+same_envelope : (w : Run) (e : Envelope) → Contains w.sent e → (f : Envelope) → Handle e ≡ Handle f → (f.to ≡ e.to) × Contains w.sent f
+same_envelope w e m f q = let is : e ≡ f = cc in (ap (λ (z : Envelope). z.to) (sym is), subst (λ z. Contains w.sent z) is m)
 
 pub handle_moves : (top : TopologyValue) (w : Run) (k : ℕ) (e : Envelope) (st : ShardStep) → slice_get w.sent k ≡ Some e → is_shard top e.to ≡ true
     → shard_handle top e.to (w.shards e.to) e ≡ Ok st → Moves top w (after_shard (Ok st) w (Deliver k) e.to) (Deliver k) e.to (Handle e) (shard_took st)
 handle_moves top w k e st sent is ok =
     shard_moves top w (Deliver k) e.to (Handle e) st is (ap of_shard ok) (told_delivery w k e sent) (knows_delivery w k e sent)
-    (same_envelope w e (get_among w.sent k e sent)) refl
+    (same_envelope w e (contains_get w.sent k e sent)) refl
 
 pub hear_moves : (top : TopologyValue) (w : Run) (k : ℕ) (e : Envelope) (st : SessionStep) → slice_get w.sent k ≡ Some e → is_session top e.to ≡ true
     → session_handle top e.to (w.sessions e.to) e ≡ Ok st
     → Moves top w (after_session (Ok st) w (Deliver k) e.to) (Deliver k) e.to (Handle e) (session_took st)
 hear_moves top w k e st sent is ok =
     session_moves top w (Deliver k) e.to (Handle e) st w.submitted is (ap of_session ok) (told_delivery w k e sent) (knows_delivery w k e sent)
-    (same_envelope w e (get_among w.sent k e sent)) refl
+    (same_envelope w e (contains_get w.sent k e sent)) refl
 
 pub submit_moves : (top : TopologyValue) (w : Run) (n : ℕ) (o : Op) (st : SessionStep) → is_session top n ≡ true
     → session_submit top n (w.sessions n) o ≡ Ok st → Moves top w (after_submission (Ok st) w n o) (Submit n o) n (SubmitHere o) (session_took st)

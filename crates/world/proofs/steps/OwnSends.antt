@@ -1,5 +1,6 @@
 -- What an actor sends in an event carries its node and the clock of the event, and its clock is then that of the event.
 use Rattle.std.proofs.Common.{◌≡◌, ◌∙◌, ℕ, List, [], ◌∷◌, ◌++◌, map, inl, inr, refl, ap}
+use Rattle.std.specs.Prelude.{Contains}
 use Rattle.messages.specs.declared.body.Body.{Body}
 use Rattle.messages.specs.declared.envelope.Envelope.{Envelope}
 use Rattle.messages.specs.Topology.{TopologyValue}
@@ -7,11 +8,11 @@ use Rattle.messages.specs.Shard.{ShardState, ShardStep}
 use Rattle.messages.specs.ShardEvents.{handled}
 use Rattle.shard.proofs.lists.Lists.{each_contained}
 use Rattle.shard.proofs.steps.Sending.{Gives, handled_gives}
-use Rattle.world.proofs.lists.Among.{Among, among_append, among_contains, map_only}
+use Rattle.world.proofs.lists.Members.{none_in_empty, contains_cases, contains_one, Contains-append_cases, mapped_from}
 
 -- each of these envelopes is from this node, at this time
 abbrev pub AreOwn : ℕ → ℕ → List Envelope → Type 0
-AreOwn me n es = (e : Envelope) → Among e es → (e.from ≡ me) × (e.time ≡ n)
+AreOwn me n es = (e : Envelope) → Contains es e → (e.from ≡ me) × (e.time ≡ n)
 
 -- the clock after the step, and what it sends
 abbrev pub IsOwn : ℕ → ℕ → ShardStep → Type 0
@@ -19,22 +20,20 @@ IsOwn me n st = (st.state.clock ≡ n) × AreOwn me n st.sends
 
 module _ {me n : ℕ} where
   pub none : AreOwn me n []
-  none e m = absurd m
+  none e m = absurd (none_in_empty e m)
 
   pub one : (x : Envelope) → (x.from ≡ me) × (x.time ≡ n) → AreOwn me n (x ∷ [])
-  one x q e (inl same) = (ap (λ (z : Envelope). z.from) same ∙ q.0, ap (λ (z : Envelope). z.time) same ∙ q.1)
-  one x q e (inr m) = absurd m
+  one x q e m = let same = contains_one x e m in (ap (λ (z : Envelope). z.from) same ∙ q.0, ap (λ (z : Envelope). z.time) same ∙ q.1)
 
   pub first : (x : Envelope) (xs : List Envelope) → (x.from ≡ me) × (x.time ≡ n) → AreOwn me n xs → AreOwn me n (x ∷ xs)
-  first x xs q k e (inl same) = (ap (λ (z : Envelope). z.from) same ∙ q.0, ap (λ (z : Envelope). z.time) same ∙ q.1)
-  first x xs q k e (inr m) = k e m
+  first x xs q k e m = elim (contains_cases x e xs m) [ inl same ↦ (ap (λ (z : Envelope). z.from) same ∙ q.0, ap (λ (z : Envelope). z.time) same ∙ q.1) | inr r ↦ k e r ]
 
   pub both : (xs ys : List Envelope) → AreOwn me n xs → AreOwn me n ys → AreOwn me n (xs ++ ys)
-  both xs ys k l e m = elim (among_append e xs ys m) [ inl a ↦ k e a | inr b ↦ l e b ]
+  both xs ys k l e m = elim (Contains-append_cases xs ys e m) [ inl a ↦ k e a | inr b ↦ l e b ]
 
   pub each : {X : Type 0} (f : X → Envelope) (xs : List X) → ((x : X) → ((f x).from ≡ me) × ((f x).time ≡ n)) → AreOwn me n (map f xs)
   each f xs k e m =
-      let r = map_only f xs e m in let q = k r.0 in
+      let r = mapped_from f xs e m in let q = k r.0 in
       (ap (λ (z : Envelope). z.from) r.2 ∙ q.0, ap (λ (z : Envelope). z.time) r.2 ∙ q.1)
 
 -- ## A shard's steps
@@ -70,7 +69,7 @@ given top me n a from b =
 pub handled_own : (top : TopologyValue) (me n : ℕ) (a : ShardState) (from : ℕ) (b : Body) → IsOwn me n (handled top me n a from b)
 handled_own top me n a from b =
     let g = given top me n a from b in
-    (g.clock, λ e m. each_contained (λ (z : Envelope). (z.from ≡ me) × (z.time ≡ n)) (handled top me n a from b).sends g.sends e (among_contains e _ m))
+    (g.clock, λ e m. each_contained (λ (z : Envelope). (z.from ≡ me) × (z.time ≡ n)) (handled top me n a from b).sends g.sends e m)
 
 -- no message moves a shard's horizon
 pub handled_low : (top : TopologyValue) (me n : ℕ) (a : ShardState) (from : ℕ) (b : Body) → (handled top me n a from b).state.low ≡ a.low

@@ -1,6 +1,7 @@
 -- What a session sends: at a submission Begin, Prepare, Read or DepCheck, at a message ReadAt, and all of it from its
 -- node.
 use Rattle.std.proofs.Common.{◌≡◌, sym, refl, subst, ℕ, ◌+◌, List, ◌∷◌, [], map, inl, inr}
+use Rattle.std.specs.Prelude.{Contains}
 use Rattle.column_family.specs.declared.batch.Change.{Change}
 use Rattle.planner.specs.Plan.{cohorts_of, shards_asked}
 use Rattle.messages.specs.declared.op.Op.{Op}
@@ -12,7 +13,7 @@ use Rattle.messages.specs.Words.{envelope}
 use Rattle.messages.specs.Session.{SessionState, SessionStep}
 use Rattle.messages.specs.Submitting.{home_node, prepare_of, write_begun, share_of, check_of, begun}
 use Rattle.messages.specs.SessionEvents.{read_at_of, heard}
-use Rattle.world.proofs.lists.Among.{Among, map_only}
+use Rattle.world.proofs.lists.Members.{none_in_empty, contains_cases, mapped_from}
 use Rattle.world.proofs.steps.HeardCases.{heard_cases}
 use Rattle.world.proofs.steps.BegunCases.{begun_cases}
 
@@ -27,15 +28,15 @@ IsOfSession other = ⊥
 
 -- each of these is one, from this node
 abbrev pub AreOfSession : ℕ → List Envelope → Type 0
-AreOfSession me es = (e : Envelope) → Among e es → (e.from ≡ me) × IsOfSession e.body
+AreOfSession me es = (e : Envelope) → Contains es e → (e.from ≡ me) × IsOfSession e.body
 
 mapped : {X : Type 0} (me : ℕ) (f : X → Envelope) (xs : List X) → ((x : X) → ((f x).from ≡ me) × IsOfSession (f x).body) → AreOfSession me (map f xs)
 mapped me f xs k e m =
-    let r = map_only f xs e m in
+    let r = mapped_from f xs e m in
     subst (λ (z : Envelope). (z.from ≡ me) × IsOfSession z.body) (sym r.2) (k r.0)
 
 nothing : (me : ℕ) → AreOfSession me []
-nothing me e m = absurd m
+nothing me e m = absurd (none_in_empty e m)
 
 pub heard_sends : (top : TopologyValue) (me n : ℕ) (a : SessionState) (from : ℕ) (m : Body) → AreOfSession me (heard top me n a from m).sends
 heard_sends top me n a from m =
@@ -65,5 +66,7 @@ begun_sends top me n a o =
     }) o
   where
     write_sends : (batch : List Change) → AreOfSession me (write_begun top me n a batch).sends
-    write_sends batch e (inl q) = subst (λ (z : Envelope). (z.from ≡ me) × IsOfSession z.body) (sym q) (refl, tt)
-    write_sends batch e (inr m) = mapped me (prepare_of top me n a batch) (cohorts_of top.shards batch) (λ s. (refl, tt)) e m
+    write_sends batch e m = elim (contains_cases _ e _ m) [
+      | inl q ↦ subst (λ (z : Envelope). (z.from ≡ me) × IsOfSession z.body) (sym q) (refl, tt)
+      | inr r ↦ mapped me (prepare_of top me n a batch) (cohorts_of top.shards batch) (λ s. (refl, tt)) e r
+    ]

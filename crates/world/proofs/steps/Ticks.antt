@@ -20,7 +20,6 @@ use Rattle.messages.specs.declared.event.ActorEvent.{ActorEvent}
 use Rattle.messages.specs.declared.event.ActorEvent.TheVariants.{Submit as SubmitHere, Handle, Collect as CollectHere}
 use Rattle.messages.specs.Actors.{ActorState, OfShard, OfSession, clock_of, ActorStep, of_shard, of_session, actor_step}
 use Rattle.world.specs.Journals.{Ticks, KeepsTime}
-use Rattle.world.proofs.lists.Among.{contains_among}
 use Rattle.world.proofs.steps.HeardCases.{heard_cases}
 use Rattle.world.proofs.steps.BegunCases.{begun_cases}
 use Rattle.world.proofs.steps.OwnSends.{AreOwn, IsOwn, none, first, each, handled_own}
@@ -85,7 +84,7 @@ ticks_at me a x s time n q is own of =
     record {
       rises = subst (λ z. clock_of a < z) (sym is) k.0;
       bounded = subst (λ z. z < 2 ^ 48) (sym is) k.2;
-      sends = λ e has. subst (λ z. AreOwn me z s.sends) (sym is) own e (contains_among e s.sends has);
+      sends = λ e has. subst (λ z. AreOwn me z s.sends) (sym is) own e has;
       handled = λ e f. subst (λ z. e.time < z) (sym is) (subst (λ z. z < n) (sym (of e f)) k.1);
     }
 

@@ -1,6 +1,6 @@
 -- What a transcript has after a session's step: what it had, and what the step ended.
 use Rattle.std.proofs.Common.{append-nil, ◌≡◌, ℕ, ap, refl, sym, subst, List, [], ◌∷◌, ◌++◌, Option, Some, None, ◌⊎◌, inl, inr}
-use Rattle.std.specs.Prelude.{option_and_then}
+use Rattle.std.specs.Prelude.{option_and_then, Contains}
 use Rattle.std.specs.List.{cons_option}
 use Rattle.messages.specs.declared.op.Op.{Op}
 use Rattle.messages.specs.declared.op.Op.TheVariants as op
@@ -8,19 +8,19 @@ use Rattle.messages.specs.Topology.{TopologyValue}
 use Rattle.messages.specs.Session.{SessionState, SessionStep, Finished}
 use Rattle.messages.specs.Submitting.{begun}
 use Rattle.world.specs.Run.{Submission, Completed, completed_of, ended_by, with_ended}
-use Rattle.world.proofs.lists.Among.{Among, append_first, among_last, last_or_old}
+use Rattle.world.proofs.lists.Members.{Contains-push, last_or_old, Contains-append_left}
 use Rattle.world.proofs.steps.BegunCases.{moved_at_once, begun_cases}
 
-pub ended_or_old : (c : Completed) (cs : List Completed) (o : Option Completed) → Among c (with_ended cs o) → Among c cs ⊎ (o ≡ Some c)
+pub ended_or_old : (c : Completed) (cs : List Completed) (o : Option Completed) → Contains (with_ended cs o) c → Contains cs c ⊎ (o ≡ Some c)
 ended_or_old c cs None m = inl m
 ended_or_old c cs (Some d) m = elim (last_or_old c d cs m) [ inl old ↦ inl old | inr new ↦ inr (ap Some (sym new)) ]
 
-pub old_stays : (c : Completed) (cs : List Completed) (o : Option Completed) → Among c cs → Among c (with_ended cs o)
+pub old_stays : (c : Completed) (cs : List Completed) (o : Option Completed) → Contains cs c → Contains (with_ended cs o) c
 old_stays c cs None m = m
-old_stays c cs (Some d) m = append_first c cs (d ∷ []) m
+old_stays c cs (Some d) m = Contains-append_left cs (d ∷ []) c m
 
-pub ended_is_last : (c : Completed) (cs : List Completed) (o : Option Completed) → o ≡ Some c → Among c (with_ended cs o)
-ended_is_last c cs o e = subst (λ z. Among c (with_ended cs z)) (sym e) (among_last c cs)
+pub ended_is_last : (c : Completed) (cs : List Completed) (o : Option Completed) → o ≡ Some c → Contains (with_ended cs o) c
+ended_is_last c cs o e = subst (λ z. Contains (with_ended cs z) c) (sym e) (Contains-push cs c)
 
 -- as a list
 pub as_list : (cs : List Completed) (o : Option Completed) → with_ended cs o ≡ cs ++ cons_option o []

@@ -1,5 +1,5 @@
 -- What a completed read rests on is what the writers of its rows wrote.
-use Rattle.std.proofs.Common.{◌≡◌, ◌∙◌, ℕ, ◌<◌, sym, ap, subst, refl, nat_le, List, map}
+use Rattle.std.proofs.Common.{◌≡◌, ◌∙◌, ℕ, ◌<◌, sym, ap, subst, refl, nat_le, List}
 use Rattle.std.specs.Prelude.{Contains}
 use Rattle.std.specs.List.{flat_map}
 use Rattle.std.proofs.lemmas.List.Sorted.{IsPermutation-refl}
@@ -25,7 +25,6 @@ use Rattle.world.specs.Histories.{decisions_in, history_of}
 use Rattle.world.specs.Before.{ReadRestsOn}
 use Rattle.messages.proofs.Numbering.{dc_of_shard}
 use Rattle.world.proofs.envelopes.Near.{key_below}
-use Rattle.world.proofs.lists.Among.{Among, among_contains, contains_among}
 use Rattle.world.proofs.safety.Facts.{RowAtSound}
 use Rattle.world.proofs.safety.Invariant.{AnsweredFrom, Inv}
 use Rattle.world.proofs.histories.DecidedIn.{DecidedIn, decided_in, stamp_decision, IsAppliedIn, applied_in}
@@ -48,13 +47,13 @@ module _ (top : TopologyValue) (w : Run) (inv : Inv top w) (some : 0 < top.shard
   seen_here a has =
       applied_in top w inv some (node_of top dc r.key) a
       ((inv.shards (node_of top dc r.key)).applied a
-      (sound.complete.applied a (contains_among a sound.seen (kept_only (λ (b : Applied). nat_le b.commit time) sound.seen a has).0)))
+      (sound.complete.applied a (kept_only (λ (b : Applied). nat_le b.commit time) sound.seen a has).0))
 
   home_is : dc_of top (node_of top dc r.key) ≡ dc
   home_is = dc_of_shard top dc _ (key_below top.shards r.key some)
 
   -- what the read rests on in the row is the transaction of one of the row's writers
-  pub writer_of_row : (d : Decision) → Among d (decisions_in top w dc)
+  pub writer_of_row : (d : Decision) → Contains (decisions_in top w dc) d
       → RowRestsOn (up_to time (history_of top w dc)) (row_of read r.key) read.predicate d.stamp
       → (k : WriterValue) × Contains r.writers k × (k.txn ≡ d.txn)
   writer_of_row d has rests =
@@ -76,8 +75,8 @@ pub rests_on_written : (top : TopologyValue) (w : Run) → Inv top w → 0 < top
     → AnsweredFrom top w dc read time rows
     → (u : TxnValue) → ReadRestsOn top w dc read time u → (k : WriterValue) × Contains (flat_map (λ r. r.writers) rows) k × (k.txn ≡ u)
 rests_on_written top w inv some dc time read rows from u (d, key, has, txn, asked, rests) =
-    let m = map_contains (λ (r : RowAt). r.key) rows key (among_contains key (map (λ (r : RowAt). r.key) rows) (from.given key (contains_among key read.keys asked))) in
+    let m = map_contains (λ (r : RowAt). r.key) rows key (from.given key asked) in
     let r = m.0 in
-    let k = writer_of_row top w inv some dc time read r (from.right r (contains_among r rows m.1)) d (contains_among d (decisions_in top w dc) has)
+    let k = writer_of_row top w inv some dc time read r (from.right r m.1) d has
     (subst (λ z. RowRestsOn (up_to time (history_of top w dc)) (row_of read z) read.predicate d.stamp) (sym m.2) rests) in
     (k.0, contains_flat (λ (r : RowAt). r.writers) rows r k.0 m.1 k.1, k.2 ∙ txn)

@@ -26,7 +26,6 @@ use Rattle.world.specs.Run.{Run, Completed}
 use Rattle.world.specs.Histories.{IsHistory}
 use Rattle.messages.proofs.Numbering.{dc_of_shard, number_of_shard}
 use Rattle.world.proofs.envelopes.Near.{key_below}
-use Rattle.world.proofs.lists.Among.{among_contains, contains_among}
 use Rattle.world.proofs.safety.Facts.{RowAtSound}
 use Rattle.world.proofs.safety.Invariant.{AnsweredFrom, AnsweredSound, EndSound, Inv}
 use Rattle.world.proofs.tables.ShownOnRow.{same_of_row}
@@ -45,7 +44,7 @@ pub answered : (top : TopologyValue) (w : Run) → Inv top w → (c : Completed)
     → Contains w.transcript c → c.op ≡ op.Read read → c.outcome ≡ outcome.Read time answer → AnsweredSound top w c.home (record { session = c.node; number = c.number }) read time answer
 answered top w inv c read time answer has is came =
     answered_so c.op c.outcome top w c.home read time answer (record { session = c.node; number = c.number }) is came
-    (inv.transcript c (contains_among c w.transcript has)).came
+    (inv.transcript c has).came
 
 -- what is right of a row, on the shard of its key, has the same of the row as the history of the data centre
 pub right_alike : (top : TopologyValue) (w : Run) → Inv top w → 0 < top.shards
@@ -73,13 +72,13 @@ rows_right : (top : TopologyValue) (w : Run) → Inv top w → 0 < top.shards �
 rows_right top w inv some dc time read rows from h is =
     record {
       given = λ k asked.
-          let m = map_contains (λ (r : RowAt). r.key) rows k (among_contains k (map (λ (r : RowAt). r.key) rows) (from.given k (contains_among k read.keys asked))) in
+          let m = map_contains (λ (r : RowAt). r.key) rows k (from.given k asked) in
           subst (λ z. Contains (map (λ (r : AnsweredRow). r.key) (map answered_row rows)) z) m.2
           (contains_map (λ (r : AnsweredRow). r.key) (map answered_row rows) (answered_row m.0) (contains_map answered_row rows m.0 m.1));
       right = λ a has asked.
           let m = map_contains answered_row rows a has in
           let r = m.0 in
-          let sound = from.right r (contains_among r rows m.1) in
+          let sound = from.right r m.1 in
           subst (λ (z : AnsweredRow). z ≡ shown_row read (up_to time h) z.key) m.2
           (ap (λ (cs : List Column). let z : AnsweredRow = record { key = r.key; columns = cs } in z) (right_columns top w inv some dc time read r sound h is));
     }

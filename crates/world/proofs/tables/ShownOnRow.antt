@@ -22,22 +22,22 @@ use Rattle.world.specs.Run.{Run}
 use Rattle.world.specs.Histories.{history_of, IsHistory}
 use Rattle.messages.proofs.Numbering.{shard_again}
 use Rattle.world.proofs.envelopes.Near.{shard_below}
-use Rattle.world.proofs.lists.Among.{Among, among_contains, contains_among, filter_only, filter_among, map_only, map_among}
+use Rattle.world.proofs.lists.Members.{contains_map, mapped_from, contains_filter, filter_contains}
 use Rattle.world.proofs.safety.Facts.{near, part_on, PreparedBefore, Sees, Complete}
 use Rattle.world.proofs.safety.Invariant.{Inv}
 use Rattle.world.proofs.envelopes.PartRows.{part_changes, part_has, leads_or_follows}
 use Rattle.world.proofs.histories.DecidedIn.{DecidedIn, one_batch, one_decision, on_lead, IsAppliedIn, applied_in, entry, entry_among, entry_is, one_each}
 
 -- ---- a history in any order
-among_history : (top : TopologyValue) (w : Run) (dc : ℕ) (h : History) → IsHistory top w dc h → (c : Committed) → Among c (history_of top w dc)
-    → Among c h
+among_history : (top : TopologyValue) (w : Run) (dc : ℕ) (h : History) → IsHistory top w dc h → (c : Committed) → Contains (history_of top w dc) c
+    → Contains h c
 among_history top w dc h is c m =
-    contains_among c h (Contains-permutation (history_of top w dc) h c (IsPermutation-sym h (history_of top w dc) is) (among_contains c (history_of top w dc) m))
+    Contains-permutation (history_of top w dc) h c (IsPermutation-sym h (history_of top w dc) is) m
 
-history_among : (top : TopologyValue) (w : Run) (dc : ℕ) (h : History) → IsHistory top w dc h → (c : Committed) → Among c h
-    → Among c (history_of top w dc)
+history_among : (top : TopologyValue) (w : Run) (dc : ℕ) (h : History) → IsHistory top w dc h → (c : Committed) → Contains h c
+    → Contains (history_of top w dc) c
 history_among top w dc h is c m =
-    contains_among c (history_of top w dc) (Contains-permutation h (history_of top w dc) c is (among_contains c h m))
+    Contains-permutation h (history_of top w dc) c is m
 
 one_by : (top : TopologyValue) (w : Run) → Inv top w → (dc time : ℕ) (h : History) → IsHistory top w dc h → AreStampedApart (up_to time h)
 one_by top w inv dc time h is c d mc md =
@@ -48,7 +48,7 @@ one_by top w inv dc time h is c d mc md =
 -- ---- the row
 module _ (top : TopologyValue) (w : Run) (inv : Inv top w) (some : 0 < top.shards) (node : ℕ) (row : Row) (here : shard_of_key top.shards row.key ≡ shard_of top node)
     (time : ℕ) (seen : List Applied) (complete : Complete top w node row time seen) where
-  seen_in : (v : Applied) → Among v seen → IsAppliedIn top w node v
+  seen_in : (v : Applied) → Contains seen v → IsAppliedIn top w node v
   seen_in v m = applied_in top w inv some node v ((inv.shards node).applied v (complete.applied v m))
 
   -- the part of a batch on this shard has of the row what the batch's normal form has
@@ -70,7 +70,7 @@ module _ (top : TopologyValue) (w : Run) (inv : Inv top w) (some : 0 < top.shard
         | inl sees ↦ subst (λ t. Sees seen t) before.txn sees
         | inr (inl late) ↦ let lt = before.time in absurd (omega arith)
         | inr (inr excluded) ↦
-            let lt = excluded.above d (subst (λ n. Among d (w.shards n).decided) (sym coordinator) is.among) (sym before.txn) in
+            let lt = excluded.above d (subst (λ n. Contains (w.shards n).decided d) (sym coordinator) is.among) (sym before.txn) in
             absurd (omega arith)
       ]
 
@@ -81,7 +81,7 @@ module _ (top : TopologyValue) (w : Run) (inv : Inv top w) (some : 0 < top.shard
       elim (leads_or_follows top.shards (shard_of top node) row here (shard_below top node some) is.sound.batch hit) [
         | inl leads ↦
             let same : is.node ≡ node = on_lead top w (dc_of top node) d is ∙ ap (shard_node top (dc_of top node)) (sym leads) ∙ shard_again top node in
-            elim (complete.decided d (subst (λ n. Among d (w.shards n).decided) same is.among)) [
+            elim (complete.decided d (subst (λ n. Contains (w.shards n).decided d) same is.among)) [
               | inl sees ↦ sees
               | inr (inl lt) ↦ absurd (omega arith)
               | inr (inr none) ↦
@@ -102,15 +102,15 @@ module _ (top : TopologyValue) (w : Run) (inv : Inv top w) (some : 0 < top.shard
       only : (c : Committed) → Contains (parts_of (applied_by time seen)) c → has_row row c.batch ≡ true
           → (d : Committed) × Contains (up_to time h) d × AgreesOn row c d
       only c has hit =
-          let r = map_only part_entry (applied_by time seen) c (contains_among c (parts_of (applied_by time seen)) has) in
+          let r = mapped_from part_entry (applied_by time seen) c has in
           let v = r.0 in
-          let f = filter_only (λ (a : Applied). nat_le a.commit time) seen v r.1 in
+          let f = filter_contains (λ (a : Applied). nat_le a.commit time) seen v r.1 in
           let was = seen_in v f.0 in
           let d = entry was.decision was.decided.sound.batch in
           let low : nat_le d.commit time ≡ true = ap (λ (n : ℕ). nat_le n time) was.commit ∙ f.1 in
           let there = among_history top w (dc_of top node) h is d (entry_among top w inv (dc_of top node) was.decision was.among was.decided) in (
             d,
-            among_contains d (up_to time h) (filter_among (λ (a : Committed). nat_le a.commit time) h d there low),
+            contains_filter (λ (a : Committed). nat_le a.commit time) h d there low,
             record {
               stamp = ap (λ (a : Committed). a.stamp) r.2 ∙ sym was.stamp;
               commit = ap (λ (a : Committed). a.commit) r.2 ∙ sym was.commit;
@@ -121,7 +121,7 @@ module _ (top : TopologyValue) (w : Run) (inv : Inv top w) (some : 0 < top.shard
       each : (c : Committed) → Contains (up_to time h) c → has_row row (normal_of c.batch) ≡ true
           → (p : Committed) × Contains (parts_of (applied_by time seen)) p × AgreesOn row p c
       each c has hit =
-          let f = filter_only (λ (a : Committed). nat_le a.commit time) h c (contains_among c (up_to time h) has) in
+          let f = filter_contains (λ (a : Committed). nat_le a.commit time) h c has in
           let own = entry_is top w inv (dc_of top node) c (history_among top w (dc_of top node) h is c f.0) in
           let d = own.decision in
           let le : d.commit ≤ time = leb-true d.commit time (ap (λ (n : ℕ). nat_le n time) (sym own.commit) ∙ f.1) in
@@ -134,8 +134,7 @@ module _ (top : TopologyValue) (w : Run) (inv : Inv top w) (some : 0 < top.shard
           let stamp : v.stamp ≡ c.stamp = sym was.stamp ∙ ap (λ (a : Decision). a.stamp) same ∙ sym own.stamp in
           let low : nat_le v.commit time ≡ true = ap (λ (n : ℕ). nat_le n time) commit ∙ f.1 in (
             part_entry v,
-            among_contains (part_entry v) (parts_of (applied_by time seen))
-                (map_among part_entry (applied_by time seen) v (filter_among (λ (a : Applied). nat_le a.commit time) seen v s.1 low)),
+            contains_map part_entry (applied_by time seen) v (contains_filter (λ (a : Applied). nat_le a.commit time) seen v s.1 low),
             record {
               stamp = stamp;
               commit = commit;

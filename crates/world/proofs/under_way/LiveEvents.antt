@@ -1,5 +1,6 @@
 -- Every event keeps what is under way, and so does every run.
 use Rattle.std.proofs.Common.{◌≡◌, ℕ, Bool, true, false, List, [], ◌∷◌, slice_get, Option, Some, None, Ok, refl, sym, ap, ◌∙◌, subst, le_of_lt}
+use Rattle.std.specs.Prelude.{Contains}
 use Rattle.std.proofs.lemmas.Bool.{false≢true}
 use Rattle.logical_time.specs.declared.fault.Fault.{Fault}
 use Rattle.messages.specs.declared.op.Op.{Op}
@@ -14,7 +15,7 @@ use Rattle.messages.specs.Submitting.{begun, busy_or, plan_fault, submit_fault, 
 use Rattle.messages.specs.SessionEvents.{heard, session_handle}
 use Rattle.messages.specs.ShardEvents.{handled, shard_handle, collected}
 use Rattle.world.specs.Run.{Run, Submission, RunEvent, Submit, Deliver, Collect, opening, after_shard, after_session, after_submission, submit_if, deliver_if, deliver_for, collect_if, step, continued, run}
-use Rattle.world.proofs.lists.Among.{Among, get_among}
+use Rattle.world.proofs.lists.Members.{none_in_empty, contains_get}
 use Rattle.world.proofs.safety.Invariant.{Says, Inv}
 use Rattle.world.proofs.keeping.HandlesKept.{handle_kept}
 use Rattle.shard.proofs.steps.Handles.{ticked_above}
@@ -59,7 +60,7 @@ module _ (top : TopologyValue) (ok : Stands top) (w : Run) (inv : Inv top w) (li
           → Live top (after_shard (on_clock o (λ n. handled top e.to n (w.shards e.to) e.from e.body)) w (Deliver j) e.to)
       go None q = live
       go (Some n) q =
-          let m = get_among w.sent j e found in
+          let m = contains_get w.sent j e found in
           let above = ticked_above (w.shards e.to).clock e.time n q in
           let st = handled top e.to n (w.shards e.to) e.from e.body in
           let ev = Deliver j in
@@ -74,12 +75,12 @@ module _ (top : TopologyValue) (ok : Stands top) (w : Run) (inv : Inv top w) (li
           (live.sent e m)).0) l.0 stations.handled
           (delivers_it top w x j e found acted)
         where
-          no_session : (b : Submission) → Among b w.submitted → b.session ≡ e.to → ⊥
+          no_session : (b : Submission) → Contains w.submitted b → b.session ≡ e.to → ⊥
           no_session b m own = false≢true (sym (shard_no_session top e.to is) ∙ sym (ap (is_session top) own) ∙ stations.submitted b m)
 
           by : (b : Bool) → is_for_session (kind_of e.body) ≡ b → (x : Run)
               → (is_for_session (kind_of e.body) ≡ false → Acted top x e.from e.to (kind_of e.body))
-              → (Acted top w e.from e.to (kind_of e.body) → Acted top x e.from e.to (kind_of e.body)) → Among e w.sent
+              → (Acted top w e.from e.to (kind_of e.body) → Acted top x e.from e.to (kind_of e.body)) → Contains w.sent e
               → Acted top x e.from e.to (kind_of e.body)
           by false f x one other m = one f
           by true f x one other m = other (at_shard e.from e.to e.time e.body f is (inv.sent e m) (live.sent e m))
@@ -88,20 +89,20 @@ module _ (top : TopologyValue) (ok : Stands top) (w : Run) (inv : Inv top w) (li
       → Live top (after_session (session_handle top e.to (w.sessions e.to) e) w (Deliver j) e.to)
   session_hears j e found is = go (ticked (w.sessions e.to).clock e.time) refl
     where
-      no_ballot : (r : KeptBallot) → Among r (w.shards e.to).kept_ballots → ⊥
-      no_ballot r m = absurd (subst (λ (a : ShardState). Among r a.kept_ballots) (stations.shards e.to is) m)
+      no_ballot : (r : KeptBallot) → Contains (w.shards e.to).kept_ballots r → ⊥
+      no_ballot r m = none_in_empty r (subst (λ (a : ShardState). Contains a.kept_ballots r) (stations.shards e.to is) m)
 
       no_shard : (b : Bool) → is_for_shard (kind_of e.body) ≡ b → is_for_shard (kind_of e.body) ≡ false
       no_shard false f = f
       no_shard true f =
-          let m = get_among w.sent j e found in
+          let m = contains_get w.sent j e found in
           absurd (false≢true (sym is ∙ to_shard top w ok.some inv live stations e.from e.to e.time e.body (inv.sent e m) (live.sent e m) f))
 
       go : (o : Option ℕ) → ticked (w.sessions e.to).clock e.time ≡ o
           → Live top (after_session (on_clock o (λ n. heard top e.to n (w.sessions e.to) e.from e.body)) w (Deliver j) e.to)
       go None q = live
       go (Some n) q =
-          let m = get_among w.sent j e found in
+          let m = contains_get w.sent j e found in
           let above = ticked_above (w.sessions e.to).clock e.time n q in
           let st = heard top e.to n (w.sessions e.to) e.from e.body in
           let ev = Deliver j in
@@ -174,32 +175,32 @@ opening_live top ok =
           record {
             entries =
                 record {
-                  prepared = λ p m. absurd m;
-                  ballots = λ u m. absurd m;
-                  kept_parts = λ k m. absurd m;
-                  kept_ballots = λ r m. absurd m;
-                  early = λ v m. absurd m;
-                  votes = λ v m. absurd m;
-                  notices = λ v m. absurd m;
-                  decided = λ d m. absurd m;
-                  applied = λ v m. absurd m;
-                  askers = λ k m. absurd m;
-                  told = λ k d m. absurd m;
+                  prepared = λ p m. absurd (none_in_empty p m);
+                  ballots = λ u m. absurd (none_in_empty u m);
+                  kept_parts = λ k m. absurd (none_in_empty k m);
+                  kept_ballots = λ r m. absurd (none_in_empty r m);
+                  early = λ v m. absurd (none_in_empty v m);
+                  votes = λ v m. absurd (none_in_empty v m);
+                  notices = λ v m. absurd (none_in_empty v m);
+                  decided = λ d m. absurd (none_in_empty d m);
+                  applied = λ v m. absurd (none_in_empty v m);
+                  askers = λ k m. absurd (none_in_empty k m);
+                  told = λ k d m. absurd (none_in_empty k m);
                 };
-            counted = λ u v m. absurd m;
-            voted = λ u m. absurd m;
-            ready = λ r m. absurd m;
+            counted = λ u v m. absurd (none_in_empty u m);
+            voted = λ u m. absurd (none_in_empty u m);
+            ready = λ r m. absurd (none_in_empty r m);
           };
-      sent = λ e m. absurd m;
-      acted = λ k e m. absurd m;
-      submitted = λ b batch m. absurd m;
+      sent = λ e m. absurd (none_in_empty e m);
+      acted = λ k e m. absurd (none_in_empty k m);
+      submitted = λ b batch m. absurd (none_in_empty b m);
       earlier = tt;
-      dependencies = λ node k m. absurd m;
+      dependencies = λ node k m. absurd (none_in_empty k m);
       homes = ok.home;
       current = λ node. tt;
-      waiting = λ node y m. absurd m;
-      rounds = λ node y m. absurd m;
-      ends = λ b m. absurd m;
+      waiting = λ node y m. absurd (none_in_empty y m);
+      rounds = λ node y m. absurd (none_in_empty y m);
+      ends = λ b m. absurd (none_in_empty b m);
     }
 
 continued_live : (top : TopologyValue) → Stands top → (events : List RunEvent) (w : Run) → Inv top w → Live top w → Stations top w

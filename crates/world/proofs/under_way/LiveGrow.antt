@@ -9,7 +9,6 @@ use Rattle.messages.specs.Topology.{TopologyValue}
 use Rattle.messages.specs.Shard.{ShardState, Role, Own, Cohort, Replica, PreparedPart, BegunBallot}
 use Rattle.messages.specs.Session.{SessionState, Open, Idle, Writing, FirstRound, SecondRound, Moving}
 use Rattle.world.specs.Run.{Run, Submission}
-use Rattle.world.proofs.lists.Among.{Among, contains_among, among_contains}
 use Rattle.world.proofs.safety.Facts.{IsWritten, near, Sees}
 use Rattle.world.proofs.envelopes.About.{Kind, OfBegin, OfPrepare, OfYes, OfCommit, OfAt, OfNotBy, OfCheck, OfRead, OfReadAt, OfReplBegin, OfReplPart, OfNotify, OfPrepareRemote, OfDepCheck, OfDepOk, OfDone, OfPartNow, OfPartAt, Sent}
 use Rattle.world.proofs.under_way.Underway.{HasPrepared, HasBallot, HasDecision, HasKeptPart, HasKeptBallot, Knows, Awaits, WaitsFor, of_ballot, of_moving, Aside, Away, AtOrigin, Leads, Placed, Round, SessionOnward, Onward, RoleLive, PreparedLive, BallotLive, AppliedLive, Entries, ShardLive, SaysLive, HasEnded, WasCounted, by_ballot, by_move, Acted, SubmissionLive, OpenLive}
@@ -18,7 +17,7 @@ use Rattle.shard.proofs.steps.Within.{within_itself}
 
 -- ## Messages
 
-pub sent_in : {xs ys : List Envelope} {s r : ℕ} {k : Kind} → ((e : Envelope) → Among e xs → Among e ys) → Sent xs s r k → Sent ys s r k
+pub sent_in : {xs ys : List Envelope} {s r : ℕ} {k : Kind} → ((e : Envelope) → Contains xs e → Contains ys e) → Sent xs s r k → Sent ys s r k
 sent_in f k = record { message = k.message; among = f k.message k.among; by = k.by; for = k.for; is = k.is }
 
 pub sent_on : {top : TopologyValue} {w x : Run} {s r : ℕ} {k : Kind} → Onward top w x → Sent w.sent s r k → Sent x.sent s r k
@@ -26,8 +25,8 @@ sent_on g k = sent_in g.sent k
 
 -- ## What a shard has of a transaction
 
-pub stays_in : {X : Type 0} (xs ys : List X) → ((y : X) → Contains xs y → Contains ys y) → (y : X) → Among y xs → Among y ys
-stays_in xs ys f y m = contains_among y ys (f y (among_contains y xs m))
+pub stays_in : {X : Type 0} (xs ys : List X) → ((y : X) → Contains xs y → Contains ys y) → (y : X) → Contains xs y → Contains ys y
+stays_in xs ys f y m = f y m
 
 pub prepared_on : {a b : ShardState} {t : TxnValue} → IsWithin a b → HasPrepared a t → HasPrepared b t
 prepared_on g k = (k.0, stays_in _ _ g.prepared k.0 k.1, k.2)

@@ -1,5 +1,6 @@
 -- What every message leaves under way at a shard.
-use Rattle.std.proofs.Common.{◌≡◌, ℕ, ◌<◌, Bool, true, false, ◌⊎◌, inl, inr, refl, sym, subst, le_trans}
+use Rattle.std.proofs.Common.{◌≡◌, ℕ, ◌<◌, Bool, true, false, [], ◌⊎◌, inl, inr, refl, sym, subst, le_trans}
+use Rattle.std.specs.Prelude.{Contains}
 use Rattle.std.proofs.lemmas.Bool.{false≢true}
 use Rattle.logical_time.specs.Stamps.{StampValue, TxnValue, WriterValue}
 use Rattle.messages.specs.declared.body.Body.{Body}
@@ -12,7 +13,7 @@ use Rattle.messages.specs.Reads.{answer}
 use Rattle.messages.specs.ShardEvents.{handled, collected}
 use Rattle.shard.proofs.steps.HandledCases.{IsTelling, begun, replicated, copied, Ignored, the_ballot, a_notice, an_answer, StepOf, still, begin_decides, begin_holds, prepares, vote_decides, vote_counts, vote_early, applies, lets_go, tells_commit, tells_none, reads_now, reads_collected, reads_at, waits, readies, notice_early, keeps_part, prepares_replica, tells_decided, remembers, handled_cases}
 use Rattle.world.specs.Run.{Run, Submission}
-use Rattle.world.proofs.lists.Among.{Among, contains_among, find_none}
+use Rattle.world.proofs.lists.Members.{none_in_empty, contains_first, find_none}
 use Rattle.world.proofs.safety.Facts.{KeptBallotSound, Sees}
 use Rattle.world.proofs.safety.Invariant.{Says, Inv}
 use Rattle.world.proofs.safety.Ables.{absent}
@@ -37,7 +38,7 @@ abbrev pub Acts : TopologyValue → Run → ℕ → ℕ → Kind → Type 0
 Acts top x from to k = is_for_session k ≡ false → Acted top x from to k
 
 module _ (top : TopologyValue) (w x : Run) (node n : ℕ) (some : 0 < top.shards) (was : Inv top w) (inv : Inv top x) (g : Onward top w x) (live : Live top w)
-    (none : (b : Submission) → Among b w.submitted → b.session ≡ node → ⊥) where
+    (none : (b : Submission) → Contains w.submitted b → b.session ≡ node → ⊥) where
   here_live : ShardLive top w node (w.shards node)
   here_live = live.shards node
 
@@ -45,9 +46,9 @@ module _ (top : TopologyValue) (w x : Run) (node n : ℕ) (some : 0 < top.shards
   rounds y m = round_on y.session y.number y.time g (live.rounds node y m)
 
   -- what a replicated ballot depends on was submitted
-  placed : (r : KeptBallot) (time : ℕ) → KeptBallotSound top w node time r → (k : WriterValue) → Among k r.dependencies → Placed top x k
+  placed : (r : KeptBallot) (time : ℕ) → KeptBallotSound top w node time r → (k : WriterValue) → Contains r.dependencies k → Placed top x k
   placed r time s k m =
-      placed_on g ((live.submitted s.submission s.batch s.written.among s.written.op).dependencies k (subst (λ l. Among k l) s.dependencies m))
+      placed_on g ((live.submitted s.submission s.batch s.written.among s.written.op).dependencies k (subst (λ l. Contains l k) s.dependencies m))
 
   says_on_origin : {t : TxnValue} → AtOrigin top w node t ⊎ Knows (w.shards node) t → AtOrigin top x node t ⊎ Knows (w.shards node) t
   says_on_origin (inl o) = inl (origin_on g o)
@@ -66,7 +67,7 @@ module _ (top : TopologyValue) (w x : Run) (node n : ℕ) (some : 0 < top.shards
       known_at_origin top w x node n some inv g here_live rounds t (record { submission = says.submission; batch = says.batch; written = says.written; here = says.origin }) e
   ignored_acts from time (Yes t) (inl (b, is, e)) says (o, aside, leads, dc) f =
       inl (stays_in _ _ (g.shards node).votes (vote_of t from)
-      (counted_before top w x node n some inv g here_live rounds t from (says_on_origin o) (aside_on g aside) (leads_on g leads) dc b (contains_among b _ is.among) is.txn e))
+      (counted_before top w x node n some inv g here_live rounds t from (says_on_origin o) (aside_on g aside) (leads_on g leads) dc b is.among is.txn e))
   ignored_acts from time (Yes t) (inr (none, e)) says (o, aside, leads, dc) f =
       early_before top w x node n some inv g here_live rounds t from (says_on_origin o) (aside_on g aside) (leads_on g leads) dc none e
   ignored_acts from time (Commit t commit stamp) e says k f = applied_before top w x node n some inv g here_live rounds t e k.0 (aside_on g k.1)
@@ -82,7 +83,7 @@ module _ (top : TopologyValue) (w x : Run) (node n : ℕ) (some : 0 < top.shards
       ]
   ignored_acts from time (ReplPart t rows stamp coordinator) e says k f = part_before top w x node n some was inv g here_live rounds t e
   ignored_acts from time (Notify t) (inl (r, has, is, e)) says k f =
-      inl (notice_before top w x node n some was inv g here_live rounds t from (kept_part_on (g.shards from) k.0) k.2 r (contains_among r _ has) is e)
+      inl (notice_before top w x node n some was inv g here_live rounds t from (kept_part_on (g.shards from) k.0) k.2 r has is e)
   ignored_acts from time (Notify t) (inr (none, e)) says k f =
       early_notice_before top w x node n some was inv g here_live rounds t from (leads_on g k.1) none e
   ignored_acts from time (PrepareRemote t) (inl e) says k f =
@@ -103,7 +104,7 @@ module _ (top : TopologyValue) (w x : Run) (node n : ℕ) (some : 0 < top.shards
 
   -- one envelope is sent, and the clock moves
   answers_left : (e : Envelope) → Fine top x e → Here x node (answer n (w.shards node) e) → Left top x node (answer n (w.shards node) e) × Sent x.sent e.from e.to (kind_of e.body)
-  answers_left e fine here = (answer_left n e fine kx, record { message = e; among = here.sent e (inl refl); by = refl; for = refl; is = refl })
+  answers_left e fine here = (answer_left n e fine kx, record { message = e; among = here.sent e (contains_first e []); by = refl; for = refl; is = refl })
 
   step_left : (from time : ℕ) (m : Body) (st : ShardStep) → StepOf top node n (w.shards node) from m st → Says top w from node time m → Says top x from node time m
       → SaysLive top w from node (kind_of m) → Here x node st → Left top x node st × Acts top x from node (kind_of m)
@@ -115,15 +116,15 @@ module _ (top : TopologyValue) (w x : Run) (node n : ℕ) (some : 0 < top.shards
   step_left from time m st (prepares t rows coordinator new) old says k here =
       let r = prepares_left top w x node n some inv g here_live rounds t rows coordinator says here in (r.0, λ f. r.1)
   step_left from time m st (vote_decides t b is awaited all) old says (o, aside, leads, dc) here =
-      let r = vote_decides_left top w x node n some inv g here_live rounds t from (says_on_origin o) (aside_on g aside) (leads_on g leads) dc b (contains_among b _ is.among) is.txn here in
+      let r = vote_decides_left top w x node n some inv g here_live rounds t from (says_on_origin o) (aside_on g aside) (leads_on g leads) dc b is.among is.txn here in
       (r.0, λ f. inl r.1)
   step_left from time m st (vote_counts t b is awaited missing) old says (o, aside, leads, dc) here =
-      let r = vote_counts_left top w x node n some inv g here_live rounds t from (says_on_origin o) (aside_on g aside) (leads_on g leads) dc b (contains_among b _ is.among) is.txn missing here in
+      let r = vote_counts_left top w x node n some inv g here_live rounds t from (says_on_origin o) (aside_on g aside) (leads_on g leads) dc b is.among is.txn missing here in
       (r.0, λ f. inl r.1)
   step_left from time m st (vote_early t none new first) old says (o, aside, leads, dc) here =
       let r = early_left top w x node n some inv g here_live rounds t from (says_on_origin o) (aside_on g aside) (leads_on g leads) dc new here in (r.0, λ f. r.1)
   step_left from time m st (applies t commit stamp tells p has is theirs new) old says k here =
-      let r = applies_left top w x node n some inv g here_live rounds t commit stamp p (contains_among p _ has) is theirs here in
+      let r = applies_left top w x node n some inv g here_live rounds t commit stamp p has is theirs here in
       (r.0, told from m t commit stamp tells r.1)
   step_left from time m st (lets_go t bound) old says k here = (not_by_left top w x node n some inv g here_live rounds t bound, λ f. tt)
   step_left from time m st (tells_commit t bound d has is) old says k here = (answer_left n _ tt kx, λ f. tt)
@@ -140,17 +141,17 @@ module _ (top : TopologyValue) (w x : Run) (node n : ℕ) (some : 0 < top.shards
       let kept = replicated t rows stamp cohorts dependencies in
       let r = repl_begin_left top w x node n some was inv g here_live rounds kept (away_on g k.0) k.1 (placed kept time old) new _ step here in (r.0, λ f. inl r.1)
   step_left from time m st (readies (a_notice t kept has is awaited unready) step) old says k here =
-      let r = notice_left top w x node n some was inv g here_live rounds t from (kept_part_on (g.shards from) k.0) (leads_on g k.1) k.2 kept (contains_among kept _ has) is unready _ step here in
+      let r = notice_left top w x node n some was inv g here_live rounds t from (kept_part_on (g.shards from) k.0) (leads_on g k.1) k.2 kept has is unready _ step here in
       (r.0, λ f. inl r.1)
   step_left from time m st (readies (an_answer dependency waiter commit kept has is unmet unready) step) old says k here =
-      let r = answer_counts_left top w x node n some was inv g here_live rounds waiter dependency kept (contains_among kept _ has) is unready _ step here in
+      let r = answer_counts_left top w x node n some was inv g here_live rounds waiter dependency kept has is unready _ step here in
       (r.0, λ f. was_counted top w x node n some was inv g here_live rounds waiter dependency (awaits_here top w x node n some was inv g here_live rounds (dc_of top from) waiter dependency none k) r.1)
   step_left from time m st (notice_early t none new first) old says k here =
       let r = early_notice_left top w x node n some was inv g here_live rounds t from (kept_part_on (g.shards from) k.0) (leads_on g k.1) k.2 none here in (r.0, λ f. r.1)
   step_left from time m st (keeps_part t rows stamp coordinator new) old says k here =
       let r = keeps_part_left top w x node n some was inv g here_live rounds (copied t rows stamp coordinator) says (away_on g k.1) k.2 here in (r.0, λ f. inl r.1)
   step_left from time m st (prepares_replica t kept has is new) old says k here =
-      let r = prepares_replica_left top w x node n some was inv g here_live rounds from t (known_on (g.shards from) k.1) (leads_on g k.2) k.3 kept (contains_among kept _ has) is here in
+      let r = prepares_replica_left top w x node n some was inv g here_live rounds from t (known_on (g.shards from) k.1) (leads_on g k.2) k.3 kept has is here in
       (r.0, λ f. r.1)
   step_left from time m st (tells_decided dependency waiter d has is) old says k here =
       let r = answers_left _ (waits_for_on g k.2) here in (r.0, λ f. inl r.1)
@@ -163,8 +164,8 @@ module _ (top : TopologyValue) (w x : Run) (node n : ℕ) (some : 0 < top.shards
   body_left from time b old says k here = step_left from time b (handled top node n (w.shards node) from b) (handled_cases top node n (w.shards node) from b) old says k here
 
 -- what a message that was sent leaves at the shard that handles it, in a run after the step
-pub handled_left : (top : TopologyValue) (w x : Run) (n : ℕ) → 0 < top.shards → Inv top w → Inv top x → Onward top w x → Live top w → (e : Envelope) → Among e w.sent
-    → ((b : Submission) → Among b w.submitted → b.session ≡ e.to → ⊥) → Here x e.to (handled top e.to n (w.shards e.to) e.from e.body)
+pub handled_left : (top : TopologyValue) (w x : Run) (n : ℕ) → 0 < top.shards → Inv top w → Inv top x → Onward top w x → Live top w → (e : Envelope) → Contains w.sent e
+    → ((b : Submission) → Contains w.submitted b → b.session ≡ e.to → ⊥) → Here x e.to (handled top e.to n (w.shards e.to) e.from e.body)
     → Left top x e.to (handled top e.to n (w.shards e.to) e.from e.body) × Acts top x e.from e.to (kind_of e.body)
 handled_left top w x n some was inv g live e m none here =
     body_left top w x e.to n some was inv g live none e.from e.time e.body (was.sent e m) (inv.sent e (g.sent e m)) (live.sent e m) here
@@ -172,4 +173,4 @@ handled_left top w x n some was inv g live e m none here =
 -- what a collection leaves
 pub collected_left : (top : TopologyValue) (w x : Run) (node n time : ℕ) → Onward top w x → Live top w → Left top x node (collected n (w.shards node) time)
 collected_left top w x node n time g live =
-    record { live = clock_live n _ (w.shards node).waiting (shard_on g (live.shards node)); sends = λ e m. absurd m }
+    record { live = clock_live n _ (w.shards node).waiting (shard_on g (live.shards node)); sends = λ e m. absurd (none_in_empty e m) }

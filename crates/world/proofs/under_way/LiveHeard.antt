@@ -1,5 +1,6 @@
 -- What each message that a session hears leaves under way.
 use Rattle.std.proofs.Common.{◌≡◌, ℕ, ◌<◌, ◌≤◌, Bool, true, false, List, ◌⊎◌, inl, inr, sym, ap, ap₂, ◌∙◌, subst, subst₂}
+use Rattle.std.specs.Prelude.{Contains}
 use Rattle.std.proofs.lemmas.Bool.{false≢true}
 use Rattle.logical_time.specs.Stamps.{StampValue, TxnValue, WriterValue}
 use Rattle.column_family.specs.declared.batch.Change.{Change}
@@ -13,7 +14,6 @@ use Rattle.messages.specs.Shard.{KeptBallot}
 use Rattle.messages.specs.Session.{SessionStep, Open, Idle, Writing, FirstRound, SecondRound, Moving, is_idle}
 use Rattle.messages.specs.SessionEvents.{heard, session_taken}
 use Rattle.world.specs.Run.{Run, Submission}
-use Rattle.world.proofs.lists.Among.{Among}
 use Rattle.world.proofs.safety.Facts.{txn_of, IsWritten, IsDecided}
 use Rattle.world.proofs.safety.Invariant.{IsOpen, OpenSound, Inv, Hears}
 use Rattle.world.proofs.keeping.SessionEnds.{open_txn}
@@ -44,8 +44,8 @@ is_for_shard (OfPartNow number) = false
 is_for_shard (OfPartAt number time) = false
 
 module _ (top : TopologyValue) (w x : Run) (node n : ℕ) (some : 0 < top.shards) (inv : Inv top w) (le : (w.sessions node).clock ≤ n)
-    (live : Live top w) (no_ballot : (r : KeptBallot) → Among r (w.shards node).kept_ballots → ⊥) where
-  abbrev placed : (k : WriterValue) → Among k (w.sessions node).dependencies → Placed top w k
+    (live : Live top w) (no_ballot : (r : KeptBallot) → Contains (w.shards node).kept_ballots r → ⊥) where
+  abbrev placed : (k : WriterValue) → Contains (w.sessions node).dependencies k → Placed top w k
   placed = λ k m. live.dependencies node k m
 
   abbrev now : TxnValue

@@ -1,5 +1,6 @@
 -- What a ballot that is kept and a part that is prepared leave under way.
-use Rattle.std.proofs.Common.{◌≡◌, ℕ, List, ◌++◌, None, ◌⊎◌, inl, inr, refl, sym, ap, ◌∙◌, subst}
+use Rattle.std.proofs.Common.{◌≡◌, ℕ, List, [], ◌++◌, None, ◌⊎◌, inl, inr, refl, sym, ap, ◌∙◌, subst}
+use Rattle.std.specs.Prelude.{Contains}
 use Rattle.logical_time.specs.Stamps.{TxnValue, WriterValue}
 use Rattle.column_family.specs.declared.batch.Change.{Change}
 use Rattle.messages.specs.declared.envelope.Envelope.{Envelope}
@@ -7,7 +8,7 @@ use Rattle.messages.specs.Topology.{TopologyValue, shard_of}
 use Rattle.messages.specs.Shard.{ShardState, Role, Own, PreparedPart, BegunBallot, Vote, KeptBallot}
 use Rattle.messages.specs.Commits.{hold, prepare_part}
 use Rattle.world.specs.Run.{Run}
-use Rattle.world.proofs.lists.Among.{Among, among_append, append_first, append_second, among_last, last_or_old}
+use Rattle.world.proofs.lists.Members.{contains_first, contains_one, Contains-push, last_or_old, Contains-append_left, Contains-append_right, Contains-append_cases}
 use Rattle.world.proofs.safety.Facts.{near}
 use Rattle.world.proofs.envelopes.About.{OfYes, OfPrepareRemote, Sent}
 use Rattle.world.proofs.under_way.Underway.{HasPrepared, HasBallot, HasDecision, Knows, vote_of, met_of, Away, RoleLive, PreparedLive, BallotLive, Entries, EarlyCounted, Voted, ShardLive, SaysLive}
@@ -18,18 +19,18 @@ use Rattle.world.proofs.under_way.LiveSteps.{Here, Fine, Left}
 module _ (top : TopologyValue) (x : Run) (node n : ℕ) (a : ShardState) (b : BegunBallot) (counted : List Vote) (sends : List Envelope)
     (entries : Entries top x node a) (once : EarlyCounted a)
     (here : Here x node (hold top node n a b counted sends))
-    (from : (b.stamp ≡ None) ⊎ (Away top x node b.txn × ((c : ℕ) → Among c b.cohorts → Sent x.sent node (near top node c) (OfPrepareRemote b.txn))))
-    (of : (v : Vote) → Among v counted → v.txn ≡ b.txn)
-    (early : b.stamp ≡ None → (v : Vote) → Among v a.early → v.txn ≡ b.txn → Among v counted)
-    (missing : ((c : ℕ) → Among c b.cohorts → Among (vote_of b.txn (near top node c)) (a.votes ++ counted)) → ⊥) where
+    (from : (b.stamp ≡ None) ⊎ (Away top x node b.txn × ((c : ℕ) → Contains b.cohorts c → Sent x.sent node (near top node c) (OfPrepareRemote b.txn))))
+    (of : (v : Vote) → Contains counted v → v.txn ≡ b.txn)
+    (early : b.stamp ≡ None → (v : Vote) → Contains a.early v → v.txn ≡ b.txn → Contains counted v)
+    (missing : ((c : ℕ) → Contains b.cohorts c → Contains (a.votes ++ counted) (vote_of b.txn (near top node c))) → ⊥) where
   abbrev own : PreparedPart
   own = record { txn = b.txn; rows = b.rows; coordinator = shard_of top node; time = n; role = Own }
 
   has_ballot : HasBallot (x.shards node) b.txn
-  has_ballot = subst (λ z. HasBallot z b.txn) (sym here.state) (b, among_last b a.ballots, refl)
+  has_ballot = subst (λ z. HasBallot z b.txn) (sym here.state) (b, Contains-push a.ballots b, refl)
 
   pub hold_known : HasPrepared (x.shards node) b.txn
-  hold_known = subst (λ z. HasPrepared z b.txn) (sym here.state) (own, among_last own a.prepared, refl)
+  hold_known = subst (λ z. HasPrepared z b.txn) (sym here.state) (own, Contains-push a.prepared own, refl)
 
   hold_entries : Entries top x node (hold top node n a b counted sends).state
   hold_entries =
@@ -42,7 +43,7 @@ module _ (top : TopologyValue) (x : Run) (node n : ℕ) (a : ShardState) (b : Be
         kept_parts = e.kept_parts;
         kept_ballots = e.kept_ballots;
         early = e.early;
-        votes = λ v m. elim (among_append v a.votes counted m) [ inl o ↦ e.votes v o | inr c ↦ subst (λ t. HasBallot (x.shards node) t) (sym (of v c)) ballot ];
+        votes = λ v m. elim (Contains-append_cases a.votes counted v m) [ inl o ↦ e.votes v o | inr c ↦ subst (λ t. HasBallot (x.shards node) t) (sym (of v c)) ballot ];
         notices = e.notices;
         decided = e.decided;
         applied = e.applied;
@@ -53,21 +54,21 @@ module _ (top : TopologyValue) (x : Run) (node n : ℕ) (a : ShardState) (b : Be
   hold_counted : EarlyCounted (hold top node n a b counted sends).state
   hold_counted u v m s i q =
       elim (last_or_old u b a.ballots m) [
-        | inl o ↦ append_first v a.votes counted (once u v o s i q)
-        | inr z ↦ append_second v a.votes counted (early (ap (λ (y : BegunBallot). y.stamp) (sym z) ∙ s) v i (q ∙ ap (λ (y : BegunBallot). y.txn) z))
+        | inl o ↦ Contains-append_left a.votes counted v (once u v o s i q)
+        | inr z ↦ Contains-append_right a.votes counted v (early (ap (λ (y : BegunBallot). y.stamp) (sym z) ∙ s) v i (q ∙ ap (λ (y : BegunBallot). y.txn) z))
       ]
 
-  hold_voted : ((u : BegunBallot) → Among u a.ballots → ((c : ℕ) → Among c u.cohorts → Among (vote_of u.txn (near top node c)) (a.votes ++ counted)) → HasDecision a u.txn) → Voted top node (hold top node n a b counted sends).state
+  hold_voted : ((u : BegunBallot) → Contains a.ballots u → ((c : ℕ) → Contains u.cohorts c → Contains (a.votes ++ counted) (vote_of u.txn (near top node c))) → HasDecision a u.txn) → Voted top node (hold top node n a b counted sends).state
   hold_voted old u m f =
       elim (last_or_old u b a.ballots m) [
         | inl o ↦ old u o f
-        | inr q ↦ absurd (missing (subst (λ (z : BegunBallot). (c : ℕ) → Among c z.cohorts → Among (vote_of z.txn (near top node c)) (a.votes ++ counted)) q f))
+        | inr q ↦ absurd (missing (subst (λ (z : BegunBallot). (c : ℕ) → Contains z.cohorts c → Contains (a.votes ++ counted) (vote_of z.txn (near top node c))) q f))
       ]
 
-  pub hold_left : ((u : BegunBallot) → Among u a.ballots → ((c : ℕ) → Among c u.cohorts → Among (vote_of u.txn (near top node c)) (a.votes ++ counted)) → HasDecision a u.txn)
-      → ((r : KeptBallot) → Among r a.kept_ballots → ((c : ℕ) → Among c r.cohorts → Among (vote_of r.txn (near top node c)) a.notices)
-      → ((k : WriterValue) → Among k r.dependencies → Among (met_of r.txn k.txn) a.met) → Knows a r.txn ⊎ (r.txn ≡ b.txn))
-      → ((e : Envelope) → Among e sends → Fine top x e)
+  pub hold_left : ((u : BegunBallot) → Contains a.ballots u → ((c : ℕ) → Contains u.cohorts c → Contains (a.votes ++ counted) (vote_of u.txn (near top node c))) → HasDecision a u.txn)
+      → ((r : KeptBallot) → Contains a.kept_ballots r → ((c : ℕ) → Contains r.cohorts c → Contains a.notices (vote_of r.txn (near top node c)))
+      → ((k : WriterValue) → Contains r.dependencies k → Contains a.met (met_of r.txn k.txn)) → Knows a r.txn ⊎ (r.txn ≡ b.txn))
+      → ((e : Envelope) → Contains sends e → Fine top x e)
       → Left top x node (hold top node n a b counted sends)
   hold_left old g fine =
       record {
@@ -77,9 +78,9 @@ module _ (top : TopologyValue) (x : Run) (node n : ℕ) (a : ShardState) (b : Be
               counted = hold_counted;
               voted = hold_voted old;
               ready = λ r m i j. elim (g r m i j) [
-                | inl (inl q) ↦ inl (q.0, append_first q.0 a.prepared _ q.1, q.2)
+                | inl (inl q) ↦ inl (q.0, Contains-append_left a.prepared _ q.0 q.1, q.2)
                 | inl (inr q) ↦ inr (q.0, q.1, q.2)
-                | inr q ↦ inl (own, among_last own a.prepared, sym q)
+                | inr q ↦ inl (own, Contains-push a.prepared own, sym q)
               ];
             };
         sends = fine;
@@ -94,7 +95,7 @@ pub prepare_left : (top : TopologyValue) (x : Run) (node n : ℕ) (a : ShardStat
 prepare_left top x node n a t rows c role k live says here =
     let e = k.entries in
     let p : PreparedPart = record { txn = t; rows = rows; coordinator = c; time = n; role = role } in
-    let new : PreparedLive top x node p = live (record { message = _; among = here.sent _ (inl refl); by = refl; for = refl; is = refl }) in (
+    let new : PreparedLive top x node p = live (record { message = _; among = here.sent _ (contains_first _ []); by = refl; for = refl; is = refl }) in (
       record {
         live =
             record {
@@ -114,9 +115,9 @@ prepare_left top x node n a t rows c role k live says here =
                   };
               counted = k.counted;
               voted = k.voted;
-              ready = λ r m f g. elim (k.ready r m f g) [ inl q ↦ inl (q.0, append_first q.0 a.prepared _ q.1, q.2) | inr q ↦ inr q ];
+              ready = λ r m f g. elim (k.ready r m f g) [ inl q ↦ inl (q.0, Contains-append_left a.prepared _ q.0 q.1, q.2) | inr q ↦ inr q ];
             };
-        sends = λ u m. elim m [ inl q ↦ subst (λ z. Fine top x z) (sym q) says | inr o ↦ absurd o ];
+        sends = λ u m. subst (λ z. Fine top x z) (sym (contains_one _ u m)) says;
       },
-      inl (subst (λ z. HasPrepared z t) (sym here.state) (p, among_last p a.prepared, refl)),
+      inl (subst (λ z. HasPrepared z t) (sym here.state) (p, Contains-push a.prepared p, refl)),
     )

@@ -1,5 +1,6 @@
 -- What a message leaves of a session under way, and what it answers is no longer missed.
 use Rattle.std.proofs.Common.{◌≡◌, ℕ, ◌<◌, ◌≤◌, max, true, false, List, [], ◌∷◌, map, None, ◌⊎◌, inl, inr, refl, sym, ap, ◌∙◌, subst, le_refl}
+use Rattle.std.specs.Prelude.{Contains}
 use Rattle.logical_time.specs.Stamps.{StampValue, TxnValue, WriterValue}
 use Rattle.slice.specs.declared.read.Read.{Read}
 use Rattle.planner.specs.Plan.{shards_asked}
@@ -18,7 +19,7 @@ use Rattle.messages.specs.Rounds.{asked_nodes, all_heard, effective_time, late_n
 use Rattle.messages.specs.SessionEvents.{answered, given_up, written, read_at_of, left_after, heard}
 use Rattle.messages.proofs.Numbering.{dc_of_shard}
 use Rattle.world.specs.Run.{Run}
-use Rattle.world.proofs.lists.Among.{Among, filter_only, map_only, map_among}
+use Rattle.world.proofs.lists.Members.{none_in_empty, contains_first, contains_one, contains_map, mapped_from, filter_contains}
 use Rattle.world.proofs.safety.Invariant.{Hears, WritingSound, MovingSound, OpenSound, Inv}
 use Rattle.world.proofs.envelopes.Asking.{missing_late, asked_below}
 use Rattle.world.proofs.steps.HeardCases.{WriteAnswer, FirstAnswer, SecondAnswer, MoveAnswer, AwaitsNone, IsNotWritten, Ignored, with_rows_now, with_rows_at, opened_as, heard_cases}
@@ -40,7 +41,7 @@ WritesNothing (Moving dc left floor) = Unit {0}
 
 module _ (top : TopologyValue) (w x : Run) (node n : ℕ) (some : 0 < top.shards) (inv : Inv top w) (le : (w.sessions node).clock ≤ n)
     (homed : (w.sessions node).home < top.dcs)
-    (placed : (k : WriterValue) → Among k (w.sessions node).dependencies → Placed top w k)
+    (placed : (k : WriterValue) → Contains (w.sessions node).dependencies k → Placed top w k)
     (live : OpenLive top w node (w.sessions node) (w.sessions node).current)
     (from sent : ℕ) (b : Body) (early : sent ≤ n) (says : Hears top w from node sent b) where
   abbrev a : SessionState
@@ -72,12 +73,12 @@ module _ (top : TopologyValue) (w x : Run) (node n : ℕ) (some : 0 < top.shards
         (λ m f. absurd (subst (λ z. SecondHas top a z m) k.current f)) (λ t f. tt) in
         let open_it : OpenLive top x node (record a { clock = n; current = o; untaken = None }) o =
         record { some = missing_some asked hs more; asked = λ m i. sent_in c.sent (l.asked m (missing_before asked old h m i)) } in
-        waits_went top w x node n some inv homed placed live o [] c on (λ e m. absurd m) open_it (λ busy. refl)
+        waits_went top w x node n some inv homed placed live o [] c on (λ e m. absurd (none_in_empty e m)) open_it (λ busy. refl)
 
     -- the second round's messages
-    asked_at : (m : ℕ) → Among m (late_nodes asked time hs) → dc_of top m < top.dcs
+    asked_at : (m : ℕ) → Contains (late_nodes asked time hs) m → dc_of top m < top.dcs
     asked_at m i =
-        let q = map_only (home_node top a) (shards_asked top.shards read.keys) m (filter_only (is_late time hs) asked m i).0 in
+        let q = mapped_from (home_node top a) (shards_asked top.shards read.keys) m (filter_contains (is_late time hs) asked m i).0 in
         subst (λ d. d < top.dcs) (sym (ap (dc_of top) q.2 ∙ dc_of_shard top a.home q.0 (asked_below top.shards read.keys q.0 q.1))) homed
 
     second_went : (s : ℕ) (ss : List ℕ) → late_nodes asked time hs ≡ s ∷ ss
@@ -88,20 +89,20 @@ module _ (top : TopologyValue) (w x : Run) (node n : ℕ) (some : 0 < top.shards
         let sends = map (read_at_of node n a read time hs) (s ∷ ss) in
         let on = waits_onward top w x node n some inv homed placed live o (λ m f. tt) (λ t f. absurd (subst (λ z. SecondIs z t) k.current f))
         (λ m f. absurd (subst (λ z. SecondHas top a z m) k.current f)) (λ t f. tt) in
-        let fine : (u : Envelope) → Among u sends → SaysLive top x u.from u.to (kind_of u.body) =
-        λ u m. let q = map_only (read_at_of node n a read time hs) (s ∷ ss) u m in
+        let fine : (u : Envelope) → Contains sends u → SaysLive top x u.from u.to (kind_of u.body) =
+        λ u m. let q = mapped_from (read_at_of node n a read time hs) (s ∷ ss) u m in
         subst (λ z. SaysLive top x z.from z.to (kind_of z.body)) (sym q.2) (
           subst (λ z. Round z a.count time) (sym c.state) (record { number = le_refl a.count; round = λ r. refl }),
-          asked_at q.0 (subst (λ l. Among q.0 l) (sym e) q.1),
+          asked_at q.0 (subst (λ l. Contains l q.0) (sym e) q.1),
         ) in
         let open_it : OpenLive top x node (record a { clock = n; current = o; untaken = None }) o =
         record {
-          some = (s, late_missing asked time hs s (subst (λ l. Among s l) (sym e) (inl refl)));
+          some = (s, late_missing asked time hs s (subst (λ l. Contains l s) (sym e) (contains_first s ss)));
           asked = λ m i.
-              let j = subst (λ l. Among m l) e (missing_late asked time hs [] m i) in
+              let j = subst (λ l. Contains l m) e (missing_late asked time hs [] m i) in
               record {
                 message = read_at_of node n a read time hs m;
-                among = c.news _ (map_among (read_at_of node n a read time hs) (s ∷ ss) m j);
+                among = c.news _ (contains_map (read_at_of node n a read time hs) (s ∷ ss) m j);
                 by = refl;
                 for = refl;
                 is = refl;
@@ -129,7 +130,7 @@ module _ (top : TopologyValue) (w x : Run) (node n : ℕ) (some : 0 < top.shards
           some = missing_at_some asked time first (with_rows_at old from rows) more;
           asked = λ m i. sent_in c.sent (l.asked m (missing_at_before asked time first old h m i));
         } in
-        waits_went top w x node n some inv homed placed live o [] c on (λ e m. absurd m) open_it (λ busy. refl)
+        waits_went top w x node n some inv homed placed live o [] c on (λ e m. absurd (none_in_empty e m)) open_it (λ busy. refl)
 
   -- ## The move
 
@@ -147,10 +148,10 @@ module _ (top : TopologyValue) (w x : Run) (node n : ℕ) (some : 0 < top.shards
         let open_it : OpenLive top x node (record a { clock = n; current = o; untaken = None }) o =
         record {
           there = moving.there;
-          some = (u, subst (λ l. Among u l) (sym e) (inl refl));
+          some = (u, subst (λ l. Contains l u) (sym e) (contains_first u us));
           asked = λ d m. sent_in c.sent (moving.asked d (left_before dependency left d m));
         } in
-        waits_went top w x node n some inv homed placed live o [] c on (λ e m. absurd m) open_it (λ busy. refl)
+        waits_went top w x node n some inv homed placed live o [] c on (λ e m. absurd (none_in_empty e m)) open_it (λ busy. refl)
 
     arrives_went : Comes w x node (moved n a dc (max floor commit)) → Went top w x node (moved n a dc (max floor commit))
     arrives_went c =
@@ -172,7 +173,7 @@ module _ (top : TopologyValue) (w x : Run) (node n : ℕ) (some : 0 < top.shards
         coordinator = s.coordinator;
       } in
       ended_went top w x node n some inv homed placed live (max a.floor commit) (this ∷ []) (outcome.Wrote commit stamp) a.home (op.Batch s.batch) s.opened
-      (λ d m. elim (m) [ inl z ↦ subst (λ y. Placed top x y) (sym z) is | inr z ↦ absurd z ]) c
+      (λ d m. subst (λ y. Placed top x y) (sym (contains_one this d m)) is) c
 
   pub heard_went : Comes w x node (heard top node n a from b) → Went top w x node (heard top node n a from b)
   heard_went =

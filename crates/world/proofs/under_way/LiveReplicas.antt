@@ -18,7 +18,7 @@ use Rattle.messages.specs.Commits.{prepare_part}
 use Rattle.shard.proofs.steps.HandledCases.{ReadyStep, with_asker}
 use Rattle.shard.proofs.steps.Within.{ready_step_in}
 use Rattle.world.specs.Run.{Run, Submission}
-use Rattle.world.proofs.lists.Among.{Among, contains_among, among_last, last_or_old, any_among, find_none, among_append, append_first, append_second, any_true, map_only, map_among, same_txn}
+use Rattle.world.proofs.lists.Members.{none_in_empty, contains_first, contains_one, Contains-push, last_or_old, Contains-append_left, Contains-append_right, Contains-append_cases, contains_map, mapped_from, any_found, any_has, find_none, same_txn}
 use Rattle.world.proofs.safety.Facts.{near, lead, KeptPartSound}
 use Rattle.world.proofs.safety.Invariant.{Inv}
 use Rattle.world.proofs.safety.Ables.{absent, unbegun}
@@ -39,7 +39,7 @@ module _ (top : TopologyValue) (w x : Run) (node n : ℕ) (some : 0 < top.shards
   kx = shard_on g live
 
   -- nobody voted for a ballot that misses something
-  unvoted : (r : KeptBallot) → Among r (w.shards node).kept_ballots → is_ready top node (w.shards node) r ≡ false → (v : Vote) → Among v (w.shards node).votes → v.txn ≡ r.txn → ⊥
+  unvoted : (r : KeptBallot) → Contains (w.shards node).kept_ballots r → is_ready top node (w.shards node) r ≡ false → (v : Vote) → Contains (w.shards node).votes v → v.txn ≡ r.txn → ⊥
   unvoted r m e v i q = let b = live.entries.votes v i in (unready_untouched top w was node r m e).unbegun b.0 b.1 (b.2 ∙ q)
 
   -- a kept part is on a cohort
@@ -81,33 +81,33 @@ module _ (top : TopologyValue) (w x : Run) (node n : ℕ) (some : 0 < top.shards
       }
 
   -- of another transaction the notices were there before
-  old_notices : (t u : TxnValue) (from node : ℕ) (vs : List Vote) → (u ≡ t → ⊥) → Among (vote_of u node) (vs ++ vote_of t from ∷ []) → Among (vote_of u node) vs
+  old_notices : (t u : TxnValue) (from node : ℕ) (vs : List Vote) → (u ≡ t → ⊥) → Contains (vs ++ vote_of t from ∷ []) (vote_of u node) → Contains vs (vote_of u node)
   old_notices t u from node vs ne m = elim (last_or_old (vote_of u node) (vote_of t from) vs m) [ inl o ↦ o | inr q ↦ absurd (ne (ap (λ (z : Vote). z.txn) q)) ]
 
   -- a notice that isn't awaited was counted: its sender is a cohort
-  pub notice_before : (t : TxnValue) (from : ℕ) → HasKeptPart (x.shards from) t → dc_of top from ≡ dc_of top node → (r : KeptBallot) → Among r (w.shards node).kept_ballots → r.txn ≡ t
-      → is_awaited top node r.cohorts (w.shards node).notices t from ≡ false → Among (vote_of t from) (x.shards node).notices
+  pub notice_before : (t : TxnValue) (from : ℕ) → HasKeptPart (x.shards from) t → dc_of top from ≡ dc_of top node → (r : KeptBallot) → Contains (w.shards node).kept_ballots r → r.txn ≡ t
+      → is_awaited top node r.cohorts (w.shards node).notices t from ≡ false → Contains (x.shards node).notices (vote_of t from)
   notice_before t from k dc r m q e =
       let s = (inv.shards from).kept_parts k.0 k.1 in
       let b = (inv.shards node).kept_ballots r (stays_in _ _ (g.shards node).kept_ballots r m) in
-      let cohort = subst (λ l. Among (shard_of top from) l) (ap (cohorts_of top.shards) (batch_one inv.submitted (written_at k.2 s.written) (written_at q b.written)) ∙ sym b.cohorts) s.cohort in
+      let cohort = subst (λ l. Contains l (shard_of top from)) (ap (cohorts_of top.shards) (batch_one inv.submitted (written_at k.2 s.written) (written_at q b.written)) ∙ sym b.cohorts) s.cohort in
       stays_in _ _ (g.shards node).notices (vote_of t from) (vote_from (w.shards node).notices t from
       (not_and (is_cohort top node r.cohorts from) (has_vote (w.shards node).notices t from) e (among_cohorts top node from r.cohorts cohort dc)))
 
-  pub notice_left : (t : TxnValue) (from : ℕ) → HasKeptPart (x.shards from) t → Leads top x node t → dc_of top from ≡ dc_of top node → (r : KeptBallot) → Among r (w.shards node).kept_ballots → r.txn ≡ t
+  pub notice_left : (t : TxnValue) (from : ℕ) → HasKeptPart (x.shards from) t → Leads top x node t → dc_of top from ≡ dc_of top node → (r : KeptBallot) → Contains (w.shards node).kept_ballots r → r.txn ≡ t
       → is_ready top node (w.shards node) r ≡ false → (st : ShardStep) → ReadyStep top node n (with_notice (w.shards node) r.txn from) r st → Here x node st
-      → Left top x node st × Among (vote_of t from) (x.shards node).notices
+      → Left top x node st × Contains (x.shards node).notices (vote_of t from)
   unfolding kx
   notice_left t from k leads dc r m q unready st step here =
       let a = with_notice (w.shards node) r.txn from in (
         ready_left top x node n some inv a r rounds (notice_entries r.txn from (subst (λ z. NoticeLive top x node (vote_of z from)) (sym q) (k, leads, dc))) kx.counted kx.voted m st step here
             (λ u i ne f d. kx.ready u i (λ c j. old_notices r.txn u.txn from (near top node c) (w.shards node).notices ne (f c j)) d)
             (unvoted r m unready),
-        subst (λ z. Among (vote_of t from) z.notices) (sym here.state)
-            (stays_in _ _ (ready_step_in top node n a r st step).notices (vote_of t from) (subst (λ z. Among (vote_of z from) a.notices) q (among_last (vote_of r.txn from) (w.shards node).notices))),
+        subst (λ z. Contains z.notices (vote_of t from)) (sym here.state)
+            (stays_in _ _ (ready_step_in top node n a r st step).notices (vote_of t from) (subst (λ z. Contains a.notices (vote_of z from)) q (Contains-push (w.shards node).notices (vote_of r.txn from)))),
       )
 
-  none_kept : (t : TxnValue) → kept_ballot t (w.shards node) ≡ None → (r : KeptBallot) → Among r (w.shards node).kept_ballots → r.txn ≡ t → ⊥
+  none_kept : (t : TxnValue) → kept_ballot t (w.shards node) ≡ None → (r : KeptBallot) → Contains (w.shards node).kept_ballots r → r.txn ≡ t → ⊥
   none_kept t e = absent (λ r. r.txn) t (w.shards node).kept_ballots (find_none (λ r. is_same_txn r.txn t) (w.shards node).kept_ballots e)
 
   -- it came before, or the transaction is known
@@ -128,7 +128,7 @@ module _ (top : TopologyValue) (w x : Run) (node n : ℕ) (some : 0 < top.shards
           voted = kx.voted;
           ready = λ u m i d. kx.ready u m (λ c j. old_notices t u.txn from (near top node c) (w.shards node).notices (none_kept t none u m) (i c j)) d;
         }),
-    inl (subst (λ z. Among (vote_of t from) z.notices) (sym here.state) (among_last (vote_of t from) (w.shards node).notices)),
+    inl (subst (λ z. Contains z.notices (vote_of t from)) (sym here.state) (Contains-push (w.shards node).notices (vote_of t from))),
   )
 
   -- ## DepOk
@@ -152,28 +152,28 @@ module _ (top : TopologyValue) (w x : Run) (node n : ℕ) (some : 0 < top.shards
       }
 
   -- a ballot of the waiter names the dependency
-  names : (waiter dependency : TxnValue) → Awaits (w.shards node) waiter dependency → (r : KeptBallot) → Among r (w.shards node).kept_ballots → r.txn ≡ waiter
+  names : (waiter dependency : TxnValue) → Awaits (w.shards node) waiter dependency → (r : KeptBallot) → Contains (w.shards node).kept_ballots r → r.txn ≡ waiter
       → list_any (λ w. is_same_txn w.txn dependency) r.dependencies ≡ true
   names waiter dependency k r m q =
       let b = (inv.shards node).kept_ballots r (stays_in _ _ (g.shards node).kept_ballots r m) in
       let c = (inv.shards node).kept_ballots k.ballot (stays_in _ _ (g.shards node).kept_ballots k.ballot k.among) in
       let same : k.ballot.dependencies ≡ r.dependencies = c.dependencies ∙ ap (λ s. s.dependencies) (submitted_one inv.submitted (written_at k.txn c.written) (written_at q b.written)) ∙ sym b.dependencies in
-      any_among (λ w. is_same_txn w.txn dependency) r.dependencies k.writer (subst (λ l. Among k.writer l) same k.named) (same_at k.writer.txn dependency k.is)
+      any_has (λ w. is_same_txn w.txn dependency) r.dependencies k.writer (subst (λ l. Contains l k.writer) same k.named) (same_at k.writer.txn dependency k.is)
 
   -- an answer that isn't missing was counted
   pub answer_before : (waiter dependency : TxnValue) → Awaits (w.shards node) waiter dependency
       → (kept_ballot waiter (w.shards node) ≡ None)
       ⊎ ((r : KeptBallot) × Contains (w.shards node).kept_ballots r × (r.txn ≡ waiter) × (is_unmet (w.shards node).met r dependency ≡ false))
-      → Among (met_of waiter dependency) (x.shards node).met
+      → Contains (x.shards node).met (met_of waiter dependency)
   answer_before waiter dependency k (inl e) = absurd (none_kept waiter e k.ballot k.among k.txn)
   answer_before waiter dependency k (inr (r, has, q, e)) =
       let y = not_and (list_any (λ w. is_same_txn w.txn dependency) r.dependencies) (is_met (w.shards node).met r.txn dependency) e
-      (names waiter dependency k r (contains_among r _ has) q) in
-      stays_in _ _ (g.shards node).met (met_of waiter dependency) (subst (λ z. Among (met_of z dependency) (w.shards node).met) q (met_from (w.shards node).met r.txn dependency y))
+      (names waiter dependency k r has q) in
+      stays_in _ _ (g.shards node).met (met_of waiter dependency) (subst (λ z. Contains (w.shards node).met (met_of z dependency)) q (met_from (w.shards node).met r.txn dependency y))
 
-  pub answer_counts_left : (waiter dependency : TxnValue) → (r : KeptBallot) → Among r (w.shards node).kept_ballots → r.txn ≡ waiter → is_ready top node (w.shards node) r ≡ false
+  pub answer_counts_left : (waiter dependency : TxnValue) → (r : KeptBallot) → Contains (w.shards node).kept_ballots r → r.txn ≡ waiter → is_ready top node (w.shards node) r ≡ false
       → (st : ShardStep) → ReadyStep top node n (with_met (w.shards node) r.txn dependency) r st → Here x node st
-      → Left top x node st × Among (met_of waiter dependency) (x.shards node).met
+      → Left top x node st × Contains (x.shards node).met (met_of waiter dependency)
   unfolding kx
   answer_counts_left waiter dependency r m q unready st step here =
       let a = with_met (w.shards node) r.txn dependency in (
@@ -181,37 +181,37 @@ module _ (top : TopologyValue) (w x : Run) (node n : ℕ) (some : 0 < top.shards
             (λ u i ne f d. kx.ready u i f
             (λ z j. elim (last_or_old (met_of u.txn z.txn) (met_of r.txn dependency) (w.shards node).met (d z j)) [ inl o ↦ o | inr y ↦ absurd (ne (ap (λ (v : Met). v.waiter) y)) ]))
             (unvoted r m unready),
-        subst (λ z. Among (met_of waiter dependency) z.met) (sym here.state)
-            (stays_in _ _ (ready_step_in top node n a r st step).met (met_of waiter dependency) (subst (λ z. Among (met_of z dependency) a.met) q (among_last (met_of r.txn dependency) (w.shards node).met))),
+        subst (λ z. Contains z.met (met_of waiter dependency)) (sym here.state)
+            (stays_in _ _ (ready_step_in top node n a r st step).met (met_of waiter dependency) (subst (λ z. Contains a.met (met_of z dependency)) q (Contains-push (w.shards node).met (met_of r.txn dependency)))),
       )
 
   -- a shard has no move: a ballot waits for the answer, and counts it
-  pub awaits_here : (dc : ℕ) (waiter dependency : TxnValue) → ((b : Submission) → Among b w.submitted → b.session ≡ node → ⊥) → WaitsFor top w dc node waiter dependency
+  pub awaits_here : (dc : ℕ) (waiter dependency : TxnValue) → ((b : Submission) → Contains w.submitted b → b.session ≡ node → ⊥) → WaitsFor top w dc node waiter dependency
       → Awaits (w.shards node) waiter dependency
   awaits_here dc waiter dependency none (of_ballot k) = k
   awaits_here dc waiter dependency none (of_moving b m is own to k n q) = absurd (none b m own)
 
-  pub was_counted : (waiter dependency : TxnValue) → Awaits (w.shards node) waiter dependency → Among (met_of waiter dependency) (x.shards node).met
+  pub was_counted : (waiter dependency : TxnValue) → Awaits (w.shards node) waiter dependency → Contains (x.shards node).met (met_of waiter dependency)
       → WasCounted x node waiter dependency
   was_counted waiter dependency k m = by_ballot (k.ballot, stays_in _ _ (g.shards node).kept_ballots k.ballot k.among, k.txn) m
 
   -- ## ReplBegin
 
-  pub repl_begin_left : (r : KeptBallot) → Away top x node r.txn → dc_of top node < top.dcs → ((k : WriterValue) → Among k r.dependencies → Placed top x k)
+  pub repl_begin_left : (r : KeptBallot) → Away top x node r.txn → dc_of top node < top.dcs → ((k : WriterValue) → Contains r.dependencies k → Placed top x k)
       → is_known r.txn (w.shards node) ≡ false → (st : ShardStep) → ReadyStep top node n (with_ballot (w.shards node) r) r st → Here x node (sent_before (dep_checks top node n r) st)
       → Left top x node (sent_before (dep_checks top node n r) st) × HasKeptBallot (x.shards node) r.txn
   unfolding kx
   repl_begin_left r away dc placed e st step here =
       let a = with_ballot (w.shards node) r in
       let to : WriterValue → Envelope = λ w. envelope node (shard_node top (dc_of top node) w.shard) n (DepCheck w.txn r.txn) in
-      let next : Here x node st = record { state = here.state; sent = λ u m. here.sent u (append_second u (dep_checks top node n r) _ m) } in
+      let next : Here x node st = record { state = here.state; sent = λ u m. here.sent u (Contains-append_right (dep_checks top node n r) _ u m) } in
       let new : KeptBallotLive top x node r =
       record {
         away = away;
         here = dc;
-        asked = λ d m. record { message = to d; among = here.sent (to d) (append_first (to d) (dep_checks top node n r) _ (map_among to r.dependencies d m)); by = refl; for = refl; is = refl };
+        asked = λ d m. record { message = to d; among = here.sent (to d) (Contains-append_left (dep_checks top node n r) _ (to d) (contains_map to r.dependencies d m)); by = refl; for = refl; is = refl };
       } in
-      let kept : Among r (x.shards node).kept_ballots = subst (λ z. Among r z.kept_ballots) (sym here.state) (stays_in _ _ (ready_step_in top node n a r st step).kept_ballots r (among_last r (w.shards node).kept_ballots)) in
+      let kept : Contains (x.shards node).kept_ballots r = subst (λ z. Contains z.kept_ballots r) (sym here.state) (stays_in _ _ (ready_step_in top node n a r st step).kept_ballots r (Contains-push (w.shards node).kept_ballots r)) in
       let o = kx.entries in
       let entries : Entries top x node a =
       record {
@@ -228,14 +228,14 @@ module _ (top : TopologyValue) (w x : Run) (node n : ℕ) (some : 0 < top.shards
         told = o.told;
       } in
       let left =
-      ready_left top x node n some inv a r rounds entries kx.counted kx.voted (among_last r (w.shards node).kept_ballots) st step next
+      ready_left top x node n some inv a r rounds entries kx.counted kx.voted (Contains-push (w.shards node).kept_ballots r) st step next
       (λ u m ne f d. elim (last_or_old u r (w.shards node).kept_ballots m) [ inl i ↦ kx.ready u i f d | inr q ↦ absurd (ne (ap (λ (z : KeptBallot). z.txn) q)) ])
       (λ v m q. let b = live.entries.votes v m in unbegun r.txn (w.shards node) e b.0 b.1 (b.2 ∙ q)) in (
         record {
           live = left.live;
-          sends = λ u m. elim (among_append u (dep_checks top node n r) _ m) [
+          sends = λ u m. elim (Contains-append_cases (dep_checks top node n r) _ u m) [
             | inl i ↦
-                let q = map_only to r.dependencies u i in
+                let q = mapped_from to r.dependencies u i in
                 let p = placed q.0 q.1 in
                 let below : q.0.shard < top.shards = subst (λ z. z < top.shards) (sym p.coordinator) (coordinator_below top.shards p.batch some) in
                 subst (λ z. Fine top x z) (sym q.2) (
@@ -269,8 +269,8 @@ module _ (top : TopologyValue) (w x : Run) (node n : ℕ) (some : 0 < top.shards
       × HasKeptPart (x.shards node) k.txn
   unfolding kx
   keeps_part_left k s away dc here =
-      let has : HasKeptPart (x.shards node) k.txn = subst (λ z. HasKeptPart z k.txn) (sym here.state) (k, among_last k (w.shards node).kept_parts, refl) in
-      let new : KeptPartLive top x node k = record { away = away; here = dc; told = record { message = _; among = here.sent _ (inl refl); by = refl; for = refl; is = refl } } in
+      let has : HasKeptPart (x.shards node) k.txn = subst (λ z. HasKeptPart z k.txn) (sym here.state) (k, Contains-push (w.shards node).kept_parts k, refl) in
+      let new : KeptPartLive top x node k = record { away = away; here = dc; told = record { message = _; among = here.sent _ (contains_first _ []); by = refl; for = refl; is = refl } } in
       let below : k.coordinator < top.shards = subst (λ z. z < top.shards) (sym s.coordinator) (coordinator_below top.shards s.batch some) in
       let o = kx.entries in (
         record {
@@ -294,14 +294,11 @@ module _ (top : TopologyValue) (w x : Run) (node n : ℕ) (some : 0 < top.shards
                 voted = kx.voted;
                 ready = kx.ready;
               };
-          sends = λ u m. elim m [
-            | inl q ↦ subst (λ z. Fine top x z) (sym q) (
-              has,
-              near_leads top x some inv.submitted node k.coordinator k.txn s.submission s.batch s.written s.coordinator below,
-              sym (near_dc top node k.coordinator below),
-            )
-            | inr i ↦ absurd i
-          ];
+          sends = λ u m. subst (λ z. Fine top x z) (sym (contains_one _ u m)) (
+            has,
+            near_leads top x some inv.submitted node k.coordinator k.txn s.submission s.batch s.written s.coordinator below,
+            sym (near_dc top node k.coordinator below),
+          );
         },
         has,
       )
@@ -309,7 +306,7 @@ module _ (top : TopologyValue) (w x : Run) (node n : ℕ) (some : 0 < top.shards
   -- ## PrepareRemote
 
   pub prepares_replica_left : (from : ℕ) (t : TxnValue) → Knows (x.shards from) t → Leads top x from t → dc_of top from ≡ dc_of top node
-      → (k : KeptPart) → Among k (w.shards node).kept_parts → k.txn ≡ t → Here x node (prepare_part top node n (w.shards node) k.txn k.rows k.coordinator Replica)
+      → (k : KeptPart) → Contains (w.shards node).kept_parts k → k.txn ≡ t → Here x node (prepare_part top node n (w.shards node) k.txn k.rows k.coordinator Replica)
       → Left top x node (prepare_part top node n (w.shards node) k.txn k.rows k.coordinator Replica) × Knows (x.shards node) t
   unfolding kx
   prepares_replica_left from t known leads dc k m kt here =
@@ -330,7 +327,7 @@ module _ (top : TopologyValue) (w x : Run) (node n : ℕ) (some : 0 < top.shards
 
   pub asked_before : (k : Asker) → is_asker (w.shards node).askers k.dependency k.waiter k.from ≡ true → Acted top x k.from node (OfDepCheck k.dependency k.waiter)
   asked_before k e =
-      let r = any_true (λ y. is_same_txn y.dependency k.dependency && is_same_txn y.waiter k.waiter && (y.from == k.from)) (w.shards node).askers e in
+      let r = any_found (λ y. is_same_txn y.dependency k.dependency && is_same_txn y.waiter k.waiter && (y.from == k.from)) (w.shards node).askers e in
       let p = and_parts (is_same_txn r.0.dependency k.dependency && is_same_txn r.0.waiter k.waiter) (r.0.from == k.from) r.2 in
       let q = and_parts (is_same_txn r.0.dependency k.dependency) (is_same_txn r.0.waiter k.waiter) p.0 in
       inr (r.0, stays_in _ _ (g.shards node).askers r.0 r.1, same_txn r.0.dependency k.dependency q.0, same_txn r.0.waiter k.waiter q.1, eqb-true r.0.from k.from p.1)
@@ -366,7 +363,7 @@ module _ (top : TopologyValue) (w x : Run) (node n : ℕ) (some : 0 < top.shards
                 voted = kx.voted;
                 ready = kx.ready;
               };
-          sends = λ u m. absurd m;
+          sends = λ u m. absurd (none_in_empty u m);
         },
-        inr (subst (λ z. (y : Asker) × Among y z.askers × (y.dependency ≡ k.dependency) × (y.waiter ≡ k.waiter) × (y.from ≡ k.from)) (sym here.state) (k, among_last k (w.shards node).askers, refl, refl, refl)),
+        inr (subst (λ z. (y : Asker) × Contains z.askers y × (y.dependency ≡ k.dependency) × (y.waiter ≡ k.waiter) × (y.from ≡ k.from)) (sym here.state) (k, Contains-push (w.shards node).askers k, refl, refl, refl)),
       )

@@ -1,6 +1,6 @@
 -- What a session's step leaves under way: steps that many messages lead to.
 use Rattle.std.proofs.Common.{◌≡◌, ℕ, ◌<◌, false, List, [], Option, Some, None, ◌⊎◌, inl, inr, refl, ap, subst}
-use Rattle.std.specs.Prelude.{option_map}
+use Rattle.std.specs.Prelude.{option_map, Contains}
 use Rattle.logical_time.specs.Stamps.{TxnValue, WriterValue}
 use Rattle.slice.specs.declared.read.Read.{Read}
 use Rattle.planner.specs.Partition.{shard_of as shard_of_key}
@@ -15,38 +15,38 @@ use Rattle.messages.specs.Session.{SessionStep, Open, Idle, Writing, FirstRound,
 use Rattle.messages.specs.Rounds.{with_writers, answer_of}
 use Rattle.messages.specs.SessionEvents.{answered, given_up, session_taken}
 use Rattle.world.specs.Run.{Run, Submission, Completed, completed_of, ended_by}
-use Rattle.world.proofs.lists.Among.{Among}
 use Rattle.world.proofs.safety.Invariant.{IsOpen, AnsweredFrom, Inv}
-use Rattle.world.proofs.histories.DecidedIn.{found}
+use Rattle.world.proofs.histories.DecidedIn.{found_submission}
 use Rattle.world.proofs.keeping.SessionEnds.{open_txn}
 use Rattle.world.proofs.keeping.WritersDone.{writer_applied, cases}
 use Rattle.world.proofs.envelopes.About.{kind_of}
 use Rattle.world.proofs.under_way.Underway.{Placed, FirstHas, SecondIs, SecondHas, IsNotLeft, SessionOnward, SaysLive, HasEnded, OpenLive}
 use Rattle.world.proofs.under_way.LiveGrow.{sent_in}
 use Rattle.world.proofs.under_way.OpenReads.{first_home, second_home, goes_on}
+use Rattle.world.proofs.lists.Members.{none_in_empty}
 
 -- the session's step is in the run after it
 pub record Comes (w x : Run) (node : ℕ) (st : SessionStep) : Type 0 where
   pub state : x.sessions node ≡ session_taken st.state
-  pub sent : (e : Envelope) → Among e w.sent → Among e x.sent
-  pub news : (e : Envelope) → Among e st.sends → Among e x.sent
-  pub submitted : (b : Submission) → Among b w.submitted → Among b x.submitted
-  pub transcript : (c : Completed) → Among c w.transcript → Among c x.transcript
-  pub ended : (c : Completed) → ended_by w.submitted node st ≡ Some c → Among c x.transcript
+  pub sent : (e : Envelope) → Contains w.sent e → Contains x.sent e
+  pub news : (e : Envelope) → Contains st.sends e → Contains x.sent e
+  pub submitted : (b : Submission) → Contains w.submitted b → Contains x.submitted b
+  pub transcript : (c : Completed) → Contains w.transcript c → Contains x.transcript c
+  pub ended : (c : Completed) → ended_by w.submitted node st ≡ Some c → Contains x.transcript c
 
 -- what a session's step at a message leaves in the run after it
 pub record Went (top : TopologyValue) (w x : Run) (node : ℕ) (st : SessionStep) : Type 0 where
   pub onward : SessionOnward top (w.sessions node) (session_taken st.state)
   pub count : st.state.count ≡ (w.sessions node).count
-  pub sends : (e : Envelope) → Among e st.sends → SaysLive top x e.from e.to (kind_of e.body)
-  pub dependencies : (k : WriterValue) → Among k st.state.dependencies → Placed top x k
+  pub sends : (e : Envelope) → Contains st.sends e → SaysLive top x e.from e.to (kind_of e.body)
+  pub dependencies : (k : WriterValue) → Contains st.state.dependencies k → Placed top x k
   pub home : st.state.home < top.dcs
   pub current : OpenLive top x node (session_taken st.state) st.state.current
   -- the open operation goes on or ends
   pub ends : (is_idle (w.sessions node).current ≡ false → is_idle st.state.current ≡ false) ⊎ HasEnded x
       (record { session = node; number = (w.sessions node).count })
 
-pub placed_later : {top : TopologyValue} {w x : Run} {k : WriterValue} → ((b : Submission) → Among b w.submitted → Among b x.submitted)
+pub placed_later : {top : TopologyValue} {w x : Run} {k : WriterValue} → ((b : Submission) → Contains w.submitted b → Contains x.submitted b)
     → Placed top w k → Placed top x k
 placed_later f p =
     record {
@@ -57,7 +57,7 @@ placed_later f p =
     }
 
 module _ (top : TopologyValue) (w x : Run) (node n : ℕ) (some : 0 < top.shards) (inv : Inv top w)
-    (homed : (w.sessions node).home < top.dcs) (placed : (k : WriterValue) → Among k (w.sessions node).dependencies → Placed top w k)
+    (homed : (w.sessions node).home < top.dcs) (placed : (k : WriterValue) → Contains (w.sessions node).dependencies k → Placed top w k)
     (live : OpenLive top w node (w.sessions node) (w.sessions node).current) where
   -- ## The operation goes on
 
@@ -73,7 +73,7 @@ module _ (top : TopologyValue) (w x : Run) (node n : ℕ) (some : 0 < top.shards
   pub waits_went : (o : Open) (sends : List Envelope)
       → Comes w x node (record { state = record (w.sessions node) { clock = n; current = o }; sends = sends })
       → SessionOnward top (w.sessions node) (record (w.sessions node) { clock = n; current = o; untaken = None })
-      → ((e : Envelope) → Among e sends → SaysLive top x e.from e.to (kind_of e.body))
+      → ((e : Envelope) → Contains sends e → SaysLive top x e.from e.to (kind_of e.body))
       → OpenLive top x node (record (w.sessions node) { clock = n; current = o; untaken = None }) o
       → (is_idle (w.sessions node).current ≡ false → is_idle o ≡ false) → Went top w x node
       (record { state = record (w.sessions node) { clock = n; current = o }; sends = sends })
@@ -89,7 +89,7 @@ module _ (top : TopologyValue) (w x : Run) (node n : ℕ) (some : 0 < top.shards
       }
 
   -- what is open goes on so
-  open_later : (now o : Open) → ((e : Envelope) → Among e w.sent → Among e x.sent) → OpenLive top w node (w.sessions node) o
+  open_later : (now o : Open) → ((e : Envelope) → Contains w.sent e → Contains x.sent e) → OpenLive top w node (w.sessions node) o
       → OpenLive top x node (record (w.sessions node) { clock = n; current = now; untaken = None }) o
   open_later now Idle f k = tt
   open_later now (Writing coordinator) f k = tt
@@ -100,7 +100,7 @@ module _ (top : TopologyValue) (w x : Run) (node n : ℕ) (some : 0 < top.shards
   pub calm_went : Comes w x node (calm n (w.sessions node)) → Went top w x node (calm n (w.sessions node))
   calm_went c =
       let o = (w.sessions node).current in
-      waits_went o [] c (waits_onward o (λ m k. k) (λ m k. k) (λ m k. k) (λ t k. k)) (λ e m. absurd m) (open_later o o c.sent live) (λ e. e)
+      waits_went o [] c (waits_onward o (λ m k. k) (λ m k. k) (λ m k. k) (λ t k. k)) (λ e m. absurd (none_in_empty e m)) (open_later o o c.sent live) (λ e. e)
 
   -- ## The operation ends
 
@@ -116,12 +116,12 @@ module _ (top : TopologyValue) (w x : Run) (node n : ℕ) (some : 0 < top.shards
       let done : Completed = record { node = node; number = a.count; home = s.home; op = s.op; outcome = out } in
       let is : completed_of w.submitted node f ≡ Some done =
       ap (λ (z : Option Submission). option_map (λ s. record { node = node; number = f.number; home = s.home; op = s.op; outcome = f.outcome }) z)
-      (found top w inv.submitted s t k.among (open_txn k)) in
+      (found_submission top w inv.submitted s t k.among (open_txn k)) in
       (done, c.ended done is, refl)
 
   -- at this home
   pub ended_at_went : (home floor : ℕ) (dependencies : List WriterValue) (out : Outcome) (dc : ℕ) (o : Op) → IsOpen w node (w.sessions node).count dc o
-      → home < top.dcs → ((k : WriterValue) → Among k dependencies → Placed top x k)
+      → home < top.dcs → ((k : WriterValue) → Contains dependencies k → Placed top x k)
       → Comes w x node (ended n (record (w.sessions node) { home = home }) floor dependencies out)
       → Went top w x node (ended n (record (w.sessions node) { home = home }) floor dependencies out)
   ended_at_went home floor dependencies out dc o k there f c =
@@ -129,7 +129,7 @@ module _ (top : TopologyValue) (w x : Run) (node n : ℕ) (some : 0 < top.shards
       record {
         onward = goes_on top (w.sessions node) (session_taken st.state) refl (λ m q. tt) (λ m q. tt) (λ m q. tt) (λ t q. tt);
         count = refl;
-        sends = λ e m. absurd m;
+        sends = λ e m. absurd (none_in_empty e m);
         dependencies = f;
         home = there;
         current = tt;
@@ -137,7 +137,7 @@ module _ (top : TopologyValue) (w x : Run) (node n : ℕ) (some : 0 < top.shards
       }
 
   pub ended_went : (floor : ℕ) (dependencies : List WriterValue) (out : Outcome) (dc : ℕ) (o : Op) → IsOpen w node (w.sessions node).count dc o
-      → ((k : WriterValue) → Among k dependencies → Placed top x k)
+      → ((k : WriterValue) → Contains dependencies k → Placed top x k)
       → Comes w x node (ended n (w.sessions node) floor dependencies out) → Went top w x node (ended n (w.sessions node) floor dependencies out)
   ended_went floor dependencies out dc o k f c = ended_at_went (w.sessions node).home floor dependencies out dc o k homed f c
 
@@ -149,10 +149,10 @@ module _ (top : TopologyValue) (w x : Run) (node n : ℕ) (some : 0 < top.shards
 
   -- each writer that a read rests on is named with its coordinator
   writers_named : (dc time : ℕ) (read : Read) (rows : List RowAt) → AnsweredFrom top w dc read time rows → (k : WriterValue)
-      → Among k (with_writers (w.sessions node).dependencies rows) → Placed top w k
+      → Contains (with_writers (w.sessions node).dependencies rows) k → Placed top w k
   writers_named dc time read rows from k m = go (cases top w some inv rows (w.sessions node).dependencies k m)
     where
-      go : Among k (w.sessions node).dependencies ⊎ ((r : RowAt) × Among r rows × Among k r.writers) → Placed top w k
+      go : Contains (w.sessions node).dependencies k ⊎ ((r : RowAt) × Contains rows r × Contains r.writers k) → Placed top w k
       go (inl i) = placed k i
       go (inr (r, i, j)) =
           let v = writer_applied top w some inv (shard_node top dc (shard_of_key top.shards r.key)) time read r (from.right r i) k j in

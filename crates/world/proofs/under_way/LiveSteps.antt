@@ -1,6 +1,6 @@
 -- What a step leaves under way: steps that many messages lead to, and the ballots of a shard.
-use Rattle.std.proofs.Common.{◌≡◌, ℕ, Bool, true, false, cond, List, [], ◌∷◌, map, Option, Some, None, inl, inr, refl, sym, ap, ◌∙◌, subst, subst₂}
-use Rattle.std.specs.Prelude.{filter}
+use Rattle.std.proofs.Common.{◌≡◌, ℕ, Bool, true, false, cond, List, [], ◌∷◌, map, Option, Some, None, refl, sym, ap, ◌∙◌, subst, subst₂}
+use Rattle.std.specs.Prelude.{filter, Contains}
 use Rattle.logical_time.specs.Stamps.{StampValue, TxnValue}
 use Rattle.column_family.specs.declared.batch.Change.{Change}
 use Rattle.planner.specs.Plan.{cohorts_of}
@@ -10,7 +10,7 @@ use Rattle.messages.specs.Shard.{ShardState, ShardStep, BegunBallot, KeptBallot,
 use Rattle.messages.specs.Reads.{part_at, without, lessened, is_free}
 use Rattle.messages.specs.Replication.{ballot_of}
 use Rattle.world.specs.Run.{Run, Submission}
-use Rattle.world.proofs.lists.Among.{Among, filter_only, map_only}
+use Rattle.world.proofs.lists.Members.{none_in_empty, contains_one, mapped_from, filter_contains}
 use Rattle.world.proofs.safety.Facts.{IsWritten, lead, StampFits, BallotSound, KeptBallotSound}
 use Rattle.world.proofs.envelopes.About.{kind_of}
 use Rattle.world.proofs.under_way.Underway.{Leads, Round, ShardLive, SaysLive}
@@ -18,7 +18,7 @@ use Rattle.world.proofs.under_way.Underway.{Leads, Round, ShardLive, SaysLive}
 -- the step's state and what it sends stand in the run
 pub record Here (x : Run) (node : ℕ) (st : ShardStep) : Type 0 where
   pub state : x.shards node ≡ st.state
-  pub sent : (e : Envelope) → Among e st.sends → Among e x.sent
+  pub sent : (e : Envelope) → Contains st.sends e → Contains x.sent e
 
 -- what the envelope rests on holds
 abbrev pub Fine : TopologyValue → Run → Envelope → Type 0
@@ -27,7 +27,7 @@ Fine top x e = SaysLive top x e.from e.to (kind_of e.body)
 -- what a step leaves in the run after it
 pub record Left (top : TopologyValue) (x : Run) (node : ℕ) (st : ShardStep) : Type 0 where
   pub live : ShardLive top x node st.state
-  pub sends : (e : Envelope) → Among e st.sends → Fine top x e
+  pub sends : (e : Envelope) → Contains st.sends e → Fine top x e
 
 -- ## The clock, the horizon, the reads that wait, and envelopes
 
@@ -55,17 +55,17 @@ clock_live n low ws k =
     }
 
 pub quiet_left : {top : TopologyValue} {x : Run} {node : ℕ} {a : ShardState} (n : ℕ) → ShardLive top x node a → Left top x node (record { state = record a { clock = n }; sends = [] })
-quiet_left {a = a} n k = record { live = clock_live n a.low a.waiting k; sends = λ e m. absurd m }
+quiet_left {a = a} n k = record { live = clock_live n a.low a.waiting k; sends = λ e m. absurd (none_in_empty e m) }
 
 pub answer_left : {top : TopologyValue} {x : Run} {node : ℕ} {a : ShardState} (n : ℕ) (e : Envelope) → Fine top x e → ShardLive top x node a → Left top x node (record { state = record a { clock = n }; sends = e ∷ [] })
 answer_left {top = top} {x = x} {a = a} n e f k =
-    record { live = clock_live n a.low a.waiting k; sends = λ u m. elim m [ inl q ↦ subst (λ z. Fine top x z) (sym q) f | inr o ↦ absurd o ] }
+    record { live = clock_live n a.low a.waiting k; sends = λ u m. subst (λ z. Fine top x z) (sym (contains_one e u m)) f }
 
 -- ## Reads that are let go
 
 -- each waiting read's second round was begun
 abbrev pub Rounds : Run → List WaitingRead → Type 0
-Rounds x ws = (y : WaitingRead) → Among y ws → Round (x.sessions y.session) y.number y.time
+Rounds x ws = (y : WaitingRead) → Contains ws y → Round (x.sessions y.session) y.number y.time
 
 abbrev pub less : TxnValue → (WaitingRead → Bool) → WaitingRead → WaitingRead
 less t p y = cond (p y) (record y { left = without t y.left }) y
@@ -86,11 +86,11 @@ less_equal t p y q e =
     )
 
 pub let_go_sends : (top : TopologyValue) (x : Run) (node n : ℕ) (a : ShardState) (t : TxnValue) (p : WaitingRead → Bool) (ws : List WaitingRead) → Rounds x ws
-    → (e : Envelope) → Among e (map (part_at node n a) (filter is_free (lessened t p ws))) → Fine top x e
+    → (e : Envelope) → Contains (map (part_at node n a) (filter is_free (lessened t p ws))) e → Fine top x e
 let_go_sends top x node n a t p ws f e m =
-    let q = map_only (part_at node n a) (filter is_free (lessened t p ws)) e m in
-    let k = filter_only is_free (lessened t p ws) q.0 q.1 in
-    let y = map_only (λ x. cond (p x) (record x { left = without t x.left }) x) ws q.0 k.0 in
+    let q = mapped_from (part_at node n a) (filter is_free (lessened t p ws)) e m in
+    let k = filter_contains is_free (lessened t p ws) q.0 q.1 in
+    let y = mapped_from (λ x. cond (p x) (record x { left = without t x.left }) x) ws q.0 k.0 in
     let r = less_equal t p y.0 q.0 y.2 in
     subst (λ z. Fine top x z) (sym q.2)
     (subst (λ u. Round (x.sessions q.0.session) q.0.number u) (sym r.2) (subst₂ (λ i n. Round (x.sessions i) n y.0.time) (sym r.0) (sym r.1) (f y.0 y.1)))

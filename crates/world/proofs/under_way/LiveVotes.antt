@@ -1,6 +1,6 @@
 -- What Begin, Prepare and Yes leave under way.
 use Rattle.std.proofs.Common.{◌≡◌, ℕ, ◌<◌, Bool, true, false, List, [], ◌++◌, None, ◌⊎◌, inl, inr, refl, sym, ◌∙◌, subst, ap}
-use Rattle.std.specs.Prelude.{filter, find, is_some, if◌then◌else◌}
+use Rattle.std.specs.Prelude.{filter, find, is_some, if◌then◌else◌, Contains}
 use Rattle.std.proofs.lemmas.Bool.{false≢true}
 use Rattle.logical_time.specs.Stamps.{TxnValue}
 use Rattle.column_family.specs.declared.batch.Change.{Change}
@@ -12,7 +12,7 @@ use Rattle.messages.specs.Known.{decision_of, standing_ballot, is_known, all_vot
 use Rattle.messages.specs.Commits.{decide, hold, prepare_part, with_vote}
 use Rattle.shard.proofs.steps.HandledCases.{with_early}
 use Rattle.world.specs.Run.{Run}
-use Rattle.world.proofs.lists.Among.{Among, among_append, filter_only, filter_among, find_none, same_txn, append_first, among_last, last_or_old}
+use Rattle.world.proofs.lists.Members.{none_in_empty, Contains-push, last_or_old, Contains-append_left, Contains-append_cases, contains_filter, filter_contains, find_none, same_txn}
 use Rattle.world.proofs.safety.Facts.{near, RoleFits}
 use Rattle.world.proofs.safety.Invariant.{PrepareSound, Inv}
 use Rattle.world.proofs.safety.Ables.{absent, unbegun, unprepared, undecided}
@@ -27,10 +27,10 @@ use Rattle.world.proofs.safety.OneBatch.{written_at, batch_one}
 use Rattle.world.proofs.envelopes.About.{OfYes}
 
 -- where no ballot of a transaction stands it was decided or not begun
-pub standing_none : (t : TxnValue) (a : ShardState) → standing_ballot t a ≡ None → HasDecision a t ⊎ ((b : BegunBallot) → Among b a.ballots → b.txn ≡ t → ⊥)
+pub standing_none : (t : TxnValue) (a : ShardState) → standing_ballot t a ≡ None → HasDecision a t ⊎ ((b : BegunBallot) → Contains a.ballots b → b.txn ≡ t → ⊥)
 standing_none t a e = go (is_some (decision_of t a)) refl e
   where
-    go : (d : Bool) → is_some (decision_of t a) ≡ d → (if d then None else find (λ b. is_same_txn b.txn t) a.ballots) ≡ None → HasDecision a t ⊎ ((b : BegunBallot) → Among b a.ballots → b.txn ≡ t → ⊥)
+    go : (d : Bool) → is_some (decision_of t a) ≡ d → (if d then None else find (λ b. is_same_txn b.txn t) a.ballots) ≡ None → HasDecision a t ⊎ ((b : BegunBallot) → Contains a.ballots b → b.txn ≡ t → ⊥)
     go true d e = inl (decision_found t a d)
     go false d e = inr (absent (λ b. b.txn) t a.ballots (find_none (λ b. is_same_txn b.txn t) a.ballots e))
 
@@ -68,22 +68,22 @@ module _ (top : TopologyValue) (w x : Run) (node n : ℕ) (some : 0 < top.shards
   unfolding kx
   begin_holds_left b none k e f here =
       let counted = filter (λ v. is_same_txn v.txn b.txn) (w.shards node).early in
-      let of : (v : Vote) → Among v counted → v.txn ≡ b.txn = λ v m. same_txn v.txn b.txn (filter_only (λ v. is_same_txn v.txn b.txn) (w.shards node).early v m).1 in
-      let early : b.stamp ≡ None → (v : Vote) → Among v (w.shards node).early → v.txn ≡ b.txn → Among v counted =
-      λ s v m q. filter_among (λ v. is_same_txn v.txn b.txn) (w.shards node).early v m (same_at v.txn b.txn q) in
-      let unvoted : (v : Vote) → Among v (w.shards node).votes → v.txn ≡ b.txn → ⊥ = λ v m q. let y = live.entries.votes v m in unbegun b.txn (w.shards node) e y.0 y.1 (y.2 ∙ q) in
-      let missing : ((c : ℕ) → Among c b.cohorts → Among (vote_of b.txn (near top node c)) ((w.shards node).votes ++ counted)) → ⊥ =
+      let of : (v : Vote) → Contains counted v → v.txn ≡ b.txn = λ v m. same_txn v.txn b.txn (filter_contains (λ v. is_same_txn v.txn b.txn) (w.shards node).early v m).1 in
+      let early : b.stamp ≡ None → (v : Vote) → Contains (w.shards node).early v → v.txn ≡ b.txn → Contains counted v =
+      λ s v m q. contains_filter (λ v. is_same_txn v.txn b.txn) (w.shards node).early v m (same_at v.txn b.txn q) in
+      let unvoted : (v : Vote) → Contains (w.shards node).votes v → v.txn ≡ b.txn → ⊥ = λ v m q. let y = live.entries.votes v m in unbegun b.txn (w.shards node) e y.0 y.1 (y.2 ∙ q) in
+      let missing : ((c : ℕ) → Contains b.cohorts c → Contains ((w.shards node).votes ++ counted) (vote_of b.txn (near top node c))) → ⊥ =
       λ i. false≢true (sym f ∙ all_voted_from top node b.cohorts (w.shards node).early b.txn
-      (λ c m. elim (among_append (vote_of b.txn (near top node c)) (w.shards node).votes counted (i c m)) [
+      (λ c m. elim (Contains-append_cases (w.shards node).votes counted (vote_of b.txn (near top node c)) (i c m)) [
         | inl o ↦ absurd (unvoted (vote_of b.txn (near top node c)) o refl)
-        | inr o ↦ (filter_only (λ v. is_same_txn v.txn b.txn) (w.shards node).early (vote_of b.txn (near top node c)) o).0
+        | inr o ↦ (filter_contains (λ v. is_same_txn v.txn b.txn) (w.shards node).early (vote_of b.txn (near top node c)) o).0
       ])) in (
         hold_left top x node n (w.shards node) b counted [] kx.entries kx.counted here (inl none) of early missing
-            (λ u m i. kx.voted u m (λ c j. elim (among_append (vote_of u.txn (near top node c)) (w.shards node).votes counted (i c j)) [
+            (λ u m i. kx.voted u m (λ c j. elim (Contains-append_cases (w.shards node).votes counted (vote_of u.txn (near top node c)) (i c j)) [
               | inl o ↦ o
               | inr o ↦ absurd (unbegun b.txn (w.shards node) e u m (of (vote_of u.txn (near top node c)) o))
             ]))
-            (λ r m i j. inl (kx.ready r m i j)) (λ e m. absurd m),
+            (λ r m i j. inl (kx.ready r m i j)) (λ e m. absurd (none_in_empty e m)),
         inl (hold_known top x node n (w.shards node) b counted [] kx.entries kx.counted here (inl none) of early missing),
       )
 
@@ -104,18 +104,18 @@ module _ (top : TopologyValue) (w x : Run) (node n : ℕ) (some : 0 < top.shards
 
   -- ## Yes
 
-  ballot_of_run : (b : BegunBallot) → Among b (w.shards node).ballots → BallotAt top x node b
+  ballot_of_run : (b : BegunBallot) → Contains (w.shards node).ballots b → BallotAt top x node b
   ballot_of_run b m = ballot_at ((inv.shards node).ballots b (stays_in _ _ (g.shards node).ballots b m))
 
   -- two ballots of a transaction have the same cohorts
-  same_cohorts : (u b : BegunBallot) → Among u (w.shards node).ballots → Among b (w.shards node).ballots → u.txn ≡ b.txn → b.cohorts ≡ u.cohorts
+  same_cohorts : (u b : BegunBallot) → Contains (w.shards node).ballots u → Contains (w.shards node).ballots b → u.txn ≡ b.txn → b.cohorts ≡ u.cohorts
   same_cohorts u b m i e =
       let k = ballot_of_run u m in
       let l = ballot_of_run b i in
       l.cohorts ∙ ap (cohorts_of top.shards) (batch_one inv.submitted l.written (written_at e k.written)) ∙ sym k.cohorts
 
   -- where a vote for a coordinator is neither for a ballot nor early, the transaction is decided
-  unstanding : (t : TxnValue) → Leads top x node t → AtOrigin top x node t ⊎ Knows (w.shards node) t → ((b : BegunBallot) → Among b (w.shards node).ballots → b.txn ≡ t → ⊥) → is_known t (w.shards node) ≡ true → HasDecision (w.shards node) t
+  unstanding : (t : TxnValue) → Leads top x node t → AtOrigin top x node t ⊎ Knows (w.shards node) t → ((b : BegunBallot) → Contains (w.shards node).ballots b → b.txn ≡ t → ⊥) → is_known t (w.shards node) ≡ true → HasDecision (w.shards node) t
   unfolding kx
   unstanding t leads says none e =
       elim (known_cases t (w.shards node) e) [
@@ -130,7 +130,7 @@ module _ (top : TopologyValue) (w x : Run) (node n : ℕ) (some : 0 < top.shards
         | inr (inr (inr (inr d))) ↦ d
       ]
     where
-      role_go : (p : PreparedPart) (role : Role) → p.role ≡ role → Among p (w.shards node).prepared → p.txn ≡ t → ⊥
+      role_go : (p : PreparedPart) (role : Role) → p.role ≡ role → Contains (w.shards node).prepared p → p.txn ≡ t → ⊥
       role_go p Own r m q =
           let b = subst (λ z. RoleLive z w node (near top node p.coordinator) p.txn) r (live.entries.prepared p m) in
           none b.0 b.1 (b.2 ∙ q)
@@ -141,14 +141,14 @@ module _ (top : TopologyValue) (w x : Run) (node n : ℕ) (some : 0 < top.shards
           let s = (inv.shards node).prepared p (stays_in _ _ (g.shards node).prepared p m) in
           lead_beside top x some inv.submitted node t leads (record { submission = s.submission; batch = s.batch; written = written_at q s.written; cohort = subst (λ z. RoleFits z top s.batch node) r s.role })
 
-      part_go : (p : PreparedPart) → Among p (w.shards node).prepared → p.txn ≡ t → ⊥
+      part_go : (p : PreparedPart) → Contains (w.shards node).prepared p → p.txn ≡ t → ⊥
       part_go p m q = role_go p p.role refl m q
 
   module _ (t : TxnValue) (from : ℕ) (says : AtOrigin top x node t ⊎ Knows (w.shards node) t) (aside : Aside top x from t) (leads : Leads top x node t)
       (dc : dc_of top from ≡ dc_of top node) where
     -- ## A vote for a ballot
 
-    vote_entries : (b : BegunBallot) → Among b (w.shards node).ballots → Entries top x node (with_vote (w.shards node) b.txn from)
+    vote_entries : (b : BegunBallot) → Contains (w.shards node).ballots b → Entries top x node (with_vote (w.shards node) b.txn from)
     unfolding kx
     vote_entries b m =
         let e = kx.entries in
@@ -171,11 +171,11 @@ module _ (top : TopologyValue) (w x : Run) (node n : ℕ) (some : 0 < top.shards
 
     vote_counted : (b : BegunBallot) → EarlyCounted (with_vote (w.shards node) b.txn from)
     unfolding kx
-    vote_counted b u v m s i q = append_first v (w.shards node).votes _ (kx.counted u v m s i q)
+    vote_counted b u v m s i q = Contains-append_left (w.shards node).votes _ v (kx.counted u v m s i q)
 
     -- another transaction's votes were there before
-    old_voted : (b u : BegunBallot) → Among u (w.shards node).ballots → (u.txn ≡ b.txn → ⊥)
-        → ((c : ℕ) → Among c u.cohorts → Among (vote_of u.txn (near top node c)) (with_vote (w.shards node) b.txn from).votes) → HasDecision (w.shards node) u.txn
+    old_voted : (b u : BegunBallot) → Contains (w.shards node).ballots u → (u.txn ≡ b.txn → ⊥)
+        → ((c : ℕ) → Contains u.cohorts c → Contains (with_vote (w.shards node) b.txn from).votes (vote_of u.txn (near top node c))) → HasDecision (w.shards node) u.txn
     unfolding kx
     old_voted b u m ne f =
         kx.voted u m (λ c i. elim (last_or_old (vote_of u.txn (near top node c)) (vote_of b.txn from) (w.shards node).votes (f c i)) [
@@ -183,19 +183,19 @@ module _ (top : TopologyValue) (w x : Run) (node n : ℕ) (some : 0 < top.shards
           | inr q ↦ absurd (ne (ap (λ (z : Vote). z.txn) q))
         ])
 
-    from_origin : (b : BegunBallot) → Among b (w.shards node).ballots → (b.stamp ≡ None) ⊎ Away top x node b.txn
+    from_origin : (b : BegunBallot) → Contains (w.shards node).ballots b → (b.stamp ≡ None) ⊎ Away top x node b.txn
     unfolding kx
     from_origin b m = elim (kx.entries.ballots b m).1 [ inl q ↦ inl q | inr q ↦ inr q.0 ]
 
     has_vote_now : (st : ShardStep) (b : BegunBallot) → b.txn ≡ t → st.state.votes ≡ (with_vote (w.shards node) b.txn from).votes → Here x node st
-        → Among (vote_of t from) (x.shards node).votes
+        → Contains (x.shards node).votes (vote_of t from)
     has_vote_now st b q e here =
-        subst (λ z. Among (vote_of t from) z.votes) (sym here.state)
-        (subst (λ l. Among (vote_of t from) l) (sym e)
-        (subst (λ z. Among (vote_of z from) (with_vote (w.shards node) b.txn from).votes) q (among_last (vote_of b.txn from) (w.shards node).votes)))
+        subst (λ z. Contains z.votes (vote_of t from)) (sym here.state)
+        (subst (λ l. Contains l (vote_of t from)) (sym e)
+        (subst (λ z. Contains (with_vote (w.shards node) b.txn from).votes (vote_of z from)) q (Contains-push (w.shards node).votes (vote_of b.txn from))))
 
-    pub vote_decides_left : (b : BegunBallot) → Among b (w.shards node).ballots → b.txn ≡ t → Here x node (decide top node n (with_vote (w.shards node) b.txn from) b)
-        → Left top x node (decide top node n (with_vote (w.shards node) b.txn from) b) × Among (vote_of t from) (x.shards node).votes
+    pub vote_decides_left : (b : BegunBallot) → Contains (w.shards node).ballots b → b.txn ≡ t → Here x node (decide top node n (with_vote (w.shards node) b.txn from) b)
+        → Left top x node (decide top node n (with_vote (w.shards node) b.txn from) b) × Contains (x.shards node).votes (vote_of t from)
     unfolding kx
     vote_decides_left b m q here = (
       decide_left top x node n some inv (with_vote (w.shards node) b.txn from) b (ballot_of_run b m) (from_origin b m) rounds here (vote_entries b m) (vote_counted b)
@@ -204,10 +204,10 @@ module _ (top : TopologyValue) (w x : Run) (node n : ℕ) (some : 0 < top.shards
       has_vote_now _ b q refl here,
     )
 
-    pub vote_counts_left : (b : BegunBallot) → Among b (w.shards node).ballots → b.txn ≡ t
+    pub vote_counts_left : (b : BegunBallot) → Contains (w.shards node).ballots b → b.txn ≡ t
         → all_voted top node b.cohorts (with_vote (w.shards node) b.txn from).votes b.txn ≡ false
         → Here x node (quiet n (with_vote (w.shards node) b.txn from))
-        → Left top x node (quiet n (with_vote (w.shards node) b.txn from)) × Among (vote_of t from) (x.shards node).votes
+        → Left top x node (quiet n (with_vote (w.shards node) b.txn from)) × Contains (x.shards node).votes (vote_of t from)
     unfolding kx
     vote_counts_left b m q e here = (
       quiet_left n
@@ -216,7 +216,7 @@ module _ (top : TopologyValue) (w x : Run) (node n : ℕ) (some : 0 < top.shards
             counted = vote_counted b;
             voted = λ u i f. elim (txn_split u.txn b.txn) [
               | inl z ↦ absurd (false≢true (sym e ∙ all_voted_from top node b.cohorts (with_vote (w.shards node) b.txn from).votes b.txn
-                  (λ c j. subst (λ y. Among (vote_of y (near top node c)) (with_vote (w.shards node) b.txn from).votes) z (f c (subst (λ l. Among c l) (same_cohorts u b i m z) j)))))
+                  (λ c j. subst (λ y. Contains (with_vote (w.shards node) b.txn from).votes (vote_of y (near top node c))) z (f c (subst (λ l. Contains l c) (same_cohorts u b i m z) j)))))
               | inr ne ↦ old_voted b u i ne f
             ];
             ready = kx.ready;
@@ -225,10 +225,10 @@ module _ (top : TopologyValue) (w x : Run) (node n : ℕ) (some : 0 < top.shards
     )
 
     -- a vote that isn't awaited was counted: its sender is a cohort
-    pub counted_before : (b : BegunBallot) → Among b (w.shards node).ballots → b.txn ≡ t → is_awaited top node b.cohorts (w.shards node).votes t from ≡ false → Among (vote_of t from) (w.shards node).votes
+    pub counted_before : (b : BegunBallot) → Contains (w.shards node).ballots b → b.txn ≡ t → is_awaited top node b.cohorts (w.shards node).votes t from ≡ false → Contains (w.shards node).votes (vote_of t from)
     counted_before b m q e =
         let k = ballot_of_run b m in
-        let cohort = subst (λ l. Among (shard_of top from) l) (ap (cohorts_of top.shards) (batch_one inv.submitted aside.written (written_at q k.written)) ∙ sym k.cohorts) aside.cohort in
+        let cohort = subst (λ l. Contains l (shard_of top from)) (ap (cohorts_of top.shards) (batch_one inv.submitted aside.written (written_at q k.written)) ∙ sym k.cohorts) aside.cohort in
         vote_from (w.shards node).votes t from
         (not_and (is_cohort top node b.cohorts from) (has_vote (w.shards node).votes t from) e (among_cohorts top node from b.cohorts cohort dc))
 
@@ -276,7 +276,7 @@ module _ (top : TopologyValue) (w x : Run) (node n : ℕ) (some : 0 < top.shards
                   voted = kx.voted;
                   ready = kx.ready;
                 };
-            sends = λ y m. absurd m;
+            sends = λ y m. absurd (none_in_empty y m);
           },
-          inr (inl (subst (λ z. Among (vote_of t from) z.early) (sym here.state) (among_last (vote_of t from) (w.shards node).early))),
+          inr (inl (subst (λ z. Contains z.early (vote_of t from)) (sym here.state) (Contains-push (w.shards node).early (vote_of t from)))),
         )

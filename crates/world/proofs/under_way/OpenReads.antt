@@ -1,6 +1,6 @@
 -- Which answers a read or a move misses, and what a session's step leaves of that.
-use Rattle.std.proofs.Common.{◌≡◌, ℕ, ◌+◌, ◌≤◌, Bool, true, false, ◌&&◌, ◌||◌, not, List, [], ◌∷◌, ◌++◌, map, ◌⊎◌, inl, inr, refl, sym, ap, ◌∙◌, subst, arith, eq-eqb, le_refl}
-use Rattle.std.specs.Prelude.{◌==◌}
+use Rattle.std.proofs.Common.{◌≡◌, ℕ, ◌+◌, ◌≤◌, Bool, true, false, ◌&&◌, ◌||◌, not, List, [], ◌∷◌, ◌++◌, map, refl, sym, ap, ◌∙◌, subst, arith, eq-eqb, le_refl}
+use Rattle.std.specs.Prelude.{◌==◌, Contains}
 use Rattle.std.specs.List.{list_any, list_all}
 use Rattle.std.proofs.lemmas.Bool.{false≢true, and_parts, and_from}
 use Rattle.std.proofs.lemmas.List.Folds.{list_any-append}
@@ -12,19 +12,19 @@ use Rattle.messages.specs.Words.{is_same_txn}
 use Rattle.messages.specs.Session.{SessionState, Open, Idle, Writing, FirstRound, SecondRound, Moving, HeardNow, HeardAt}
 use Rattle.messages.specs.Rounds.{was_heard, asked_nodes, is_missing, all_heard, late_nodes, was_heard_at, is_missing_at, all_heard_at}
 use Rattle.messages.specs.SessionEvents.{left_after, is_left}
-use Rattle.world.proofs.lists.Among.{Among, any_among, any_true, among_last, filter_only, same_txn_self}
+use Rattle.world.proofs.lists.Members.{contains_first, contains_rest, Contains-push, filter_contains, any_found, any_has, same_txn_self}
 use Rattle.world.proofs.under_way.Underway.{FirstHas, SecondIs, SecondHas, IsNotLeft, SessionOnward}
 
 -- ## Tests
 
-all_false : {X : Type 0} (p : X → Bool) (xs : List X) → list_all p xs ≡ false → (x : X) × Among x xs × (p x ≡ false)
+all_false : {X : Type 0} (p : X → Bool) (xs : List X) → list_all p xs ≡ false → (x : X) × Contains xs x × (p x ≡ false)
 all_false p [] e = absurd (false≢true (sym e))
 all_false {X} p (y ∷ ys) e = go (p y) refl e (all_false p ys)
   where
-    go : (b : Bool) → p y ≡ b → (b && list_all p ys) ≡ false → (list_all p ys ≡ false → (x : X) × Among x ys × (p x ≡ false))
-        → (x : X) × ((x ≡ y) ⊎ Among x ys) × (p x ≡ false)
-    go false q h ih = (y, inl refl, q)
-    go true q h ih = let r = ih h in (r.0, inr r.1, r.2)
+    go : (b : Bool) → p y ≡ b → (b && list_all p ys) ≡ false → (list_all p ys ≡ false → (x : X) × Contains ys x × (p x ≡ false))
+        → (x : X) × Contains (y ∷ ys) x × (p x ≡ false)
+    go false q h ih = (y, contains_first y ys, q)
+    go true q h ih = let r = ih h in (r.0, contains_rest y r.0 ys r.1, r.2)
 
 not_either : (a b : Bool) → not (a || b) ≡ true → not a ≡ true
 not_either true b e = e
@@ -39,8 +39,8 @@ unless : (a b : Bool) → (b ≡ true → a ≡ true) → a ≡ false → b ≡ 
 unless a true f e = absurd (false≢true (sym e ∙ f refl))
 unless a false f e = refl
 
-asks : (asked : List ℕ) (node : ℕ) → Among node asked → list_any (λ s. s == node) asked ≡ true
-asks asked node m = any_among (λ s. s == node) asked node m (eq-eqb node node refl)
+asks : (asked : List ℕ) (node : ℕ) → Contains asked node → list_any (λ s. s == node) asked ≡ true
+asks asked node m = any_has (λ s. s == node) asked node m (eq-eqb node node refl)
 
 -- ## The first round
 
@@ -51,7 +51,7 @@ missing_some asked heard e =
     (r.0, and_from (list_any (λ s. s == r.0) asked) (not (was_heard heard r.0)) (asks asked r.0 r.1) (ap not r.2))
 
 -- at its begin all of its shards are missing
-pub first_missing : (asked : List ℕ) (node : ℕ) → Among node asked → is_missing asked [] node ≡ true
+pub first_missing : (asked : List ℕ) (node : ℕ) → Contains asked node → is_missing asked [] node ≡ true
 first_missing asked node m = and_from (list_any (λ s. s == node) asked) (not (was_heard [] node)) (asks asked node m) refl
 
 -- what is missing after one more answer was missing before
@@ -70,7 +70,7 @@ heard_after asked heard h node e = unless (is_missing asked heard node) (is_miss
 pub heard_now_has : (asked : List ℕ) (heard : List HeardNow) (h : HeardNow) (node : ℕ) → h.from ≡ node
     → is_missing asked (heard ++ h ∷ []) node ≡ false
 heard_now_has asked heard h node e =
-    let q : was_heard (heard ++ h ∷ []) node ≡ true = any_among (λ h. h.from == node) (heard ++ h ∷ []) h (among_last h heard) (eq-eqb h.from node e) in
+    let q : was_heard (heard ++ h ∷ []) node ≡ true = any_has (λ h. h.from == node) (heard ++ h ∷ []) h (Contains-push heard h) (eq-eqb h.from node e) in
     ap (λ b. list_any (λ s. s == node) asked && not b) q ∙ and_false (list_any (λ s. s == node) asked)
 
 -- ## The second round
@@ -83,7 +83,7 @@ missing_at_some asked time first heard e =
     (r.0, and_from (list_any (λ s. s == r.0) late) (not (was_heard_at heard r.0)) (asks late r.0 r.1) (ap not r.2))
 
 -- at its begin all of its shards are missing
-pub late_missing : (asked : List ℕ) (time : ℕ) (first : List HeardNow) (node : ℕ) → Among node (late_nodes asked time first)
+pub late_missing : (asked : List ℕ) (time : ℕ) (first : List HeardNow) (node : ℕ) → Contains (late_nodes asked time first) node
     → is_missing_at asked time first [] node ≡ true
 late_missing asked time first node m =
     and_from (list_any (λ s. s == node) (late_nodes asked time first)) (not (was_heard_at [] node)) (asks (late_nodes asked time first) node m) refl
@@ -105,17 +105,17 @@ pub heard_at_has : (asked : List ℕ) (time : ℕ) (first : List HeardNow) (hear
     → is_missing_at asked time first (heard ++ h ∷ []) node ≡ false
 heard_at_has asked time first heard h node e =
     let late = late_nodes asked time first in
-    let q : was_heard_at (heard ++ h ∷ []) node ≡ true = any_among (λ h. h.from == node) (heard ++ h ∷ []) h (among_last h heard) (eq-eqb h.from node e) in
+    let q : was_heard_at (heard ++ h ∷ []) node ≡ true = any_has (λ h. h.from == node) (heard ++ h ∷ []) h (Contains-push heard h) (eq-eqb h.from node e) in
     ap (λ b. list_any (λ s. s == node) late && not b) q ∙ and_false (list_any (λ s. s == node) late)
 
 -- ## The move
 
 -- what is missing once an answer is there was missing before
-pub left_before : (t : TxnValue) (left : List WriterValue) (k : WriterValue) → Among k (left_after t left) → Among k left
-left_before t left k m = (filter_only (λ w. not (is_same_txn w.txn t)) left k m).0
+pub left_before : (t : TxnValue) (left : List WriterValue) (k : WriterValue) → Contains (left_after t left) k → Contains left k
+left_before t left k m = (filter_contains (λ w. not (is_same_txn w.txn t)) left k m).0
 
-pub still_left : (left : List WriterValue) (k : WriterValue) → Among k left → is_left k.txn left ≡ true
-still_left left k m = any_among (λ w. is_same_txn w.txn k.txn) left k m (same_txn_self k.txn)
+pub still_left : (left : List WriterValue) (k : WriterValue) → Contains left k → is_left k.txn left ≡ true
+still_left left k m = any_has (λ w. is_same_txn w.txn k.txn) left k m (same_txn_self k.txn)
 
 -- the transaction that is answered about is no longer missing
 pub left_now_has : (t : TxnValue) (left : List WriterValue) → is_left t (left_after t left) ≡ false
@@ -124,16 +124,16 @@ left_now_has t left = go (is_left t (left_after t left)) refl
     go : (b : Bool) → is_left t (left_after t left) ≡ b → b ≡ false
     go false e = refl
     go true e =
-        let r = any_true (λ w. is_same_txn w.txn t) (left_after t left) e in
-        let p = filter_only (λ w. not (is_same_txn w.txn t)) left r.0 r.1 in
+        let r = any_found (λ w. is_same_txn w.txn t) (left_after t left) e in
+        let p = filter_contains (λ w. not (is_same_txn w.txn t)) left r.0 r.1 in
         absurd (false≢true (sym (ap not r.2) ∙ p.1))
 
 pub left_has_after : (t u : TxnValue) (left : List WriterValue) → is_left u left ≡ false → is_left u (left_after t left) ≡ false
 left_has_after t u left e =
     unless (is_left u left) (is_left u (left_after t left))
     (λ q.
-    let r = any_true (λ w. is_same_txn w.txn u) (left_after t left) q in
-    any_among (λ w. is_same_txn w.txn u) left r.0 (left_before t left r.0 r.1) r.2) e
+    let r = any_found (λ w. is_same_txn w.txn u) (left_after t left) q in
+    any_has (λ w. is_same_txn w.txn u) left r.0 (left_before t left r.0 r.1) r.2) e
 
 -- ## The session's home alone counts
 

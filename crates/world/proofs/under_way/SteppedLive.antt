@@ -1,6 +1,6 @@
 -- One actor's step at a message keeps what is under way.
 use Rattle.std.proofs.Common.{◌≡◌, ℕ, ◌<◌, Bool, true, false, cond, List, [], ◌∷◌, ◌++◌, length, slice_get, Some, Ok, ◌⊎◌, inl, inr, refl, sym, ap, ap₂, ◌∙◌, subst, subst₂, eqb-true}
-use Rattle.std.specs.Prelude.{◌==◌, filter_map}
+use Rattle.std.specs.Prelude.{◌==◌, filter_map, Contains}
 use Rattle.std.proofs.lemmas.Option.{slice_get_within}
 use Rattle.logical_time.specs.Stamps.{TxnValue, WriterValue}
 use Rattle.messages.specs.declared.envelope.Envelope.{Envelope}
@@ -11,7 +11,7 @@ use Rattle.messages.specs.SessionEvents.{session_taken}
 use Rattle.shard.specs.Sound.{IsWithin}
 use Rattle.world.specs.Run.{Run, RunEvent, Submission, with_actor, ended_by, after_shard, after_session}
 use Rattle.world.specs.Quiet.{number_delivered, handled}
-use Rattle.world.proofs.lists.Among.{Among, among_append, append_first, append_second}
+use Rattle.world.proofs.lists.Members.{Contains-append_left, Contains-append_right, Contains-append_cases}
 use Rattle.world.proofs.steps.Transcripts.{old_stays, ended_is_last}
 use Rattle.world.proofs.safety.Facts.{txn_of}
 use Rattle.world.proofs.keeping.ShardSteps.{actor_same}
@@ -44,11 +44,11 @@ Delivers top w x ev =
 
 -- what was handled in the run after an event
 pub acted_after : (top : TopologyValue) (w x : Run) (ev : RunEvent) (sends : List Envelope) → x.events ≡ w.events ++ ev ∷ [] → x.sent ≡ w.sent ++ sends
-    → Onward top w x → Live top w → ((k : ℕ) → Among k (handled w) → k < length w.sent)
-    → Delivers top w x ev → (k : ℕ) (e : Envelope) → Among k (handled x) → slice_get x.sent k ≡ Some e → Acted top x e.from e.to (kind_of e.body)
+    → Onward top w x → Live top w → ((k : ℕ) → Contains (handled w) k → k < length w.sent)
+    → Delivers top w x ev → (k : ℕ) (e : Envelope) → Contains (handled x) k → slice_get x.sent k ≡ Some e → Acted top x e.from e.to (kind_of e.body)
 acted_after top w x ev sends events sent g live below delivers k e m is =
     let here = subst (λ l. slice_get l k ≡ Some e) sent is in
-    elim (handled_more w.events ev k (subst (λ l. Among k (filter_map number_delivered l)) events m)) [
+    elim (handled_more w.events ev k (subst (λ l. Contains (filter_map number_delivered l) k) events m)) [
       | inl o ↦ acted_on top e.from e.to g (kind_of e.body) (live.acted k e o (get_front w.sent sends k e (below k o) here))
       | inr d ↦
           let r = delivers k d in
@@ -73,30 +73,30 @@ module _ (top : TopologyValue) (w : Run) (node from : ℕ) (kind : Kind) (st : S
         shards = shard_actor_on w.shards node st.state on;
         sessions = λ m. same_session_on top (w.sessions m);
         waits = λ m y i. go m y (m == node) refl i;
-        sent = λ e m. append_first e w.sent st.sends m;
+        sent = λ e m. Contains-append_left w.sent st.sends e m;
         submitted = λ b m. m;
         transcript = λ c m. m;
       }
     where
-      go : (m : ℕ) (y : WaitingRead) (t : Bool) → (m == node) ≡ t → Among y (w.shards m).waiting
+      go : (m : ℕ) (y : WaitingRead) (t : Bool) → (m == node) ≡ t → Contains (w.shards m).waiting y
           → HasWait (cond t st.state (w.shards m)) y.session y.number y.time ⊎ Sent (w.sent ++ st.sends) m y.session (OfPartAt y.number y.time)
       go m y false e i = inl (y, i, refl, refl, refl)
       go m y true e i =
-          elim (ws.kept y (subst (λ z. Among y (w.shards z).waiting) (eqb-true m node e) i)) [
+          elim (ws.kept y (subst (λ z. Contains (w.shards z).waiting y) (eqb-true m node e) i)) [
             | inl z ↦ inl z
             | inr z ↦ inr (subst (λ u. Sent (w.sent ++ st.sends) u y.session (OfPartAt y.number y.time)) (sym (eqb-true m node e))
-                (sent_in (λ e m. append_second e w.sent st.sends m) z))
+                (sent_in (λ e m. Contains-append_right w.sent st.sends e m) z))
           ]
 
   pub shard_here : Here x node st
-  shard_here = record { state = actor_same w.shards node st.state; sent = λ e m. append_second e w.sent st.sends m }
+  shard_here = record { state = actor_same w.shards node st.state; sent = λ e m. Contains-append_right w.sent st.sends e m }
 
   module _ (live : Live top w) (rounds : (number time : ℕ) → kind ≡ OfReadAt number time → Round (w.sessions from) number time) (left : Left top x node st) where
     waiting_go : (m : ℕ) (t : Bool) → (m == node) ≡ t → Waiting (cond t st.state (w.shards m))
     waiting_go m true e = ws.waiting (live.waiting node)
     waiting_go m false e = live.waiting m
 
-    round_go : (m : ℕ) (t : Bool) → (m == node) ≡ t → (y : WaitingRead) → Among y (cond t st.state (w.shards m)).waiting
+    round_go : (m : ℕ) (t : Bool) → (m == node) ≡ t → (y : WaitingRead) → Contains (cond t st.state (w.shards m)).waiting y
         → Round (w.sessions y.session) y.number y.time
     round_go m false e y i = live.rounds m y i
     round_go m true e y i =
@@ -109,12 +109,12 @@ module _ (top : TopologyValue) (w : Run) (node from : ℕ) (kind : Kind) (st : S
     shard_go m true e = subst (λ z. ShardLive top x z st.state) (sym (eqb-true m node e)) left.live
     shard_go m false e = shard_on shard_onward (live.shards m)
 
-    pub shard_step_live : ((k : ℕ) → Among k (handled w) → k < length w.sent) → Delivers top w x ev → Live top x
+    pub shard_step_live : ((k : ℕ) → Contains (handled w) k → k < length w.sent) → Delivers top w x ev → Live top x
     shard_step_live below delivers =
         let g = shard_onward in
         record {
           shards = λ m. shard_go m (m == node) refl;
-          sent = λ e m. elim (among_append e w.sent st.sends m) [ inl i ↦ says_on top e.from e.to g (kind_of e.body) (live.sent e i) | inr i ↦ left.sends e i ];
+          sent = λ e m. elim (Contains-append_cases w.sent st.sends e m) [ inl i ↦ says_on top e.from e.to g (kind_of e.body) (live.sent e i) | inr i ↦ left.sends e i ];
           acted = acted_after top w x ev st.sends refl refl g live below delivers;
           submitted = λ b batch m e. submission_on g (live.submitted b batch m e);
           earlier = live.earlier;
@@ -136,8 +136,8 @@ module _ (top : TopologyValue) (w : Run) (node : ℕ) (st : SessionStep) (ev : R
   session_comes =
       record {
         state = actor_same w.sessions node (session_taken st.state);
-        sent = λ e m. append_first e w.sent st.sends m;
-        news = λ e m. append_second e w.sent st.sends m;
+        sent = λ e m. Contains-append_left w.sent st.sends e m;
+        news = λ e m. Contains-append_right w.sent st.sends e m;
         submitted = λ b m. m;
         transcript = λ c m. old_stays c w.transcript (ended_by w.submitted node st) m;
         ended = λ c e. ended_is_last c w.transcript (ended_by w.submitted node st) e;
@@ -150,12 +150,12 @@ module _ (top : TopologyValue) (w : Run) (node : ℕ) (st : SessionStep) (ev : R
           shards = λ m. same_shard_on (w.shards m);
           sessions = session_actor_on top w.sessions node (session_taken st.state) went.onward;
           waits = λ m y i. inl (y, i, refl, refl, refl);
-          sent = λ e m. append_first e w.sent st.sends m;
+          sent = λ e m. Contains-append_left w.sent st.sends e m;
           submitted = λ b m. m;
           transcript = λ c m. old_stays c w.transcript (ended_by w.submitted node st) m;
         }
 
-    dependencies_go : (m : ℕ) (t : Bool) → (m == node) ≡ t → (k : WriterValue) → Among k (cond t (session_taken st.state) (w.sessions m)).dependencies
+    dependencies_go : (m : ℕ) (t : Bool) → (m == node) ≡ t → (k : WriterValue) → Contains (cond t (session_taken st.state) (w.sessions m)).dependencies k
         → Placed top xs k
     dependencies_go m true e k i = went.dependencies k i
     dependencies_go m false e k i = placed_on session_onward (live.dependencies m k i)
@@ -183,12 +183,12 @@ module _ (top : TopologyValue) (w : Run) (node : ℕ) (st : SessionStep) (ev : R
           | inr h ↦ inr (subst (λ z. HasEnded xs z) (sym (ap₂ (λ i m. let z : TxnValue = record { session = i; number = m } in z) here count)) h)
         ]
 
-    pub session_step_live : ((k : ℕ) → Among k (handled w) → k < length w.sent) → Delivers top w xs ev → Live top xs
+    pub session_step_live : ((k : ℕ) → Contains (handled w) k → k < length w.sent) → Delivers top w xs ev → Live top xs
     session_step_live below delivers =
         let g = session_onward in
         record {
           shards = λ m. shard_on g (live.shards m);
-          sent = λ e m. elim (among_append e w.sent st.sends m) [ inl i ↦ says_on top e.from e.to g (kind_of e.body) (live.sent e i) | inr i ↦ went.sends e i ];
+          sent = λ e m. elim (Contains-append_cases w.sent st.sends e m) [ inl i ↦ says_on top e.from e.to g (kind_of e.body) (live.sent e i) | inr i ↦ went.sends e i ];
           acted = acted_after top w xs ev st.sends refl refl g live below delivers;
           submitted = λ b batch m e. submission_on g (live.submitted b batch m e);
           earlier = live.earlier;

@@ -1,7 +1,7 @@
 -- A submission keeps what is under way: its messages are sent, what it depends on was submitted before it, and it is open or
 -- has ended.
-use Rattle.std.proofs.Common.{◌≡◌, ℕ, ◌+◌, ◌<◌, ◌≤◌, Bool, true, false, cond, List, [], ◌∷◌, ◌++◌, length, Option, Some, None, Ok, ◌⊎◌, inl, inr, refl, sym, ap, ◌∙◌, subst, eqb-true, ltb-true, le_refl}
-use Rattle.std.specs.Prelude.{◌==◌, nat_lt, option_map, option_and_then}
+use Rattle.std.proofs.Common.{◌≡◌, ℕ, ◌+◌, ◌<◌, ◌≤◌, Bool, true, false, cond, List, [], ◌∷◌, ◌++◌, map, length, Option, Some, None, Ok, ◌⊎◌, inl, inr, refl, sym, ap, ◌∙◌, subst, eqb-true, ltb-true, le_refl}
+use Rattle.std.specs.Prelude.{◌==◌, nat_lt, option_map, option_and_then, Contains}
 use Rattle.std.specs.Option.{option_or}
 use Rattle.std.proofs.lemmas.Bool.{false≢true}
 use Rattle.logical_time.specs.declared.fault.Fault.{Fault}
@@ -28,7 +28,7 @@ use Rattle.messages.specs.Rounds.{asked_nodes}
 use Rattle.messages.proofs.Numbering.{dc_of_shard, number_of_shard}
 use Rattle.world.specs.Run.{Run, Submit, Submission, Completed, submission_of, completed_of, ended_by, after_submission, submission_by}
 use Rattle.world.specs.Quiet.{handled}
-use Rattle.world.proofs.lists.Among.{Among, among_append, append_first, append_second, among_last, last_or_old, map_only, map_among, any_false, find_none, same_txn_self, among_contains, contains_among}
+use Rattle.world.proofs.lists.Members.{none_in_empty, contains_first, contains_rest, contains_cases, Contains-push, last_or_old, Contains-append_left, Contains-append_right, Contains-append_cases, contains_map, mapped_from, any_false, find_none, same_txn_self}
 use Rattle.world.proofs.safety.Facts.{txn_of, IsWritten, lead}
 use Rattle.world.proofs.envelopes.Near.{coordinator_below, cohort_below}
 use Rattle.world.proofs.envelopes.Asking.{asked_below, missing_asked}
@@ -43,25 +43,27 @@ use Rattle.world.proofs.under_way.SteppedLive.{session_actor_on, acted_after}
 
 -- one more submission, whose dependencies were submitted before it
 earlier_more : (before bs : List Submission) (b : Submission) → Earlier before bs
-    → ((k : WriterValue) → Among k b.dependencies → (c : Submission) × (Among c before ⊎ Among c bs) × (txn_of c ≡ k.txn))
+    → ((k : WriterValue) → Contains b.dependencies k → (c : Submission) × (Contains before c ⊎ Contains bs c) × (txn_of c ≡ k.txn))
     → Earlier before (bs ++ b ∷ [])
-earlier_more before [] b e f = (λ k m. let r = f k m in (r.0, elim (r.1) [ inl i ↦ i | inr i ↦ absurd i ], r.2), tt)
+earlier_more before [] b e f = (λ k m. let r = f k m in (r.0, elim (r.1) [ inl i ↦ i | inr i ↦ absurd (none_in_empty r.0 i) ], r.2), tt)
 earlier_more before (c ∷ cs) b e f = (
   e.0,
   earlier_more (before ++ c ∷ []) cs b e.1
       (λ k m. let r = f k m in (
         r.0,
         elim (r.1) [
-          | inl i ↦ inl (append_first r.0 before (c ∷ []) i)
-          | inr (inl q) ↦ inl (append_second r.0 before (c ∷ []) (inl q))
-          | inr (inr i) ↦ inr i
+          | inl i ↦ inl (Contains-append_left before (c ∷ []) r.0 i)
+          | inr i ↦ elim (contains_cases c r.0 cs i) [
+            | inl q ↦ inl (subst (Contains (before ++ c ∷ [])) (sym q) (Contains-push before c))
+            | inr o ↦ inr o
+          ]
         ],
         r.2,
       )),
 )
 
 module _ (top : TopologyValue) (w : Run) (node : ℕ) (o : Op) (live : Live top w) (idle : is_idle (w.sessions node).current ≡ true)
-    (below : (k : ℕ) → Among k (handled w) → k < length w.sent) (st : SessionStep) (count : st.state.count ≡ (w.sessions node).count + 1)
+    (below : (k : ℕ) → Contains (handled w) k → k < length w.sent) (st : SessionStep) (count : st.state.count ≡ (w.sessions node).count + 1)
     (depends : st.state.dependencies ≡ (w.sessions node).dependencies) (there : st.state.home < top.dcs) where
   -- the submission, and the run after the session's step
   abbrev sub : Submission
@@ -80,14 +82,14 @@ module _ (top : TopologyValue) (w : Run) (node : ℕ) (o : Op) (live : Live top 
         shards = λ m. same_shard_on (w.shards m);
         sessions = session_actor_on top w.sessions node (session_taken st.state) (next_onward top (w.sessions node) (session_taken st.state) count);
         waits = λ m y i. inl (y, i, refl, refl, refl);
-        sent = λ e m. append_first e w.sent st.sends m;
-        submitted = λ b m. append_first b w.submitted (sub ∷ []) m;
+        sent = λ e m. Contains-append_left w.sent st.sends e m;
+        submitted = λ b m. Contains-append_left w.submitted (sub ∷ []) b m;
         transcript = λ c m. old_stays c w.transcript at_once m;
       }
 
-  dependencies_go : (m : ℕ) (t : Bool) → (m == node) ≡ t → (k : WriterValue) → Among k (cond t (session_taken st.state) (w.sessions m)).dependencies
+  dependencies_go : (m : ℕ) (t : Bool) → (m == node) ≡ t → (k : WriterValue) → Contains (cond t (session_taken st.state) (w.sessions m)).dependencies k
       → Placed top after k
-  dependencies_go m true e k i = placed_on submission_onward (live.dependencies node k (subst (λ l. Among k l) depends i))
+  dependencies_go m true e k i = placed_on submission_onward (live.dependencies node k (subst (λ l. Contains l k) depends i))
   dependencies_go m false e k i = placed_on submission_onward (live.dependencies m k i)
 
   home_go : (m : ℕ) (t : Bool) → (m == node) ≡ t → (cond t (session_taken st.state) (w.sessions m)).home < top.dcs
@@ -120,7 +122,7 @@ module _ (top : TopologyValue) (w : Run) (node : ℕ) (o : Op) (live : Live top 
       go : (s : Option Submission) → submission_of (w.submitted ++ sub ∷ []) (txn_of sub) ≡ s → HasEnded after (txn_of sub)
       go None e =
           absurd (false≢true (sym (any_false (λ (s : Submission). is_same_txn (txn_of s) (txn_of sub)) (w.submitted ++ sub ∷ [])
-          (find_none (λ (s : Submission). is_same_txn (txn_of s) (txn_of sub)) (w.submitted ++ sub ∷ []) e) sub (among_last sub w.submitted))
+          (find_none (λ (s : Submission). is_same_txn (txn_of s) (txn_of sub)) (w.submitted ++ sub ∷ []) e) sub (Contains-push w.submitted sub))
           ∙ same_txn_self (txn_of sub)))
       go (Some s) e =
           let f : Finished = record { number = st.state.count; outcome = out } in
@@ -130,18 +132,18 @@ module _ (top : TopologyValue) (w : Run) (node : ℕ) (o : Op) (live : Live top 
           ∙ ap (λ (z : Option Submission). option_map (λ s. record { node = node; number = f.number; home = s.home; op = s.op; outcome = f.outcome }) z) e in
           (done, ended_is_last done w.transcript at_once is, refl)
 
-  depends_before : (k : WriterValue) → Among k sub.dependencies → (c : Submission) × (Among c [] ⊎ Among c w.submitted) × (txn_of c ≡ k.txn)
+  depends_before : (k : WriterValue) → Contains sub.dependencies k → (c : Submission) × (Contains [] c ⊎ Contains w.submitted c) × (txn_of c ≡ k.txn)
   depends_before k m = let p = live.dependencies node k m in (p.submission, inr p.written.among, p.written.txn)
 
   pub opens_live : OpenLive top after node (session_taken st.state) st.state.current
-      → ((e : Envelope) → Among e st.sends → SaysLive top after e.from e.to (kind_of e.body))
+      → ((e : Envelope) → Contains st.sends e → SaysLive top after e.from e.to (kind_of e.body))
       → ((batch : List Change) → o ≡ op.Batch batch → SubmissionLive top after sub batch) → StillOpen after sub ⊎ HasEnded after (txn_of sub)
       → Live top after
   opens_live f fine write new =
       let g = submission_onward in
       record {
         shards = λ m. shard_on g (live.shards m);
-        sent = λ e m. elim (among_append e w.sent st.sends m) [ inl i ↦ says_on top e.from e.to g (kind_of e.body) (live.sent e i) | inr i ↦ fine e i ];
+        sent = λ e m. elim (Contains-append_cases w.sent st.sends e m) [ inl i ↦ says_on top e.from e.to g (kind_of e.body) (live.sent e i) | inr i ↦ fine e i ];
         acted = acted_after top w after (Submit node o) st.sends refl refl g live below (λ j e. absurd (cc));
         submitted = λ b batch m e. elim (last_or_old b sub w.submitted m) [
           | inl i ↦ submission_on g (live.submitted b batch i e)
@@ -160,7 +162,7 @@ module _ (top : TopologyValue) (w : Run) (node : ℕ) (o : Op) (live : Live top 
       }
 
 module _ (top : TopologyValue) (w : Run) (node n : ℕ) (some : 0 < top.shards) (live : Live top w)
-    (idle : is_idle (w.sessions node).current ≡ true) (below : (k : ℕ) → Among k (handled w) → k < length w.sent) where
+    (idle : is_idle (w.sessions node).current ≡ true) (below : (k : ℕ) → Contains (handled w) k → k < length w.sent) where
   abbrev state : SessionState
   state = w.sessions node
 
@@ -180,33 +182,35 @@ module _ (top : TopologyValue) (w : Run) (node n : ℕ) (some : 0 < top.shards) 
     this = submission_by w node (op.Batch batch) began
 
     is_written : IsWritten written (next_txn node state) this batch
-    is_written = record { among = among_last this w.submitted; txn = refl; op = refl }
+    is_written = record { among = Contains-push w.submitted this; txn = refl; op = refl }
 
-    begin_fine : (e : Envelope) → Among e began.sends → SaysLive top written e.from e.to (kind_of e.body)
-    begin_fine e (inl q) = subst (λ z. SaysLive top written z.from z.to (kind_of z.body)) (sym q) tt
-    begin_fine e (inr m) =
-        let q = map_only (prepare_of top node n state batch) (cohorts_of top.shards batch) e m in
-        let lt = cohort_below top.shards batch q.0 q.1 in
-        let aside : Aside top written (home_node top state q.0) (next_txn node state) =
-        record {
-          submission = this;
-          batch = batch;
-          written = is_written;
-          cohort = subst (λ z. Among z (cohorts_of top.shards batch)) (sym (number_of_shard top state.home q.0 lt)) q.1;
-        } in
-        let origin : AtOrigin top written (home_node top state q.0) (next_txn node state) =
-        record { submission = this; batch = batch; written = is_written; here = dc_of_shard top state.home q.0 lt } in
-        subst (λ z. SaysLive top written z.from z.to (kind_of z.body)) (sym q.2) (aside, origin)
+    begin_fine : (e : Envelope) → Contains began.sends e → SaysLive top written e.from e.to (kind_of e.body)
+    begin_fine e m = elim (contains_cases (begin_of top node n state batch) e (map (prepare_of top node n state batch) (cohorts_of top.shards batch)) m) [
+      | inl q ↦ subst (λ z. SaysLive top written z.from z.to (kind_of z.body)) (sym q) tt
+      | inr r ↦
+          let q = mapped_from (prepare_of top node n state batch) (cohorts_of top.shards batch) e r in
+          let lt = cohort_below top.shards batch q.0 q.1 in
+          let aside : Aside top written (home_node top state q.0) (next_txn node state) =
+          record {
+            submission = this;
+            batch = batch;
+            written = is_written;
+            cohort = subst (λ z. Contains (cohorts_of top.shards batch) z) (sym (number_of_shard top state.home q.0 lt)) q.1;
+          } in
+          let origin : AtOrigin top written (home_node top state q.0) (next_txn node state) =
+          record { submission = this; batch = batch; written = is_written; here = dc_of_shard top state.home q.0 lt } in
+          subst (λ z. SaysLive top written z.from z.to (kind_of z.body)) (sym q.2) (aside, origin)
+    ]
 
     this_live : SubmissionLive top written this batch
     this_live =
         record {
           home = homed;
-          begun = record { message = begin_of top node n state batch; among = append_second _ w.sent began.sends (inl refl); by = refl; for = refl; is = refl };
+          begun = record { message = begin_of top node n state batch; among = Contains-append_right w.sent began.sends _ (contains_first (begin_of top node n state batch) (map (prepare_of top node n state batch) (cohorts_of top.shards batch))); by = refl; for = refl; is = refl };
           prepared = λ c m.
               record {
                 message = prepare_of top node n state batch c;
-                among = append_second _ w.sent began.sends (inr (map_among (prepare_of top node n state batch) (cohorts_of top.shards batch) c m));
+                among = Contains-append_right w.sent began.sends _ (contains_rest (begin_of top node n state batch) _ (map (prepare_of top node n state batch) (cohorts_of top.shards batch)) (contains_map (prepare_of top node n state batch) (cohorts_of top.shards batch) c m));
                 by = refl;
                 for = refl;
                 is = refl;
@@ -232,9 +236,9 @@ module _ (top : TopologyValue) (w : Run) (node n : ℕ) (some : 0 < top.shards) 
     abbrev asks : ℕ → Envelope
     asks s = envelope node (home_node top state s) n (body.Read (state.count + 1) (share_of top read s))
 
-    ask_fine : (e : Envelope) → Among e starts.sends → SaysLive top asking e.from e.to (kind_of e.body)
+    ask_fine : (e : Envelope) → Contains starts.sends e → SaysLive top asking e.from e.to (kind_of e.body)
     ask_fine e m =
-        let q = map_only asks (shards_asked top.shards read.keys) e m in
+        let q = mapped_from asks (shards_asked top.shards read.keys) e m in
         let here = dc_of_shard top state.home q.0 (asked_below top.shards read.keys q.0 q.1) in
         subst (λ z. SaysLive top asking z.from z.to (kind_of z.body)) (sym q.2) (
           subst (λ a. state.count + 1 ≤ a.count) (sym (actor_same w.sessions node starts.state)) (le_refl (state.count + 1)),
@@ -243,7 +247,7 @@ module _ (top : TopologyValue) (w : Run) (node n : ℕ) (some : 0 < top.shards) 
         )
 
     -- it asks some shard
-    asks_one : (keys : List (List ℕ)) → read.keys ≡ keys → read_fault top.schema read ≡ None → (s : ℕ) × Among s (shards_asked top.shards read.keys)
+    asks_one : (keys : List (List ℕ)) → read.keys ≡ keys → read_fault top.schema read ≡ None → (s : ℕ) × Contains (shards_asked top.shards read.keys) s
     asks_one [] e f = absurd (empty (ap (λ k. nat_lt 0 (length k)) e) f)
       where
         by : (b : Bool) → b ≡ false → (rest : Option Fault) → option_or (unless b EmptyRead) rest ≡ None → ⊥
@@ -255,8 +259,8 @@ module _ (top : TopologyValue) (w : Run) (node n : ℕ) (some : 0 < top.shards) 
     asks_one (key ∷ keys) e f =
         let s = shard_of_key top.shards key in (
           s,
-          contains_among s (shards_asked top.shards read.keys) (asked_shard top.shards read.keys key some
-              (among_contains key read.keys (subst (λ l. Among key l) (sym e) (inl refl)))),
+          (asked_shard top.shards read.keys key some
+              (subst (λ l. Contains l key) (sym e) (contains_first key keys))),
         )
 
     read_live : read_fault top.schema read ≡ None → Live top asking
@@ -267,15 +271,14 @@ module _ (top : TopologyValue) (w : Run) (node n : ℕ) (some : 0 < top.shards) 
           some = (
             home_node top state one.0,
             first_missing (asked_nodes top state read) (home_node top state one.0)
-                (map_among (home_node top state) (shards_asked top.shards read.keys) one.0 one.1),
+                (contains_map (home_node top state) (shards_asked top.shards read.keys) one.0 one.1),
           );
           asked = λ m i.
-              let q = map_only (home_node top state) (shards_asked top.shards read.keys) m (missing_asked (asked_nodes top state read) [] m i) in
+              let q = mapped_from (home_node top state) (shards_asked top.shards read.keys) m (missing_asked (asked_nodes top state read) [] m i) in
               subst (λ z. Sent asking.sent node z (OfRead (state.count + 1))) (sym q.2)
               (record {
                 message = asks q.0;
-                among = append_second _ w.sent starts.sends
-                    (map_among asks (shards_asked top.shards read.keys) q.0 q.1);
+                among = Contains-append_right w.sent starts.sends _ (contains_map asks (shards_asked top.shards read.keys) q.0 q.1);
                 by = refl;
                 for = refl;
                 is = refl;
@@ -300,7 +303,7 @@ module _ (top : TopologyValue) (w : Run) (node n : ℕ) (some : 0 < top.shards) 
     that = submission_by w node move leaves
 
     -- each dependency's coordinator is asked
-    check_fine : (u : WriterValue) → Among u state.dependencies → SaysLive top leaving node (shard_node top dc u.shard) (OfDepCheck u.txn (next_txn node state))
+    check_fine : (u : WriterValue) → Contains state.dependencies u → SaysLive top leaving node (shard_node top dc u.shard) (OfDepCheck u.txn (next_txn node state))
     check_fine u m =
         let p = live.dependencies node u m in
         let to = shard_node top dc u.shard in
@@ -310,14 +313,14 @@ module _ (top : TopologyValue) (w : Run) (node n : ℕ) (some : 0 < top.shards) 
         record {
           submission = p.submission;
           batch = p.batch;
-          written = record { among = append_first p.submission w.submitted (that ∷ []) p.written.among; txn = p.written.txn; op = p.written.op };
+          written = record { among = Contains-append_left w.submitted (that ∷ []) p.submission p.written.among; txn = p.written.txn; op = p.written.op };
           here = ap (shard_node top dc) p.coordinator ∙ ap (λ d. lead top d p.batch) (sym here);
         } in
-        (leads, subst (λ d. d < top.dcs) (sym here) there, of_moving that (among_last that w.submitted) refl refl (sym here) u m refl)
+        (leads, subst (λ d. d < top.dcs) (sym here) there, of_moving that (Contains-push w.submitted that) refl refl (sym here) u m refl)
 
-    checks_fine : (e : Envelope) → Among e leaves.sends → SaysLive top leaving e.from e.to (kind_of e.body)
+    checks_fine : (e : Envelope) → Contains leaves.sends e → SaysLive top leaving e.from e.to (kind_of e.body)
     checks_fine e m =
-        let q = map_only (check_of top node n state dc) state.dependencies e m in
+        let q = mapped_from (check_of top node n state dc) state.dependencies e m in
         subst (λ z. SaysLive top leaving z.from z.to (kind_of z.body)) (sym q.2) (check_fine q.0 q.1)
 
     move_live : (k : WriterValue) (ks : List WriterValue) → state.dependencies ≡ k ∷ ks → Live top leaving
@@ -325,11 +328,11 @@ module _ (top : TopologyValue) (w : Run) (node n : ℕ) (some : 0 < top.shards) 
         let open_it : OpenLive top leaving node (session_taken leaves.state) (Moving dc state.dependencies 0) =
         record {
           there = there;
-          some = (k, subst (λ l. Among k l) (sym all) (inl refl));
+          some = (k, subst (λ l. Contains l k) (sym all) (contains_first k ks));
           asked = λ u m.
               record {
                 message = check_of top node n state dc u;
-                among = append_second _ w.sent leaves.sends (map_among (check_of top node n state dc) state.dependencies u m);
+                among = Contains-append_right w.sent leaves.sends _ (contains_map (check_of top node n state dc) state.dependencies u m);
                 by = refl;
                 for = refl;
                 is = refl;
@@ -342,7 +345,7 @@ module _ (top : TopologyValue) (w : Run) (node n : ℕ) (some : 0 < top.shards) 
     moved_live : Live top (after_submission (Ok (moved_at_once n state dc)) w node move)
     moved_live =
         let st = moved_at_once n state dc in
-        opens_live top w node move live idle below st refl refl there tt (λ e m. absurd m) (λ batch e. absurd (cc))
+        opens_live top w node move live idle below st refl refl there tt (λ e m. absurd (none_in_empty e m)) (λ batch e. absurd (cc))
         (inr (new_ended top w node move live idle below st refl refl there (outcome.Moved dc 0) refl))
 
   -- an accepted move is to a data centre that there is

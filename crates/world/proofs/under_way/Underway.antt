@@ -1,6 +1,6 @@
 -- What is under way in every run: what was sent for each entry, what each handled message left, and that nothing stands
 -- still.
-use Rattle.std.specs.Prelude.{◌≡◌, ℕ, ◌<◌, ◌≤◌, true, false, List, [], ◌∷◌, ◌++◌, None, Some, ◌⊎◌, slice_get}
+use Rattle.std.specs.Prelude.{◌≡◌, ℕ, ◌<◌, ◌≤◌, true, false, List, [], ◌∷◌, ◌++◌, None, Some, ◌⊎◌, slice_get, Contains}
 use Rattle.logical_time.specs.Stamps.{TxnValue, WriterValue}
 use Rattle.column_family.specs.declared.batch.Change.{Change}
 use Rattle.store.specs.declared.part.Applied.{Applied}
@@ -16,7 +16,6 @@ use Rattle.messages.specs.SessionEvents.{is_left}
 use Rattle.shard.specs.Sound.{IsWithin}
 use Rattle.world.specs.Run.{Run, Submission, Completed}
 use Rattle.world.specs.Quiet.{handled}
-use Rattle.world.proofs.lists.Among.{Among}
 use Rattle.world.proofs.safety.Facts.{txn_of, IsWritten, near, lead, Sees}
 use Rattle.world.proofs.safety.Invariant.{IsLead, MovesTo}
 use Rattle.world.proofs.causal.Causal.{txn_ended}
@@ -25,19 +24,19 @@ use Rattle.world.proofs.envelopes.About.{Kind, OfBegin, OfPrepare, OfYes, OfComm
 -- ## What a shard has of a transaction
 
 abbrev pub HasPrepared : ShardState → TxnValue → Type 0
-HasPrepared a t = (p : PreparedPart) × Among p a.prepared × (p.txn ≡ t)
+HasPrepared a t = (p : PreparedPart) × Contains a.prepared p × (p.txn ≡ t)
 
 abbrev pub HasBallot : ShardState → TxnValue → Type 0
-HasBallot a t = (b : BegunBallot) × Among b a.ballots × (b.txn ≡ t)
+HasBallot a t = (b : BegunBallot) × Contains a.ballots b × (b.txn ≡ t)
 
 abbrev pub HasDecision : ShardState → TxnValue → Type 0
-HasDecision a t = (d : Decision) × Among d a.decided × (d.txn ≡ t)
+HasDecision a t = (d : Decision) × Contains a.decided d × (d.txn ≡ t)
 
 abbrev pub HasKeptPart : ShardState → TxnValue → Type 0
-HasKeptPart a t = (k : KeptPart) × Among k a.kept_parts × (k.txn ≡ t)
+HasKeptPart a t = (k : KeptPart) × Contains a.kept_parts k × (k.txn ≡ t)
 
 abbrev pub HasKeptBallot : ShardState → TxnValue → Type 0
-HasKeptBallot a t = (r : KeptBallot) × Among r a.kept_ballots × (r.txn ≡ t)
+HasKeptBallot a t = (r : KeptBallot) × Contains a.kept_ballots r × (r.txn ≡ t)
 
 -- it was prepared or decided
 abbrev pub Knows : ShardState → TxnValue → Type 0
@@ -46,17 +45,17 @@ Knows a t = HasPrepared a t ⊎ HasDecision a t
 -- a kept ballot of the waiter names the dependency
 pub record Awaits (a : ShardState) (waiter dependency : TxnValue) : Type 0 where
   pub ballot : KeptBallot
-  pub among : Among ballot a.kept_ballots
+  pub among : Contains a.kept_ballots ballot
   pub txn : ballot.txn ≡ waiter
   pub writer : WriterValue
-  pub named : Among writer ballot.dependencies
+  pub named : Contains ballot.dependencies writer
   pub is : writer.txn ≡ dependency
 
 -- who waits for the dependency in this data centre: a kept ballot of the waiter that names it, or the session whose move to
 -- there the waiter is, which depends on it
 pub data WaitsFor (top : TopologyValue) (w : Run) (dc from : ℕ) (waiter dependency : TxnValue) : Type 0 where
   of_ballot : Awaits (w.shards from) waiter dependency → WaitsFor top w dc from waiter dependency
-  of_moving : (b : Submission) → Among b w.submitted → txn_of b ≡ waiter → b.session ≡ from → MovesTo dc b.op → (k : WriterValue) → Among k b.dependencies
+  of_moving : (b : Submission) → Contains w.submitted b → txn_of b ≡ waiter → b.session ≡ from → MovesTo dc b.op → (k : WriterValue) → Contains b.dependencies k
       → k.txn ≡ dependency → WaitsFor top w dc from waiter dependency
 
 abbrev pub vote_of : TxnValue → ℕ → Vote
@@ -72,7 +71,7 @@ pub record Aside (top : TopologyValue) (w : Run) (node : ℕ) (t : TxnValue) : T
   pub submission : Submission
   pub batch : List Change
   pub written : IsWritten w t submission batch
-  pub cohort : Among (shard_of top node) (cohorts_of top.shards batch)
+  pub cohort : Contains (cohorts_of top.shards batch) (shard_of top node)
 
 -- the shard is in another data centre than the transaction's own
 pub record Away (top : TopologyValue) (w : Run) (node : ℕ) (t : TxnValue) : Type 0 where
@@ -161,27 +160,27 @@ pub record SessionOnward (top : TopologyValue) (a b : SessionState) : Type 0 whe
 
 -- the shard keeps this read waiting
 abbrev pub HasWait : ShardState → ℕ → ℕ → ℕ → Type 0
-HasWait b session number time = (y : WaitingRead) × Among y b.waiting × (y.session ≡ session) × (y.number ≡ number) × (y.time ≡ time)
+HasWait b session number time = (y : WaitingRead) × Contains b.waiting y × (y.session ≡ session) × (y.number ≡ number) × (y.time ≡ time)
 
 -- what a waiting read waits for is prepared and not applied, and there is some
 abbrev pub Waiting : ShardState → Type 0
 Waiting b =
-    (y : WaitingRead) → Among y b.waiting
-    → ((t : TxnValue) × Among t y.left) × ((t : TxnValue) → Among t y.left → HasPrepared b t × (Sees b.applied t → ⊥))
+    (y : WaitingRead) → Contains b.waiting y
+    → ((t : TxnValue) × Contains y.left t) × ((t : TxnValue) → Contains y.left t → HasPrepared b t × (Sees b.applied t → ⊥))
 
 -- a step keeps each read that waits, or answers it; a new one is what the message asked
 pub record WaitStep (node : ℕ) (a b : ShardState) (sends : List Envelope) (from : ℕ) (k : Kind) : Type 0 where
   pub waiting : Waiting a → Waiting b
-  pub old : (y : WaitingRead) → Among y b.waiting → HasWait a y.session y.number y.time ⊎ ((y.session ≡ from) × (k ≡ OfReadAt y.number y.time))
-  pub kept : (y : WaitingRead) → Among y a.waiting → HasWait b y.session y.number y.time ⊎ Sent sends node y.session (OfPartAt y.number y.time)
+  pub old : (y : WaitingRead) → Contains b.waiting y → HasWait a y.session y.number y.time ⊎ ((y.session ≡ from) × (k ≡ OfReadAt y.number y.time))
+  pub kept : (y : WaitingRead) → Contains a.waiting y → HasWait b y.session y.number y.time ⊎ Sent sends node y.session (OfPartAt y.number y.time)
 
 pub record Onward (top : TopologyValue) (w x : Run) : Type 0 where
   pub shards : (node : ℕ) → IsWithin (w.shards node) (x.shards node)
   pub sessions : (node : ℕ) → SessionOnward top (w.sessions node) (x.sessions node)
-  pub waits : (node : ℕ) (y : WaitingRead) → Among y (w.shards node).waiting → HasWait (x.shards node) y.session y.number y.time ⊎ Sent x.sent node y.session (OfPartAt y.number y.time)
-  pub sent : (e : Envelope) → Among e w.sent → Among e x.sent
-  pub submitted : (b : Submission) → Among b w.submitted → Among b x.submitted
-  pub transcript : (c : Completed) → Among c w.transcript → Among c x.transcript
+  pub waits : (node : ℕ) (y : WaitingRead) → Contains (w.shards node).waiting y → HasWait (x.shards node) y.session y.number y.time ⊎ Sent x.sent node y.session (OfPartAt y.number y.time)
+  pub sent : (e : Envelope) → Contains w.sent e → Contains x.sent e
+  pub submitted : (b : Submission) → Contains w.submitted b → Contains x.submitted b
+  pub transcript : (c : Completed) → Contains w.transcript c → Contains x.transcript c
 
 -- ## What was sent for each entry
 
@@ -198,7 +197,7 @@ PreparedLive top w node p = RoleLive p.role w node (near top node p.coordinator)
 abbrev pub BallotLive : TopologyValue → Run → ℕ → BegunBallot → Type 0
 BallotLive top w node b =
     HasPrepared (w.shards node) b.txn
-    × ((b.stamp ≡ None) ⊎ (Away top w node b.txn × ((c : ℕ) → Among c b.cohorts → Sent w.sent node (near top node c) (OfPrepareRemote b.txn))))
+    × ((b.stamp ≡ None) ⊎ (Away top w node b.txn × ((c : ℕ) → Contains b.cohorts c → Sent w.sent node (near top node c) (OfPrepareRemote b.txn))))
 
 pub record KeptPartLive (top : TopologyValue) (w : Run) (node : ℕ) (k : KeptPart) : Type 0 where
   pub away : Away top w node k.txn
@@ -208,21 +207,21 @@ pub record KeptPartLive (top : TopologyValue) (w : Run) (node : ℕ) (k : KeptPa
 pub record KeptBallotLive (top : TopologyValue) (w : Run) (node : ℕ) (r : KeptBallot) : Type 0 where
   pub away : Away top w node r.txn
   pub here : dc_of top node < top.dcs
-  pub asked : (k : WriterValue) → Among k r.dependencies → Sent w.sent node (near top node k.shard) (OfDepCheck k.txn r.txn)
+  pub asked : (k : WriterValue) → Contains r.dependencies k → Sent w.sent node (near top node k.shard) (OfDepCheck k.txn r.txn)
 
 pub record DecisionLive (top : TopologyValue) (w : Run) (node : ℕ) (d : Decision) : Type 0 where
   pub submission : Submission
   pub batch : List Change
   pub written : IsWritten w d.txn submission batch
-  pub cohorts : (c : ℕ) → Among c (cohorts_of top.shards batch) → Sent w.sent node (near top node c) (OfCommit d.txn)
+  pub cohorts : (c : ℕ) → Contains (cohorts_of top.shards batch) c → Sent w.sent node (near top node c) (OfCommit d.txn)
   pub done : dc_of top node ≡ submission.home → Sent w.sent node d.txn.session (OfDone d.txn)
-  pub copies : dc_of top node ≡ submission.home → (dc : ℕ) → Among dc (other_dcs top node) → Sent w.sent node (shard_node top dc (shard_of top node)) (OfReplBegin d.txn)
+  pub copies : dc_of top node ≡ submission.home → (dc : ℕ) → Contains (other_dcs top node) dc → Sent w.sent node (shard_node top dc (shard_of top node)) (OfReplBegin d.txn)
 
 -- a cohort's part was replicated from where it was submitted
 abbrev pub AppliedLive : TopologyValue → Run → ℕ → Applied → Type 0
 AppliedLive top w node v =
     (v.part.writer.shard ≡ shard_of top node) ⊎ Away top w node v.part.writer.txn
-    ⊎ ((dc : ℕ) → Among dc (other_dcs top node) → Sent w.sent node (shard_node top dc (shard_of top node)) (OfReplPart v.part.writer.txn))
+    ⊎ ((dc : ℕ) → Contains (other_dcs top node) dc → Sent w.sent node (shard_node top dc (shard_of top node)) (OfReplPart v.part.writer.txn))
 
 pub record AskerLive (top : TopologyValue) (w : Run) (node : ℕ) (k : Asker) : Type 0 where
   pub leads : Leads top w node k.dependency
@@ -241,35 +240,35 @@ NoticeLive top w node v = HasKeptPart (w.shards v.node) v.txn × Leads top w nod
 
 -- what each entry of the shard b has, in the run
 pub record Entries (top : TopologyValue) (w : Run) (node : ℕ) (b : ShardState) : Type 0 where
-  pub prepared : (p : PreparedPart) → Among p b.prepared → PreparedLive top w node p
-  pub ballots : (u : BegunBallot) → Among u b.ballots → BallotLive top w node u
-  pub kept_parts : (k : KeptPart) → Among k b.kept_parts → KeptPartLive top w node k
-  pub kept_ballots : (r : KeptBallot) → Among r b.kept_ballots → KeptBallotLive top w node r
+  pub prepared : (p : PreparedPart) → Contains b.prepared p → PreparedLive top w node p
+  pub ballots : (u : BegunBallot) → Contains b.ballots u → BallotLive top w node u
+  pub kept_parts : (k : KeptPart) → Contains b.kept_parts k → KeptPartLive top w node k
+  pub kept_ballots : (r : KeptBallot) → Contains b.kept_ballots r → KeptBallotLive top w node r
   -- nobody votes before the coordinator of another data centre asks
-  pub early : (v : Vote) → Among v b.early → EarlyLive top w node v
+  pub early : (v : Vote) → Contains b.early v → EarlyLive top w node v
   -- votes are counted for a ballot
-  pub votes : (v : Vote) → Among v b.votes → HasBallot (w.shards node) v.txn
-  pub notices : (v : Vote) → Among v b.notices → NoticeLive top w node v
-  pub decided : (d : Decision) → Among d b.decided → DecisionLive top w node d
-  pub applied : (v : Applied) → Among v b.applied → AppliedLive top w node v
-  pub askers : (k : Asker) → Among k b.askers → AskerLive top w node k
-  pub told : (k : Asker) (d : Decision) → Among k b.askers → Among d b.decided → d.txn ≡ k.dependency → Sent w.sent node k.from (OfDepOk k.dependency k.waiter)
+  pub votes : (v : Vote) → Contains b.votes v → HasBallot (w.shards node) v.txn
+  pub notices : (v : Vote) → Contains b.notices v → NoticeLive top w node v
+  pub decided : (d : Decision) → Contains b.decided d → DecisionLive top w node d
+  pub applied : (v : Applied) → Contains b.applied v → AppliedLive top w node v
+  pub askers : (k : Asker) → Contains b.askers k → AskerLive top w node k
+  pub told : (k : Asker) (d : Decision) → Contains b.askers k → Contains b.decided d → d.txn ≡ k.dependency → Sent w.sent node k.from (OfDepOk k.dependency k.waiter)
 
 -- early votes are counted once their ballot has begun where it was submitted
 abbrev pub EarlyCounted : ShardState → Type 0
-EarlyCounted b = (u : BegunBallot) (v : Vote) → Among u b.ballots → u.stamp ≡ None → Among v b.early → v.txn ≡ u.txn → Among v b.votes
+EarlyCounted b = (u : BegunBallot) (v : Vote) → Contains b.ballots u → u.stamp ≡ None → Contains b.early v → v.txn ≡ u.txn → Contains b.votes v
 
 -- a ballot with all votes is decided
 abbrev pub Voted : TopologyValue → ℕ → ShardState → Type 0
 Voted top node b =
-    (u : BegunBallot) → Among u b.ballots → ((c : ℕ) → Among c u.cohorts → Among (vote_of u.txn (near top node c)) b.votes) → HasDecision b u.txn
+    (u : BegunBallot) → Contains b.ballots u → ((c : ℕ) → Contains u.cohorts c → Contains b.votes (vote_of u.txn (near top node c))) → HasDecision b u.txn
 
 -- a kept ballot with nothing missing is known
 abbrev pub Ready : TopologyValue → ℕ → ShardState → Type 0
 Ready top node b =
-    (r : KeptBallot) → Among r b.kept_ballots
-    → ((c : ℕ) → Among c r.cohorts → Among (vote_of r.txn (near top node c)) b.notices)
-    → ((k : WriterValue) → Among k r.dependencies → Among (met_of r.txn k.txn) b.met) → Knows b r.txn
+    (r : KeptBallot) → Contains b.kept_ballots r
+    → ((c : ℕ) → Contains r.cohorts c → Contains b.notices (vote_of r.txn (near top node c)))
+    → ((k : WriterValue) → Contains r.dependencies k → Contains b.met (met_of r.txn k.txn)) → Knows b r.txn
 
 pub record ShardLive (top : TopologyValue) (w : Run) (node : ℕ) (b : ShardState) : Type 0 where
   pub entries : Entries top w node b
@@ -298,28 +297,28 @@ SaysLive top w from to (OfPartAt number time) = Round (w.sessions to) number tim
 SaysLive top w from to other = Unit {0}
 
 abbrev pub HasEnded : Run → TxnValue → Type 0
-HasEnded w t = (c : Completed) × Among c w.transcript × (txn_ended c ≡ t)
+HasEnded w t = (c : Completed) × Contains w.transcript c × (txn_ended c ≡ t)
 
 -- an answer about a dependency was counted: by the ballot that waited for it, or by the move that did
 pub data WasCounted (w : Run) (to : ℕ) (waiter dependency : TxnValue) : Type 0 where
-  by_ballot : HasKeptBallot (w.shards to) waiter → Among (met_of waiter dependency) (w.shards to).met → WasCounted w to waiter dependency
-  by_move : (b : Submission) → Among b w.submitted → txn_of b ≡ waiter → (dc : ℕ) → MovesTo dc b.op → NotLeft (w.sessions to) waiter.number dependency
+  by_ballot : HasKeptBallot (w.shards to) waiter → Contains (w.shards to).met (met_of waiter dependency) → WasCounted w to waiter dependency
+  by_move : (b : Submission) → Contains w.submitted b → txn_of b ≡ waiter → (dc : ℕ) → MovesTo dc b.op → NotLeft (w.sessions to) waiter.number dependency
       → WasCounted w to waiter dependency
 
 -- what a handled message left
 abbrev pub Acted : TopologyValue → Run → ℕ → ℕ → Kind → Type 0
 Acted top w from to (OfBegin t) = Knows (w.shards to) t
 Acted top w from to (OfPrepare t) = Knows (w.shards to) t
-Acted top w from to (OfYes t) = Among (vote_of t from) (w.shards to).votes ⊎ Among (vote_of t from) (w.shards to).early ⊎ HasDecision (w.shards to) t
+Acted top w from to (OfYes t) = Contains (w.shards to).votes (vote_of t from) ⊎ Contains (w.shards to).early (vote_of t from) ⊎ HasDecision (w.shards to) t
 Acted top w from to (OfCommit t) = Sees (w.shards to).applied t
 Acted top w from to (OfDone t) = HasEnded w t
 Acted top w from to (OfReplBegin t) = HasKeptBallot (w.shards to) t ⊎ Knows (w.shards to) t
 Acted top w from to (OfReplPart t) = HasKeptPart (w.shards to) t ⊎ HasKeptBallot (w.shards to) t ⊎ Knows (w.shards to) t
-Acted top w from to (OfNotify t) = Among (vote_of t from) (w.shards to).notices ⊎ Knows (w.shards to) t
+Acted top w from to (OfNotify t) = Contains (w.shards to).notices (vote_of t from) ⊎ Knows (w.shards to) t
 Acted top w from to (OfPrepareRemote t) = Knows (w.shards to) t
 Acted top w from to (OfDepCheck dependency waiter) =
     Sent w.sent to from (OfDepOk dependency waiter)
-    ⊎ ((k : Asker) × Among k (w.shards to).askers × (k.dependency ≡ dependency) × (k.waiter ≡ waiter) × (k.from ≡ from))
+    ⊎ ((k : Asker) × Contains (w.shards to).askers k × (k.dependency ≡ dependency) × (k.waiter ≡ waiter) × (k.from ≡ from))
 Acted top w from to (OfDepOk dependency waiter) = WasCounted w to waiter dependency
 Acted top w from to (OfRead number) = Sent w.sent to from (OfPartNow number)
 Acted top w from to (OfPartNow number) = NotMissing top (w.sessions to) number from
@@ -336,13 +335,13 @@ Acted top w from to other = Unit {0}
 pub record SubmissionLive (top : TopologyValue) (w : Run) (b : Submission) (batch : List Change) : Type 0 where
   pub home : b.home < top.dcs
   pub begun : Sent w.sent b.session (lead top b.home batch) (OfBegin (txn_of b))
-  pub prepared : (c : ℕ) → Among c (cohorts_of top.shards batch) → Sent w.sent b.session (shard_node top b.home c) (OfPrepare (txn_of b))
-  pub dependencies : (k : WriterValue) → Among k b.dependencies → Placed top w k
+  pub prepared : (c : ℕ) → Contains (cohorts_of top.shards batch) c → Sent w.sent b.session (shard_node top b.home c) (OfPrepare (txn_of b))
+  pub dependencies : (k : WriterValue) → Contains b.dependencies k → Placed top w k
 
 -- what an operation depends on was submitted before it; in the order of submission
 abbrev pub Earlier : List Submission → List Submission → Type 0
 Earlier before [] = Unit {0}
-Earlier before (b ∷ bs) = ((k : WriterValue) → Among k b.dependencies → (c : Submission) × Among c before × (txn_of c ≡ k.txn)) × Earlier (before ++ b ∷ []) bs
+Earlier before (b ∷ bs) = ((k : WriterValue) → Contains b.dependencies k → (c : Submission) × Contains before c × (txn_of c ≡ k.txn)) × Earlier (before ++ b ∷ []) bs
 
 -- the open read misses some answer, and has asked for each that it misses
 pub record FirstLive (top : TopologyValue) (w : Run) (node : ℕ) (missing : ℕ → Type 0) (k : Kind) : Type 0 where
@@ -352,8 +351,8 @@ pub record FirstLive (top : TopologyValue) (w : Run) (node : ℕ) (missing : ℕ
 -- the open move misses some answer, and has asked for each that it misses, in a data centre that there is
 pub record MovingLive (top : TopologyValue) (w : Run) (node : ℕ) (a : SessionState) (dc : ℕ) (left : List WriterValue) : Type 0 where
   pub there : dc < top.dcs
-  pub some : (k : WriterValue) × Among k left
-  pub asked : (k : WriterValue) → Among k left
+  pub some : (k : WriterValue) × Contains left k
+  pub asked : (k : WriterValue) → Contains left k
       → Sent w.sent node (shard_node top dc k.shard) (OfDepCheck k.txn (record { session = node; number = a.count }))
 
 abbrev pub OpenLive : TopologyValue → Run → ℕ → SessionState → Open → Type 0
@@ -372,14 +371,14 @@ pub record StillOpen (w : Run) (b : Submission) : Type 0 where
 
 pub record Live (top : TopologyValue) (w : Run) : Type 0 where
   pub shards : (node : ℕ) → ShardLive top w node (w.shards node)
-  pub sent : (e : Envelope) → Among e w.sent → SaysLive top w e.from e.to (kind_of e.body)
-  pub acted : (k : ℕ) (e : Envelope) → Among k (handled w) → slice_get w.sent k ≡ Some e → Acted top w e.from e.to (kind_of e.body)
-  pub submitted : (b : Submission) (batch : List Change) → Among b w.submitted → b.op ≡ op.Batch batch → SubmissionLive top w b batch
+  pub sent : (e : Envelope) → Contains w.sent e → SaysLive top w e.from e.to (kind_of e.body)
+  pub acted : (k : ℕ) (e : Envelope) → Contains (handled w) k → slice_get w.sent k ≡ Some e → Acted top w e.from e.to (kind_of e.body)
+  pub submitted : (b : Submission) (batch : List Change) → Contains w.submitted b → b.op ≡ op.Batch batch → SubmissionLive top w b batch
   pub earlier : Earlier [] w.submitted
-  pub dependencies : (node : ℕ) (k : WriterValue) → Among k (w.sessions node).dependencies → Placed top w k
+  pub dependencies : (node : ℕ) (k : WriterValue) → Contains (w.sessions node).dependencies k → Placed top w k
   pub homes : (node : ℕ) → (w.sessions node).home < top.dcs
   pub current : (node : ℕ) → OpenLive top w node (w.sessions node) (w.sessions node).current
   pub waiting : (node : ℕ) → Waiting (w.shards node)
-  pub rounds : (node : ℕ) (y : WaitingRead) → Among y (w.shards node).waiting → Round (w.sessions y.session) y.number y.time
+  pub rounds : (node : ℕ) (y : WaitingRead) → Contains (w.shards node).waiting y → Round (w.sessions y.session) y.number y.time
   -- a submitted operation is open or has ended
-  pub ends : (b : Submission) → Among b w.submitted → StillOpen w b ⊎ HasEnded w (txn_of b)
+  pub ends : (b : Submission) → Contains w.submitted b → StillOpen w b ⊎ HasEnded w (txn_of b)
