@@ -1,8 +1,10 @@
 //! A connection, as it stands between two turns.
 ghost use Rattle.std.specs.Prelude.{◌≡◌, true, false};
-ghost use Rattle.readiness.specs.Kept.{IsNew};
+ghost use Rattle.readiness.specs.Kept.{IsNew, view};
+ghost use Rattle.readiness.specs.Turns.{IsOver};
 
 use crate::last::Last;
+use crate::line::ReadyLine;
 use bytes::BytesMut;
 use logical_time::Fault;
 use std::alloc::Global;
@@ -29,6 +31,8 @@ pub struct Connection<L> {
     pub(crate) reader: Reader,
     pub(crate) waiting: BytesMut,
     pub(crate) stage: Stage,
+    // Why the stream was refused, if it was.
+    pub(crate) refused: Option<Fault>,
 }
 
 impl<L> Connection<L> {
@@ -41,6 +45,7 @@ impl<L> Connection<L> {
             reader: Reader::new(alloc),
             waiting: BytesMut::new(alloc),
             stage: Stage::Open(None),
+            refused: None,
         }
     }
 
@@ -57,5 +62,25 @@ impl<L> Connection<L> {
         ensures { result.now ≡ self.now.line }
     {
         &self.line
+    }
+
+    /// Why its stream was refused, by the last reply; none where it wasn't.
+    pub fn refused(&self) -> Option<Fault>
+        ensures { result ≡ self.now.refused }
+    {
+        self.refused
+    }
+}
+
+impl<L: ReadyLine> Connection<L> {
+    /// Whether nothing more is read or written.
+    pub(crate) fn is_over(&self) -> bool
+        ensures { result ≡ true → IsOver (view L.seen self.now) }
+    {
+        match &self.stage {
+            Stage::Open(_) => false,
+            Stage::Ending(last) => self.waiting.is_empty() && last.is_empty(),
+            Stage::Failed => true,
+        }
     }
 }

@@ -1,5 +1,5 @@
 //! Places for connections.
-ghost use Rattle.std.specs.Prelude.{◌≡◌, ◌≢◌, ◌<◌, ◌⊎◌, ℕ, List, length, IfOk, OnOk, IfSome, Contains, All, IfNone, Some, None, slice_get, slice_set};
+ghost use Rattle.std.specs.Prelude.{◌≡◌, ◌≢◌, ◌<◌, ◌⊎◌, ℕ, List, length, IfOk, OnOk, IfSome, Contains, All, Any, true, false, IfNone, Some, None, slice_get, slice_set};
 ghost use Rattle.readiness.specs.declared.connection.Connection.{Connection};
 ghost use Rattle.readiness.specs.Exchanges.{Entry};
 ghost use Rattle.readiness.specs.Kept.{IsNew, view};
@@ -31,6 +31,14 @@ impl<L: Drop> Places<L> {
             free.places.push(None)?;
         }
         Ok(free)
+    }
+
+    /// Whether all places are free.
+    pub fn are_free(&self) -> bool
+        ensures free { result ≡ true → All (λ c. c ≡ None) self.now.places.items }
+        ensures taken { result ≡ false → Any (λ c. c ≢ None) self.now.places.items }
+    {
+        self.places.iter().all(|place| place.is_none())
     }
 
     /// The first free place, if there is one.
@@ -65,6 +73,20 @@ impl<L: Drop> Places<L> {
         ensures { result ≡ length self.now.places.items }
     {
         self.places.len()
+    }
+}
+
+impl<L: ReadyLine + Drop> Places<L> {
+    /// Frees a place whose connection is over, and gives that back; none where no such connection stands there.
+    pub fn release_over(&mut self, place: usize) -> Option<Connection<L>>
+        ensures some { IfSome result (λ c. (slice_get self.old.places.items place ≡ Some (Some c)) × IsOver (view L.seen c)) }
+        ensures free { IfSome result (λ c. self.new.places.items ≡ slice_set self.old.places.items place None) }
+        ensures none { IfNone result (self.new ≡ self.old) }
+    {
+        match self.places.get(place) {
+            Some(Some(connection)) if connection.is_over() => self.places[place].take(),
+            _ => None,
+        }
     }
 }
 

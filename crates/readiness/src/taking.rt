@@ -84,6 +84,7 @@ fn refuse<L: ReadyLine>(connection: &mut Connection<L>, fault: Fault)
     ensures { IsRefused fault (view L.seen connection.old) (view L.seen connection.new) }
 {
     connection.stage = Stage::Ending(Last::refusal(fault));
+    connection.refused = Some(fault);
 }
 
 // Takes a piece that came. Gives why no more is taken in, if memory for it is refused.
