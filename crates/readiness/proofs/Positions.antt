@@ -1,5 +1,5 @@
 -- Turns at places.
-use Rattle.std.proofs.Common.{◌≡◌, ℕ, ◌<◌, ◌==◌, List, [], ◌∷◌, ◌++◌, map, length, Option, Some, None, refl, sym, ap, subst, ◌∙◌, inl, inr, arith}
+use Rattle.std.proofs.Common.{◌≡◌, ℕ, ◌<◌, ◌==◌, List, [], ◌∷◌, ◌++◌, map, length, Option, Some, None, IfSome, refl, sym, ap, subst, ◌∙◌, inl, inr, arith}
 use Rattle.std.specs.Prelude.{slice_get, slice_set, slice_index_or}
 use Rattle.std.specs.List.{filter}
 use Rattle.std.proofs.lemmas.Bool.{cases_eq, eq-eqb, ne_eqb}
@@ -12,7 +12,7 @@ use Rattle.readiness.specs.declared.connection.Connection.{Connection}
 use Rattle.readiness.specs.Lines.{ReadyValue}
 use Rattle.readiness.specs.Exchanges.{Exchange, Entry, LogChain, only, requests, answers}
 use Rattle.readiness.specs.Kept.{view}
-use Rattle.readiness.specs.Turns.{Turned, IsBounded}
+use Rattle.readiness.specs.Turns.{Turned, IsBounded, IsOver}
 use Rattle.readiness.specs.Places.{TurnedAt, PlaceTurned, Turns, AreBounded}
 use Rattle.readiness.proofs.Lists.{get_set_same, get_set_other, set_set, set_same, got_within, place_is}
 use Rattle.readiness.proofs.Turned.{extends-none, extends-then}
@@ -147,6 +147,14 @@ pub bounded_turned : {L : Type 0} (limit : ℕ) (seen : L → ReadyValue) (old :
 bounded_turned {L = L} limit seen old at n x left c d len lt is some turned h =
     subst (λ (u : List (Option (Connection L))). AreBounded limit seen u) (sym (set_set old at left (Some d)))
     (bounded_at limit seen old at d (omega arith) (turned (h at c (place_is old n at x (Some c) len lt is some))) h)
+
+-- a connection is taken off a place, where this one was found to be over
+pub over_at : {L : Type 0} (seen : L → ReadyValue) (items : List (Option (Connection L))) (place : ℕ) (taken x : Option (Connection L)) (c : Connection L)
+    → slice_get items place ≡ Some (Some c) → IsOver (view seen c) → taken ≡ x → x ≡ slice_index_or items place x → IfSome taken (λ d. (slice_get items place ≡ Some (Some d)) × IsOver (view seen d))
+over_at seen items place None x c was over e is = tt
+over_at {L = L} seen items place (Some d) x c was over e is =
+    let there : slice_get items place ≡ Some (Some d) = place_is items (length items) place x (Some d) refl (got_within items place (Some c) was) is (sym e) in
+    (there, subst (λ (u : Connection L). IsOver (view seen u)) (some_one c d (sym was ∙ there)) over)
 
 -- what waits is bounded as before, where the places are the same
 pub bounded_same : {L : Type 0} (limit : ℕ) (seen : L → ReadyValue) (old new : List (Option (Connection L))) → new ≡ old → AreBounded limit seen old → AreBounded limit seen new
