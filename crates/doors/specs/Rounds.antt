@@ -1,0 +1,34 @@
+-- What a round makes of the places of connections.
+use Rattle.std.specs.Prelude.{◌≡◌, ℕ, ◌⊎◌, List, Option, Some, None, slice_get}
+use Rattle.messages.specs.declared.op.Op.{Op}
+use Rattle.wire.specs.Replies.{Reply}
+use Rattle.readiness.specs.declared.connection.Connection.{Connection}
+use Rattle.readiness.specs.Lines.{ReadyValue}
+use Rattle.readiness.specs.Exchanges.{Entry}
+use Rattle.readiness.specs.Kept.{view, IsNew}
+use Rattle.readiness.specs.Turns.{IsOver}
+use Rattle.readiness.specs.Places.{Turns, Rests}
+
+-- a place, as `slice_get` finds it: none past the last one, and no connection at a free one
+abbrev pub Place : Type 0 → Type 0
+Place L = Option (Option (Connection L))
+
+-- the connection at a place stays; or it is over, and leaves
+abbrev pub Closed : {L : Type 0} → (L → ReadyValue) → Place L → Place L → Type 0
+Closed {L = L} seen before after = (after ≡ before) ⊎ ((c : Connection L) × (before ≡ Some (Some c)) × IsOver (view seen c) × (after ≡ Some None))
+
+-- a place stays as it is; or it is free, and given to the connection of a line, before any call
+abbrev pub Given : {L : Type 0} → Place L → Place L → Type 0
+Given {L = L} before after = (after ≡ before) ⊎ ((line : L) × (c : Connection L) × IsNew line c × (before ≡ Some None) × (after ≡ Some (Some c)))
+
+-- Each connection that is ready has a turn, and none of these stops before its line would block, unless it is among those that
+-- could go on at once, `again`. Then those that are over leave their places, and no others do; and then free places are given to
+-- lines that came, and no others are.
+pub record Round {L : Type 0} {P : Type 0} (limit : ℕ) (seen : L → ReadyValue) (steps : ℕ → P → Op → Reply → P → Type 0) (log : List Entry) (ready again : List ℕ) (old : List (Option (Connection L))) (p : P) (new : List (Option (Connection L))) (q : P) : Type 0 where
+  pub turned : List (Option (Connection L))
+  pub closed : List (Option (Connection L))
+  pub over : List ℕ
+  pub turns : Turns seen steps log old p turned q
+  pub rests : Rests limit seen ready again over old turned
+  pub leaves : (k : ℕ) → Closed seen (slice_get turned k) (slice_get closed k)
+  pub comes : (k : ℕ) → Given (slice_get closed k) (slice_get new k)
