@@ -4,6 +4,11 @@
     python3 examples/client.py PORT
 
 inserts a column, reads it back, deletes it, and reads again, over one connection.
+
+    python3 examples/client.py PORT COUNT
+
+has so many connections at once, which `eiger serve --concurrent` gives a session each: every one inserts a column of its own,
+and then reads those of all.
 """
 import socket
 import struct
@@ -88,12 +93,30 @@ def receive(stream, n):
     return got
 
 
-def main():
-    with socket.create_connection(("127.0.0.1", int(sys.argv[1]))) as connection:
+def alone(address):
+    with socket.create_connection(address) as connection:
         print(ask(connection, batch(insert(b"f", b"b", b"x", b"1"))).show())
         print(ask(connection, read(b"f", [b"b"], names(b"x"))).show())
         print(ask(connection, batch(delete(b"f", b"b", b"x"))).show())
         print(ask(connection, read(b"f", [b"b"], span())).show())
+
+
+def together(address, count):
+    connections = [socket.create_connection(address) for _ in range(count)]
+    for i, connection in enumerate(connections):
+        print("client", i, ask(connection, batch(insert(b"f", b"b", b"x%d" % i, b"1"))).show())
+    for i, connection in enumerate(connections):
+        print("client", i, ask(connection, read(b"f", [b"b"], span())).show())
+    for connection in connections:
+        connection.close()
+
+
+def main():
+    address = ("127.0.0.1", int(sys.argv[1]))
+    if len(sys.argv) > 2:
+        together(address, int(sys.argv[2]))
+    else:
+        alone(address)
 
 
 if __name__ == "__main__":

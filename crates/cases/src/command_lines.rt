@@ -40,6 +40,9 @@ fn add_server(serving: &Serving, seen: &mut String) -> Result<(), Fault> {
     for home in topology.homes() {
         write!(seen, " {home}")?;
     }
+    if serving.concurrent {
+        write!(seen, ", at once")?;
+    }
     Ok(())
 }
 

@@ -10,8 +10,11 @@ use std::alloc::{AllocError, Global};
 pub struct Serving {
     /// The port that it listens on.
     pub port: u16,
-    /// Its data centres, shards, column families and sessions: each connection is the next session.
+    /// Its data centres, shards, column families and sessions.
     pub topology: Topology,
+    /// Whether all sessions serve at once, each one connection after the other, until it is stopped. Else each connection is
+    /// the next session, one after the other.
+    pub concurrent: bool,
 }
 
 // An option with a value.
@@ -32,7 +35,7 @@ pub(crate) fn serve_command<'a>(alloc: Global) -> Result<Command<'a>, AllocError
         alloc,
         "sessions",
         "N",
-        "Serves so many connections, one after the other",
+        "Serves so many connections, one after the other; with --concurrent, so many at once",
     )
     .required(true)
     .value_parser(value_parser!(u16).range(1..17));
@@ -49,16 +52,23 @@ pub(crate) fn serve_command<'a>(alloc: Global) -> Result<Command<'a>, AllocError
         "The names of the column families, with commas",
     )
     .default_value("f");
+    let concurrent = Arg::new(alloc, "concurrent")
+        .long("concurrent")
+        .action(ArgAction::SetTrue)
+        .help(
+            "Serves all sessions at once, until it is stopped; a connection is given a free session",
+        );
     Command::new(alloc, "serve")
         .about(
-            "Serves connections with frames of requests, as docs/formats.md says; connection i, from 0, is a session with home i mod D",
+            "Serves connections with frames of requests, as docs/formats.md says; session i, from 0, has home i mod D",
         )
         .after_help("Example: eiger serve --port 7000 --sessions 2")
         .arg(port)?
         .arg(sessions)?
         .arg(dcs)?
         .arg(shards)?
-        .arg(families)
+        .arg(families)?
+        .arg(concurrent)
 }
 
 // The families with these names, which have commas between them, if there may be such.
@@ -98,7 +108,11 @@ pub(crate) fn serving_of(
 ) -> Result<Result<Serving, Told>, AllocError> {
     let port = found.get_one::<u16>("port").unwrap_or(0);
     if let Some(topology) = topology_of(alloc, found)? {
-        return Ok(Ok(Serving { port, topology }));
+        return Ok(Ok(Serving {
+            port,
+            topology,
+            concurrent: found.get_flag("concurrent"),
+        }));
     }
     let names = found.get_str("families").unwrap_or("");
     let text = format!(in alloc;

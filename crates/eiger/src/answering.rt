@@ -166,7 +166,7 @@ pub(crate) fn answer<T: Threads + Wait + Sync, W: Buffered, E: Buffered>(
             let mut input = opened(rt, name);
             explore(rt, threads, bounds, &mut input, output, errors)
         }
-        Ok(Asked::Serve(serving)) => serve(rt, &serving, output, errors),
+        Ok(Asked::Serve(serving)) => serve(rt, threads, &serving, output, errors),
         Ok(Asked::Told(told)) => told.answer(output, errors),
         Err(fault) => tell(errors, fault, None),
     }

@@ -1,7 +1,8 @@
 //! The server.
 ghost use Rattle.std.specs.Prelude.{◌⊎◌, ◌≡◌};
-ghost use Rattle.eiger.specs.Answering.{IsDone, HasFailed};
+ghost use Rattle.eiger.specs.Answering.{IsDone, HasFailed, IsServed};
 
+use crate::together::serve_together;
 use command_line::Serving;
 use logical_time::Fault;
 use messages::Topology;
@@ -9,10 +10,15 @@ use program::{Buffered, Output, tell};
 use service::serve_connections;
 use std::alloc::Global;
 use std::net::TcpListener;
+use std::sync::Wait;
 use world::World;
 
-// Says that it listens.
-fn tell_port<W: Buffered>(alloc: Global, port: u16, output: &mut Output<W>) -> Result<(), Fault> {
+/// Says that it listens.
+pub(crate) fn tell_port<W: Buffered>(
+    alloc: Global,
+    port: u16,
+    output: &mut Output<W>,
+) -> Result<(), Fault> {
     let line = format!(in alloc; "listening {port}\n")?;
     output.write_all(line.as_bytes())
 }
@@ -39,10 +45,8 @@ fn listen<W: Buffered>(
     serve_all(rt.alloc(), &listener, &serving.topology)
 }
 
-/// Listens on the port, says so, and serves a connection for each session, one after the other. Gives the exit status: 0; 1
-/// after a fault was told: `ReadFailed` where it can't listen or accept, `WriteFailed` where it can't say that it listens,
-/// `Memory`.
-pub(crate) fn serve<W: Buffered, E: Buffered>(
+// Listens on the port, says so, and serves a connection for each session, one after the other.
+fn serve_in_turn<W: Buffered, E: Buffered>(
     rt: &HostRuntime,
     serving: &Serving,
     output: &mut Output<W>,
@@ -54,4 +58,22 @@ pub(crate) fn serve<W: Buffered, E: Buffered>(
         Ok(()) => 0,
         Err(fault) => tell(errors, fault, None),
     }
+}
+
+/// Listens on the port, says so, and serves: a connection for each session, one after the other; or, where that is asked for,
+/// all sessions at once, until it is stopped. Gives the exit status: 0, but not of the second; 1 after a fault was told:
+/// `ReadFailed` where it can't listen or accept, `WriteFailed` where it can't say that it listens, `Memory`.
+pub(crate) fn serve<T: Wait, W: Buffered, E: Buffered>(
+    rt: &HostRuntime,
+    threads: &T,
+    serving: &Serving,
+    output: &mut Output<W>,
+    errors: &mut Output<E>,
+) -> u8
+    ensures { IsServed E.contents serving.now.concurrent result errors.old errors.new }
+{
+    if serving.concurrent {
+        return serve_together(rt, threads, serving, output, errors);
+    }
+    serve_in_turn(rt, serving, output, errors)
 }
