@@ -1,9 +1,14 @@
 //! Exchanges: worked frames, lines in memory and connections, with what is read of them, answered and left. An empty file leaves
 //! its part out.
 mod connections;
+mod crowds;
 mod frames;
+mod judged;
 mod lines;
 mod showing;
+mod strained;
+mod waiting;
+mod workers;
 mod worlds;
 
 use logical_time::Fault;
@@ -26,8 +31,10 @@ fn tell_clients<R: Threads>(rt: &HostRuntime, threads: &R) -> Result<(), Fault> 
 }
 
 /// Tells of frames, lines and connections.
-pub(crate) fn tell<R: Threads>(rt: &HostRuntime, threads: &R) -> Result<(), Fault> {
+pub(crate) fn tell<R: Threads + Sync>(rt: &HostRuntime, threads: &R) -> Result<(), Fault> {
     frames::tell(rt)?;
     lines::tell(rt)?;
-    tell_clients(rt, threads)
+    tell_clients(rt, threads)?;
+    crowds::tell(rt, threads)?;
+    waiting::tell(rt, threads)
 }

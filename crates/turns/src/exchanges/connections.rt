@@ -47,7 +47,8 @@ pub(crate) fn serve(
     serve_connections(alloc, listener, world, sessions)
 }
 
-fn send(rt: &HostRuntime, port: u16, sent: &[u8]) -> Result<TcpStream, Fault> {
+/// Comes, and sends this.
+pub(crate) fn send(rt: &HostRuntime, port: u16, sent: &[u8]) -> Result<TcpStream, Fault> {
     let Ok(mut stream) = TcpStream::connect(rt, ("127.0.0.1", port)) else {
         return Err(Fault::ReadFailed);
     };
