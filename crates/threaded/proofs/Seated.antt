@@ -13,7 +13,7 @@ use Rattle.threaded.specs.Machines.{CameFrom, untaken_of, is_free}
 use Rattle.threaded.specs.OneRun.{seat_of, journal_at, journal_of, AreSeatsOf}
 use Rattle.threaded.specs.Matching.{AreKept, AreAllTimed, sent_at, sent_to, DoReceive}
 use Rattle.threaded.specs.Shown.{DidCome, DoShownMatch, HaveSenders}
-use Rattle.world.proofs.lists.Members.{contains_at}
+use Rattle.world.proofs.lists.Members.{contains_at, found}
 
 -- ## The seat of a node
 

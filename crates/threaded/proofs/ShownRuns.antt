@@ -18,7 +18,7 @@ use Rattle.actors.specs.Journals.{receipts_from, sends_to}
 use Rattle.world.specs.declared.run_event.RunEvent.{RunEvent}
 use Rattle.world.specs.Run.{Run, run}
 use Rattle.world.specs.Journals.{actor_in, journal_in, held_in, sent_from, DoFit}
-use Rattle.world.proofs.lists.Members.{contains_first, contains_rest, Contains-append_left, Contains-append_right, Contains-append_cases, contains_filter, filter_contains, contains_get, contains_at}
+use Rattle.world.proofs.lists.Members.{none_in_empty, contains_first, contains_rest, Contains-append_left, Contains-append_right, Contains-append_cases, contains_filter, filter_contains, contains_get, contains_at}
 use Rattle.world.proofs.steps.Ticks.{step_ticks}
 use Rattle.world.proofs.replays.Replays.{replay_push, NextAbove, rest_above}
 use Rattle.world.proofs.replays.OwnJournals.{run_journals, runs_fit}
@@ -274,7 +274,7 @@ module _ (top : TopologyValue) (shown : ℕ → Shown) (some : 0 < top.shards) (
     sends_so_far events clock m e d sent le = by (replay_of top m (shown m).journal) refl sent
       where
         by : (o : Option Replayed) → replay_of top m (shown m).journal ≡ o → Contains (sent_in o) e → Contains (run top events).sent e
-        by None q sent = absurd sent
+        by None q sent = absurd (none_in_empty e sent)
         by (Some r) q sent =
             let w = run top events in
             let law = (run_journals top events some).each m in
