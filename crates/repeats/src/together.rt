@@ -49,30 +49,78 @@ struct Failing {
     call: usize,
 }
 
+impl Failing {
+    /// Whether a call of this line fails.
+    fn fails(self, line: usize) -> bool {
+        self.line == line && self.call < CALLS
+    }
+}
+
 /// No call fails.
 const NEVER: Failing = Failing {
     line: 0,
     call: CALLS,
 };
 
-/// What a run of the three lines came to.
+/// What was written to a line.
 #[derive(Clone, Copy, PartialEq, Eq)]
-enum Came {
-    /// All is answered.
-    Whole,
-    /// One line was told a beginning of its reply, and all others are answered.
-    Cut(usize),
-    /// One request was answered with 23, and all others are answered.
+enum Told {
+    /// The reply to its request.
+    Reply,
+    /// A row without a column.
+    Empty,
+    /// 23, alone or behind the reply.
     Refused,
+    /// A beginning of one of these.
+    Cut,
     /// Anything else.
     Other,
+}
+
+/// What was written to each line.
+#[derive(Clone, Copy)]
+struct Came {
+    batch: Told,
+    read: Told,
+    next: Told,
+}
+
+/// Whether 23 stands behind this reply, and nothing else.
+fn is_refused_behind(said: &[u8], reply: &[u8]) -> bool {
+    if said.len() < reply.len() {
+        return false;
+    }
+    let (before, after) = said.split_at(reply.len());
+    before == reply && after == MEMORY
 }
 
 fn is_beginning(said: &[u8], reply: &[u8]) -> bool {
     said.len() < reply.len() && reply.starts_with(said)
 }
 
-/// What was written to the line that left as this one, from 0; nothing where the wrong place was left.
+fn told_of(said: &[u8], reply: &[u8]) -> Told {
+    if said == reply {
+        return Told::Reply;
+    }
+    if said == EMPTY {
+        return Told::Empty;
+    }
+    if [b"", reply, EMPTY]
+        .iter()
+        .any(|before| is_refused_behind(said, before))
+    {
+        return Told::Refused;
+    }
+    if [reply, EMPTY, MEMORY]
+        .iter()
+        .any(|whole| is_beginning(said, whole))
+    {
+        return Told::Cut;
+    }
+    Told::Other
+}
+
+/// What was written to the line that left as this one, from 0; something else where it left another place.
 fn said(run: &Run<MemoryLine>, number: usize, place: usize) -> &[u8] {
     match run.gone().get(number) {
         Some(gone) if gone.place() == place => gone.connection().line().said(),
@@ -80,40 +128,56 @@ fn said(run: &Run<MemoryLine>, number: usize, place: usize) -> &[u8] {
     }
 }
 
-/// What it came to, by what was written to each. Where the batch wasn't taken, both reads show a row without a column.
-fn judge(wrote: &[u8], read: &[u8], next: &[u8]) -> Came {
-    if wrote == WROTE {
-        return judge_reads(read, next);
+impl Came {
+    fn of(run: &Run<MemoryLine>) -> Came {
+        Came {
+            batch: told_of(said(run, 0, 0), WROTE),
+            read: told_of(said(run, 1, 1), READ),
+            next: told_of(said(run, 2, 0), READ),
+        }
     }
-    let shown = read == READ && next == READ;
-    let empty = read == EMPTY && next == EMPTY;
-    if wrote == MEMORY && (shown || empty) {
-        Came::Refused
-    } else if is_beginning(wrote, WROTE) && (shown || empty) {
-        Came::Cut(0)
-    } else {
-        Came::Other
-    }
-}
 
-/// What it came to where the batch is answered.
-fn judge_reads(read: &[u8], next: &[u8]) -> Came {
-    match (read == READ, next == READ) {
-        (true, true) => Came::Whole,
-        (false, true) => judge_read(read, 1),
-        (true, false) => judge_read(next, 2),
-        (false, false) => Came::Other,
+    fn line(&self, line: usize) -> Told {
+        match line {
+            0 => self.batch,
+            1 => self.read,
+            _ => self.next,
+        }
     }
-}
 
-/// What it came to where all but one read are answered.
-fn judge_read(said: &[u8], line: usize) -> Came {
-    if said == MEMORY {
-        Came::Refused
-    } else if is_beginning(said, READ) {
-        Came::Cut(line)
-    } else {
-        Came::Other
+    /// Whether this line was told what it asked: a read shows no column only where the batch wasn't answered.
+    fn is_answered(&self, line: usize) -> bool {
+        match self.line(line) {
+            Told::Reply => true,
+            Told::Empty => line > 0 && self.batch != Told::Reply,
+            Told::Refused | Told::Cut | Told::Other => false,
+        }
+    }
+
+    /// Whether all lines were answered but the one that fails, which was cut.
+    fn is_whole(&self, failing: Failing) -> bool {
+        (0..3).all(|line| {
+            if failing.fails(line) {
+                self.line(line) == Told::Cut
+            } else {
+                self.is_answered(line)
+            }
+        })
+    }
+
+    /// Whether beside the line that fails at most one was answered with 23, or was cut as it had no room.
+    fn is_refused_once(&self, failing: Failing) -> bool {
+        let mut others = 0u64;
+        for line in 0..3 {
+            if failing.fails(line) || self.is_answered(line) {
+                continue;
+            }
+            others += 1;
+        }
+        others <= 1
+            && [self.batch, self.read, self.next]
+                .iter()
+                .all(|told| *told != Told::Other)
     }
 }
 
@@ -158,7 +222,7 @@ fn run_in(alloc: Global, world: &mut World, failing: Failing) -> Result<Came, Fa
     let acts = acts(alloc, failing)?;
     let mut buffer = [0u8; 4096];
     let run = run_sessions(alloc, world, acts, &mut buffer)?;
-    Ok(judge(said(&run, 0, 0), said(&run, 1, 1), said(&run, 2, 0)))
+    Ok(Came::of(&run))
 }
 
 /// Serves the lines by the two sessions of a new world of one shard.
@@ -170,25 +234,25 @@ fn run(alloc: Global, failing: Failing) -> Result<Came, Fault> {
     came
 }
 
-/// What the run comes to where no memory is refused; where it was, it is made again after that.
-fn run_whole(rt: &HostRuntime, failing: Failing, wanted: Came) -> Result<bool, Fault> {
+/// Whether all is answered, beside the line that fails. Where memory was refused, it is asked of another run after that.
+fn run_whole(rt: &HostRuntime, failing: Failing) -> Result<bool, Fault> {
     let mut came = again!(rt; run(rt.alloc(), failing))?;
-    if came != wanted {
-        match came {
-            Came::Refused => note(rt, "answered 23"),
-            Came::Cut(_) => note(rt, "the line had no room"),
-            Came::Whole | Came::Other => print(rt, "another answer")?,
+    if !came.is_whole(failing) {
+        if came.is_refused_once(failing) {
+            note(rt, "a line was answered 23, or had no room");
+        } else {
+            print(rt, "another answer")?;
         }
         came = run(rt.alloc(), failing)?;
     }
-    Ok(came == wanted)
+    Ok(came.is_whole(failing))
 }
 
 /// Tells of a line which of its calls may fail, one in each run, so that it alone is cut.
 fn tell_failing(rt: &HostRuntime, line: usize, calls: usize) -> Result<(), Fault> {
     let mut cut = 0u64;
     for call in 0..calls {
-        if run_whole(rt, Failing { line, call }, Came::Cut(line))? {
+        if run_whole(rt, Failing { line, call })? {
             cut += 1;
         }
     }
@@ -198,7 +262,7 @@ fn tell_failing(rt: &HostRuntime, line: usize, calls: usize) -> Result<(), Fault
 }
 
 pub(crate) fn tell(rt: &HostRuntime) -> Result<(), Fault> {
-    let word = if run_whole(rt, NEVER, Came::Whole)? {
+    let word = if run_whole(rt, NEVER)? {
         "whole"
     } else {
         "not whole"
