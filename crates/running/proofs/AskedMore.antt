@@ -14,8 +14,6 @@ use Rattle.actors.specs.Journals.{op_in, submissions, IsOwn}
 use Rattle.actors.specs.Seats.{SeatValue}
 use Rattle.workload.specs.declared.script.ScriptEvent.{ScriptEvent}
 use Rattle.workload.specs.declared.script.ScriptEvent.TheVariants as script
-use Rattle.workload.specs.declared.script.Event.{Event as ScriptEvent}
-use Rattle.workload.specs.declared.script.Event.TheVariants as script
 use Rattle.world.proofs.lists.Members.{none_in_empty, contains_one, Contains-append_cases, contains_get}
 use Rattle.world.proofs.lists.Replacing.{item_at}
 use Rattle.threaded.proofs.Lists.{take_one_more}
