@@ -20,7 +20,7 @@ fn put_kind<W: Write>(output: &mut Output<W>, kind: &[u8], txn: TxnId) -> Result
 {
     output.put(b",\"kind\":\"")?;
     output.put(kind)?;
-    put_transaction(output, b"\",\"transaction\":", txn)
+    put_transaction(output, b"\",\"transaction\":{\"session\":", txn)
 }
 
 // A decision: the transaction, its commit time and its stamp.
@@ -150,8 +150,8 @@ fn put_check<W: Write>(
 {
     output.put(b",\"kind\":\"")?;
     output.put(kind)?;
-    put_transaction(output, b"\",\"dependency\":", dependency)?;
-    put_transaction(output, b",\"waiter\":", waiter)
+    put_transaction(output, b"\",\"dependency\":{\"session\":", dependency)?;
+    put_transaction(output, b",\"waiter\":{\"session\":", waiter)
 }
 
 // What a message of a write says.
@@ -201,7 +201,7 @@ fn put_body<W: Write>(output: &mut Output<W>, body: &Body) -> Result<(), Fault>
     }
 }
 
-/// Words, and then the message of this number.
+/// Words that end with `{"number":`, and then the message of this number.
 pub(crate) fn put_message<W: Write>(
     output: &mut Output<W>,
     words: &[u8],
@@ -210,8 +210,7 @@ pub(crate) fn put_message<W: Write>(
 ) -> Result<(), Fault>
     ensures { IfErr result (HasCut output.new) }
 {
-    output.put(words)?;
-    put_number(output, b"{\"number\":", number as u64)?;
+    put_number(output, words, number as u64)?;
     put_number(output, b",\"from\":", u64::from(message.from.get()))?;
     put_number(output, b",\"to\":", u64::from(message.to.get()))?;
     put_number(output, b",\"time\":", message.time.get())?;
@@ -227,11 +226,11 @@ pub(crate) fn put_sent<W: Write>(
 ) -> Result<(), Fault>
     ensures { IfErr result (HasCut output.new) }
 {
-    let mut words: &[u8] = b",\"sent\":[";
+    let mut words: &[u8] = b",\"sent\":[{\"number\":";
     let mut number = first;
     for message in messages {
         put_message(output, words, number, message)?;
-        words = b",";
+        words = b",{\"number\":";
         number = number.wrapping_add(1);
     }
     output.put(if messages.is_empty() {

@@ -12,11 +12,32 @@ use std::str;
 /// How many bytes are few: their digits are put together on the stack before they are written.
 const FEW: usize = 64;
 
+/// How long words before a number are mostly at most: they are put together with it before they are written.
+const WORDS: usize = 64;
+
+/// How many digits a number has at most.
+const MOST_DIGITS: usize = 20;
+
 /// How many bytes are short: their digits and their text are put together before they are written.
 const SHORT: usize = 32;
 
 /// The digits of a control byte.
 const DIGITS: &[u8; 16] = b"0123456789abcdef";
+
+// Words, and then digits.
+fn put_pair<W: Write>(output: &mut Output<W>, words: &[u8], digits: &[u8]) -> Result<(), Fault>
+    ensures { IfErr result (HasCut output.new) }
+{
+    if WORDS < words.len() || MOST_DIGITS < digits.len() {
+        output.put(words)?;
+        return output.put(digits);
+    }
+    let mut text = [0; WORDS + MOST_DIGITS];
+    let end = words.len() + digits.len();
+    text[..words.len()].copy_from_slice(words);
+    text[words.len()..end].copy_from_slice(digits);
+    output.put(&text[..end])
+}
 
 /// Words, and then a number.
 #[inline]
@@ -28,8 +49,7 @@ pub(crate) fn put_number<W: Write>(
     ensures { IfErr result (HasCut output.new) }
 {
     let mut buffer = Buffer::new();
-    output.put(words)?;
-    output.put(buffer.format(number).as_bytes())
+    put_pair(output, words, buffer.format(number).as_bytes())
 }
 
 // Few bytes in hexadecimal.

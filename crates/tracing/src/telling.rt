@@ -63,7 +63,7 @@ fn put_delivery<W: Write>(
     actor.handle(number, usize::from(shard.get()), message);
     let clock = actor.clock.now();
     put_head(output, topology, step.place, b"deliver", message.to, clock)?;
-    put_message(output, b",\"message\":", number, message)
+    put_message(output, b",\"message\":{\"number\":", number, message)
 }
 
 // A collection.

@@ -11,7 +11,7 @@ use program::Output;
 use slice::{Column, Predicate, Read};
 use std::io::Write;
 
-/// Words, and then a transaction.
+/// Words that end with `{"session":`, and then a transaction.
 pub(crate) fn put_transaction<W: Write>(
     output: &mut Output<W>,
     words: &[u8],
@@ -19,8 +19,7 @@ pub(crate) fn put_transaction<W: Write>(
 ) -> Result<(), Fault>
     ensures { IfErr result (HasCut output.new) }
 {
-    output.put(words)?;
-    put_number(output, b"{\"session\":", u64::from(txn.session.get()))?;
+    put_number(output, words, u64::from(txn.session.get()))?;
     put_number(output, b",\"operation\":", txn.number)?;
     output.put(b"}")
 }
@@ -36,7 +35,7 @@ pub(crate) fn put_stamp<W: Write>(output: &mut Output<W>, stamp: Stamp) -> Resul
 
 impl Listed for Writer {
     fn put<W: Write>(&self, output: &mut Output<W>) -> Result<(), Fault> {
-        put_transaction(output, b"{\"transaction\":", self.txn())?;
+        put_transaction(output, b"{\"transaction\":{\"session\":", self.txn())?;
         put_number(output, b",\"shard\":", u64::from(self.shard().get()))?;
         output.put(b"}")
     }
