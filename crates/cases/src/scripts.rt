@@ -9,7 +9,7 @@ use std::{fs, io};
 use workload::perform;
 
 /// The names of the scripts with a transcript.
-const SCRIPTS: [&str; 39] = [
+const SCRIPTS: [&str; 40] = [
     "collected_while_waiting",
     "concurrent_inserts_meet",
     "count_after_deletion",
@@ -34,6 +34,7 @@ const SCRIPTS: [&str; 39] = [
     "range_deletion_walks",
     "range_deletions_collected",
     "range_deletions_in_evt",
+    "read_asked_again",
     "read_asks_coordinator",
     "read_before_dependency",
     "read_before_vote",
