@@ -26,6 +26,16 @@ fn option<'a>(alloc: Global, name: &'a str, shown: &'a str, help: &'a str) -> Ar
         .help(help)
 }
 
+// The option that asks for all sessions at once.
+fn concurrent<'a>(alloc: Global) -> Arg<'a> {
+    Arg::new(alloc, "concurrent")
+        .long("concurrent")
+        .action(ArgAction::SetTrue)
+        .help(
+            "Serves all sessions at once, until it is stopped; a connection is given a free session",
+        )
+}
+
 /// The subcommand that asks for a server.
 pub(crate) fn serve_command<'a>(alloc: Global) -> Result<Command<'a>, AllocError> {
     let port = option(alloc, "port", "P", "Listens on this port of 127.0.0.1")
@@ -52,12 +62,6 @@ pub(crate) fn serve_command<'a>(alloc: Global) -> Result<Command<'a>, AllocError
         "The names of the column families, with commas",
     )
     .default_value("f");
-    let concurrent = Arg::new(alloc, "concurrent")
-        .long("concurrent")
-        .action(ArgAction::SetTrue)
-        .help(
-            "Serves all sessions at once, until it is stopped; a connection is given a free session",
-        );
     Command::new(alloc, "serve")
         .about(
             "Serves connections with frames of requests, as docs/formats.md says; session i, from 0, has home i mod D",
@@ -68,7 +72,7 @@ pub(crate) fn serve_command<'a>(alloc: Global) -> Result<Command<'a>, AllocError
         .arg(dcs)?
         .arg(shards)?
         .arg(families)?
-        .arg(concurrent)
+        .arg(concurrent(alloc))
 }
 
 // The families with these names, which have commas between them, if there may be such.
