@@ -1,4 +1,4 @@
-use Rattle.std.proofs.Common.{subst}
+use Rattle.std.proofs.Common.{◌<◌, subst, sym}
 use Rattle.world.proofs.envelopes.Addresses.{stands}
 use Rattle.world.specs.World.{WorldValue}
 use Rattle.service.specs.Sessions.{AreAnswered}
