@@ -253,7 +253,7 @@ fn tell_failing(rt: &HostRuntime, line: usize, calls: usize) -> Result<(), Fault
     let mut cut = 0u64;
     for call in 0..calls {
         if run_whole(rt, Failing { line, call })? {
-            cut += 1;
+            cut = cut.wrapping_add(1);
         }
     }
     println!(rt; "line {line} fails at each of {calls} calls: alone cut at {cut}").map_err(
