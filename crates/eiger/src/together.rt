@@ -1,7 +1,6 @@
 //! The server of all sessions at once.
-ghost use Rattle.std.specs.Prelude.{◌≡◌, List};
-ghost use Rattle.readiness.specs.Exchanges.{Entry, LogChain};
-ghost use Rattle.service.specs.Sessions.{IsSessionStep, AreAnswered};
+ghost use Rattle.std.specs.Prelude.{◌≡◌, ◌<◌};
+ghost use Rattle.service.specs.Sessions.{AreAnswered};
 ghost use Rattle.eiger.specs.Answering.{HasStopped};
 
 use crate::serving::tell_port;
@@ -44,8 +43,9 @@ fn serve_all<R: Wait, E: Buffered>(
     port: &mut WorldSessions<'_>,
     errors: &mut Output<E>,
 ) -> Fault
+    requires { 0 < port.old.world.now.top.shards }
     ensures same_world { port.new.world.ghost_name ≡ port.old.world.ghost_name }
-    ensures chain { (log : List Entry) × LogChain IsSessionStep port.old log port.new }
+    ensures answered { AreAnswered port.old.world.now port.new.world.now }
 {
     for _ in rt.forever() {
         let went = doors.round(port);
