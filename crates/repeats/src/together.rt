@@ -172,7 +172,7 @@ impl Came {
             if failing.fails(line) || self.is_answered(line) {
                 continue;
             }
-            others += 1;
+            others = others.wrapping_add(1);
         }
         others <= 1
             && [self.batch, self.read, self.next]
