@@ -18,8 +18,8 @@ pub(crate) enum Stands {
     Silent,
 }
 
-/// How many bytes of requests a client sends at once that reads no reply, and how often, at most.
-const PIECE: usize = 65_536;
+/// How many requests a client sends at once that reads no reply, and how often, at most.
+const REQUESTS: usize = 2_048;
 
 const PIECES: usize = 256;
 
@@ -50,7 +50,7 @@ fn send_all(alloc: Global, stream: &mut TcpStream) -> Result<(), Fault> {
         return Err(Fault::WriteFailed);
     }
     let mut piece = Vec::new(alloc);
-    while piece.len() < PIECE {
+    for _ in 0..REQUESTS {
         piece.extend_from_slice(&read_of_all())?;
     }
     for _ in 0..PIECES {
