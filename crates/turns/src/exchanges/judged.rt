@@ -18,16 +18,41 @@ fn replies_of(alloc: Global, world: &World, session: Node) -> Result<Vec<u8>, Fa
     Ok(replies)
 }
 
-/// How many of those that heard something heard exactly what some session was answered, each another session.
+// What stands behind what one of these heard, if these replies begin with that.
+fn behind_one<'a>(replies: &'a [u8], heard: &[Vec<u8>]) -> Option<&'a [u8]> {
+    for one in heard {
+        if !one.is_empty() && replies.starts_with(one.as_slice()) {
+            return replies.get(one.len()..);
+        }
+    }
+    None
+}
+
+// How many of these heard a part of the replies, one behind the other from the first reply on.
+fn heard_in(replies: &[u8], heard: &[Vec<u8>]) -> usize {
+    let mut count: usize = 0;
+    let mut rest = replies;
+    for _ in heard {
+        match behind_one(rest, heard) {
+            Some(behind) => {
+                rest = behind;
+                count = count.wrapping_add(1);
+            }
+            None => return count,
+        }
+    }
+    count
+}
+
+/// How many of those that heard something heard exactly what some session was answered while they had it: one client after
+/// the other may have had it.
 pub(crate) fn right(alloc: Global, world: &World, heard: &[Vec<u8>]) -> Result<usize, Fault> {
     let mut right: usize = 0;
     let sessions = world.topology().homes().len() as u16;
     for index in 0..sessions {
         let session = world.topology().session_node(index);
         let replies = replies_of(alloc, world, session)?;
-        if heard.iter().any(|one| one.as_slice() == replies.as_slice()) {
-            right = right.wrapping_add(1);
-        }
+        right = right.wrapping_add(heard_in(replies.as_slice(), heard));
     }
     Ok(right)
 }
