@@ -1,15 +1,15 @@
 -- Which rows a collection has to look at.
-use Rattle.std.specs.Prelude.{◌≡◌, ◌≤◌, length, nat_lt, Bool, true, false, not, ◌&&◌, ◌||◌, List, [], map}
+use Rattle.std.specs.Prelude.{◌≡◌, ℕ, ◌≤◌, length, nat_lt, Bool, false, not, ◌&&◌, ◌||◌, List, [], map}
 use Rattle.std.specs.List.{list_any}
 use Rattle.column_family.specs.declared.batch.Row.{Row}
 use Rattle.column_family.specs.Places.{is_listed, row_cmp}
 use Rattle.versions.specs.Chain.{Held}
 use Rattle.store.specs.Stored.{Place, Chains, chain_at, ranges_in, held_by, no_row}
 
--- the rows that are listed, and whether all are that have to be
+-- the rows that are listed, each once or more, and how many more fit without memory
 pub record Listed : Type 0 where
   pub rows : List Row
-  pub whole : Bool
+  pub room : ℕ
 
 -- whether a chain holds more than one version
 abbrev pub holds_more : Held → Bool
@@ -28,15 +28,14 @@ is_crowded row = list_any holds_more (map (λ e. e.1) row.columns) || (holds_mor
 abbrev pub is_crowded_in : List (Row × Chains) → Row → Bool
 is_crowded_in rows r = is_crowded (held_by row_cmp no_row rows r)
 
--- if the list is whole, each chain of a row that isn't listed holds one version at most
-abbrev pub AreShort : Listed → List (Row × Chains) → Type 0
-AreShort l rows =
-    l.whole ≡ true → (r : Row) (p : Place) → is_listed l.rows r ≡ false → length (chain_at rows r p).versions ≤ 1
+-- each chain of a row that isn't listed holds one version at most
+abbrev pub AreShort : List Row → List (Row × Chains) → Type 0
+AreShort listed rows = (r : Row) (p : Place) → is_listed listed r ≡ false → length (chain_at rows r p).versions ≤ 1
 
--- if the list is whole, a row that isn't listed holds no deletion of a range
-abbrev pub HaveNoRanges : Listed → List (Row × Chains) → Type 0
-HaveNoRanges l rows = l.whole ≡ true → (r : Row) → is_listed l.rows r ≡ false → (ranges_in rows r).ranges ≡ []
+-- a row that isn't listed holds no deletion of a range
+abbrev pub HaveNoRanges : List Row → List (Row × Chains) → Type 0
+HaveNoRanges listed rows = (r : Row) → is_listed listed r ≡ false → (ranges_in rows r).ranges ≡ []
 
--- the list has each row that has to be listed
-abbrev pub AreListed : Listed → List (Row × Chains) → Type 0
-AreListed l rows = AreShort l rows × HaveNoRanges l rows
+-- each row that has to be listed is
+abbrev pub AreListed : List Row → List (Row × Chains) → Type 0
+AreListed listed rows = AreShort listed rows × HaveNoRanges listed rows

@@ -1,5 +1,5 @@
 -- What a store keeps: rows of chains, and the time below which it answers no more.
-use Rattle.std.specs.Prelude.{◌≤◌, ◌≡◌, ℕ, ◌+◌, ◌-◌, ◌<◌, length, Bool, true, false, ◌&&◌, ◌⊎◌, ◌↔◌, Contains, List, [], ◌∷◌, map, filter, Option, Some, None, unwrap_or}
+use Rattle.std.specs.Prelude.{◌≤◌, ◌≡◌, ℕ, ◌+◌, ◌-◌, ◌<◌, length, Bool, true, false, ◌&&◌, List, [], ◌∷◌, map, filter, filter_map, Option, Some, None, unwrap_or}
 use Rattle.std.specs.List.{list_any}
 use Rattle.std.specs.Ordering.{nat_cmp, is_eq}
 use Rattle.std.specs.declared.cmp.Ordering.{Ordering}
@@ -16,7 +16,7 @@ use Rattle.column_family.specs.Places.{row_cmp}
 use Rattle.versions.specs.declared.version.Version.{Version}
 use Rattle.versions.specs.declared.range.RangeDeletion.{RangeDeletion}
 use Rattle.versions.specs.Chain.{Held, put_of, kept_from}
-use Rattle.versions.specs.Ranges.{HeldRanges, kept_ranges}
+use Rattle.versions.specs.Ranges.{HeldRanges, put_range, kept_ranges}
 use Rattle.store.specs.declared.origin.Origin.{Origin}
 
 -- a place in a row: the column of a name, or none for the row's deletions
@@ -29,10 +29,12 @@ pub record Chains : Type 0 where
   pub deletions : Held
   pub ranges : HeldRanges
 
--- what a store keeps: its rows, and its horizon, the time below which it answers no more
+-- what a store keeps: its rows, its horizon, the time below which it answers no more, and how many more rows fit without
+-- memory into the list of those that a collection looks at
 pub record StoreValue : Type 0 where
   pub rows : List (Row × Chains)
   pub low : ℕ
+  pub listing : ℕ
 
 -- names are ordered as bytes
 abbrev pub name_cmp : List ℕ → List ℕ → Ordering
@@ -104,9 +106,13 @@ HasRoomAtPlaces rows changes = (r : Row) (p : Place) → list_any (is_at r p) ch
 abbrev pub HasRoomForRanges : List (Row × Chains) → List Change → Type 0
 HasRoomForRanges rows changes = (r : Row) → length (ranges_of r changes) ≤ (ranges_in rows r).room
 
--- there is room for all that these changes leave
-abbrev pub HasRoom : List (Row × Chains) → List Change → Type 0
-HasRoom rows changes = HasRoomAtPlaces rows changes × HasRoomForRanges rows changes
+-- there is room in the rows for all that these changes leave
+abbrev pub HasRoomInRows : List (Row × Chains) → List Change → Type 0
+HasRoomInRows rows changes = HasRoomAtPlaces rows changes × HasRoomForRanges rows changes
+
+-- there is room for all that these changes leave, and for their rows in the list
+abbrev pub HasRoom : StoreValue → List Change → Type 0
+HasRoom s changes = HasRoomInRows s.rows changes × (length changes ≤ s.listing)
 
 -- both rows of chains have the same versions at each place
 abbrev pub HaveSameVersions : List (Row × Chains) → List (Row × Chains) → Type 0
@@ -129,20 +135,27 @@ abbrev pub HavePut : Origin → List Change → List (Row × Chains) → List (R
 HavePut o changes olds news =
     (r : Row) (p : Place) → (chain_at news r p).versions ≡ put_all (chain_at olds r p).versions (written o r p changes)
 
--- the deletion of a range is what a mutation leaves
-abbrev pub IsRangeLeft : Origin → Mutation → RangeDeletion → Type 0
-IsRangeLeft o m x = (m ≡ DeleteRange x.start x.finish) × (x.stamp ≡ o.stamp) × (x.evt ≡ o.evt) × (x.writer ≡ o.writer)
+-- the deletion of a range that a mutation leaves, if it deletes one
+abbrev pub range_left : Origin → Mutation → Option RangeDeletion
+range_left o (Insert n v) = None
+range_left o (DeleteColumn n) = None
+range_left o DeleteRow = None
+range_left o (DeleteRange start finish) =
+    Some (record { stamp = o.stamp; evt = o.evt; start = start; finish = finish; writer = o.writer })
 
--- the deletion of a range of the row is one that these changes leave
-abbrev pub IsRangeWritten : Origin → Row → List Change → RangeDeletion → Type 0
-IsRangeWritten o r changes x =
-    Contains changes (record { row = r; mutation = DeleteRange x.start x.finish }) × (x.stamp ≡ o.stamp) × (x.evt ≡ o.evt) × (x.writer ≡ o.writer)
+-- the deletions of ranges that these changes leave in a row, in order
+abbrev pub ranges_written : Origin → Row → List Change → List RangeDeletion
+ranges_written o r changes = filter_map (λ c. range_left o c.mutation) (filter (λ c. is_same_row r c.row) changes)
 
--- in each row the deletions of ranges that these changes leave are held beside those that were
+-- deletions of ranges put to those of a row, one after the other
+abbrev pub put_all_ranges : List RangeDeletion → List RangeDeletion → List RangeDeletion
+put_all_ranges xs [] = xs
+put_all_ranges xs (v ∷ vs) = put_all_ranges (put_range xs v) vs
+
+-- in each row the deletions of ranges that these changes leave are put to those that were held, each once
 abbrev pub HavePutRanges : Origin → List Change → List (Row × Chains) → List (Row × Chains) → Type 0
 HavePutRanges o changes olds news =
-    (r : Row) (x : RangeDeletion) → Contains (ranges_in news r).ranges x
-    ↔ (Contains (ranges_in olds r).ranges x ⊎ IsRangeWritten o r changes x)
+    (r : Row) → (ranges_in news r).ranges ≡ put_all_ranges (ranges_in olds r).ranges (ranges_written o r changes)
 
 -- a chain after a collection, with the room that it leaves
 abbrev pub collected_held : ℕ → Held → Held

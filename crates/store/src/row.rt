@@ -1,5 +1,5 @@
 //! The chains of a row.
-ghost use Rattle.std.specs.Prelude.{◌≡◌, ◌+◌, ◌≤◌, ◌<◌, ◌⊎◌, ◌↔◌, Contains, nat_lt, [], ℕ, List, Some, None, length, true, false, if◌then◌else◌, OnOk, IfOk, IfErr, IfSome, IsOk, IsSomeAnd, map, slice_get, unwrap_or};
+ghost use Rattle.std.specs.Prelude.{◌≡◌, ◌+◌, ◌≤◌, ◌<◌, ◌⊎◌, nat_lt, [], ℕ, List, Some, None, length, true, false, if◌then◌else◌, OnOk, IfOk, IfErr, IfSome, IsOk, IsSomeAnd, map, slice_get, unwrap_or, option_to_list};
 ghost use Rattle.std.specs.List.{list_any};
 ghost use Rattle.std.specs.Option.{option_copied};
 ghost use Rattle.std.specs.Map.{lookup};
@@ -14,8 +14,7 @@ ghost use Rattle.store.specs.Crowded.{comes_to_more, holds_more};
 ghost use Rattle.store.specs.Latest.{IsLatest, IsLatestAfter};
 ghost use Rattle.store.specs.Sight.{evt_or_0};
 ghost use Rattle.store.specs.Stored as kept;
-ghost use Rattle.store.specs.Stored.{Place, chain_of, collected_held, collected_ranges, collected_row, column_held, is_of_place, name_cmp, no_ranges, nothing_held, put_all, written, IsRangeLeft, IsRangeWritten};
-ghost use Rattle.versions.specs.declared.range.RangeDeletion.{RangeDeletion};
+ghost use Rattle.store.specs.Stored.{Place, chain_of, collected_held, collected_ranges, collected_row, column_held, is_of_place, name_cmp, no_ranges, nothing_held, put_all, put_all_ranges, range_left, ranges_written, written};
 
 use crate::boxed_chain::BoxedChain;
 use crate::boxed_ranges::BoxedRanges;
@@ -431,7 +430,7 @@ fn put_whole(
     origin: &Origin,
 ) -> Result<(), Fault>
     ensures versions { OnOk result ((p : Place) → (chain_of held.new p).versions ≡ (if is_of_place p mutation.now then put_of (chain_of held.old p).versions (kept.version_of origin.now mutation.now) else (chain_of held.old p).versions)) }
-    ensures ranges { OnOk result ((x : RangeDeletion) → Contains held.new.ranges.ranges x ↔ (Contains held.old.ranges.ranges x ⊎ IsRangeLeft origin.now mutation.now x)) }
+    ensures ranges { OnOk result (held.new.ranges.ranges ≡ put_all_ranges held.old.ranges.ranges (option_to_list (range_left origin.now mutation.now))) }
     ensures memory { IfErr result (λ e. e ≡ fault.Memory) }
 {
     if let Mutation::DeleteRange { start, finish } = mutation {
@@ -453,7 +452,7 @@ pub(crate) fn row_written(
     origin: &Origin,
 ) -> Result<RowChains, Fault>
     ensures ok { IfOk result (λ held. (p : Place) → (chain_of held p).versions ≡ put_all [] (written origin.now row.now p changes.now)) }
-    ensures ranges { IfOk result (λ held. (x : RangeDeletion) → Contains held.ranges.ranges x ↔ IsRangeWritten origin.now row.now changes.now x) }
+    ensures ranges { IfOk result (λ held. held.ranges.ranges ≡ put_all_ranges [] (ranges_written origin.now row.now changes.now)) }
     ensures memory { IfErr result (λ e. e ≡ fault.Memory) }
 {
     let mut held = RowChains::new(alloc);

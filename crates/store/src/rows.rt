@@ -1,5 +1,5 @@
 //! Rows of chains, by key.
-ghost use Rattle.std.specs.Prelude.{◌≡◌, ◌+◌, ◌≤◌, ◌<◌, ◌⊎◌, ◌↔◌, ◌∷◌, [], Contains, ℕ, List, Some, None, length, true, false, ◌&&◌, if◌then◌else◌, OnOk, IfErr, IsOk};
+ghost use Rattle.std.specs.Prelude.{◌≡◌, ◌+◌, ◌≤◌, ◌<◌, ◌⊎◌, ◌∷◌, [], Some, None, length, true, false, ◌&&◌, if◌then◌else◌, OnOk, IfErr, IsOk};
 ghost use Rattle.std.specs.Map.{lookup};
 ghost use Rattle.std.specs.Ordering.{is_eq};
 ghost use Rattle.logical_time.specs.declared.fault.Fault.TheVariants as fault;
@@ -11,10 +11,9 @@ ghost use Rattle.versions.specs.Newest.{has_stamp};
 ghost use Rattle.store.specs.Crowded.{AreListed, is_crowded_in};
 ghost use Rattle.store.specs.Stored as kept;
 ghost use Rattle.column_family.specs.Normal.{ranges_of};
-ghost use Rattle.versions.specs.declared.range.RangeDeletion.{RangeDeletion};
 ghost use Rattle.versions.specs.Ranges as in_ranges;
 ghost use Rattle.versions.specs.Ranges.{kept_ranges};
-ghost use Rattle.store.specs.Stored.{Place, chain_at, ranges_in, is_at, is_of_place, HasRoom, HasRoomAtPlaces, HaveKept, HaveKeptRanges, HaveKeptRoom, HaveKeptRangeRoom, HaveSameVersions, HaveSameRanges, HavePut, HavePutRanges, IsRangeWritten};
+ghost use Rattle.store.specs.Stored.{Place, chain_at, ranges_in, is_at, is_of_place, HasRoomInRows, HasRoomAtPlaces, HaveKeptRoom, HaveKeptRangeRoom, HaveSameVersions, HaveSameRanges, HavePut, HavePutRanges, ranges_written, put_all_ranges};
 
 use crate::crowded::Crowded;
 use crate::origin::Origin;
@@ -46,7 +45,7 @@ fn put_mutation(
 }
 
 // Puts what a change leaves into the chain of its place, and lists its row if that came to hold more than one version: a
-// row of which a chain held more before is listed.
+// row of which a chain held more before is listed. There is room in the list.
 fn put_at_place(
     rows: &mut BTreeMap<Row, RowChains>,
     crowded: &mut Crowded,
@@ -54,11 +53,13 @@ fn put_at_place(
     mutation: Mutation,
     origin: &Origin,
 )
-    requires { (r : Row) (p : Place) → (is_same_row r row && is_of_place p mutation) ≡ true → (0 < (chain_at rows.old.entries r p).room) ⊎ (has_stamp (chain_at rows.old.entries r p).versions origin.now.stamp ≡ true) }
+    requires places { (r : Row) (p : Place) → (is_same_row r row && is_of_place p mutation) ≡ true → (0 < (chain_at rows.old.entries r p).room) ⊎ (has_stamp (chain_at rows.old.entries r p).versions origin.now.stamp ≡ true) }
+    requires listing { 0 < crowded.old.room }
     ensures versions { (r : Row) (p : Place) → (chain_at rows.new.entries r p).versions ≡ (if is_same_row r row && is_of_place p mutation then put_of (chain_at rows.old.entries r p).versions (kept.version_of origin.now mutation) else (chain_at rows.old.entries r p).versions) }
     ensures room { (r : Row) (p : Place) → (chain_at rows.old.entries r p).room ≤ (chain_at rows.new.entries r p).room + (if is_same_row r row && is_of_place p mutation then 1 else 0) }
     ensures ranges { (r : Row) → ranges_in rows.new.entries r ≡ ranges_in rows.old.entries r }
-    ensures listed { AreListed crowded.old rows.old.entries → AreListed crowded.new rows.new.entries }
+    ensures listed { AreListed crowded.old.rows rows.old.entries → AreListed crowded.new.rows rows.new.entries }
+    ensures listing { crowded.old.room ≤ crowded.new.room + 1 }
 {
     if put_mutation(rows, &row, mutation, origin) {
         crowded.add(row);
@@ -91,11 +92,13 @@ fn put_and_list(
     ends: (Name, Name),
     origin: &Origin,
 )
-    requires { 0 < (ranges_in rows.old.entries row).room }
+    requires ranges { 0 < (ranges_in rows.old.entries row).room }
+    requires listing { 0 < crowded.old.room }
     ensures places { (r : Row) (p : Place) → chain_at rows.new.entries r p ≡ chain_at rows.old.entries r p }
     ensures put { (r : Row) → (ranges_in rows.new.entries r).ranges ≡ (if is_same_row r row then in_ranges.put_range (ranges_in rows.old.entries r).ranges (record { stamp = origin.now.stamp; evt = origin.now.evt; start = ends.0; finish = ends.1; writer = origin.now.writer }) else (ranges_in rows.old.entries r).ranges) }
     ensures room { (r : Row) → (ranges_in rows.old.entries r).room ≤ (ranges_in rows.new.entries r).room + (if is_same_row r row then 1 else 0) }
-    ensures listed { AreListed crowded.old rows.old.entries → AreListed crowded.new rows.new.entries }
+    ensures listed { AreListed crowded.old.rows rows.old.entries → AreListed crowded.new.rows rows.new.entries }
+    ensures listing { crowded.old.room ≤ crowded.new.room + 1 }
 {
     let (start, finish) = ends;
     put_range(rows, &row, start, finish, origin);
@@ -111,11 +114,13 @@ fn put_change(
 )
     requires places { (r : Row) (p : Place) → is_at r p change ≡ true → (0 < (chain_at rows.old.entries r p).room) ⊎ (has_stamp (chain_at rows.old.entries r p).versions origin.now.stamp ≡ true) }
     requires ranges { deletes_range change.mutation ≡ true → 0 < (ranges_in rows.old.entries change.row).room }
+    requires listing { 0 < crowded.old.room }
     ensures versions { (r : Row) (p : Place) → (chain_at rows.new.entries r p).versions ≡ (if is_at r p change then put_of (chain_at rows.old.entries r p).versions (kept.version_of origin.now change.mutation) else (chain_at rows.old.entries r p).versions) }
     ensures room { (r : Row) (p : Place) → (chain_at rows.old.entries r p).room ≤ (chain_at rows.new.entries r p).room + (if is_at r p change then 1 else 0) }
-    ensures held { (r : Row) (x : RangeDeletion) → Contains (ranges_in rows.new.entries r).ranges x ↔ (Contains (ranges_in rows.old.entries r).ranges x ⊎ IsRangeWritten origin.now r (change ∷ []) x) }
+    ensures held { (r : Row) → (ranges_in rows.new.entries r).ranges ≡ put_all_ranges (ranges_in rows.old.entries r).ranges (ranges_written origin.now r (change ∷ [])) }
     ensures range_room { (r : Row) → (ranges_in rows.old.entries r).room ≤ (ranges_in rows.new.entries r).room + length (ranges_of r (change ∷ [])) }
-    ensures listed { AreListed crowded.old rows.old.entries → AreListed crowded.new rows.new.entries }
+    ensures listed { AreListed crowded.old.rows rows.old.entries → AreListed crowded.new.rows rows.new.entries }
+    ensures listing { crowded.old.room ≤ crowded.new.room + 1 }
 {
     let Change { row, mutation } = change;
     match mutation {
@@ -202,8 +207,8 @@ pub(crate) fn reserve_changes(
     ensures ranges { HaveSameRanges rows.old.entries rows.new.entries }
     ensures room { HaveKeptRoom rows.old.entries rows.new.entries }
     ensures range_room { HaveKeptRangeRoom rows.old.entries rows.new.entries }
-    ensures ok { OnOk result (HasRoom rows.new.entries changes.now) }
-    ensures succeeds { HasRoom rows.old.entries changes.now → IsOk result }
+    ensures ok { OnOk result (HasRoomInRows rows.new.entries changes.now) }
+    ensures succeeds { HasRoomInRows rows.old.entries changes.now → IsOk result }
     ensures memory { IfErr result (λ e. e ≡ fault.Memory) }
 {
     reserve_places(alloc, rows, changes)?;
@@ -218,10 +223,11 @@ pub(crate) fn put_changes(
     changes: Vec<Change>,
     origin: &Origin,
 )
-    requires { HasRoom rows.old.entries changes.items }
+    requires room { HasRoomInRows rows.old.entries changes.items }
+    requires listing { length changes.items ≤ crowded.old.room }
     ensures put { HavePut origin.now changes.items rows.old.entries rows.new.entries }
     ensures ranges { HavePutRanges origin.now changes.items rows.old.entries rows.new.entries }
-    ensures listed { AreListed crowded.old rows.old.entries → AreListed crowded.new rows.new.entries }
+    ensures listed { AreListed crowded.old.rows rows.old.entries → AreListed crowded.new.rows rows.new.entries }
 {
     for change in changes {
         put_change(rows, crowded, change, origin);
@@ -247,16 +253,4 @@ pub(crate) fn collect_row(rows: &mut BTreeMap<Row, RowChains>, row: &Row, time: 
     if let Some(held) = rows.get_mut(row) {
         held.collect(time);
     }
-}
-
-/// Drops the versions that are the newest of their chain at no time from this one on, and the deletions of ranges that are
-/// in force at none. Linear in all of these.
-pub(crate) fn collect_rows(rows: &mut BTreeMap<Row, RowChains>, time: Time)
-    ensures ranges { HaveKeptRanges time rows.old.entries rows.new.entries }
-    ensures versions { HaveKept time rows.old.entries rows.new.entries }
-{
-    rows.retain(|_, row| {
-        row.collect(time);
-        true
-    });
 }

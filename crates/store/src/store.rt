@@ -1,11 +1,11 @@
 //! The store of a shard.
-ghost use Rattle.std.specs.Prelude.{◌≡◌, ◌++◌, [], ◌∷◌, ◌≤◌, ◌<◌, ◌⊎◌, ℕ, List, All, max, OnOk, OnErr, IfOk, IfErr, IsOk};
+ghost use Rattle.std.specs.Prelude.{◌≡◌, ◌++◌, [], ◌∷◌, ◌≤◌, ◌<◌, ◌⊎◌, ℕ, List, All, length, max, OnOk, OnErr, IfOk, IfErr, IsOk};
 ghost use Rattle.logical_time.specs.declared.fault.Fault.TheVariants as fault;
 ghost use Rattle.column_family.specs.Location.{Location};
 ghost use Rattle.column_family.specs.Normal.{IsNormal};
 ghost use Rattle.store.specs.declared.part.Applied.{Applied};
 ghost use Rattle.store.specs.Crowded.{AreListed};
-ghost use Rattle.store.specs.Stored.{HasRoom, HaveKept, HaveKeptRanges, HaveKeptRoom, HaveKeptRangeRoom, HaveSameVersions, HaveSameRanges, HavePut, HavePutRanges};
+ghost use Rattle.store.specs.Stored.{HasRoom, HasRoomInRows, HaveKept, HaveKeptRanges, HaveKeptRoom, HaveKeptRangeRoom, HaveSameVersions, HaveSameRanges, HavePut, HavePutRanges};
 ghost use Rattle.store.specs.Keeps.{Keeps, IsNewStamp, IsOvertaken};
 ghost use Rattle.column_family.specs.History.{newest_at};
 ghost use Rattle.store.specs.declared.sight.Moment.TheVariants.{At};
@@ -18,13 +18,34 @@ use crate::reading::{part_in, part_with};
 use crate::row::{RowChains, row_written};
 use crate::rows::{put_changes, reserve_changes};
 use crate::sight::Moment;
-use column_family::{Batch, Row};
+use column_family::{Batch, Change, Row};
 use logical_time::{Fault, Stamp, Time, Writer};
 use slice::Predicate;
 use std::alloc::Global;
 use std::collections::BTreeMap;
 use std::marker::Model;
 use txn_state::Prepared;
+
+// Makes room for what these changes leave, and for their rows in the list.
+fn reserve_all(
+    alloc: Global,
+    rows: &mut BTreeMap<Row, RowChains>,
+    crowded: &mut Crowded,
+    changes: &[Change],
+) -> Result<(), Fault>
+    ensures versions { HaveSameVersions rows.old.entries rows.new.entries }
+    ensures ranges { HaveSameRanges rows.old.entries rows.new.entries }
+    ensures room { HaveKeptRoom rows.old.entries rows.new.entries }
+    ensures range_room { HaveKeptRangeRoom rows.old.entries rows.new.entries }
+    ensures listed { crowded.new.rows ≡ crowded.old.rows }
+    ensures listing { crowded.old.room ≤ crowded.new.room }
+    ensures ok { OnOk result (HasRoomInRows rows.new.entries changes.now × (length changes.now ≤ crowded.new.room)) }
+    ensures succeeds { HasRoomInRows rows.old.entries changes.now → length changes.now ≤ crowded.old.room → IsOk result }
+    ensures memory { IfErr result (λ e. e ≡ fault.Memory) }
+{
+    crowded.reserve(changes.len())?;
+    reserve_changes(alloc, rows, changes)
+}
 
 // Puts what a part leaves, for which there is room, and lists the rows that are crowded then.
 fn put_part(
@@ -34,10 +55,11 @@ fn put_part(
     commit: Time,
     stamp: Stamp,
 )
-    requires { HasRoom rows.old.entries prepared.part.batch }
+    requires room { HasRoomInRows rows.old.entries prepared.part.batch }
+    requires listing { length prepared.part.batch ≤ crowded.old.room }
     ensures put { HavePut (record { writer = prepared.part.writer; stamp = stamp; evt = commit }) prepared.part.batch rows.old.entries rows.new.entries }
     ensures ranges { HavePutRanges (record { writer = prepared.part.writer; stamp = stamp; evt = commit }) prepared.part.batch rows.old.entries rows.new.entries }
-    ensures listed { AreListed crowded.old rows.old.entries → AreListed crowded.new rows.new.entries }
+    ensures listed { AreListed crowded.old.rows rows.old.entries → AreListed crowded.new.rows rows.new.entries }
 {
     let (part, _) = prepared.surrender();
     let origin = Origin::new(part.writer, stamp, commit);
@@ -51,7 +73,7 @@ pub struct Store {
     alloc: Global,
     // in order, since a hash of a fixed seed lets who chooses the keys pick such as collide
     rows: BTreeMap<Row, RowChains>,
-    // those of which a chain may hold more than one version
+    // those that a collection looks at
     crowded: Crowded,
     low: Time,
 }
@@ -62,9 +84,9 @@ impl Model for Store {
 
     ghost Value = { StoreValue };
 
-    ghost view = { λ store. record { rows = store.rows.entries; low = store.low } };
+    ghost view = { λ store. record { rows = store.rows.entries; low = store.low; listing = store.crowded.room } };
 
-    ghost invariant = { λ store. AreListed store.crowded store.rows.entries };
+    ghost invariant = { λ store. AreListed store.crowded.rows store.rows.entries };
 }
 
 impl Store {
@@ -84,8 +106,9 @@ impl Store {
         }
     }
 
-    /// Makes room for the changes of a batch, so that the next `apply` of a part with that batch succeeds if no
-    /// other changing call stands between. What is held and the room for more stay, also where this is refused, with
+    /// Makes room for the changes of a batch, so that the next `apply` of a part with that batch succeeds, and
+    /// `apply_in_room` takes no memory, if no other changing call stands between: also for a row for each change in the
+    /// list of those that a collection looks at. What is held and the room for more stay, also where this is refused, with
     /// `Memory` alone.
     /// Logarithmic for each change in the rows and in the columns of its row, and linear in the batch for each range of
     /// columns that it deletes.
@@ -95,21 +118,28 @@ impl Store {
         ensures same_ranges { HaveSameRanges self.old.rows self.new.rows }
         ensures room { HaveKeptRoom self.old.rows self.new.rows }
         ensures range_room { HaveKeptRangeRoom self.old.rows self.new.rows }
+        ensures listing { self.old.listing ≤ self.new.listing }
         ensures low { self.new.low ≡ self.old.low }
         ensures keeps { (all : List Applied) → Keeps self.old all → Keeps self.new all }
-        ensures ok { OnOk result (HasRoom self.new.rows batch.now) }
-        ensures succeeds { HasRoom self.old.rows batch.now → IsOk result }
+        ensures ok { OnOk result (HasRoom self.new batch.now) }
+        ensures succeeds { HasRoom self.old batch.now → IsOk result }
         ensures memory { IfErr result (λ e. e ≡ fault.Memory) }
     {
-        reserve_changes(self.alloc, &mut self.rows, batch.as_slice())
+        reserve_all(
+            self.alloc,
+            &mut self.rows,
+            &mut self.crowded,
+            batch.as_slice(),
+        )
     }
 
     /// Applies a part with this commit time and this stamp: it puts the version that each change leaves into the
-    /// chain of its place, and each deletion of a range to those of its row, in any order of stamps. So the store keeps this
-    /// part too, if it is in normal form and its stamp is new. Refused with `Memory` alone, and never after `make_room` for its batch; then what is held
-    /// and the room for more stay, and the part is handed back. Logarithmic for each change in the rows and in the columns of its row;
-    /// in the chain it costs what a put does. For `collect` it notes each row of which a chain holds more than one
-    /// version then; where there is no memory for that, nothing is refused.
+    /// chain of its place, and each deletion of a range, once, to those of its row, in any order of stamps. So the store
+    /// keeps this part too, if it is in normal form and its stamp is new. First it makes the room that `make_room` makes,
+    /// and then it takes no memory. Refused with `Memory` alone, and never after `make_room` for its batch; then what is
+    /// held and the room for more stay, and the part is handed back. Logarithmic for each change in the rows and in the
+    /// columns of its row; in the chain it costs what a put does. For `collect` it lists each row of which a chain came to
+    /// hold more than one version, or of which a range was deleted.
     #[tactic(auto, using(crate::proofs::applied::KeepsApplied::keeps_applied, crate::proofs::applied::Lasting::keeps_same, crate::proofs::newest::Overtaken::overtaken))]
     pub fn apply(
         &mut self,
@@ -121,11 +151,12 @@ impl Store {
         ensures ranges { OnOk result (HavePutRanges (record { writer = prepared.part.writer; stamp = stamp; evt = commit }) prepared.part.batch self.old.rows self.new.rows) }
         ensures low { self.new.low ≡ self.old.low }
         ensures keeps { (all : List Applied) → Keeps self.old all → IsNormal prepared.part.batch → IsNewStamp stamp all → OnOk result (Keeps self.new (all ++ record { part = prepared.part; commit = commit; stamp = stamp } ∷ [])) }
-        ensures succeeds { HasRoom self.old.rows prepared.part.batch → IsOk result }
+        ensures succeeds { HasRoom self.old prepared.part.batch → IsOk result }
         ensures same { OnErr result (HaveSameVersions self.old.rows self.new.rows) }
         ensures same_ranges { OnErr result (HaveSameRanges self.old.rows self.new.rows) }
         ensures room { OnErr result (HaveKeptRoom self.old.rows self.new.rows) }
         ensures range_room { OnErr result (HaveKeptRangeRoom self.old.rows self.new.rows) }
+        ensures listing { OnErr result (self.old.listing ≤ self.new.listing) }
         ensures kept { (all : List Applied) → Keeps self.old all → OnErr result (Keeps self.new all) }
         ensures back { IfErr result (λ e. (e.0 ≡ fault.Memory) × (e.1 ≡ prepared)) }
 
@@ -133,7 +164,8 @@ impl Store {
         // read rests on, and since when it is valid, a deletion of a range may change all the same.
         ensures overtaken { (all : List Applied) (l : Location) → IsOvertaken all l stamp commit → (t : ℕ) → newest_at (history_of (all ++ record { part = prepared.part; commit = commit; stamp = stamp } ∷ [])) t l ≡ newest_at (history_of all) t l }
     {
-        match reserve_changes(self.alloc, &mut self.rows, prepared.part().as_slice()) {
+        let changes = prepared.part().as_slice();
+        match reserve_all(self.alloc, &mut self.rows, &mut self.crowded, changes) {
             Ok(()) => {}
             Err(fault) => return Err((fault, prepared)),
         }
@@ -141,12 +173,11 @@ impl Store {
         Ok(())
     }
 
-    /// Applies a part as `apply` does, where there is room for its batch: so it isn't refused, and looks for each place
-    /// once. It takes memory only to list a row that is crowded then; where there is none, the next collection looks at
-    /// all rows.
+    /// Applies a part as `apply` does, where there is room for its batch: so it isn't refused, takes no memory, and looks
+    /// for each place once.
     #[tactic(auto, using(crate::proofs::applied::KeepsApplied::keeps_applied, crate::proofs::newest::Overtaken::overtaken))]
     pub fn apply_in_room(&mut self, prepared: Prepared, commit: Time, stamp: Stamp)
-        requires { HasRoom self.old.rows prepared.part.batch }
+        requires { HasRoom self.old prepared.part.batch }
         ensures put { HavePut (record { writer = prepared.part.writer; stamp = stamp; evt = commit }) prepared.part.batch self.old.rows self.new.rows }
         ensures ranges { HavePutRanges (record { writer = prepared.part.writer; stamp = stamp; evt = commit }) prepared.part.batch self.old.rows self.new.rows }
         ensures low { self.new.low ≡ self.old.low }
@@ -246,8 +277,8 @@ impl Store {
     /// at no time from the horizon on, and from each row the deletions of ranges for which some newer deletion of the row has
     /// an EVT not above the greater of the horizon and their own. What a read at the horizon or later answers stays. Passes
     /// over each row of which every chain holds one version at most and no range was deleted: linear in what the other rows
-    /// hold, and logarithmic for each of these in all rows. Once an `apply` had no memory to note a row, it is linear in the store. Takes
-    /// no memory.
+    /// hold, and in the order of n log n for n times that one of them was listed, with a logarithm of all rows for each.
+    /// Takes no memory.
     pub fn collect(&mut self, time: Time)
         ensures low { self.new.low ≡ max self.old.low time }
         ensures kept { HaveKept self.new.low self.old.rows self.new.rows }

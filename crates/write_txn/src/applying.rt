@@ -15,7 +15,7 @@ use txn_state::{Complete, Prepared};
 
 /// Applies a part for which there is room.
 fn apply(store: &mut Store, prepared: Prepared, commit: Time, stamp: Stamp)
-    requires { HasRoom store.old.rows prepared.part.batch }
+    requires { HasRoom store.old prepared.part.batch }
     ensures { KeepsAlso prepared commit stamp store.old store.new }
 {
     store.apply_in_room(prepared, commit, stamp);
@@ -30,7 +30,7 @@ pub(crate) fn commit_part(
     commit: Time,
     stamp: Stamp,
 )
-    requires room { (p : PreparedValue) → part_in (state_of ledger.old txn) ≡ Some p → HasRoom store.old.rows p.part.batch }
+    requires room { (p : PreparedValue) → part_in (state_of ledger.old txn) ≡ Some p → HasRoom store.old p.part.batch }
     requires marks { AreMarksOf marks.old ledger.old }
     ensures marks { AreMarksOf marks.new ledger.new }
     ensures applied { Becomes txn (state_applied (state_of ledger.old txn)) ledger.old ledger.new }
@@ -52,7 +52,7 @@ pub(crate) fn decide_own(
     outbox: &mut Outbox,
 )
     requires posts { length complete.cohorts ≤ outbox.old.room }
-    requires room { HasRoom store.old.rows complete.own.part.batch }
+    requires room { HasRoom store.old complete.own.part.batch }
     ensures keeps { KeepsAlso complete.own commit stamp store.old store.new }
     ensures sent { outbox.new.sent ≡ outbox.old.sent ++ map (commit_to me commit complete.own.part.writer.txn commit stamp) complete.cohorts }
     ensures room { outbox.old.room ≤ outbox.new.room + length complete.cohorts }

@@ -212,7 +212,7 @@ impl Transactions {
 
     /// Makes room in the store for these changes. Refused with `Memory` alone.
     pub fn make_room(&mut self, batch: &Batch) -> Result<(), Fault>
-        ensures ok { OnOk result (HasRoom self.new.store.rows batch.now) }
+        ensures ok { OnOk result (HasRoom self.new.store batch.now) }
         ensures store { GoesOnKeeping self.old.store self.new.store }
         ensures ledger { self.new.ledger ≡ self.old.ledger }
         ensures early { self.new.early ≡ self.old.early }
@@ -224,7 +224,7 @@ impl Transactions {
     /// Makes room in the store for the changes of the shard's own part of the transaction, if something is under way of
     /// it. Refused with `Memory` alone.
     pub fn make_room_for(&mut self, txn: TxnId) -> Result<(), Fault>
-        ensures ok { OnOk result ((o : Open) → open_in (state_of self.old.ledger txn) ≡ Some o → HasRoom self.new.store.rows (part_of o).batch) }
+        ensures ok { OnOk result ((o : Open) → open_in (state_of self.old.ledger txn) ≡ Some o → HasRoom self.new.store (part_of o).batch) }
         ensures store { GoesOnKeeping self.old.store self.new.store }
         ensures ledger { self.new.ledger ≡ self.old.ledger }
         ensures early { self.new.early ≡ self.old.early }
@@ -237,9 +237,9 @@ impl Transactions {
     }
 
     /// Applies the transaction's part with this commit time and this stamp, if one is prepared, and takes its marks away.
-    /// There is room for it. Takes memory only as `Store::apply_in_room` does, and isn't refused for it.
+    /// There is room for it. Takes no memory.
     pub fn commit(&mut self, txn: TxnId, commit: Time, stamp: Stamp)
-        requires { (p : PreparedValue) → part_in (state_of self.old.ledger txn) ≡ Some p → HasRoom self.old.store.rows p.part.batch }
+        requires { (p : PreparedValue) → part_in (state_of self.old.ledger txn) ≡ Some p → HasRoom self.old.store p.part.batch }
         ensures applied { Becomes txn (state_applied (state_of self.old.ledger txn)) self.old.ledger self.new.ledger }
         ensures keeps { KeepsIf (part_in (state_of self.old.ledger txn)) commit stamp self.old.store self.new.store }
         ensures early { self.new.early ≡ self.old.early }
@@ -256,7 +256,7 @@ impl Transactions {
 
     /// Tells of a ballot that is complete and decided with this commit time and this stamp, on the shard with the node
     /// `me`: posts a `Commit` to each cohort, in order, and applies the coordinator's own part. There is room for both.
-    /// Takes memory only as `Store::apply_in_room` does, and isn't refused for it.
+    /// Takes no memory.
     pub fn decide(
         &mut self,
         complete: Complete,
@@ -267,7 +267,7 @@ impl Transactions {
     )
         requires decided { decided_in (state_of self.old.ledger complete.own.part.writer.txn) ≡ Some (commit, stamp) }
         requires posts { length complete.cohorts ≤ outbox.old.room }
-        requires room { HasRoom self.old.store.rows complete.own.part.batch }
+        requires room { HasRoom self.old.store complete.own.part.batch }
         ensures same { self.new.ledger ≡ self.old.ledger }
         ensures keeps { KeepsAlso complete.own commit stamp self.old.store self.new.store }
         ensures early { self.new.early ≡ self.old.early }

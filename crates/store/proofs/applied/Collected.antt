@@ -8,10 +8,8 @@ use Rattle.std.specs.declared.cmp.Ordering.{Ordering}
 use Rattle.std.proofs.lemmas.Map.Made.{lookup-map_values}
 use Rattle.std.proofs.lemmas.Bool.Decides.{nat_tests}
 use Rattle.logical_time.specs.Stamps.{is_older}
-use Rattle.column_family.specs.declared.batch.Row.{Row}
 use Rattle.column_family.specs.History.{Stamped, is_older_than}
 use Rattle.column_family.proofs.Options.{denied}
-use Rattle.column_family.specs.Places.{row_cmp}
 use Rattle.versions.specs.declared.version.Version.{Version}
 use Rattle.versions.specs.declared.range.RangeDeletion.{RangeDeletion}
 use Rattle.versions.specs.Chain.{Held, IsFalling, at_of, kept_from}
@@ -22,7 +20,7 @@ use Rattle.versions.proofs.Members.{seen_is_contained}
 use Rattle.versions.proofs.Newest.{newest_at_is_greatest}
 use Rattle.version_gc.proofs.Collected.{at_kept, kept_exactly}
 use Rattle.store.specs.declared.part.Applied.{Applied}
-use Rattle.store.specs.Stored.{Place, Chains, StoreValue, chain_of, chain_at, held_by, no_row, nothing_held, name_cmp, collected_held, collected_ranges, collected_row, ranges_in, HaveKept, HaveKeptRanges}
+use Rattle.store.specs.Stored.{Place, Chains, StoreValue, chain_of, chain_at, held_by, nothing_held, name_cmp, collected_held, collected_ranges, collected_row, ranges_in, HaveKept, HaveKeptRanges}
 use Rattle.store.specs.Keeps.{stamped_of, Keeps}
 use Rattle.store.proofs.lists.Lists.{kept as passes, kept_only, no_truth, not_false}
 use Rattle.store.proofs.newest.Passing.{older_through}
@@ -53,12 +51,6 @@ pub row_collected : (t : ℕ) (r : Chains) (p : Place) → (chain_of (collected_
 row_collected t r None = refl
 row_collected t r (Some n) = ap (λ (h : Held). h.versions) (held_each name_cmp nothing_held (collected_held t) refl r.columns n)
 
-pub rows_collected : (t : ℕ) (olds news : List (Row × Chains)) → news ≡ map (λ e. (e.0, collected_row t e.1)) olds → HaveKept t olds news
-rows_collected t olds news is r p =
-    ap (λ (es : List (Row × Chains)). (chain_at es r p).versions) is
-    ∙ ap (λ (c : Chains). (chain_of c p).versions) (held_each row_cmp no_row (collected_row t) refl olds r)
-    ∙ row_collected t (held_by row_cmp no_row olds r) p
-
 -- below no deletion of the row all deletions of ranges stay
 all_stand : (t : ℕ) (xs : List RangeDeletion) → kept_ranges t [] xs ≡ xs
 all_stand t [] = refl
@@ -86,12 +78,6 @@ ranges_held_collected t ds old new ranges room =
 
     same : (xs ys : List RangeDeletion) (n m : ℕ) → xs ≡ ys → n ≡ m → held xs n ≡ held ys m
     same xs ys n m e f = ap (λ (zs : List RangeDeletion). held zs n) e ∙ ap (held ys) f
-
--- the deletions of ranges of a row, after a collection with that of all rows
-pub ranges_collected : (t : ℕ) (olds news : List (Row × Chains)) → news ≡ map (λ e. (e.0, collected_row t e.1)) olds → HaveKeptRanges t olds news
-ranges_collected t olds news is r =
-    ap (λ (es : List (Row × Chains)). (ranges_in es r).ranges) is
-    ∙ ap (λ (c : Chains). c.ranges.ranges) (held_each row_cmp no_row (collected_row t) refl olds r)
 
 -- ---- what is kept
 from_old : (t : ℕ) (xs : List Version) (v : Version) → Contains (kept_from t xs) v → Contains xs v

@@ -28,9 +28,10 @@ use Rattle.versions.proofs.Seen.{at_after_put}
 use Rattle.store.specs.declared.origin.Origin.{Origin}
 use Rattle.store.specs.declared.part.Applied.{Applied}
 use Rattle.store.specs.Part.{committed_of, history_of, applied_by}
-use Rattle.store.specs.Stored.{Place, StoreValue, chain_at, is_of_place, is_at, version_of, written, put_all, HavePut, IsRangeWritten, HavePutRanges}
+use Rattle.store.specs.Stored.{Place, StoreValue, chain_at, is_of_place, is_at, version_of, written, put_all, ranges_in, HavePut, HavePutRanges}
 use Rattle.store.specs.Keeps.{IsNewStamp, mutation_of, stamped_of, IsFrom, IsRangeFrom, is_row_newer, Keeps}
 use Rattle.store.proofs.lists.Lists.{none_in_empty, contains_first, contains_rest, first_or_rest, kept, kept_only}
+use Rattle.store.proofs.applied.Written.{IsRangeWritten, put_held}
 use Rattle.store.proofs.newest.Passing.{row_newer_more}
 use Rattle.store.proofs.newest.Newer.{history_by}
 use Rattle.store.proofs.newest.Apart.{new_stamp, apart_more}
@@ -242,12 +243,12 @@ put_keeps old new all a low put put_also normal fresh k = record {
       (λ c is held. from_put all a c xs (k.falling r p) (k.from r p) w held)
       (subst (λ (ys : List Version). Contains ys w) (put r p) has));
   ranges = λ r t x above from stands.
-      (put_also r x).1
+      (put_held (origin_of a) r a.part.batch (ranges_in old.rows r).ranges (ranges_in new.rows r).ranges x (put_also r)).1
       (elim (range_from_either t all a r x from) [
         | inl old_one ↦ inl (k.ranges r t x (omega (arith, above, low)) old_one (still_stands t all a r x.stamp stands))
         | inr new_one ↦ inr new_one
       ]);
-  ranges_from = λ r x has. elim ((put_also r x).0 has) [
+  ranges_from = λ r x has. elim ((put_held (origin_of a) r a.part.batch (ranges_in old.rows r).ranges (ranges_in new.rows r).ranges x (put_also r)).0 has) [
     | inl old_one ↦ range_from_more all a r x (k.ranges_from r x old_one)
     | inr new_one ↦ range_from_own all a r x new_one
   ];

@@ -1,13 +1,13 @@
 -- Deletions of ranges that a batch leaves, change by change.
-use Rattle.std.proofs.Common.{◌≡◌, ◌∙◌, sym, ap, subst, refl, ℕ, ◌+◌, ◌≤◌, ◌<◌, inl, inr, Bool, true, false, ◌&&◌, List, [], ◌∷◌, ◌++◌, length, arith}
-use Rattle.std.specs.Prelude.{Contains, ◌⊎◌, ◌↔◌, if◌then◌else◌}
-use Rattle.std.specs.List.{list_any}
+use Rattle.std.proofs.Common.{◌≡◌, ◌∙◌, sym, ap, subst, refl, ℕ, ◌+◌, ◌≤◌, ◌<◌, inl, inr, Bool, true, false, ◌&&◌, List, [], ◌∷◌, ◌++◌, length, Option, Some, None, arith}
+use Rattle.std.specs.Prelude.{Contains, ◌⊎◌, ◌↔◌, if◌then◌else◌, filter, filter_map, option_to_list}
+use Rattle.std.specs.List.{list_any, cons_option}
 use Rattle.std.proofs.lemmas.List.Folds.{list_any-append}
-use Rattle.std.proofs.lemmas.List.Elements.{Contains-append_left, Contains-append_right, Contains-append_cases}
+use Rattle.std.proofs.lemmas.List.Elements.{filter-append, filter_map-append}
 use Rattle.column_family.specs.declared.batch.Row.{Row}
 use Rattle.column_family.specs.declared.batch.Change.{Change}
 use Rattle.column_family.specs.declared.batch.Mutation.{Mutation}
-use Rattle.column_family.specs.declared.batch.Mutation.TheVariants.{DeleteRange}
+use Rattle.column_family.specs.declared.batch.Mutation.TheVariants.{Insert, DeleteColumn, DeleteRow, DeleteRange}
 use Rattle.column_family.specs.Location.{is_same_row, deletes_range}
 use Rattle.column_family.specs.Normal.{ranges_of}
 use Rattle.column_family.proofs.Kept.{one_row}
@@ -16,169 +16,160 @@ use Rattle.versions.specs.declared.range.RangeDeletion.{RangeDeletion}
 use Rattle.versions.specs.Ranges.{put_range}
 use Rattle.versions.proofs.RangesHeld.{held_after_put}
 use Rattle.store.specs.declared.origin.Origin.{Origin}
-use Rattle.store.specs.Stored.{Chains, no_row, ranges_in, IsRangeLeft, IsRangeWritten, HasRoomForRanges}
-use Rattle.store.proofs.lists.Lists.{none_in_empty, contains_first, contains_rest, first_or_rest, no_truth}
+use Rattle.store.specs.Stored.{Chains, no_row, ranges_in, range_left, ranges_written, put_all_ranges, HasRoomForRanges}
+use Rattle.store.proofs.lists.Lists.{none_in_empty, contains_first, contains_rest, first_or_rest, kept, kept_only, given, given_only}
 use Rattle.store.proofs.newest.Passing.{own_row}
 
 pub no_room_there : 0 < no_row.ranges.room → ⊥
 no_room_there lt = omega (arith, lt)
 
--- ---- what a change leaves
+-- ---- what changes leave
 -- the deletion of a range that these ends make
 abbrev pub range_of : Origin → List ℕ → List ℕ → RangeDeletion
 range_of o s f = record { stamp = o.stamp; evt = o.evt; start = s; finish = f; writer = o.writer }
 
-is_that : (o : Origin) (s f : List ℕ) (x : RangeDeletion) → s ≡ x.start → f ≡ x.finish → x.stamp ≡ o.stamp → x.evt ≡ o.evt → x.writer ≡ o.writer → x ≡ range_of o s f
-is_that o s f x a b c d e i = record { stamp = c i; evt = d i; start = sym a i; finish = sym b i; writer = e i }
+-- the deletion of a range of the row is one that these changes leave
+abbrev pub IsRangeWritten : Origin → Row → List Change → RangeDeletion → Type 0
+IsRangeWritten o r changes x =
+    Contains changes (record { row = r; mutation = DeleteRange x.start x.finish }) × (x.stamp ≡ o.stamp) × (x.evt ≡ o.evt) × (x.writer ≡ o.writer)
 
-same_start : (s f : List ℕ) (x : RangeDeletion) → DeleteRange s f ≡ DeleteRange x.start x.finish → s ≡ x.start
-same_start s f x e = cc
+abbrev IsFrom : Origin → Mutation → RangeDeletion → Type 0
+IsFrom o m x = (m ≡ DeleteRange x.start x.finish) × (x.stamp ≡ o.stamp) × (x.evt ≡ o.evt) × (x.writer ≡ o.writer)
 
-same_finish : (s f : List ℕ) (x : RangeDeletion) → DeleteRange s f ≡ DeleteRange x.start x.finish → f ≡ x.finish
-same_finish s f x e = cc
-
-pub left_is : (o : Origin) (s f : List ℕ) (x : RangeDeletion) → IsRangeLeft o (DeleteRange s f) x → x ≡ range_of o s f
-left_is o s f x (is, stamp, evt, writer) = is_that o s f x (same_start s f x is) (same_finish s f x is) stamp evt writer
-
-pub is_left : (o : Origin) (s f : List ℕ) (x : RangeDeletion) → x ≡ range_of o s f → IsRangeLeft o (DeleteRange s f) x
-is_left o s f x e = (
-  ap (λ (y : RangeDeletion). DeleteRange y.start y.finish) (sym e),
-  ap (λ (y : RangeDeletion). y.stamp) e,
-  ap (λ (y : RangeDeletion). y.evt) e,
-  ap (λ (y : RangeDeletion). y.writer) e,
+made_of : (o : Origin) (s f : List ℕ) (x : RangeDeletion) → range_of o s f ≡ x → IsFrom o (DeleteRange s f) x
+made_of o s f x e = (
+  ap (λ (y : RangeDeletion). DeleteRange y.start y.finish) e,
+  ap (λ (y : RangeDeletion). y.stamp) (sym e),
+  ap (λ (y : RangeDeletion). y.evt) (sym e),
+  ap (λ (y : RangeDeletion). y.writer) (sym e),
 )
 
--- of one change
-one_written : (o : Origin) (r : Row) (c : Change) (x : RangeDeletion) → IsRangeWritten o r (c ∷ []) x → (is_same_row r c.row ≡ true) × IsRangeLeft o c.mutation x
-one_written o r c x (has, stamp, evt, writer) = elim (first_or_rest c (record { row = r; mutation = DeleteRange x.start x.finish }) [] has) [
-  | inl here ↦ (ap (λ (d : Change). is_same_row r d.row) here ∙ own_row r, (ap (λ (d : Change). d.mutation) here, stamp, evt, writer))
-  | inr none ↦ absurd (none_in_empty (record { row = r; mutation = DeleteRange x.start x.finish }) none)
-]
+left_is : (o : Origin) (m : Mutation) (x : RangeDeletion) → range_left o m ≡ Some x → IsFrom o m x
+left_is o (Insert n v) x is = absurd (cc)
+left_is o (DeleteColumn n) x is = absurd (cc)
+left_is o DeleteRow x is = absurd (cc)
+left_is o (DeleteRange s f) x is = let e : range_of o s f ≡ x = cc in made_of o s f x e
 
-written_one : (o : Origin) (r : Row) (c : Change) (x : RangeDeletion) → is_same_row r c.row ≡ true → IsRangeLeft o c.mutation x → IsRangeWritten o r (c ∷ []) x
-written_one o r c x row (is, stamp, evt, writer) =
-    let same : c ≡ record { row = r; mutation = DeleteRange x.start x.finish } =
-    ap (λ (k : Row). record { row = k; mutation = c.mutation }) (sym (one_row r c.row row)) ∙ ap (λ (m : Mutation). record { row = r; mutation = m }) is in
-    (subst (Contains (c ∷ [])) same (contains_first c []), stamp, evt, writer)
+same_range : (o : Origin) (x : RangeDeletion) → x.stamp ≡ o.stamp → x.evt ≡ o.evt → x.writer ≡ o.writer → range_of o x.start x.finish ≡ x
+same_range o x stamp evt writer i = record { stamp = sym stamp i; evt = sym evt i; start = x.start; finish = x.finish; writer = sym writer i }
 
--- no other mutation leaves one
-pub not_range : (m : Mutation) (x : RangeDeletion) → deletes_range m ≡ false → m ≡ DeleteRange x.start x.finish → ⊥
-not_range m x other is = let yes : deletes_range m ≡ true = ap deletes_range is in no_truth (deletes_range m) yes other
-
--- what is held once one is put
-held_once : (v : RangeDeletion) (xs : List RangeDeletion) (x : RangeDeletion) → Contains (put_range xs v) x → Contains xs x ⊎ (x ≡ v)
-held_once v xs x has = (held_after_put xs (put_range xs v) v refl x).0 has
-
-once_held : (v : RangeDeletion) (xs : List RangeDeletion) (x : RangeDeletion) → Contains xs x ⊎ (x ≡ v) → Contains (put_range xs v) x
-once_held v xs x either = (held_after_put xs (put_range xs v) v refl x).1 either
-
--- a deletion of a range is put into its row
-pub range_put : (o : Origin) (r row : Row) (s f : List ℕ) (xs ys : List RangeDeletion) (x : RangeDeletion)
-    → ys ≡ (if is_same_row r row then put_range xs (range_of o s f) else xs)
-    → Contains ys x ↔ (Contains xs x ⊎ IsRangeWritten o r (record { row = row; mutation = DeleteRange s f } ∷ []) x)
-range_put o r row s f xs ys x is = by_cases (is_same_row r row)
-    (λ own. own_put own (is ∙ rw own refl))
-    (λ other. elsewhere other (is ∙ rw other refl))
-  where
-    c : Change
-    c = record { row = row; mutation = DeleteRange s f }
-
-    own_put : is_same_row r row ≡ true → ys ≡ put_range xs (range_of o s f) → Contains ys x ↔ (Contains xs x ⊎ IsRangeWritten o r (c ∷ []) x)
-    own_put own same = (
-      λ has. elim (held_once (range_of o s f) xs x (subst (λ (zs : List RangeDeletion). Contains zs x) same has)) [
-        | inl old ↦ inl old
-        | inr new ↦ inr (written_one o r c x own (is_left o s f x new))
-      ],
-      λ either. subst (λ (zs : List RangeDeletion). Contains zs x) (sym same)
-          (once_held (range_of o s f) xs x (elim either [ inl old ↦ inl old | inr new ↦ inr (left_is o s f x (one_written o r c x new).1) ])),
-    )
-
-    elsewhere : is_same_row r row ≡ false → ys ≡ xs → Contains ys x ↔ (Contains xs x ⊎ IsRangeWritten o r (c ∷ []) x)
-    elsewhere other same = (
-      λ has. inl (subst (λ (zs : List RangeDeletion). Contains zs x) same has),
-      λ either. elim either [
-        | inl old ↦ subst (λ (zs : List RangeDeletion). Contains zs x) (sym same) old
-        | inr new ↦ no_truth (is_same_row r row) (one_written o r c x new).0 other
-      ],
-    )
-
--- what a mutation of the row leaves is put
-pub left_put : (o : Origin) (m : Mutation) (s f : List ℕ) (xs ys : List RangeDeletion) (x : RangeDeletion) → m ≡ DeleteRange s f → ys ≡ put_range xs (range_of o s f)
-    → Contains ys x ↔ (Contains xs x ⊎ IsRangeLeft o m x)
-left_put o m s f xs ys x is same = (
-  λ has. elim (held_once (range_of o s f) xs x (subst (λ (zs : List RangeDeletion). Contains zs x) same has)) [
-    | inl old ↦ inl old
-    | inr new ↦ inr (subst (λ (n : Mutation). IsRangeLeft o n x) (sym is) (is_left o s f x new))
-  ],
-  λ either. subst (λ (zs : List RangeDeletion). Contains zs x) (sym same)
-      (once_held (range_of o s f) xs x (elim either [ inl old ↦ inl old | inr new ↦ inr (left_is o s f x (subst (λ (n : Mutation). IsRangeLeft o n x) is new)) ])),
-)
+is_left : (o : Origin) (x : RangeDeletion) → x.stamp ≡ o.stamp → x.evt ≡ o.evt → x.writer ≡ o.writer → range_left o (DeleteRange x.start x.finish) ≡ Some x
+is_left o x stamp evt writer = ap (λ (y : RangeDeletion). Some y) (same_range o x stamp evt writer)
 
 -- a mutation that deletes no range leaves none
-pub none_put : (o : Origin) (m : Mutation) (xs ys : List RangeDeletion) (x : RangeDeletion) → deletes_range m ≡ false → ys ≡ xs → Contains ys x ↔ (Contains xs x ⊎ IsRangeLeft o m x)
-none_put o m xs ys x other same = (
-  λ has. inl (subst (λ (zs : List RangeDeletion). Contains zs x) same has),
-  λ either. elim either [
-    | inl old ↦ subst (λ (zs : List RangeDeletion). Contains zs x) (sym same) old
-    | inr new ↦ absurd (not_range m x other new.0)
-  ],
-)
+none_left : (o : Origin) (m : Mutation) → deletes_range m ≡ false → range_left o m ≡ None
+none_left o (Insert n v) e = refl
+none_left o (DeleteColumn n) e = refl
+none_left o DeleteRow e = refl
+none_left o (DeleteRange s f) e = absurd (cc)
 
-pub no_range_put : (o : Origin) (r : Row) (c : Change) (xs ys : List RangeDeletion) (x : RangeDeletion) → deletes_range c.mutation ≡ false → ys ≡ xs
-    → Contains ys x ↔ (Contains xs x ⊎ IsRangeWritten o r (c ∷ []) x)
-no_range_put o r c xs ys x other same = (
-  λ has. inl (subst (λ (zs : List RangeDeletion). Contains zs x) same has),
-  λ either. elim either [
-    | inl old ↦ subst (λ (zs : List RangeDeletion). Contains zs x) (sym same) old
-    | inr new ↦ absurd (not_range c.mutation x other (one_written o r c x new).1.0)
-  ],
-)
+-- what the changes leave in the row, as a list and as what is among them
+written_is : (o : Origin) (r : Row) (changes : List Change) (x : RangeDeletion) → Contains (ranges_written o r changes) x → IsRangeWritten o r changes x
+written_is o r changes x has =
+    let g = given_only (λ (c : Change). range_left o c.mutation) (filter (λ (c : Change). is_same_row r c.row) changes) x has in
+    let k = kept_only (λ (c : Change). is_same_row r c.row) changes g.0 g.1 in
+    let l = left_is o g.0.mutation x g.2 in
+    let same : g.0 ≡ record { row = r; mutation = DeleteRange x.start x.finish } =
+    ap (λ (q : Row). record { row = q; mutation = g.0.mutation }) (sym (one_row r g.0.row k.1)) ∙ ap (λ (m : Mutation). record { row = r; mutation = m }) l.0 in
+    (subst (Contains changes) same k.0, l.1, l.2, l.3)
+
+is_written : (o : Origin) (r : Row) (changes : List Change) (x : RangeDeletion) → IsRangeWritten o r changes x → Contains (ranges_written o r changes) x
+is_written o r changes x w =
+    let c : Change = record { row = r; mutation = DeleteRange x.start x.finish } in
+    given (λ (d : Change). range_left o d.mutation) (filter (λ (d : Change). is_same_row r d.row) changes) c x
+    (kept (λ (d : Change). is_same_row r d.row) changes c w.0 (own_row r)) (is_left o x w.1 w.2 w.3)
+
+-- ---- what is held once they are put
+held_after_all : (xs vs : List RangeDeletion) (x : RangeDeletion) → Contains (put_all_ranges xs vs) x ↔ (Contains xs x ⊎ Contains vs x)
+held_after_all xs [] x = (λ has. inl has, λ either. elim either [ inl old ↦ old | inr none ↦ absurd (none_in_empty x none) ])
+held_after_all xs (v ∷ vs) x =
+    let rest = held_after_all (put_range xs v) vs x in
+    let one = held_after_put xs (put_range xs v) v refl x in (
+      λ has. elim (rest.0 has) [
+        | inl held ↦ elim (one.0 held) [ inl old ↦ inl old | inr new ↦ inr (subst (Contains (v ∷ vs)) (sym new) (contains_first v vs)) ]
+        | inr later ↦ inr (contains_rest v x vs later)
+      ],
+      λ either. elim either [
+        | inl old ↦ rest.1 (inl (one.1 (inl old)))
+        | inr new ↦ elim (first_or_rest v x vs new) [ inl here ↦ rest.1 (inl (one.1 (inr (sym here)))) | inr there ↦ rest.1 (inr there) ]
+      ],
+    )
+
+-- what the changes leave is held beside what was
+pub put_held : (o : Origin) (r : Row) (changes : List Change) (olds news : List RangeDeletion) (x : RangeDeletion) → news ≡ put_all_ranges olds (ranges_written o r changes)
+    → Contains news x ↔ (Contains olds x ⊎ IsRangeWritten o r changes x)
+put_held o r changes olds news x is =
+    let all = held_after_all olds (ranges_written o r changes) x in (
+      λ has. elim (all.0 (subst (λ (zs : List RangeDeletion). Contains zs x) is has)) [ inl old ↦ inl old | inr new ↦ inr (written_is o r changes x new) ],
+      λ either. subst (λ (zs : List RangeDeletion). Contains zs x) (sym is)
+          (elim either [ inl old ↦ all.1 (inl old) | inr new ↦ all.1 (inr (is_written o r changes x new)) ]),
+    )
+
+-- put to nothing, it alone is held
+pub left_held : (o : Origin) (r : Row) (changes : List Change) (held : List RangeDeletion) (x : RangeDeletion) → held ≡ put_all_ranges [] (ranges_written o r changes)
+    → Contains held x ↔ IsRangeWritten o r changes x
+left_held o r changes held x is =
+    let all = put_held o r changes [] held x is in (
+      λ has. elim (all.0 has) [ inl none ↦ absurd (none_in_empty x none) | inr new ↦ new ],
+      λ new. all.1 (inr new),
+    )
 
 -- ---- change by change
-pub written_first : (o : Origin) (r : Row) (c : Change) (cs : List Change) (x : RangeDeletion) → IsRangeWritten o r (c ∷ cs) x ↔ (IsRangeWritten o r (c ∷ []) x ⊎ IsRangeWritten o r cs x)
-written_first o r c cs x = (
-  λ w. elim (first_or_rest c (record { row = r; mutation = DeleteRange x.start x.finish }) cs w.0) [
-    | inl here ↦ inl (subst (Contains (c ∷ [])) here (contains_first c []), w.1, w.2, w.3)
-    | inr there ↦ inr (there, w.1, w.2, w.3)
-  ],
-  λ either. elim either [
-    | inl w ↦ elim (first_or_rest c (record { row = r; mutation = DeleteRange x.start x.finish }) [] w.0) [
-      | inl here ↦ (subst (Contains (c ∷ cs)) here (contains_first c cs), w.1, w.2, w.3)
-      | inr none ↦ absurd (none_in_empty (record { row = r; mutation = DeleteRange x.start x.finish }) none)
-    ]
-    | inr w ↦ (contains_rest c (record { row = r; mutation = DeleteRange x.start x.finish }) cs w.0, w.1, w.2, w.3)
-  ],
-)
+put_all_after : (xs vs ws : List RangeDeletion) → put_all_ranges xs (vs ++ ws) ≡ put_all_ranges (put_all_ranges xs vs) ws
+put_all_after xs [] ws = refl
+put_all_after xs (v ∷ vs) ws = put_all_after (put_range xs v) vs ws
+
+written_after : (o : Origin) (r : Row) (cs ds : List Change) → ranges_written o r (cs ++ ds) ≡ ranges_written o r cs ++ ranges_written o r ds
+written_after o r cs ds =
+    ap (filter_map (λ (c : Change). range_left o c.mutation)) (filter-append (λ (c : Change). is_same_row r c.row) cs ds)
+    ∙ filter_map-append (λ (c : Change). range_left o c.mutation) (filter (λ (c : Change). is_same_row r c.row) cs) (filter (λ (c : Change). is_same_row r c.row) ds)
+
+put_of_both : (o : Origin) (r : Row) (cs ds : List Change) (xs : List RangeDeletion)
+    → put_all_ranges (put_all_ranges xs (ranges_written o r cs)) (ranges_written o r ds) ≡ put_all_ranges xs (ranges_written o r (cs ++ ds))
+put_of_both o r cs ds xs = sym (ap (put_all_ranges xs) (written_after o r cs ds) ∙ put_all_after xs (ranges_written o r cs) (ranges_written o r ds))
 
 -- what is left to put, after the first
-pub held_rest : (o : Origin) (r : Row) (c : Change) (cs : List Change) (olds news : List RangeDeletion) (x : RangeDeletion) (P : Type 0)
-    → (Contains news x ↔ (Contains olds x ⊎ IsRangeWritten o r (c ∷ []) x))
-    → (P ↔ (Contains olds x ⊎ IsRangeWritten o r (c ∷ cs) x)) → (P ↔ (Contains news x ⊎ IsRangeWritten o r cs x))
-held_rest o r c cs olds news x P put all = (
-  λ p. elim (all.0 p) [
-    | inl old ↦ inl (put.1 (inl old))
-    | inr w ↦ elim ((written_first o r c cs x).0 w) [ inl one ↦ inl (put.1 (inr one)) | inr rest ↦ inr rest ]
-  ],
-  λ either. elim either [
-    | inl new ↦ elim (put.0 new) [ inl old ↦ all.1 (inl old) | inr one ↦ all.1 (inr ((written_first o r c cs x).1 (inl one))) ]
-    | inr rest ↦ all.1 (inr ((written_first o r c cs x).1 (inr rest)))
-  ],
-)
+pub rest_put : (o : Origin) (r : Row) (c : Change) (cs : List Change) (olds news : List RangeDeletion) → news ≡ put_all_ranges olds (ranges_written o r (c ∷ []))
+    → put_all_ranges news (ranges_written o r cs) ≡ put_all_ranges olds (ranges_written o r (c ∷ cs))
+rest_put o r c cs olds news is = ap (λ (xs : List RangeDeletion). put_all_ranges xs (ranges_written o r cs)) is ∙ put_of_both o r (c ∷ []) cs olds
 
--- of none nothing is left
-pub none_written : (o : Origin) (r : Row) (x : RangeDeletion) → IsRangeWritten o r [] x → ⊥
-none_written o r x w = none_in_empty (record { row = r; mutation = DeleteRange x.start x.finish }) w.0
+-- a deletion of a range is put into its row
+pub range_put : (o : Origin) (r row : Row) (s f : List ℕ) (xs ys : List RangeDeletion) → ys ≡ (if is_same_row r row then put_range xs (range_of o s f) else xs)
+    → ys ≡ put_all_ranges xs (ranges_written o r (record { row = row; mutation = DeleteRange s f } ∷ []))
+range_put o r row s f xs ys is = is ∙ by_cases (is_same_row r row) (λ own. rw own refl) (λ other. rw other refl)
 
-pub all_put : (o : Origin) (r : Row) (news : List RangeDeletion) (x : RangeDeletion) (P : Type 0) → (P ↔ (Contains news x ⊎ IsRangeWritten o r [] x)) → (P → Contains news x) × (Contains news x → P)
-all_put o r news x P all = (
-  λ p. elim (all.0 p) [ inl new ↦ new | inr none ↦ absurd (none_written o r x none) ],
-  λ new. all.1 (inl new),
-)
+pub no_range_put : (o : Origin) (r : Row) (c : Change) (xs ys : List RangeDeletion) → deletes_range c.mutation ≡ false → ys ≡ xs → ys ≡ put_all_ranges xs (ranges_written o r (c ∷ []))
+no_range_put o r c xs ys other is = is ∙ by_cases (is_same_row r c.row) (λ own. rw (own, none_left o c.mutation other) refl) (λ apart. rw apart refl)
 
--- what is put after what stayed the same
-pub ranges_put_after : (o : Origin) (r : Row) (changes : List Change) (firsts olds news : List RangeDeletion) (x : RangeDeletion) → olds ≡ firsts
-    → (Contains news x ↔ (Contains olds x ⊎ IsRangeWritten o r changes x)) → Contains news x ↔ (Contains firsts x ⊎ IsRangeWritten o r changes x)
-ranges_put_after o r changes firsts olds news x same put = subst (λ (xs : List RangeDeletion). Contains news x ↔ (Contains xs x ⊎ IsRangeWritten o r changes x)) same put
+-- ---- what is left of one row
+-- what a mutation of the row leaves is put
+pub left_put : (o : Origin) (m : Mutation) (s f : List ℕ) (xs ys : List RangeDeletion) → m ≡ DeleteRange s f → ys ≡ put_range xs (range_of o s f)
+    → ys ≡ put_all_ranges xs (option_to_list (range_left o m))
+left_put o m s f xs ys is put = put ∙ ap (λ (n : Mutation). put_all_ranges xs (option_to_list (range_left o n))) (sym is)
+
+pub none_put : (o : Origin) (m : Mutation) (xs ys : List RangeDeletion) → deletes_range m ≡ false → ys ≡ xs → ys ≡ put_all_ranges xs (option_to_list (range_left o m))
+none_put o m xs ys other is = is ∙ rw (none_left o m other) refl
+
+one_of : (x : Option RangeDeletion) → option_to_list x ≡ cons_option x []
+one_of None = refl
+one_of (Some x) = refl
+
+-- a change of the row
+pub own_ranges : (o : Origin) (r : Row) (cs : List Change) (c : Change) (held new : List RangeDeletion) → is_same_row r c.row ≡ true → held ≡ put_all_ranges [] (ranges_written o r cs)
+    → new ≡ put_all_ranges held (option_to_list (range_left o c.mutation)) → new ≡ put_all_ranges [] (ranges_written o r (cs ++ c ∷ []))
+own_ranges o r cs c held new own so_far put =
+    let last : option_to_list (range_left o c.mutation) ≡ ranges_written o r (c ∷ []) = rw own (one_of (range_left o c.mutation)) in
+    put
+    ∙ ap (put_all_ranges held) last
+    ∙ ap (λ (xs : List RangeDeletion). put_all_ranges xs (ranges_written o r (c ∷ []))) so_far
+    ∙ put_of_both o r cs (c ∷ []) []
+
+-- a change of another row
+pub other_ranges : (o : Origin) (r : Row) (cs : List Change) (c : Change) (held : List RangeDeletion) → is_same_row r c.row ≡ false → held ≡ put_all_ranges [] (ranges_written o r cs)
+    → held ≡ put_all_ranges [] (ranges_written o r (cs ++ c ∷ []))
+other_ranges o r cs c held other so_far =
+    let none : ranges_written o r (c ∷ []) ≡ [] = rw other refl in
+    so_far ∙ ap (put_all_ranges (put_all_ranges [] (ranges_written o r cs))) (sym none) ∙ put_of_both o r cs (c ∷ []) []
 
 -- ---- room
 -- whether it is a deletion of a range of the row
@@ -201,50 +192,6 @@ none_counted r (c ∷ cs) e =
     by_cases (is_range_of r c)
     (λ yes. let no = rw yes at e in absurd (cc))
     (λ no. rw no (none_counted r cs (rw no at e)))
-
--- ---- what is left of one row
-written_last : (o : Origin) (r : Row) (cs : List Change) (c : Change) (x : RangeDeletion) → IsRangeWritten o r (cs ++ c ∷ []) x ↔ (IsRangeWritten o r cs x ⊎ IsRangeWritten o r (c ∷ []) x)
-written_last o r cs c x = (
-  λ w. elim (Contains-append_cases cs (c ∷ []) (record { row = r; mutation = DeleteRange x.start x.finish }) w.0) [
-    | inl before ↦ inl (before, w.1, w.2, w.3)
-    | inr last ↦ inr (last, w.1, w.2, w.3)
-  ],
-  λ either. elim either [
-    | inl w ↦ (Contains-append_left cs (c ∷ []) (record { row = r; mutation = DeleteRange x.start x.finish }) w.0, w.1, w.2, w.3)
-    | inr w ↦ (Contains-append_right cs (c ∷ []) (record { row = r; mutation = DeleteRange x.start x.finish }) w.0, w.1, w.2, w.3)
-  ],
-)
-
--- a change of the row
-pub own_ranges : (o : Origin) (r : Row) (cs : List Change) (c : Change) (held new : List RangeDeletion) (x : RangeDeletion) → is_same_row r c.row ≡ true
-    → (Contains held x ↔ IsRangeWritten o r cs x) → (Contains new x ↔ (Contains held x ⊎ IsRangeLeft o c.mutation x)) → Contains new x ↔ IsRangeWritten o r (cs ++ c ∷ []) x
-own_ranges o r cs c held new x own so_far put = (
-  λ has. elim (put.0 has) [
-    | inl old ↦ (written_last o r cs c x).1 (inl (so_far.0 old))
-    | inr left ↦ (written_last o r cs c x).1 (inr (written_one o r c x own left))
-  ],
-  λ w. elim ((written_last o r cs c x).0 w) [
-    | inl before ↦ put.1 (inl (so_far.1 before))
-    | inr last ↦ put.1 (inr (one_written o r c x last).1)
-  ],
-)
-
--- a change of another row
-pub other_ranges : (o : Origin) (r : Row) (cs : List Change) (c : Change) (held : List RangeDeletion) (x : RangeDeletion) → is_same_row r c.row ≡ false
-    → (Contains held x ↔ IsRangeWritten o r cs x) → Contains held x ↔ IsRangeWritten o r (cs ++ c ∷ []) x
-other_ranges o r cs c held x other so_far = (
-  λ has. (written_last o r cs c x).1 (inl (so_far.0 has)),
-  λ w. elim ((written_last o r cs c x).0 w) [
-    | inl before ↦ so_far.1 before
-    | inr last ↦ (let yes = (one_written o r c x last).0 in absurd (cc))
-  ],
-)
-
-pub none_of_none : (o : Origin) (r : Row) (held : List RangeDeletion) (x : RangeDeletion) → held ≡ [] → Contains held x ↔ IsRangeWritten o r [] x
-none_of_none o r held x empty = (
-  λ has. absurd (none_in_empty x (subst (λ (xs : List RangeDeletion). Contains xs x) empty has)),
-  λ w. absurd (none_written o r x w),
-)
 
 -- the room that is made change by change
 pub range_done : (old new : List (Row × Chains)) (changes so_far : List Change) (c : Change)

@@ -19,7 +19,8 @@ use Rattle.store.specs.declared.part.Applied.{Applied}
 use Rattle.store.specs.declared.part.Part.{Part}
 use Rattle.store.specs.declared.sight.Moment.TheVariants.{At}
 use Rattle.store.specs.Part.{committed_of, history_of, applied_by, IsRightPart}
-use Rattle.store.specs.Stored.{Place, Chains, StoreValue, held_by, no_row, chain_of, chain_at, ranges_in, is_at, version_of, written, put_all, IsRangeWritten}
+use Rattle.store.specs.Stored.{Place, Chains, StoreValue, held_by, no_row, chain_of, chain_at, ranges_in, is_at, version_of, written, put_all}
+use Rattle.store.proofs.applied.Written.{IsRangeWritten}
 use Rattle.store.specs.Keeps.{IsNewStamp, stamped_of, IsFrom, IsRangeFrom, is_row_newer, Keeps}
 use Rattle.store.specs.Sight.{Sight, sight_of, newer_seen, laid_over}
 use Rattle.versions.specs.Ranges.{is_under}

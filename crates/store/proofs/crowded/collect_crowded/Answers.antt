@@ -1,20 +1,33 @@
-use Rattle.std.proofs.Common.{sym, subst}
+use Rattle.std.proofs.Common.{sym, subst, ap, List}
+use Rattle.column_family.specs.declared.batch.Row.{Row}
 use Rattle.store.specs.Crowded.{Listed, AreListed}
-use Rattle.store.proofs.applied.Listed.{all_kept, all_ranges_kept, crowded_listed}
+use Rattle.store.proofs.applied.Listed.{all_kept, all_ranges_kept, crowded_listed, listed_alike, AreCollected, AreRangesCollected}
 use Rattle.store.proofs.crowded.collect_crowded.Goals as goal
 
-pub returns-then-crowded-clause-kept : goal.returns-then-crowded-clause-kept
-returns-then-crowded-clause-kept c = λ listed.
-    let l : Listed = record { rows = c.crowded.inside.rows.keys; whole = c.crowded.inside.is_whole } in
-    all_kept c.args.time l c.args.rows.now.entries c.collect_listed.new.rows.entries c.if-crowded.true c.collect_listed.ensures.versions (subst (λ (x : Listed). AreListed x c.args.rows.now.entries) (sym c.crowded.view_is) listed)
+pub returns-clause-kept : goal.returns-clause-kept
+returns-clause-kept c = λ listed.
+    let olds = c.args.rows.now.entries in
+    let news = c.collect_listed.new.rows.entries in
+    let own = subst (λ (rows : List Row). AreListed rows olds) (sym (ap (λ (x : Listed). x.rows) c.crowded.view_is)) listed in
+    all_kept c.args.time c.list_once.new.listed.items olds news
+    (subst (λ (rows : List Row). AreCollected c.args.time rows olds news) c.deref.ensures.value c.collect_listed.ensures.versions)
+    (listed_alike c.crowded.inside.rows.items c.list_once.new.listed.items olds c.list_once.ensures own)
 
-pub returns-then-crowded-clause-ranges : goal.returns-then-crowded-clause-ranges
-returns-then-crowded-clause-ranges c = λ listed.
-    let l : Listed = record { rows = c.crowded.inside.rows.keys; whole = c.crowded.inside.is_whole } in
-    all_ranges_kept c.args.time l c.args.rows.now.entries c.collect_listed.new.rows.entries c.if-crowded.true c.collect_listed.ensures.ranges (subst (λ (x : Listed). AreListed x c.args.rows.now.entries) (sym c.crowded.view_is) listed)
+pub returns-clause-ranges : goal.returns-clause-ranges
+returns-clause-ranges c = λ listed.
+    let olds = c.args.rows.now.entries in
+    let news = c.collect_listed.new.rows.entries in
+    let own = subst (λ (rows : List Row). AreListed rows olds) (sym (ap (λ (x : Listed). x.rows) c.crowded.view_is)) listed in
+    all_ranges_kept c.args.time c.list_once.new.listed.items olds news
+    (subst (λ (rows : List Row). AreRangesCollected c.args.time rows olds news) c.deref.ensures.value c.collect_listed.ensures.ranges)
+    (listed_alike c.crowded.inside.rows.items c.list_once.new.listed.items olds c.list_once.ensures own)
 
-pub returns-then-crowded-clause-listed : goal.returns-then-crowded-clause-listed
-returns-then-crowded-clause-listed c = λ listed.
-    let l : Listed = record { rows = c.crowded.inside.rows.keys; whole = c.crowded.inside.is_whole } in
-    let m : Listed = record { rows = c.keep_crowded.new.listed.keys; whole = c.crowded.inside.is_whole } in
-    crowded_listed c.args.time l m c.args.rows.now.entries c.collect_listed.new.rows.entries c.if-crowded.true c.keep_crowded.ensures c.collect_listed.ensures.versions c.collect_listed.ensures.ranges (subst (λ (x : Listed). AreListed x c.args.rows.now.entries) (sym c.crowded.view_is) listed)
+pub returns-clause-listed : goal.returns-clause-listed
+returns-clause-listed c = λ listed.
+    let olds = c.args.rows.now.entries in
+    let news = c.collect_listed.new.rows.entries in
+    let own = subst (λ (rows : List Row). AreListed rows olds) (sym (ap (λ (x : Listed). x.rows) c.crowded.view_is)) listed in
+    crowded_listed c.args.time c.list_once.new.listed.items c.keep_crowded.new.listed.items olds news c.keep_crowded.ensures
+    (subst (λ (rows : List Row). AreCollected c.args.time rows olds news) c.deref.ensures.value c.collect_listed.ensures.versions)
+    (subst (λ (rows : List Row). AreRangesCollected c.args.time rows olds news) c.deref.ensures.value c.collect_listed.ensures.ranges)
+    (listed_alike c.crowded.inside.rows.items c.list_once.new.listed.items olds c.list_once.ensures own)

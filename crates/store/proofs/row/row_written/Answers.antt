@@ -1,19 +1,18 @@
-use Rattle.std.proofs.Common.{rules, ◌≡◌, ◌∙◌, ◌+◌, sym, ap, subst, refl, take, ◌++◌, [], ◌∷◌, List, true, false}
-use Rattle.std.specs.Prelude.{Contains, ◌↔◌}
+use Rattle.std.proofs.Common.{rules, ◌≡◌, ◌∙◌, ◌+◌, sym, ap, refl, take, ◌++◌, [], ◌∷◌, List, true, false}
 use Rattle.std.proofs.lemmas.List.{take_more, take_all}
 use Rattle.column_family.specs.declared.batch.Change.{Change}
 use Rattle.column_family.specs.Location.{is_same_row}
 use Rattle.versions.specs.Ranges.{HeldRanges}
-use Rattle.store.specs.Stored.{put_all, written, IsRangeWritten}
+use Rattle.store.specs.Stored.{put_all, put_all_ranges, ranges_written, written}
 use Rattle.store.proofs.applied.Changes.{none_left, own_left, other_left}
-use Rattle.store.proofs.applied.Written.{none_of_none, own_ranges, other_ranges}
+use Rattle.store.proofs.applied.Written.{own_ranges, other_ranges}
 use Rattle.store.proofs.row.row_written.Goals as goal
 use Rattle.store.proofs.row.row_written.Goals.{then-eq+in_ok-put_whole, else-eq}
 
 pub loop-change-init : goal.loop-change-init
 loop-change-init c = record {
   versions = λ p. none_left c.new-held.result p c.new-held.ensures.columns c.new-held.ensures.deletions;
-  ranges = λ x. none_of_none c.args.origin.now c.args.row.now c.new-held.result.ranges.ranges x (ap (λ (h : HeldRanges). h.ranges) c.new-held.ensures.ranges);
+  ranges = ap (λ (h : HeldRanges). h.ranges) c.new-held.ensures.ranges;
 }
 
 pub loop-change-preserved : goal.loop-change-preserved
@@ -29,13 +28,13 @@ loop-change-preserved c =
           (let own : is_same_row r x.row ≡ true = search rules in
           record {
             versions = λ p. rw (w.held-is, more) (own_left o r p so_far x c.loop-change.held c.loop-change.held w.put_whole.new.held own (c.loop-change.invariant.versions p) refl (w.in_ok-put_whole.ensures.versions p));
-            ranges = λ y. rw (w.held-is, more) (own_ranges o r so_far x c.loop-change.held.ranges.ranges w.put_whole.new.held.ranges.ranges y own (c.loop-change.invariant.ranges y) (w.in_ok-put_whole.ensures.ranges y));
+            ranges = rw (w.held-is, more) (own_ranges o r so_far x c.loop-change.held.ranges.ranges w.put_whole.new.held.ranges.ranges own c.loop-change.invariant.ranges w.in_ok-put_whole.ensures.ranges);
           })
       | else-eq w ↦
           (let other : is_same_row r x.row ≡ false = search rules in
           record {
             versions = λ p. rw (w.held-is, more) (other_left o r p so_far x c.loop-change.held other (c.loop-change.invariant.versions p));
-            ranges = λ y. rw (w.held-is, more) (other_ranges o r so_far x c.loop-change.held.ranges.ranges y other (c.loop-change.invariant.ranges y));
+            ranges = rw (w.held-is, more) (other_ranges o r so_far x c.loop-change.held.ranges.ranges other c.loop-change.invariant.ranges);
           })
     ]
 
@@ -45,6 +44,6 @@ returns-clause-ok c = λ p.
     c.loop-change.invariant.versions p ∙ ap (λ (cs : List Change). put_all [] (written c.args.origin.now c.args.row.now p cs)) all
 
 pub returns-clause-ranges : goal.returns-clause-ranges
-returns-clause-ranges c = λ x.
+returns-clause-ranges c =
     let all = take_all c.loop-change.change-index c.args.changes.now (search rules) in
-    subst (λ (cs : List Change). Contains c.loop-change.held.ranges.ranges x ↔ IsRangeWritten c.args.origin.now c.args.row.now cs x) all (c.loop-change.invariant.ranges x)
+    c.loop-change.invariant.ranges ∙ ap (λ (cs : List Change). put_all_ranges [] (ranges_written c.args.origin.now c.args.row.now cs)) all

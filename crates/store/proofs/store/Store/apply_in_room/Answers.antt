@@ -7,7 +7,7 @@ use Rattle.store.proofs.store.Store.apply_in_room.Goals as goal
 
 pub returns-clause-keeps : goal.returns-clause-keeps
 returns-clause-keeps c = λ all keeps normal fresh.
-    let new : StoreValue = record { rows = c.put_part.new.rows.entries; low = c.self.inside.low } in
+    let new : StoreValue = record { rows = c.put_part.new.rows.entries; low = c.self.inside.low; listing = c.put_part.new.crowded.room } in
     let o : Origin = record { writer = c.args.prepared.part.writer; stamp = c.args.stamp; evt = c.args.commit } in
     let a : Applied = record { part = c.args.prepared.part; commit = c.args.commit; stamp = c.args.stamp } in
     let put : HavePut o c.args.prepared.part.batch c.args.self.now.rows new.rows = search rules in

@@ -5,13 +5,14 @@ use Rattle.store.specs.declared.origin.Origin.{Origin}
 use Rattle.store.specs.declared.part.Applied.{Applied}
 use Rattle.store.specs.declared.sight.Moment.{Moment}
 use Rattle.store.specs.declared.sight.Moment.TheVariants.{At}
-use Rattle.store.specs.Stored.{Place, StoreValue, chain_of, held_by, no_row, put_all, written, IsRangeWritten}
+use Rattle.store.specs.Stored.{Place, StoreValue, chain_of, held_by, no_row, put_all, put_all_ranges, ranges_written, written}
 use Rattle.versions.specs.declared.range.RangeDeletion.{RangeDeletion}
 use Rattle.std.specs.Prelude.{Contains, ◌↔◌}
 use Rattle.store.specs.Part.{applied_by}
 use Rattle.store.specs.Sight.{sight_of, laid_over}
 use Rattle.store.specs.Struck.{ranges_over, IsPartUnder}
 use Rattle.store.proofs.seen.Assembled.{any_evt}
+use Rattle.store.proofs.applied.Written.{IsRangeWritten, left_held}
 use Rattle.store.proofs.laid_over.ReadWith.{part_with}
 use Rattle.store.proofs.store.Store.read_with.Goals as goal
 
@@ -30,8 +31,10 @@ returns-clause-right c = λ all keeps normal fresh.
     ∙ ap (λ (from : Origin). put_all [] (written from r q c.as_slice.result.now)) c.new-origin.ensures
     ∙ ap (λ (cs : List Change). put_all [] (written o r q cs)) c.as_slice.ensures in
     let left_also : (y : RangeDeletion) → Contains over.ranges.ranges y ↔ IsRangeWritten o r c.args.batch.now y = λ y.
-    subst (λ (cs : List Change). Contains over.ranges.ranges y ↔ IsRangeWritten o r cs y) c.as_slice.ensures
-    (subst (λ (from : Origin). Contains over.ranges.ranges y ↔ IsRangeWritten from r c.as_slice.result.now y) c.new-origin.ensures (c.in_ok-over.ensures.ranges y)) in
+    left_held o r c.args.batch.now over.ranges.ranges y
+    (c.in_ok-over.ensures.ranges
+    ∙ ap (λ (from : Origin). put_all_ranges [] (ranges_written from r c.as_slice.result.now)) c.new-origin.ensures
+    ∙ ap (λ (cs : List Change). put_all_ranges [] (ranges_written o r cs)) c.as_slice.ensures) in
     let is = c.in_ok-moment.ensures.ok in
     any_evt (applied_by t (all ++ a ∷ [])) r p part c.zero.result
     (part_with s all a over r p t part keeps is.1 normal fresh left left_also
