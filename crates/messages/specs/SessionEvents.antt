@@ -1,5 +1,5 @@
 -- The events of a session: Done, PartNow, PartAt, DepOk, and the outcome taken.
-use Rattle.std.specs.Prelude.{ℕ, max, Bool, true, false, ◌&&◌, ◌==◌, not, List, [], ◌∷◌, ◌++◌, map, filter, Some, None, Result}
+use Rattle.std.specs.Prelude.{ℕ, max, Bool, true, false, ◌&&◌, ◌==◌, not, List, [], ◌∷◌, ◌++◌, map, filter, None, Result}
 use Rattle.std.specs.List.{list_any}
 use Rattle.logical_time.specs.declared.fault.Fault.{Fault}
 use Rattle.logical_time.specs.Stamps.{StampValue, TxnValue, WriterValue}

@@ -9,11 +9,15 @@ pub record TopologyValue : Type 0 where
   pub schema : List (List ℕ)
   pub homes : List ℕ
 
--- 1 to 4 data centres of 1 to 8 shards, and 1 to 16 sessions, each at home first in one of the data centres
+-- 1 to 4 data centres of 1 to 8 shards, and 1 to 10,000 sessions, each at home first in one of the data centres
 abbrev pub is_topology : ℕ → ℕ → List ℕ → Bool
 is_topology dcs shards homes =
-    nat_le 1 dcs && nat_le dcs 4 && nat_le 1 shards && nat_le shards 8 && nat_le 1 (length homes) && nat_le (length homes) 16
+    nat_le 1 dcs && nat_le dcs 4 && nat_le 1 shards && nat_le shards 8 && nat_le 1 (length homes) && nat_le (length homes) 10000
     && list_all (λ d. nat_lt d dcs) homes
+
+-- the same with up to 16 sessions, as scripts have them
+abbrev pub is_small_topology : ℕ → ℕ → List ℕ → Bool
+is_small_topology dcs shards homes = nat_le (length homes) 16 && is_topology dcs shards homes
 
 -- how many shards there are in all data centres: these are the first nodes
 abbrev pub shard_count : TopologyValue → ℕ

@@ -11,8 +11,10 @@ use std::marker::Model;
 
 /// How many data centres there may be.
 const MOST_DCS: u16 = 4;
-/// How many sessions there may be.
-const MOST_SESSIONS: usize = 16;
+/// How many sessions a server may have.
+const MOST_SESSIONS: usize = 10_000;
+/// How many sessions there may be elsewhere.
+const FEW_SESSIONS: usize = 16;
 
 /// The actors of a store: data centres of equally many shards, and sessions, each at home in a data centre. Shard `s`
 /// of data centre `d` is node `d * shards + s`; session `i` is node `dcs * shards + i`.
@@ -60,6 +62,23 @@ impl Topology {
     /// sessions, and where a home is no data centre.
     pub fn new(dcs: u16, shards: u16, schema: Schema, homes: Vec<u16>) -> Result<Topology, Fault>
         ensures made { IfOk result (λ t. t ≡ record { dcs = dcs; shards = shards; schema = schema; homes = homes.items }) }
+        ensures refused { IsErrOf result Fault.Script ↔ (spec.is_small_topology dcs shards homes.items ≡ false) }
+        ensures only { IfErr result (λ e. e ≡ Fault.Script) }
+    {
+        if homes.len() > FEW_SESSIONS {
+            return Err(Fault::Script);
+        }
+        Topology::of_server(dcs, shards, schema, homes)
+    }
+
+    /// The same for a server, which may have up to 10,000 sessions.
+    pub fn of_server(
+        dcs: u16,
+        shards: u16,
+        schema: Schema,
+        homes: Vec<u16>,
+    ) -> Result<Topology, Fault>
+        ensures made { IfOk result (λ t. t ≡ record { dcs = dcs; shards = shards; schema = schema; homes = homes.items }) }
         ensures refused { IsErrOf result Fault.Script ↔ (spec.is_topology dcs shards homes.items ≡ false) }
         ensures only { IfErr result (λ e. e ≡ Fault.Script) }
     {
@@ -76,7 +95,8 @@ impl Topology {
 
     /// A copy, which shares the bytes of the names. Fails by memory alone.
     pub fn copied(&self) -> Result<Topology, AllocError>
-        ensures { IfOk result (λ copy. copy ≡ self.now) }
+        ensures same { IfOk result (λ copy. copy ≡ self.now) }
+        ensures limits { spec.is_topology self.now.dcs self.now.shards self.now.homes ≡ true }
     {
         Ok(Topology {
             dcs: self.dcs,
@@ -112,7 +132,7 @@ impl Topology {
     /// The first home of each session, as the number of a data centre.
     pub fn homes(&self) -> &[u16]
         ensures value { result.now ≡ self.now.homes }
-        ensures limits { (1 ≤ length result.now) × (length result.now ≤ 16) }
+        ensures limits { (1 ≤ length result.now) × (length result.now ≤ 10000) }
         ensures homes { list_all (λ d. nat_lt d self.now.dcs) result.now ≡ true }
     {
         self.homes.as_slice()
@@ -129,7 +149,7 @@ impl Topology {
     /// How many actors there are, shards and sessions.
     pub fn node_count(&self) -> u16
         ensures value { result ≡ spec.node_count self.now }
-        ensures limit { result ≤ 48 }
+        ensures limit { result ≤ 10032 }
     {
         self.shard_count() + self.homes.len() as u16
     }

@@ -18,5 +18,4 @@ pub mod AskerSteps
 pub mod ReadsAnswered
 pub mod QuietSteps
 pub mod HandledSteps
-pub mod HeardAt
 pub mod ShardSteps

@@ -13,7 +13,7 @@ pub record MaySettle (t : TxnValue) (commit : ℕ) (stamp : StampValue) (k : Sha
   pub own : c.own.part.writer.txn ≡ t
   pub alone : c.cohorts ≡ []
   pub decided : decided_in (state_of k.transactions.ledger t) ≡ Some (commit, stamp)
-  pub room : HasRoom k.transactions.store.rows c.own.part.batch
+  pub room : HasRoom k.transactions.store c.own.part.batch
 
 -- the transaction goes on being under way: what came early of it is forgotten, and the clock shows this
 pub record IsUnderWay (t : TxnValue) (n : ℕ) (k l : ShardKept) : Type 0 where

@@ -125,7 +125,7 @@ fn note_decision(
     requires unknown { state_of kept.old.transactions.ledger begun.now.txn ≡ None }
     requires small { commits < 2 ^ 63 }
     ensures noted { OnOk result (IsDecidedNow begun.now.txn clock (record { time = clock; node = node_at kept.old.place }) kept.old kept.new) }
-    ensures room { OnOk result (HasRoom kept.new.transactions.store.rows begun.now.rows) }
+    ensures room { OnOk result (HasRoom kept.new.transactions.store begun.now.rows) }
     ensures posts { IfOk result (λ envelopes. commits + length envelopes.items ≤ outbox.new.room) }
     ensures told { (top : TopologyValue) (me : ℕ) (a : ShardState) → Represents top me kept.old a → decision_of begun.now.txn a ≡ None
         → AreApart (decide top me clock a (ballot_of begun.now)).state.applied

@@ -85,8 +85,7 @@ pub(crate) fn tell(
 }
 
 /// Settles a transaction that is decided at this clock with this stamp: tells its cohorts, applies its own part, sends these
-/// envelopes, and lets go of what is needed no more. There is room for all of it. Takes memory only as
-/// `Store::apply_in_room` does, and isn't refused for it.
+/// envelopes, and lets go of what is needed no more. There is room for all of it. Takes no memory.
 #[inline]
 pub(crate) fn settle(
     kept: &mut ShardKept,
@@ -100,7 +99,7 @@ pub(crate) fn settle(
     requires own { complete.own.part.writer.txn ≡ txn }
     requires decided { decided_in (state_of kept.old.transactions.ledger txn) ≡ Some (clock, stamp) }
     requires posts { length complete.cohorts + length envelopes.items ≤ outbox.old.room }
-    requires room { HasRoom kept.old.transactions.store.rows complete.own.part.batch }
+    requires room { HasRoom kept.old.transactions.store complete.own.part.batch }
     ensures settled { IsSettled txn complete.own clock stamp kept.old kept.new }
     ensures sent { (top : TopologyValue) (me : ℕ) → IsPlace top me kept.old.place
         → outbox.new.sent ≡ (outbox.old.sent ++ map (commit_to me clock txn clock stamp) complete.cohorts) ++ envelopes.items }

@@ -1,5 +1,5 @@
 //! Envelopes.
-ghost use Rattle.std.specs.Prelude.{◌≡◌, ◌+◌, ◌^◌, ◌<◌, max, ℕ, length, slice_get, Some, true, false, IsOk, IfOk, OnOk, OnErr, IfErr};
+ghost use Rattle.std.specs.Prelude.{◌≡◌, ◌+◌, ◌^◌, ◌<◌, max, ℕ, false, IsOk, OnOk, OnErr, IfErr};
 ghost use Rattle.logical_time.specs.declared.fault.Fault.TheVariants as fault;
 ghost use Rattle.messages.specs.declared.envelope.Envelope.{Envelope};
 ghost use Rattle.messages.specs.Topology.{TopologyValue};
@@ -21,11 +21,8 @@ use crate::reading::{read, read_at};
 use crate::repl_begun::{ReplBegun, repl_begin};
 use crate::replicas::{dep_ok, notice};
 use crate::voting::yes;
-use column_family::Batch;
-use logical_time::{Clock, Fault, Node, Shard, Stamp, TxnId, Writer};
-use messages::{Body, Cohorts, Dependencies, Envelope, Outbox, Refused, Shared};
-use slice::Read;
-use std::alloc::AllocError;
+use logical_time::{Clock, Fault, Node, Writer};
+use messages::{Body, Envelope, Outbox, Refused};
 use txn_state::WritePart;
 use write_txn::ReplicatedPart;
 
@@ -101,153 +98,6 @@ fn act(kept: &mut ShardKept, clock: Clock, from: Node, body: Body, outbox: &mut 
             Err(fault) => Err((fault, other)),
         },
     }
-}
-
-/// A copy of a ballot, which shares its bytes. Fails by memory alone.
-fn begun_of(
-    txn: TxnId,
-    rows: &Batch,
-    cohorts: &Cohorts,
-    dependencies: &Dependencies,
-) -> Result<Begun, AllocError>
-    ensures { IfOk result (λ begun. begun ≡ record { txn = txn; rows = rows.now; cohorts = cohorts.now; dependencies = dependencies.now }) }
-{
-    Ok(Begun {
-        txn,
-        rows: rows.clone()?,
-        cohorts: *cohorts,
-        dependencies: dependencies.clone()?,
-    })
-}
-
-/// A copy of another data centre's ballot, which shares its bytes. Fails by memory alone.
-fn repl_begun_of(
-    txn: TxnId,
-    rows: &Batch,
-    stamp: Stamp,
-    cohorts: &Cohorts,
-    dependencies: &Dependencies,
-) -> Result<ReplBegun, AllocError>
-    ensures { IfOk result (λ begun. begun ≡ record { txn = txn; rows = rows.now; stamp = stamp; cohorts = cohorts.now; dependencies = dependencies.now }) }
-{
-    Ok(ReplBegun {
-        txn,
-        rows: rows.clone()?,
-        stamp,
-        cohorts: *cohorts,
-        dependencies: dependencies.clone()?,
-    })
-}
-
-/// A copy of a part, which shares its bytes. Fails by memory alone.
-fn part_of(txn: TxnId, rows: &Batch, coordinator: Shard) -> Result<WritePart, AllocError>
-    ensures { IfOk result (λ part. part ≡ record { writer = record { txn = txn; shard = coordinator }; batch = rows.now }) }
-{
-    Ok(WritePart {
-        writer: Writer::new(txn, coordinator),
-        batch: rows.clone()?,
-    })
-}
-
-/// A copy of what is asked, which shares it. Fails by memory alone.
-fn copy_of(asked: &Shared<Read>) -> Result<Shared<Read>, AllocError>
-    ensures { IfOk result (λ copy. copy ≡ asked.now) }
-{
-    asked.clone()
-}
-
-/// Hears the envelope of this number, which stays in the outbox, where something is kept of its body: that is copied.
-/// Refused with `Memory` alone.
-#[rattlefmt::skip]
-fn keep_at(kept: &mut ShardKept, clock: Clock, number: usize, outbox: &mut Outbox) -> Result<(), Fault>
-    requires sent { number < length outbox.old.sent }
-    requires handed { (e : Envelope) → slice_get outbox.old.sent number ≡ Some e → is_handed_over e.body ≡ true }
-    ensures step { (e : Envelope) → slice_get outbox.old.sent number ≡ Some e
-        → OnOk result (Does (λ top me a. handled top me clock a e.from e.body) kept.old kept.new outbox.old.sent outbox.new.sent) }
-    ensures same { OnErr result (IsSpared kept.old kept.new) }
-    ensures unsent { OnErr result (outbox.new.sent ≡ outbox.old.sent) }
-    ensures memory { IfErr result (λ e. e ≡ fault.Memory) }
-{
-    let Some(envelope) = outbox.get(number) else { unreachable!() };
-    let from = envelope.from;
-    match envelope.body {
-        Body::Begin { txn, ref rows, ref cohorts, ref dependencies } => {
-            let begun = begun_of(txn, rows, cohorts, dependencies)?;
-            match begin(kept, clock, begun, outbox) { Ok(()) => Ok(()), Err((fault, _)) => Err(fault) }
-        }
-        Body::Prepare { txn, ref rows, coordinator } => {
-            let part = part_of(txn, rows, coordinator)?;
-            match prepare(kept, clock, part, outbox) { Ok(()) => Ok(()), Err((fault, _)) => Err(fault) }
-        }
-        Body::ReadAt { number, time, ref read } => {
-            let copy = copy_of(read)?;
-            match read_at(kept, clock, from, number, time, copy, outbox) { Ok(()) => Ok(()), Err((fault, _)) => Err(fault) }
-        }
-        Body::ReplBegin { txn, ref rows, stamp, ref cohorts, ref dependencies } => {
-            let begun = repl_begun_of(txn, rows, stamp, cohorts, dependencies)?;
-            match repl_begin(kept, clock, begun, outbox) { Ok(()) => Ok(()), Err((fault, _)) => Err(fault) }
-        }
-        Body::ReplPart { txn, ref rows, stamp, coordinator } => {
-            let part = part_of(txn, rows, coordinator)?;
-            match repl_part(kept, clock, ReplicatedPart { part, stamp }, outbox) { Ok(()) => Ok(()), Err((fault, ReplicatedPart { part: _, stamp: _ })) => Err(fault) }
-        }
-        _ => unreachable!(),
-    }
-}
-
-/// Does what the envelope of this number, which stays in the outbox, makes of the shard at this clock. What is for a session
-/// moves the clock alone. Refused with `Memory` alone. The table of bodies stands a second time here and in `keep_at`, since
-/// the body is read where it stands: to copy each and go the way of `handle` costs some runs a fourteenth more.
-#[rattlefmt::skip]
-fn act_at(kept: &mut ShardKept, clock: Clock, number: usize, outbox: &mut Outbox) -> Result<(), Fault>
-    requires { number < length outbox.old.sent }
-    ensures step { (e : Envelope) → slice_get outbox.old.sent number ≡ Some e
-        → OnOk result (Does (λ top me a. handled top me clock a e.from e.body) kept.old kept.new outbox.old.sent outbox.new.sent) }
-    ensures same { OnErr result (IsSpared kept.old kept.new) }
-    ensures unsent { OnErr result (outbox.new.sent ≡ outbox.old.sent) }
-    ensures memory { IfErr result (λ e. e ≡ fault.Memory) }
-{
-    let Some(envelope) = outbox.get(number) else { unreachable!() };
-    let from = envelope.from;
-    match envelope.body {
-        Body::Yes { txn } => yes(kept, clock, txn, from, outbox),
-        Body::Commit { txn, commit: time, stamp } => commit(kept, clock, txn, time, stamp, outbox),
-        Body::At { txn, commit: time, stamp } => commit(kept, clock, txn, time, stamp, outbox),
-        Body::NotBy { txn, time } => not_by(kept, clock, txn, time, outbox),
-        Body::Check { txn, time } => check(kept, clock, from, txn, time, outbox),
-        Body::Read { number, read: ref asked } => {
-            let asked = copy_of(asked)?;
-            read(kept, clock, from, number, &asked, outbox)
-        }
-        Body::Notify { txn } => notice(kept, clock, txn, from, outbox),
-        Body::PrepareRemote { txn } => prepare_remote(kept, clock, txn, outbox),
-        Body::DepCheck { dependency, waiter } => dep_check(kept, clock, from, dependency, waiter, outbox),
-        Body::DepOk { dependency, waiter, commit: _ } => dep_ok(kept, clock, dependency, waiter, outbox),
-        Body::Done { .. } | Body::PartNow { .. } | Body::PartAt { .. } => {
-            kept.clock = clock;
-            Ok(())
-        }
-        _ => keep_at(kept, clock, number, outbox),
-    }
-}
-
-/// Handles the envelope of this number, which stays in the outbox, at one past the later of the shard's clock and its time.
-/// Refused where that is no time, and with `Memory`.
-pub(crate) fn hear_at(kept: &mut ShardKept, number: usize, outbox: &mut Outbox) -> Result<(), Fault>
-    requires { number < length outbox.old.sent }
-    ensures time { (e : Envelope) → slice_get outbox.old.sent number ≡ Some e → OnOk result (max kept.old.clock e.time + 1 < 2 ^ 48) }
-    ensures step { (e : Envelope) → slice_get outbox.old.sent number ≡ Some e
-        → OnOk result (Does (λ top me a. handled top me (max kept.old.clock e.time + 1) a e.from e.body) kept.old kept.new outbox.old.sent outbox.new.sent) }
-    ensures same { OnErr result (IsSpared kept.old kept.new) }
-    ensures unsent { OnErr result (outbox.new.sent ≡ outbox.old.sent) }
-    ensures refused { (e : Envelope) → slice_get outbox.old.sent number ≡ Some e → IfErr result (λ f. IsSpentOrMemory (ticked kept.old.clock e.time) f) }
-{
-    let Some(envelope) = outbox.get(number) else {
-        unreachable!()
-    };
-    let mut clock = kept.clock;
-    clock.receive(envelope.time)?;
-    act_at(kept, clock, number, outbox)
 }
 
 /// Handles an envelope, at one past the later of the shard's clock and its time. Refused where that is no time, and with

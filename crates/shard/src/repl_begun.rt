@@ -112,7 +112,7 @@ fn make_room_if(
     is_decided: bool,
     rows: &Batch,
 ) -> Result<(), Fault>
-    ensures ok { OnOk result (is_decided ≡ true → HasRoom transactions.new.store.rows rows.now) }
+    ensures ok { OnOk result (is_decided ≡ true → HasRoom transactions.new.store rows.now) }
     ensures store { GoesOnKeeping transactions.old.store transactions.new.store }
     ensures ledger { transactions.new.ledger ≡ transactions.old.ledger }
     ensures early { transactions.new.early ≡ transactions.old.early }

@@ -69,7 +69,7 @@ pub(crate) fn is_decided(remote: &Remote, is_ready: bool) -> bool
 
 /// Makes room in the store for the own part of a ballot that waits, if it is decided.
 fn make_room_if(transactions: &mut Transactions, is_decided: bool, txn: TxnId) -> Result<(), Fault>
-    ensures ok { OnOk result (is_decided ≡ true → (o : Open) → open_in (state_of transactions.old.ledger txn) ≡ Some o → HasRoom transactions.new.store.rows (part_of o).batch) }
+    ensures ok { OnOk result (is_decided ≡ true → (o : Open) → open_in (state_of transactions.old.ledger txn) ≡ Some o → HasRoom transactions.new.store (part_of o).batch) }
     ensures waits { is_decided ≡ false → IsOk result }
     ensures store { GoesOnKeeping transactions.old.store transactions.new.store }
     ensures ledger { transactions.new.ledger ≡ transactions.old.ledger }
@@ -83,7 +83,7 @@ fn make_room_if(transactions: &mut Transactions, is_decided: bool, txn: TxnId) -
 }
 
 /// Concludes an event of a ballot: sends these envelopes, and settles the transaction where that decided it. What came early
-/// of it is forgotten. There is room for all. Takes memory only as `Store::apply_in_room` does, and isn't refused for it.
+/// of it is forgotten. There is room for all. Takes no memory.
 pub(crate) fn conclude(
     kept: &mut ShardKept,
     clock: Clock,

@@ -1,5 +1,5 @@
 //! Shards.
-ghost use Rattle.std.specs.Prelude.{◌≡◌, ◌<◌, ◌≤◌, ◌+◌, ◌^◌, ◌↔◌, max, ℕ, List, [], ◌∷◌, ◌++◌, length, slice_get, Some, Err, is_some, option_map, IfSome, IfOk, OnOk, IfErr, IsErrOf, OnErr};
+ghost use Rattle.std.specs.Prelude.{◌≡◌, ◌<◌, ◌≤◌, ◌+◌, ◌^◌, ◌↔◌, max, ℕ, List, [], ◌∷◌, ◌++◌, Some, Err, is_some, option_map, IfSome, IfOk, OnOk, IfErr, IsErrOf, OnErr};
 ghost use Rattle.logical_time.specs.declared.fault.Fault.TheVariants as fault;
 ghost use Rattle.messages.specs.declared.envelope.Envelope.{Envelope};
 ghost use Rattle.messages.specs.declared.event.ActorEvent.{ActorEvent};
@@ -91,25 +91,6 @@ impl Shard {
         ensures spared { OnErr result (IsSpared self.old self.new) }
     {
         handling::handle(&mut self.kept, envelope, outbox)
-    }
-
-    /// Handles a copy of the envelope of this number, which stays in the outbox, as `handle` does. The copy shares the bytes of
-    /// keys, names and values. Refused with `ClockSpent` where the clock would leave its range, and with `Memory`; then the
-    /// shard stands for what it stood for, and nothing is sent.
-    pub fn hear_at(&mut self, number: usize, outbox: &mut Outbox) -> Result<(), Fault>
-        requires sent { number < length outbox.old.sent }
-        ensures step { (top : TopologyValue) (me : ℕ) (a : ShardState) (e : Envelope) → slice_get outbox.old.sent number ≡ Some e → Represents top me self.old a
-            → OnOk result (IsStepOf top me (shard_handle top me a e) self.new outbox.old.sent outbox.new.sent) }
-        ensures refused { (top : TopologyValue) (me : ℕ) (a : ShardState) (e : Envelope) → slice_get outbox.old.sent number ≡ Some e → Represents top me self.old a
-            → IfErr result (λ f. IsRefusalOf (shard_handle top me a e) f) }
-        ensures same { OnErr result (GoesOn self.old self.new) }
-        ensures unsent { OnErr result (outbox.new.sent ≡ outbox.old.sent) }
-        // whatever came before, as of `handle`
-        ensures time { (e : Envelope) → slice_get outbox.old.sent number ≡ Some e → OnOk result (max self.old.clock e.time + 1 < 2 ^ 48) }
-        ensures faults { (e : Envelope) → slice_get outbox.old.sent number ≡ Some e → IfErr result (λ f. IsSpentOrMemory (ticked self.old.clock e.time) f) }
-        ensures spared { OnErr result (IsSpared self.old self.new) }
-    {
-        handling::hear_at(&mut self.kept, number, outbox)
     }
 
     /// Raises the horizon to this time, unless it is there: versions that no read from there on sees may be dropped, and a

@@ -1,9 +1,8 @@
 -- A cohort's part is applied, as what is kept takes it.
 use Rattle.std.proofs.Common.{◌≡◌, ◌∙◌, sym, ap, subst, refl, ℕ, Bool, true, false, List, ◌++◌, Option, Some, None, map, is_some}
 use Rattle.logical_time.specs.Stamps.{StampValue, TxnValue}
-use Rattle.column_family.specs.declared.batch.Row.{Row}
 use Rattle.store.specs.declared.part.Applied.{Applied}
-use Rattle.store.specs.Stored.{Chains, HasRoom}
+use Rattle.store.specs.Stored.{StoreValue, HasRoom}
 use Rattle.txn_state.specs.Prepared.{PreparedValue}
 use Rattle.store.specs.Keeps.{AreApart}
 use Rattle.messages.specs.declared.envelope.Envelope.{Envelope}
@@ -141,14 +140,14 @@ applies_so top me n t p commit stamp k room ts waits a before after r is apart g
     }
 
 -- there is room for what is applied
-pub has_room : (l m : LedgerValue) (t : TxnValue) (rows : List (Row × Chains)) → m ≡ l
-    → ((o : Open) → open_in (state_of l t) ≡ Some o → HasRoom rows (part_of o).batch) → (p : PreparedValue) → part_in (state_of m t) ≡ Some p → HasRoom rows p.part.batch
-has_room l m t rows same room p e = go (state_of l t) room (subst (λ (x : LedgerValue). part_in (state_of x t) ≡ Some p) same e)
+pub has_room : (l m : LedgerValue) (t : TxnValue) (s : StoreValue) → m ≡ l
+    → ((o : Open) → open_in (state_of l t) ≡ Some o → HasRoom s (part_of o).batch) → (p : PreparedValue) → part_in (state_of m t) ≡ Some p → HasRoom s p.part.batch
+has_room l m t s same room p e = go (state_of l t) room (subst (λ (x : LedgerValue). part_in (state_of x t) ≡ Some p) same e)
   where
-    go : (s : Option State) → ((o : Open) → open_in s ≡ Some o → HasRoom rows (part_of o).batch) → part_in s ≡ Some p → HasRoom rows p.part.batch
+    go : (x : Option State) → ((o : Open) → open_in x ≡ Some o → HasRoom s (part_of o).batch) → part_in x ≡ Some p → HasRoom s p.part.batch
     go None h f = absurd (cc)
     go (Some (Holds (in_open.Kept k))) h f = absurd (cc)
-    go (Some (Holds (in_open.Part q))) h f = let g : prepared_of q ≡ p = cc in subst (λ (x : PreparedValue). HasRoom rows x.part.batch) g (h (in_open.Part q) refl)
+    go (Some (Holds (in_open.Part q))) h f = let g : prepared_of q ≡ p = cc in subst (λ (x : PreparedValue). HasRoom s x.part.batch) g (h (in_open.Part q) refl)
     go (Some (Holds (in_open.Led l))) h f = absurd (cc)
     go (Some (Holds (in_open.Remote r))) h f = absurd (cc)
     go (Some IsApplied) h f = absurd (cc)

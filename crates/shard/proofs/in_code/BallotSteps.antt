@@ -147,7 +147,7 @@ alone_at_once false cs e f = absurd (cc)
 -- a ballot that is completed may be settled
 pub may_settle : (t : TxnValue) (n : ℕ) (r : Remote) (k : ShardKept) (room : LedgerValue) (complete : Option CompleteValue) → (kept_ballot_of r).txn ≡ t
     → complete ≡ readied_by n (Some (Holds (in_open.Remote r))) → Becomes t (state_ready n (Some (Holds (in_open.Remote r)))) room k.transactions.ledger
-    → (((missing_in r.ballot == 0) && (length r.ballot.notices.cohorts == 0)) ≡ true → in_store.HasRoom k.transactions.store.rows r.ballot.part.batch)
+    → (((missing_in r.ballot == 0) && (length r.ballot.notices.cohorts == 0)) ≡ true → in_store.HasRoom k.transactions.store r.ballot.part.batch)
     → IfSome complete (λ c. MaySettle t n r.ballot.stamp k c)
 may_settle t n r k room complete is completes becomes has_room = by_cases (missing_in r.ballot == 0) there (λ e. nothing (none_later n r e))
   where

@@ -1,7 +1,6 @@
 -- Votes, as what is kept takes them.
 use Rattle.std.proofs.Common.{◌≡◌, ◌∙◌, sym, ap, subst, refl, ℕ, Bool, true, false, if◌then◌else◌, List, [], ◌++◌, Option, Some, None, map, is_some, append-nil}
 use Rattle.logical_time.specs.Stamps.{StampValue, TxnValue}
-use Rattle.column_family.specs.declared.batch.Row.{Row}
 use Rattle.column_family.proofs.Options.{by_cases}
 use Rattle.store.specs.Stored as in_store
 use Rattle.store.specs.Keeps.{Keeps, AreApart}
@@ -116,17 +115,17 @@ last_vote_so top me n node t k ts l a led before es after r held all apart becom
         → IsStep top me (on_yes top me n a node u) l before after
 
 -- there is room for what the last vote completes
-pub room_for_own : (l m : LedgerValue) (t : TxnValue) (node : ℕ) (own : CompleteValue) (rows kept_rows : List (Row × in_store.Chains)) → is_some (completed_by node (state_of l t)) ≡ true
-    → m ≡ l → Some own ≡ completed_by node (state_of m t) → kept_rows ≡ rows
-    → ((o : Open) → open_in (state_of l t) ≡ Some o → in_store.HasRoom rows (part_of o).batch) → in_store.HasRoom kept_rows own.own.part.batch
-room_for_own l m t node own rows kept_rows last same is stays room =
+pub room_for_own : (l m : LedgerValue) (t : TxnValue) (node : ℕ) (own : CompleteValue) (made kept : in_store.StoreValue) → is_some (completed_by node (state_of l t)) ≡ true
+    → m ≡ l → Some own ≡ completed_by node (state_of m t) → kept ≡ made
+    → ((o : Open) → open_in (state_of l t) ≡ Some o → in_store.HasRoom made (part_of o).batch) → in_store.HasRoom kept own.own.part.batch
+room_for_own l m t node own made kept last same is stays room =
     let w = which_ballot node (state_of l t) last in
     let completed : completed_by node (state_of l t) ≡ Some (record { own = w.0.ballot.own; cohorts = w.0.ballot.votes.cohorts }) =
     ap (completed_by node) w.1 ∙ ap (λ (b : Bool). complete_in (voted_if b (record w.0.ballot { votes = counted w.0.ballot.votes node }))) w.2 in
     let eq : Some own ≡ Some (record { own = w.0.ballot.own; cohorts = w.0.ballot.votes.cohorts }) = is ∙ (ap (λ (x : LedgerValue). completed_by node (state_of x t)) same ∙ completed) in
     let own_is : own ≡ record { own = w.0.ballot.own; cohorts = w.0.ballot.votes.cohorts } = cc in
-    subst (λ (x : CompleteValue). in_store.HasRoom kept_rows x.own.part.batch) (sym own_is)
-    (subst (λ rs. in_store.HasRoom rs w.0.ballot.own.part.batch) (sym stays) (room (in_open.Led w.0) (ap open_in w.1)))
+    subst (λ (x : CompleteValue). in_store.HasRoom kept x.own.part.batch) (sym own_is)
+    (subst (λ (s : in_store.StoreValue). in_store.HasRoom s w.0.ballot.own.part.batch) (sym stays) (room (in_open.Led w.0) (ap open_in w.1)))
 
 -- the whole step of the last vote, by what the calls did
 pub decides_by_vote : (top : TopologyValue) (me n node here : ℕ) (t : TxnValue) (k : ShardKept) (room ts : TransactionsValue) (l : ShardKept) (a : ShardState) (own : CompleteValue) (stamp : StampValue) (before es after : List Envelope)

@@ -78,7 +78,7 @@ alone_sent f cohorts before es after none sent =
 -- what a ballot completes that has one more may be settled
 pub counted_settles : (t : TxnValue) (n m : ℕ) (r : Remote) (k : ShardKept) (room : LedgerValue) (s : Option State) (stamp : StampValue) (complete : Option CompleteValue)
     → (kept_ballot_of r).txn ≡ t → m ≡ n → s ≡ Some (Holds (in_open.Remote r)) → stamp ≡ r.ballot.stamp
-    → complete ≡ readied_by m s → Becomes t (state_ready m s) room k.transactions.ledger → (((missing_in r.ballot == 0) && (length r.ballot.notices.cohorts == 0)) ≡ true → HasRoom k.transactions.store.rows r.ballot.part.batch)
+    → complete ≡ readied_by m s → Becomes t (state_ready m s) room k.transactions.ledger → (((missing_in r.ballot == 0) && (length r.ballot.notices.cohorts == 0)) ≡ true → HasRoom k.transactions.store r.ballot.part.batch)
     → IfSome complete (λ c. MaySettle t n stamp k c)
 counted_settles t n m r k room s stamp complete own same_time is same_stamp completes becomes has_room =
     subst (λ (x : StampValue). IfSome complete (λ c. MaySettle t n x k c)) (sym same_stamp)
@@ -117,7 +117,7 @@ missing_counts (in_missing.Answer dependency) top me n a t r own h waits = answe
 -- what it completes may be settled
 pub missing_settles : (missing : Missing) (t : TxnValue) (n m : ℕ) (r : Remote) (k : ShardKept) (room : LedgerValue) (s : Option State) (stamp : StampValue) (complete : Option CompleteValue)
     → (kept_ballot_of r).txn ≡ t → m ≡ n → s ≡ state_with missing (Some (Holds (in_open.Remote r))) → stamp ≡ r.ballot.stamp
-    → complete ≡ readied_by m s → Becomes t (state_ready m s) room k.transactions.ledger → (((missing_in (remote_with r missing).ballot == 0) && (length r.ballot.notices.cohorts == 0)) ≡ true → HasRoom k.transactions.store.rows r.ballot.part.batch)
+    → complete ≡ readied_by m s → Becomes t (state_ready m s) room k.transactions.ledger → (((missing_in (remote_with r missing).ballot == 0) && (length r.ballot.notices.cohorts == 0)) ≡ true → HasRoom k.transactions.store r.ballot.part.batch)
     → IfSome complete (λ c. MaySettle t n stamp k c)
 missing_settles (in_missing.Notice node) t n m r = counted_settles t n m (remote_with r (in_missing.Notice node))
 missing_settles (in_missing.Answer dependency) t n m r = counted_settles t n m (remote_with r (in_missing.Answer dependency))
@@ -187,7 +187,7 @@ missing_passes (in_missing.Answer dependency) top me n k a t before r known e = 
 
 -- there is room for the own part of a ballot that is decided
 pub ready_room : (t : TxnValue) (r : Remote) (ledger : LedgerValue) (room ts : TransactionsValue) (b c : Bool) → b ≡ c → open_in (state_of ledger t) ≡ Some (in_open.Remote r) → ts.store ≡ room.store
-    → (b ≡ true → (o : Open) → open_in (state_of ledger t) ≡ Some o → HasRoom room.store.rows (part_of o).batch)
-    → c ≡ true → HasRoom ts.store.rows r.ballot.part.batch
+    → (b ≡ true → (o : Open) → open_in (state_of ledger t) ≡ Some o → HasRoom room.store (part_of o).batch)
+    → c ≡ true → HasRoom ts.store r.ballot.part.batch
 ready_room t r ledger room ts b c same is store made e =
-    subst (λ (x : in_store.StoreValue). HasRoom x.rows r.ballot.part.batch) (sym store) (made (same ∙ e) (in_open.Remote r) is)
+    subst (λ (x : in_store.StoreValue). HasRoom x r.ballot.part.batch) (sym store) (made (same ∙ e) (in_open.Remote r) is)

@@ -10,7 +10,7 @@ use Rattle.messages.specs.Topology.{TopologyValue}
 use Rattle.messages.specs.Words.{is_same_txn}
 use Rattle.messages.specs.Shard.{ShardState, ShardStep, Role, Cohort, Replica, PreparedPart, BegunBallot, Vote, Decision, KeptPart, KeptBallot, Met, Asker, WaitingRead}
 use Rattle.messages.specs.Commits.{decide, hold, prepare_part, apply_part, with_vote}
-use Rattle.messages.specs.Replication.{ballot_of, ready, with_ballot, with_notice, with_met}
+use Rattle.messages.specs.Replication.{ballot_of, with_ballot, with_notice, with_met}
 use Rattle.messages.specs.ShardEvents.{handled, collected}
 use Rattle.messages.specs.declared.envelope.Envelope.{Envelope}
 use Rattle.shard.specs.Sound.{IsWithin}

@@ -21,7 +21,7 @@ returns-in_default-clause-step c = λ top me a r apart.
     ]
 
 pub commit-requires : goal.commit-requires
-commit-requires c = has_room c.args.kept.now.transactions.ledger c.make_room_for.new.self.ledger c.args.txn c.make_room_for.new.self.store.rows c.make_room_for.ensures.ledger c.in_ok-make_room_for.ensures.ok
+commit-requires c = has_room c.args.kept.now.transactions.ledger c.make_room_for.new.self.ledger c.args.txn c.make_room_for.new.self.store c.make_room_for.ensures.ledger c.in_ok-make_room_for.ensures.ok
 
 pub returns-clause-step : goal.returns-clause-step
 returns-clause-step c = λ top me a r apart.

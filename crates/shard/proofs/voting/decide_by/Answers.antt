@@ -1,5 +1,4 @@
 use Rattle.std.proofs.Common.{◌∙◌, ◌++◌, ap, subst, ℕ, List, map}
-use Rattle.store.specs.Stored as in_store
 use Rattle.messages.specs.declared.envelope.Envelope.{Envelope}
 use Rattle.messages.specs.Posting.{commit_to}
 use Rattle.write_txn.specs.Ledger.{state_of, state_voted, Becomes}
@@ -8,8 +7,8 @@ use Rattle.shard.proofs.voting.decide_by.Goals as goal
 
 pub settle-requires-clause-room : goal.settle-requires-clause-room
 settle-requires-clause-room c =
-    room_for_own c.args.kept.now.transactions.ledger c.make_room_for.new.self.ledger c.args.txn c.args.node c.in-Some.complete c.make_room_for.new.self.store.rows c.vote.new.self.store.rows c.requires
-    c.make_room_for.ensures.ledger c.in-Some.ensures.complete (ap (λ (s : in_store.StoreValue). s.rows) c.vote.ensures.store) c.in_ok-make_room_for.ensures.ok
+    room_for_own c.args.kept.now.transactions.ledger c.make_room_for.new.self.ledger c.args.txn c.args.node c.in-Some.complete c.make_room_for.new.self.store c.vote.new.self.store c.requires
+    c.make_room_for.ensures.ledger c.in-Some.ensures.complete c.vote.ensures.store c.in_ok-make_room_for.ensures.ok
 
 pub returns-clause-step : goal.returns-clause-step
 returns-clause-step c = λ top me a r apart.
