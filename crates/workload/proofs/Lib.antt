@@ -10,7 +10,6 @@ pub mod Refused
 pub mod Shown
 pub mod Spelled
 pub mod Drains
-pub mod DrainsInTime
 pub mod Plays
 pub mod Noted
 pub mod Since

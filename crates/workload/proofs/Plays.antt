@@ -19,13 +19,14 @@ use Rattle.workload.specs.declared.script.ScriptEvent.{ScriptEvent}
 use Rattle.workload.specs.declared.script.ScriptEvent.TheVariants as script
 use Rattle.workload.specs.declared.transcript.Entry.{Entry}
 use Rattle.workload.specs.declared.transcript.Entry.TheVariants as entry
-use Rattle.workload.specs.Simulation.{deliveries, spelled, ended_between, submission_refused, refused_as, told_if, told_of, then_told, told, simulated_in}
+use Rattle.workload.specs.Simulation.{spelled, ended_between, submission_refused, refused_as, told_if, told_of, then_told, told, simulated_in}
 use Rattle.workload.specs.HasTold.{HasTold}
-use Rattle.workload.specs.Drain.{IsDrained, IsDrainedUntil}
+use Rattle.drains.specs.Drain.{deliveries, IsDrained, IsDrainedUntil}
+use Rattle.drains.proofs.Underway.{by_memory_or_run, from_there}
 use Rattle.workload.specs.Playing.{Plays, PlaysBefore, Adds, EndsWith}
 use Rattle.workload.proofs.Told.{none_ended}
 use Rattle.workload.proofs.Spelled.{told_none, told_more, told_until}
-use Rattle.workload.proofs.Drains.{by_memory_or_run, allowed_told, one_told, refused_told, from_there}
+use Rattle.workload.proofs.Drains.{allowed_told, one_told, refused_told}
 
 -- ## One event of a run
 

@@ -1,34 +1,15 @@
 -- A script event by event: what it spells, and what is told of it so far.
-use Rattle.std.proofs.Common.{◌≡◌, ◌∙◌, ℕ, zero, suc, List, [], ◌∷◌, ◌++◌, Some, None, Ok, Err, refl, ap, sym, append_assoc, append-nil}
+use Rattle.std.proofs.Common.{◌≡◌, ◌∙◌, List, [], ◌∷◌, ◌++◌, Ok, Err, refl, ap, sym, append_assoc, append-nil}
 use Rattle.logical_time.specs.declared.fault.Fault.{Fault}
 use Rattle.messages.specs.Topology.{TopologyValue}
-use Rattle.world.specs.declared.run_event.RunEvent.TheVariants.{Deliver}
-use Rattle.world.specs.Run.{Run, opening, step, continued}
-use Rattle.world.specs.Lookups.{first_unhandled}
+use Rattle.world.specs.Run.{Run, opening, continued}
 use Rattle.world.proofs.safety.Runs.{run_after}
 use Rattle.workload.specs.declared.script.ScriptEvent.{ScriptEvent}
 use Rattle.workload.specs.declared.script.Script.{Script}
 use Rattle.workload.specs.declared.transcript.Entry.{Entry}
-use Rattle.workload.specs.Simulation.{deliveries, spelled, all_spelled, then_told, told, simulated}
+use Rattle.workload.specs.Simulation.{spelled, all_spelled, then_told, told, simulated}
 use Rattle.workload.specs.HasTold.{HasTold}
 use Rattle.workload.proofs.Told.{told_after}
-
--- ## Drains
-
--- where all is handled a drain delivers nothing
-pub none_delivered : (top : TopologyValue) (n : ℕ) (w : Run) → first_unhandled w ≡ None → deliveries top n w ≡ []
-unfolding deliveries
-none_delivered top zero w e = refl
-none_delivered top (suc n) w e = rw e refl
-
-pub next_delivered : (top : TopologyValue) (n : ℕ) (w : Run) (k : ℕ) → first_unhandled w ≡ Some k
-    → deliveries top (suc n) w ≡ Deliver k ∷ deliveries top n (step top w (Deliver k))
-unfolding deliveries
-next_delivered top n w k e = rw e refl
-
-pub all_delivered : (top : TopologyValue) (w : Run) → deliveries top 0 w ≡ []
-unfolding deliveries
-all_delivered top w = refl
 
 -- ## Events in order
 

@@ -11,7 +11,7 @@ use Rattle.slice.specs.declared.predicate.Predicate.{Predicate}
 use Rattle.slice.specs.declared.predicate.Predicate.TheVariants.{Names, Range}
 use Rattle.messages.specs.declared.op.Op.{Op}
 use Rattle.messages.specs.declared.op.Op.TheVariants.{Batch, Read as Asks, Move}
-use Rattle.messages.specs.Topology.{TopologyValue, is_topology, shard_count, session_node}
+use Rattle.messages.specs.Topology.{TopologyValue, is_small_topology, shard_count, session_node}
 use Rattle.workload.specs.declared.script.ScriptEvent.{ScriptEvent}
 use Rattle.workload.specs.declared.script.ScriptEvent.TheVariants.{Submit, Deliver, Collect, Drain}
 use Rattle.workload.specs.declared.script.Script.{Script}
@@ -180,7 +180,7 @@ abbrev pub small_of : Data → Option ℕ
 small_of = whole_below (2 ^ 16)
 
 abbrev pub topology_among : TopologyValue → Option TopologyValue
-topology_among top = if is_topology top.dcs top.shards top.homes then Some top else None
+topology_among top = if is_small_topology top.dcs top.shards top.homes then Some top else None
 
 -- "dcs": .., "shards": .., "families": [..], "homes": [data centre, ..], within the limits of a topology
 unfoldable pub topology_of : Data → Option TopologyValue

@@ -1,6 +1,5 @@
 -- What a script makes of a run, and what its transcript tells.
-use Rattle.std.specs.Prelude.{◌≡◌, ℕ, zero, suc, Bool, true, false, not, List, [], ◌∷◌, ◌++◌, length, map, filter, drop, Option, Some, None, option_map, option_to_list, Result, Ok, Err, Contains}
-use Rattle.std.specs.Option.{unwrap_or}
+use Rattle.std.specs.Prelude.{◌≡◌, ℕ, Bool, true, false, not, List, [], ◌∷◌, ◌++◌, length, map, filter, drop, Option, Some, None, option_map, option_to_list, Result, Ok, Err, Contains}
 use Rattle.logical_time.specs.declared.fault.Fault.{Fault}
 use Rattle.logical_time.specs.declared.fault.Fault.TheVariants.{ClockSpent, Script as NoScript}
 use Rattle.column_family.specs.History.{History}
@@ -17,7 +16,7 @@ use Rattle.world.specs.declared.completed.Completed.{Completed}
 use Rattle.world.specs.Run.{Run, opening, step, continued, run}
 use Rattle.world.specs.Refusals.{Refusal, Refused, NotSent, NoSuchActor, refusal_of}
 use Rattle.world.specs.Histories.{IsHistory}
-use Rattle.world.specs.Lookups.{first_unhandled}
+use Rattle.drains.specs.Drain.{deliveries}
 use Rattle.workload.specs.declared.script.ScriptEvent.{ScriptEvent}
 use Rattle.workload.specs.declared.script.ScriptEvent.TheVariants as script
 use Rattle.workload.specs.declared.script.Script.{Script}
@@ -25,11 +24,6 @@ use Rattle.workload.specs.declared.transcript.Entry.{Entry}
 use Rattle.workload.specs.declared.transcript.Entry.TheVariants as entry
 
 -- ## The run of a script
-
--- the deliveries of a drain, at most so many: each time the first message that was not handled, until there is none
-unfoldable pub deliveries : TopologyValue → ℕ → Run → List RunEvent
-deliveries top zero w = []
-deliveries top (suc n) w = unwrap_or (option_map (λ k. Deliver k ∷ deliveries top n (step top w (Deliver k))) (first_unhandled w)) []
 
 -- the events of a run that an event of a script stands for: a drain for its deliveries, any other for itself
 abbrev pub spelled : TopologyValue → Run → ScriptEvent → List RunEvent

@@ -5,7 +5,6 @@
 
 mod along;
 mod auditing;
-mod draining;
 mod explaining;
 mod heading;
 mod law;
@@ -23,7 +22,6 @@ mod wrong;
 
 pub use audit::{Audit, audit};
 pub use auditing::{sim_audited, simulate_audited, simulate_recorded};
-pub use draining::drain;
 pub use law::{a_move_is_told_with_its_floor, moves_go_to_data_centres};
 pub use performing::{explain, perform, sim};
 pub use reading::read_script;

@@ -8,10 +8,10 @@ ghost use Rattle.workload.specs.Simulation.{simulated_in, simulated, IsTranscrip
 ghost use Rattle.workload.specs.Playing.{Plays, PlaysBefore, Adds, EndsWith};
 ghost use Rattle.workload.specs.HasTold.{HasTold, HasNoted};
 
-use crate::draining::drain;
 use crate::marks::{Mark, Refusal, note, with_copies, with_outcomes};
 use crate::script::{Script, ScriptEvent};
 use crate::transcript::Transcript;
+use drains::drain;
 use logical_time::{Fault, Node, Time};
 use messages::Op;
 use std::alloc::Global;

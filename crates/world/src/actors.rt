@@ -33,24 +33,25 @@ pub struct Actors {
     pub transcript: Vec<Completed>,
 }
 
-/// A shard handles the message of this number, which stays in the network. Refused as the shard refuses it; then all stand
-/// for what they stood for.
+/// The shard at this place handles an envelope. Refused as the shard refuses it; then all stand for what they stood for.
 fn hand_over(
     shards: &mut Vec<Shard>,
     place: usize,
-    number: usize,
+    envelope: Envelope,
     network: &mut Outbox,
 ) -> Result<(), Fault>
-    requires place { place < length shards.old.items }
-    requires sent { number < length network.old.sent }
-    ensures ok { (top : TopologyValue) (states : ℕ → ShardState) (e : Envelope) → slice_get network.old.sent number ≡ Some e → AreShards top states shards.old.items → StaysApart (shard_handle top place (states place) e)
-        → OnOk result (DidShard top states place (shard_handle top place (states place) e) shards.new.items network.old.sent network.new.sent) }
-    ensures refused { (top : TopologyValue) (states : ℕ → ShardState) (e : Envelope) → slice_get network.old.sent number ≡ Some e → AreShards top states shards.old.items
-        → IfErr result (λ f. IsRefusalOf (shard_handle top place (states place) e) f) }
+    requires { place < length shards.old.items }
+    ensures ok { (top : TopologyValue) (states : ℕ → ShardState) → AreShards top states shards.old.items → StaysApart (shard_handle top place (states place) envelope)
+        → OnOk result (DidShard top states place (shard_handle top place (states place) envelope) shards.new.items network.old.sent network.new.sent) }
+    ensures refused { (top : TopologyValue) (states : ℕ → ShardState) → AreShards top states shards.old.items
+        → IfErr result (λ f. IsRefusalOf (shard_handle top place (states place) envelope) f) }
     ensures same { (top : TopologyValue) (states : ℕ → ShardState) → AreShards top states shards.old.items → OnErr result (AreShards top states shards.new.items) }
     ensures unsent { OnErr result (network.new.sent ≡ network.old.sent) }
 {
-    shards[place].hear_at(number, network)
+    match shards[place].handle(envelope, network) {
+        Ok(()) => Ok(()),
+        Err(refused) => Err(refused.fault),
+    }
 }
 
 /// A shard collects up to a time. Refused as the shard refuses it; then all stand for what they stood for.
@@ -157,56 +158,10 @@ impl Actors {
         copy_of(&self.network, number)
     }
 
-    /// Whom the message of this number is for.
-    fn addressee(&self, number: usize) -> Node
-        requires { number < length self.now.network.sent }
-        ensures { (e : Envelope) → slice_get self.now.network.sent number ≡ Some e → result ≡ e.to }
-    {
-        match self.network.get(number) {
-            Some(envelope) => envelope.to,
-            None => unreachable!(),
-        }
-    }
-
     /// The message of this number is delivered.
     pub fn deliver(&mut self, number: usize) -> Result<(), Fault>
         requires sent { number < length self.old.network.sent }
         requires addressed { (e : Envelope) → slice_get self.old.network.sent number ≡ Some e → e.to < length self.old.shards.items + length self.old.stations.items }
-        ensures ok { (top : TopologyValue) (events : List RunEvent) → IsRunning top (run top events) self.old → OnOk result (HasTaken top events (Deliver number) self.new) }
-        ensures refused { (top : TopologyValue) (events : List RunEvent) → IsRunning top (run top events) self.old
-            → IfErr result (IsRefusedAs (refusal_of top (run top events) (Deliver number))) }
-        ensures same { (top : TopologyValue) (events : List RunEvent) → IsRunning top (run top events) self.old → OnErr result (IsRunning top (run top events) self.new) }
-        ensures topology { self.new.topology ≡ self.old.topology }
-    {
-        let place = usize::from(self.addressee(number).get());
-        if place < self.shards.len() {
-            self.to_shard(place, number)
-        } else {
-            self.to_session(number)
-        }
-    }
-
-    /// The shard at this place handles the message of this number.
-    fn to_shard(&mut self, place: usize, number: usize) -> Result<(), Fault>
-        requires place { place < length self.old.shards.items }
-        requires sent { number < length self.old.network.sent }
-        requires to { (e : Envelope) → slice_get self.old.network.sent number ≡ Some e → e.to ≡ place }
-        ensures ok { (top : TopologyValue) (events : List RunEvent) → IsRunning top (run top events) self.old → OnOk result (HasTaken top events (Deliver number) self.new) }
-        ensures refused { (top : TopologyValue) (events : List RunEvent) → IsRunning top (run top events) self.old
-            → IfErr result (IsRefusedAs (refusal_of top (run top events) (Deliver number))) }
-        ensures same { (top : TopologyValue) (events : List RunEvent) → IsRunning top (run top events) self.old → OnErr result (IsRunning top (run top events) self.new) }
-        ensures topology { self.new.topology ≡ self.old.topology }
-    {
-        match hand_over(&mut self.shards, place, number, &mut self.network) {
-            Ok(()) => Ok(()),
-            Err(fault) => Err(fault),
-        }
-    }
-
-    /// A session handles the message of this number.
-    fn to_session(&mut self, number: usize) -> Result<(), Fault>
-        requires sent { number < length self.old.network.sent }
-        requires addressed { (e : Envelope) → slice_get self.old.network.sent number ≡ Some e → (length self.old.shards.items ≤ e.to) × (e.to < length self.old.shards.items + length self.old.stations.items) }
         ensures ok { (top : TopologyValue) (events : List RunEvent) → IsRunning top (run top events) self.old → OnOk result (HasTaken top events (Deliver number) self.new) }
         ensures refused { (top : TopologyValue) (events : List RunEvent) → IsRunning top (run top events) self.old
             → IfErr result (IsRefusedAs (refusal_of top (run top events) (Deliver number))) }
@@ -219,8 +174,43 @@ impl Actors {
         }
     }
 
-    /// The session to which it is addressed handles an envelope.
+    /// Who is addressed handles an envelope.
     fn hand(&mut self, envelope: Envelope) -> Result<(), Fault>
+        requires to { envelope.to < length self.old.shards.items + length self.old.stations.items }
+        requires room { HasRoom self.old.transcript }
+        ensures ok { (top : TopologyValue) (events : List RunEvent) (k : ℕ) → IsRunning top (run top events) self.old → slice_get self.old.network.sent k ≡ Some envelope
+            → OnOk result (HasTaken top events (Deliver k) self.new) }
+        ensures refused { (top : TopologyValue) (events : List RunEvent) (k : ℕ) → IsRunning top (run top events) self.old → slice_get self.old.network.sent k ≡ Some envelope
+            → IfErr result (IsRefusedAs (refusal_of top (run top events) (Deliver k))) }
+        ensures same { (top : TopologyValue) (events : List RunEvent) → IsRunning top (run top events) self.old → OnErr result (IsRunning top (run top events) self.new) }
+        ensures topology { self.new.topology ≡ self.old.topology }
+    {
+        if usize::from(envelope.to.get()) < self.shards.len() {
+            self.to_shard(envelope)
+        } else {
+            self.to_session(envelope)
+        }
+    }
+
+    /// The shard to which it is addressed handles an envelope.
+    fn to_shard(&mut self, envelope: Envelope) -> Result<(), Fault>
+        requires { envelope.to < length self.old.shards.items }
+        ensures ok { (top : TopologyValue) (events : List RunEvent) (k : ℕ) → IsRunning top (run top events) self.old → slice_get self.old.network.sent k ≡ Some envelope
+            → OnOk result (HasTaken top events (Deliver k) self.new) }
+        ensures refused { (top : TopologyValue) (events : List RunEvent) (k : ℕ) → IsRunning top (run top events) self.old → slice_get self.old.network.sent k ≡ Some envelope
+            → IfErr result (IsRefusedAs (refusal_of top (run top events) (Deliver k))) }
+        ensures same { (top : TopologyValue) (events : List RunEvent) → IsRunning top (run top events) self.old → OnErr result (IsRunning top (run top events) self.new) }
+        ensures topology { self.new.topology ≡ self.old.topology }
+    {
+        let place = usize::from(envelope.to.get());
+        match hand_over(&mut self.shards, place, envelope, &mut self.network) {
+            Ok(()) => Ok(()),
+            Err(fault) => Err(fault),
+        }
+    }
+
+    /// The session to which it is addressed handles an envelope.
+    fn to_session(&mut self, envelope: Envelope) -> Result<(), Fault>
         requires to { (length self.old.shards.items ≤ envelope.to) × (envelope.to < length self.old.shards.items + length self.old.stations.items) }
         requires room { HasRoom self.old.transcript }
         ensures ok { (top : TopologyValue) (events : List RunEvent) (k : ℕ) → IsRunning top (run top events) self.old → slice_get self.old.network.sent k ≡ Some envelope

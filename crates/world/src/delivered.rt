@@ -1,5 +1,5 @@
 //! Which messages were delivered.
-ghost use Rattle.std.specs.Prelude.{◌≡◌, ◌<◌, ◌≤◌, ◌==◌, ◌||◌, ℕ, length, IfErr, OnOk, true, false};
+ghost use Rattle.std.specs.Prelude.{◌≡◌, ◌<◌, ◌==◌, ◌||◌, ℕ, length, OnOk, true, false};
 ghost use Rattle.world.specs.Delivered.{is_marked, IsFirstUnmarked};
 
 use std::alloc::{AllocError, Global};

@@ -39,6 +39,7 @@ pub use lookalikes::{
     lookalikes_of_shards_are_false, lookalikes_of_stamps_are_false, lookalikes_of_tables_are_false,
     lookalikes_of_transcripts_are_false,
 };
+pub use opening::{close_shards, copy_of, leave_shards, open_shards};
 pub use promises::{
     clocks_count_events, completed_writes_are_in_the_history, deliveries_come_nearer, drains_end,
     each_shard_of_a_run_is_right, handled_envelopes_are_honest, histories_only_grow,

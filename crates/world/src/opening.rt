@@ -35,9 +35,9 @@ fn open_shard(alloc: Global, topology: &Topology, node: Node) -> Shard
     }
 }
 
-/// The shards.
+/// The shards of a topology, in the order of their nodes, before their first events. Refused with `Memory` alone.
 #[tactic(auto, using(crate::proofs::in_code::Beginning::none_yet, crate::proofs::in_code::Beginning::one_more, crate::proofs::in_code::Beginning::shards_begin, crate::proofs::in_code::Beginning::node_is_shard))]
-fn open_shards(alloc: Global, topology: &Topology) -> Result<Vec<Shard>, Fault>
+pub fn open_shards(alloc: Global, topology: &Topology) -> Result<Vec<Shard>, Fault>
     ensures ok { IfOk result (λ shards. AreShards topology.now (λ node. new_shard) shards.items) }
     ensures memory { IfErr result (λ e. e ≡ Fault.Memory) }
 {
@@ -90,15 +90,12 @@ fn open_stations(alloc: Global, topology: &Topology) -> Result<Vec<Station>, Fau
 }
 
 /// A copy of a topology. Refused with `Memory` alone.
-#[tactic(auto, using(crate::proofs::in_code::Beginning::sound_topology))]
-fn copy_of(alloc: Global, topology: &Topology) -> Result<Topology, Fault>
+pub fn copy_of(topology: &Topology) -> Result<Topology, Fault>
     ensures same { IfOk result (λ copy. copy ≡ topology.now) }
     ensures sound { IfOk result (λ copy. is_topology topology.now.dcs topology.now.shards topology.now.homes ≡ true) }
     ensures memory { IfErr result (λ e. e ≡ Fault.Memory) }
 {
-    let schema = topology.schema().clone()?;
-    let homes = Vec::from_slice(alloc, topology.homes())?;
-    Topology::new(topology.dcs(), topology.shards().get(), schema, homes)
+    Ok(topology.copied()?)
 }
 
 /// The actors.
@@ -106,7 +103,7 @@ pub fn open_actors(alloc: Global, topology: &Topology) -> Result<Actors, Fault>
     ensures ok { IfOk result (λ actors. (actors.topology ≡ topology.now) × IsRunning topology.now (opening topology.now) actors) }
     ensures memory { IfErr result (λ e. e ≡ Fault.Memory) }
 {
-    let copy = copy_of(alloc, topology)?;
+    let copy = copy_of(topology)?;
     let stations = open_stations(alloc, topology)?;
     match open_shards(alloc, topology) {
         Ok(shards) => Ok(Actors {
@@ -123,7 +120,7 @@ pub fn open_actors(alloc: Global, topology: &Topology) -> Result<Actors, Fault>
     }
 }
 
-/// Ends the shards.
+/// Ends the shards, one by one.
 pub fn close_shards(mut shards: Vec<Shard>) {
     while let Some(shard) = shards.pop() {
         shard.close();
@@ -131,7 +128,7 @@ pub fn close_shards(mut shards: Vec<Shard>) {
     shards.destroy_empty();
 }
 
-/// Ends the shards for a program that ends with them.
+/// Ends the shards for a program that ends with them: the memory of their rows is given back with that of the process.
 pub fn leave_shards(mut shards: Vec<Shard>) {
     while let Some(shard) = shards.pop() {
         shard.leave();

@@ -4,7 +4,7 @@ ghost use Rattle.messages.specs.Topology.{TopologyValue};
 ghost use Rattle.messages.specs.Session.{SessionState};
 ghost use Rattle.messages.specs.Submitting.{session_submit};
 ghost use Rattle.messages.specs.SessionEvents.{session_handle};
-ghost use Rattle.client.specs.Represents.{Represents, IsStepOf, IsRefusalOf};
+ghost use Rattle.client.specs.Represents.{Represents, IsRefusalOf};
 ghost use Rattle.client.specs.State.{finished_of};
 ghost use Rattle.world.specs.Run.{with_ended};
 ghost use Rattle.world.specs.Log.{HasRoom};

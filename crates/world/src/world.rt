@@ -1,5 +1,5 @@
 //! Worlds: every interleaving of what actors do, as a list of calls.
-ghost use Rattle.std.specs.Prelude.{◌≡◌, ◌<◌, ◌+◌, ◌++◌, ◌↔◌, ℕ, List, [], length, is_some, true, Some, None, option_map, IfOk, IfErr, OnOk, OnErr};
+ghost use Rattle.std.specs.Prelude.{◌≡◌, ◌<◌, ◌+◌, ◌++◌, ◌↔◌, List, [], length, true, Some, None, IfOk, IfErr, OnOk, OnErr};
 ghost use Rattle.logical_time.specs.declared.fault.Fault.TheVariants as fault;
 ghost use Rattle.messages.specs.Topology.{is_shard, is_session, is_topology};
 ghost use Rattle.world.specs.Run.{RunEvent, Submit, Deliver, Collect};

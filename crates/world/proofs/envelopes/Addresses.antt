@@ -40,9 +40,9 @@ pub record Stands (top : TopologyValue) : Type 0 where
 pub stands : (top : TopologyValue) → is_topology top.dcs top.shards top.homes ≡ true → Stands top
 stands top e =
     let p = and_parts (nat_le 1 top.dcs && nat_le top.dcs 4 && nat_le 1 top.shards && nat_le top.shards 8 && nat_le 1 (length top.homes) && nat_le
-    (length top.homes) 16) (list_all (λ d. nat_lt d top.dcs) top.homes) e in
+    (length top.homes) 10000) (list_all (λ d. nat_lt d top.dcs) top.homes) e in
     let a = and_parts (nat_le 1 top.dcs && nat_le top.dcs 4 && nat_le 1 top.shards && nat_le top.shards 8 && nat_le 1 (length top.homes))
-    (nat_le (length top.homes) 16) p.0 in
+    (nat_le (length top.homes) 10000) p.0 in
     let b = and_parts (nat_le 1 top.dcs && nat_le top.dcs 4 && nat_le 1 top.shards && nat_le top.shards 8) (nat_le 1 (length top.homes)) a.0 in
     let c = and_parts (nat_le 1 top.dcs && nat_le top.dcs 4 && nat_le 1 top.shards) (nat_le top.shards 8) b.0 in
     let d = and_parts (nat_le 1 top.dcs && nat_le top.dcs 4) (nat_le 1 top.shards) c.0 in

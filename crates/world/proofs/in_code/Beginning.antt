@@ -1,12 +1,8 @@
 -- The actors of a world before their first events.
-use Rattle.std.proofs.Common.{◌≡◌, ◌∙◌, ℕ, zero, suc, ◌+◌, ◌<◌, ◌≤◌, Bool, true, false, ◌&&◌, List, [], ◌∷◌, ◌++◌, length, length-append, slice_get, Some, Result, Ok, Err, ◌⊎◌, inl, inr, refl, sym, ap, subst, arith}
-use Rattle.std.specs.Prelude.{nat_le, nat_lt, ◌↔◌, IfErr, IsErrOf}
-use Rattle.std.specs.List.{list_all}
-use Rattle.std.proofs.lemmas.Bool.{false≢true}
+use Rattle.std.proofs.Common.{◌≡◌, ◌∙◌, ℕ, zero, suc, ◌+◌, ◌<◌, Bool, true, false, List, [], ◌∷◌, ◌++◌, length, length-append, slice_get, Some, ◌⊎◌, inl, inr, refl, sym, ap, subst, arith}
 use Rattle.std.proofs.lemmas.Bool.Decides.{nat_tests}
 use Rattle.logical_time.specs.declared.fault.Fault.{Fault}
-use Rattle.logical_time.specs.declared.fault.Fault.TheVariants.{Memory, Script}
-use Rattle.messages.specs.Topology.{TopologyValue, is_topology, is_shard, shard_count}
+use Rattle.messages.specs.Topology.{TopologyValue, is_shard, shard_count}
 use Rattle.messages.specs.Shard.{new_shard}
 use Rattle.shard.specs.declared.kept.ShardKept.{ShardKept}
 use Rattle.shard.specs.Kept as shard
@@ -56,34 +52,3 @@ SitsFirst top i s = Sits (opening top) top (shard_count top + i) s
 
 pub stations_begin : (top : TopologyValue) (n : ℕ) (xs : List Station) → n ≡ length top.homes → AreFirst (SitsFirst top) n xs → AreStations (opening top) top xs
 stations_begin top n xs e are = record { len = are.len ∙ e; each = are.each }
-
--- ## Topologies
-
-both : (b c : Bool) → b ≡ true → c ≡ true → (b && c) ≡ true
-both true true e f = refl
-both true false e f = f
-both false c e f = e
-
-pub sound_topology : (dcs shards : ℕ) (homes : List ℕ) → 1 ≤ dcs → dcs ≤ 4 → 1 ≤ shards → shards ≤ 8 → 1 ≤ length homes → length homes ≤ 16
-    → list_all (λ d. nat_lt d dcs) homes ≡ true → is_topology dcs shards homes ≡ true
-sound_topology dcs shards homes a b c d e f all =
-    both (nat_le 1 dcs && nat_le dcs 4 && nat_le 1 shards && nat_le shards 8 && nat_le 1 (length homes) && nat_le (length homes) 16) (list_all (λ z. nat_lt z dcs) homes)
-    (both (nat_le 1 dcs && nat_le dcs 4 && nat_le 1 shards && nat_le shards 8 && nat_le 1 (length homes)) (nat_le (length homes) 16)
-    (both (nat_le 1 dcs && nat_le dcs 4 && nat_le 1 shards && nat_le shards 8) (nat_le 1 (length homes))
-    (both (nat_le 1 dcs && nat_le dcs 4 && nat_le 1 shards) (nat_le shards 8)
-    (both (nat_le 1 dcs && nat_le dcs 4) (nat_le 1 shards) (both (nat_le 1 dcs) (nat_le dcs 4) (at_most 1 dcs a) (at_most dcs 4 b)) (at_most 1 shards c)) (at_most shards 8 d))
-    (at_most 1 (length homes) e)) (at_most (length homes) 16 f))
-    all
-  where
-    at_most : (m n : ℕ) → m ≤ n → nat_le m n ≡ true
-    at_most m n le = grind (arith, nat_tests)
-
--- a copy of a topology isn't refused
-pub copied_so : (t : TopologyValue) (dcs shards got : ℕ) (homes copy : List ℕ) (r : Result TopologyValue Fault) → dcs ≡ t.dcs → (1 ≤ dcs) × (dcs ≤ 4) → shards ≡ t.shards
-    → (1 ≤ shards) × (shards ≤ 8) → got ≡ shards → homes ≡ t.homes → (1 ≤ length homes) × (length homes ≤ 16) → list_all (λ d. nat_lt d t.dcs) homes ≡ true → copy ≡ homes
-    → (IsErrOf r Script ↔ (is_topology dcs got copy ≡ false)) → IfErr r (λ e. e ≡ Script) → IfErr r (λ e. e ≡ Memory)
-copied_so t dcs shards got homes copy (Ok x) d dl s sl g h hl all c refused only = tt
-copied_so t dcs shards got homes copy (Err e) d dl s sl g h hl all c refused only =
-    let sound = sound_topology dcs shards homes dl.0 dl.1 sl.0 sl.1 hl.0 hl.1 (subst (λ n. list_all (λ z. nat_lt z n) homes ≡ true) (sym d) all) in
-    let same = ap (λ n. is_topology dcs n copy) g ∙ ap (is_topology dcs shards) c ∙ sound in
-    absurd (false≢true (sym (refused.0 (ap Err only)) ∙ same))

@@ -47,7 +47,7 @@ map_element f (Some x) = refl
 abbrev pub Found : List Submission → ℕ → Finished → Type 0
 Found submitted n f = (c : Completed) × (completed_of submitted n f ≡ Some c) × (c.node ≡ n) × (finished_as c ≡ f)
 
-told_is_found : (top : TopologyValue) (w : Run) (n : ℕ) (st : SessionStep) → Inv top w → SessionAble top w n st → (f : Finished) → st.state.untaken ≡ Some f
+pub told_is_found : (top : TopologyValue) (w : Run) (n : ℕ) (st : SessionStep) → Inv top w → SessionAble top w n st → (f : Finished) → st.state.untaken ≡ Some f
     → Found w.submitted n f
 told_is_found top w n st inv able f tells = go able.turn
   where
@@ -77,7 +77,7 @@ collection_finishes_none top n (OfShard a) time s q = shard_finishes_none (shard
 collection_finishes_none top n (OfSession a) time s q = absurd (cc)
 
 -- what a submission ends at once is its own operation, the last of these submissions
-submission_is_found : (top : TopologyValue) (w : Run) (n : ℕ) (o : Op) (s : ActorStep) (b : Submission) → Inv top w
+pub submission_is_found : (top : TopologyValue) (w : Run) (n : ℕ) (o : Op) (s : ActorStep) (b : Submission) → Inv top w
     → actor_step top n (OfSession (w.sessions n)) (SubmitHere o) ≡ Some s → b.session ≡ n → b.number ≡ op_count s.state
     → (f : Finished) → s.finishes ≡ Some f → Found (w.submitted ++ b ∷ []) n f
 submission_is_found top w n o s b inv takes of number f finishes = go (submit_fault top (w.sessions n) o) takes

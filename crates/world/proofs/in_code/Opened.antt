@@ -79,7 +79,7 @@ module _ (top : TopologyValue) (w : Run) (i node n : ℕ) (o : Op) (inv : Inv to
 
 -- ## For the code
 
-submission_step : (top : TopologyValue) (w : Run) (node : ℕ) (o : Op) → is_session top node ≡ true
+pub submission_step : (top : TopologyValue) (w : Run) (node : ℕ) (o : Op) → is_session top node ≡ true
     → step top w (Submit node o) ≡ after_submission (session_submit top node (w.sessions node) o) w node o
 submission_step top w node o is = ap (λ b. submit_if b top w node o) is
 

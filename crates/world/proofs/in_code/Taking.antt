@@ -29,7 +29,7 @@ use Rattle.world.proofs.shards.RightAnswers.{parts_apart}
 
 -- ## What the definitions make of a message to an actor
 
-shard_step : (top : TopologyValue) (w : Run) (k : ℕ) (e : Envelope) → slice_get w.sent k ≡ Some e → is_shard top e.to ≡ true
+pub shard_step : (top : TopologyValue) (w : Run) (k : ℕ) (e : Envelope) → slice_get w.sent k ≡ Some e → is_shard top e.to ≡ true
     → step top w (Deliver k) ≡ after_shard (shard_handle top e.to (w.shards e.to) e) w (Deliver k) e.to
 shard_step top w k e sent to = ap (λ o. deliver_for o top w (Deliver k)) sent ∙ ap (λ b. deliver_if b (is_session top e.to) top w (Deliver k) e) to
 
@@ -42,7 +42,7 @@ shard_refusal top w k e sent to =
     else if is_session top e.to then refused_by (session_handle top e.to (w.sessions e.to) e) else Some NoSuchActor)
     to
 
-session_step : (top : TopologyValue) (w : Run) (k : ℕ) (e : Envelope) → slice_get w.sent k ≡ Some e → is_shard top e.to ≡ false → is_session top e.to ≡ true
+pub session_step : (top : TopologyValue) (w : Run) (k : ℕ) (e : Envelope) → slice_get w.sent k ≡ Some e → is_shard top e.to ≡ false → is_session top e.to ≡ true
     → step top w (Deliver k) ≡ after_session (session_handle top e.to (w.sessions e.to) e) w (Deliver k) e.to
 session_step top w k e sent other to =
     ap (λ o. deliver_for o top w (Deliver k)) sent ∙ ap (λ b. deliver_if b (is_session top e.to) top w (Deliver k) e) other
@@ -83,7 +83,7 @@ module _ (top : TopologyValue) (events : List RunEvent) where
       }
 
   -- a refusal is the run's
-  refused_so : (o : Option Refusal) (r : Result ShardStep Fault) (f : Fault) → o ≡ refused_by r → shard.IsRefusalOf r f → IsRefusedAs o f
+  pub refused_so : (o : Option Refusal) (r : Result ShardStep Fault) (f : Fault) → o ≡ refused_by r → shard.IsRefusalOf r f → IsRefusedAs o f
   refused_so o (Ok s) f same is = subst (λ z. IsRefusedAs z f) (sym same) is
   refused_so o (Err e) f same is = subst (λ z. IsRefusedAs z f) (sym same) (ap Refused (sym is))
 

@@ -6,7 +6,7 @@ pub invariant_of-result : goal.invariant_of-result
 invariant_of-result g c =
     let empty = c.in_ok-recorded.ensures.empty in
     let start = c.in_ok-recorded.ensures.start in
-    opened g.M.Machine.came_from g.M.Machine.untaken c.in_ok-recorded.recorded.machine _ c.args.ends c.in_ok-recorded.ensures.recorded (rw c.in_ok-topology.ensures c.requires.rings)
+    opened g.M.Machine.came_from g.M.Machine.untaken c.in_ok-recorded.recorded.machine _ c.args.ends c.in_ok-recorded.ensures.recorded (rw c.in_ok-topology.ensures.same c.requires.rings)
     empty.0 empty.1 (search rules) empty.3 start.1 start.2 (search rules) c.in_ok-outgoing.ensures.ok refl refl
 
 pub over-requires : goal.over-requires

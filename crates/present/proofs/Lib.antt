@@ -1,0 +1,9 @@
+pub mod Waits
+pub mod Left
+pub mod Sessions
+pub mod Going
+pub mod Calls
+pub mod AtRest
+pub mod Tidied
+pub mod Kept
+pub mod Opened

@@ -1,0 +1,24 @@
+use Rattle.std.proofs.Common.{◌+◌, subst}
+use Rattle.messages.specs.SessionEvents.{session_handle}
+use Rattle.client.specs.Represents.{IsStepOf, IsRefusalOf}
+use Rattle.world.proofs.lists.Replacing.{item_at}
+use Rattle.present.proofs.Sessions.{session_did}
+use Rattle.present.proofs.actors.hear.Goals as goal
+
+pub returns-in-Ok-clause-ok : goal.returns-in-Ok-clause-ok
+returns-in-Ok-clause-ok c =
+    λ top from states are.
+    let at = item_at c.args.sessions.now.items c.args.place c.index_mut-session.result.now c.requires c.index_mut-session.ensures.value in
+    let u = are c.args.place c.index_mut-session.result.now at in
+    session_did top from states c.args.sessions.now.items c.args.place c.index_mut-session.result.now c.handle.new.self c.take_answer.new.self
+    (session_handle top (from + c.args.place) (states (from + c.args.place)) c.args.envelope) c.args.sent.now.sent c.handle.new.outbox.sent c.take_answer.result c.requires at are
+    (subst (λ n. IsStepOf (session_handle top n (states (from + c.args.place)) c.args.envelope) top c.handle.new.self c.args.sent.now.sent c.handle.new.outbox.sent) u.node
+    (c.in-Ok.ensures.step top (states (from + c.args.place)) u.stands))
+    c.take_answer.ensures.taken c.in-Ok.ensures.node c.take_answer.ensures.node c.take_answer.ensures.answer
+
+pub returns-in-Err-clause-refused : goal.returns-in-Err-clause-refused
+returns-in-Err-clause-refused c =
+    λ top from states are.
+    let at = item_at c.args.sessions.now.items c.args.place c.index_mut-session.result.now c.requires c.index_mut-session.ensures.value in
+    let u = are c.args.place c.index_mut-session.result.now at in
+    subst (λ n. IsRefusalOf (session_handle top n (states (from + c.args.place)) c.args.envelope) c.in-Err.refused.fault) u.node (c.in-Err.ensures.refused top (states (from + c.args.place)) u.stands)

@@ -1,0 +1,24 @@
+use Rattle.std.proofs.Common.{◌≡◌, ◌∙◌, ◌+◌, ◌-◌, ◌++◌, ◌≤◌, length, take, drop, ap, subst, sym, arith}
+use Rattle.std.specs.Prelude.{reverse}
+use Rattle.present.proofs.Waits.{turned, one_fewer}
+use Rattle.present.proofs.waiting.turn_over.Goals as goal
+
+pub loop-number-preserved : goal.loop-number-preserved
+loop-number-preserved c =
+    let sent = c.loop-number.sent.sent in
+    let k = c.len-count.result - 1 - c.loop-number.number in
+    let left = c.loop-number.invariant.left in
+    let lt = c.loop-number-test.true in
+    let long : k + 1 ≡ length sent = omega (arith, left, lt) in
+    let fewer = one_fewer sent k c.remove.result long c.remove.ensures.value in
+    let now : length c.remove.new.self.sent ≡ length (take k sent ++ drop (k + 1) sent) = ap length c.remove.ensures.rest in
+    record {
+      kept =
+          ap (λ l. l ++ reverse c.push_reserved.new.self.items) c.remove.ensures.rest
+          ∙ ap (λ l. (take k sent ++ drop (k + 1) sent) ++ reverse l) c.push_reserved.ensures.items
+          ∙ turned sent c.loop-number.turn.items k c.remove.result long c.remove.ensures.value
+          ∙ c.loop-number.invariant.kept;
+      left = omega (arith, left, fewer, now);
+      turned = c.push_reserved.ensures.len ∙ ap (λ n. n + 1) c.loop-number.invariant.turned;
+      room = subst (λ n. c.len-count.result ≤ n) (sym c.push_reserved.ensures.capacity) c.loop-number.invariant.room;
+    }

@@ -1,0 +1,5 @@
+pub mod Past
+pub mod Waiting
+pub mod Present
+pub mod AtRest
+pub mod Promises

@@ -1,9 +1,0 @@
-use Rattle.std.proofs.Common.{◌≡◌, ℕ, ◌+◌}
-use Rattle.workload.proofs.Drains.{IsUnderway}
-use Rattle.workload.proofs.draining.drain.Given as goal
-
-abbrev pub invariant-loop-delivered : goal.invariant-loop-delivered
-invariant-loop-delivered l = record {
-  topology : l.world.top ≡ l.fn.world.top;
-  underway : (left : ℕ) → l.delivered + left ≡ 1000000 → IsUnderway l.fn.world.top l.fn.world.events l.world.events l.delivered left;
-}
