@@ -1,1 +1,5 @@
+pub mod Doorways
+pub mod Memory
+pub mod Spans
 pub mod Rounds
+pub mod Runs

@@ -1,5 +1,6 @@
 -- What a round makes of the places of connections.
-use Rattle.std.specs.Prelude.{◌≡◌, ℕ, ◌⊎◌, List, Option, Some, None, slice_get}
+use Rattle.std.specs.Prelude.{◌≡◌, ℕ, ◌⊎◌, List, Option, Some, None, Bool, false, All, slice_get}
+use Rattle.std.specs.List.{Contains}
 use Rattle.messages.specs.declared.op.Op.{Op}
 use Rattle.wire.specs.Replies.{Reply}
 use Rattle.readiness.specs.declared.connection.Connection.{Connection}
@@ -8,6 +9,7 @@ use Rattle.readiness.specs.Exchanges.{Entry}
 use Rattle.readiness.specs.Kept.{view, IsNew}
 use Rattle.readiness.specs.Turns.{IsOver}
 use Rattle.readiness.specs.Places.{Turns, Rests}
+use Rattle.doors.specs.declared.listening.Doors.{Doors}
 
 -- a place, as `slice_get` finds it: none past the last one, and no connection at a free one
 abbrev pub Place : Type 0 → Type 0
@@ -21,9 +23,32 @@ Closed {L = L} seen before after = (after ≡ before) ⊎ ((c : Connection L) ×
 abbrev pub Given : {L : Type 0} → Place L → Place L → Type 0
 Given {L = L} before after = (after ≡ before) ⊎ ((line : L) × (c : Connection L) × IsNew line c × (before ≡ Some None) × (after ≡ Some (Some c)))
 
+-- who stands at a place isn't over
+abbrev pub GoesOn : {L : Type 0} → (L → ReadyValue) → Place L → Type 0
+GoesOn {L = L} seen place = (c : Connection L) → place ≡ Some (Some c) → IsOver (view seen c) → ⊥
+
+-- no connection that stands at a place is over
+abbrev pub AllGoOn : {L : Type 0} → (L → ReadyValue) → List (Option (Connection L)) → Type 0
+AllGoOn seen places = (k : ℕ) → GoesOn seen (slice_get places k)
+
+-- each free place is noted
+abbrev pub AreNoted : {L : Type 0} → List (Option (Connection L)) → List ℕ → Type 0
+AreNoted {L = L} places free = (k : ℕ) → slice_get places k ≡ Some None → Contains free k
+
+-- no place is free
+abbrev pub AreTaken : {L : Type 0} → List (Option (Connection L)) → Type 0
+AreTaken {L = L} places = (k : ℕ) → slice_get places k ≡ Some None → ⊥
+
+-- What holds between rounds: each free place is noted; where no more may wait, nobody does; and no connection that stands at a
+-- place is over.
+pub record IsSound {L : Type 0} {D : Type 0} (seen : L → ReadyValue) (nobody : D → Type 0) (d : Doors L D) : Type 0 where
+  pub noted : AreNoted d.hall.places.places.items d.hall.free.items
+  pub known : d.more ≡ false → nobody d.door
+  pub on : AllGoOn seen d.hall.places.places.items
+
 -- Each connection that is ready has a turn, and none of these stops before its line would block, unless it is among those that
--- could go on at once, `again`. Then those that are over leave their places, and no others do; and then free places are given to
--- lines that came, and no others are.
+-- could go on at once, `again`. Then those that had a turn and are over leave their places, and no others do; and then free
+-- places are given to lines that came, and no others are.
 pub record Round {L : Type 0} {P : Type 0} (limit : ℕ) (seen : L → ReadyValue) (steps : ℕ → P → Op → Reply → P → Type 0) (log : List Entry) (ready again : List ℕ) (old : List (Option (Connection L))) (p : P) (new : List (Option (Connection L))) (q : P) : Type 0 where
   pub turned : List (Option (Connection L))
   pub closed : List (Option (Connection L))
@@ -31,4 +56,5 @@ pub record Round {L : Type 0} {P : Type 0} (limit : ℕ) (seen : L → ReadyValu
   pub turns : Turns seen steps log old p turned q
   pub rests : Rests limit seen ready again over old turned
   pub leaves : (k : ℕ) → Closed seen (slice_get turned k) (slice_get closed k)
+  pub away : (k : ℕ) → Contains ready k → GoesOn seen (slice_get closed k)
   pub comes : (k : ℕ) → Given (slice_get closed k) (slice_get new k)

@@ -1,321 +1,185 @@
-//! Doors: a listener, and the connections that it gave.
-ghost use Rattle.std.specs.Prelude.{◌≡◌, ℕ, List, All, true, Some, None, OnOk, slice_get};
+//! Doors: those who come by a door, each at a place, in rounds.
+ghost use Rattle.std.specs.Prelude.{◌≡◌, ◌++◌, ◌⊎◌, [], ℕ, List, All, true, false, None, OnOk, IfOk, length};
 ghost use Rattle.readiness.specs.declared.connection.TheConstants.{LIMIT};
 ghost use Rattle.readiness.specs.Exchanges.{Entry, LogChain};
-ghost use Rattle.readiness.specs.Places.{Turns, Rests};
-ghost use Rattle.doors.specs.Rounds.{Round, Closed, Given};
+ghost use Rattle.doors.specs.Rounds.{Round, IsSound, AreTaken};
+ghost use Rattle.doors.specs.Spans.{Spans};
 
+use crate::accepting::accept_all;
+use crate::doorway::Doorway;
+use crate::hall::{Ended, Hall};
 use crate::socket::ReadySocket;
+use crate::sockets::Sockets;
 use logical_time::Fault;
-use mio::net::{TcpListener, TcpStream};
-use mio::{Events, Interest, Poll, Token};
-use readiness::{Connection, Places, SharedPort, turns};
-use std::alloc::{AllocError, Global};
-use std::io::ErrorKind;
+use readiness::{ReadyLine, SharedPort, turns};
+use std::alloc::Global;
 use std::mem;
-use std::net::{Ipv4Addr, Net, SocketAddr};
+use std::net::Net;
 use std::time::Duration;
 
 // How many bytes are read at once, at most.
 const PIECE: usize = 16_384;
 
-// How many events a wait tells, at most.
-const EVENTS: usize = 64;
-
 // How soon accepting is tried again after it failed, in milliseconds.
 const PAUSE: u64 = 100;
 
-/// A connection that ended with a fault.
-#[derive(Clone, Copy)]
-pub struct Ended {
-    /// Its number: the first that came has 0.
-    pub number: u64,
-    /// Its place.
-    pub place: usize,
-    /// Why its stream was refused, or else `ReadFailed` or `WriteFailed`.
-    pub fault: Fault,
-}
-
-/// Doors: a port that is listened on, so many places, and the connections that stand there. Where all places are taken, more
-/// wait in the system's queue of the port.
+/// Doors: a door by which lines come, so many places, and the connections that stand there. Where all places are taken, more
+/// wait before the door.
 #[derive(Drop)]
-pub struct Doors {
+pub struct Doors<L = ReadySocket, D = Sockets> {
     alloc: Global,
-    poll: Poll,
-    events: Events,
-    listener: TcpListener,
-    places: Places<ReadySocket>,
-    // The number of the connection that was given each place last.
-    numbers: Vec<u64>,
-    ready: Vec<usize>,
-    again: Vec<usize>,
+    pub(crate) door: D,
+    pub(crate) hall: Hall<L>,
+    pub(crate) ready: Vec<usize>,
+    // The places that were promised a turn in the next round.
+    pub(crate) again: Vec<usize>,
     over: Vec<usize>,
-    ended: Vec<Ended>,
     // Whether more may wait to be accepted.
-    more: bool,
-    accepted: u64,
+    pub(crate) more: bool,
     buffer: [u8; PIECE],
 }
 
-// Closes the connection at a place, if it is over, and tells of it where it ended with a fault. A socket that is closed is no
-// longer watched.
-fn close_at(
-    places: &mut Places<ReadySocket>,
-    place: usize,
-    numbers: &[u64],
-    ended: &mut Vec<Ended>,
-) -> Result<(), AllocError>
-    ensures { (k : ℕ) → Closed (λ l. l) (slice_get places.old.places.items k) (slice_get places.new.places.items k) }
+// Waits until something is ready, and notes what is, behind those that were promised a turn.
+fn wait<L, D: Doorway<L>>(
+    door: &mut D,
+    patience: Option<Duration>,
+    ready: &mut Vec<usize>,
+    again: &mut Vec<usize>,
+    more: &mut bool,
+) -> Result<(), Fault>
+    ensures step { D.steps door.old None door.new }
+    ensures promised { OnOk result ((told : List ℕ) × (ready.new.items ≡ again.old.items ++ told) × D.tells door.old told) }
+    ensures known { OnOk result ((more.old ≡ false → D.nobody door.old) → more.new ≡ false → D.nobody door.new) }
 {
-    let Some(connection) = places.release_over(place) else {
-        return Ok(());
-    };
-    let Some(fault) = fault_of(&connection) else {
-        return Ok(());
-    };
-    let number = match numbers.get(place) {
-        Some(number) => *number,
-        None => 0,
-    };
-    ended.push(Ended {
-        number,
-        place,
-        fault,
-    })?;
-    Ok(())
-}
-
-// Closes the connections that are over, of those at these places.
-fn close_all(
-    places: &mut Places<ReadySocket>,
-    over: &[usize],
-    numbers: &[u64],
-    ended: &mut Vec<Ended>,
-) -> Result<(), AllocError>
-    ensures { (k : ℕ) → Closed (λ l. l) (slice_get places.old.places.items k) (slice_get places.new.places.items k) }
-{
-    for place in over {
-        close_at(places, *place, numbers, ended)?;
+    mem::swap(ready, again);
+    again.clear();
+    if door.wait(patience, ready)? {
+        *more = true;
     }
     Ok(())
 }
 
-// The fault with which a connection ended, if it did.
-fn fault_of(connection: &Connection<ReadySocket>) -> Option<Fault> {
-    match connection.refused() {
-        Some(fault) => Some(fault),
-        None => connection.line().failed(),
-    }
-}
-
-impl Doors {
+impl Doors<ReadySocket, Sockets> {
     /// Listens on this port of 127.0.0.1, or on some free port for 0, and has so many free places. Refused with `ReadFailed`
     /// where it can't listen, and with `Memory`.
-    pub fn open<R: Net>(rt: &R, alloc: Global, port: u16, places: usize) -> Result<Doors, Fault> {
-        let address = SocketAddr::from((Ipv4Addr::LOCALHOST, port));
-        let (Ok(poll), Ok(mut listener)) = (Poll::new(rt), TcpListener::bind(rt, address)) else {
-            return Err(Fault::ReadFailed);
-        };
-        let token = Token(places);
-        let registered = poll
-            .registry()
-            .register(&mut listener, token, Interest::READABLE);
-        if registered.is_err() {
-            return Err(Fault::ReadFailed);
-        }
-        let mut numbers = Vec::with_capacity(alloc, places)?;
-        for _ in 0..places {
-            numbers.push(0)?;
-        }
-        Ok(Doors {
-            alloc,
-            poll,
-            events: Events::with_capacity(alloc, EVENTS)?,
-            listener,
-            places: Places::new(alloc, places)?,
-            numbers,
-            ready: Vec::new(alloc),
-            again: Vec::new(alloc),
-            over: Vec::new(alloc),
-            ended: Vec::new(alloc),
-            more: false,
-            accepted: 0,
-            buffer: [0; PIECE],
-        })
+    pub fn open<R: Net>(rt: &R, alloc: Global, port: u16, places: usize) -> Result<Doors, Fault>
+        ensures count { IfOk result (λ d. length d.hall.places.places.items ≡ places) }
+        ensures free { IfOk result (λ d. All (λ c. c ≡ None) d.hall.places.places.items) }
+        ensures none_promised { IfOk result (λ d. d.again.items ≡ []) }
+        ensures sound { IfOk result (λ d. IsSound ⟦<ReadySocket as ReadyLine>⟧.seen ⟦<Sockets as Doorway<ReadySocket>>⟧.nobody d) }
+    {
+        Doors::new(alloc, Sockets::open(rt, alloc, port)?, places)
     }
 
     /// The port that it listens on; none where the system doesn't say.
     pub fn port(&self) -> Option<u16> {
-        match self.listener.local_addr() {
-            Ok(address) => Some(address.port()),
-            Err(_) => None,
-        }
+        self.door.port()
+    }
+}
+
+impl<L: ReadyLine + Drop, D: Doorway<L> + Drop> Doors<L, D> {
+    /// The doors of a door before any call, with so many free places. Refused with `Memory`.
+    pub fn new(alloc: Global, door: D, places: usize) -> Result<Doors<L, D>, Fault>
+        ensures door { IfOk result (λ d. d.door ≡ door) }
+        ensures count { IfOk result (λ d. length d.hall.places.places.items ≡ places) }
+        ensures free { IfOk result (λ d. All (λ c. c ≡ None) d.hall.places.places.items) }
+        ensures none_promised { IfOk result (λ d. d.again.items ≡ []) }
+        ensures sound { IfOk result (λ d. IsSound L.seen D.nobody d) }
+    {
+        Ok(Doors {
+            alloc,
+            door,
+            hall: Hall::new(alloc, places)?,
+            ready: Vec::new(alloc),
+            again: Vec::new(alloc),
+            over: Vec::new(alloc),
+            more: true,
+            buffer: [0; PIECE],
+        })
     }
 
     /// How many connections were given a place.
     pub fn accepted(&self) -> u64
-        ensures { result ≡ self.now.accepted }
+        ensures { result ≡ self.now.hall.accepted }
     {
-        self.accepted
+        self.hall.accepted
     }
 
     /// The connections that ended with a fault in the last round, in the order in which they were closed.
     pub fn ended(&self) -> &[Ended]
-        ensures { result.now ≡ self.now.ended.items }
+        ensures { result.now ≡ self.now.hall.ended.items }
     {
-        &self.ended
+        &self.hall.ended
     }
 
-    /// Whether no connection stands at a place.
+    /// Whether no connection stands at a place. Linear in the places.
     pub fn are_empty(&self) -> bool
-        ensures { result ≡ true → All (λ c. c ≡ None) self.now.places.places.items }
+        ensures { result ≡ true → All (λ c. c ≡ None) self.now.hall.places.places.items }
     {
-        self.places.are_free()
+        self.hall.places.are_free()
     }
 
-    // How long a round waits: not at all where a connection could go on at once, and not for long where a place is free and
-    // accepting failed.
+    // How long a round waits: not at all where a connection was promised a turn, and not for long where a place is free and
+    // somebody may wait.
     fn patience(&self) -> Option<Duration> {
         if !self.again.is_empty() {
             return Some(Duration::ZERO);
         }
-        if self.more && self.places.free_place().is_some() {
+        if self.more && !self.hall.free.is_empty() {
             return Some(Duration::from_millis(PAUSE));
         }
         None
     }
 
-    // Waits until something is ready, and notes what is.
-    fn wait(&mut self) -> Result<(), Fault>
-        ensures { self.new.places ≡ self.old.places }
+    /// Waits until a connection is ready or comes, gives each that is ready or was promised one a turn, closes those that are
+    /// over, and gives free places to those that came. Refused with `ReadFailed` where the door can't wait, and with `Memory`;
+    /// then readiness may be lost, and no further round should be asked for. Each request costs what the port takes for it, and a
+    /// round what is ready, whatever else stands there; a connection that is ready costs two to four calls of its line.
+    pub fn round<P: SharedPort>(&mut self, port: &mut P) -> Result<(), Fault>
+        // whatever was ready, the port goes through one chain of its steps
+        ensures chain { (log : List Entry) × LogChain P.steps port.old log port.new }
+        // who was promised a turn is among those that are ready
+        ensures promised { OnOk result ((told : List ℕ) × (self.new.ready.items ≡ self.old.again.items ++ told) × D.tells self.old.door told) }
+        ensures round { OnOk result ((log : List Entry) × Round LIMIT L.seen P.steps log self.new.ready.items self.new.again.items self.old.hall.places.places.items port.old self.new.hall.places.places.items port.new) }
+        // where a place is free, nobody waits for one, or accepting was refused
+        ensures given { OnOk result (IsSound L.seen D.nobody self.old → AreTaken self.new.hall.places.places.items ⊎ (D.nobody self.new.door ⊎ D.refuses self.new.door)) }
+        ensures sound { OnOk result (IsSound L.seen D.nobody self.old → IsSound L.seen D.nobody self.new) }
+        ensures count { length self.new.hall.places.places.items ≡ length self.old.hall.places.places.items }
+        ensures spans { Spans L.seen P.steps D.steps self.old.door self.old.hall.places.places.items port.old self.new.door self.new.hall.places.places.items port.new }
     {
+        self.hall.ended.clear();
         let patience = self.patience();
-        if self.poll.poll(&mut self.events, patience).is_err() {
-            return Err(Fault::ReadFailed);
-        }
-        mem::swap(&mut self.ready, &mut self.again);
-        self.again.clear();
-        for event in &self.events {
-            let Token(place) = event.token();
-            if place < self.numbers.len() {
-                self.ready.push(place)?;
-            } else {
-                self.more = true;
-            }
-        }
-        Ok(())
-    }
-
-    // Gives a turn to each connection that is ready.
-    fn turn_all<P: SharedPort>(&mut self, port: &mut P) -> Result<(), Fault>
-        ensures turned { (log : List Entry) × Turns (λ l. l) P.steps log self.old.places.places.items port.old self.new.places.places.items port.new }
-        ensures rests { OnOk result (Rests LIMIT (λ l. l) self.new.ready.items self.new.again.items self.new.over.items self.old.places.places.items self.new.places.places.items) }
-    {
+        wait::<L, D>(
+            &mut self.door,
+            patience,
+            &mut self.ready,
+            &mut self.again,
+            &mut self.more,
+        )?;
         turns(
             self.alloc,
             port,
-            &mut self.places,
+            &mut self.hall.places,
             &self.ready,
             &mut self.again,
             &mut self.over,
             &mut self.buffer,
         )?;
-        Ok(())
-    }
-
-    // Closes those that are over.
-    fn close_over(&mut self) -> Result<(), Fault>
-        ensures leaves { (k : ℕ) → Closed (λ l. l) (slice_get self.old.places.places.items k) (slice_get self.new.places.places.items k) }
-        ensures kept { (self.new.ready ≡ self.old.ready) × (self.new.again ≡ self.old.again) }
-    {
-        close_all(&mut self.places, &self.over, &self.numbers, &mut self.ended)?;
+        self.hall.close_all(&self.door, &self.over)?;
         self.over.clear();
+        accept_all(&mut self.door, &mut self.hall, &mut self.more)?;
         Ok(())
     }
 
-    // Gives a free place to a connection that came.
-    fn admit(&mut self, place: usize, mut stream: TcpStream) -> Result<(), Fault>
-        requires { slice_get self.old.places.places.items place ≡ Some None }
-        ensures comes { (k : ℕ) → Given (slice_get self.old.places.places.items k) (slice_get self.new.places.places.items k) }
-        ensures kept { (self.new.ready ≡ self.old.ready) × (self.new.again ≡ self.old.again) }
+    /// So many rounds, one after the other. Refused as `round` is, with the first that is.
+    pub fn rounds<P: SharedPort>(&mut self, port: &mut P, count: u64) -> Result<(), Fault>
+        ensures spans { Spans L.seen P.steps D.steps self.old.door self.old.hall.places.places.items port.old self.new.door self.new.hall.places.places.items port.new }
+        ensures sound { OnOk result (IsSound L.seen D.nobody self.old → IsSound L.seen D.nobody self.new) }
+        ensures count { length self.new.hall.places.places.items ≡ length self.old.hall.places.places.items }
     {
-        let number = self.accepted;
-        self.accepted = number.saturating_add(1);
-        let interest = Interest::READABLE | Interest::WRITABLE;
-        let token = Token(place);
-        if self
-            .poll
-            .registry()
-            .register(&mut stream, token, interest)
-            .is_err()
-        {
-            let fault = Fault::ReadFailed;
-            self.ended.push(Ended {
-                number,
-                place,
-                fault,
-            })?;
-            return Ok(());
+        for _ in 0..count {
+            self.round(port)?;
         }
-        if let Some(slot) = self.numbers.get_mut(place) {
-            *slot = number;
-        }
-        self.places
-            .admit(self.alloc, place, ReadySocket::new(stream));
-        Ok(())
-    }
-
-    // Accepts one, if one may wait and a place is free. False where none is accepted.
-    fn accept_one(&mut self) -> Result<bool, Fault>
-        ensures comes { (k : ℕ) → Given (slice_get self.old.places.places.items k) (slice_get self.new.places.places.items k) }
-        ensures kept { (self.new.ready ≡ self.old.ready) × (self.new.again ≡ self.old.again) }
-    {
-        if !self.more {
-            return Ok(false);
-        }
-        let Some(place) = self.places.free_place() else {
-            return Ok(false);
-        };
-        match self.listener.accept() {
-            Ok((stream, _)) => {
-                self.admit(place, stream)?;
-                Ok(true)
-            }
-            Err(error) => {
-                // else no descriptor is left, or whoever came has gone: this is tried again
-                self.more = error.kind() != ErrorKind::WouldBlock;
-                Ok(false)
-            }
-        }
-    }
-
-    // Accepts those that wait, as far as places are free.
-    fn accept_all(&mut self) -> Result<(), Fault>
-        ensures comes { (k : ℕ) → Given (slice_get self.old.places.places.items k) (slice_get self.new.places.places.items k) }
-        ensures kept { (self.new.ready ≡ self.old.ready) × (self.new.again ≡ self.old.again) }
-    {
-        for _ in 0..self.numbers.len() {
-            if !self.accept_one()? {
-                return Ok(());
-            }
-        }
-        Ok(())
-    }
-
-    /// Waits until a connection is ready or comes, gives each that is ready a turn, closes those that are over, and gives free
-    /// places to those that came. Refused with `ReadFailed` where the system can't wait, and with `Memory`; then readiness may be
-    /// lost, and no further round should be asked for. Each request costs what the port takes for it, and a connection that is
-    /// ready two to four calls of the system.
-    pub fn round<P: SharedPort>(&mut self, port: &mut P) -> Result<(), Fault>
-        // whatever was ready, the port goes through one chain of its steps
-        ensures chain { (log : List Entry) × LogChain P.steps port.old log port.new }
-        ensures round { OnOk result ((log : List Entry) × Round LIMIT (λ l. l) P.steps log self.new.ready.items self.new.again.items self.old.places.places.items port.old self.new.places.places.items port.new) }
-    {
-        self.ended.clear();
-        self.wait()?;
-        self.turn_all(port)?;
-        self.close_over()?;
-        self.accept_all()?;
         Ok(())
     }
 }

@@ -26,13 +26,13 @@ impl Model for ReadySocket {
 
     ghost Value = { ReadyValue };
 
-    ghost view = { λ l. record { line = record { heard = None; said = None; endings = l.endings; failures = l.failures }; dry = l.dry; full = l.full } };
+    ghost view = { λ l. record { line = record { heard = None; said = None; endings = l.endings; failures = l.failures; moments = None }; dry = l.dry; full = l.full } };
 }
 
 impl ReadySocket {
     /// The line of a connection, before any call. What is written to it goes out at once.
     pub(crate) fn new(stream: TcpStream) -> ReadySocket
-        ensures { result ≡ record { line = record { heard = None; said = None; endings = 0; failures = 0 }; dry = false; full = false } }
+        ensures { result ≡ record { line = record { heard = None; said = None; endings = 0; failures = 0; moments = None }; dry = false; full = false } }
     {
         // a reply isn't kept back until the peer has taken the one before; where that is refused, replies come later
         let _refused = stream.set_nodelay(true);

@@ -2,14 +2,14 @@
 use Rattle.std.proofs.Common.{◌≡◌, ℕ, zero, suc, ◌+◌, ◌-◌, ◌<◌, ◌≤◌, List, ◌++◌, length, take, drop, Some, refl, ap, sym, ◌∙◌, arith}
 use Rattle.std.proofs.Math.Seq.{take-add}
 use Rattle.std.proofs.lemmas.List.{take_at, take-take}
-use Rattle.front.specs.Lines.{LineValue, reads, hears, ends}
+use Rattle.front.specs.Lines.{LineValue, reads, hears, ends, awaited}
 
 -- a read of nothing
-pub reads-none : (n : ℕ) (buffer : List ℕ) (l : LineValue) → n ≡ 0 → reads buffer (Some n) l ≡ ends l
+pub reads-none : (n : ℕ) (buffer : List ℕ) (l : LineValue) → n ≡ 0 → reads buffer (Some n) l ≡ ends (awaited l)
 reads-none n buffer l h = rw h refl
 
 -- a read of something
-pub reads-some : (n : ℕ) (buffer : List ℕ) (l : LineValue) → 0 < n → reads buffer (Some n) l ≡ hears (take n buffer) l
+pub reads-some : (n : ℕ) (buffer : List ℕ) (l : LineValue) → 0 < n → reads buffer (Some n) l ≡ hears (take n buffer) (awaited l)
 reads-some zero buffer l h = absurd (omega arith)
 reads-some (suc n) buffer l h = refl
 

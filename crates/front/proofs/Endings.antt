@@ -6,7 +6,7 @@ use Rattle.wire.specs.Replies.{Reply}
 use Rattle.front.specs.declared.ended.Ended.{Ended}
 use Rattle.front.specs.declared.ended.Ended.TheVariants.{Refused, WriteFailed}
 use Rattle.front.specs.Lines.{LineValue, with_more, raised, hears, says, fails}
-use Rattle.front.specs.Served.{Begun, AtFault, AtPiece, RefusedAt, IsCutShort, ServedBy}
+use Rattle.front.specs.Served.{Need, Begun, AtFault, AtPiece, RefusedAt, IsCutShort, ServedBy}
 use Rattle.front.specs.Parts.{Refuses, Passed}
 use Rattle.front.proofs.Said.{with_more-then}
 
@@ -30,9 +30,9 @@ pub behind : (a b c : List ℕ) → IsCutShort b c → IsCutShort (a ++ b) (a ++
 behind a b c h = (h.0, h.1, ap (λ (t : List ℕ). a ++ t) h.2 ∙ sym (append_assoc a b h.0))
 
 -- the line failed, when replies were written up to here
-pub failed_served : {P : Type 0} (refuses : List ℕ → List ℕ → Type 0) (steps : P → Op → Reply → P → Type 0) (l : LineValue) (p : P) (k m : LineValue) (q : P) (ended : Bool) (bytes told sent replies : List ℕ)
+pub failed_served : {P : Type 0} (refuses : Need → Type 0) (steps : P → Op → Reply → P → Type 0) (l : LineValue) (p : P) (k m : LineValue) (q : P) (ended : Bool) (bytes told sent replies : List ℕ)
     → Passed ended bytes told l k → m ≡ fails (says sent k) → IsCutShort sent replies
-    → (((ended ≡ false) × Begun steps p bytes (told ++ replies) q) ⊎ ((f : Fault) × RefusedAt refuses steps p ended f bytes (told ++ replies) q)) → ServedBy refuses steps WriteFailed l p m q
+    → (((ended ≡ false) × Begun refuses steps p bytes (told ++ replies) q) ⊎ ((f : Fault) × RefusedAt refuses steps p ended f bytes (told ++ replies) q)) → ServedBy refuses steps WriteFailed l p m q
 failed_served refuses steps l p k m q ended bytes told sent replies h e first how = subst (λ (x : LineValue). ServedBy refuses steps WriteFailed l p x q) (sym e) (record {
   bytes = bytes;
   told = told ++ sent;
@@ -44,8 +44,8 @@ failed_served refuses steps l p k m q ended bytes told sent replies h e first ho
   ends = (told ++ replies, behind told sent replies first, how);
 })
 
-pub refused_served : {P : Type 0} (refuses : List ℕ → List ℕ → Type 0) (steps : P → Op → Reply → P → Type 0) (result : Ended) (l : LineValue) (p : P) (k m : LineValue) (q : P) (f : Fault) (ended : Bool) (bytes told : List ℕ)
-    → Passed ended bytes told l k → Refuses f result k m → (AtFault steps p ended f bytes told q ⊎ ((ended ≡ false) × AtPiece refuses steps p f bytes told q)) → ServedBy refuses steps result l p m q
+pub refused_served : {P : Type 0} (refuses : Need → Type 0) (steps : P → Op → Reply → P → Type 0) (result : Ended) (l : LineValue) (p : P) (k m : LineValue) (q : P) (f : Fault) (ended : Bool) (bytes told : List ℕ)
+    → Passed ended bytes told l k → Refuses f result k m → (AtFault refuses steps p ended f bytes told q ⊎ ((ended ≡ false) × AtPiece refuses steps p f bytes told q)) → ServedBy refuses steps result l p m q
 refused_served refuses steps result l p k m q f ended bytes told h last_reply stopped =
     let last = last_reply.0 in
     let at : RefusedAt refuses steps p ended f bytes (told ++ last) q = record { replies = told; last = last; refusal = last_reply.1; written = refl; stopped = stopped } in

@@ -6,3 +6,4 @@ pub mod Held
 pub mod Fed
 pub mod Endings
 pub mod Rounds
+pub mod Moments

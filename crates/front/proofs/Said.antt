@@ -5,13 +5,13 @@ use Rattle.std.proofs.lemmas.List.{append-nil, length-drop, take-append-drop, ta
 use Rattle.front.specs.Lines.{LineValue, says, fails, with_more}
 use Rattle.front.specs.Parts.{Wrote}
 
-pub with_more-nil : (told : Option (List ℕ)) → with_more [] told ≡ told
+pub with_more-nil : {A : Type 0} (told : Option (List A)) → with_more [] told ≡ told
 with_more-nil None = refl
-with_more-nil (Some known) = ap (λ (x : List ℕ). Some x) (append-nil known)
+with_more-nil {A = A} (Some known) = ap (λ (x : List A). Some x) (append-nil known)
 
-pub with_more-then : (a b : List ℕ) (told : Option (List ℕ)) → with_more b (with_more a told) ≡ with_more (a ++ b) told
+pub with_more-then : {A : Type 0} (a b : List A) (told : Option (List A)) → with_more b (with_more a told) ≡ with_more (a ++ b) told
 with_more-then a b None = refl
-with_more-then a b (Some known) = ap (λ (x : List ℕ). Some x) (append_assoc known a b)
+with_more-then {A = A} a b (Some known) = ap (λ (x : List A). Some x) (append_assoc known a b)
 
 pub says-nil : (l : LineValue) → says [] l ≡ l
 says-nil l = ap (λ (told : _). record l { said = told }) (with_more-nil l.said)

@@ -8,8 +8,8 @@ use Rattle.wire.specs.Frames.{ReaderValue, text}
 use Rattle.wire.specs.Answers.{fault_at_end}
 use Rattle.front.specs.declared.ended.Ended.{Ended}
 use Rattle.front.specs.declared.ended.Ended.TheVariants.{Clean, Refused, ReadFailed, WriteFailed}
-use Rattle.front.specs.Lines.{LineValue, with_more, hears, says, ends, fails}
-use Rattle.front.specs.Served.{Begins, IsRefusal, IsCutShort, Answered, Begun, UpToDate, endings_after, ServedBy}
+use Rattle.front.specs.Lines.{LineValue, with_more, hears, says, ends, fails, awaited}
+use Rattle.front.specs.Served.{Need, Begins, IsRefusal, IsCutShort, Answered, Begun, UpToDate, endings_after, ServedBy}
 
 -- a piece is written, or a beginning of it, and then the line failed
 abbrev pub Wrote : List ℕ → Bool → LineValue → LineValue → Type 0
@@ -31,24 +31,24 @@ EndsInput r result l m = ((fault_at_end r ≡ None) × (result ≡ Clean) × (m 
 
 -- a last look at the line: it failed, or its input ended, or a piece came and is refused
 abbrev pub GivesUp : ReaderValue → Ended → LineValue → LineValue → Type 0
-GivesUp r result l m = ((result ≡ ReadFailed) × (m ≡ fails l)) ⊎ (EndsInput r result (ends l) m ⊎ ((piece : List ℕ) × (0 < length piece) × Refuses Memory result (hears piece l) m))
+GivesUp r result l m = ((result ≡ ReadFailed) × (m ≡ fails l)) ⊎ (EndsInput r result (ends (awaited l)) m ⊎ ((piece : List ℕ) × (0 < length piece) × Refuses Memory result (hears piece (awaited l)) m))
 
 -- requests are taken off a reader and answered
-pub record Answering {P : Type 0} (steps : P → Op → Reply → P → Type 0) (old : ReaderValue) (l : LineValue) (p : P) (r : ReaderValue) (m : LineValue) (q : P) : Type 0 where
+pub record Answering {P : Type 0} (refuses : Need → Type 0) (steps : P → Op → Reply → P → Type 0) (old : ReaderValue) (l : LineValue) (p : P) (r : ReaderValue) (m : LineValue) (q : P) : Type 0 where
   pub ops : List Op
   pub told : List ℕ
   pub begins : Begins (text old) ops (text r)
-  pub answered : Answered steps p ops told q
+  pub answered : Answered refuses steps p ops told q
   pub line : m ≡ says told l
   pub rest : r.rest ≡ old.rest
   pub fault : r.fault ≡ old.fault
 
 -- requests are taken off a reader and answered, and the last bytes of the replies wait
-pub record Holding {P : Type 0} (steps : P → Op → Reply → P → Type 0) (old : ReaderValue) (l : LineValue) (p : P) (r : ReaderValue) (m : LineValue) (q : P) (waiting : List ℕ) : Type 0 where
+pub record Holding {P : Type 0} (refuses : Need → Type 0) (steps : P → Op → Reply → P → Type 0) (old : ReaderValue) (l : LineValue) (p : P) (r : ReaderValue) (m : LineValue) (q : P) (waiting : List ℕ) : Type 0 where
   pub ops : List Op
   pub replies : List ℕ
   pub begins : Begins (text old) ops (text r)
-  pub answered : Answered steps p ops replies q
+  pub answered : Answered refuses steps p ops replies q
   pub sent : List ℕ
   pub parts : replies ≡ sent ++ waiting
   pub line : m ≡ says sent l
@@ -56,17 +56,17 @@ pub record Holding {P : Type 0} (steps : P → Op → Reply → P → Type 0) (o
   pub fault : r.fault ≡ old.fault
 
 -- the line failed among the replies
-pub record CutOff {P : Type 0} (steps : P → Op → Reply → P → Type 0) (bytes : List ℕ) (l : LineValue) (p : P) (m : LineValue) (q : P) : Type 0 where
+pub record CutOff {P : Type 0} (refuses : Need → Type 0) (steps : P → Op → Reply → P → Type 0) (bytes : List ℕ) (l : LineValue) (p : P) (m : LineValue) (q : P) : Type 0 where
   pub replies : List ℕ
-  pub begun : Begun steps p bytes replies q
+  pub begun : Begun refuses steps p bytes replies q
   pub sent : List ℕ
   pub beginning : IsCutShort sent replies
   pub line : m ≡ fails (says sent l)
 
 -- all requests that were held are answered, or the line failed first
-abbrev pub AnswersHeld : {P : Type 0} → (P → Op → Reply → P → Type 0) → Bool → ReaderValue → LineValue → P → ReaderValue → LineValue → P → Type 0
-AnswersHeld steps true old l p r m q = Answering steps old l p r m q × (r.held ≡ [])
-AnswersHeld steps false old l p r m q = CutOff steps (text old) l p m q
+abbrev pub AnswersHeld : {P : Type 0} → (Need → Type 0) → (P → Op → Reply → P → Type 0) → Bool → ReaderValue → LineValue → P → ReaderValue → LineValue → P → Type 0
+AnswersHeld refuses steps true old l p r m q = Answering refuses steps old l p r m q × (r.held ≡ [])
+AnswersHeld refuses steps false old l p r m q = CutOff refuses steps (text old) l p m q
 
 -- so much came and went, no call failed, and the end of input was told once or not
 pub record Passed (ended : Bool) (bytes told : List ℕ) (old new : LineValue) : Type 0 where
@@ -76,16 +76,16 @@ pub record Passed (ended : Bool) (bytes told : List ℕ) (old new : LineValue) :
   pub ended_then : new.endings ≡ endings_after ended old.endings
 
 -- serving goes on after so many pieces: all that came is answered, and nothing is held
-pub record Going {P : Type 0} (pieces : ℕ) (steps : P → Op → Reply → P → Type 0) (l : LineValue) (p : P) (r : ReaderValue) (m : LineValue) (q : P) : Type 0 where
+pub record Going {P : Type 0} (refuses : Need → Type 0) (pieces : ℕ) (steps : P → Op → Reply → P → Type 0) (l : LineValue) (p : P) (r : ReaderValue) (m : LineValue) (q : P) : Type 0 where
   pub bytes : List ℕ
   pub told : List ℕ
   pub counted : pieces ≤ length bytes
   pub passed : Passed false bytes told l m
-  pub answered : UpToDate steps p bytes r.rest told q
+  pub answered : UpToDate refuses steps p bytes r.rest told q
   pub held : r.held ≡ []
   pub fault : r.fault ≡ None
 
 -- serving goes on after so many pieces, or has ended
-abbrev pub GoesOn : {P : Type 0} → (List ℕ → List ℕ → Type 0) → ℕ → (P → Op → Reply → P → Type 0) → Option Ended → LineValue → P → ReaderValue → LineValue → P → Type 0
-GoesOn refuses pieces steps None l p r m q = Going pieces steps l p r m q
+abbrev pub GoesOn : {P : Type 0} → (Need → Type 0) → ℕ → (P → Op → Reply → P → Type 0) → Option Ended → LineValue → P → ReaderValue → LineValue → P → Type 0
+GoesOn refuses pieces steps None l p r m q = Going refuses pieces steps l p r m q
 GoesOn refuses pieces steps (Some result) l p r m q = ServedBy refuses steps result l p m q

@@ -14,17 +14,18 @@ use messages::Op;
 use std::alloc::Global;
 
 // Answers a request; its reply may wait. False where the line failed first.
-fn answer<L: Line, P: Port>(
+fn answer<L: Line, P: Port, F: Frames>(
     alloc: Global,
     line: &mut L,
     waiting: &mut Vec<u8>,
     port: &mut P,
+    frames: &F,
     op: Op,
 ) -> bool
-    ensures { (told : Reply) × (bytes : List ℕ) × P.steps port.old op told port.new × IsEncoding told bytes × Puts bytes result waiting.old.items (L.seen line.old) waiting.new.items (L.seen line.new) }
+    ensures { (told : Reply) × (bytes : List ℕ) × P.steps port.old op told port.new × IsEncoding F.refuses told bytes × Puts bytes result waiting.old.items (L.seen line.old) waiting.new.items (L.seen line.new) }
 {
     let told = port.ask(op);
-    reply(alloc, line, waiting, &told)
+    reply(alloc, line, waiting, frames, &told)
 }
 
 // Answers the requests that are held, and writes their replies together. False where the line failed first.
@@ -35,11 +36,11 @@ pub(crate) fn answer_held<L: Line, P: Port, F: Frames>(
     port: &mut P,
     reader: &mut F,
 ) -> bool
-    ensures { AnswersHeld P.steps result (F.kept reader.old) (L.seen line.old) port.old (F.kept reader.new) (L.seen line.new) port.new }
+    ensures { AnswersHeld F.refuses P.steps result (F.kept reader.old) (L.seen line.old) port.old (F.kept reader.new) (L.seen line.new) port.new }
 {
     waiting.clear();
     while let Some(op) = reader.next() {
-        if !answer(alloc, line, waiting, port, op) {
+        if !answer(alloc, line, waiting, port, reader, op) {
             return false;
         }
     }
@@ -56,7 +57,8 @@ pub(crate) fn take_piece<L: Line, P: Port, F: Frames>(
     piece: &[u8],
 ) -> Option<Ended>
     requires { 0 < length piece.now }
-    ensures { (n : ℕ) (l m : LineValue) (p : P) → Going n P.steps l p (F.kept reader.old) m port.old → L.seen line.old ≡ hears piece.now m → GoesOn F.refuses (n + 1) P.steps result l p (F.kept reader.new) (L.seen line.new) port.new }
+    ensures goes_on { (n : ℕ) (l m : LineValue) (p : P) → Going F.refuses n P.steps l p (F.kept reader.old) m port.old → L.seen line.old ≡ hears piece.now m → GoesOn F.refuses (n + 1) P.steps result l p (F.kept reader.new) (L.seen line.new) port.new }
+    ensures moments { (L.seen line.new).moments ≡ (L.seen line.old).moments }
 {
     let fed = reader.feed(piece);
     if !answer_held(alloc, line, waiting, port, reader) {

@@ -28,8 +28,15 @@ impl Failing {
     }
 }
 
-/// A line over bytes in memory, for tests: it gives and takes a few bytes in a call, and fails where it is told to. It
-/// tells all of its bytes.
+// How much had come, and how much had gone, when the line was waited for.
+#[derive(Clone, Copy)]
+struct Mark {
+    heard: usize,
+    said: usize,
+}
+
+/// A line over bytes in memory, for tests: it gives and takes a few bytes in a call, and fails where it is told to, or
+/// where memory is refused. It tells all of its bytes, and what had come and gone before each read.
 #[derive(Drop)]
 pub struct MemoryLine {
     input: Vec<u8>,
@@ -43,24 +50,26 @@ pub struct MemoryLine {
     writes: u64,
     endings: u64,
     failures: u64,
+    // Each read that didn't fail.
+    marks: Vec<Mark>,
 }
 
 impl Model for MemoryLine {
-    ghost use Rattle.std.specs.Prelude.{◌≡◌, ◌≤◌, ◌<◌, length, take, drop};
-    ghost use Rattle.front.specs.Memory.{MemoryValue};
+    ghost use Rattle.std.specs.Prelude.{◌≡◌, ◌≤◌, ◌<◌, All, length, map, take, drop};
+    ghost use Rattle.front.specs.Memory.{MemoryValue, moment_at};
 
     ghost Value = { MemoryValue };
 
-    ghost view = { λ l. record { heard = take l.at l.input.items; unread = drop l.at l.input.items; said = l.output.items; endings = l.endings; reads = l.reads; writes = l.writes; failing = l.failing; failures = l.failures } };
+    ghost view = { λ l. record { heard = take l.at l.input.items; unread = drop l.at l.input.items; said = l.output.items; endings = l.endings; reads = l.reads; writes = l.writes; failing = l.failing; failures = l.failures; moments = map (moment_at l.input.items l.output.items) l.marks.items } };
 
-    ghost invariant = { λ l. (0 < l.step) × (l.at ≤ length l.input.items) × (0 < l.endings → l.at ≡ length l.input.items) };
+    ghost invariant = { λ l. (0 < l.step) × (l.at ≤ length l.input.items) × (0 < l.endings → l.at ≡ length l.input.items) × All (λ mark. mark.said ≤ length l.output.items) l.marks.items };
 }
 
 impl MemoryLine {
     /// A line over this input, of which nothing is read yet. Each call gives or takes at most `step` bytes.
     pub fn new(alloc: Global, input: Vec<u8>, step: usize, failing: Failing) -> MemoryLine
         requires { 0 < step }
-        ensures { result ≡ record { heard = []; unread = input.items; said = []; endings = 0; reads = 0; writes = 0; failing = failing; failures = 0 } }
+        ensures { result ≡ record { heard = []; unread = input.items; said = []; endings = 0; reads = 0; writes = 0; failing = failing; failures = 0; moments = [] } }
     {
         MemoryLine {
             input,
@@ -72,6 +81,7 @@ impl MemoryLine {
             writes: 0,
             endings: 0,
             failures: 0,
+            marks: Vec::new(alloc),
         }
     }
 
@@ -105,6 +115,13 @@ impl Line for MemoryLine {
     fn read(&mut self, buffer: &mut [u8]) -> Option<usize> {
         self.reads = self.reads.saturating_add(1);
         if self.failing.is_read(self.reads) {
+            return self.fail();
+        }
+        let mark = Mark {
+            heard: self.at,
+            said: self.output.len(),
+        };
+        if self.marks.push(mark).is_err() {
             return self.fail();
         }
         let rest = &self.input[self.at..];

@@ -2,7 +2,7 @@
 ghost use Rattle.std.specs.Prelude.{◌≡◌, ◌<◌, ◌+◌, [], ℕ, length};
 ghost use Rattle.front.specs.Lines.{LineValue};
 ghost use Rattle.front.specs.Parts.{Going, GoesOn, GivesUp};
-ghost use Rattle.front.specs.Served.{Served, ServedBy};
+ghost use Rattle.front.specs.Served.{Served, ServedBy, IsNeverHeldBack, any_need};
 ghost use Rattle.wire.specs.Frames.{ReaderValue};
 
 use crate::answering::{end_of_input, take_piece};
@@ -28,7 +28,8 @@ fn round<L: Line, P: Port, F: Frames>(
     buffer: &mut [u8],
 ) -> Option<Ended>
     requires { 0 < length buffer.old }
-    ensures { (n : ℕ) (l : LineValue) (p : P) → Going n P.steps l p (F.kept reader.old) (L.seen line.old) port.old → GoesOn F.refuses (n + 1) P.steps result l p (F.kept reader.new) (L.seen line.new) port.new }
+    ensures goes_on { (n : ℕ) (l : LineValue) (p : P) → Going F.refuses n P.steps l p (F.kept reader.old) (L.seen line.old) port.old → GoesOn F.refuses (n + 1) P.steps result l p (F.kept reader.new) (L.seen line.new) port.new }
+    ensures prompt { (n : ℕ) (l : LineValue) (p : P) → Going F.refuses n P.steps l p (F.kept reader.old) (L.seen line.old) port.old → IsNeverHeldBack F.refuses P.steps l p (L.seen line.old).moments → IsNeverHeldBack F.refuses P.steps l p (L.seen line.new).moments }
 {
     match line.read(buffer) {
         None => Some(Ended::ReadFailed),
@@ -59,7 +60,8 @@ fn rounds<L: Line, P: Port, F: Frames>(
     buffer: &mut [u8],
 ) -> Ended
     requires { 0 < length buffer.old }
-    ensures { (l : LineValue) (p : P) → Going 0 P.steps l p (F.kept reader.old) (L.seen line.old) port.old → ServedBy F.refuses P.steps result l p (L.seen line.new) port.new }
+    ensures served { (l : LineValue) (p : P) → Going F.refuses 0 P.steps l p (F.kept reader.old) (L.seen line.old) port.old → ServedBy F.refuses P.steps result l p (L.seen line.new) port.new }
+    ensures prompt { (l : LineValue) (p : P) → Going F.refuses 0 P.steps l p (F.kept reader.old) (L.seen line.old) port.old → IsNeverHeldBack F.refuses P.steps l p (L.seen line.old).moments → IsNeverHeldBack F.refuses P.steps l p (L.seen line.new).moments }
 {
     for _piece in 0..u64::MAX {
         if let Some(ended) = round(alloc, line, waiting, port, reader, buffer) {
@@ -77,12 +79,14 @@ fn rounds<L: Line, P: Port, F: Frames>(
 /// is refused with `Memory`. It is `serve_by` with a new `Reader`.
 pub fn serve<L: Line, P: Port>(alloc: Global, line: &mut L, port: &mut P) -> Ended
     ensures served { Served P.steps result (L.seen line.old) port.old (L.seen line.new) port.new }
+    ensures prompt { IsNeverHeldBack any_need P.steps (L.seen line.old) port.old (L.seen line.new).moments }
 {
     serve_by(alloc, line, port, &mut Reader::new(alloc))
 }
 
-/// Serves as `serve` does, with any `Frames` before their first piece, that being the caller's condition. It is refused with
-/// `Memory` only where they refuse a piece with it, and after 2^64 - 1 pieces.
+/// Serves as `serve` does, with any `Frames` before their first piece, that being the caller's condition. It is refused
+/// with `Memory` only where they refuse a piece with it, and after 2^64 - 1 pieces; and it answers an outcome by that
+/// refusal only where they refuse to encode it.
 pub fn serve_by<L: Line, P: Port, F: Frames>(
     alloc: Global,
     line: &mut L,
@@ -90,7 +94,8 @@ pub fn serve_by<L: Line, P: Port, F: Frames>(
     frames: &mut F,
 ) -> Ended
     requires { F.kept frames.old ≡ record { held = []; rest = []; fault = None } }
-    ensures { ServedBy F.refuses P.steps result (L.seen line.old) port.old (L.seen line.new) port.new }
+    ensures served { ServedBy F.refuses P.steps result (L.seen line.old) port.old (L.seen line.new) port.new }
+    ensures prompt { IsNeverHeldBack F.refuses P.steps (L.seen line.old) port.old (L.seen line.new).moments }
 {
     let mut buffer = [0u8; PIECE];
     let mut waiting = Vec::new(alloc);

@@ -6,7 +6,7 @@ use std::io::{Read, Write};
 use std::marker::Model;
 use std::net::TcpStream;
 
-/// A connection as a line. It tells none of its bytes.
+/// A connection as a line. It tells none of its bytes, and none of its moments.
 #[derive(Drop)]
 pub struct SocketLine {
     stream: TcpStream,
@@ -20,13 +20,13 @@ impl Model for SocketLine {
 
     ghost Value = { LineValue };
 
-    ghost view = { λ l. record { heard = None; said = None; endings = l.endings; failures = l.failures } };
+    ghost view = { λ l. record { heard = None; said = None; endings = l.endings; failures = l.failures; moments = None } };
 }
 
 impl SocketLine {
     /// The line of a connection, before any call. What is written to it goes out at once.
     pub fn new(stream: TcpStream) -> SocketLine
-        ensures { result ≡ record { heard = None; said = None; endings = 0; failures = 0 } }
+        ensures { result ≡ record { heard = None; said = None; endings = 0; failures = 0; moments = None } }
     {
         // a reply isn't kept back until the peer has taken the one before; where that is refused, replies come later
         let _refused = stream.set_nodelay(true);

@@ -4,11 +4,12 @@ ghost use Rattle.front.specs.Served.{IsEncoding};
 ghost use Rattle.front.specs.Parts.{Wrote, Puts, Refuses};
 
 use crate::ended::Ended;
+use crate::frames::Frames;
 use crate::line::Line;
 use logical_time::Fault;
 use messages::Outcome;
 use std::alloc::Global;
-use wire::{encode_refusal, encode_reply};
+use wire::encode_refusal;
 
 // How many bytes wait to be written together, at most.
 const MOST_WAITING: usize = 65_536;
@@ -67,18 +68,19 @@ fn put<L: Line>(line: &mut L, waiting: &mut Vec<u8>, frame: &[u8]) -> bool
 }
 
 // Puts the reply to an answer behind what waits; a refusal takes no memory but that. False where the line failed first.
-pub(crate) fn reply<L: Line>(
+pub(crate) fn reply<L: Line, F: Frames>(
     alloc: Global,
     line: &mut L,
     waiting: &mut Vec<u8>,
+    frames: &F,
     answer: &Result<Outcome, Fault>,
 ) -> bool
-    ensures puts { (bytes : List ℕ) × IsEncoding answer.now bytes × Puts bytes result waiting.old.items (L.seen line.old) waiting.new.items (L.seen line.new) }
+    ensures puts { (bytes : List ℕ) × IsEncoding F.refuses answer.now bytes × Puts bytes result waiting.old.items (L.seen line.old) waiting.new.items (L.seen line.new) }
     ensures bounded { length waiting.new.items ≤ MOST_WAITING }
 {
     match answer {
         Err(fault) => put(line, waiting, &encode_refusal(*fault)),
-        Ok(_) => match encode_reply(alloc, answer) {
+        Ok(_) => match frames.encode(alloc, answer) {
             Ok(frame) => put(line, waiting, &frame),
             Err(fault) => put(line, waiting, &encode_refusal(fault)),
         },

@@ -8,7 +8,7 @@ use Rattle.byteorder.specs.Endian.{big_bytes}
 use Rattle.byteorder.specs.Numbers.{length-bytes_high_first}
 use Rattle.wire.specs.Fields.{longest, frame}
 use Rattle.wire.specs.Replies.{Reply, reply, fits_reply, is_reply_spelled, reply_spelling}
-use Rattle.front.specs.Served.{IsEncoding}
+use Rattle.front.specs.Served.{IsEncoding, any_need}
 use Rattle.readiness.specs.Kept.{View}
 use Rattle.readiness.specs.Turns.{AnswersOne, IsBounded}
 
@@ -34,14 +34,14 @@ spelled_short a bytes e =
     let le : length (reply a) ≤ 16777216 = grind (arith, nat_tests) in
     omega arith
 
-encoding_short : (a : Reply) (bytes : List ℕ) → IsEncoding a bytes → length bytes ≤ 16777220
+encoding_short : (a : Reply) (bytes : List ℕ) → IsEncoding any_need a bytes → length bytes ≤ 16777220
 encoding_short (Err f) bytes h = spelled_short (Err f) bytes h
 encoding_short (Ok o) bytes h =
     elim h [
       | inl e ↦ spelled_short (Ok o) bytes e
       | inr rest ↦ elim rest [
         | inl e ↦ spelled_short (Err Oversize) bytes e.1
-        | inr e ↦ spelled_short (Err Memory) bytes e
+        | inr e ↦ spelled_short (Err Memory) bytes e.1
       ]
     ]
 

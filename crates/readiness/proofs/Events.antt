@@ -8,7 +8,7 @@ use Rattle.wire.specs.Replies.{Reply}
 use Rattle.wire.specs.Frames.{ReaderValue, text, frames, waits, faulty, front_of, front_for, EndsInside}
 use Rattle.wire.specs.Answers.{Feeds, fault_at_end}
 use Rattle.front.specs.Lines.{LineValue, with_more, raised, hears, ends, fails}
-use Rattle.front.specs.Served.{Begins, AreEncodings, endings_after}
+use Rattle.front.specs.Served.{Begins, AreEncodings, any_need, endings_after}
 use Rattle.front.proofs.Said.{with_more-then}
 use Rattle.front.proofs.Requests.{begins-more as begins-piece}
 use Rattle.front.proofs.Fed.{end_clean, end_inside}
@@ -55,7 +55,7 @@ answered steps fault v p w q stage a =
 
 -- a last reply is put behind what waits, when these bytes are all that wasn't answered
 put_last : (f : Fault) (v w : View) (l : LineValue) (past : List Exchange) (ended : Bool) (bytes told rest replies : List ℕ) → IsRefused f v w → v.line.line.heard ≡ with_more bytes l.heard → v.line.line.said ≡ with_more told l.said
-    → Begins bytes (requests past) rest → AreEncodings (answers past) replies → told ++ v.waiting ≡ replies → v.line.line.endings ≡ endings_after ended l.endings → v.line.line.failures ≡ l.failures → IsStopped ended rest f → Kept l past w
+    → Begins bytes (requests past) rest → AreEncodings any_need (answers past) replies → told ++ v.waiting ≡ replies → v.line.line.endings ≡ endings_after ended l.endings → v.line.line.failures ≡ l.failures → IsStopped ended rest f → Kept l past w
 put_last f v w l past ended bytes told rest replies refused heard said begins encoded sent endings failures why =
     subst (λ (u : View). Kept l past u) (sym refused.2) (record {
       bytes = bytes;

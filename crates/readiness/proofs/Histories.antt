@@ -6,7 +6,7 @@ use Rattle.wire.specs.Replies.{Reply}
 use Rattle.wire.specs.Frames.{ReaderValue, text}
 use Rattle.wire.specs.Answers.{Taken}
 use Rattle.front.specs.Ports.{Chain}
-use Rattle.front.specs.Served.{Begins, IsEncoding, AreEncodings}
+use Rattle.front.specs.Served.{Begins, IsEncoding, AreEncodings, any_need}
 use Rattle.front.proofs.Requests.{begins-then, begins-taken}
 use Rattle.front.proofs.Replies.{chain-then, encodings-then}
 use Rattle.readiness.specs.Exchanges.{Exchange, requests, answers}
@@ -22,10 +22,10 @@ begins-more past x bytes rest old new h unread taken =
     let first : Begins rest (x.asked ∷ []) (text new) = subst (λ (t : List ℕ). Begins t (x.asked ∷ []) (text new)) (sym unread) (begins-taken x.asked old new taken) in
     subst (λ (ops : List Op). Begins bytes ops (text new)) (sym (requests-then past (x ∷ []))) (begins-then bytes (requests past) rest (x.asked ∷ []) (text new) h first)
 
-pub encodings-more : (past : List Exchange) (x : Exchange) (replies bytes : List ℕ) → AreEncodings (answers past) replies → IsEncoding x.told bytes → AreEncodings (answers (past ++ x ∷ [])) (replies ++ bytes)
+pub encodings-more : (past : List Exchange) (x : Exchange) (replies bytes : List ℕ) → AreEncodings any_need (answers past) replies → IsEncoding any_need x.told bytes → AreEncodings any_need (answers (past ++ x ∷ [])) (replies ++ bytes)
 encodings-more past x replies bytes h is =
-    subst (λ (all : List Reply). AreEncodings all (replies ++ bytes)) (sym (answers-then past (x ∷ [])))
-    (encodings-then (answers past) (x.told ∷ []) replies bytes h (bytes, [], is, refl, sym (append-nil bytes)))
+    subst (λ (all : List Reply). AreEncodings any_need all (replies ++ bytes)) (sym (answers-then past (x ∷ [])))
+    (encodings-then any_need (answers past) (x.told ∷ []) replies bytes h (bytes, [], is, refl, sym (append-nil bytes)))
 
 pub exchanged-then : {P : Type 0} (steps : P → Op → Reply → P → Type 0) (p : P) (xs : List Exchange) (q : P) (ys : List Exchange) (r : P)
     → Chain steps p (requests xs) (answers xs) q → Chain steps q (requests ys) (answers ys) r → Chain steps p (requests (xs ++ ys)) (answers (xs ++ ys)) r

@@ -51,7 +51,7 @@ new_kept {L = L} seen line c h =
 -- ## The lives at one place
 
 -- one connection more
-lives-more : {L : Type 0} (seen : L → ReadyValue) (lines : List L) (past : List Exchange) (cs : List (Connection L)) (line : L) (more : List Exchange) (c : Connection L)
+pub lives-more : {L : Type 0} (seen : L → ReadyValue) (lines : List L) (past : List Exchange) (cs : List (Connection L)) (line : L) (more : List Exchange) (c : Connection L)
     → Lives seen lines past cs → Kept (seen line).line more (view seen c) → Lives seen (lines ++ line ∷ []) (past ++ more) (cs ++ c ∷ [])
 lives-more seen [] past [] line more c h kept = (more, [], ap (λ (t : List Exchange). t ++ more) h ∙ sym (append-nil more), kept, refl)
 lives-more seen [] past (d ∷ cs) line more c h kept = absurd h
@@ -60,7 +60,7 @@ lives-more seen (m ∷ lines) past (d ∷ cs) line more c h kept =
     (h.0, h.1 ++ more, ap (λ (t : List Exchange). t ++ more) h.2 ∙ append_assoc h.0 h.1 more, h.3, lives-more seen lines h.1 cs line more c h.4 kept)
 
 -- the last connection goes on
-lives-on : {L : Type 0} (seen : L → ReadyValue) (lines : List L) (past : List Exchange) (gone : List (Connection L)) (c : Connection L) (more : List Exchange) (d : Connection L)
+pub lives-on : {L : Type 0} (seen : L → ReadyValue) (lines : List L) (past : List Exchange) (gone : List (Connection L)) (c : Connection L) (more : List Exchange) (d : Connection L)
     → Lives seen lines past (gone ++ c ∷ []) → Extends more (view seen c) (view seen d) → Lives seen lines (past ++ more) (gone ++ d ∷ [])
 lives-on seen [] past [] c more d h extends = absurd h
 lives-on seen [] past (g ∷ gone) c more d h extends = absurd h
@@ -77,25 +77,25 @@ lives-on seen (m ∷ lines) past (g ∷ gone) c more d h extends =
 
 -- ## What stands at a place is listed by it
 
-lines-same : {L : Type 0} (k place : ℕ) (admitted : List (Admitted L)) (line : L) → place ≡ k → lines_at k (admitted ++ record { place = place; line = line } ∷ []) ≡ lines_at k admitted ++ line ∷ []
+pub lines-same : {L : Type 0} (k place : ℕ) (admitted : List (Admitted L)) (line : L) → place ≡ k → lines_at k (admitted ++ record { place = place; line = line } ∷ []) ≡ lines_at k admitted ++ line ∷ []
 lines-same {L = L} k place admitted line e =
     ap (λ (t : List (Admitted L)). map (λ (a : Admitted L). a.line) t) (filter-append (λ (a : Admitted L). a.place == k) admitted (record { place = place; line = line } ∷ []))
     ∙ map-append (λ (a : Admitted L). a.line) (filter (λ (a : Admitted L). a.place == k) admitted) (filter (λ (a : Admitted L). a.place == k) (record { place = place; line = line } ∷ []))
     ∙ rw (eq-eqb place k e) refl
 
-lines-other : {L : Type 0} (k place : ℕ) (admitted : List (Admitted L)) (line : L) → (place ≡ k → ⊥) → lines_at k (admitted ++ record { place = place; line = line } ∷ []) ≡ lines_at k admitted
+pub lines-other : {L : Type 0} (k place : ℕ) (admitted : List (Admitted L)) (line : L) → (place ≡ k → ⊥) → lines_at k (admitted ++ record { place = place; line = line } ∷ []) ≡ lines_at k admitted
 lines-other {L = L} k place admitted line ne =
     ap (λ (t : List (Admitted L)). map (λ (a : Admitted L). a.line) t) (filter-append (λ (a : Admitted L). a.place == k) admitted (record { place = place; line = line } ∷ []))
     ∙ map-append (λ (a : Admitted L). a.line) (filter (λ (a : Admitted L). a.place == k) admitted) (filter (λ (a : Admitted L). a.place == k) (record { place = place; line = line } ∷ []))
     ∙ rw (ne_eqb place k ne) (append-nil (lines_at k admitted))
 
-gone-same : {L : Type 0} (k place : ℕ) (gone : List (Gone L)) (c : Connection L) → place ≡ k → gone_at k (gone ++ record { place = place; connection = c } ∷ []) ≡ gone_at k gone ++ c ∷ []
+pub gone-same : {L : Type 0} (k place : ℕ) (gone : List (Gone L)) (c : Connection L) → place ≡ k → gone_at k (gone ++ record { place = place; connection = c } ∷ []) ≡ gone_at k gone ++ c ∷ []
 gone-same {L = L} k place gone c e =
     ap (λ (t : List (Gone L)). map (λ (g : Gone L). g.connection) t) (filter-append (λ (g : Gone L). g.place == k) gone (record { place = place; connection = c } ∷ []))
     ∙ map-append (λ (g : Gone L). g.connection) (filter (λ (g : Gone L). g.place == k) gone) (filter (λ (g : Gone L). g.place == k) (record { place = place; connection = c } ∷ []))
     ∙ rw (eq-eqb place k e) refl
 
-gone-other : {L : Type 0} (k place : ℕ) (gone : List (Gone L)) (c : Connection L) → (place ≡ k → ⊥) → gone_at k (gone ++ record { place = place; connection = c } ∷ []) ≡ gone_at k gone
+pub gone-other : {L : Type 0} (k place : ℕ) (gone : List (Gone L)) (c : Connection L) → (place ≡ k → ⊥) → gone_at k (gone ++ record { place = place; connection = c } ∷ []) ≡ gone_at k gone
 gone-other {L = L} k place gone c ne =
     ap (λ (t : List (Gone L)). map (λ (g : Gone L). g.connection) t) (filter-append (λ (g : Gone L). g.place == k) gone (record { place = place; connection = c } ∷ []))
     ∙ map-append (λ (g : Gone L). g.connection) (filter (λ (g : Gone L). g.place == k) gone) (filter (λ (g : Gone L). g.place == k) (record { place = place; connection = c } ∷ []))
@@ -104,7 +104,7 @@ gone-other {L = L} k place gone c ne =
 -- ## What happens in a run
 
 -- the lives at a place stay, where nothing of it changes
-lives-stay : {L : Type 0} (seen : L → ReadyValue) (lines ls : List L) (past ps : List Exchange) (cs ds : List (Connection L)) → ls ≡ lines → ps ≡ past → ds ≡ cs → Lives seen lines past cs → Lives seen ls ps ds
+pub lives-stay : {L : Type 0} (seen : L → ReadyValue) (lines ls : List L) (past ps : List Exchange) (cs ds : List (Connection L)) → ls ≡ lines → ps ≡ past → ds ≡ cs → Lives seen lines past cs → Lives seen ls ps ds
 lives-stay {L = L} seen lines ls past ps cs ds a b c h =
     subst (λ (t : List L). Lives seen t ps ds) (sym a) (subst (λ (t : List Exchange). Lives seen lines t ds) (sym b) (subst (λ (t : List (Connection L)). Lives seen lines past t) (sym c) h))
 

@@ -4,7 +4,7 @@ use Rattle.logical_time.specs.declared.fault.Fault.{Fault}
 use Rattle.logical_time.specs.declared.fault.Fault.TheVariants.{Memory}
 use Rattle.wire.specs.Frames.{ReaderValue, text, faulty, front_of, front_for, EndsInside}
 use Rattle.front.specs.Lines.{LineValue, with_more, raised}
-use Rattle.front.specs.Served.{Begins, AreEncodings, IsRefusal, endings_after}
+use Rattle.front.specs.Served.{Begins, AreEncodings, IsRefusal, any_need, endings_after}
 use Rattle.readiness.specs.declared.connection.Stage.{Stage}
 use Rattle.readiness.specs.declared.connection.Stage.TheVariants.{Open, Ending, Failed}
 use Rattle.readiness.specs.declared.connection.Connection.{Connection}
@@ -77,5 +77,5 @@ pub record Kept (l : LineValue) (past : List Exchange) (v : View) : Type 0 where
   pub heard : v.line.line.heard ≡ with_more bytes l.heard
   pub said : v.line.line.said ≡ with_more told l.said
   pub begins : Begins bytes (requests past) rest
-  pub encoded : AreEncodings (answers past) replies
+  pub encoded : AreEncodings any_need (answers past) replies
   pub stands : Stands v.stage l v rest told replies

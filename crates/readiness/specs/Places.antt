@@ -29,11 +29,11 @@ pub record Turns {L : Type 0} {P : Type 0} (seen : L → ReadyValue) (steps : �
   pub chain : LogChain steps p log q
   pub places : (k : ℕ) → PlaceTurned seen (only k log) (slice_get old k) (slice_get new k)
 
--- Each connection waits for its line, or it is told that it could go on at once, or that it is over, or it had no turn.
--- So no readiness is lost.
+-- Each connection waits for its line, or it is told that it could go on at once; or it is over, and told so, and no other is; or
+-- it had no turn. So no readiness is lost.
 abbrev pub Rests : {L : Type 0} → ℕ → (L → ReadyValue) → List ℕ → List ℕ → List ℕ → List (Option (Connection L)) → List (Option (Connection L)) → Type 0
 Rests {L = L} limit seen ready again over old new = (k : ℕ) (c : Connection L) → slice_get new k ≡ Some (Some c)
-    → WaitsFor limit (view seen c) ⊎ (Contains again k ⊎ ((IsOver (view seen c) × Contains over k) ⊎ ((Contains ready k → ⊥) × (slice_get old k ≡ Some (Some c)))))
+    → ((IsOver (view seen c) → ⊥) × (WaitsFor limit (view seen c) ⊎ Contains again k)) ⊎ ((IsOver (view seen c) × Contains over k) ⊎ ((Contains ready k → ⊥) × (slice_get old k ≡ Some (Some c))))
 
 -- at each place at most the limit waits, and a reply more
 abbrev pub AreBounded : {L : Type 0} → ℕ → (L → ReadyValue) → List (Option (Connection L)) → Type 0

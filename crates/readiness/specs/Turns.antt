@@ -8,13 +8,15 @@ use Rattle.wire.specs.Frames.{ReaderValue}
 use Rattle.wire.specs.Answers.{Taken}
 use Rattle.front.specs.Lines.{LineValue, says, fails}
 use Rattle.front.specs.Ports.{Chain}
-use Rattle.front.specs.Served.{IsEncoding, IsRefusal}
+use Rattle.front.specs.Served.{IsEncoding, IsRefusal, any_need}
 use Rattle.readiness.specs.declared.connection.Stage.{Stage}
 use Rattle.readiness.specs.declared.connection.Stage.TheVariants.{Open, Ending, Failed}
 use Rattle.readiness.specs.declared.writing.Flow.{Flow}
 use Rattle.readiness.specs.declared.writing.Flow.TheVariants as flow
 use Rattle.readiness.specs.declared.taking.Stop.{Stop}
 use Rattle.readiness.specs.declared.taking.Stop.TheVariants as stop
+use Rattle.readiness.specs.declared.turning.After.{After}
+use Rattle.readiness.specs.declared.turning.After.TheVariants.{Waits, Again, Over}
 use Rattle.readiness.specs.Lines.{ReadyValue}
 use Rattle.readiness.specs.Exchanges.{Exchange, requests, answers}
 use Rattle.readiness.specs.Kept.{View, Kept}
@@ -42,7 +44,7 @@ pub record AnswersOne {P : Type 0} (steps : P → Op → Reply → P → Type 0)
   pub rest : reader.rest ≡ v.reader.rest
   pub fault : reader.fault ≡ v.reader.fault
   pub step : steps p op answer q
-  pub encoded : IsEncoding answer bytes
+  pub encoded : IsEncoding any_need answer bytes
   pub after : w ≡ record { line = v.line; reader = reader; waiting = v.waiting ++ bytes; stage = v.stage }
 
 -- a request was held, and is answered; or none was, and nothing changes
@@ -118,3 +120,9 @@ StopsFor limit stop.Dry v = v.line.dry ≡ true
 StopsFor limit stop.Full v = limit < length v.waiting
 StopsFor limit stop.Over v = is_open v.stage ≡ false
 StopsFor limit stop.Spent v = Unit {0}
+
+-- what a turn leaves of a connection: it waits for its line, or could go on at once, and isn't over; or it is over
+abbrev pub IsLeft : ℕ → View → After → Type 0
+IsLeft limit v Waits = (IsOver v → ⊥) × WaitsFor limit v
+IsLeft limit v Again = IsOver v → ⊥
+IsLeft limit v Over = IsOver v

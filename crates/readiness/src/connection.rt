@@ -75,7 +75,8 @@ impl<L> Connection<L> {
 impl<L: ReadyLine> Connection<L> {
     /// Whether nothing more is read or written.
     pub(crate) fn is_over(&self) -> bool
-        ensures { result ≡ true → IsOver (view L.seen self.now) }
+        ensures yes { result ≡ true → IsOver (view L.seen self.now) }
+        ensures no { result ≡ false → IsOver (view L.seen self.now) → ⊥ }
     {
         match &self.stage {
             Stage::Open(_) => false,

@@ -3,7 +3,7 @@ ghost use Rattle.std.specs.Prelude.{◌≡◌, ◌≢◌, ◌<◌, ◌⊎◌, �
 ghost use Rattle.readiness.specs.declared.connection.Connection.{Connection};
 ghost use Rattle.readiness.specs.Exchanges.{Entry};
 ghost use Rattle.readiness.specs.Kept.{IsNew, view};
-ghost use Rattle.readiness.specs.Turns.{WaitsFor, IsOver};
+ghost use Rattle.readiness.specs.Turns.{IsLeft, IsOver};
 ghost use Rattle.readiness.specs.Places.{TurnedAt, Turns, Rests, AreBounded};
 
 use crate::connection::{Connection, LIMIT};
@@ -49,6 +49,14 @@ impl<L: Drop> Places<L> {
         self.places.iter().position(|place| place.is_none())
     }
 
+    /// Whether a place is free; not so past the last one.
+    pub fn is_free(&self, place: usize) -> bool
+        ensures yes { result ≡ true → slice_get self.now.places.items place ≡ Some None }
+        ensures no { result ≡ false → slice_get self.now.places.items place ≡ Some None → ⊥ }
+    {
+        matches!(self.places.get(place), Some(None))
+    }
+
     /// Gives a place to the connection of a line, before any call. That the place is free is the caller's condition.
     /// Takes no memory.
     pub fn admit(&mut self, alloc: Global, place: usize, line: L)
@@ -82,6 +90,7 @@ impl<L: ReadyLine + Drop> Places<L> {
         ensures some { IfSome result (λ c. (slice_get self.old.places.items place ≡ Some (Some c)) × IsOver (view L.seen c)) }
         ensures free { IfSome result (λ c. self.new.places.items ≡ slice_set self.old.places.items place None) }
         ensures none { IfNone result (self.new ≡ self.old) }
+        ensures stays { IfNone result ((c : Connection L) → slice_get self.old.places.items place ≡ Some (Some c) → IsOver (view L.seen c) → ⊥) }
     {
         match self.places.get(place) {
             Some(Some(connection)) if connection.is_over() => self.places[place].take(),
@@ -100,7 +109,7 @@ pub(crate) fn turn_at<L: ReadyLine + Drop, P: SharedPort>(
 ) -> After
     requires { 0 < length buffer.old }
     ensures turned { TurnedAt L.seen P.steps place places.old.places.items port.old places.new.places.items port.new }
-    ensures rests { (c : Connection L) → slice_get places.new.places.items place ≡ Some (Some c) → (result ≡ After.Again) ⊎ (WaitsFor LIMIT (view L.seen c) ⊎ ((result ≡ After.Over) × IsOver (view L.seen c))) }
+    ensures rests { (c : Connection L) → slice_get places.new.places.items place ≡ Some (Some c) → IsLeft LIMIT (view L.seen c) result }
     ensures others { (k : ℕ) → (place ≡ k → ⊥) → slice_get places.new.places.items k ≡ slice_get places.old.places.items k }
     ensures bounded { AreBounded LIMIT L.seen places.old.places.items → AreBounded LIMIT L.seen places.new.places.items }
 {

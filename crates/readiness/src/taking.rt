@@ -1,7 +1,7 @@
 //! Takes in what has come, and answers it.
 ghost use Rattle.std.specs.Prelude.{◌≡◌, ◌<◌, ◌≤◌, ◌++◌, [], List, ℕ, length, false, None, IfSome};
 ghost use Rattle.front.specs.Lines.{hears, ends};
-ghost use Rattle.front.specs.Served.{IsEncoding, IsRefusal};
+ghost use Rattle.front.specs.Served.{IsEncoding, IsRefusal, any_need};
 ghost use Rattle.readiness.specs.Kept.{view};
 ghost use Rattle.readiness.specs.Lines.{ReadyValue};
 ghost use Rattle.readiness.specs.Turns.{Turned, Keeps, AnswersNext, IsRefused, StopsAt, IsBounded, StopsFor, is_open};
@@ -47,7 +47,7 @@ fn put_refusal(waiting: &mut BytesMut, fault: Fault)
 // memory is refused, becomes a refusal.
 fn put_reply(alloc: Global, waiting: &mut BytesMut, answer: &Result<Outcome, Fault>)
     requires { REFUSAL_BYTES ≤ waiting.old.spare }
-    ensures { (bytes : List ℕ) × IsEncoding answer.now bytes × (waiting.new.items ≡ waiting.old.items ++ bytes) }
+    ensures { (bytes : List ℕ) × IsEncoding any_need answer.now bytes × (waiting.new.items ≡ waiting.old.items ++ bytes) }
 {
     match answer {
         Err(fault) => put_refusal(waiting, *fault),

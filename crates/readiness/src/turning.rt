@@ -3,7 +3,7 @@ ghost use Rattle.std.specs.Prelude.{◌≡◌, ◌<◌, length};
 ghost use Rattle.readiness.specs.Kept.{view};
 ghost use Rattle.readiness.specs.Turns.{Turned, IsBounded, IsOver, WaitsFor};
 
-use crate::connection::{Connection, LIMIT, Stage};
+use crate::connection::{Connection, LIMIT};
 use crate::line::ReadyLine;
 use crate::shared::SharedPort;
 use crate::taking::{Stop, take_in};
@@ -24,16 +24,17 @@ pub enum After {
     Over,
 }
 
-// What a turn leaves that took in all that it could.
-fn what_is_left<L: ReadyLine>(connection: &Connection<L>) -> After
+// What a turn leaves: this, unless the connection is over.
+fn unless_over<L: ReadyLine>(connection: &Connection<L>, after: After) -> After
+    requires { after ≡ After.Over → ⊥ }
     ensures over { result ≡ After.Over → IsOver (view L.seen connection.now) }
-    ensures waits { result ≡ After.Waits → connection.now.stage ≡ Stage.Failed → ⊥ }
+    ensures goes_on { (result ≡ After.Over → ⊥) → IsOver (view L.seen connection.now) → ⊥ }
+    ensures otherwise { (result ≡ After.Over → ⊥) → result ≡ after }
 {
-    match &connection.stage {
-        Stage::Open(_) => After::Waits,
-        Stage::Ending(last) if connection.waiting.is_empty() && last.is_empty() => After::Over,
-        Stage::Ending(_) => After::Waits,
-        Stage::Failed => After::Over,
+    if connection.is_over() {
+        After::Over
+    } else {
+        after
     }
 }
 
@@ -51,6 +52,7 @@ pub fn turn<L: ReadyLine, P: SharedPort>(
     requires { 0 < length buffer.old }
     ensures turned { Turned (P.steps place) (view L.seen connection.old) port.old (view L.seen connection.new) port.new }
     ensures over { result ≡ After.Over → IsOver (view L.seen connection.new) }
+    ensures goes_on { (result ≡ After.Over → ⊥) → IsOver (view L.seen connection.new) → ⊥ }
     ensures waits { result ≡ After.Waits → WaitsFor LIMIT (view L.seen connection.new) }
     ensures bounded { IsBounded LIMIT (view L.seen connection.old) → IsBounded LIMIT (view L.seen connection.new) }
 {
@@ -59,9 +61,9 @@ pub fn turn<L: ReadyLine, P: SharedPort>(
         flush(connection);
         match stop {
             Stop::Full if connection.waiting.len() <= LIMIT => {}
-            Stop::Spent => return After::Again,
-            Stop::Dry | Stop::Full | Stop::Over => return what_is_left(connection),
+            Stop::Spent => return unless_over(connection, After::Again),
+            Stop::Dry | Stop::Full | Stop::Over => return unless_over(connection, After::Waits),
         }
     }
-    After::Again
+    unless_over(connection, After::Again)
 }

@@ -11,7 +11,7 @@ use Rattle.world.specs.declared.run_event.RunEvent.TheVariants.{Submit}
 use Rattle.world.specs.Run.{run}
 use Rattle.world.specs.Refusals.{Refusal, Refused}
 use Rattle.world.specs.World.{WorldValue, run_of, refusal_in, IsRefusedAs}
-use Rattle.workload.specs.Drain.{IsDrained, LeavesNothing}
+use Rattle.drains.specs.Drain.{IsDrained, LeavesNothing}
 use Rattle.service.specs.Port.{HasOpen, IsSubmitted, IsTurnedAway, IsOpen, IsLeftOpen}
 use Rattle.service.proofs.Idle.{not_busy}
 use Rattle.service.proofs.Meant.{handled_listed}

@@ -20,8 +20,7 @@ use Rattle.world.specs.Promises.{Fits}
 use Rattle.world.proofs.lists.Members.{Contains-append_left}
 use Rattle.world.proofs.growing.Grown.{runs_only_grow}
 use Rattle.world.proofs.promised.Laws.{entries_are_of_submissions, moves_bring_their_past, reads_show_one_table, writes_in_runs}
-use Rattle.workload.specs.Drain.{IsDrained, IsDrainedUntil}
-use Rattle.workload.specs.Simulation.{deliveries}
+use Rattle.drains.specs.Drain.{deliveries, IsDrained, IsDrainedUntil}
 use Rattle.service.specs.Port.{IsReady, IsSubmitted, EndedWith, IsHandled, Asks}
 use Rattle.service.specs.Meaning.{Tells, IsMeant, Replies}
 use Rattle.service.proofs.Entries.{IsListed, listed_still, listed_after, own_op, own_home}

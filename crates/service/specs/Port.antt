@@ -14,7 +14,7 @@ use Rattle.world.specs.declared.completed.Completed.{Completed}
 use Rattle.world.specs.Run.{Run, run}
 use Rattle.world.specs.Refusals.{Refusal, Refused, refusal_of}
 use Rattle.world.specs.World.{IsRefusedAs}
-use Rattle.workload.specs.Drain.{IsDrained, IsDrainedUntil}
+use Rattle.drains.specs.Drain.{IsDrained, IsDrainedUntil}
 use Rattle.service.specs.declared.port.WorldPort.{WorldPort}
 
 -- ## Submissions

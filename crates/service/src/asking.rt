@@ -5,9 +5,9 @@ ghost use Rattle.world.specs.declared.run_event.RunEvent.TheVariants.{Submit};
 ghost use Rattle.world.specs.World.{run_of, refusal_in, IsRefusedAs};
 ghost use Rattle.service.specs.Port.{Asks, EndedWith, HasOpen, IsOpen, IsSubmitted, IsTurnedAway};
 
+use drains::drain;
 use logical_time::{Fault, Node};
 use messages::{Op, Outcome};
-use workload::drain;
 use world::{Completed, World};
 
 // An operation that was refused isn't needed any more.

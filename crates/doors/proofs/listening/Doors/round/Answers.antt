@@ -1,15 +1,88 @@
-use Rattle.std.proofs.Common.{◌∙◌, ap, List, ℕ}
+use Rattle.std.proofs.Common.{◌∙◌, ℕ, List, subst}
 use Rattle.readiness.specs.declared.connection.TheConstants.{LIMIT}
-use Rattle.readiness.specs.declared.places.Places.{Places}
-use Rattle.readiness.specs.Lines.{ReadyValue}
-use Rattle.doors.proofs.Rounds.{round_of}
+use Rattle.std.specs.Prelude.{slice_get}
+use Rattle.std.specs.List.{Contains}
+use Rattle.readiness.specs.Places.{Rests}
+use Rattle.doors.specs.Rounds.{GoesOn}
+use Rattle.readiness.proofs.Positions.{chain_none}
+use Rattle.doors.proofs.Rounds.{round_of, all_go_on, noted_turned, count_turned, count_closed, count_given}
+use Rattle.doors.proofs.Spans.{spans_waited, spans_closed, spans_round, left_none}
 use Rattle.doors.proofs.listening.Doors.round.Goals as goal
+
+-- ## The chain
+
+pub returns-in_err-wait-clause-chain : goal.returns-in_err-wait-clause-chain
+returns-in_err-wait-clause-chain g c = chain_none g.P.SharedPort.steps c.args.port.now
+
+pub returns-in_err-turns-clause-chain : goal.returns-in_err-turns-clause-chain
+returns-in_err-turns-clause-chain g c = (c.turns.ensures.turned.0, c.turns.ensures.turned.1.chain)
+
+pub returns-in_err-close_all-clause-chain : goal.returns-in_err-close_all-clause-chain
+returns-in_err-close_all-clause-chain g c = (c.turns.ensures.turned.0, c.turns.ensures.turned.1.chain)
+
+pub returns-in_err-accept_all-clause-chain : goal.returns-in_err-accept_all-clause-chain
+returns-in_err-accept_all-clause-chain g c = (c.turns.ensures.turned.0, c.turns.ensures.turned.1.chain)
+
+pub returns-clause-chain : goal.returns-clause-chain
+returns-clause-chain g c = (c.turns.ensures.turned.0, c.turns.ensures.turned.1.chain)
+
+-- ## How many places
+
+pub returns-in_err-turns-clause-count : goal.returns-in_err-turns-clause-count
+returns-in_err-turns-clause-count g c = count_turned g.L.ReadyLine.seen g.P.SharedPort.steps c.args.self.now.hall.places.places.items c.args.port.now c.turns.new.places.places.items c.turns.new.port c.turns.ensures.turned
+
+pub returns-in_err-close_all-clause-count : goal.returns-in_err-close_all-clause-count
+returns-in_err-close_all-clause-count g c =
+    count_closed g.L.ReadyLine.seen c.turns.new.places.places.items c.close_all.new.self.places.places.items c.close_all.ensures.leaves ∙ count_turned g.L.ReadyLine.seen g.P.SharedPort.steps c.args.self.now.hall.places.places.items c.args.port.now c.turns.new.places.places.items c.turns.new.port c.turns.ensures.turned
+
+pub returns-in_err-accept_all-clause-count : goal.returns-in_err-accept_all-clause-count
+returns-in_err-accept_all-clause-count g c =
+    count_given c.close_all.new.self.places.places.items c.accept_all.new.hall.places.places.items c.accept_all.ensures.comes ∙ count_closed g.L.ReadyLine.seen c.turns.new.places.places.items c.close_all.new.self.places.places.items c.close_all.ensures.leaves
+    ∙ count_turned g.L.ReadyLine.seen g.P.SharedPort.steps c.args.self.now.hall.places.places.items c.args.port.now c.turns.new.places.places.items c.turns.new.port c.turns.ensures.turned
+
+pub returns-clause-count : goal.returns-clause-count
+returns-clause-count g c =
+    count_given c.close_all.new.self.places.places.items c.accept_all.new.hall.places.places.items c.accept_all.ensures.comes ∙ count_closed g.L.ReadyLine.seen c.turns.new.places.places.items c.close_all.new.self.places.places.items c.close_all.ensures.leaves
+    ∙ count_turned g.L.ReadyLine.seen g.P.SharedPort.steps c.args.self.now.hall.places.places.items c.args.port.now c.turns.new.places.places.items c.turns.new.port c.turns.ensures.turned
+
+-- ## What became of the connections
+
+pub returns-in_err-wait-clause-spans : goal.returns-in_err-wait-clause-spans
+returns-in_err-wait-clause-spans g c = spans_waited g.L.ReadyLine.seen g.P.SharedPort.steps g.D.Doorway.steps c.args.self.now.door c.wait.new.door c.args.self.now.hall.places.places.items c.args.port.now c.wait.ensures.step
+
+pub returns-in_err-turns-clause-spans : goal.returns-in_err-turns-clause-spans
+returns-in_err-turns-clause-spans g c =
+    spans_closed g.L.ReadyLine.seen g.P.SharedPort.steps g.D.Doorway.steps c.args.self.now.door c.wait.new.door c.args.self.now.hall.places.places.items c.args.port.now c.turns.new.places.places.items c.turns.new.port c.turns.new.places.places.items c.wait.ensures.step c.turns.ensures.turned (left_none g.L.ReadyLine.seen c.turns.new.places.places.items)
+
+pub returns-in_err-close_all-clause-spans : goal.returns-in_err-close_all-clause-spans
+returns-in_err-close_all-clause-spans g c =
+    spans_closed g.L.ReadyLine.seen g.P.SharedPort.steps g.D.Doorway.steps c.args.self.now.door c.wait.new.door c.args.self.now.hall.places.places.items c.args.port.now c.turns.new.places.places.items c.turns.new.port c.close_all.new.self.places.places.items c.wait.ensures.step c.turns.ensures.turned c.close_all.ensures.left
+
+pub returns-in_err-accept_all-clause-spans : goal.returns-in_err-accept_all-clause-spans
+returns-in_err-accept_all-clause-spans g c =
+    spans_round g.L.ReadyLine.seen g.P.SharedPort.steps g.D.Doorway.steps c.args.self.now.door c.wait.new.door c.accept_all.new.door c.args.self.now.hall.places.places.items c.args.port.now c.turns.new.places.places.items c.turns.new.port c.close_all.new.self.places.places.items c.accept_all.new.hall.places.places.items c.wait.ensures.step c.turns.ensures.turned c.close_all.ensures.left c.accept_all.ensures.come
+
+pub returns-clause-spans : goal.returns-clause-spans
+returns-clause-spans g c =
+    spans_round g.L.ReadyLine.seen g.P.SharedPort.steps g.D.Doorway.steps c.args.self.now.door c.wait.new.door c.accept_all.new.door c.args.self.now.hall.places.places.items c.args.port.now c.turns.new.places.places.items c.turns.new.port c.close_all.new.self.places.places.items c.accept_all.new.hall.places.places.items c.wait.ensures.step c.turns.ensures.turned c.close_all.ensures.left c.accept_all.ensures.come
+
+-- ## The round
+
+pub returns-clause-promised : goal.returns-clause-promised
+returns-clause-promised g c = c.in_ok-wait.ensures.promised
 
 pub returns-clause-round : goal.returns-clause-round
 returns-clause-round g c =
-    let turned = c.turn_all.new.self in
-    let closed = c.close_over.new.self in
-    let given = c.accept_all.new.self in
-    round_of LIMIT (λ (s : ReadyValue). s) g.P.SharedPort.steps c.args.self.now.places.places.items c.wait.new.self.places.places.items turned.places.places.items closed.places.places.items given.places.places.items c.args.port.now c.turn_all.new.port turned.ready.items given.ready.items turned.again.items given.again.items turned.over.items
-    (ap (λ (x : Places ReadyValue). x.places.items) c.wait.ensures) (ap (λ (x : _). x.items) (c.accept_all.ensures.kept.0 ∙ c.close_over.ensures.kept.0)) (ap (λ (x : _). x.items) (c.accept_all.ensures.kept.1 ∙ c.close_over.ensures.kept.1))
-    c.turn_all.ensures.turned c.in_ok-turn_all.ensures.rests c.close_over.ensures.leaves c.accept_all.ensures.comes
+    round_of LIMIT g.L.ReadyLine.seen g.P.SharedPort.steps c.args.self.now.hall.places.places.items c.turns.new.places.places.items c.close_all.new.self.places.places.items c.accept_all.new.hall.places.places.items c.args.port.now c.turns.new.port c.wait.new.ready.items c.turns.new.again.items c.turns.new.over.items
+    c.turns.ensures.turned (subst (λ (t : List ℕ). Rests LIMIT g.L.ReadyLine.seen t c.turns.new.again.items c.turns.new.over.items c.args.self.now.hall.places.places.items c.turns.new.places.places.items) c.deref.ensures.value c.in_ok-turns.ensures.rests) c.close_all.ensures.leaves (subst (λ (t : List ℕ). (k : ℕ) → Contains t k → GoesOn g.L.ReadyLine.seen (slice_get c.close_all.new.self.places.places.items k)) c.deref-2.ensures.value c.in_ok-close_all.ensures.away) c.accept_all.ensures.comes
+
+pub returns-clause-given : goal.returns-clause-given
+returns-clause-given g c sound =
+    c.in_ok-accept_all.ensures.why (c.in_ok-close_all.ensures.noted (noted_turned g.L.ReadyLine.seen g.P.SharedPort.steps c.args.self.now.hall.places.places.items c.args.port.now c.turns.new.places.places.items c.turns.new.port c.args.self.now.hall.free.items c.turns.ensures.turned sound.noted)) (c.in_ok-wait.ensures.known sound.known)
+
+pub returns-clause-sound : goal.returns-clause-sound
+returns-clause-sound g c sound = record {
+  noted = c.in_ok-accept_all.ensures.noted (c.in_ok-close_all.ensures.noted (noted_turned g.L.ReadyLine.seen g.P.SharedPort.steps c.args.self.now.hall.places.places.items c.args.port.now c.turns.new.places.places.items c.turns.new.port c.args.self.now.hall.free.items c.turns.ensures.turned sound.noted));
+  known = c.accept_all.ensures.known (c.in_ok-wait.ensures.known sound.known);
+  on = all_go_on LIMIT g.L.ReadyLine.seen c.args.self.now.hall.places.places.items c.turns.new.places.places.items c.close_all.new.self.places.places.items c.accept_all.new.hall.places.places.items c.wait.new.ready.items c.turns.new.again.items c.turns.new.over.items (subst (λ (t : List ℕ). Rests LIMIT g.L.ReadyLine.seen t c.turns.new.again.items c.turns.new.over.items c.args.self.now.hall.places.places.items c.turns.new.places.places.items) c.deref.ensures.value c.in_ok-turns.ensures.rests) c.close_all.ensures.leaves (subst (λ (t : List ℕ). (k : ℕ) → Contains t k → GoesOn g.L.ReadyLine.seen (slice_get c.close_all.new.self.places.places.items k)) c.deref-2.ensures.value c.in_ok-close_all.ensures.away) c.accept_all.ensures.comes sound.on;
+}

@@ -1,6 +1,7 @@
-use Rattle.std.proofs.Common.{◌≡◌, ◌-◌, ◌<◌, ◌≤◌, ◌++◌, length, take, drop, refl, rules}
+use Rattle.std.proofs.Common.{◌≡◌, ◌-◌, ◌<◌, ◌≤◌, ◌+◌, [], ◌∷◌, ◌++◌, length, take, drop, rules}
 use Rattle.front.specs.Memory.{line_of}
 use Rattle.front.proofs.Buffers.{reads-some, told_more}
+use Rattle.front.proofs.Moments.{heard_more}
 use Rattle.front.proofs.memory.MemoryLineLine.read.Goals as goal
 
 pub returns-clause-line : goal.returns-clause-line
@@ -16,4 +17,8 @@ returns-clause-line c =
     let came : copied ≡ take n (take (length input - at) (drop at input)) = rw (← shown) c.copy_from_slice.ensures.after in
     let told = told_more input copied c.args.buffer.now at n came le len in
     let was = c.self.view_is in
-    rw (reads-some n (copied ++ drop n c.args.buffer.now) (line_of c.args.self.now) some, ← was, told) refl
+    let output = c.self.inside.output.items in
+    let marks = c.self.inside.marks.items in
+    let pushed : c.push.new.self.items ≡ marks ++ (record { heard = at; said = length output }) ∷ [] = search rules in
+    rw (reads-some n (copied ++ drop n c.args.buffer.now) (line_of c.args.self.now) some, ← was, told)
+    (heard_more input output (take (at + n) input) marks c.push.new.self.items at c.self.inside.endings c.self.inside.failures pushed)
