@@ -1,15 +1,18 @@
 //! What an exploration tells of a script.
-ghost use Rattle.std.specs.Prelude.{◌≡◌, IfOk, IfErr};
+ghost use Rattle.std.specs.Prelude.{◌≡◌, ◌+◌, length, IfOk, IfErr};
 ghost use Rattle.std.specs.List.{All};
-ghost use Rattle.explore.specs.Exploration.{exploration_text, IsShown, AreShown, IsExplorationFor, IsUnexplored};
+ghost use Rattle.workload.specs.declared.script.Script.{Script};
+ghost use Rattle.explore.specs.Exploration.{exploration_text, capped, IsBelow, IsShown, IsAudited, AreAudited, IsExplorationOf, IsExplorationFor, IsUnexplored};
 ghost use Rattle.explore.specs.declared.found.Exploration.{Exploration};
 
-use crate::found::{Exploration, Found, bytes_of};
+use crate::found::{Exploration, Found, Head, bytes_of};
 use crate::limits::Limits;
 use crate::numbering::Move;
-use crate::searching::{End, GaveUp, Search, follow_orders};
+use crate::orders::is_order_of;
+use crate::searching::{End, Search, follow_orders};
 use crate::spelling::script_text;
 use crate::stop::Stop;
+use audit::Audit;
 use logical_time::Fault;
 use program::Output;
 use serde_json::Value as Json;
@@ -18,13 +21,6 @@ use std::collections::HashMap;
 use std::io::Write;
 use std::thread::Threads;
 use workload::{Events, Script, ScriptEvent, read_script, sim, simulate_audited, transcript_text};
-
-/// What the audits of all ends found.
-#[derive(Clone, Copy)]
-struct Audited {
-    reads: u64,
-    wrong: u64,
-}
 
 // An event of a world as one of a script.
 fn event_of(script: &Script, one: Move) -> Result<ScriptEvent, Stop> {
@@ -57,23 +53,52 @@ fn script_of(alloc: Global, script: &Script, moves: &[Move]) -> Result<Script, S
     })
 }
 
+// Two audits together.
+fn together(a: Audit, b: Audit) -> Audit
+    ensures { result ≡ record { reads = capped (a.reads + b.reads); wrong = capped (a.wrong + b.wrong) } }
+{
+    Audit {
+        reads: a.reads.saturating_add(b.reads),
+        wrong: a.wrong.saturating_add(b.wrong),
+    }
+}
+
+// Audits a run to an end. Refused with `Stray` where that is no order of the script.
+fn audit_at(
+    rt: &(impl Threads + Sync),
+    alloc: Global,
+    lose: bool,
+    script: &Script,
+    search: &Search,
+    end: End,
+) -> Result<Audit, Stop>
+    ensures audit { IfOk result (λ found. (order : Script) × IsAudited lose script.now (record { order = order; found = found })) }
+    // no read of a run is wrong
+    ensures right { IfOk result (λ found. found.wrong ≡ 0) }
+{
+    let moves = search.moves(alloc, end.events, end.place)?;
+    let played = script_of(alloc, script, moves.as_slice())?;
+    if !is_order_of(alloc, lose, script, &played)? {
+        return Err(Stop::Stray);
+    }
+    let audited = simulate_audited(rt, alloc, &played)?;
+    Ok(audited.2)
+}
+
 // Audits a run to each end.
 fn audit_all(
     rt: &(impl Threads + Sync),
     alloc: Global,
+    lose: bool,
     script: &Script,
     search: &Search,
-) -> Result<Audited, Stop>
-    // no read of a run is wrong
-    ensures right { IfOk result (λ all. all.wrong ≡ 0) }
+    ends: &[End],
+) -> Result<Audit, Stop>
+    ensures { IfOk result (AreAudited lose script.now (length ends.now)) }
 {
-    let mut all = Audited { reads: 0, wrong: 0 };
-    for end in search.ends.as_slice() {
-        let moves = search.moves(alloc, end.events, end.place)?;
-        let run = script_of(alloc, script, moves.as_slice())?;
-        let (_, _, found) = simulate_audited(rt, alloc, &run)?;
-        all.reads = all.reads.saturating_add(found.reads as u64);
-        all.wrong = all.wrong.saturating_add(found.wrong as u64);
+    let mut all = Audit { reads: 0, wrong: 0 };
+    for end in ends {
+        all = together(all, audit_at(rt, alloc, lose, script, search, *end)?);
     }
     Ok(all)
 }
@@ -96,23 +121,37 @@ fn by_transcript(alloc: Global, ends: &[End]) -> Result<Vec<End>, Stop> {
     Ok(firsts)
 }
 
+// How many events the order of the script has that this text spells. Refused with `Stray` where it spells none.
+fn events_below(alloc: Global, lose: bool, script: &Script, text: &str) -> Result<usize, Stop>
+    ensures { IfOk result (λ events. IsBelow lose script.now events text.now) }
+{
+    let order = read_script(alloc, text)?;
+    if !is_order_of(alloc, lose, script, &order)? {
+        return Err(Stop::Stray);
+    }
+    Ok(order.events.as_slice().len())
+}
+
 // The run to this end, as `sim` runs it.
 fn found_at(
     alloc: Global,
+    lose: bool,
     script: &Script,
     events: &[Json],
     search: &Search,
     end: End,
     number: usize,
 ) -> Result<Found, Stop>
-    ensures { IfOk result IsShown }
+    ensures { IfOk result (IsShown lose script.now) }
 {
     let moves = search.moves(alloc, end.events, end.place)?;
     let text = script_text(alloc, &script.topology, events, moves.as_slice())?;
+    let count = events_below(alloc, lose, script, text.as_str())?;
     let transcript = sim(alloc, text.as_bytes())?;
-    let (runs, length) = (end.runs, end.events);
     Ok(Found {
-        head: format!(in alloc; "transcript {number} runs {runs} events {length}\n")?,
+        number,
+        runs: end.runs,
+        events: count,
         told: transcript_text(alloc, &transcript)?,
         script: text,
     })
@@ -121,45 +160,50 @@ fn found_at(
 // Each transcript that was told.
 fn all_found(
     alloc: Global,
+    lose: bool,
     script: &Script,
     events: &[Json],
     search: &Search,
     firsts: &[End],
 ) -> Result<Vec<Found>, Stop>
-    ensures { IfOk result (λ all. All IsShown all.items) }
+    ensures { IfOk result (λ all. All (IsShown lose script.now) all.items) }
 {
     let mut all = Vec::with_capacity(alloc, firsts.len())?;
     for (place, end) in firsts.iter().enumerate() {
         let number = place.saturating_add(1);
-        all.push(found_at(alloc, script, events, search, *end, number)?)?;
+        all.push(found_at(alloc, lose, script, events, search, *end, number)?)?;
     }
     Ok(all)
 }
 
-// The lines before the transcripts.
-fn head_of(
-    alloc: Global,
-    search: &Search,
-    limits: Limits,
-    audited: Audited,
-    transcripts: usize,
-) -> Result<String, Stop> {
-    let (states, events, ends) = (search.states, search.events, search.ends.len());
+// How many runs there are, at most 2^128 - 1.
+fn runs_of(ends: &[End]) -> u128 {
     let mut runs = 0u128;
-    for end in search.ends.as_slice() {
+    for end in ends {
         runs = runs.saturating_add(end.runs);
     }
-    let Audited { reads, wrong } = audited;
-    let mut head = format!(in alloc;
-        "runs {runs} transcripts {transcripts}\nstates {states} events {events} ends {ends}\naudit reads {reads} wrong {wrong}\n"
-    )?;
-    let (most_events, most_states) = (limits.events, limits.states);
-    match search.gave_up {
-        GaveUp::Nowhere => (),
-        GaveUp::Events => write!(head, "gave up at runs of {most_events} events\n")?,
-        GaveUp::States => write!(head, "gave up at {most_states} states\n")?,
-    }
-    Ok(head)
+    runs
+}
+
+// What stands before the transcripts.
+fn head_of(
+    rt: &(impl Threads + Sync),
+    alloc: Global,
+    lose: bool,
+    script: &Script,
+    search: &Search,
+) -> Result<Head, Stop>
+    ensures { IfOk result (λ head. AreAudited lose script.now head.ends head.audited) }
+{
+    let ends = search.ends.as_slice();
+    Ok(Head {
+        runs: runs_of(ends),
+        states: search.states,
+        events: search.events,
+        ends: ends.len(),
+        audited: audit_all(rt, alloc, lose, script, search, ends)?,
+        gave_up: search.gave_up,
+    })
 }
 
 // The events of a script as they are written in it.
@@ -180,17 +224,17 @@ fn explore_script<P: Write>(
     script: &Script,
     progress: &mut Output<P>,
 ) -> Result<Exploration, Stop>
-    ensures { IfOk result AreShown }
+    ensures { IfOk result (IsExplorationOf limits.lose script.now) }
 {
     let json = events_in(alloc, text)?;
     let Some(events) = json.get("events").and_then(Json::as_array) else {
         return Err(Stop::Stray);
     };
     let search = follow_orders(alloc, script, limits, progress)?;
-    let audited = audit_all(rt, alloc, script, &search)?;
+    let head = head_of(rt, alloc, limits.lose, script, &search)?;
     let firsts = by_transcript(alloc, search.ends.as_slice())?;
-    let head = head_of(alloc, &search, limits, audited, firsts.len())?;
-    let found = all_found(alloc, script, events.as_slice(), &search, firsts.as_slice())?;
+    let (events, firsts) = (events.as_slice(), firsts.as_slice());
+    let found = all_found(alloc, limits.lose, script, events, &search, firsts)?;
     Ok(Exploration { head, found })
 }
 
@@ -203,7 +247,7 @@ fn explored_text<P: Write>(
     script: &Script,
     progress: &mut Output<P>,
 ) -> Result<Vec<u8>, Stop>
-    ensures { IfOk result (λ told. (e : Exploration) × AreShown e × (told.items ≡ exploration_text e)) }
+    ensures { IfOk result (λ told. (e : Exploration) × IsExplorationOf limits.lose script.now e × (told.items ≡ exploration_text e)) }
 {
     let exploration = explore_script(rt, alloc, limits, text, script, progress)?;
     let told = bytes_of(alloc, &exploration)?;
@@ -220,7 +264,7 @@ pub(crate) fn explore_bytes<P: Write>(
     input: &[u8],
     progress: &mut Output<P>,
 ) -> Result<Vec<u8>, Fault>
-    ensures text { IfOk result (λ text. IsExplorationFor input.now text.items) }
+    ensures text { IfOk result (λ text. IsExplorationFor limits.lose input.now text.items) }
     ensures refused { IfErr result (IsUnexplored input.now) }
 {
     let Ok(text) = simdutf8::compat::from_utf8(input) else {

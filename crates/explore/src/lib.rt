@@ -12,6 +12,7 @@ mod learning;
 mod letters;
 mod limits;
 mod numbering;
+mod orders;
 mod performing;
 mod plan;
 mod searching;

@@ -23,10 +23,10 @@ const SILENT: u64 = 500_000;
 pub(crate) enum GaveUp {
     /// Nowhere.
     Nowhere,
-    /// At runs that have as many events as a run may have.
-    Events,
-    /// At as many states as are followed at most.
-    States,
+    /// At runs of so many events, as many as a run may have.
+    Events(u32),
+    /// At so many states, as many as are followed at most.
+    States(u32),
 }
 
 /// A state in which nothing has to happen any more.
@@ -401,14 +401,14 @@ impl Search {
             return Ok(true);
         }
         if usize::try_from(self.limits.events).unwrap_or(0) < self.trails.len() {
-            self.gave_up = GaveUp::Events;
+            self.gave_up = GaveUp::Events(self.limits.events);
             return Ok(true);
         }
         for step in steps.as_slice() {
             if u64::from(self.limits.states)
                 < self.states.saturating_add(next.states.len() as u64)
             {
-                self.gave_up = GaveUp::States;
+                self.gave_up = GaveUp::States(self.limits.states);
                 return Ok(false);
             }
             self.follow(alloc, script, state, place, *step, next)?;

@@ -1,1 +1,3 @@
+mod Grown
+mod Standing
 mod Tracings

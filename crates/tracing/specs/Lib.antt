@@ -1,3 +1,3 @@
-pub mod Performing
+pub mod Lines
 pub mod Traced
 pub mod Tracing

@@ -1,9 +1,9 @@
 //! Actors, as far as their events are told.
 ghost use Rattle.std.specs.Prelude.{◌≡◌, IfErr};
 ghost use Rattle.logical_time.specs.declared.fault.Fault.TheVariants as fault;
-ghost use Rattle.tracing.specs.Tracing.{HasCut};
+ghost use Rattle.tracing.specs.Tracing.{HasCut, HasGrown};
 
-use crate::pieces::put_number;
+use crate::pieces::{put, put_number};
 use logical_time::{Clock, Fault, Node, Time};
 use messages::{Body, Envelope, Topology};
 use program::Output;
@@ -88,7 +88,8 @@ pub(crate) fn put_name<W: Write>(
     topology: &Topology,
     node: Node,
 ) -> Result<(), Fault>
-    ensures { IfErr result (HasCut output.new) }
+    ensures grown { HasGrown W.contents output.old output.new }
+    ensures failed { IfErr result (HasCut output.new) }
 {
     match topology.session_of(node) {
         Some(session) => put_number(output, b"\"session ", u64::from(session))?,
@@ -98,5 +99,5 @@ pub(crate) fn put_name<W: Write>(
             put_number(output, b" of data centre ", u64::from(topology.dc_of(node)))?;
         }
     }
-    output.put(b"\"")
+    put(output, b"\"")
 }

@@ -1,9 +1,9 @@
 //! Messages as JSON.
 ghost use Rattle.std.specs.Prelude.{IfErr};
-ghost use Rattle.tracing.specs.Tracing.{HasCut};
+ghost use Rattle.tracing.specs.Tracing.{HasCut, HasGrown};
 
 use crate::listed::put_list;
-use crate::pieces::put_number;
+use crate::pieces::{put, put_number};
 use crate::words::{
     put_batch, put_cohorts, put_dependencies, put_read, put_stamp, put_transaction,
 };
@@ -16,10 +16,11 @@ use std::io::Write;
 
 // `,"kind":"`, the kind, and the transaction.
 fn put_kind<W: Write>(output: &mut Output<W>, kind: &[u8], txn: TxnId) -> Result<(), Fault>
-    ensures { IfErr result (HasCut output.new) }
+    ensures grown { HasGrown W.contents output.old output.new }
+    ensures failed { IfErr result (HasCut output.new) }
 {
-    output.put(b",\"kind\":\"")?;
-    output.put(kind)?;
+    put(output, b",\"kind\":\"")?;
+    put(output, kind)?;
     put_transaction(output, b"\",\"transaction\":{\"session\":", txn)
 }
 
@@ -31,7 +32,8 @@ fn put_decision<W: Write>(
     commit: Time,
     stamp: Stamp,
 ) -> Result<(), Fault>
-    ensures { IfErr result (HasCut output.new) }
+    ensures grown { HasGrown W.contents output.old output.new }
+    ensures failed { IfErr result (HasCut output.new) }
 {
     put_kind(output, kind, txn)?;
     put_number(output, b",\"commit\":", commit.get())?;
@@ -45,7 +47,8 @@ fn put_by<W: Write>(
     txn: TxnId,
     time: Time,
 ) -> Result<(), Fault>
-    ensures { IfErr result (HasCut output.new) }
+    ensures grown { HasGrown W.contents output.old output.new }
+    ensures failed { IfErr result (HasCut output.new) }
 {
     put_kind(output, kind, txn)?;
     put_number(output, b",\"by\":", time.get())
@@ -59,7 +62,8 @@ fn put_part<W: Write>(
     rows: &Batch,
     coordinator: Shard,
 ) -> Result<(), Fault>
-    ensures { IfErr result (HasCut output.new) }
+    ensures grown { HasGrown W.contents output.old output.new }
+    ensures failed { IfErr result (HasCut output.new) }
 {
     put_kind(output, kind, txn)?;
     put_batch(output, b",\"rows\":", rows)?;
@@ -75,7 +79,8 @@ fn put_begin<W: Write>(
     cohorts: Cohorts,
     dependencies: &Dependencies,
 ) -> Result<(), Fault>
-    ensures { IfErr result (HasCut output.new) }
+    ensures grown { HasGrown W.contents output.old output.new }
+    ensures failed { IfErr result (HasCut output.new) }
 {
     put_kind(output, kind, txn)?;
     put_batch(output, b",\"rows\":", rows)?;
@@ -85,16 +90,18 @@ fn put_begin<W: Write>(
 
 // `,"kind":"`, the kind, and the number of a read.
 fn put_round<W: Write>(output: &mut Output<W>, kind: &[u8], number: u64) -> Result<(), Fault>
-    ensures { IfErr result (HasCut output.new) }
+    ensures grown { HasGrown W.contents output.old output.new }
+    ensures failed { IfErr result (HasCut output.new) }
 {
-    output.put(b",\"kind\":\"")?;
-    output.put(kind)?;
+    put(output, b",\"kind\":\"")?;
+    put(output, kind)?;
     put_number(output, b"\",\"operation\":", number)
 }
 
 // The first round of a read.
 fn put_first<W: Write>(output: &mut Output<W>, number: u64, read: &Read) -> Result<(), Fault>
-    ensures { IfErr result (HasCut output.new) }
+    ensures grown { HasGrown W.contents output.old output.new }
+    ensures failed { IfErr result (HasCut output.new) }
 {
     put_round(output, b"Read", number)?;
     put_read(output, read)
@@ -107,7 +114,8 @@ fn put_second<W: Write>(
     time: Time,
     read: &Read,
 ) -> Result<(), Fault>
-    ensures { IfErr result (HasCut output.new) }
+    ensures grown { HasGrown W.contents output.old output.new }
+    ensures failed { IfErr result (HasCut output.new) }
 {
     put_round(output, b"ReadAt", number)?;
     put_number(output, b",\"effective\":", time.get())?;
@@ -116,7 +124,8 @@ fn put_second<W: Write>(
 
 // The answer in the first round of a read.
 fn put_now<W: Write>(output: &mut Output<W>, number: u64, rows: &RowsNow) -> Result<(), Fault>
-    ensures { IfErr result (HasCut output.new) }
+    ensures grown { HasGrown W.contents output.old output.new }
+    ensures failed { IfErr result (HasCut output.new) }
 {
     put_round(output, b"PartNow", number)?;
     put_list(output, b",\"rows\":", rows.as_slice())
@@ -129,12 +138,13 @@ fn put_at<W: Write>(
     time: Time,
     answer: &AtTime,
 ) -> Result<(), Fault>
-    ensures { IfErr result (HasCut output.new) }
+    ensures grown { HasGrown W.contents output.old output.new }
+    ensures failed { IfErr result (HasCut output.new) }
 {
     put_round(output, b"PartAt", number)?;
     put_number(output, b",\"effective\":", time.get())?;
     match answer {
-        AtTime::Collected => output.put(b",\"collected\":true"),
+        AtTime::Collected => put(output, b",\"collected\":true"),
         AtTime::Rows(rows) => put_list(output, b",\"rows\":", rows.as_slice()),
     }
 }
@@ -146,10 +156,11 @@ fn put_check<W: Write>(
     dependency: TxnId,
     waiter: TxnId,
 ) -> Result<(), Fault>
-    ensures { IfErr result (HasCut output.new) }
+    ensures grown { HasGrown W.contents output.old output.new }
+    ensures failed { IfErr result (HasCut output.new) }
 {
-    output.put(b",\"kind\":\"")?;
-    output.put(kind)?;
+    put(output, b",\"kind\":\"")?;
+    put(output, kind)?;
     put_transaction(output, b"\",\"dependency\":{\"session\":", dependency)?;
     put_transaction(output, b",\"waiter\":{\"session\":", waiter)
 }
@@ -157,7 +168,8 @@ fn put_check<W: Write>(
 // What a message of a write says.
 #[rattlefmt::skip]
 fn put_write<W: Write>(output: &mut Output<W>, body: &Body) -> Result<(), Fault>
-    ensures { IfErr result (HasCut output.new) }
+    ensures grown { HasGrown W.contents output.old output.new }
+    ensures failed { IfErr result (HasCut output.new) }
 {
     match body {
         Body::Begin { txn, rows, cohorts, dependencies } => put_begin(output, b"Begin", *txn, rows, *cohorts, dependencies),
@@ -182,7 +194,8 @@ fn put_write<W: Write>(output: &mut Output<W>, body: &Body) -> Result<(), Fault>
 // What a message says.
 #[rattlefmt::skip]
 fn put_body<W: Write>(output: &mut Output<W>, body: &Body) -> Result<(), Fault>
-    ensures { IfErr result (HasCut output.new) }
+    ensures grown { HasGrown W.contents output.old output.new }
+    ensures failed { IfErr result (HasCut output.new) }
 {
     match body {
         Body::At { txn, commit, stamp } => put_decision(output, b"At", *txn, *commit, *stamp),
@@ -208,14 +221,15 @@ pub(crate) fn put_message<W: Write>(
     number: usize,
     message: &Envelope,
 ) -> Result<(), Fault>
-    ensures { IfErr result (HasCut output.new) }
+    ensures grown { HasGrown W.contents output.old output.new }
+    ensures failed { IfErr result (HasCut output.new) }
 {
     put_number(output, words, number as u64)?;
     put_number(output, b",\"from\":", u64::from(message.from.get()))?;
     put_number(output, b",\"to\":", u64::from(message.to.get()))?;
     put_number(output, b",\"time\":", message.time.get())?;
     put_body(output, &message.body)?;
-    output.put(b"}")
+    put(output, b"}")
 }
 
 /// `,"sent":`, and then these messages, of which the first has this number.
@@ -224,7 +238,8 @@ pub(crate) fn put_sent<W: Write>(
     first: usize,
     messages: &[Envelope],
 ) -> Result<(), Fault>
-    ensures { IfErr result (HasCut output.new) }
+    ensures grown { HasGrown W.contents output.old output.new }
+    ensures failed { IfErr result (HasCut output.new) }
 {
     let mut words: &[u8] = b",\"sent\":[{\"number\":";
     let mut number = first;
@@ -233,9 +248,12 @@ pub(crate) fn put_sent<W: Write>(
         words = b",{\"number\":";
         number = number.wrapping_add(1);
     }
-    output.put(if messages.is_empty() {
-        b",\"sent\":[]"
-    } else {
-        b"]"
-    })
+    put(
+        output,
+        if messages.is_empty() {
+            b",\"sent\":[]"
+        } else {
+            b"]"
+        },
+    )
 }

@@ -1,31 +1,32 @@
 //! Events as lines of JSON.
 ghost use Rattle.std.specs.Prelude.{IfErr};
-ghost use Rattle.tracing.specs.Tracing.{HasCut};
+ghost use Rattle.tracing.specs.Tracing.{HasCut, HasGrown};
 
 use crate::actor::{Actor, put_name};
-use crate::pieces::{put_bytes, put_number, put_quoted};
+use crate::pieces::{put, put_bytes, put_number};
 use crate::words::{put_batch, put_read};
 use logical_time::{Fault, Node, Time};
 use messages::{Body, Envelope, Op, RowNow, Topology};
 use program::Output;
 use std::io::Write;
-use std::str::Lines;
 
 // `,"homes":`, and then the first homes of the sessions.
 fn put_homes<W: Write>(output: &mut Output<W>, homes: &[u16]) -> Result<(), Fault>
-    ensures { IfErr result (HasCut output.new) }
+    ensures grown { HasGrown W.contents output.old output.new }
+    ensures failed { IfErr result (HasCut output.new) }
 {
     let mut words: &[u8] = b",\"homes\":[";
     for home in homes {
         put_number(output, words, u64::from(*home))?;
         words = b",";
     }
-    output.put(b"]")
+    put(output, b"]")
 }
 
 /// The line that tells which actors there are, each at the place of its node.
 pub(crate) fn put_actors<W: Write>(output: &mut Output<W>, topology: &Topology) -> Result<(), Fault>
-    ensures { IfErr result (HasCut output.new) }
+    ensures grown { HasGrown W.contents output.old output.new }
+    ensures failed { IfErr result (HasCut output.new) }
 {
     put_number(
         output,
@@ -36,11 +37,11 @@ pub(crate) fn put_actors<W: Write>(output: &mut Output<W>, topology: &Topology) 
     put_homes(output, topology.homes())?;
     let mut words: &[u8] = b",\"actors\":[";
     for node in 0..topology.node_count() {
-        output.put(words)?;
+        put(output, words)?;
         put_name(output, topology, Node::new(node))?;
         words = b",";
     }
-    output.put(b"]}\n")
+    put(output, b"]}\n")
 }
 
 /// The beginning of an event: its place in the script, its kind, its actor, and the clock after it.
@@ -52,20 +53,22 @@ pub(crate) fn put_head<W: Write>(
     node: Node,
     clock: Time,
 ) -> Result<(), Fault>
-    ensures { IfErr result (HasCut output.new) }
+    ensures grown { HasGrown W.contents output.old output.new }
+    ensures failed { IfErr result (HasCut output.new) }
 {
     put_number(output, b"{\"place\":", place as u64)?;
-    output.put(b",\"event\":\"")?;
-    output.put(kind)?;
+    put(output, b",\"event\":\"")?;
+    put(output, kind)?;
     put_number(output, b"\",\"node\":", u64::from(node.get()))?;
-    output.put(b",\"name\":")?;
+    put(output, b",\"name\":")?;
     put_name(output, topology, node)?;
     put_number(output, b",\"clock\":", clock.get())
 }
 
 /// What a session submits.
 pub(crate) fn put_op<W: Write>(output: &mut Output<W>, op: &Op) -> Result<(), Fault>
-    ensures { IfErr result (HasCut output.new) }
+    ensures grown { HasGrown W.contents output.old output.new }
+    ensures failed { IfErr result (HasCut output.new) }
 {
     match op {
         Op::Batch(batch) => put_batch(output, b",\"batch\":", batch.get()),
@@ -82,7 +85,8 @@ fn put_accepted<W: Write>(
     shard: Node,
     row: &RowNow,
 ) -> Result<(), Fault>
-    ensures { IfErr result (HasCut output.new) }
+    ensures grown { HasGrown W.contents output.old output.new }
+    ensures failed { IfErr result (HasCut output.new) }
 {
     put_bytes(output, words, row.key.as_slice())?;
     put_number(output, b",\"from\":", u64::from(shard.get()))?;
@@ -90,7 +94,7 @@ fn put_accepted<W: Write>(
     put_number(output, b",\"lvt\":", row.lvt.get())?;
     let round = if row.lvt < effective { 2 } else { 1 };
     put_number(output, b",\"round\":", round)?;
-    output.put(b"}")
+    put(output, b"}")
 }
 
 // The rows of an answer in the first round, from this shard.
@@ -100,7 +104,8 @@ fn put_answered<W: Write>(
     message: &Envelope,
     first: bool,
 ) -> Result<(), Fault>
-    ensures { IfErr result (HasCut output.new) }
+    ensures grown { HasGrown W.contents output.old output.new }
+    ensures failed { IfErr result (HasCut output.new) }
 {
     let mut words: &[u8] = if first { b"{\"key\":" } else { b",{\"key\":" };
     if let Body::PartNow { number: _, rows } = &message.body {
@@ -119,10 +124,11 @@ pub(crate) fn put_rounds<W: Write>(
     messages: &[Envelope],
     effective: Time,
 ) -> Result<(), Fault>
-    ensures { IfErr result (HasCut output.new) }
+    ensures grown { HasGrown W.contents output.old output.new }
+    ensures failed { IfErr result (HasCut output.new) }
 {
     put_number(output, b",\"effective\":", effective.get())?;
-    output.put(b",\"accepted\":[")?;
+    put(output, b",\"accepted\":[")?;
     let mut first = true;
     for number in actor.first {
         if let Some(message) = messages.get(number.unwrap_or(usize::MAX)) {
@@ -130,27 +136,5 @@ pub(crate) fn put_rounds<W: Write>(
             first = false;
         }
     }
-    output.put(b"]")
-}
-
-/// The end of an event: these lines of the transcript, so many.
-pub(crate) fn put_lines<W: Write>(
-    output: &mut Output<W>,
-    lines: &mut Lines<'_>,
-    count: usize,
-) -> Result<(), Fault>
-    ensures { IfErr result (HasCut output.new) }
-{
-    let mut words: &[u8] = b",\"transcript\":[";
-    for _ in 0..count {
-        if let Some(line) = lines.next() {
-            put_quoted(output, words, line)?;
-            words = b",";
-        }
-    }
-    output.put(if count == 0 {
-        b",\"transcript\":[]}\n"
-    } else {
-        b"]}\n"
-    })
+    put(output, b"]")
 }

@@ -4,6 +4,7 @@
 mod actor;
 mod bodies;
 mod events;
+mod lines;
 mod listed;
 mod performing;
 mod pieces;

@@ -1,7 +1,8 @@
 //! Lists of JSON.
 ghost use Rattle.std.specs.Prelude.{IfErr};
-ghost use Rattle.tracing.specs.Tracing.{HasCut};
+ghost use Rattle.tracing.specs.Tracing.{HasCut, HasGrown};
 
+use crate::pieces::put;
 use logical_time::Fault;
 use program::Output;
 use std::io::Write;
@@ -10,7 +11,8 @@ use std::io::Write;
 pub(crate) trait Listed {
     /// Writes it, as a value of JSON.
     fn put<W: Write>(&self, output: &mut Output<W>) -> Result<(), Fault>
-        ensures { IfErr result (HasCut output.new) };
+        ensures grown { HasGrown W.contents output.old output.new }
+        ensures failed { IfErr result (HasCut output.new) };
 }
 
 /// Words, and then a list.
@@ -19,14 +21,15 @@ pub(crate) fn put_list<T: Listed, W: Write>(
     words: &[u8],
     items: &[T],
 ) -> Result<(), Fault>
-    ensures { IfErr result (HasCut output.new) }
+    ensures grown { HasGrown W.contents output.old output.new }
+    ensures failed { IfErr result (HasCut output.new) }
 {
-    output.put(words)?;
+    put(output, words)?;
     let mut mark: &[u8] = b"[";
     for item in items {
-        output.put(mark)?;
+        put(output, mark)?;
         item.put(output)?;
         mark = b",";
     }
-    output.put(if items.is_empty() { b"[]" } else { b"]" })
+    put(output, if items.is_empty() { b"[]" } else { b"]" })
 }

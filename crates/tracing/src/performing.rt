@@ -1,8 +1,8 @@
 //! The trace of a script, over any reader and writers.
-ghost use Rattle.std.specs.Prelude.{◌≡◌, ◌⊎◌, [], IsSome, IfOk, IfErr, OnOk};
-ghost use Rattle.workload.specs.Performing.{IsTextFor, IsRefused, TellsUnread};
-ghost use Rattle.tracing.specs.Tracing.{HasCut};
-ghost use Rattle.tracing.specs.Performing.{HasRun, Ends};
+ghost use Rattle.std.specs.Prelude.{◌≡◌, ◌⊎◌, [], IsSome, IfOk, IfErr, OnOk, OnErr};
+ghost use Rattle.workload.specs.Performing.{IsTextFor, IsRefused, Prints, Ends, TellsUnread};
+ghost use Rattle.tracing.specs.Traced.{IsTraceFor};
+ghost use Rattle.tracing.specs.Tracing.{HasCut, TellsLines, TellsPart};
 
 use crate::playing::{Traced, trace};
 use crate::telling::write_trace;
@@ -39,7 +39,9 @@ fn write_all<W: Buffered>(
     script: Script,
     mut traced: Traced,
 ) -> Result<(), Fault>
+    ensures told { OnOk result (TellsLines W.contents output.old output.new traced.text.items) }
     ensures passed_on { OnOk result (W.held output.new.writer ≡ []) }
+    ensures part { OnErr result (TellsPart W.contents output.old output.new traced.text.items) }
     ensures failed { IfErr result (HasCut output.new) }
 {
     let written = write_trace(output, &script, &mut traced);
@@ -50,6 +52,7 @@ fn write_all<W: Buffered>(
 
 /// Runs a script in a world, and writes the trace of its run, for a program that ends with it: reads all that the input has left,
 /// writes the trace piece by piece and without memory, and passes it on; the memory of the run is given back with that of the process.
+/// The lines that `sim` of `workload` tells of the script stand in the trace, in order.
 /// Gives the status of the program: 0 where all is written and the writer holds nothing back, or 1 after a fault was told:
 /// `ReadFailed` where the input failed, as `sim` of `workload` is refused, `Memory`, or `WriteFailed` where the output failed. Only
 /// after the last may something be written, a beginning of the trace.
@@ -60,10 +63,11 @@ pub fn perform_trace<R: Read, W: Buffered, E: Buffered>(
     errors: &mut Output<E>,
 ) -> u8
     ensures status { (result ≡ 0) ⊎ (result ≡ 1) }
-    ensures traced { result ≡ 0 → HasRun R.remaining input.old × (errors.new ≡ errors.old) }
+    // each line of the transcript stands in what is written, in order
+    ensures printed { result ≡ 0 → Prints IsTraceFor IsRefused R.remaining W.contents E.contents input.old output.old output.new errors.old errors.new }
     ensures passed_on { result ≡ 0 → W.held output.new.writer ≡ [] }
     ensures unread { IsSome input.old.failure → TellsUnread E.contents result errors.old errors.new }
-    ensures ended { result ≡ 1 → Ends R.remaining E.contents input.old input.new output.old output.new errors.old errors.new }
+    ensures ended { result ≡ 1 → Ends IsTraceFor IsRefused R.remaining W.contents E.contents input.old input.new output.old output.new errors.old errors.new }
 {
     let bytes = match input.read_all(alloc) {
         Ok(bytes) => bytes,
@@ -73,7 +77,7 @@ pub fn perform_trace<R: Read, W: Buffered, E: Buffered>(
         }
     };
     let (script, traced) = match trace_bytes(alloc, &bytes) {
-        Ok(run) => run,
+        Ok(told) => told,
         Err(fault) => {
             let more = line(alloc, input.name.as_str(), explain(alloc, &bytes, fault));
             return tell(errors, fault, more);

@@ -1,7 +1,7 @@
 //! Pieces of JSON, written without memory.
 ghost use Rattle.std.specs.Prelude.{◌≡◌, ◌≤◌, ◌*◌, length, IsSome, IfErr};
 ghost use Rattle.logical_time.specs.declared.fault.Fault.TheVariants as fault;
-ghost use Rattle.tracing.specs.Tracing.{HasCut};
+ghost use Rattle.tracing.specs.Tracing.{HasCut, HasGrown};
 
 use itoa::Buffer;
 use logical_time::Fault;
@@ -24,19 +24,28 @@ const SHORT: usize = 32;
 /// The digits of a control byte.
 const DIGITS: &[u8; 16] = b"0123456789abcdef";
 
+/// Bytes.
+pub(crate) fn put<W: Write>(output: &mut Output<W>, bytes: &[u8]) -> Result<(), Fault>
+    ensures grown { HasGrown W.contents output.old output.new }
+    ensures failed { IfErr result (HasCut output.new) }
+{
+    output.put(bytes)
+}
+
 // Words, and then digits.
 fn put_pair<W: Write>(output: &mut Output<W>, words: &[u8], digits: &[u8]) -> Result<(), Fault>
-    ensures { IfErr result (HasCut output.new) }
+    ensures grown { HasGrown W.contents output.old output.new }
+    ensures failed { IfErr result (HasCut output.new) }
 {
     if WORDS < words.len() || MOST_DIGITS < digits.len() {
-        output.put(words)?;
-        return output.put(digits);
+        put(output, words)?;
+        return put(output, digits);
     }
     let mut text = [0; WORDS + MOST_DIGITS];
     let end = words.len() + digits.len();
     text[..words.len()].copy_from_slice(words);
     text[words.len()..end].copy_from_slice(digits);
-    output.put(&text[..end])
+    put(output, &text[..end])
 }
 
 /// Words, and then a number.
@@ -46,7 +55,8 @@ pub(crate) fn put_number<W: Write>(
     words: &[u8],
     number: u64,
 ) -> Result<(), Fault>
-    ensures { IfErr result (HasCut output.new) }
+    ensures grown { HasGrown W.contents output.old output.new }
+    ensures failed { IfErr result (HasCut output.new) }
 {
     let mut buffer = Buffer::new();
     put_pair(output, words, buffer.format(number).as_bytes())
@@ -55,17 +65,19 @@ pub(crate) fn put_number<W: Write>(
 // Few bytes in hexadecimal.
 fn put_few<W: Write>(output: &mut Output<W>, bytes: &[u8]) -> Result<(), Fault>
     requires { length bytes.now ≤ 64 }
-    ensures { IfErr result (HasCut output.new) }
+    ensures grown { HasGrown W.contents output.old output.new }
+    ensures failed { IfErr result (HasCut output.new) }
 {
     let mut digits = [0; 2 * FEW];
     let shown = &mut digits[..2 * bytes.len()];
     hex::encode_to_slice(bytes, shown).unwrap();
-    output.put(shown)
+    put(output, shown)
 }
 
 // Bytes in hexadecimal, a few at a time.
 fn put_digits<W: Write>(output: &mut Output<W>, bytes: &[u8]) -> Result<(), Fault>
-    ensures { IfErr result (HasCut output.new) }
+    ensures grown { HasGrown W.contents output.old output.new }
+    ensures failed { IfErr result (HasCut output.new) }
 {
     let mut rest = bytes;
     while FEW < rest.len() {
@@ -83,23 +95,25 @@ fn is_plain(byte: u8) -> bool {
 
 // A byte that doesn't stand for itself.
 fn put_escape<W: Write>(output: &mut Output<W>, byte: u8) -> Result<(), Fault>
-    ensures { IfErr result (HasCut output.new) }
+    ensures grown { HasGrown W.contents output.old output.new }
+    ensures failed { IfErr result (HasCut output.new) }
 {
     if 32 <= byte {
-        return output.put(&[b'\\', byte]);
+        return put(output, &[b'\\', byte]);
     }
     let high = DIGITS[usize::from(byte / 16)];
     let low = DIGITS[usize::from(byte % 16)];
-    output.put(&[b'\\', b'u', b'0', b'0', high, low])
+    put(output, &[b'\\', b'u', b'0', b'0', high, low])
 }
 
 // A text that has bytes that don't stand for themselves.
 fn put_escaped<W: Write>(output: &mut Output<W>, text: &[u8]) -> Result<(), Fault>
-    ensures { IfErr result (HasCut output.new) }
+    ensures grown { HasGrown W.contents output.old output.new }
+    ensures failed { IfErr result (HasCut output.new) }
 {
     for byte in text {
         if is_plain(*byte) {
-            output.put(&[*byte])?;
+            put(output, &[*byte])?;
         } else {
             put_escape(output, *byte)?;
         }
@@ -109,10 +123,11 @@ fn put_escaped<W: Write>(output: &mut Output<W>, text: &[u8]) -> Result<(), Faul
 
 // What stands between the quotes of a text of JSON.
 fn put_text<W: Write>(output: &mut Output<W>, text: &[u8]) -> Result<(), Fault>
-    ensures { IfErr result (HasCut output.new) }
+    ensures grown { HasGrown W.contents output.old output.new }
+    ensures failed { IfErr result (HasCut output.new) }
 {
     if text.iter().all(|byte| is_plain(*byte)) {
-        return output.put(text);
+        return put(output, text);
     }
     put_escaped(output, text)
 }
@@ -125,7 +140,8 @@ fn is_letter(byte: u8) -> bool {
 // Few bytes, each a character that stands for itself: their digits, and their text.
 fn put_short<W: Write>(output: &mut Output<W>, bytes: &[u8]) -> Result<(), Fault>
     requires { length bytes.now ≤ 32 }
-    ensures { IfErr result (HasCut output.new) }
+    ensures grown { HasGrown W.contents output.old output.new }
+    ensures failed { IfErr result (HasCut output.new) }
 {
     let mut text = [0; 8 + 2 * SHORT + 10 + SHORT + 2];
     let middle = 8 + 2 * bytes.len();
@@ -137,20 +153,21 @@ fn put_short<W: Write>(output: &mut Output<W>, bytes: &[u8]) -> Result<(), Fault
     text[start..end].copy_from_slice(bytes);
     text[end] = b'"';
     text[end + 1] = b'}';
-    output.put(&text[..end + 2])
+    put(output, &text[..end + 2])
 }
 
 // Any bytes: their digits, and the text that they are, if they are one.
 fn put_long<W: Write>(output: &mut Output<W>, bytes: &[u8]) -> Result<(), Fault>
-    ensures { IfErr result (HasCut output.new) }
+    ensures grown { HasGrown W.contents output.old output.new }
+    ensures failed { IfErr result (HasCut output.new) }
 {
-    output.put(b"{\"hex\":\"")?;
+    put(output, b"{\"hex\":\"")?;
     put_digits(output, bytes)?;
     if str::from_utf8(bytes).is_ok() {
-        output.put(b"\",\"text\":\"")?;
+        put(output, b"\",\"text\":\"")?;
         put_text(output, bytes)?;
     }
-    output.put(b"\"}")
+    put(output, b"\"}")
 }
 
 /// Words, and then bytes: their digits, and the text that they are, if they are one.
@@ -159,25 +176,12 @@ pub(crate) fn put_bytes<W: Write>(
     words: &[u8],
     bytes: &[u8],
 ) -> Result<(), Fault>
-    ensures { IfErr result (HasCut output.new) }
+    ensures grown { HasGrown W.contents output.old output.new }
+    ensures failed { IfErr result (HasCut output.new) }
 {
-    output.put(words)?;
+    put(output, words)?;
     if bytes.len() <= SHORT && bytes.iter().all(|byte| is_letter(*byte)) {
         return put_short(output, bytes);
     }
     put_long(output, bytes)
-}
-
-/// A line of a transcript as a text of JSON.
-pub(crate) fn put_quoted<W: Write>(
-    output: &mut Output<W>,
-    words: &[u8],
-    line: &str,
-) -> Result<(), Fault>
-    ensures { IfErr result (HasCut output.new) }
-{
-    output.put(words)?;
-    output.put(b"\"")?;
-    put_text(output, line.as_bytes())?;
-    output.put(b"\"")
 }

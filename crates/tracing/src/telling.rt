@@ -1,18 +1,17 @@
 //! What happened, told line by line and without memory.
-ghost use Rattle.std.specs.Prelude.{◌≡◌, [], IsSome, IsNone, IfErr, OnOk};
-ghost use Rattle.tracing.specs.Tracing.{HasCut};
+ghost use Rattle.std.specs.Prelude.{◌≡◌, [], IsNone, IfOk, IfErr, OnOk, OnErr};
+ghost use Rattle.tracing.specs.Tracing.{HasCut, HasGrown, Shows, TellsLines, TellsPart};
 
 use crate::actor::Actor;
 use crate::bodies::{put_message, put_sent};
-use crate::events::{put_actors, put_head, put_lines, put_op, put_rounds};
+use crate::events::{put_actors, put_head, put_op, put_rounds};
+use crate::lines::{put_lines, put_rest};
 use crate::pieces::put_number;
 use crate::playing::{Step, Traced};
 use logical_time::{Fault, Node, Time};
 use messages::{Envelope, Op, Outcome, Topology};
 use program::{Buffered, Output};
 use std::io::Write;
-use std::str;
-use std::str::Lines;
 use workload::{Script, ScriptEvent};
 use world::Completed;
 
@@ -34,7 +33,8 @@ fn put_submission<W: Write>(
     op: &Op,
     actor: &mut Actor,
 ) -> Result<(), Fault>
-    ensures { IfErr result (HasCut output.new) }
+    ensures grown { HasGrown W.contents output.old output.new }
+    ensures failed { IfErr result (HasCut output.new) }
 {
     if step.refusal.is_none() {
         actor.accept();
@@ -57,7 +57,8 @@ fn put_delivery<W: Write>(
     message: &Envelope,
     actor: &mut Actor,
 ) -> Result<(), Fault>
-    ensures { IfErr result (HasCut output.new) }
+    ensures grown { HasGrown W.contents output.old output.new }
+    ensures failed { IfErr result (HasCut output.new) }
 {
     let shard = topology.shard_of(message.from);
     actor.handle(number, usize::from(shard.get()), message);
@@ -75,7 +76,8 @@ fn put_collection<W: Write>(
     time: Time,
     actor: &mut Actor,
 ) -> Result<(), Fault>
-    ensures { IfErr result (HasCut output.new) }
+    ensures grown { HasGrown W.contents output.old output.new }
+    ensures failed { IfErr result (HasCut output.new) }
 {
     actor.act();
     let clock = actor.clock.now();
@@ -91,7 +93,8 @@ fn put_delivered<W: Write>(
     number: usize,
     actors: &mut [Actor],
 ) -> Result<(), Fault>
-    ensures { IfErr result (HasCut output.new) }
+    ensures grown { HasGrown W.contents output.old output.new }
+    ensures failed { IfErr result (HasCut output.new) }
 {
     let Some(message) = run.messages.get(number) else {
         return Ok(());
@@ -110,7 +113,8 @@ fn put_asked<W: Write>(
     event: &ScriptEvent,
     actor: &mut Actor,
 ) -> Result<(), Fault>
-    ensures { IfErr result (HasCut output.new) }
+    ensures grown { HasGrown W.contents output.old output.new }
+    ensures failed { IfErr result (HasCut output.new) }
 {
     match event {
         ScriptEvent::Submit { session, op } => {
@@ -131,7 +135,8 @@ fn put_called<W: Write>(
     event: &ScriptEvent,
     actors: &mut [Actor],
 ) -> Result<(), Fault>
-    ensures { IfErr result (HasCut output.new) }
+    ensures grown { HasGrown W.contents output.old output.new }
+    ensures failed { IfErr result (HasCut output.new) }
 {
     let node = match event {
         ScriptEvent::Submit { session, op: _ } => session.get(),
@@ -151,7 +156,8 @@ fn put_happened<W: Write>(
     step: &Step,
     actors: &mut [Actor],
 ) -> Result<(), Fault>
-    ensures { IfErr result (HasCut output.new) }
+    ensures grown { HasGrown W.contents output.old output.new }
+    ensures failed { IfErr result (HasCut output.new) }
 {
     if let Some(number) = step.message {
         return put_delivered(output, run, step, number, actors);
@@ -169,7 +175,8 @@ fn put_reads<W: Write>(
     completed: &[Completed],
     actors: &[Actor],
 ) -> Result<(), Fault>
-    ensures { IfErr result (HasCut output.new) }
+    ensures grown { HasGrown W.contents output.old output.new }
+    ensures failed { IfErr result (HasCut output.new) }
 {
     for ended in completed {
         if let Outcome::Read {
@@ -201,16 +208,19 @@ fn lines_of(refusal: Option<Fault>, completed: &[Completed]) -> usize {
     count
 }
 
-// The line of what happened after so many messages and outcomes.
-fn put_step<W: Write>(
+// The line of what happened after so many messages and outcomes, with the first lines that the transcript has left. Gives what it
+// has left then.
+fn put_step<'t, W: Write>(
     output: &mut Output<W>,
     run: Run<'_>,
     step: &Step,
     before: (usize, usize),
     actors: &mut [Actor],
-    lines: &mut Lines<'_>,
-) -> Result<(), Fault>
-    ensures { IfErr result (HasCut output.new) }
+    text: &'t [u8],
+) -> Result<&'t [u8], Fault>
+    ensures grown { HasGrown W.contents output.old output.new }
+    ensures told { IfOk result (λ rest. Shows W.contents output.old output.new text.now rest.now) }
+    ensures failed { IfErr result (HasCut output.new) }
 {
     put_happened(output, run, step, actors)?;
     let (sent, ended) = before;
@@ -221,7 +231,7 @@ fn put_step<W: Write>(
     )?;
     let completed = run.completed.get(ended..step.ended).unwrap_or(&[]);
     put_reads(output, run.messages, completed, actors)?;
-    put_lines(output, lines, lines_of(step.refusal, completed))
+    put_lines(output, text, lines_of(step.refusal, completed))
 }
 
 // Each line.
@@ -230,30 +240,35 @@ fn put_steps<W: Write>(
     run: Run<'_>,
     steps: &[Step],
     actors: &mut [Actor],
-    text: &str,
+    text: &[u8],
 ) -> Result<(), Fault>
-    ensures { IfErr result (HasCut output.new) }
+    ensures grown { HasGrown W.contents output.old output.new }
+    ensures told { OnOk result (Shows W.contents output.old output.new text.now []) }
+    ensures failed { IfErr result (HasCut output.new) }
 {
     put_actors(output, run.topology)?;
-    let mut lines = text.lines();
+    let mut rest = text;
     let mut before = (0, 0);
     for step in steps {
-        put_step(output, run, step, before, actors, &mut lines)?;
+        rest = put_step(output, run, step, before, actors, rest)?;
         before = (step.sent, step.ended);
     }
-    Ok(())
+    put_rest(output, rest)
 }
 
 /// Writes a trace and passes it on, so that the writer holds nothing back: a line that tells which actors there are, and one for
-/// each event that happened. Refused with `WriteFailed` exactly where the output has failed; then a beginning is written. Linear in
+/// each event that happened, with the lines of the transcript that it adds. Refused with `WriteFailed` exactly where the output has failed; then a beginning is written. Linear in
 /// the text. Takes no memory.
 pub fn write_trace<W: Buffered>(
     output: &mut Output<W>,
     script: &Script,
     traced: &mut Traced,
 ) -> Result<(), Fault>
+    // each line of the transcript, in order
+    ensures told { OnOk result (TellsLines W.contents output.old output.new traced.old.text.items) }
     ensures passed_on { OnOk result (W.held output.new.writer ≡ []) }
     ensures sound { OnOk result (IsNone output.new.failure) }
+    ensures part { OnErr result (TellsPart W.contents output.old output.new traced.old.text.items) }
     ensures failed { IfErr result (HasCut output.new) }
 {
     let run = Run {
@@ -262,7 +277,7 @@ pub fn write_trace<W: Buffered>(
         messages: traced.world.messages(),
         completed: traced.world.transcript(),
     };
-    let text = str::from_utf8(&traced.text).unwrap_or("");
+    let text = traced.text.as_slice();
     put_steps(output, run, &traced.steps, &mut traced.actors, text)?;
     output.flush()
 }

@@ -1,9 +1,9 @@
 //! What messages and operations speak of, as JSON.
 ghost use Rattle.std.specs.Prelude.{IfErr};
-ghost use Rattle.tracing.specs.Tracing.{HasCut};
+ghost use Rattle.tracing.specs.Tracing.{HasCut, HasGrown};
 
 use crate::listed::{Listed, put_list};
-use crate::pieces::{put_bytes, put_number};
+use crate::pieces::{put, put_bytes, put_number};
 use column_family::{Batch, Change, Key, Mutation, Name};
 use logical_time::{Fault, Stamp, TxnId, Writer};
 use messages::{Cohorts, Dependencies, RowAt, RowNow};
@@ -17,27 +17,29 @@ pub(crate) fn put_transaction<W: Write>(
     words: &[u8],
     txn: TxnId,
 ) -> Result<(), Fault>
-    ensures { IfErr result (HasCut output.new) }
+    ensures grown { HasGrown W.contents output.old output.new }
+    ensures failed { IfErr result (HasCut output.new) }
 {
     put_number(output, words, u64::from(txn.session.get()))?;
     put_number(output, b",\"operation\":", txn.number)?;
-    output.put(b"}")
+    put(output, b"}")
 }
 
 /// `,"stamp":`, and then a stamp.
 pub(crate) fn put_stamp<W: Write>(output: &mut Output<W>, stamp: Stamp) -> Result<(), Fault>
-    ensures { IfErr result (HasCut output.new) }
+    ensures grown { HasGrown W.contents output.old output.new }
+    ensures failed { IfErr result (HasCut output.new) }
 {
     put_number(output, b",\"stamp\":{\"time\":", stamp.time().get())?;
     put_number(output, b",\"node\":", u64::from(stamp.node().get()))?;
-    output.put(b"}")
+    put(output, b"}")
 }
 
 impl Listed for Writer {
     fn put<W: Write>(&self, output: &mut Output<W>) -> Result<(), Fault> {
         put_transaction(output, b"{\"transaction\":{\"session\":", self.txn())?;
         put_number(output, b",\"shard\":", u64::from(self.shard().get()))?;
-        output.put(b"}")
+        put(output, b"}")
     }
 }
 
@@ -57,13 +59,14 @@ impl Listed for Column {
     fn put<W: Write>(&self, output: &mut Output<W>) -> Result<(), Fault> {
         put_bytes(output, b"{\"name\":", self.name.as_slice())?;
         put_bytes(output, b",\"value\":", self.value.as_slice())?;
-        output.put(b"}")
+        put(output, b"}")
     }
 }
 
 // What is done to a row.
 fn put_mutation<W: Write>(output: &mut Output<W>, mutation: &Mutation) -> Result<(), Fault>
-    ensures { IfErr result (HasCut output.new) }
+    ensures grown { HasGrown W.contents output.old output.new }
+    ensures failed { IfErr result (HasCut output.new) }
 {
     match mutation {
         Mutation::Insert { name, value } => {
@@ -71,11 +74,11 @@ fn put_mutation<W: Write>(output: &mut Output<W>, mutation: &Mutation) -> Result
             put_bytes(output, b",\"value\":", value.as_slice())
         }
         Mutation::DeleteColumn { name } => put_bytes(output, b",\"delete\":", name.as_slice()),
-        Mutation::DeleteRow => output.put(b",\"delete_row\":true"),
+        Mutation::DeleteRow => put(output, b",\"delete_row\":true"),
         Mutation::DeleteRange { start, finish } => {
             put_bytes(output, b",\"delete_range\":{\"start\":", start.as_slice())?;
             put_bytes(output, b",\"finish\":", finish.as_slice())?;
-            output.put(b"}")
+            put(output, b"}")
         }
     }
 }
@@ -85,7 +88,7 @@ impl Listed for Change {
         put_bytes(output, b"{\"family\":", self.row.family.as_slice())?;
         put_bytes(output, b",\"key\":", self.row.key.as_slice())?;
         put_mutation(output, &self.mutation)?;
-        output.put(b"}")
+        put(output, b"}")
     }
 }
 
@@ -95,7 +98,8 @@ pub(crate) fn put_batch<W: Write>(
     words: &[u8],
     batch: &Batch,
 ) -> Result<(), Fault>
-    ensures { IfErr result (HasCut output.new) }
+    ensures grown { HasGrown W.contents output.old output.new }
+    ensures failed { IfErr result (HasCut output.new) }
 {
     put_list(output, words, batch.as_slice())
 }
@@ -105,27 +109,30 @@ pub(crate) fn put_dependencies<W: Write>(
     output: &mut Output<W>,
     dependencies: &Dependencies,
 ) -> Result<(), Fault>
-    ensures { IfErr result (HasCut output.new) }
+    ensures grown { HasGrown W.contents output.old output.new }
+    ensures failed { IfErr result (HasCut output.new) }
 {
     put_list(output, b",\"dependencies\":", dependencies.as_slice())
 }
 
 /// `,"cohorts":`, and then the numbers of shards.
 pub(crate) fn put_cohorts<W: Write>(output: &mut Output<W>, cohorts: Cohorts) -> Result<(), Fault>
-    ensures { IfErr result (HasCut output.new) }
+    ensures grown { HasGrown W.contents output.old output.new }
+    ensures failed { IfErr result (HasCut output.new) }
 {
-    output.put(b",\"cohorts\":")?;
+    put(output, b",\"cohorts\":")?;
     let mut mark: &[u8] = b"[";
     for shard in cohorts.shards() {
         put_number(output, mark, u64::from(shard.get()))?;
         mark = b",";
     }
-    output.put(if cohorts.is_empty() { b"[]" } else { b"]" })
+    put(output, if cohorts.is_empty() { b"[]" } else { b"]" })
 }
 
 // Which columns are asked for.
 fn put_predicate<W: Write>(output: &mut Output<W>, predicate: &Predicate) -> Result<(), Fault>
-    ensures { IfErr result (HasCut output.new) }
+    ensures grown { HasGrown W.contents output.old output.new }
+    ensures failed { IfErr result (HasCut output.new) }
 {
     match predicate {
         Predicate::Names(names) => put_list(output, b",\"names\":", names.as_slice()),
@@ -138,22 +145,23 @@ fn put_predicate<W: Write>(output: &mut Output<W>, predicate: &Predicate) -> Res
             put_bytes(output, b",\"range\":{\"start\":", start.as_slice())?;
             put_bytes(output, b",\"finish\":", finish.as_slice())?;
             let way: &[u8] = if *reversed { b"true" } else { b"false" };
-            output.put(b",\"reversed\":")?;
-            output.put(way)?;
+            put(output, b",\"reversed\":")?;
+            put(output, way)?;
             put_number(output, b",\"count\":", u64::from(*count))?;
-            output.put(b"}")
+            put(output, b"}")
         }
     }
 }
 
 /// `,"read":`, and then what a read asks.
 pub(crate) fn put_read<W: Write>(output: &mut Output<W>, read: &Read) -> Result<(), Fault>
-    ensures { IfErr result (HasCut output.new) }
+    ensures grown { HasGrown W.contents output.old output.new }
+    ensures failed { IfErr result (HasCut output.new) }
 {
     put_bytes(output, b",\"read\":{\"family\":", read.family.as_slice())?;
     put_list(output, b",\"keys\":", read.keys.as_slice())?;
     put_predicate(output, &read.predicate)?;
-    output.put(b"}")
+    put(output, b"}")
 }
 
 impl Listed for RowNow {
@@ -163,7 +171,7 @@ impl Listed for RowNow {
         put_list(output, b",\"writers\":", self.writers.as_slice())?;
         put_number(output, b",\"evt\":", self.evt.get())?;
         put_number(output, b",\"lvt\":", self.lvt.get())?;
-        output.put(b"}")
+        put(output, b"}")
     }
 }
 
@@ -172,6 +180,6 @@ impl Listed for RowAt {
         put_bytes(output, b"{\"key\":", self.key.as_slice())?;
         put_list(output, b",\"columns\":", self.columns.as_slice())?;
         put_list(output, b",\"writers\":", self.writers.as_slice())?;
-        output.put(b"}")
+        put(output, b"}")
     }
 }

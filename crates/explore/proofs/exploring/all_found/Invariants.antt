@@ -3,4 +3,4 @@ use Rattle.explore.specs.Exploration.{IsShown}
 use Rattle.explore.proofs.exploring.all_found.Given as goal
 
 abbrev pub invariant-loop-place : goal.invariant-loop-place
-invariant-loop-place l = All IsShown l.all.items
+invariant-loop-place l = All (IsShown l.lose l.script) l.all.items

@@ -8,7 +8,7 @@ returns-clause-ended g c = λ one. record {
   fault = c.in-Err-write_all.fault;
   more = c.line.result;
   cause =
-      cut_ends IsExplorationFor IsUnexplored g.R.Read.remaining g.W.Write.contents g.E.Write.contents c.args.input.now c.read_all.new.self c.args.output.now c.write_all.new.self c.in-Err-write_all.fault
+      cut_ends (IsExplorationFor c.args.limits.lose) IsUnexplored g.R.Read.remaining g.W.Write.contents g.E.Write.contents c.args.input.now c.read_all.new.self c.args.output.now c.write_all.new.self c.in-Err-write_all.fault
       c.in-Ok.bytes.items c.in-Ok-explore_bytes.text.items c.in-Ok.ensures.whole (rw c.deref.ensures.value at c.in-Ok-explore_bytes.ensures.text)
       c.in-Err-write_all.ensures.failed (rw c.as_slice.ensures.value at c.in-Err-write_all.ensures.part);
   tells = c.tell-in-Err-write_all.ensures.told;

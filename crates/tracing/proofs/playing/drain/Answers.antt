@@ -1,7 +1,7 @@
 use Rattle.std.proofs.Common.{◌≡◌, ◌∙◌, suc, ◌+◌, ◌-◌, arith, ap, refl, sym}
 use Rattle.std.proofs.lemmas.Result.{err_from_is_err_and}
 use Rattle.world.specs.World.{WorldValue, run_of}
-use Rattle.workload.proofs.Drains.{not_begun, all_made, sent_unhandled, taken_more, whole_drain, refused_drain}
+use Rattle.drains.proofs.Underway.{not_begun, all_made, sent_unhandled, taken_more, whole_drain, refused_drain}
 use Rattle.workload.proofs.Plays.{drain_plays, drain_ends}
 use Rattle.tracing.proofs.playing.drain.Goals as goal
 

@@ -1,5 +1,5 @@
 use Rattle.std.proofs.Common.{◌≡◌, ℕ, ◌+◌}
-use Rattle.workload.proofs.Drains.{IsUnderway}
+use Rattle.drains.proofs.Underway.{IsUnderway}
 use Rattle.tracing.proofs.playing.drain.Given as goal
 
 abbrev pub invariant-loop-delivered : goal.invariant-loop-delivered

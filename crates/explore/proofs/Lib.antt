@@ -1,0 +1,3 @@
+mod Beginnings
+mod Audits
+mod Ordered
