@@ -102,7 +102,7 @@ pub(crate) fn columns_named(alloc: Global, word: &str) -> Result<Predicate, Faul
 }
 
 /// An end of a range; `-` is open.
-fn end(alloc: Global, word: &str) -> Result<Name, Fault> {
+pub(crate) fn end(alloc: Global, word: &str) -> Result<Name, Fault> {
     Ok(Name::from_slice(alloc, word.trim_matches('-').as_bytes())?)
 }
 

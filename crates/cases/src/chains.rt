@@ -67,10 +67,11 @@ impl Subject for Chain {
 }
 
 /// The files of steps, each of a new chain.
-const FILES: [&str; 3] = [
+const FILES: [&str; 4] = [
     "worked_chain.steps",
     "worked_collection.steps",
     "collection_keeps_visible.chain",
+    "older_stamp_arrives_late.chain",
 ];
 
 pub(crate) fn tell(rt: &HostRuntime) -> Result<(), Fault> {

@@ -10,6 +10,7 @@ mod explorations;
 mod marks;
 mod normal_forms;
 mod parts;
+mod ranges;
 mod readers;
 mod records;
 mod refusals;
@@ -29,6 +30,7 @@ use pending::Marks;
 use std::io;
 use std::thread::Threads;
 use table::History;
+use versions::Ranges;
 
 fn tell_steps<T: Threads + Sync>(rt: &HostRuntime, threads: &T) -> Result<(), Fault> {
     let alloc = rt.alloc();
@@ -36,6 +38,7 @@ fn tell_steps<T: Threads + Sync>(rt: &HostRuntime, threads: &T) -> Result<(), Fa
     steps::tell(rt, "normal_forms.steps", &mut normal_forms::Normal)?;
     steps::tell(rt, "reads_of_a_table.steps", &mut History::new(alloc))?;
     chains::tell(rt)?;
+    steps::tell(rt, "worked_ranges.steps", &mut Ranges::new(alloc))?;
     steps::tell(rt, "worked_marks.steps", &mut Marks::new(alloc))?;
     stores::tell(rt)?;
     sessions::tell(rt)?;

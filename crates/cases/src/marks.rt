@@ -32,6 +32,7 @@ impl Subject for Marks {
     fn step(&mut self, alloc: Global, words: &[&str], seen: &mut String) -> Result<(), Fault> {
         match words {
             ["mark", key, marked, at] => self.mark(&row(alloc, key)?, txn(marked), time(at)),
+            ["clear", marked] => Ok(self.clear(txn(marked))),
             ["clear", marked, keys @ ..] => {
                 self.clear_rows(batch(alloc, keys)?.as_slice(), txn(marked));
                 Ok(())

@@ -3,6 +3,7 @@
 //! nothing is open, and both data centres hold one table. In some schedules the sessions move between the two.
 use crate::building::{batch, number, range, read, time, topology};
 use crate::worlds::{deliver, history, submit};
+use drains::drain;
 use logical_time::{Fault, Node, Time};
 use messages::{Op, Outcome};
 use slice::{Answer, Read};
@@ -10,7 +11,7 @@ use std::alloc::Global;
 use std::fs;
 use std::thread::Threads;
 use table::{History, answer};
-use workload::{audit, drain};
+use workload::audit;
 use world::{Completed, World};
 
 /// How many sessions there are.

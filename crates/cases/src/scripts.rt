@@ -55,6 +55,14 @@ const SCRIPTS: [&str; 40] = [
 /// The names of scripts that are audited.
 const AUDITED: [&str; 2] = ["insert_and_read_back", "read_asks_coordinator"];
 
+/// The names of scripts that are audited once all their messages are delivered.
+const DRAINED: [&str; 2] = ["collected_while_waiting", "session_moves"];
+
+/// The end of a script, and one with a drain before it.
+const END: &str = "]}";
+
+const DRAIN_AND_END: &str = ",[\"drain\"]]}";
+
 /// The name of what is read.
 const NAME: &str = "script.json";
 /// How it is told that it is no script, or ends early.
@@ -101,12 +109,31 @@ fn tell_script<T: Threads + Sync>(rt: &HostRuntime, threads: &T, name: &str) -> 
     println!(rt; "{name}: {told}")
 }
 
-/// Tells what an audited run of the script of this name writes, and what is told of faults.
-fn tell_audited<T: Threads + Sync>(rt: &HostRuntime, threads: &T, name: &str) -> io::Result<()> {
-    let script = fs::read(rt, format!(in rt.alloc(); "{name}.json")?)?;
-    let (status, out, errors) = run(threads, rt.alloc(), true, Ok(script.as_slice()))?;
+/// Tells what an audited run of this script writes, and what is told of faults.
+fn tell_audit<T: Threads + Sync>(
+    rt: &HostRuntime,
+    threads: &T,
+    name: &str,
+    script: &str,
+) -> io::Result<()> {
+    let (status, out, errors) = run(threads, rt.alloc(), true, Ok(script.as_bytes()))?;
     let (out, errors) = (text_of(&out), text_of(&errors));
     print!(rt; "{name}, audited: {status}\n{out}{errors}")
+}
+
+/// Tells of an audited run of the script of this name.
+fn tell_audited<T: Threads + Sync>(rt: &HostRuntime, threads: &T, name: &str) -> io::Result<()> {
+    let script = fs::read_to_string(rt, format!(in rt.alloc(); "{name}.json")?)?;
+    tell_audit(rt, threads, name, script.as_str())
+}
+
+/// Tells of an audited run of the script of this name with a drain after its events.
+fn tell_drained<T: Threads + Sync>(rt: &HostRuntime, threads: &T, name: &str) -> io::Result<()> {
+    let script = fs::read_to_string(rt, format!(in rt.alloc(); "{name}.json")?)?;
+    let events = script.as_str().trim_end().strip_suffix(END).unwrap_or("");
+    let drained = format!(in rt.alloc(); "{events}{DRAIN_AND_END}")?;
+    let name = format!(in rt.alloc(); "{name}, drained")?;
+    tell_audit(rt, threads, name.as_str(), drained.as_str())
 }
 
 /// Whether a run of the script ends with the fault, and this is said of it, and nothing is written; where nothing is to be
@@ -180,6 +207,9 @@ pub(crate) fn tell<T: Threads + Sync>(rt: &HostRuntime, threads: &T) -> io::Resu
     }
     for name in AUDITED {
         tell_audited(rt, threads, name)?;
+    }
+    for name in DRAINED {
+        tell_drained(rt, threads, name)?;
     }
     tell_lines(rt, threads, "scripts.txt")?;
     tell_lines(rt, threads, "not_scripts.txt")?;

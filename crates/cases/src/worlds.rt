@@ -3,6 +3,7 @@ use crate::building::{batch, centre, columns_named, node, number, range, read, t
 use crate::showing::{add_commit, add_outcome, add_sent, add_space};
 use crate::steps::{Subject, tell as tell_steps};
 use crate::tables::add_read;
+use drains::drain;
 use logical_time::{Fault, Node, Time};
 use messages::Op;
 use slice::Predicate;
@@ -63,7 +64,7 @@ fn submit_read(
     submit(world, node(session), Op::read(alloc, read)?)
 }
 
-/// Does a step that is an event, or several deliveries.
+/// Does a step that is an event, or several deliveries, or a drain.
 fn happen(alloc: Global, world: &mut World, words: &[&str]) -> Result<(), Fault> {
     match words {
         ["write", session, changes @ ..] => {
@@ -81,6 +82,10 @@ fn happen(alloc: Global, world: &mut World, words: &[&str]) -> Result<(), Fault>
         ["move", session, dc] => submit(world, node(session), Op::Move { dc: centre(dc) }),
         ["deliver", numbers @ ..] => deliver_all(world, numbers),
         ["collect", shard, until] => collect(world, node(shard), time(until)),
+        ["drain"] => {
+            drain(world)?;
+            Ok(())
+        }
         _ => Err(Fault::Script),
     }
 }
@@ -113,6 +118,7 @@ impl Subject for World {
                 let history = history(alloc, self, node(dc).get())?;
                 add_read(alloc, &history, columns_named(alloc, "x")?, at, seen)
             }
+            ["quiet"] => Ok(seen.push_str(if self.is_quiet() { "yes" } else { "no" })?),
             event => {
                 let (ended, sent) = (self.transcript().len(), self.sent());
                 happen(alloc, self, event)?;
@@ -183,5 +189,6 @@ pub(crate) fn tell(rt: &HostRuntime) -> Result<(), Fault> {
     tell_each(rt, &OF_TWO_CENTRES, (2, 1), &[0, 1])?;
     tell_in(rt, "dependency_through_a_read.steps", (2, 1), &[0, 0, 0])?;
     tell_in(rt, "session_moves.steps", (2, 1), &[0])?;
-    tell_in(rt, "write_is_replicated.steps", (2, 2), &[0, 1])
+    tell_in(rt, "write_is_replicated.steps", (2, 2), &[0, 1])?;
+    tell_in(rt, "replicated_then_quiet.steps", (2, 2), &[0])
 }

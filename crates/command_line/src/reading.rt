@@ -154,7 +154,9 @@ fn command<'a>(alloc: Global) -> Result<Command<'a>, AllocError> {
         .after_help(
             "Example: eiger sim examples/insert_and_read_back.json\nExit status: 0; 1 after a fault, told on standard error; 2 for a refused command line; 3 where an audit found a wrong read",
         )
+        .version("0.1.0")
         .subcommand_required(true)
+        .arg_required_else_help(true)
         .subcommand(sim_command(alloc)?)?
         .subcommand(trace_command(alloc)?)?
         .subcommand(run_command(alloc)?)?
@@ -211,7 +213,7 @@ fn accepted(alloc: Global, matches: &ArgMatches<'_>) -> Result<Asked, AllocError
     }
 }
 
-/// Help, or why the words aren't accepted.
+/// Help or the version, or why the words aren't accepted.
 fn refused(alloc: Global, error: &Error) -> Result<Told, AllocError> {
     let text = format!(in alloc; "{error}")?;
     if error.use_stderr() {

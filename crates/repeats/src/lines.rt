@@ -82,6 +82,9 @@ impl Served {
             Ended::Clean if self.has_one_refusal() => Some("answered 23, and went on"),
             Ended::Refused(Fault::Memory) if self.ends_refused() => Some("answered 23, and ended"),
             Ended::WriteFailed if self.is_cut() => Some("the line had no room"),
+            Ended::ReadFailed if self.is_cut() || self.has_said(WROTE, READ) => {
+                Some("the line had no room")
+            }
             _ => None,
         }
     }

@@ -1,5 +1,6 @@
-//! Connections over loopback, one client after the other: those that ask, and those that leave without an answer.
+//! Connections over loopback, one client after the other: those that ask, those that talk, and those that leave without an answer.
 use super::showing::{bytes_of, digits};
+use super::workers;
 use crate::showing::print;
 use logical_time::Fault;
 use service::serve_connections;
@@ -9,7 +10,8 @@ use std::io::{Read, Write};
 use std::net::{Shutdown, TcpListener, TcpStream};
 use world::World;
 
-/// What the clients do, one a line: `asks` or `leaves`, a name, and the bytes that are sent.
+/// What the clients do, one a line: `asks`, `talks` or `leaves`, a name, and the bytes that are sent, of one that talks frame by
+/// frame.
 pub(crate) fn clients(rt: &HostRuntime) -> Result<String, Fault> {
     fs::read_to_string(rt, "clients.txt").map_err(|_| Fault::ReadFailed)
 }
@@ -70,15 +72,34 @@ fn hear(alloc: Global, mut stream: TcpStream) -> Result<Vec<u8>, Fault> {
     }
 }
 
+/// Comes, sends each frame once the one before is answered, and gives what comes back.
+fn talk(rt: &HostRuntime, alloc: Global, port: u16, frames: &str) -> Result<Vec<u8>, Fault> {
+    let mut stream = send(rt, port, &[])?;
+    workers::prepare(&mut stream)?;
+    let mut heard = Vec::new(alloc);
+    for frame in frames.split(' ') {
+        if stream.write_all(&bytes_of(alloc, frame)?).is_err() {
+            return Err(Fault::WriteFailed);
+        }
+        workers::hear(&mut stream, &mut heard)?;
+    }
+    Ok(heard)
+}
+
 /// Runs a client, and gives the line that tells of it.
 fn run(rt: &HostRuntime, alloc: Global, port: u16, client: &str) -> Result<String, Fault> {
     let (kind, rest) = client.split_once(' ').ok_or(Fault::Script)?;
     let (name, sent) = rest.split_once(' ').ok_or(Fault::Script)?;
-    let stream = send(rt, port, &bytes_of(alloc, sent)?)?;
-    if kind == "leaves" {
-        return Ok(format!(in alloc; "{name}: left\n")?);
-    }
-    let heard = digits(alloc, &hear(alloc, stream)?)?;
+    let heard = match kind {
+        "asks" => hear(alloc, send(rt, port, &bytes_of(alloc, sent)?)?)?,
+        "talks" => talk(rt, alloc, port, sent)?,
+        "leaves" => {
+            let _stream = send(rt, port, &bytes_of(alloc, sent)?)?;
+            return Ok(format!(in alloc; "{name}: left\n")?);
+        }
+        _ => return Err(Fault::Script),
+    };
+    let heard = digits(alloc, &heard)?;
     Ok(format!(in alloc; "{name}: answered {heard}\n")?)
 }
 

@@ -53,6 +53,15 @@ fn put(stream: &mut TcpStream, frame: &[u8], bytewise: bool) -> Result<(), Fault
     Ok(())
 }
 
+/// Has what is sent go at once, and a reply that takes too long fail.
+pub(crate) fn prepare(stream: &mut TcpStream) -> Result<(), Fault> {
+    let patience = Some(Duration::from_secs(PATIENCE));
+    if stream.set_nodelay(true).is_err() || stream.set_read_timeout(patience).is_err() {
+        return Err(Fault::ReadFailed);
+    }
+    Ok(())
+}
+
 /// Does the work of a client. What it heard.
 pub(crate) fn work(
     rt: &HostRuntime,
@@ -62,10 +71,7 @@ pub(crate) fn work(
     bytewise: bool,
 ) -> Result<Vec<u8>, Fault> {
     let mut stream = send(rt, port, &[])?;
-    let patience = Some(Duration::from_secs(PATIENCE));
-    if stream.set_nodelay(true).is_err() || stream.set_read_timeout(patience).is_err() {
-        return Err(Fault::ReadFailed);
-    }
+    prepare(&mut stream)?;
     let name = b'a'.saturating_add(index.min(25) as u8);
     let mut heard = Vec::new(alloc);
     for round in 0..ROUNDS {
