@@ -7,8 +7,8 @@ use Rattle.std.proofs.lemmas.List.{length_push, get_or_push, get_or_append_left}
 use Rattle.std.proofs.lemmas.Option.{same_Some, slice_get_within, slice_get_past, slice_get-get_or}
 use Rattle.logical_time.specs.Stamps.{TxnValue, txn_cmp}
 use Rattle.write_txn.specs.declared.open.Open.{Open}
-use Rattle.write_txn.specs.declared.status.Status.{Status}
 use Rattle.write_txn.specs.declared.status.Status.TheVariants as in_status
+use Rattle.write_txn.specs.Statuses.{StatusList}
 use Rattle.write_txn.specs.Ledger.{Holds, IsPlaced, status_in, state_at, txn_of, Becomes}
 use Rattle.write_txn.specs.Places.{ledger_of}
 use Rattle.write_txn.proofs.Lists.{by_equal, by_below, same_reads}
@@ -28,7 +28,7 @@ read_pushed xs x k =
     (λ past e. slice_get_past (xs ++ x ∷ []) k (omega arith) ∙ sym (slice_get_past xs k past))
     ))
 
-module _ (es fs : List (TxnValue × Status)) (os : List Open) (o : Open)
+module _ (es fs : StatusList) (os : List Open) (o : Open)
     (placed : IsPlaced (ledger_of es os)) (unknown : status_in es (txn_of o) ≡ None)
     (statuses : (u : TxnValue) → status_in fs u ≡ (if is_eq (txn_cmp (txn_of o) u) then Some (in_status.Open (length os)) else status_in es u)) where
   own : (u : TxnValue) → is_eq (txn_cmp (txn_of o) u) ≡ true → status_in fs u ≡ Some (in_status.Open (length os))
@@ -72,17 +72,17 @@ module _ (es fs : List (TxnValue × Status)) (os : List Open) (o : Open)
       (λ same equal. rw equal (ap (state_at (os ++ o ∷ [])) (own u equal) ∙ ap (option_map Holds) (at_end (length os) refl)))
       (λ other. rw other (ap (state_at (os ++ o ∷ [])) (others u other) ∙ same_state os (os ++ o ∷ []) (status_in es u) (λ q h. before q (not_last u q h))))
 
-as_added : (es fs : List (TxnValue × Status)) (os : List Open) (o : Open) (t : TxnValue) (place : ℕ) → t ≡ txn_of o → place ≡ length os → ((u : TxnValue) → status_in fs u ≡ (if is_eq (txn_cmp t u) then Some (in_status.Open place) else status_in es u)) → (u : TxnValue) → status_in fs u ≡ (if is_eq (txn_cmp (txn_of o) u) then Some (in_status.Open (length os)) else status_in es u)
+as_added : (es fs : StatusList) (os : List Open) (o : Open) (t : TxnValue) (place : ℕ) → t ≡ txn_of o → place ≡ length os → ((u : TxnValue) → status_in fs u ≡ (if is_eq (txn_cmp t u) then Some (in_status.Open place) else status_in es u)) → (u : TxnValue) → status_in fs u ≡ (if is_eq (txn_cmp (txn_of o) u) then Some (in_status.Open (length os)) else status_in es u)
 as_added es fs os o t place same at statuses u =
     statuses u
     ∙ ap (λ (v : TxnValue). if is_eq (txn_cmp v u) then Some (in_status.Open place) else status_in es u) same
     ∙ ap (λ (k : ℕ). if is_eq (txn_cmp (txn_of o) u) then Some (in_status.Open k) else status_in es u) at
 
 -- the same, as it is pushed
-pub pushed_placed : (es fs : List (TxnValue × Status)) (os ps : List Open) (o : Open) (t : TxnValue) (place : ℕ) → IsPlaced (ledger_of es os) → status_in es (txn_of o) ≡ None → t ≡ txn_of o → place ≡ length os → ps ≡ os ++ o ∷ [] → ((u : TxnValue) → status_in fs u ≡ (if is_eq (txn_cmp t u) then Some (in_status.Open place) else status_in es u)) → IsPlaced (ledger_of fs ps)
+pub pushed_placed : (es fs : StatusList) (os ps : List Open) (o : Open) (t : TxnValue) (place : ℕ) → IsPlaced (ledger_of es os) → status_in es (txn_of o) ≡ None → t ≡ txn_of o → place ≡ length os → ps ≡ os ++ o ∷ [] → ((u : TxnValue) → status_in fs u ≡ (if is_eq (txn_cmp t u) then Some (in_status.Open place) else status_in es u)) → IsPlaced (ledger_of fs ps)
 pushed_placed es fs os ps o t place placed unknown same at pushed statuses =
     subst (λ ys. IsPlaced (ledger_of fs ys)) (sym pushed) (added_placed es fs os o placed unknown (as_added es fs os o t place same at statuses))
 
-pub pushed_becomes : (es fs : List (TxnValue × Status)) (os ps : List Open) (o : Open) (t : TxnValue) (place : ℕ) → IsPlaced (ledger_of es os) → status_in es (txn_of o) ≡ None → t ≡ txn_of o → place ≡ length os → ps ≡ os ++ o ∷ [] → ((u : TxnValue) → status_in fs u ≡ (if is_eq (txn_cmp t u) then Some (in_status.Open place) else status_in es u)) → Becomes (txn_of o) (Some (Holds o)) (ledger_of es os) (ledger_of fs ps)
+pub pushed_becomes : (es fs : StatusList) (os ps : List Open) (o : Open) (t : TxnValue) (place : ℕ) → IsPlaced (ledger_of es os) → status_in es (txn_of o) ≡ None → t ≡ txn_of o → place ≡ length os → ps ≡ os ++ o ∷ [] → ((u : TxnValue) → status_in fs u ≡ (if is_eq (txn_cmp t u) then Some (in_status.Open place) else status_in es u)) → Becomes (txn_of o) (Some (Holds o)) (ledger_of es os) (ledger_of fs ps)
 pushed_becomes es fs os ps o t place placed unknown same at pushed statuses =
     subst (λ ys. Becomes (txn_of o) (Some (Holds o)) (ledger_of es os) (ledger_of fs ys)) (sym pushed) (added_becomes es fs os o placed unknown (as_added es fs os o t place same at statuses))

@@ -8,6 +8,7 @@ use Rattle.logical_time.specs.Stamps.{TxnValue, txn_cmp}
 use Rattle.write_txn.specs.declared.open.Open.{Open}
 use Rattle.write_txn.specs.declared.status.Status.{Status}
 use Rattle.write_txn.specs.declared.status.Status.TheVariants as in_status
+use Rattle.write_txn.specs.Statuses.{StatusList}
 use Rattle.write_txn.specs.Ledger.{LedgerValue, Holds, IsPlaced, status_in, state_at, txn_of, Becomes}
 use Rattle.write_txn.specs.Places.{ledger_of}
 use Rattle.write_txn.proofs.Lists.{by_equal}
@@ -34,7 +35,7 @@ there l placed t place o status stands =
     ap txn_of (same_Some o a.0 (sym stands ∙ a.1)) ∙ a.2
 
 -- each that names a place still has its own there
-pub replaced_placed : (es : List (TxnValue × Status)) (os ps : List Open) (t : TxnValue) (place : ℕ) (o : Open) → IsPlaced (ledger_of es os) → status_in es t ≡ Some (in_status.Open place) → txn_of o ≡ t → ((k : ℕ) → slice_get ps k ≡ (if k == place then Some o else slice_get os k)) → IsPlaced (ledger_of es ps)
+pub replaced_placed : (es : StatusList) (os ps : List Open) (t : TxnValue) (place : ℕ) (o : Open) → IsPlaced (ledger_of es os) → status_in es t ≡ Some (in_status.Open place) → txn_of o ≡ t → ((k : ℕ) → slice_get ps k ≡ (if k == place then Some o else slice_get os k)) → IsPlaced (ledger_of es ps)
 replaced_placed es os ps t place o placed status own reads = record {
   held = λ u q h.
       by_equal {P = (p : Open) × (slice_get ps q ≡ Some p) × (txn_of p ≡ u)} q place
@@ -49,7 +50,7 @@ replaced_placed es os ps t place o placed status own reads = record {
 }
 
 -- the transaction's state is the new one, and the others have theirs
-pub replaced_becomes : (es : List (TxnValue × Status)) (os ps : List Open) (t : TxnValue) (place : ℕ) (o : Open) → IsPlaced (ledger_of es os) → status_in es t ≡ Some (in_status.Open place) → ((k : ℕ) → slice_get ps k ≡ (if k == place then Some o else slice_get os k)) → Becomes t (Some (Holds o)) (ledger_of es os) (ledger_of es ps)
+pub replaced_becomes : (es : StatusList) (os ps : List Open) (t : TxnValue) (place : ℕ) (o : Open) → IsPlaced (ledger_of es os) → status_in es t ≡ Some (in_status.Open place) → ((k : ℕ) → slice_get ps k ≡ (if k == place then Some o else slice_get os k)) → Becomes t (Some (Holds o)) (ledger_of es os) (ledger_of es ps)
 replaced_becomes es os ps t place o placed status reads u =
     by_txn {P = state_at ps (status_in es u) ≡ (if is_eq (txn_cmp t u) then Some (Holds o) else state_at os (status_in es u))} t u
     (λ same yes_same. rw yes_same (ap (λ (v : TxnValue). state_at ps (status_in es v)) (sym same) ∙ ap (state_at ps) status ∙ ap (option_map Holds) (at_itself place refl)))

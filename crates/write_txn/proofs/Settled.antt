@@ -8,6 +8,7 @@ use Rattle.logical_time.specs.Stamps.{StampValue, TxnValue, txn_cmp}
 use Rattle.write_txn.specs.declared.open.Open.{Open}
 use Rattle.write_txn.specs.declared.status.Status.{Status}
 use Rattle.write_txn.specs.declared.status.Status.TheVariants as in_status
+use Rattle.write_txn.specs.Statuses.{StatusList}
 use Rattle.write_txn.specs.Ledger.{Holds, IsPlaced, status_in, state_at, txn_of, Becomes}
 use Rattle.write_txn.specs.Places.{ledger_of, status_set, status_moved}
 use Rattle.write_txn.proofs.Lists.{by_equal, by_below}
@@ -47,7 +48,7 @@ decided_named : {commit q : ℕ} {stamp : StampValue} → ◌≡◌ {A = Option 
 decided_named e = cc
 
 -- the ledger before; the place, its transaction and its new status; the statuses and the list after
-module _ (es : List (TxnValue × Status)) (os : List Open) (t : TxnValue) (place : ℕ) (s : Status) (fs : List (TxnValue × Status)) (zs : List Open)
+module _ (es : StatusList) (os : List Open) (t : TxnValue) (place : ℕ) (s : Status) (fs : StatusList) (zs : List Open)
     (placed : IsPlaced (ledger_of es os)) (status : status_in es t ≡ Some (in_status.Open place)) (not_open : (q : ℕ) → s ≡ in_status.Open q → ⊥)
     (reads : (k : ℕ) → slice_get zs k ≡ (if nat_lt k (length os - 1) then (if k == place then slice_get os (length os - 1) else slice_get os k) else None))
     (statuses : (u : TxnValue) → status_in fs u ≡ status_set t s u (status_moved (slice_get zs place) place u (status_in es u))) where

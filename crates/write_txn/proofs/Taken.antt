@@ -9,6 +9,7 @@ use Rattle.write_txn.specs.declared.status.Status.{Status}
 use Rattle.write_txn.specs.declared.status.Status.TheVariants as in_status
 use Rattle.write_txn.specs.declared.next.Next.{Next}
 use Rattle.write_txn.specs.declared.next.Next.TheVariants as in_next
+use Rattle.write_txn.specs.Statuses.{StatusList}
 use Rattle.write_txn.specs.Ledger.{State, Holds, IsApplied, IsDecided, IsPlaced, status_in, state_at, state_of, txn_of, Becomes}
 use Rattle.write_txn.specs.Next.{state_next}
 use Rattle.write_txn.specs.Places.{ledger_of, place_of, IsPut}
@@ -37,7 +38,7 @@ named_open (Some in_status.Applied) place e = absurd (cc)
 named_open (Some (in_status.Decided commit stamp)) place e = absurd (cc)
 
 -- the ledger before; the transaction, its place, and what was taken out there
-module _ (es : List (TxnValue × Status)) (os : List Open) (t : TxnValue) (place : ℕ) (o : Open)
+module _ (es : StatusList) (os : List Open) (t : TxnValue) (place : ℕ) (o : Open)
     (placed : IsPlaced (ledger_of es os)) (named : Some place ≡ place_of (status_in es t)) (read : o ≡ get_or os place o) where
   status : status_in es t ≡ Some (in_status.Open place)
   status = named_open (status_in es t) place (sym named)
@@ -71,7 +72,7 @@ module _ (es : List (TxnValue × Status)) (os : List Open) (t : TxnValue) (place
   left : (ps : List Open) → ps ≡ swap_remove os place o → (k : ℕ) → slice_get ps k ≡ (if nat_lt k (length os - 1) then (if k == place then slice_get os (length os - 1) else slice_get os k) else None)
   left ps taken k = ap (λ ys. slice_get ys k) taken ∙ read_taken os place o inside k
 
-  pub put_placed : (ps : List Open) (fs : List (TxnValue × Status)) (qs : List Open) (x : Next) → ps ≡ swap_remove os place o → IsOf t (state_next x) → IsPut place t x es ps fs qs → IsPlaced (ledger_of fs qs)
+  pub put_placed : (ps : List Open) (fs : StatusList) (qs : List Open) (x : Next) → ps ≡ swap_remove os place o → IsOf t (state_next x) → IsPut place t x es ps fs qs → IsPlaced (ledger_of fs qs)
   put_placed ps fs qs (in_next.Holds y) taken of is =
       subst (λ gs. IsPlaced (ledger_of gs qs)) (sym is.0) (back_placed qs y (back_is_set ps qs y taken is.1) of)
   put_placed ps fs qs in_next.Applied taken of is =
@@ -79,7 +80,7 @@ module _ (es : List (TxnValue × Status)) (os : List Open) (t : TxnValue) (place
   put_placed ps fs qs (in_next.Decided commit stamp) taken of is =
       subst (λ ys. IsPlaced (ledger_of fs ys)) (sym is.0) (settled_placed es os t place (in_status.Decided commit stamp) fs ps placed status (λ q e. cc) (left ps taken) is.1)
 
-  pub put_becomes : (ps : List Open) (fs : List (TxnValue × Status)) (qs : List Open) (x : Next) → ps ≡ swap_remove os place o → IsPut place t x es ps fs qs → Becomes t (Some (state_next x)) (ledger_of es os) (ledger_of fs qs)
+  pub put_becomes : (ps : List Open) (fs : StatusList) (qs : List Open) (x : Next) → ps ≡ swap_remove os place o → IsPut place t x es ps fs qs → Becomes t (Some (state_next x)) (ledger_of es os) (ledger_of fs qs)
   put_becomes ps fs qs (in_next.Holds y) taken is =
       subst (λ gs. Becomes t (Some (Holds y)) (ledger_of es os) (ledger_of gs qs)) (sym is.0) (back_becomes qs y (back_is_set ps qs y taken is.1))
   put_becomes ps fs qs in_next.Applied taken is =
@@ -88,11 +89,11 @@ module _ (es : List (TxnValue × Status)) (os : List Open) (t : TxnValue) (place
       subst (λ ys. Becomes t (Some (IsDecided commit stamp)) (ledger_of es os) (ledger_of fs ys)) (sym is.0) (settled_becomes es os t place (in_status.Decided commit stamp) fs ps placed status (λ q e. cc) (left ps taken) is.1)
 
   -- what a step made of it was put there: all places are right, the step is what happened, and it answered by what was known
-  pub step_placed : (f : Option State → Option State) → KeepsTxn f → (ps : List Open) (fs : List (TxnValue × Status)) (qs : List Open) (x : Next) → ps ≡ swap_remove os place o → Some (state_next x) ≡ f (Some (Holds o)) → IsPut place t x es ps fs qs → IsPlaced (ledger_of fs qs)
+  pub step_placed : (f : Option State → Option State) → KeepsTxn f → (ps : List Open) (fs : StatusList) (qs : List Open) (x : Next) → ps ≡ swap_remove os place o → Some (state_next x) ≡ f (Some (Holds o)) → IsPut place t x es ps fs qs → IsPlaced (ledger_of fs qs)
   step_placed f keeps ps fs qs x taken is put =
       put_placed ps fs qs x taken (subst (λ u. IsOf u (state_next x)) own (subst (λ s. IfSome s (IsOf (txn_of o))) (sym is) (keeps o))) put
 
-  pub step_becomes : (f : Option State → Option State) (ps : List Open) (fs : List (TxnValue × Status)) (qs : List Open) (x : Next) → ps ≡ swap_remove os place o → Some (state_next x) ≡ f (Some (Holds o)) → IsPut place t x es ps fs qs → Becomes t (f (state_of (ledger_of es os) t)) (ledger_of es os) (ledger_of fs qs)
+  pub step_becomes : (f : Option State → Option State) (ps : List Open) (fs : StatusList) (qs : List Open) (x : Next) → ps ≡ swap_remove os place o → Some (state_next x) ≡ f (Some (Holds o)) → IsPut place t x es ps fs qs → Becomes t (f (state_of (ledger_of es os) t)) (ledger_of es os) (ledger_of fs qs)
   step_becomes f ps fs qs x taken is put =
       subst (λ s. Becomes t s (ledger_of es os) (ledger_of fs qs)) (is ∙ ap f (sym known)) (put_becomes ps fs qs x taken put)
 

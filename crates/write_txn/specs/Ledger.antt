@@ -1,7 +1,6 @@
 -- What a shard knows of each transaction, as its code keeps it.
-use Rattle.std.specs.Prelude.{◌≡◌, ℕ, ◌==◌, Bool, false, if◌then◌else◌, List, Option, Some, None, slice_get, option_map}
+use Rattle.std.specs.Prelude.{◌≡◌, ℕ, ◌%◌, ◌==◌, Bool, false, if◌then◌else◌, List, Option, Some, None, slice_get, option_map}
 use Rattle.std.specs.Ordering.{is_eq}
-use Rattle.std.specs.Map.{lookup}
 use Rattle.logical_time.specs.Stamps.{StampValue, TxnValue, txn_cmp}
 use Rattle.txn_state.specs.declared.part.WritePart.{WritePart}
 use Rattle.txn_state.specs.declared.ballot.Voted.{Voted}
@@ -19,6 +18,7 @@ use Rattle.messages.specs.Shard.{PreparedPart, Replica}
 use Rattle.messages.specs.Commits.{stamp_for}
 use Rattle.write_txn.specs.declared.status.Status.{Status}
 use Rattle.write_txn.specs.declared.status.Status.TheVariants as in_status
+use Rattle.write_txn.specs.Statuses.{StatusList, slots_of, status_among}
 use Rattle.write_txn.specs.declared.open.Open.{Open}
 use Rattle.write_txn.specs.declared.open.Open.TheVariants as in_open
 use Rattle.write_txn.specs.declared.open.ReplicatedPart.{ReplicatedPart}
@@ -29,7 +29,7 @@ use Rattle.write_txn.specs.declared.open.Remote.{Remote}
 
 -- what is under way of transactions, and the status of each known one
 pub record LedgerValue : Type 0 where
-  pub statuses : List (TxnValue × Status)
+  pub statuses : StatusList
   pub under_way : List Open
 
 -- what is known of a transaction: something of it is under way, its part is applied, or it is decided, with its commit
@@ -40,8 +40,8 @@ pub data State : Type 0 where
   IsDecided : (commit : ℕ) (stamp : StampValue) → State
 
 -- the status of this transaction, if it has one
-abbrev pub status_in : List (TxnValue × Status) → TxnValue → Option Status
-status_in es t = lookup (λ k. is_eq (txn_cmp t k)) es
+unfoldable pub status_in : StatusList → TxnValue → Option Status
+status_in bs t = status_among (slots_of bs t) (t.number % 256)
 
 -- what a status says, where this is under way
 abbrev pub state_at : List Open → Option Status → Option State

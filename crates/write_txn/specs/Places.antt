@@ -8,10 +8,11 @@ use Rattle.write_txn.specs.declared.status.Status.{Status}
 use Rattle.write_txn.specs.declared.status.Status.TheVariants as in_status
 use Rattle.write_txn.specs.declared.next.Next.{Next}
 use Rattle.write_txn.specs.declared.next.Next.TheVariants as in_next
+use Rattle.write_txn.specs.Statuses.{StatusList}
 use Rattle.write_txn.specs.Ledger.{LedgerValue, txn_of, status_in}
 
 -- the ledger with these statuses, where this is under way
-abbrev pub ledger_of : List (TxnValue × Status) → List Open → LedgerValue
+abbrev pub ledger_of : StatusList → List Open → LedgerValue
 ledger_of es os = record { statuses = es; under_way = os }
 
 -- the place that a status names, if it names one
@@ -31,12 +32,12 @@ status_moved None place u before = before
 status_moved (Some moved) place u before = status_set (txn_of moved) (in_status.Open place) u before
 
 -- what was taken out at the place is over, and the status of its transaction is this one
-abbrev pub IsSettled : ℕ → TxnValue → Status → List (TxnValue × Status) → List Open → List (TxnValue × Status) → List Open → Type 0
+abbrev pub IsSettled : ℕ → TxnValue → Status → StatusList → List Open → StatusList → List Open → Type 0
 IsSettled place t s es os fs ps =
     (ps ≡ os) × ((u : TxnValue) → status_in fs u ≡ status_set t s u (status_moved (slice_get os place) place u (status_in es u)))
 
 -- what became of the transaction has the place of what was taken out there
-abbrev pub IsPut : ℕ → TxnValue → Next → List (TxnValue × Status) → List Open → List (TxnValue × Status) → List Open → Type 0
+abbrev pub IsPut : ℕ → TxnValue → Next → StatusList → List Open → StatusList → List Open → Type 0
 IsPut place t (in_next.Holds held) es os fs ps = (fs ≡ es) × (ps ≡ swap (os ++ held ∷ []) place (length os))
 IsPut place t in_next.Applied es os fs ps = IsSettled place t in_status.Applied es os fs ps
 IsPut place t (in_next.Decided commit stamp) es os fs ps = IsSettled place t (in_status.Decided commit stamp) es os fs ps

@@ -1,57 +1,53 @@
--- Where the status of a transaction is found: near, by its number in its session, or far, by hash.
-use Rattle.std.specs.Prelude.{◌≡◌, ℕ, ◌+◌, ◌-◌, ◌*◌, ◌<◌, ◌≤◌, ◌==◌, ◌&&◌, nat_lt, Bool, if◌then◌else◌, List, [], ◌∷◌, ◌++◌, length, get_or, slice_get, Option, Some, None}
+-- How the statuses of transactions are kept: by blocks of 256 numbers of a session, each with a slot for each known number.
+use Rattle.std.specs.Prelude.{ℕ, ◌+◌, ◌*◌, ◌/◌, ◌<◌, ◌≤◌, ◌==◌, ◌&&◌, nat_eq, Bool, if◌then◌else◌, List, [], ◌∷◌, length, get_or, Option, Some, None, unwrap_or}
+use Rattle.std.specs.Map.{lookup}
+use Rattle.std.specs.List.Sorted.{IsNonDecreasingBy}
 use Rattle.logical_time.specs.Stamps.{TxnValue}
 use Rattle.write_txn.specs.declared.status.Status.{Status}
+use Rattle.write_txn.specs.declared.status.Status.TheVariants as in_status
+use Rattle.write_txn.specs.declared.slot.Slot.{Slot}
+use Rattle.write_txn.specs.declared.slot.Slot.TheVariants as in_slot
 
--- for each number of each session which entry is its transaction's, counted from one, or 0; and the entries
-pub record NearValue : Type 0 where
-  pub sessions : List (List ℕ)
-  pub entries : List Status
+-- the number that a slot is of, within its block
+abbrev pub slot_number : Slot → ℕ
+slot_number (in_slot.Open number place) = number
+slot_number (in_slot.Applied number) = number
+slot_number (in_slot.Decided number upper lower stamp) = number
 
--- which entry is this transaction's, counted from one; 0 if none is
-abbrev pub entry_of : List (List ℕ) → TxnValue → ℕ
-entry_of sessions t = get_or (get_or sessions t.session []) t.number 0
+-- the status that a slot says, its commit time put together again
+abbrev pub slot_status : Slot → Status
+slot_status (in_slot.Open number place) = in_status.Open place
+slot_status (in_slot.Applied number) = in_status.Applied
+slot_status (in_slot.Decided number upper lower stamp) = in_status.Decided (upper * 4294967296 + lower) stamp
 
--- the list has a place for this transaction's number
-abbrev pub HasNumber : List (List ℕ) → TxnValue → Type 0
-HasNumber sessions t = (t.session < length sessions) × (t.number < length (get_or sessions t.session []))
+-- the slots stand in the order of their numbers
+abbrev pub AreInOrder : List Slot → Type 0
+AreInOrder ss = IsNonDecreasingBy slot_number ss
 
--- the status that an entry is, counted from one
-abbrev pub status_at : List Status → ℕ → Option Status
-status_at es k = if k == 0 then None else slice_get es (k - 1)
+-- the first i slots are of smaller numbers than n, and no later one is
+pub record IsSplitAt (n i : ℕ) (ss : List Slot) : Type 0 where
+  pub before : (k : ℕ) (d : Slot) → k < i → slot_number (get_or ss k d) < n
+  pub after : (k : ℕ) (d : Slot) → i ≤ k → k < length ss → n ≤ slot_number (get_or ss k d)
 
--- the status of this transaction, if it is near
-abbrev pub near_in : NearValue → TxnValue → Option Status
-near_in n t = status_at n.entries (entry_of n.sessions t)
+-- the status of a number, if it has a slot
+abbrev pub status_among : List Slot → ℕ → Option Status
+status_among [] n = None
+status_among (s ∷ ss) n = if slot_number s == n then Some (slot_status s) else status_among ss n
 
--- each number's entry is there, and is that of one transaction
-pub record AreNumbered (n : NearValue) : Type 0 where
-  pub within : (t : TxnValue) → entry_of n.sessions t ≤ length n.entries
-  pub once : (t u : TxnValue) → 0 < entry_of n.sessions t → entry_of n.sessions t ≡ entry_of n.sessions u → t ≡ u
+-- ## Blocks
 
--- whether a status may be added near: few sessions, numbers that aren't far above how many entries there are, and entries
--- whose count fits 32 bits
-abbrev pub is_near : NearValue → TxnValue → Bool
-is_near n t = nat_lt (length n.entries) 4294967295 && nat_lt t.session 64 && nat_lt t.number (1024 + 4 * length n.entries)
+-- the block of a transaction: its session, and which 256 numbers its number is among
+abbrev pub block_of : TxnValue → TxnValue
+block_of t = record { session = t.session; number = t.number / 256 }
 
--- ## All statuses as one list
+-- whether both are the same block
+abbrev pub is_same_block : TxnValue → TxnValue → Bool
+is_same_block a b = nat_eq a.session b.session && nat_eq a.number b.number
 
--- a transaction with its status, if it has one, before the rest
-abbrev pub with_status : TxnValue → Option Status → List (TxnValue × Status) → List (TxnValue × Status)
-with_status t None rest = rest
-with_status t (Some s) rest = (t, s) ∷ rest
+-- for each block of which a number is known its slots
+abbrev pub StatusList : Type 0
+StatusList = List (TxnValue × List Slot)
 
--- those of a session's numbers, from this one on
-abbrev pub numbers_listed : List Status → ℕ → ℕ → List ℕ → List (TxnValue × Status)
-numbers_listed es session number [] = []
-numbers_listed es session number (k ∷ ks) =
-    with_status (record { session = session; number = number }) (status_at es k) (numbers_listed es session (number + 1) ks)
-
--- those of the sessions, from this one on
-abbrev pub sessions_listed : List Status → ℕ → List (List ℕ) → List (TxnValue × Status)
-sessions_listed es session [] = []
-sessions_listed es session (ks ∷ kss) = numbers_listed es session 0 ks ++ sessions_listed es (session + 1) kss
-
--- those that are near, in the order of their numbers, and those that are far
-unfoldable pub statuses_of : NearValue → List (TxnValue × Status) → List (TxnValue × Status)
-statuses_of n far = sessions_listed n.entries 0 n.sessions ++ far
+-- the slots of a transaction's block
+abbrev pub slots_of : StatusList → TxnValue → List Slot
+slots_of bs t = unwrap_or (lookup (is_same_block (block_of t)) bs) []

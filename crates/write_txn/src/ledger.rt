@@ -39,6 +39,7 @@ impl Ledger {
     ghost use Rattle.write_txn.specs.Ledger.{state_of, txn_of, Holds, IsDecided, Becomes, HaveSameStates, state_prepared, state_applied, part_in, state_voted, completed_by, state_with, state_ready, readied_by, lacks_nothing};
 
     /// Nothing is known.
+    #[tactic(auto, unfolding(crate::specs::Ledger::status_in))]
     pub fn new(alloc: Global) -> Ledger
         ensures { (t : TxnValue) → state_of result t ≡ None }
     {

@@ -3,14 +3,14 @@
 
 mod adding;
 mod applying;
-mod far;
+mod block;
 mod law;
 mod ledger;
 mod moving;
-mod near;
 mod next;
 mod open;
 mod places;
+mod slot;
 mod status;
 mod statuses;
 mod steps;

@@ -2,11 +2,9 @@
 //!
 //! What is taken out at a place leaves the last one there: it is put back, which moves the last one to the end again, or
 //! the last one's status gets its new place.
-ghost use Rattle.std.specs.Prelude.{◌≡◌, ◌<◌, ◌≤◌, ◌∷◌, [], ◌++◌, if◌then◌else◌, slice_get, length, vec_len, vec_capacity, Some, OnOk, OnErr, IfErr};
+ghost use Rattle.std.specs.Prelude.{◌≡◌, ◌<◌, ◌≤◌, ◌∷◌, [], ◌++◌, slice_get, length, vec_len, vec_capacity, Some};
 ghost use Rattle.std.specs.List.{swap};
-ghost use Rattle.std.specs.Ordering.{is_eq};
-ghost use Rattle.logical_time.specs.declared.fault.Fault.TheVariants as fault;
-ghost use Rattle.logical_time.specs.Stamps.{TxnValue, txn_cmp};
+ghost use Rattle.logical_time.specs.Stamps.{TxnValue};
 ghost use Rattle.write_txn.specs.Ledger.{status_in};
 ghost use Rattle.write_txn.specs.Places.{place_of, status_set, status_moved, IsPut};
 
@@ -14,14 +12,14 @@ use crate::next::Next;
 use crate::open::Open;
 use crate::status::Status;
 use crate::statuses::Statuses;
-use logical_time::{Fault, TxnId};
+use logical_time::TxnId;
 
 /// The place of what is under way of a transaction.
 pub(crate) fn place_in(statuses: &Statuses, txn: TxnId) -> Option<usize>
     ensures { result ≡ place_of (status_in statuses.now txn) }
 {
     match statuses.get(txn) {
-        Some(Status::Open(place)) => Some(*place),
+        Some(Status::Open(place)) => Some(place),
         _ => None,
     }
 }

@@ -4,7 +4,7 @@ ghost use Rattle.std.specs.Option.{option_copied};
 ghost use Rattle.logical_time.specs.declared.fault.Fault.TheVariants as fault;
 ghost use Rattle.write_txn.specs.Ledger as ledger;
 ghost use Rattle.write_txn.specs.Places.{ledger_of};
-ghost use Rattle.write_txn.specs.Ledger.{IsPlaced, state_of, status_in, state_at, txn_of, Holds, IsDecided, Becomes, HaveSameStates, state_prepared, state_applied, part_in, state_voted, completed_by, state_with, state_ready, readied_by, lacks_nothing};
+ghost use Rattle.write_txn.specs.Ledger.{IsPlaced, state_of, status_in, state_at, txn_of, Holds, Becomes, HaveSameStates, state_prepared, state_applied, part_in, state_voted, completed_by, state_with, state_ready, readied_by, lacks_nothing};
 
 use crate::next::{count, finished, is_last, prepared, readied, voted};
 use crate::open::{Missing, Open};
@@ -34,8 +34,9 @@ pub(crate) fn open_in<'a>(
 pub(crate) fn decided_in(statuses: &Statuses, txn: TxnId) -> Option<(Time, Stamp)>
     ensures { result ≡ ledger.decided_in (state_at [] (status_in statuses.now txn)) }
 {
-    match statuses.get(txn) {
-        Some(Status::Decided { commit, stamp }) => Some((*commit, *stamp)),
+    let status = statuses.get(txn)?;
+    match status {
+        Status::Decided { commit, stamp } => Some((commit, stamp)),
         _ => None,
     }
 }

@@ -1,25 +1,18 @@
-use Rattle.std.proofs.Common.{rules, ◌≡◌, ◌∙◌, ap, sym, length, Some, None}
-use Rattle.std.proofs.lemmas.List.{nil_from_length}
+use Rattle.std.proofs.Common.{◌∙◌, ap, sym}
+use Rattle.std.specs.Option.{option_copied}
 use Rattle.write_txn.specs.Ledger.{status_in}
-use Rattle.write_txn.specs.Statuses.{near_in}
-use Rattle.write_txn.proofs.Everywhere.{found_near, found_far}
+use Rattle.write_txn.proofs.Blocks.{found_in, none_in}
 use Rattle.write_txn.proofs.statuses.Statuses.get.Goals as goal
 
 pub returns-in-Some : goal.returns-in-Some
 returns-in-Some c =
-    let near : near_in c.self.inside.near c.args.txn ≡ Some c.in-Some.status.now = search rules in
-    sym (found_near c.self.inside.near c.self.inside.far c.args.txn c.in-Some.status.now near) ∙ ap (λ s. status_in s c.args.txn) c.self.view_is
+    let has = sym c.get.ensures.value ∙ ap option_copied c.in-Some.is in
+    c.get-in-Some.ensures
+    ∙ found_in c.self.inside.blocks.entries c.args.txn c.block_id.result c.number_in.result c.in-Some.block.now c.block_id.ensures c.number_in.ensures has
+    ∙ ap (λ bs. status_in bs c.args.txn) c.self.view_is
 
-pub returns-then-is_empty : goal.returns-then-is_empty
-returns-then-is_empty c =
-    let near : near_in c.self.inside.near c.args.txn ≡ None = search rules in
-    let empty : length c.self.inside.far ≡ 0 = search rules in
-    let far : status_in c.self.inside.far c.args.txn ≡ None = ap (λ es. status_in es c.args.txn) (nil_from_length c.self.inside.far empty) in
-    sym (found_far c.self.inside.near c.self.inside.far c.args.txn near ∙ far) ∙ ap (λ s. status_in s c.args.txn) c.self.view_is
-
-pub returns : goal.returns
-returns c =
-    let near : near_in c.self.inside.near c.args.txn ≡ None = search rules in
-    c.get-2.ensures
-    ∙ sym (found_far c.self.inside.near c.self.inside.far c.args.txn near)
-    ∙ ap (λ s. status_in s c.args.txn) c.self.view_is
+pub returns-in-None : goal.returns-in-None
+returns-in-None c =
+    let none = sym c.get.ensures.value ∙ ap option_copied c.in-None.is in
+    none_in c.self.inside.blocks.entries c.args.txn c.block_id.result c.block_id.ensures none
+    ∙ ap (λ bs. status_in bs c.args.txn) c.self.view_is
