@@ -7,11 +7,11 @@ use crate::serving::tell_port;
 use command_line::Serving;
 use doors::{Doors, Ended};
 use logical_time::Fault;
+use present::Present;
 use program::{Buffered, Output, tell};
 use service::WorldSessions;
 use std::alloc::Global;
 use std::sync::Wait;
-use world::World;
 
 // Tells of a connection that ended with a fault.
 fn tell_ended<E: Buffered>(
@@ -40,7 +40,7 @@ fn serve_all<R: Wait, E: Buffered>(
     rt: &R,
     alloc: Global,
     doors: &mut Doors,
-    port: &mut WorldSessions<'_>,
+    port: &mut WorldSessions<'_, Present>,
     errors: &mut Output<E>,
 ) -> Fault
     requires { 0 < port.old.world.now.top.shards }
@@ -63,7 +63,7 @@ fn serve_by<R: Wait, E: Buffered>(
     rt: &R,
     alloc: Global,
     doors: &mut Doors,
-    world: &mut World,
+    world: &mut Present,
     errors: &mut Output<E>,
 ) -> Fault
     ensures { AreAnswered world.old world.new }
@@ -85,7 +85,7 @@ fn listen<T: Wait, W: Buffered, E: Buffered>(
     let alloc = rt.alloc();
     let sessions = serving.topology.homes().len();
     let mut doors = Doors::open(rt, alloc, serving.port, sessions)?;
-    let mut world = World::new(alloc, &serving.topology)?;
+    let mut world = Present::new(alloc, &serving.topology)?;
     if let Err(fault) = tell_port(alloc, serving.port, output) {
         world.close();
         return Err(fault);

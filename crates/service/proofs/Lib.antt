@@ -1,10 +1,11 @@
-pub mod Asked
 pub mod Chains
 pub mod Connected
 pub mod Entries
+pub mod Heard
 pub mod Homes
 pub mod Idle
 pub mod Meant
 pub mod Ports
+pub mod Requests
 pub mod Searched
 pub mod Together

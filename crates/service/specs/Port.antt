@@ -71,6 +71,18 @@ pub record EndedWith (w : Run) (session number : ℕ) (outcome : Outcome) : Type
 abbrev pub IsOpen : Run → ℕ → ℕ → Type 0
 IsOpen w session number = (c : Completed) → IsEndOf w session number c → ⊥
 
+-- what came of the operation: it ended so, or has not ended
+abbrev pub CameTo : Run → ℕ → ℕ → Option Outcome → Type 0
+CameTo w session number None = IsOpen w session number
+CameTo w session number (Some outcome) = EndedWith w session number outcome
+
+-- the operation is a read and ended with an answer, and memory was refused for a copy of that
+pub record HasNoCopy (w : Run) (session number : ℕ) (fault : Fault) : Type 0 where
+  pub time : ℕ
+  pub answer : List AnsweredRow
+  pub ended : EndedWith w session number (outcome.Read time answer)
+  pub memory : fault ≡ Memory
+
 -- ## Answers
 
 -- what was submitted is drained

@@ -13,11 +13,11 @@ use Rattle.service.specs.Port.{Asks}
 use Rattle.service.specs.Meaning.{Replies}
 
 -- a step of the port: its world stays, and the request is answered on that world; past the last session it is refused
-pub record IsSessionStep (place : ℕ) (old : WorldSessions) (op : Op) (answer : Reply) (new : WorldSessions) : Type 0 where
+pub record IsSessionStep {W : Type 0} (seen : W → WorldValue) (place : ℕ) (old : WorldSessions W) (op : Op) (answer : Reply) (new : WorldSessions W) : Type 0 where
   pub same_world : new.world.ghost_name ≡ old.world.ghost_name
-  pub topology : new.world.now.top ≡ old.world.now.top
-  pub asks : place < length old.world.now.top.homes → Asks old.world.now.top (session_node old.world.now.top place) old.world.now.events op answer new.world.now.events
-  pub otherwise : length old.world.now.top.homes ≤ place → (answer ≡ Err Busy) × (new.world.now ≡ old.world.now)
+  pub topology : (seen new.world.now).top ≡ (seen old.world.now).top
+  pub asks : place < length (seen old.world.now).top.homes → Asks (seen old.world.now).top (session_node (seen old.world.now).top place) (seen old.world.now).events op answer (seen new.world.now).events
+  pub otherwise : length (seen old.world.now).top.homes ≤ place → (answer ≡ Err Busy) × (new.world.now ≡ old.world.now)
 
 -- A step of the connection at a place, where `left` is the run after all of them: its session's request is answered,
 -- and an outcome has its meaning in `left`; at a place past the last session it is refused.

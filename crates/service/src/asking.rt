@@ -1,25 +1,27 @@
 //! One request, from its submission to its outcome.
-ghost use Rattle.std.specs.Prelude.{◌≡◌, ◌==◌, ◌&&◌, true, IfOk, IfErr, IfSome, IfNone};
+ghost use Rattle.std.specs.Prelude.{◌≡◌, true, IfOk, IfErr};
 ghost use Rattle.messages.specs.Topology.{is_session};
 ghost use Rattle.world.specs.declared.run_event.RunEvent.TheVariants.{Submit};
-ghost use Rattle.world.specs.World.{run_of, refusal_in, IsRefusedAs};
-ghost use Rattle.service.specs.Port.{Asks, EndedWith, HasOpen, IsOpen, IsSubmitted, IsTurnedAway};
+ghost use Rattle.world.specs.World.{refusal_in, IsRefusedAs};
+ghost use Rattle.service.specs.Port.{Asks, HasOpen, IsSubmitted, IsTurnedAway};
 
+use crate::asked::Asked;
 use drains::drain;
 use logical_time::{Fault, Node};
 use messages::{Op, Outcome};
-use world::{Completed, World};
 
 // An operation that was refused isn't needed any more.
 fn let_go(_op: Op) {}
 
 // Submits an operation once a drain has ended what its session had open.
-fn submit_after_drain(world: &mut World, session: Node, op: Op) -> Result<u64, Fault>
-    requires session { is_session world.old.top session ≡ true }
-    requires had_open { HasOpen world.old.top session op world.old.events }
-    ensures ok { IfOk result (λ number. IsSubmitted world.old.top session op world.old.events number world.new.events) }
-    ensures refused { IfErr result (λ e. IsTurnedAway world.old.top session op world.old.events e world.new.events) }
-    ensures topology { world.new.top ≡ world.old.top }
+fn submit_after_drain<A: Asked>(world: &mut A, session: Node, op: Op) -> Result<u64, Fault>
+    requires session { is_session (A.world world.old).top session ≡ true }
+    requires had_open { HasOpen (A.world world.old).top session op (A.world world.old).events }
+    ensures ok { IfOk result (λ number. IsSubmitted (A.world world.old).top session op (A.world world.old).events number (A.world world.new).events) }
+    ensures knows { IfOk result (λ number. A.knows world.new session number) }
+    ensures refused { IfErr result (λ e. IsTurnedAway (A.world world.old).top session op (A.world world.old).events e (A.world world.new).events) }
+    ensures topology { (A.world world.new).top ≡ (A.world world.old).top }
+    ensures stays { (start : A) → A.stays start world.old → A.stays start world.new }
 {
     drain(world)?;
     match world.submit(session, op) {
@@ -32,13 +34,14 @@ fn submit_after_drain(world: &mut World, session: Node, op: Op) -> Result<u64, F
 }
 
 // Goes on where an operation was refused: if the session has one open, a drain ends that first.
-#[tactic(auto, using(crate::proofs::Asked::open_when_busy))]
-fn after_refusal(world: &mut World, session: Node, fault: Fault, op: Op) -> Result<u64, Fault>
-    requires session { is_session world.old.top session ≡ true }
-    requires refused { IsRefusedAs (refusal_in world.old (Submit session op)) fault }
-    ensures ok { IfOk result (λ number. IsSubmitted world.old.top session op world.old.events number world.new.events) }
-    ensures refused { IfErr result (λ e. IsTurnedAway world.old.top session op world.old.events e world.new.events) }
-    ensures topology { world.new.top ≡ world.old.top }
+fn after_refusal<A: Asked>(world: &mut A, session: Node, fault: Fault, op: Op) -> Result<u64, Fault>
+    requires session { is_session (A.world world.old).top session ≡ true }
+    requires refused { IsRefusedAs (refusal_in (A.world world.old) (Submit session op)) fault }
+    ensures ok { IfOk result (λ number. IsSubmitted (A.world world.old).top session op (A.world world.old).events number (A.world world.new).events) }
+    ensures knows { IfOk result (λ number. A.knows world.new session number) }
+    ensures refused { IfErr result (λ e. IsTurnedAway (A.world world.old).top session op (A.world world.old).events e (A.world world.new).events) }
+    ensures topology { (A.world world.new).top ≡ (A.world world.old).top }
+    ensures stays { (start : A) → A.stays start world.old → A.stays start world.new }
 {
     match fault {
         Fault::Busy => submit_after_drain(world, session, op),
@@ -50,11 +53,13 @@ fn after_refusal(world: &mut World, session: Node, fault: Fault, op: Op) -> Resu
 }
 
 // Submits an operation. If the session has one open, that is ended first by a drain.
-fn submit(world: &mut World, session: Node, op: Op) -> Result<u64, Fault>
-    requires { is_session world.old.top session ≡ true }
-    ensures ok { IfOk result (λ number. IsSubmitted world.old.top session op world.old.events number world.new.events) }
-    ensures refused { IfErr result (λ e. IsTurnedAway world.old.top session op world.old.events e world.new.events) }
-    ensures topology { world.new.top ≡ world.old.top }
+fn submit<A: Asked>(world: &mut A, session: Node, op: Op) -> Result<u64, Fault>
+    requires { is_session (A.world world.old).top session ≡ true }
+    ensures ok { IfOk result (λ number. IsSubmitted (A.world world.old).top session op (A.world world.old).events number (A.world world.new).events) }
+    ensures knows { IfOk result (λ number. A.knows world.new session number) }
+    ensures refused { IfErr result (λ e. IsTurnedAway (A.world world.old).top session op (A.world world.old).events e (A.world world.new).events) }
+    ensures topology { (A.world world.new).top ≡ (A.world world.old).top }
+    ensures stays { (start : A) → A.stays start world.old → A.stays start world.new }
 {
     match world.submit(session, op) {
         Ok(number) => Ok(number),
@@ -62,52 +67,21 @@ fn submit(world: &mut World, session: Node, op: Op) -> Result<u64, Fault>
     }
 }
 
-// Whether this is the end of an operation.
-fn is_end(completed: &Completed, session: Node, number: u64) -> bool
-    ensures { result ≡ ((completed.now.node == session) && (completed.now.number == number)) }
-{
-    completed.node == session && completed.number == number
-}
-
-// The outcome of an operation, if it has ended. What ended last is looked at first.
-#[tactic(auto, using(crate::proofs::Searched::found))]
-fn outcome_of(world: &World, session: Node, number: u64) -> Option<&Outcome>
-    ensures some { IfSome result (λ o. EndedWith (run_of world.now) session number o.now) }
-    ensures none { IfNone result (IsOpen (run_of world.now) session number) }
-{
-    let mut rest = world.transcript();
-    while let Some((last, before)) = rest.split_last() {
-        if is_end(last, session, number) {
-            return Some(&last.outcome);
-        }
-        rest = before;
-    }
-    None
-}
-
 /// A session's request and its answer: submits the operation, after a drain where it had one open, drains, and gives the
 /// outcome. Refused as the submission and the drains are; with `Busy` only where a drain, before or after the submission,
-/// delivered 1,000,000 messages; and with `Memory` where there is none for a copy of a read's answer.
-pub(crate) fn ask(world: &mut World, session: Node, op: Op) -> Result<Outcome, Fault>
-    requires { is_session world.old.top session ≡ true }
-    ensures asks { Asks world.old.top session world.old.events op result world.new.events }
-    ensures topology { world.new.top ≡ world.old.top }
+/// delivered 1,000,000 messages; and with `Memory` where the world has none for a copy of a read's answer.
+pub(crate) fn ask<A: Asked>(world: &mut A, session: Node, op: Op) -> Result<Outcome, Fault>
+    requires { is_session (A.world world.old).top session ≡ true }
+    ensures asks { Asks (A.world world.old).top session (A.world world.old).events op result (A.world world.new).events }
+    ensures topology { (A.world world.new).top ≡ (A.world world.old).top }
+    ensures stays { (start : A) → A.stays start world.old → A.stays start world.new }
 {
     // what is known of runs is known within the limits of a topology
     let _limits = world.topology();
     let number = submit(world, session, op)?;
     drain(world)?;
-    match outcome_of(world, session, number) {
-        Some(Outcome::Wrote { commit, stamp }) => Ok(Outcome::Wrote {
-            commit: *commit,
-            stamp: *stamp,
-        }),
-        Some(Outcome::Collected) => Ok(Outcome::Collected),
-        Some(Outcome::Moved { dc, floor }) => Ok(Outcome::Moved {
-            dc: *dc,
-            floor: *floor,
-        }),
-        Some(read) => Ok(read.copied()?),
+    match world.outcome(session, number)? {
+        Some(outcome) => Ok(outcome),
         None => Err(Fault::Busy),
     }
 }

@@ -4,13 +4,17 @@
 //! together with what a line is served by, that leads from the bytes of a connection to the meaning of each answer.
 #![tactic(auto)]
 
+mod asked;
 mod asking;
+mod awaited;
 mod connections;
+mod host;
 mod port;
 mod session;
 mod sessions;
 
 pub use connections::serve_connections;
+pub use host::Host;
 pub use port::WorldPort;
 pub use session::serve_session;
 pub use sessions::{WorldSessions, run_sessions, turn_sessions};

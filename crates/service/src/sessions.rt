@@ -7,24 +7,23 @@ ghost use Rattle.readiness.specs.declared.connection.TheConstants.{LIMIT};
 ghost use Rattle.world.specs.World.{run_of};
 ghost use Rattle.service.specs.Sessions.{IsSessionStep, SessionReplies, AreAnswered};
 
-use crate::asking::ask;
+use crate::host::Host;
 use logical_time::Fault;
 use messages::{Op, Outcome};
 use readiness::{Act, Places, ReadyLine, Run, SharedPort, run_all, turns};
 use std::alloc::{AllocError, Global};
-use world::World;
 
 /// The sessions of a world, as the port of many connections: the connection at a place asks as the session of that
 /// index. So the next connection at a place goes on with what that session did before. At a place past the last session
 /// each request is refused with `Busy`.
 #[derive(Drop)]
-pub struct WorldSessions<'w> {
-    world: &'w mut World,
+pub struct WorldSessions<'w, W> {
+    world: &'w mut W,
 }
 
-impl<'w> WorldSessions<'w> {
+impl<'w, W: Host> WorldSessions<'w, W> {
     /// The port of all sessions of this world.
-    pub fn new(world: &'w mut World) -> WorldSessions<'w>
+    pub fn new(world: &'w mut W) -> WorldSessions<'w, W>
         ensures same_world { result.world.ghost_name ≡ world.entry.ghost_name }
         ensures world_is { result.world.now ≡ world.old }
     {
@@ -43,8 +42,8 @@ impl<'w> WorldSessions<'w> {
     ) -> Result<(), AllocError>
         requires { 0 < length buffer.old }
         ensures same_world { self.new.world.ghost_name ≡ self.old.world.ghost_name }
-        ensures topology { self.new.world.now.top ≡ self.old.world.now.top }
-        ensures turned { (log : List Entry) × Turns L.seen (SessionReplies self.old.world.now.top (run_of self.new.world.now)) log places.old.places.items self.old.world.now.events places.new.places.items self.new.world.now.events }
+        ensures topology { (W.world self.new.world.now).top ≡ (W.world self.old.world.now).top }
+        ensures turned { (log : List Entry) × Turns L.seen (SessionReplies (W.world self.old.world.now).top (run_of (W.world self.new.world.now))) log places.old.places.items (W.world self.old.world.now).events places.new.places.items (W.world self.new.world.now).events }
         ensures rests { OnOk result (Rests LIMIT L.seen ready.now again.new.items over.new.items places.old.places.items places.new.places.items) }
         ensures bounded { AreBounded LIMIT L.seen places.old.places.items → AreBounded LIMIT L.seen places.new.places.items }
     {
@@ -62,9 +61,9 @@ impl<'w> WorldSessions<'w> {
     ) -> Result<Run<L>, AllocError>
         requires { 0 < length buffer.old }
         ensures same_world { self.new.world.ghost_name ≡ self.old.world.ghost_name }
-        ensures topology { self.new.world.now.top ≡ self.old.world.now.top }
-        ensures answered { AreAnswered self.old.world.now self.new.world.now }
-        ensures ran { IfOk result (λ run. RanFor L.seen (SessionReplies self.old.world.now.top (run_of self.new.world.now)) (arrivals acts.items) run.gone.items self.old.world.now.events run.places.places.items self.new.world.now.events) }
+        ensures topology { (W.world self.new.world.now).top ≡ (W.world self.old.world.now).top }
+        ensures answered { AreAnswered (W.world self.old.world.now) (W.world self.new.world.now) }
+        ensures ran { IfOk result (λ run. RanFor L.seen (SessionReplies (W.world self.old.world.now).top (run_of (W.world self.new.world.now))) (arrivals acts.items) run.gone.items (W.world self.old.world.now).events run.places.places.items (W.world self.new.world.now).events) }
         ensures bounded { IfOk result (λ run. AreBounded LIMIT L.seen run.places.places.items) }
     {
         // what is known of runs is known within the limits of a topology
@@ -73,8 +72,8 @@ impl<'w> WorldSessions<'w> {
     }
 }
 
-impl SharedPort for WorldSessions<'_> {
-    ghost steps = { IsSessionStep };
+impl<W: Host> SharedPort for WorldSessions<'_, W> {
+    ghost steps = { IsSessionStep W.world };
 
     #[tactic(auto, using(crate::proofs::Homes::session_here))]
     fn ask(&mut self, place: usize, op: Op) -> Result<Outcome, Fault> {
@@ -84,7 +83,7 @@ impl SharedPort for WorldSessions<'_> {
             return Err(Fault::Busy);
         }
         let session = topology.session_node(place as u16);
-        ask(self.world, session, op)
+        self.world.ask(session, op)
     }
 }
 
@@ -92,9 +91,9 @@ impl SharedPort for WorldSessions<'_> {
 /// answer what it asks. Places of connections that could go on at once are put into `again`, and of those that are over
 /// into `over`. Where memory for that is refused, it ends early. Each request costs what its submission and its drain do,
 /// beside the bytes of its frames.
-pub fn turn_sessions<L: ReadyLine + Drop>(
+pub fn turn_sessions<W: Host, L: ReadyLine + Drop>(
     alloc: Global,
-    world: &mut World,
+    world: &mut W,
     places: &mut Places<L>,
     ready: &[usize],
     again: &mut Vec<usize>,
@@ -103,10 +102,10 @@ pub fn turn_sessions<L: ReadyLine + Drop>(
 ) -> Result<(), AllocError>
     requires { 0 < length buffer.old }
     // each place's requests were answered by its session, and each outcome means its request in the world left behind
-    ensures turned { (log : List Entry) × Turns L.seen (SessionReplies world.old.top (run_of world.new)) log places.old.places.items world.old.events places.new.places.items world.new.events }
+    ensures turned { (log : List Entry) × Turns L.seen (SessionReplies (W.world world.old).top (run_of (W.world world.new))) log places.old.places.items (W.world world.old).events places.new.places.items (W.world world.new).events }
     ensures rests { OnOk result (Rests LIMIT L.seen ready.now again.new.items over.new.items places.old.places.items places.new.places.items) }
     ensures bounded { AreBounded LIMIT L.seen places.old.places.items → AreBounded LIMIT L.seen places.new.places.items }
-    ensures topology { world.new.top ≡ world.old.top }
+    ensures topology { (W.world world.new).top ≡ (W.world world.old).top }
 {
     let mut port = WorldSessions::new(world);
     port.turn(alloc, places, ready, again, over, buffer)
@@ -115,20 +114,20 @@ pub fn turn_sessions<L: ReadyLine + Drop>(
 /// Serves lines together by the sessions of a world, as they arrive, have turns and leave, in whatever order. The
 /// connections at a place, one after the other, ask as one session, and each goes on with what that session did before.
 /// Where memory for places and connections is refused, it ends early, and the lines are dropped.
-pub fn run_sessions<L: ReadyLine + Drop>(
+pub fn run_sessions<W: Host, L: ReadyLine + Drop>(
     alloc: Global,
-    world: &mut World,
+    world: &mut W,
     acts: Vec<Act<L>>,
     buffer: &mut [u8],
 ) -> Result<Run<L>, AllocError>
     requires { 0 < length buffer.old }
     // all that happened to the world is requests that were answered; also where memory was refused for the run itself
-    ensures answered { AreAnswered world.old world.new }
+    ensures answered { AreAnswered (W.world world.old) (W.world world.new) }
     // at each place the lines that were given it account for all that its session was asked, and each outcome means its
     // request in the world left behind
-    ensures ran { IfOk result (λ run. RanFor L.seen (SessionReplies world.old.top (run_of world.new)) (arrivals acts.items) run.gone.items world.old.events run.places.places.items world.new.events) }
+    ensures ran { IfOk result (λ run. RanFor L.seen (SessionReplies (W.world world.old).top (run_of (W.world world.new))) (arrivals acts.items) run.gone.items (W.world world.old).events run.places.places.items (W.world world.new).events) }
     ensures bounded { IfOk result (λ run. AreBounded LIMIT L.seen run.places.places.items) }
-    ensures topology { world.new.top ≡ world.old.top }
+    ensures topology { (W.world world.new).top ≡ (W.world world.old).top }
 {
     let mut port = WorldSessions::new(world);
     port.run(alloc, acts, buffer)

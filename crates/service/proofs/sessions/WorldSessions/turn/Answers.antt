@@ -3,11 +3,11 @@ use Rattle.service.proofs.Together.{turns_mean, turns_same}
 use Rattle.service.proofs.sessions.WorldSessions.turn.Goals as goal
 
 pub returns-clause-same_world : goal.returns-clause-same_world
-returns-clause-same_world g c = (turns_same g.L.ReadyLine.seen c.args.places.now.places.items c.turns.new.places.places.items c.args.self.now c.turns.new.port c.turns.ensures.turned).world
+returns-clause-same_world g c = (turns_same g.W.Host.world g.L.ReadyLine.seen c.args.places.now.places.items c.turns.new.places.places.items c.args.self.now c.turns.new.port c.turns.ensures.turned).world
 
 pub returns-clause-topology : goal.returns-clause-topology
-returns-clause-topology g c = (turns_same g.L.ReadyLine.seen c.args.places.now.places.items c.turns.new.places.places.items c.args.self.now c.turns.new.port c.turns.ensures.turned).topology
+returns-clause-topology g c = (turns_same g.W.Host.world g.L.ReadyLine.seen c.args.places.now.places.items c.turns.new.places.places.items c.args.self.now c.turns.new.port c.turns.ensures.turned).topology
 
 pub returns-clause-turned : goal.returns-clause-turned
 returns-clause-turned g c =
-    turns_mean g.L.ReadyLine.seen c.args.places.now.places.items c.turns.new.places.places.items c.args.self.now c.turns.new.port (stands c.args.self.now.world.now.top c.topology-limits.ensures.limits).some c.turns.ensures.turned
+    turns_mean g.W.Host.world g.L.ReadyLine.seen c.args.places.now.places.items c.turns.new.places.places.items c.args.self.now c.turns.new.port (stands (g.W.Host.world c.args.self.now.world.now).top c.topology-limits.ensures.limits).some c.turns.ensures.turned

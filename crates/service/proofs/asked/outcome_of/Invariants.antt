@@ -1,7 +1,7 @@
 use Rattle.std.proofs.Common.{length}
 use Rattle.world.specs.World.{run_of}
 use Rattle.service.proofs.Searched.{IsSearched}
-use Rattle.service.proofs.asking.outcome_of.Given as goal
+use Rattle.service.proofs.asked.outcome_of.Given as goal
 
 abbrev pub invariant-loop-last : goal.invariant-loop-last
 invariant-loop-last l = IsSearched (run_of l.world).transcript l.rest l.session l.number

@@ -2,7 +2,7 @@ use Rattle.std.proofs.Common.{◌≡◌, ◌∙◌, sym, rules}
 use Rattle.world.specs.World.{run_of}
 use Rattle.std.proofs.lemmas.List.{nil_from_length}
 use Rattle.service.proofs.Searched.{searched_none, searched_more, not_found}
-use Rattle.service.proofs.asking.outcome_of.Goals as goal
+use Rattle.service.proofs.asked.outcome_of.Goals as goal
 
 pub loop-last-init : goal.loop-last-init
 loop-last-init c = searched_none (run_of c.args.world.now).transcript c.transcript-rest.result.now c.args.session c.args.number c.transcript-rest.ensures.listed

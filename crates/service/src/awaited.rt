@@ -1,0 +1,124 @@
+//! The outcome that is awaited of a world that keeps no past.
+ghost use Rattle.std.specs.Prelude.{◌≡◌, true};
+ghost use Rattle.messages.specs.Topology.{is_session};
+ghost use Rattle.service.specs.Awaited.{outcome_heard, AsksSame, IsAwaited};
+ghost use Rattle.service.specs.Port.{Asks};
+
+use crate::asked::Asked;
+use crate::asking::ask;
+use crate::host::Host;
+use drains::Deliveries;
+use logical_time::{Fault, Node};
+use messages::{Op, Outcome, Topology};
+use present::{Ended, Present};
+
+/// A world that keeps no past, and what came of the operation that was submitted last: it is taken out of the delivery that
+/// ended it.
+pub(crate) struct Awaited<'p> {
+    world: &'p mut Present,
+    session: Node,
+    number: u64,
+    outcome: Option<Outcome>,
+}
+
+// The outcome that is awaited, once this ended, too.
+fn hear(session: Node, number: u64, had: Option<Outcome>, ended: Option<Ended>) -> Option<Outcome>
+    ensures { result ≡ outcome_heard session number had ended }
+{
+    let Some(ended) = ended else {
+        return had;
+    };
+    if ended.session == session && ended.number == number {
+        Some(ended.outcome)
+    } else {
+        had
+    }
+}
+
+impl<'p> Awaited<'p> {
+    /// Nothing was submitted yet.
+    pub(crate) fn new(world: &'p mut Present, session: Node) -> Awaited<'p>
+        ensures same_world { result.world.ghost_name ≡ world.entry.ghost_name }
+        ensures world_is { result.world.now ≡ world.old }
+    {
+        Awaited {
+            world,
+            session,
+            number: 0,
+            outcome: None,
+        }
+    }
+
+    /// A session's request and its answer, as `asking::ask` says.
+    pub(crate) fn ask(&mut self, session: Node, op: Op) -> Result<Outcome, Fault>
+        requires { is_session self.old.world.now.top session ≡ true }
+        ensures same_world { self.new.world.ghost_name ≡ self.old.world.ghost_name }
+        ensures asks { Asks self.old.world.now.top session self.old.world.now.events op result self.new.world.now.events }
+        ensures topology { self.new.world.now.top ≡ self.old.world.now.top }
+    {
+        ask(self, session, op)
+    }
+}
+
+impl Deliveries for Awaited<'_> {
+    ghost world = { λ a. a.world.now };
+
+    ghost stays = { AsksSame };
+
+    ghost knows = { IsAwaited };
+
+    fn topology(&self) -> &Topology {
+        self.world.topology()
+    }
+
+    fn deliver_first(&mut self) -> Result<bool, Fault> {
+        if self.world.is_quiet() {
+            return Ok(false);
+        }
+        let ended = self.world.deliver()?;
+        let had = self.outcome.take();
+        self.outcome = hear(self.session, self.number, had, ended);
+        Ok(true)
+    }
+}
+
+impl Asked for Awaited<'_> {
+    fn submit(&mut self, session: Node, op: Op) -> Result<u64, (Fault, Op)> {
+        // what is known of runs is known within the limits of a topology
+        let _limits = self.world.topology();
+        match self.world.submit(session, op) {
+            Ok((number, ended)) => {
+                self.session = session;
+                self.number = number;
+                self.outcome = hear(session, number, None, ended);
+                Ok(number)
+            }
+            Err(refused) => Err(refused),
+        }
+    }
+
+    fn outcome(&mut self, _session: Node, _number: u64) -> Result<Option<Outcome>, Fault> {
+        Ok(self.outcome.take())
+    }
+}
+
+/// Each outcome is taken out of the delivery that ended it: nothing is looked for, and nothing is copied.
+impl Host for Present {
+    ghost world = { λ p. p };
+
+    fn topology(&self) -> &Topology {
+        self.topology()
+    }
+
+    fn ask(&mut self, session: Node, op: Op) -> Result<Outcome, Fault> {
+        let mut awaited = Awaited::new(self, session);
+        let answer = awaited.ask(session, op);
+        let Awaited {
+            world: _world,
+            session: _,
+            number: _,
+            outcome: _outcome,
+        } = awaited;
+        answer
+    }
+}
