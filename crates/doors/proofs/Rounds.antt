@@ -1,6 +1,6 @@
 -- Places in a round, step by step.
-use Rattle.std.proofs.Common.{◌≡◌, ◌∙◌, ◌<◌, ◌+◌, ℕ, zero, suc, List, All, [], ◌∷◌, ◌++◌, take, length, true, false, Option, Some, None, refl, sym, ap, subst, inl, inr, arith}
-use Rattle.std.specs.Prelude.{slice_get, slice_set}
+use Rattle.std.proofs.Common.{◌≡◌, ◌∙◌, ◌<◌, ◌+◌, ℕ, zero, suc, List, All, [], ◌∷◌, ◌++◌, take, length, Bool, true, false, Option, Some, None, refl, sym, ap, subst, inl, inr, arith}
+use Rattle.std.specs.Prelude.{◌⊎◌, slice_get, slice_set}
 use Rattle.std.specs.List.{Contains}
 use Rattle.std.proofs.lemmas.List.Elements.{All-head, All-tail, Contains-push, Contains-push_cases, Contains-append_left}
 use Rattle.std.proofs.lemmas.Bool.{cases_eq}
@@ -14,7 +14,10 @@ use Rattle.readiness.specs.Places.{PlaceTurned, Turns, Rests}
 use Rattle.readiness.specs.Kept.{view, IsNew}
 use Rattle.readiness.specs.Turns.{IsOver, is_open}
 use Rattle.readiness.proofs.Lists.{get_set_same, get_set_other, got_within}
-use Rattle.doors.specs.Rounds.{Place, Closed, Given, GoesOn, AllGoOn, AreNoted, AreTaken, Round}
+use Rattle.doors.specs.declared.listening.Doors.{Doors}
+use Rattle.doors.specs.Silence.{AreMarked, IsSentAway}
+use Rattle.doors.specs.Rounds.{Place, Closed, Given, OnlyAt, GoesOn, AllGoOn, AreNoted, AreTaken, IsSound, MayWait, Round}
+use Rattle.doors.proofs.Silent.{Vacated}
 
 no_one : {A : Type 0} (c : A) (y : Option (Option A)) → y ≡ Some None → y ≡ Some (Some c) → ⊥
 no_one c y e f = cc
@@ -89,6 +92,37 @@ given_at {L = L} xs ys place line was h k =
           inr (line, h.0, h.1, subst (λ (i : ℕ). slice_get xs i ≡ Some None) e was, here)
       | inr ne ↦ inl (get_set_other xs place k (Some h.0) ne)
     ])
+
+-- no other place changes
+pub others_at : {L : Type 0} (xs ys : List (Option (Connection L))) (place : ℕ) (line : L) → ((c : Connection L) × IsNew line c × (ys ≡ slice_set xs place (Some c))) → (k : ℕ) → (place ≡ k → ⊥) → slice_get ys k ≡ slice_get xs k
+others_at {L = L} xs ys place line h k ne = ap (λ (u : List (Option (Connection L))). slice_get u k) h.2 ∙ get_set_other xs place k (Some h.0) ne
+
+-- ## Those that were told
+
+-- nothing changes
+pub only_none : {L : Type 0} (fresh : List ℕ) (xs : List (Option (Connection L))) → OnlyAt fresh xs xs
+only_none fresh xs k = inl refl
+
+-- a place is told, and no other changes
+pub only_at : {L : Type 0} (fresh more : List ℕ) (place : ℕ) (xs ys : List (Option (Connection L))) → more ≡ fresh ++ place ∷ [] → ((k : ℕ) → (place ≡ k → ⊥) → slice_get ys k ≡ slice_get xs k) → OnlyAt more xs ys
+only_at fresh more place xs ys told others k =
+    elim (cases_eq place k) [
+      | inl e ↦ inr (subst (λ (t : List ℕ). Contains t k) (sym told) (subst (λ (i : ℕ). Contains (fresh ++ place ∷ []) i) e (Contains-push fresh place)))
+      | inr ne ↦ inl (others k ne)
+    ]
+
+-- whatever was told is told still
+pub told_more : (fresh more : List ℕ) (place : ℕ) → more ≡ fresh ++ place ∷ [] → (k : ℕ) → Contains fresh k → Contains more k
+told_more fresh more place told k h = subst (λ (t : List ℕ). Contains t k) (sym told) (Contains-append_left fresh (place ∷ []) k h)
+
+pub only_more : {L : Type 0} (fresh more : List ℕ) (xs ys zs : List (Option (Connection L))) → OnlyAt fresh xs ys → OnlyAt more ys zs → ((k : ℕ) → Contains fresh k → Contains more k) → OnlyAt more xs zs
+only_more fresh more xs ys zs h j kept k = elim (j k) [
+  | inl e ↦ elim (h k) [
+    | inl f ↦ inl (e ∙ f)
+    | inr has ↦ inr (kept k has)
+  ]
+  | inr has ↦ inr has
+]
 
 -- ## Free places
 
@@ -200,22 +234,44 @@ stood_before seen_limit seen ready again over old turned closed rests leaves awa
 
 -- ## A round
 
-pub round_of : {L : Type 0} {P : Type 0} (limit : ℕ) (seen : L → ReadyValue) (steps : ℕ → P → Op → Reply → P → Type 0) (old turned closed new : List (Option (Connection L))) (p q : P) (ready again over : List ℕ)
-    → ((log : List Entry) × Turns seen steps log old p turned q) → Rests limit seen ready again over old turned
-    → ((k : ℕ) → Closed seen (slice_get turned k) (slice_get closed k)) → ((k : ℕ) → Contains over k → GoesOn seen (slice_get closed k)) → ((k : ℕ) → Given (slice_get closed k) (slice_get new k)) → (log : List Entry) × Round limit seen steps log ready again old p new q
-round_of limit seen steps old turned closed new p q ready again over turns rests leaves away comes = (
+-- that no free place is noted
+pub taken_then : {L : Type 0} {P : Type 0} (seen : L → ReadyValue) (steps : ℕ → P → Op → Reply → P → Type 0) (old turned closed : List (Option (Connection L))) (p q : P) (free noted : List ℕ) → ((log : List Entry) × Turns seen steps log old p turned q)
+    → (AreNoted turned free → AreNoted closed noted) → noted ≡ [] → AreNoted old free → AreTaken closed
+taken_then seen steps old turned closed p q free noted turns closes none sound = none_noted closed noted none (closes (noted_turned seen steps old p turned q free turns sound))
+
+pub round_of : {L : Type 0} {P : Type 0} {D : Type 0} (limit : ℕ) (seen : L → ReadyValue) (steps : ℕ → P → Op → Reply → P → Type 0) (nobody announces : D → Type 0) (now : ℕ) (old new : Doors L D) (p q : P) (turned closed left : List (Option (Connection L))) (over : List ℕ)
+    → ((log : List Entry) × Turns seen steps log old.hall.places.places.items p turned q) → Rests limit seen new.ready.items new.again.items over old.hall.places.places.items turned
+    → ((k : ℕ) → Closed seen (slice_get turned k) (slice_get closed k)) → ((k : ℕ) → Contains over k → GoesOn seen (slice_get closed k))
+    → AreMarked now ((old.ready.items ++ old.hall.fresh.items) ++ new.ready.items) old.since.items new.since.items
+    → ((left ≡ closed) ⊎ (MayWait announces old × (IsSound seen nobody old → AreTaken closed) × IsSentAway seen old.idle now new.since.items new.again.items closed left))
+    → ((k : ℕ) → Given (slice_get left k) (slice_get new.hall.places.places.items k)) → OnlyAt new.hall.fresh.items left new.hall.places.places.items
+    → (log : List Entry) × Round limit seen steps nobody announces now log old p new q
+round_of limit seen steps nobody announces now old new p q turned closed left over turns rests leaves away marked room comes fresh = (
   turns.0,
   record {
     turned = turned;
     closed = closed;
+    left = left;
     over = over;
     turns = turns.1;
     rests = rests;
     leaves = leaves;
-    away = λ k had c is ended. (stood_before limit seen ready again over old turned closed rests leaves away k c is ended).0 had;
+    away = λ k had c is ended. (stood_before limit seen new.ready.items new.again.items over old.hall.places.places.items turned closed rests leaves away k c is ended).0 had;
+    marked = marked;
+    room = room;
     comes = comes;
+    fresh = fresh;
   },
 )
+
+-- what made room, as a round tells it
+pub room_of : {L : Type 0} {D : Type 0} (seen : L → ReadyValue) (nobody announces : D → Type 0) (now : ℕ) (old : Doors L D) (more : Bool) (noted since again : List ℕ) (closed left : List (Option (Connection L)))
+    → (left ≡ closed) ⊎ ((more ≡ true) × (noted ≡ []) × IsSentAway seen old.idle now since again closed left) → (more ≡ true → MayWait announces old) → (noted ≡ [] → IsSound seen nobody old → AreTaken closed)
+    → (left ≡ closed) ⊎ (MayWait announces old × (IsSound seen nobody old → AreTaken closed) × IsSentAway seen old.idle now since again closed left)
+room_of seen nobody announces now old more noted since again closed left h may taken = elim h [
+  | inl e ↦ inl e
+  | inr m ↦ inr (may m.0, taken m.1, m.2)
+]
 
 open_failed : Open None ≡ Failed → ⊥
 open_failed e = cc
@@ -233,11 +289,15 @@ some_one : {A : Type 0} (x y : A) → Some (Some x) ≡ Some (Some y) → x ≡ 
 some_one x y e = cc
 
 -- no connection is over behind a round, if none was before
-pub all_go_on : {L : Type 0} (limit : ℕ) (seen : L → ReadyValue) (old turned closed new : List (Option (Connection L))) (ready again over : List ℕ) → Rests limit seen ready again over old turned
-    → ((k : ℕ) → Closed seen (slice_get turned k) (slice_get closed k)) → ((k : ℕ) → Contains over k → GoesOn seen (slice_get closed k)) → ((k : ℕ) → Given (slice_get closed k) (slice_get new k)) → AllGoOn seen old → AllGoOn seen new
-all_go_on {L = L} limit seen old turned closed new ready again over rests leaves away comes on k c is ended =
+pub all_go_on : {L : Type 0} (limit : ℕ) (seen : L → ReadyValue) (old turned closed left new : List (Option (Connection L))) (ready again over : List ℕ) → Rests limit seen ready again over old turned
+    → ((k : ℕ) → Closed seen (slice_get turned k) (slice_get closed k)) → ((k : ℕ) → Contains over k → GoesOn seen (slice_get closed k)) → ((k : ℕ) → Vacated (slice_get closed k) (slice_get left k))
+    → ((k : ℕ) → Given (slice_get left k) (slice_get new k)) → AllGoOn seen old → AllGoOn seen new
+all_go_on {L = L} limit seen old turned closed left new ready again over rests leaves away vacates comes on k c is ended =
     elim (comes k) [
-      | inl e ↦ on k c (stood_before limit seen ready again over old turned closed rests leaves away k c (sym e ∙ is) ended).1 ended
+      | inl e ↦ elim (vacates k) [
+        | inl f ↦ on k c (stood_before limit seen ready again over old turned closed rests leaves away k c (sym f ∙ sym e ∙ is) ended).1 ended
+        | inr m ↦ absurd (no_one c (slice_get left k) m.2 (sym e ∙ is))
+      ]
       | inr m ↦ new_goes_on seen m.0 m.1 m.2 (subst (λ (d : Connection L). IsOver (view seen d)) (some_one c m.1 (sym is ∙ m.4)) ended)
     ]
 
@@ -295,3 +355,12 @@ count_closed seen old new h = as_long old new (λ k. agree_closed seen (slice_ge
 
 pub count_given : {L : Type 0} (old new : List (Option (Connection L))) → ((k : ℕ) → Given (slice_get old k) (slice_get new k)) → length new ≡ length old
 count_given old new h = as_long old new (λ k. agree_given (slice_get old k) (slice_get new k) (h k))
+
+agree_vacated : {L : Type 0} (x y : Place L) → Vacated x y → Agree x y
+agree_vacated {L = L} x y h = elim h [
+  | inl e ↦ subst (λ (u : Place L). Agree x u) (sym e) (agree_same x)
+  | inr m ↦ subst (λ (u : Place L). Agree u y) (sym m.1) (subst (λ (u : Place L). Agree (Some (Some m.0)) u) (sym m.2) tt)
+]
+
+pub count_vacated : {L : Type 0} (old new : List (Option (Connection L))) → ((k : ℕ) → Vacated (slice_get old k) (slice_get new k)) → length new ≡ length old
+count_vacated old new h = as_long old new (λ k. agree_vacated (slice_get old k) (slice_get new k) (h k))

@@ -1,6 +1,6 @@
 -- What becomes of connections at places, one moment after the other.
 use Rattle.std.proofs.Common.{◌≡◌, ◌∙◌, ℕ, zero, suc, List, [], ◌∷◌, ◌++◌, ◌==◌, map, Option, Some, None, All, refl, sym, ap, subst, inl, inr, append_assoc}
-use Rattle.std.specs.Prelude.{slice_get, slice_set}
+use Rattle.std.specs.Prelude.{◌⊎◌, slice_get, slice_set}
 use Rattle.std.specs.List.{filter}
 use Rattle.std.proofs.lemmas.Bool.{cases_eq}
 use Rattle.std.proofs.lemmas.List.{append-nil, map-append}
@@ -10,16 +10,17 @@ use Rattle.wire.specs.Replies.{Reply}
 use Rattle.readiness.specs.declared.connection.Connection.{Connection}
 use Rattle.readiness.specs.declared.run.Gone.{Gone}
 use Rattle.readiness.specs.Lines.{ReadyValue}
-use Rattle.readiness.specs.Exchanges.{Exchange, Entry, LogChain, only}
+use Rattle.readiness.specs.Exchanges.{Exchange, Entry, only}
 use Rattle.readiness.specs.Kept.{view, IsNew}
-use Rattle.readiness.specs.Turns.{IsOver}
+use Rattle.readiness.specs.Turns.{IsOver, IsAnswered}
 use Rattle.readiness.specs.Places.{PlaceTurned, Turns}
 use Rattle.readiness.specs.Runs.{Admitted, lines_at, gone_at, standing, Lives}
 use Rattle.readiness.proofs.Lists.{get_set_same, get_set_other, got_within}
 use Rattle.readiness.proofs.Positions.{log-then, only-append}
 use Rattle.readiness.proofs.Lives.{lives-stay, lives-on, lives-more, lines-same, lines-other, gone-same, gone-other, new_kept}
 use Rattle.doors.specs.Doorways.{Gives, lines_of}
-use Rattle.doors.specs.Spans.{Lived, AreOver, HaveLeft, HaveCome, Spans}
+use Rattle.doors.specs.Silence.{IsSentAway}
+use Rattle.doors.specs.Spans.{Lived, AreOver, HaveEnded, HaveLeft, HaveCome, Spans}
 use Rattle.doors.specs.Runs.{HasServed, HasServedLines}
 use Rattle.doors.specs.Memory.{GivesNext}
 use Rattle.doors.specs.declared.memory.MemoryDoor.{MemoryDoor}
@@ -155,10 +156,26 @@ pub come_more : {L : Type 0} {D : Type 0} (seen : L → ReadyValue) (steps : D �
 come_more seen steps d x e y f z h k =
     (h.0 ++ k.0, h.1 ++ k.1, gives-then steps d h.1 e k.1 f h.2 k.2, given_lines h.0 k.0 h.1 k.1 h.3 k.3, lived_then seen [] h.0 [] [] k.0 [] x y z h.4 k.4)
 
+-- ## Those that have ended
+
+abbrev MayLeave : {L : Type 0} → (L → ReadyValue) → Option ℕ → Gone L → Type 0
+MayLeave seen idle g = IsOver (view seen g.connection) ⊎ ((idle ≡ None → ⊥) × IsAnswered (view seen g.connection))
+
+ended_none : {L : Type 0} (seen : L → ReadyValue) (idle : Option ℕ) → HaveEnded seen idle []
+ended_none {L = L} seen idle = All-nil (λ (g : Gone L). MayLeave seen idle g)
+
+ended_over : {L : Type 0} (seen : L → ReadyValue) (idle : Option ℕ) (left : List (Gone L)) → AreOver seen left → HaveEnded seen idle left
+ended_over {L = L} seen idle [] h = ended_none seen idle
+ended_over {L = L} seen idle (g ∷ left) h =
+    All-cons (λ (x : Gone L). MayLeave seen idle x) g left (inl (All-head (λ (x : Gone L). IsOver (view seen x.connection)) g left h)) (ended_over seen idle left (All-tail (λ (x : Gone L). IsOver (view seen x.connection)) g left h))
+
+borne_so : (idle : Option ℕ) (patience : ℕ) → idle ≡ Some patience → idle ≡ None → ⊥
+borne_so idle patience e f = cc
+
 -- ## All of it
 
-pub spans_none : {L : Type 0} {P : Type 0} {D : Type 0} (seen : L → ReadyValue) (asks : ℕ → P → Op → Reply → P → Type 0) (gives : D → Option L → D → Type 0) (d : D) (x : List (Option (Connection L))) (p : P) → Spans seen asks gives d x p d x p
-spans_none {L = L} seen asks gives d x p = record {
+pub spans_none : {L : Type 0} {P : Type 0} {D : Type 0} (seen : L → ReadyValue) (asks : ℕ → P → Op → Reply → P → Type 0) (gives : D → Option L → D → Type 0) (idle : Option ℕ) (d : D) (x : List (Option (Connection L))) (p : P) → Spans seen asks gives idle d x p d x p
+spans_none seen asks gives idle d x p = record {
   log = [];
   chain = refl;
   admitted = [];
@@ -166,13 +183,13 @@ spans_none {L = L} seen asks gives d x p = record {
   calls = [];
   door = refl;
   given = refl;
-  over = All-nil (λ (g : Gone L). IsOver (view seen g.connection));
+  ended = ended_none seen idle;
   lives = lived_none seen x;
 }
 
-pub spans_then : {L : Type 0} {P : Type 0} {D : Type 0} (seen : L → ReadyValue) (asks : ℕ → P → Op → Reply → P → Type 0) (gives : D → Option L → D → Type 0) (d : D) (x : List (Option (Connection L))) (p : P) (e : D) (y : List (Option (Connection L))) (q : P) (f : D) (z : List (Option (Connection L))) (r : P)
-    → Spans seen asks gives d x p e y q → Spans seen asks gives e y q f z r → Spans seen asks gives d x p f z r
-spans_then {L = L} seen asks gives d x p e y q f z r h k = record {
+pub spans_then : {L : Type 0} {P : Type 0} {D : Type 0} (seen : L → ReadyValue) (asks : ℕ → P → Op → Reply → P → Type 0) (gives : D → Option L → D → Type 0) (idle : Option ℕ) (d : D) (x : List (Option (Connection L))) (p : P) (e : D) (y : List (Option (Connection L))) (q : P) (f : D) (z : List (Option (Connection L))) (r : P)
+    → Spans seen asks gives idle d x p e y q → Spans seen asks gives idle e y q f z r → Spans seen asks gives idle d x p f z r
+spans_then {L = L} seen asks gives idle d x p e y q f z r h k = record {
   log = h.log ++ k.log;
   chain = log-then asks p h.log q k.log r h.chain k.chain;
   admitted = h.admitted ++ k.admitted;
@@ -180,13 +197,18 @@ spans_then {L = L} seen asks gives d x p e y q f z r h k = record {
   calls = h.calls ++ k.calls;
   door = gives-then gives d h.calls e k.calls f h.door k.door;
   given = given_lines h.admitted k.admitted h.calls k.calls h.given k.given;
-  over = All-append (λ (g : Gone L). IsOver (view seen g.connection)) h.left k.left h.over k.over;
+  ended = All-append (λ (g : Gone L). MayLeave seen idle g) h.left k.left h.ended k.ended;
   lives = lived_then seen h.log h.admitted h.left k.log k.admitted k.left x y z h.lives k.lives;
 }
 
+-- as long as those that send nothing are borne for as long as before
+pub spans_next : {L : Type 0} {P : Type 0} {D : Type 0} (seen : L → ReadyValue) (asks : ℕ → P → Op → Reply → P → Type 0) (gives : D → Option L → D → Type 0) (idle : Option ℕ) (d : D) (x : List (Option (Connection L))) (p : P) (now : Option ℕ) (e : D) (y : List (Option (Connection L))) (q : P) (f : D) (z : List (Option (Connection L))) (r : P)
+    → now ≡ idle → Spans seen asks gives idle d x p e y q → Spans seen asks gives now e y q f z r → Spans seen asks gives idle d x p f z r
+spans_next seen asks gives idle d x p now e y q f z r same h k = spans_then seen asks gives idle d x p e y q f z r h (subst (λ (i : Option ℕ). Spans seen asks gives i e y q f z r) same k)
+
 -- the door was waited at
-pub spans_waited : {L : Type 0} {P : Type 0} {D : Type 0} (seen : L → ReadyValue) (asks : ℕ → P → Op → Reply → P → Type 0) (gives : D → Option L → D → Type 0) (d e : D) (x : List (Option (Connection L))) (p : P) → gives d None e → Spans seen asks gives d x p e x p
-spans_waited {L = L} seen asks gives d e x p h = record {
+pub spans_waited : {L : Type 0} {P : Type 0} {D : Type 0} (seen : L → ReadyValue) (asks : ℕ → P → Op → Reply → P → Type 0) (gives : D → Option L → D → Type 0) (idle : Option ℕ) (d e : D) (x : List (Option (Connection L))) (p : P) → gives d None e → Spans seen asks gives idle d x p e x p
+spans_waited seen asks gives idle d e x p h = record {
   log = [];
   chain = refl;
   admitted = [];
@@ -194,12 +216,12 @@ spans_waited {L = L} seen asks gives d e x p h = record {
   calls = None ∷ [];
   door = (e, h, refl);
   given = refl;
-  over = All-nil (λ (g : Gone L). IsOver (view seen g.connection));
+  ended = ended_none seen idle;
   lives = lived_none seen x;
 }
 
-pub spans_turned : {L : Type 0} {P : Type 0} {D : Type 0} (seen : L → ReadyValue) (asks : ℕ → P → Op → Reply → P → Type 0) (gives : D → Option L → D → Type 0) (d : D) (x : List (Option (Connection L))) (p : P) (y : List (Option (Connection L))) (q : P) → ((log : List Entry) × Turns seen asks log x p y q) → Spans seen asks gives d x p d y q
-spans_turned {L = L} seen asks gives d x p y q h = record {
+spans_turned : {L : Type 0} {P : Type 0} {D : Type 0} (seen : L → ReadyValue) (asks : ℕ → P → Op → Reply → P → Type 0) (gives : D → Option L → D → Type 0) (idle : Option ℕ) (d : D) (x : List (Option (Connection L))) (p : P) (y : List (Option (Connection L))) (q : P) → ((log : List Entry) × Turns seen asks log x p y q) → Spans seen asks gives idle d x p d y q
+spans_turned seen asks gives idle d x p y q h = record {
   log = h.0;
   chain = h.1.chain;
   admitted = [];
@@ -207,29 +229,56 @@ spans_turned {L = L} seen asks gives d x p y q h = record {
   calls = [];
   door = refl;
   given = refl;
-  over = All-nil (λ (g : Gone L). IsOver (view seen g.connection));
+  ended = ended_none seen idle;
   lives = lived_turns seen asks h.0 x p y q h.1;
 }
 
-pub spans_left : {L : Type 0} {P : Type 0} {D : Type 0} (seen : L → ReadyValue) (asks : ℕ → P → Op → Reply → P → Type 0) (gives : D → Option L → D → Type 0) (d : D) (x y : List (Option (Connection L))) (p : P) → HaveLeft seen x y → Spans seen asks gives d x p d y p
-spans_left seen asks gives d x y p h = record { log = []; chain = refl; admitted = []; left = h.0; calls = []; door = refl; given = refl; over = h.1; lives = h.2 }
+spans_left : {L : Type 0} {P : Type 0} {D : Type 0} (seen : L → ReadyValue) (asks : ℕ → P → Op → Reply → P → Type 0) (gives : D → Option L → D → Type 0) (idle : Option ℕ) (d : D) (x y : List (Option (Connection L))) (p : P) → HaveLeft seen x y → Spans seen asks gives idle d x p d y p
+spans_left seen asks gives idle d x y p h = record { log = []; chain = refl; admitted = []; left = h.0; calls = []; door = refl; given = refl; ended = ended_over seen idle h.0 h.1; lives = h.2 }
 
-pub spans_come : {L : Type 0} {P : Type 0} {D : Type 0} (seen : L → ReadyValue) (asks : ℕ → P → Op → Reply → P → Type 0) (gives : D → Option L → D → Type 0) (d : D) (x : List (Option (Connection L))) (p : P) (e : D) (y : List (Option (Connection L))) → HaveCome seen gives d x e y → Spans seen asks gives d x p e y p
-spans_come {L = L} seen asks gives d x p e y h = record { log = []; chain = refl; admitted = h.0; left = []; calls = h.1; door = h.2; given = h.3; over = All-nil (λ (g : Gone L). IsOver (view seen g.connection)); lives = h.4 }
+-- one was sent away
+spans_sent : {L : Type 0} {P : Type 0} {D : Type 0} (seen : L → ReadyValue) (asks : ℕ → P → Op → Reply → P → Type 0) (gives : D → Option L → D → Type 0) (idle : Option ℕ) (now : ℕ) (since again : List ℕ) (d : D) (x y : List (Option (Connection L))) (p : P) → IsSentAway seen idle now since again x y → Spans seen asks gives idle d x p d y p
+spans_sent {L = L} seen asks gives idle now since again d x y p h = record {
+  log = [];
+  chain = refl;
+  admitted = [];
+  left = record { place = h.place; connection = h.connection } ∷ [];
+  calls = [];
+  door = refl;
+  given = refl;
+  ended = All-cons (λ (g : Gone L). MayLeave seen idle g) (record { place = h.place; connection = h.connection }) [] (inr (borne_so idle h.patience h.borne, h.answered)) (ended_none seen idle);
+  lives = lived_left seen x y h.place h.connection h.stood h.left;
+}
+
+spans_room : {L : Type 0} {P : Type 0} {D : Type 0} {A : Type 0} {B : Type 0} (seen : L → ReadyValue) (asks : ℕ → P → Op → Reply → P → Type 0) (gives : D → Option L → D → Type 0) (idle : Option ℕ) (now : ℕ) (since again : List ℕ) (d : D) (x y : List (Option (Connection L))) (p : P)
+    → (y ≡ x) ⊎ (A × B × IsSentAway seen idle now since again x y) → Spans seen asks gives idle d x p d y p
+spans_room {L = L} seen asks gives idle now since again d x y p h = elim h [
+  | inl e ↦ subst (λ (u : List (Option (Connection L))). Spans seen asks gives idle d x p d u p) (sym e) (spans_none seen asks gives idle d x p)
+  | inr m ↦ spans_sent seen asks gives idle now since again d x y p m.2
+]
+
+spans_come : {L : Type 0} {P : Type 0} {D : Type 0} (seen : L → ReadyValue) (asks : ℕ → P → Op → Reply → P → Type 0) (gives : D → Option L → D → Type 0) (idle : Option ℕ) (d : D) (x : List (Option (Connection L))) (p : P) (e : D) (y : List (Option (Connection L))) → HaveCome seen gives d x e y → Spans seen asks gives idle d x p e y p
+spans_come seen asks gives idle d x p e y h = record { log = []; chain = refl; admitted = h.0; left = []; calls = h.1; door = h.2; given = h.3; ended = ended_none seen idle; lives = h.4 }
 
 -- ## A round, step by step
 
 -- up to the closing
-pub spans_closed : {L : Type 0} {P : Type 0} {D : Type 0} (seen : L → ReadyValue) (asks : ℕ → P → Op → Reply → P → Type 0) (gives : D → Option L → D → Type 0) (d e : D) (x : List (Option (Connection L))) (p : P) (y : List (Option (Connection L))) (q : P) (z : List (Option (Connection L)))
-    → gives d None e → ((log : List Entry) × Turns seen asks log x p y q) → HaveLeft seen y z → Spans seen asks gives d x p e z q
-spans_closed seen asks gives d e x p y q z waited turned left =
-    spans_then seen asks gives d x p e y q e z q (spans_then seen asks gives d x p e x p e y q (spans_waited seen asks gives d e x p waited) (spans_turned seen asks gives e x p y q turned)) (spans_left seen asks gives e y z q left)
+pub spans_closed : {L : Type 0} {P : Type 0} {D : Type 0} (seen : L → ReadyValue) (asks : ℕ → P → Op → Reply → P → Type 0) (gives : D → Option L → D → Type 0) (idle : Option ℕ) (d e : D) (x : List (Option (Connection L))) (p : P) (y : List (Option (Connection L))) (q : P) (z : List (Option (Connection L)))
+    → gives d None e → ((log : List Entry) × Turns seen asks log x p y q) → HaveLeft seen y z → Spans seen asks gives idle d x p e z q
+spans_closed seen asks gives idle d e x p y q z waited turned left =
+    spans_then seen asks gives idle d x p e y q e z q (spans_then seen asks gives idle d x p e x p e y q (spans_waited seen asks gives idle d e x p waited) (spans_turned seen asks gives idle e x p y q turned)) (spans_left seen asks gives idle e y z q left)
+
+-- up to who was sent away
+pub spans_made : {L : Type 0} {P : Type 0} {D : Type 0} {A : Type 0} {B : Type 0} (seen : L → ReadyValue) (asks : ℕ → P → Op → Reply → P → Type 0) (gives : D → Option L → D → Type 0) (idle : Option ℕ) (now : ℕ) (since again : List ℕ) (d e : D) (x : List (Option (Connection L))) (p : P) (y : List (Option (Connection L))) (q : P) (z v : List (Option (Connection L)))
+    → gives d None e → ((log : List Entry) × Turns seen asks log x p y q) → HaveLeft seen y z → (v ≡ z) ⊎ (A × B × IsSentAway seen idle now since again z v) → Spans seen asks gives idle d x p e v q
+spans_made seen asks gives idle now since again d e x p y q z v waited turned left room =
+    spans_then seen asks gives idle d x p e z q e v q (spans_closed seen asks gives idle d e x p y q z waited turned left) (spans_room seen asks gives idle now since again e z v q room)
 
 -- all of it
-pub spans_round : {L : Type 0} {P : Type 0} {D : Type 0} (seen : L → ReadyValue) (asks : ℕ → P → Op → Reply → P → Type 0) (gives : D → Option L → D → Type 0) (d e f : D) (x : List (Option (Connection L))) (p : P) (y : List (Option (Connection L))) (q : P) (z u : List (Option (Connection L)))
-    → gives d None e → ((log : List Entry) × Turns seen asks log x p y q) → HaveLeft seen y z → HaveCome seen gives e z f u → Spans seen asks gives d x p f u q
-spans_round seen asks gives d e f x p y q z u waited turned left come =
-    spans_then seen asks gives d x p e z q f u q (spans_closed seen asks gives d e x p y q z waited turned left) (spans_come seen asks gives e z q f u come)
+pub spans_round : {L : Type 0} {P : Type 0} {D : Type 0} {A : Type 0} {B : Type 0} (seen : L → ReadyValue) (asks : ℕ → P → Op → Reply → P → Type 0) (gives : D → Option L → D → Type 0) (idle : Option ℕ) (now : ℕ) (since again : List ℕ) (d e f : D) (x : List (Option (Connection L))) (p : P) (y : List (Option (Connection L))) (q : P) (z v u : List (Option (Connection L)))
+    → gives d None e → ((log : List Entry) × Turns seen asks log x p y q) → HaveLeft seen y z → (v ≡ z) ⊎ (A × B × IsSentAway seen idle now since again z v) → HaveCome seen gives e v f u → Spans seen asks gives idle d x p f u q
+spans_round seen asks gives idle now since again d e f x p y q z v u waited turned left room come =
+    spans_then seen asks gives idle d x p e v q f u q (spans_made seen asks gives idle now since again d e x p y q z v waited turned left room) (spans_come seen asks gives idle e v q f u come)
 
 -- ## From the beginning
 
@@ -239,13 +288,13 @@ nobody_stands {L = L} (x ∷ places) zero free = ap (λ (c : Option (Connection 
 nobody_stands {L = L} (x ∷ places) (suc k) free = nobody_stands places k (All-tail (λ (c : Option (Connection L)). c ≡ None) x places free)
 
 -- all places were free
-pub served : {L : Type 0} {P : Type 0} {D : Type 0} (seen : L → ReadyValue) (asks : ℕ → P → Op → Reply → P → Type 0) (gives : D → Option L → D → Type 0) (d : D) (x : List (Option (Connection L))) (p : P) (e : D) (y : List (Option (Connection L))) (q : P)
-    → All (λ (c : Option (Connection L)). c ≡ None) x → Spans seen asks gives d x p e y q → HasServed seen asks gives d p e y q
-served {L = L} seen asks gives d x p e y q free h = (
+pub served : {L : Type 0} {P : Type 0} {D : Type 0} (seen : L → ReadyValue) (asks : ℕ → P → Op → Reply → P → Type 0) (gives : D → Option L → D → Type 0) (idle : Option ℕ) (d : D) (x : List (Option (Connection L))) (p : P) (e : D) (y : List (Option (Connection L))) (q : P)
+    → All (λ (c : Option (Connection L)). c ≡ None) x → Spans seen asks gives idle d x p e y q → HasServed seen asks gives idle d p e y q
+served {L = L} seen asks gives idle d x p e y q free h = (
   h.calls,
   h.door,
   h.left,
-  h.over,
+  h.ended,
   (
     h.admitted,
     h.given,
@@ -264,5 +313,5 @@ given_first d [] e h = ap (λ (x : MemoryDoor). x.lines.items) h
 given_first d (None ∷ calls) e h = sym h.1 ∙ given_first h.0 calls e h.2
 given_first d (Some line ∷ calls) e h = h.1 ∙ ap (λ (t : List MemoryValue). line ∷ t) (given_first h.0 calls e h.2)
 
-pub served_lines : {P : Type 0} (asks : ℕ → P → Op → Reply → P → Type 0) (d : MemoryDoor) (p : P) (e : MemoryDoor) (y : List (Option (Connection MemoryValue))) (q : P) → HasServed line_of asks GivesNext d p e y q → HasServedLines asks d.lines.items p e.lines.items y q
-served_lines asks d p e y q h = (lines_of h.0, given_first d h.0 e h.1, h.2, h.3, h.4)
+pub served_lines : {P : Type 0} (asks : ℕ → P → Op → Reply → P → Type 0) (idle : Option ℕ) (d : MemoryDoor) (p : P) (e : MemoryDoor) (y : List (Option (Connection MemoryValue))) (q : P) → HasServed line_of asks GivesNext idle d p e y q → HasServedLines asks idle d.lines.items p e.lines.items y q
+served_lines asks idle d p e y q h = (lines_of h.0, given_first d h.0 e h.1, h.2, h.3, h.4)

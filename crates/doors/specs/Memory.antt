@@ -1,5 +1,5 @@
 -- A door in memory.
-use Rattle.std.specs.Prelude.{◌≡◌, ◌⊎◌, ◌∷◌, ℕ, List, [], Option, Some, None}
+use Rattle.std.specs.Prelude.{◌≡◌, ◌<◌, ◌⊎◌, ◌∷◌, ℕ, List, [], Option, Some, None}
 use Rattle.readiness.specs.Memory.{MemoryValue}
 use Rattle.doors.specs.declared.memory.MemoryDoor.{MemoryDoor}
 use Rattle.doors.specs.declared.memory.Moment.{Moment}
@@ -12,6 +12,10 @@ GivesNext d (Some line) e = d.lines.items ≡ line ∷ e.lines.items
 -- the places that are ready are those of the next wait in its list
 abbrev pub tells_next : MemoryDoor → List ℕ → Type 0
 tells_next d told = (moment : Moment) × (rest : List Moment) × (d.moments.items ≡ moment ∷ rest) × (told ≡ moment.ready.items)
+
+-- more come in the next wait in its list
+abbrev pub brings_more : MemoryDoor → Type 0
+brings_more d = (moment : Moment) × (rest : List Moment) × (d.moments.items ≡ moment ∷ rest) × (0 < moment.come)
 
 -- nobody who came is still to be given
 abbrev pub IsEmpty : MemoryDoor → Type 0

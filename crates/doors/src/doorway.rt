@@ -1,5 +1,5 @@
 //! By what connections come, and what tells which of them are ready.
-ghost use Rattle.std.specs.Prelude.{◌≡◌, ◌++◌, ℕ, List, Option, None, false, IfOk, OnOk};
+ghost use Rattle.std.specs.Prelude.{◌≡◌, ◌++◌, ℕ, List, Option, None, true, false, IfOk, OnOk};
 ghost use Rattle.doors.specs.Doorways.{line_of};
 
 use logical_time::Fault;
@@ -26,6 +26,9 @@ pub trait Doorway<L> {
     /// Which places it may call ready next.
     ghost tells: { Self → List ℕ → Type 0 };
 
+    /// The next wait may tell that somebody came.
+    ghost announces: { Self → Type 0 };
+
     /// Nobody waits to be accepted, as far as it told.
     ghost nobody: { Self → Type 0 };
 
@@ -38,7 +41,8 @@ pub trait Doorway<L> {
     fn wait(&mut self, patience: Option<Duration>, ready: &mut Vec<usize>) -> Result<bool, Fault>
         ensures step { steps self.old None self.new }
         ensures told { OnOk result ((told : List ℕ) × (ready.new.items ≡ ready.old.items ++ told) × tells self.old told) }
-        ensures nobody_came { IfOk result (λ came. came ≡ false → nobody self.old → nobody self.new) };
+        ensures nobody_came { IfOk result (λ came. came ≡ false → nobody self.old → nobody self.new) }
+        ensures announced { IfOk result (λ came. came ≡ true → announces self.old) };
 
     /// Accepts one who came, whose line is then known by this place, and doesn't wait.
     fn accept(&mut self, place: usize) -> Accepted<L>

@@ -1,5 +1,5 @@
 //! Places, who stands there, and which are free.
-ghost use Rattle.std.specs.Prelude.{◌≡◌, ◌<◌, ◌∷◌, [], ℕ, List, All, None, Some, Contains, IfOk, OnOk, length, slice_get};
+ghost use Rattle.std.specs.Prelude.{◌≡◌, ◌<◌, ◌∷◌, [], ℕ, List, All, None, Some, Contains, IfOk, OnOk, length, slice_get, slice_set};
 ghost use Rattle.doors.specs.Rounds.{Closed, Given, GoesOn, AreNoted};
 ghost use Rattle.doors.specs.Spans.{HaveLeft, Lived};
 
@@ -27,6 +27,8 @@ pub(crate) struct Hall<L> {
     pub(crate) free: Vec<usize>,
     // The number of the connection that was given each place last.
     numbers: Vec<u64>,
+    // The places that were offered to those who came in the last round.
+    pub(crate) fresh: Vec<usize>,
     pub(crate) ended: Vec<Ended>,
     pub(crate) accepted: u64,
 }
@@ -66,6 +68,15 @@ fn count(numbers: &mut [u64], accepted: &mut u64, place: usize) {
     *accepted = accepted.saturating_add(1);
 }
 
+/// So many zeros.
+pub(crate) fn zeros(alloc: Global, count: usize) -> Result<Vec<u64>, AllocError> {
+    let mut zeros = Vec::with_capacity(alloc, count)?;
+    for _ in 0..count {
+        zeros.push(0)?;
+    }
+    Ok(zeros)
+}
+
 // So many places, of which the first is last.
 fn all_places(alloc: Global, places: usize) -> Result<Vec<usize>, AllocError>
     ensures { IfOk result (λ free. (k : ℕ) → k < places → Contains free.items k) }
@@ -84,15 +95,12 @@ impl<L: Drop> Hall<L> {
         ensures free { IfOk result (λ h. All (λ c. c ≡ None) h.places.places.items) }
         ensures noted { IfOk result (λ h. AreNoted h.places.places.items h.free.items) }
     {
-        let mut numbers = Vec::with_capacity(alloc, places)?;
-        for _ in 0..places {
-            numbers.push(0)?;
-        }
         Ok(Hall {
             alloc,
             places: Places::new(alloc, places)?,
             free: all_places(alloc, places)?,
-            numbers,
+            numbers: zeros(alloc, places)?,
+            fresh: Vec::new(alloc),
             ended: Vec::new(alloc),
             accepted: 0,
         })
@@ -100,10 +108,21 @@ impl<L: Drop> Hall<L> {
 
     /// One came who was to be given this place, and can't be heard.
     pub(crate) fn lose(&mut self, place: usize) -> Result<(), AllocError>
-        ensures { (self.new.places ≡ self.old.places) × (self.new.free ≡ self.old.free) }
+        ensures { (self.new.places ≡ self.old.places) × (self.new.free ≡ self.old.free) × (self.new.fresh.items ≡ self.old.fresh.items) }
     {
         count(&mut self.numbers, &mut self.accepted, place);
         tell(&mut self.ended, &self.numbers, place, Fault::ReadFailed)?;
+        Ok(())
+    }
+
+    /// Frees a place, and the connection that stands there leaves.
+    pub(crate) fn dismiss(&mut self, place: usize) -> Result<(), AllocError>
+        requires { place < length self.old.places.places.items }
+        ensures left { self.new.places.places.items ≡ slice_set self.old.places.places.items place None }
+        ensures noted { OnOk result (AreNoted self.old.places.places.items self.old.free.items → AreNoted self.new.places.places.items self.new.free.items) }
+    {
+        let _gone = self.places.release(place);
+        self.free.push(place)?;
         Ok(())
     }
 }
@@ -115,7 +134,9 @@ impl<L: ReadyLine + Drop> Hall<L> {
         ensures comes { (k : ℕ) → Given (slice_get self.old.places.places.items k) (slice_get self.new.places.places.items k) }
         ensures lives { Lived L.seen [] (record { place = place; line = line } ∷ []) [] self.old.places.places.items self.new.places.places.items }
         ensures taken { slice_get self.new.places.places.items place ≡ Some None → ⊥ }
+        ensures others { (k : ℕ) → (place ≡ k → ⊥) → slice_get self.new.places.places.items k ≡ slice_get self.old.places.places.items k }
         ensures noted { self.new.free ≡ self.old.free }
+        ensures fresh { self.new.fresh.items ≡ self.old.fresh.items }
     {
         count(&mut self.numbers, &mut self.accepted, place);
         self.places.admit(self.alloc, place, line);

@@ -10,6 +10,7 @@ mod hall;
 mod listening;
 mod memory;
 mod running;
+mod silence;
 mod socket;
 mod sockets;
 

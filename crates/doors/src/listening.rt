@@ -1,5 +1,5 @@
 //! Doors: those who come by a door, each at a place, in rounds.
-ghost use Rattle.std.specs.Prelude.{◌≡◌, ◌++◌, ◌⊎◌, [], ℕ, List, All, true, false, None, OnOk, IfOk, length};
+ghost use Rattle.std.specs.Prelude.{◌≡◌, ◌++◌, ◌⊎◌, [], ℕ, List, All, true, false, None, Some, OnOk, IfOk, length};
 ghost use Rattle.readiness.specs.declared.connection.TheConstants.{LIMIT};
 ghost use Rattle.readiness.specs.Exchanges.{Entry, LogChain};
 ghost use Rattle.doors.specs.Rounds.{Round, IsSound, AreTaken};
@@ -7,7 +7,8 @@ ghost use Rattle.doors.specs.Spans.{Spans};
 
 use crate::accepting::accept_all;
 use crate::doorway::Doorway;
-use crate::hall::{Ended, Hall};
+use crate::hall::{Ended, Hall, zeros};
+use crate::silence::{make_room, mark, mark_last};
 use crate::socket::ReadySocket;
 use crate::sockets::Sockets;
 use logical_time::Fault;
@@ -23,6 +24,9 @@ const PIECE: usize = 16_384;
 // How soon accepting is tried again after it failed, in milliseconds.
 const PAUSE: u64 = 100;
 
+// How soon those that stand at places are looked at again, where one may have to leave, in milliseconds.
+const LOOK: u64 = 1_000;
+
 /// Doors: a door by which lines come, so many places, and the connections that stand there. Where all places are taken, more
 /// wait before the door.
 #[derive(Drop)]
@@ -36,6 +40,12 @@ pub struct Doors<L = ReadySocket, D = Sockets> {
     over: Vec<usize>,
     // Whether more may wait to be accepted.
     pub(crate) more: bool,
+    // For how long those that send nothing are borne, where others may wait, in milliseconds; for ever for none.
+    pub(crate) idle: Option<u64>,
+    // For each place when the round began behind the last in which its connection was ready, or came.
+    pub(crate) since: Vec<u64>,
+    // The place that is looked at next.
+    hand: usize,
     buffer: [u8; PIECE],
 }
 
@@ -50,6 +60,7 @@ fn wait<L, D: Doorway<L>>(
     ensures step { D.steps door.old None door.new }
     ensures promised { OnOk result ((told : List ℕ) × (ready.new.items ≡ again.old.items ++ told) × D.tells door.old told) }
     ensures known { OnOk result ((more.old ≡ false → D.nobody door.old) → more.new ≡ false → D.nobody door.new) }
+    ensures may { OnOk result (more.new ≡ true → (more.old ≡ true) ⊎ D.announces door.old) }
 {
     mem::swap(ready, again);
     again.clear();
@@ -66,6 +77,7 @@ impl Doors<ReadySocket, Sockets> {
         ensures count { IfOk result (λ d. length d.hall.places.places.items ≡ places) }
         ensures free { IfOk result (λ d. All (λ c. c ≡ None) d.hall.places.places.items) }
         ensures none_promised { IfOk result (λ d. d.again.items ≡ []) }
+        ensures borne { IfOk result (λ d. d.idle ≡ None) }
         ensures sound { IfOk result (λ d. IsSound ⟦<ReadySocket as ReadyLine>⟧.seen ⟦<Sockets as Doorway<ReadySocket>>⟧.nobody d) }
     {
         Doors::new(alloc, Sockets::open(rt, alloc, port)?, places)
@@ -78,12 +90,14 @@ impl Doors<ReadySocket, Sockets> {
 }
 
 impl<L: ReadyLine + Drop, D: Doorway<L> + Drop> Doors<L, D> {
-    /// The doors of a door before any call, with so many free places. Refused with `Memory`.
+    /// The doors of a door before any call, with so many free places. Who sends nothing is borne for ever. Refused with
+    /// `Memory`.
     pub fn new(alloc: Global, door: D, places: usize) -> Result<Doors<L, D>, Fault>
         ensures door { IfOk result (λ d. d.door ≡ door) }
         ensures count { IfOk result (λ d. length d.hall.places.places.items ≡ places) }
         ensures free { IfOk result (λ d. All (λ c. c ≡ None) d.hall.places.places.items) }
         ensures none_promised { IfOk result (λ d. d.again.items ≡ []) }
+        ensures borne { IfOk result (λ d. d.idle ≡ None) }
         ensures sound { IfOk result (λ d. IsSound L.seen D.nobody d) }
     {
         Ok(Doors {
@@ -94,8 +108,21 @@ impl<L: ReadyLine + Drop, D: Doorway<L> + Drop> Doors<L, D> {
             again: Vec::new(alloc),
             over: Vec::new(alloc),
             more: true,
+            idle: None,
+            since: zeros(alloc, places)?,
+            hand: 0,
             buffer: [0; PIECE],
         })
+    }
+
+    /// The same doors, which bear those that send nothing for so many milliseconds, where others may wait for a place.
+    pub fn with_idle(self, idle: u64) -> Doors<L, D>
+        ensures { result ≡ record self { idle = Some idle } }
+    {
+        Doors {
+            idle: Some(idle),
+            ..self
+        }
     }
 
     /// How many connections were given a place.
@@ -119,8 +146,8 @@ impl<L: ReadyLine + Drop, D: Doorway<L> + Drop> Doors<L, D> {
         self.hall.places.are_free()
     }
 
-    // How long a round waits: not at all where a connection was promised a turn, and not for long where a place is free and
-    // somebody may wait.
+    // How long a round waits: not at all where a connection was promised a turn, and not for long where somebody may
+    // wait and a place is free, or one that sends nothing may have to leave.
     fn patience(&self) -> Option<Duration> {
         if !self.again.is_empty() {
             return Some(Duration::ZERO);
@@ -128,26 +155,34 @@ impl<L: ReadyLine + Drop, D: Doorway<L> + Drop> Doors<L, D> {
         if self.more && !self.hall.free.is_empty() {
             return Some(Duration::from_millis(PAUSE));
         }
+        if self.more && self.idle.is_some() {
+            return Some(Duration::from_millis(LOOK));
+        }
         None
     }
 
-    /// Waits until a connection is ready or comes, gives each that is ready or was promised one a turn, closes those that are
-    /// over, and gives free places to those that came. Refused with `ReadFailed` where the door can't wait, and with `Memory`;
-    /// then readiness may be lost, and no further round should be asked for. Each request costs what the port takes for it, and a
-    /// round what is ready, whatever else stands there; a connection that is ready costs two to four calls of its line.
-    pub fn round<P: SharedPort>(&mut self, port: &mut P) -> Result<(), Fault>
+    /// Waits until a connection is ready or comes, gives each that is ready or was promised one a turn, closes those
+    /// that are over, sends away one that has rested, where no place is free and more may wait, and gives free places
+    /// to those that came. `time` is when it begins, in milliseconds since some beginning; where it goes back, nobody
+    /// leaves early. Refused with `ReadFailed` where the door can't wait, and with `Memory`; then readiness may be
+    /// lost, and no further round should be asked for. Each request costs what the port takes for it, and a round what
+    /// is ready, and a look at no more than 1,024 places, whatever else stands there; a connection that is ready costs
+    /// two to four calls of its line.
+    pub fn round<P: SharedPort>(&mut self, port: &mut P, time: u64) -> Result<(), Fault>
         // whatever was ready, the port goes through one chain of its steps
         ensures chain { (log : List Entry) × LogChain P.steps port.old log port.new }
         // who was promised a turn is among those that are ready
         ensures promised { OnOk result ((told : List ℕ) × (self.new.ready.items ≡ self.old.again.items ++ told) × D.tells self.old.door told) }
-        ensures round { OnOk result ((log : List Entry) × Round LIMIT L.seen P.steps log self.new.ready.items self.new.again.items self.old.hall.places.places.items port.old self.new.hall.places.places.items port.new) }
+        ensures round { OnOk result ((log : List Entry) × Round LIMIT L.seen P.steps D.nobody D.announces time log self.old port.old self.new port.new) }
         // where a place is free, nobody waits for one, or accepting was refused
         ensures given { OnOk result (IsSound L.seen D.nobody self.old → AreTaken self.new.hall.places.places.items ⊎ (D.nobody self.new.door ⊎ D.refuses self.new.door)) }
         ensures sound { OnOk result (IsSound L.seen D.nobody self.old → IsSound L.seen D.nobody self.new) }
         ensures count { length self.new.hall.places.places.items ≡ length self.old.hall.places.places.items }
-        ensures spans { Spans L.seen P.steps D.steps self.old.door self.old.hall.places.places.items port.old self.new.door self.new.hall.places.places.items port.new }
+        ensures borne { self.new.idle ≡ self.old.idle }
+        ensures spans { Spans L.seen P.steps D.steps self.old.idle self.old.door self.old.hall.places.places.items port.old self.new.door self.new.hall.places.places.items port.new }
     {
         self.hall.ended.clear();
+        mark_last(&mut self.since, &self.ready, &mut self.hall.fresh, time);
         let patience = self.patience();
         wait::<L, D>(
             &mut self.door,
@@ -156,6 +191,7 @@ impl<L: ReadyLine + Drop, D: Doorway<L> + Drop> Doors<L, D> {
             &mut self.again,
             &mut self.more,
         )?;
+        mark(&mut self.since, &self.ready, time);
         turns(
             self.alloc,
             port,
@@ -167,18 +203,28 @@ impl<L: ReadyLine + Drop, D: Doorway<L> + Drop> Doors<L, D> {
         )?;
         self.hall.close_all(&self.door, &self.over)?;
         self.over.clear();
+        make_room(
+            &mut self.hall,
+            &self.since,
+            &self.again,
+            self.more,
+            self.idle,
+            time,
+            &mut self.hand,
+        )?;
         accept_all(&mut self.door, &mut self.hall, &mut self.more)?;
         Ok(())
     }
 
-    /// So many rounds, one after the other. Refused as `round` is, with the first that is.
-    pub fn rounds<P: SharedPort>(&mut self, port: &mut P, count: u64) -> Result<(), Fault>
-        ensures spans { Spans L.seen P.steps D.steps self.old.door self.old.hall.places.places.items port.old self.new.door self.new.hall.places.places.items port.new }
+    /// One round for each of these times, one after the other. Refused as `round` is, with the first that is.
+    pub fn rounds<P: SharedPort>(&mut self, port: &mut P, times: &[u64]) -> Result<(), Fault>
+        ensures spans { Spans L.seen P.steps D.steps self.old.idle self.old.door self.old.hall.places.places.items port.old self.new.door self.new.hall.places.places.items port.new }
         ensures sound { OnOk result (IsSound L.seen D.nobody self.old → IsSound L.seen D.nobody self.new) }
         ensures count { length self.new.hall.places.places.items ≡ length self.old.hall.places.places.items }
+        ensures borne { self.new.idle ≡ self.old.idle }
     {
-        for _ in 0..count {
-            self.round(port)?;
+        for time in times {
+            self.round(port, *time)?;
         }
         Ok(())
     }

@@ -1,6 +1,6 @@
 //! A door in memory.
 ghost use Rattle.std.specs.Prelude.{◌≡◌};
-ghost use Rattle.doors.specs.Memory.{GivesNext, tells_next, IsEmpty};
+ghost use Rattle.doors.specs.Memory.{GivesNext, tells_next, brings_more, IsEmpty};
 
 use crate::doorway::{Accepted, Doorway};
 use logical_time::Fault;
@@ -46,6 +46,8 @@ impl Doorway<MemoryLine> for MemoryDoor {
     ghost steps = { GivesNext };
 
     ghost tells = { tells_next };
+
+    ghost announces = { brings_more };
 
     ghost nobody = { IsEmpty };
 

@@ -71,6 +71,8 @@ impl Doorway<ReadySocket> for Sockets {
 
     ghost tells = { λ d told. Unit {0} };
 
+    ghost announces = { λ d. Unit {0} };
+
     ghost nobody = { λ d. Unit {0} };
 
     ghost refuses = { λ d. Unit {0} };

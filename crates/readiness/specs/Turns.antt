@@ -105,6 +105,10 @@ Flushed v w = (w.stage ≡ Failed) ⊎ ((is_open w.stage ≡ is_open v.stage) ×
 abbrev pub IsOver : View → Type 0
 IsOver v = (v.stage ≡ Failed) ⊎ ((is_open v.stage ≡ false) × IsDone v)
 
+-- all requests that were read are answered
+abbrev pub IsAnswered : View → Type 0
+IsAnswered v = v.reader.held ≡ []
+
 -- Why it waits: all has gone, or the line has no room; and nothing more has come, or nothing more is read, or too much
 -- waits. So the line tells when it is to go on.
 abbrev pub WaitsFor : ℕ → View → Type 0

@@ -1,7 +1,7 @@
 //! A connection, as it stands between two turns.
 ghost use Rattle.std.specs.Prelude.{◌≡◌, true, false};
 ghost use Rattle.readiness.specs.Kept.{IsNew, view};
-ghost use Rattle.readiness.specs.Turns.{IsOver};
+ghost use Rattle.readiness.specs.Turns.{IsOver, IsAnswered};
 
 use crate::last::Last;
 use crate::line::ReadyLine;
@@ -83,5 +83,13 @@ impl<L: ReadyLine> Connection<L> {
             Stage::Ending(last) => self.waiting.is_empty() && last.is_empty(),
             Stage::Failed => true,
         }
+    }
+
+    /// Whether all requests that were read are answered.
+    pub(crate) fn is_answered(&self) -> bool
+        ensures yes { result ≡ true → IsAnswered (view L.seen self.now) }
+        ensures no { result ≡ false → IsAnswered (view L.seen self.now) → ⊥ }
+    {
+        self.reader.holds_none()
     }
 }

@@ -3,7 +3,7 @@ ghost use Rattle.std.specs.Prelude.{◌≡◌, ◌≢◌, ◌<◌, ◌⊎◌, �
 ghost use Rattle.readiness.specs.declared.connection.Connection.{Connection};
 ghost use Rattle.readiness.specs.Exchanges.{Entry};
 ghost use Rattle.readiness.specs.Kept.{IsNew, view};
-ghost use Rattle.readiness.specs.Turns.{IsLeft, IsOver};
+ghost use Rattle.readiness.specs.Turns.{IsAnswered, IsLeft, IsOver};
 ghost use Rattle.readiness.specs.Places.{TurnedAt, Turns, Rests, AreBounded};
 
 use crate::connection::{Connection, LIMIT};
@@ -85,6 +85,17 @@ impl<L: Drop> Places<L> {
 }
 
 impl<L: ReadyLine + Drop> Places<L> {
+    /// Whether a connection stands at a place all of whose requests that were read are answered.
+    pub fn is_answered(&self, place: usize) -> bool
+        ensures yes { result ≡ true → (c : Connection L) × (slice_get self.now.places.items place ≡ Some (Some c)) × IsAnswered (view L.seen c) }
+        ensures no { result ≡ false → (c : Connection L) → slice_get self.now.places.items place ≡ Some (Some c) → IsAnswered (view L.seen c) → ⊥ }
+    {
+        match self.places.get(place) {
+            Some(Some(connection)) => connection.is_answered(),
+            _ => false,
+        }
+    }
+
     /// Frees a place whose connection is over, and gives that back; none where no such connection stands there.
     pub fn release_over(&mut self, place: usize) -> Option<Connection<L>>
         ensures some { IfSome result (λ c. (slice_get self.old.places.items place ≡ Some (Some c)) × IsOver (view L.seen c)) }

@@ -1,5 +1,5 @@
 //! A stream of frames, in whatever pieces it comes.
-ghost use Rattle.std.specs.Prelude.{◌≡◌, ◌≤◌, ◌++◌, ◌∷◌, [], true, length, take, drop, Err, Some, None, IfOk, IfSome, IfNone};
+ghost use Rattle.std.specs.Prelude.{◌≡◌, ◌≤◌, ◌++◌, ◌∷◌, [], true, false, length, take, drop, Err, Some, None, IfOk, IfSome, IfNone};
 ghost use Rattle.std.specs.List.{list_all};
 ghost use Rattle.logical_time.specs.Fault.{IsRefusedFor};
 ghost use Rattle.wire.specs.Requests.{is_spelled};
@@ -116,6 +116,14 @@ impl Reader {
         ensures fault { self.new.fault ≡ self.old.fault }
     {
         self.held.pop_front()
+    }
+
+    /// Whether no request is held.
+    pub fn holds_none(&self) -> bool
+        ensures yes { result ≡ true → self.now.held ≡ [] }
+        ensures no { result ≡ false → self.now.held ≡ [] → ⊥ }
+    {
+        self.held.is_empty()
     }
 
     /// Says that the stream has ended. Refused with the fault that was found before, and with `Truncated` inside a

@@ -53,7 +53,7 @@ pub(crate) fn serve(doors: &mut Doors, world: &mut World, count: u64) -> Result<
     let mut ends = Ends::new();
     let mut port = WorldSessions::new(world);
     for _ in 0..u64::MAX {
-        doors.round(&mut port)?;
+        doors.round(&mut port, 0)?;
         ends.add(doors);
         if count <= doors.accepted() && doors.are_empty() {
             return Ok(ends);
