@@ -15,7 +15,13 @@ pub struct Serving {
     /// Whether all sessions serve at once, each one connection after the other, until it is stopped. Else each connection is
     /// the next session, one after the other.
     pub concurrent: bool,
+    /// After how many seconds a connection that sent nothing leaves when somebody waits for its place, where all sessions serve at
+    /// once; 0 for never.
+    pub idle: u32,
 }
+
+/// How many sessions there may be where they serve one after the other.
+const FEW_SESSIONS: u16 = 16;
 
 // An option with a value.
 fn option<'a>(alloc: Global, name: &'a str, shown: &'a str, help: &'a str) -> Arg<'a> {
@@ -45,10 +51,10 @@ pub(crate) fn serve_command<'a>(alloc: Global) -> Result<Command<'a>, AllocError
         alloc,
         "sessions",
         "N",
-        "Serves so many connections, one after the other; with --concurrent, so many at once",
+        "Serves so many connections, up to 16, one after the other; with --concurrent, up to 10000, so many at once",
     )
     .required(true)
-    .value_parser(value_parser!(u16).range(1..17));
+    .value_parser(value_parser!(u16).range(1..10_001));
     let dcs = option(alloc, "dcs", "D", "So many data centres")
         .value_parser(value_parser!(u16).range(1..5))
         .default_value("1");
@@ -62,6 +68,14 @@ pub(crate) fn serve_command<'a>(alloc: Global) -> Result<Command<'a>, AllocError
         "The names of the column families, with commas",
     )
     .default_value("f");
+    let idle = option(
+        alloc,
+        "idle",
+        "SECONDS",
+        "With --concurrent: a connection that sent nothing for so long leaves when somebody waits for a place; 0 for never",
+    )
+    .value_parser(value_parser!(u32).range(0..86_401))
+    .default_value("300");
     Command::new(alloc, "serve")
         .about(
             "Serves connections with frames of requests, as docs/formats.md says; session i, from 0, has home i mod D",
@@ -72,7 +86,8 @@ pub(crate) fn serve_command<'a>(alloc: Global) -> Result<Command<'a>, AllocError
         .arg(dcs)?
         .arg(shards)?
         .arg(families)?
-        .arg(concurrent(alloc))
+        .arg(concurrent(alloc))?
+        .arg(idle)
 }
 
 // The families with these names, which have commas between them, if there may be such.
@@ -97,12 +112,16 @@ fn homes_of(alloc: Global, sessions: u16, dcs: u16) -> Result<Vec<u16>, AllocErr
 fn topology_of(alloc: Global, found: &ArgMatches<'_>) -> Result<Option<Topology>, AllocError> {
     let (dcs, shards) = (found.get_one::<u16>("dcs"), found.get_one::<u16>("shards"));
     let (dcs, shards) = (dcs.unwrap_or(1), shards.unwrap_or(2));
-    let sessions = found.get_one::<u16>("sessions").unwrap_or(1);
-    let homes = homes_of(alloc, sessions, dcs)?;
+    let homes = homes_of(alloc, sessions_of(found), dcs)?;
     match schema_of(alloc, found.get_str("families").unwrap_or("f"))? {
-        Some(schema) => Ok(Topology::new(dcs, shards, schema, homes).ok()),
+        Some(schema) => Ok(Topology::of_server(dcs, shards, schema, homes).ok()),
         None => Ok(None),
     }
+}
+
+// How many sessions are asked for.
+fn sessions_of(found: &ArgMatches<'_>) -> u16 {
+    found.get_one::<u16>("sessions").unwrap_or(1)
 }
 
 /// The server that accepted words ask for, or why there is none.
@@ -110,12 +129,20 @@ pub(crate) fn serving_of(
     alloc: Global,
     found: &ArgMatches<'_>,
 ) -> Result<Result<Serving, Told>, AllocError> {
-    let port = found.get_one::<u16>("port").unwrap_or(0);
+    let concurrent = found.get_flag("concurrent");
+    let sessions = sessions_of(found);
+    if sessions > FEW_SESSIONS && !concurrent {
+        let text = format!(in alloc;
+            "error: invalid value '{sessions}' for '--sessions <N>': without --concurrent 1 to 16 sessions are wanted\n"
+        )?;
+        return Ok(Err(Told::Refused(text)));
+    }
     if let Some(topology) = topology_of(alloc, found)? {
         return Ok(Ok(Serving {
-            port,
+            port: found.get_one::<u16>("port").unwrap_or(0),
             topology,
-            concurrent: found.get_flag("concurrent"),
+            concurrent,
+            idle: found.get_one::<u32>("idle").unwrap_or(300),
         }));
     }
     let names = found.get_str("families").unwrap_or("");

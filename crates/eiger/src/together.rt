@@ -1,15 +1,12 @@
 //! The server of all sessions at once.
-ghost use Rattle.std.specs.Prelude.{◌≡◌, ◌<◌};
-ghost use Rattle.service.specs.Sessions.{AreAnswered};
 ghost use Rattle.eiger.specs.Answering.{HasStopped};
 
 use crate::serving::tell_port;
 use command_line::Serving;
-use doors::{Doors, Ended};
+use doors::Ended;
 use logical_time::Fault;
-use present::Present;
 use program::{Buffered, Output, tell};
-use service::WorldSessions;
+use server::Server;
 use std::alloc::Global;
 use std::sync::Wait;
 
@@ -29,27 +26,22 @@ fn tell_ended<E: Buffered>(
 }
 
 // Tells of the connections that ended with a fault in the last round, as far as the output takes it.
-fn tell_all<E: Buffered>(alloc: Global, doors: &Doors, errors: &mut Output<E>) {
-    for ended in doors.ended() {
+fn tell_all<E: Buffered>(alloc: Global, server: &Server, errors: &mut Output<E>) {
+    for ended in server.ended() {
         let _untold = tell_ended(alloc, ended, errors);
     }
 }
 
-// Serves who comes by the doors, until they fail.
-fn serve_all<R: Wait, E: Buffered>(
-    rt: &R,
-    alloc: Global,
-    doors: &mut Doors,
-    port: &mut WorldSessions<'_, Present>,
+// Serves one round after the other, until one fails.
+fn serve_all<T: Wait, E: Buffered>(
+    rt: &HostRuntime,
+    threads: &T,
+    server: &mut Server,
     errors: &mut Output<E>,
-) -> Fault
-    requires { 0 < port.old.world.now.top.shards }
-    ensures same_world { port.new.world.ghost_name ≡ port.old.world.ghost_name }
-    ensures answered { AreAnswered port.old.world.now port.new.world.now }
-{
-    for _ in rt.forever() {
-        let went = doors.round(port);
-        tell_all(alloc, doors, errors);
+) -> Fault {
+    for _ in threads.forever() {
+        let went = server.round(rt);
+        tell_all(rt.alloc(), server, errors);
         if let Err(fault) = went {
             return fault;
         }
@@ -57,21 +49,13 @@ fn serve_all<R: Wait, E: Buffered>(
     unreachable!()
 }
 
-// Serves who comes by the doors with the sessions of a world, until they fail. All that happens to the world is requests that
-// are answered, and each answer means its request in the world left behind.
-fn serve_by<R: Wait, E: Buffered>(
-    rt: &R,
-    alloc: Global,
-    doors: &mut Doors,
-    world: &mut Present,
-    errors: &mut Output<E>,
-) -> Fault
-    ensures { AreAnswered world.old world.new }
-{
-    // what is known of runs is known within the limits of a topology
-    let _limits = world.topology();
-    let mut port = WorldSessions::new(world);
-    serve_all(rt, alloc, doors, &mut port, errors)
+// A server that listens. Who sends nothing is borne for as long as is asked for, for 0 for ever.
+fn open(rt: &HostRuntime, serving: &Serving) -> Result<Server, Fault> {
+    let server = Server::open(rt, rt.alloc(), serving.port, &serving.topology)?;
+    match serving.idle {
+        0 => Ok(server),
+        seconds => Ok(server.with_idle(u64::from(seconds) * 1000)),
+    }
 }
 
 // Listens, says so, and serves with a new world, until that fails.
@@ -83,15 +67,13 @@ fn listen<T: Wait, W: Buffered, E: Buffered>(
     errors: &mut Output<E>,
 ) -> Result<Fault, Fault> {
     let alloc = rt.alloc();
-    let sessions = serving.topology.homes().len();
-    let mut doors = Doors::open(rt, alloc, serving.port, sessions)?;
-    let mut world = Present::new(alloc, &serving.topology)?;
+    let mut server = open(rt, serving)?;
     if let Err(fault) = tell_port(alloc, serving.port, output) {
-        world.close();
+        server.close();
         return Err(fault);
     }
-    let fault = serve_by(threads, alloc, &mut doors, &mut world, errors);
-    world.close();
+    let fault = serve_all(rt, threads, &mut server, errors);
+    server.close();
     Ok(fault)
 }
 

@@ -111,7 +111,7 @@ module _ (top : TopologyValue) (w : WorldRun) where
       otherwise = s.otherwise;
     }
 
-    answered_later : (p : List RunEvent) (log : List Entry) (q : List RunEvent) → LogChain (SessionReplies top w) p log q → IsBeginning q left → LogChain (SessionReplies top (run top left)) p log q
+    pub answered_later : (p : List RunEvent) (log : List Entry) (q : List RunEvent) → LogChain (SessionReplies top w) p log q → IsBeginning q left → LogChain (SessionReplies top (run top left)) p log q
     answered_later p [] q c begins = c
     answered_later p (e ∷ log) q c begins = (
       c.0,

@@ -19,6 +19,7 @@ use std::alloc::{AllocError, Global};
 #[derive(Drop)]
 pub struct WorldSessions<'w, W> {
     world: &'w mut W,
+    asked: u64,
 }
 
 impl<'w, W: Host> WorldSessions<'w, W> {
@@ -27,7 +28,14 @@ impl<'w, W: Host> WorldSessions<'w, W> {
         ensures same_world { result.world.ghost_name ≡ world.entry.ghost_name }
         ensures world_is { result.world.now ≡ world.old }
     {
-        WorldSessions { world }
+        WorldSessions { world, asked: 0 }
+    }
+
+    /// How many requests it was asked, those that were refused too.
+    pub fn asked(&self) -> u64
+        ensures { result ≡ self.now.asked }
+    {
+        self.asked
     }
 
     // A turn for the connection at each of these places.
@@ -77,6 +85,7 @@ impl<W: Host> SharedPort for WorldSessions<'_, W> {
 
     #[tactic(auto, using(crate::proofs::Homes::session_here))]
     fn ask(&mut self, place: usize, op: Op) -> Result<Outcome, Fault> {
+        self.asked = self.asked.saturating_add(1);
         let topology = self.world.topology();
         let sessions = topology.homes().len();
         if place >= sessions {
