@@ -3,3 +3,4 @@ pub mod Lists
 pub mod Maps
 pub mod Bounds
 pub mod CameTo
+pub mod Counts

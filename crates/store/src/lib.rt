@@ -8,6 +8,7 @@ mod boxed_chain;
 mod boxed_ranges;
 mod crowded;
 mod gathering;
+mod holdings;
 mod merging;
 mod origin;
 mod part;
@@ -21,5 +22,6 @@ mod striking;
 mod sweeping;
 mod walk;
 
+pub use holdings::Holdings;
 pub use part::{Applied, Part};
 pub use store::Store;

@@ -1,6 +1,6 @@
 //! The chains of a row.
 ghost use Rattle.std.specs.Prelude.{◌≡◌, ◌+◌, ◌≤◌, ◌<◌, ◌⊎◌, nat_lt, [], ℕ, List, Some, None, length, true, false, if◌then◌else◌, OnOk, IfOk, IfErr, IfSome, IsOk, IsSomeAnd, map, slice_get, unwrap_or, option_to_list};
-ghost use Rattle.std.specs.List.{list_any};
+ghost use Rattle.std.specs.List.{list_any, sum_by};
 ghost use Rattle.std.specs.Option.{option_copied};
 ghost use Rattle.std.specs.Map.{lookup};
 ghost use Rattle.std.specs.Ordering.{is_eq};
@@ -11,6 +11,7 @@ ghost use Rattle.versions.specs.Newest.{has_stamp};
 ghost use Rattle.versions.specs.Ranges as in_ranges;
 ghost use Rattle.store.specs.Crowded as crowded;
 ghost use Rattle.store.specs.Crowded.{comes_to_more, holds_more};
+ghost use Rattle.store.specs.Holdings.{counted, versions_held, versions_of};
 ghost use Rattle.store.specs.Latest.{IsLatest, IsLatestAfter};
 ghost use Rattle.store.specs.Sight.{evt_or_0};
 ghost use Rattle.store.specs.Stored as kept;
@@ -167,6 +168,17 @@ fn is_crowded_in(columns: &BTreeMap<Name, BoxedChain>) -> bool
     ensures { result ≡ list_any holds_more (map (λ e. e.1) columns.now.entries) }
 {
     columns.values().any(|chain| chain.as_chain().len() > 1)
+}
+
+// How many versions the chains of the columns hold.
+fn versions_in(columns: &BTreeMap<Name, BoxedChain>) -> u64
+    ensures { result ≡ counted (sum_by versions_held (map (λ e. e.1) columns.now.entries)) }
+{
+    let mut sum = 0u64;
+    for chain in columns.values() {
+        sum = sum.saturating_add(chain.as_chain().len() as u64);
+    }
+    sum
 }
 
 // Puts a version into the chain of the deletions, and answers whether that came to hold more than one.
@@ -376,6 +388,17 @@ impl RowChains {
         is_crowded_in(&self.columns)
             || self.deletions().is_some_and(|chain| chain.len() > 1)
             || self.has_ranges()
+    }
+
+    /// How many versions its chains hold. Linear in the columns.
+    pub(crate) fn versions(&self) -> u64
+        ensures { result ≡ counted (versions_of self.now) }
+    {
+        let columns = versions_in(&self.columns);
+        match self.deletions() {
+            Some(chain) => columns.saturating_add(chain.len() as u64),
+            None => columns,
+        }
     }
 
     /// Drops the versions that are the newest of their chain at no time from this one on, and the deletions of ranges that

@@ -1,5 +1,6 @@
 //! Rows of chains, by key.
-ghost use Rattle.std.specs.Prelude.{◌≡◌, ◌+◌, ◌≤◌, ◌<◌, ◌⊎◌, ◌∷◌, [], Some, None, length, true, false, ◌&&◌, if◌then◌else◌, OnOk, IfErr, IsOk};
+ghost use Rattle.std.specs.Prelude.{◌≡◌, ◌+◌, ◌≤◌, ◌<◌, ◌⊎◌, ◌∷◌, [], Some, None, length, map, true, false, ◌&&◌, if◌then◌else◌, OnOk, IfErr, IsOk};
+ghost use Rattle.std.specs.List.{sum_by};
 ghost use Rattle.std.specs.Map.{lookup};
 ghost use Rattle.std.specs.Ordering.{is_eq};
 ghost use Rattle.logical_time.specs.declared.fault.Fault.TheVariants as fault;
@@ -9,6 +10,7 @@ ghost use Rattle.column_family.specs.Location.{deletes_range, is_same_row};
 ghost use Rattle.versions.specs.Chain.{put_of, kept_from};
 ghost use Rattle.versions.specs.Newest.{has_stamp};
 ghost use Rattle.store.specs.Crowded.{AreListed, is_crowded_in};
+ghost use Rattle.store.specs.Holdings.{counted, versions_of};
 ghost use Rattle.store.specs.Stored as kept;
 ghost use Rattle.column_family.specs.Normal.{ranges_of};
 ghost use Rattle.versions.specs.Ranges as in_ranges;
@@ -242,6 +244,17 @@ pub(crate) fn is_crowded(rows: &BTreeMap<Row, RowChains>, row: &Row) -> bool
         Some(held) => held.is_crowded(),
         None => false,
     }
+}
+
+/// How many versions the chains of these rows hold. Linear in the rows and in their columns.
+pub(crate) fn versions_in(rows: &BTreeMap<Row, RowChains>) -> u64
+    ensures { result ≡ counted (sum_by versions_of (map (λ e. e.1) rows.now.entries)) }
+{
+    let mut sum = 0u64;
+    for row in rows.values() {
+        sum = sum.saturating_add(row.versions());
+    }
+    sum
 }
 
 /// Drops the versions of one row that are the newest of their chain at no time from this one on, and the deletions of

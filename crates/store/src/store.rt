@@ -5,6 +5,7 @@ ghost use Rattle.column_family.specs.Location.{Location};
 ghost use Rattle.column_family.specs.Normal.{IsNormal};
 ghost use Rattle.store.specs.declared.part.Applied.{Applied};
 ghost use Rattle.store.specs.Crowded.{AreListed};
+ghost use Rattle.store.specs.Holdings.{holdings_of};
 ghost use Rattle.store.specs.Stored.{HasRoom, HasRoomInRows, HaveKept, HaveKeptRanges, HaveKeptRoom, HaveKeptRangeRoom, HaveSameVersions, HaveSameRanges, HavePut, HavePutRanges};
 ghost use Rattle.store.specs.Keeps.{Keeps, IsNewStamp, IsOvertaken};
 ghost use Rattle.column_family.specs.History.{newest_at};
@@ -12,11 +13,12 @@ ghost use Rattle.store.specs.declared.sight.Moment.TheVariants.{At};
 ghost use Rattle.store.specs.Part.{IsNewestPart, IsRightPart, history_of};
 
 use crate::crowded::{Crowded, collect_crowded};
+use crate::holdings::Holdings;
 use crate::origin::Origin;
 use crate::part::Part;
 use crate::reading::{part_in, part_with};
 use crate::row::{RowChains, row_written};
-use crate::rows::{put_changes, reserve_changes};
+use crate::rows::{put_changes, reserve_changes, versions_in};
 use crate::sight::Moment;
 use column_family::{Batch, Change, Row};
 use logical_time::{Fault, Stamp, Time, Writer};
@@ -271,6 +273,16 @@ impl Store {
         ensures { result ≡ self.now.low }
     {
         self.low
+    }
+
+    /// How much it holds. Linear in its rows and in their columns.
+    pub fn holdings(&self) -> Holdings
+        ensures { result ≡ holdings_of self.now.rows }
+    {
+        Holdings {
+            rows: self.rows.len() as u64,
+            versions: versions_in(&self.rows),
+        }
     }
 
     /// Raises the horizon to this time if it lies below it, and drops from each chain the versions that are its newest
