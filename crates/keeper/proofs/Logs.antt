@@ -3,8 +3,9 @@ use Rattle.std.proofs.Common.{◌≡◌, ◌∙◌, ◌<◌, ◌^◌, ℕ, ◌+�
 use Rattle.std.proofs.lemmas.List.{length-append, append-nil, take_at, drop_at}
 use Rattle.std.proofs.lemmas.Bool.Decides.{nat_tests}
 use Rattle.disk.specs.Disk.{IsBeginning, Only}
-use Rattle.records.specs.Records.{Entry, size, spelling, spelled, AllFit, recovered}
+use Rattle.records.specs.Records.{Entry, size, spelling, spelled, AllFit, recovered, NoneFirst, OnlyFrontIsFirst}
 use Rattle.records.proofs.Recovered.{length-spelling, spelled_append, recovered_spelled, honest_from}
+use Rattle.records.proofs.Firsts.{torn_is_undamaged}
 use Rattle.keeper.specs.Log.{next, IsKept, Stands, Survives}
 use Rattle.keeper.specs.declared.log.Log.{Log}
 
@@ -32,6 +33,22 @@ empty_noted : (secret place : ℕ) (noted : List Entry) → length (spelled secr
 empty_noted secret place [] none = refl
 empty_noted secret place (e ∷ es) none = absurd (omega (arith, none, length-spelling secret place e, length-append (spelling secret place e) (spelled secret (place + size e) es)))
 
+none_append : (es fs : List Entry) → NoneFirst es → NoneFirst fs → NoneFirst (es ++ fs)
+none_append [] fs h k = k
+none_append (e ∷ es) fs h k = (h.0, none_append es fs h.1 k)
+
+none_front : (es fs : List Entry) → NoneFirst (es ++ fs) → NoneFirst es
+none_front [] fs h = tt
+none_front (e ∷ es) fs h = (h.0, none_front es fs h.1)
+
+front_more : (noted : List Entry) (body : List ℕ) → OnlyFrontIsFirst noted → OnlyFrontIsFirst (noted ++ next noted body ∷ [])
+front_more [] body h = tt
+front_more (n ∷ noted) body h = none_append noted (next (n ∷ noted) body ∷ []) h (some_noted (length (n ∷ noted)) (omega arith), tt)
+
+front_front : (es fs : List Entry) → OnlyFrontIsFirst (es ++ fs) → OnlyFrontIsFirst es
+front_front [] fs h = tt
+front_front (e ∷ es) fs h = none_front es fs h
+
 -- what waits, with one record more
 pub noted_more : (secret end place : ℕ) (pending more : List ℕ) (noted : List Entry) (first : Bool) (body : List ℕ) → pending ≡ spelled secret end noted → place ≡ end + length pending → first ≡ eqb (length pending) 0
     → more ≡ pending ++ spelling secret place (record { first = first; body = body }) → more ≡ spelled secret end (noted ++ next noted body ∷ [])
@@ -53,11 +70,12 @@ module _ {D : Type 0} (seen : D → Option (List ℕ)) (may_leave : D → List �
     is_kept = rw (disk, secret, end) s.is_kept;
     pending = rw (secret, end) (noted_more old.secret old.end place old.pending.items new.pending.items noted first body s.pending at test put);
     fit = fit_append noted (next noted body ∷ []) s.fit (fits, tt);
+    front = front_more noted body s.front;
   }
 
   pub stands_same : (old new : Log D) (kept noted : List Entry) → new.disk ≡ old.disk → new.secret ≡ old.secret → new.end ≡ old.end → new.pending.items ≡ old.pending.items
       → Stands seen may_leave old kept noted → Stands seen may_leave new kept noted
-  stands_same old new kept noted disk secret end put s = record { is_kept = rw (disk, secret, end) s.is_kept; pending = rw (secret, end) (put ∙ s.pending); fit = s.fit }
+  stands_same old new kept noted disk secret end put s = record { is_kept = rw (disk, secret, end) s.is_kept; pending = rw (secret, end) (put ∙ s.pending); fit = s.fit; front = s.front }
 
   -- what was noted last is not noted after all
   pub stands_back : (old new : Log D) (mark : ℕ) (kept noted back : List Entry) → new.disk ≡ old.disk → new.secret ≡ old.secret → new.end ≡ old.end → new.pending.items ≡ take mark old.pending.items
@@ -69,6 +87,7 @@ module _ {D : Type 0} (seen : D → Option (List ℕ)) (may_leave : D → List �
         is_kept = rw (disk, secret, end) s.is_kept;
         pending = rw (secret, end) (cut ∙ ap (take mark) (s.pending ∙ spelled_append old.secret old.end noted back) ∙ take_at front behind mark (sym is));
         fit = fit_front noted back s.fit;
+        front = front_front noted back s.front;
       }
 
   -- ## Syncing
@@ -97,8 +116,8 @@ module _ {D : Type 0} (seen : D → Option (List ℕ)) (may_leave : D → List �
 -- ## What a crash leaves
 
 -- what begins with all that was kept
-pub survives : (secret : ℕ) (kept noted : List Entry) (c : List ℕ) → AllFit kept → AllFit noted → IsBeginning (spelled secret 0 kept) c → Survives secret kept noted c
-survives secret kept noted c fit fits begins =
+pub survives : (secret : ℕ) (kept noted : List Entry) (c : List ℕ) → AllFit kept → AllFit noted → OnlyFrontIsFirst noted → IsBeginning (spelled secret 0 kept) c → Survives secret kept noted c
+survives secret kept noted c fit fits front begins =
     let file = spelled secret 0 kept in
     let place = 0 + length file in
     let tail = begins.0 in
@@ -109,5 +128,6 @@ survives secret kept noted c fit fits begins =
     record {
       more = recovered secret place 0 tail;
       all = all;
-      some = λ honest. subst (λ (t : List ℕ). IsBeginning (recovered secret place 0 t) noted) rest (honest_from secret (spelled secret 0 (kept ++ noted)) c honest place noted fits written);
+      some = λ honest. subst (λ (t : List ℕ). IsBeginning (recovered secret place 0 t) noted) rest (honest_from secret (kept ++ noted) c honest place noted fits written);
+      undamaged = λ honest. torn_is_undamaged secret kept noted (recovered secret place 0 tail) c honest front all;
     }

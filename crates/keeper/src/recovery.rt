@@ -2,7 +2,7 @@
 ghost use Rattle.std.specs.Prelude.{◌≡◌, ◌≤◌, ◌+◌, List, ℕ, true, false, length, drop, take, option_map, IfOk, OnOk, OnErr, IfErr, IsErrAnd, IfSome, Some};
 ghost use Rattle.disk.specs.Disk.{Cut, Only, LeavesOnly};
 ghost use Rattle.records.specs.Records.{recovered, spelled, views, has_first as holds_first};
-ghost use Rattle.keeper.specs.Log.{IsKept};
+ghost use Rattle.keeper.specs.Log.{IsKept, IsAsBefore};
 ghost use Rattle.keeper.specs.declared.recovery.RecoveryError.TheVariants.{Disk};
 ghost use Rattle.disk.specs.declared.disk.DiskError.TheVariants as disk;
 
@@ -65,8 +65,8 @@ pub fn recover<D: Disk>(
     // nothing behind them was synced after they were
     ensures last { IfOk result (λ r. IfSome (D.seen disk.old) (λ s. holds_first secret (r.1 + 1) (drop (r.1 + 1) s) ≡ false)) }
     ensures damaged { (at : ℕ) → IsErrAnd result (λ e. e ≡ RecoveryError.Damaged at) → (disk.new ≡ disk.old) × IfSome (D.seen disk.old) (λ s. (at ≡ length (spelled secret 0 (recovered secret 0 0 s))) × (holds_first secret (at + 1) (drop (at + 1) s) ≡ true)) }
-    // a crash at any moment leaves the same records
-    ensures any_moment { IfSome (D.seen disk.old) (λ s. LeavesOnly D.moment D.left_since disk.old disk.new (λ c. recovered secret 0 0 c ≡ recovered secret 0 0 s)) }
+    // a crash at any moment leaves the same records, and makes no damage
+    ensures any_moment { IfSome (D.seen disk.old) (λ s. LeavesOnly D.moment D.left_since disk.old disk.new (IsAsBefore secret s)) }
 {
     let (records, end) = read_records(alloc, secret, bytes)?;
     if has_first(secret, end + 1, bytes) {

@@ -167,29 +167,29 @@ found None = inl refl
 found (Some e) = inr (e, refl)
 
 -- where no record passes its test that wasn't written there, what is found are the first of those that were written
-pub honest_from : (secret : ℕ) (written left : List ℕ) → IsHonest secret written left → (place : ℕ) (noted : List Entry) → AllFit noted → drop place written ≡ spelled secret place noted
+pub honest_from : (secret : ℕ) (all : List Entry) (left : List ℕ) → IsHonest secret all left → (place : ℕ) (noted : List Entry) → AllFit noted → drop place (spelled secret 0 all) ≡ spelled secret place noted
     → IsBeginning (recovered secret place 0 (drop place left)) noted
-honest_from secret written left honest place [] fit is =
+honest_from secret all left honest place [] fit is =
     elim (found (front_at secret place (drop place left))) [
       | inl none ↦ ([], sym (append-nil (recovered secret place 0 (drop place left)) ∙ recovered_none secret place (drop place left) none))
       | inr some ↦
-          let there = honest place some.0 some.1 in
+          let there = honest.records place some.0 some.1 in
           let bad : None ≡ Some some.0 = sym (none_in_nothing secret place) ∙ ap (front_at secret place) (sym is) ∙ there in
           absurd cc
     ]
-honest_from secret written left honest place (n ∷ noted) fit is =
+honest_from secret all left honest place (n ∷ noted) fit is =
     elim (found (front_at secret place (drop place left))) [
       | inl none ↦ (n ∷ noted, rw (recovered_none secret place (drop place left) none) refl)
       | inr some ↦
           let e = some.0 in
-          let there = honest place e some.1 in
+          let there = honest.records place e some.1 in
           let again = front_again secret place n (spelled secret (place + size n) noted) fit.0 in
           let same : Some n ≡ Some e = sym again ∙ ap (front_at secret place) (sym is) ∙ there in
           let is_n : n ≡ e = cc in
           let here : front_at secret place (drop place left) ≡ Some n = some.1 ∙ ap Some (sym is_n) in
-          let further : drop (place + size n) written ≡ spelled secret (place + size n) noted =
-          sym (drop-drop (size n) place written) ∙ ap (drop (size n)) is ∙ drop_at (spelling secret place n) (spelled secret (place + size n) noted) (size n) (length-spelling secret place n) in
-          let more = honest_from secret written left honest (place + size n) noted fit.1 further in
+          let further : drop (place + size n) (spelled secret 0 all) ≡ spelled secret (place + size n) noted =
+          sym (drop-drop (size n) place (spelled secret 0 all)) ∙ ap (drop (size n)) is ∙ drop_at (spelling secret place n) (spelled secret (place + size n) noted) (size n) (length-spelling secret place n) in
+          let more = honest_from secret all left honest (place + size n) noted fit.1 further in
           let step : recovered secret place 0 (drop place left) ≡ n ∷ recovered secret (place + size n) 0 (drop (place + size n) left) =
           recovered_some secret place (drop place left) n here ∙ ap (λ (t : List ℕ). n ∷ recovered secret (place + size n) 0 t) (drop-drop (size n) place left) in
           (more.0, rw step (ap (λ (l : List Entry). n ∷ l) more.1))

@@ -1,5 +1,5 @@
 -- How records stand in a file, and which records any bytes stand for.
-use Rattle.std.specs.Prelude.{◌≡◌, ◌==◌, ◌&&◌, ◌||◌, ◌<◌, ◌^◌, ℕ, zero, suc, ◌+◌, nat_lt, nat_le, Bool, true, false, if◌then◌else◌, List, [], ◌∷◌, ◌++◌, length, take, drop, slice_index, bytes_eq, map, Option, Some, None}
+use Rattle.std.specs.Prelude.{◌≡◌, ◌⊎◌, ◌==◌, ◌&&◌, ◌||◌, ◌<◌, ◌^◌, ℕ, zero, suc, ◌+◌, nat_lt, nat_le, Bool, true, false, if◌then◌else◌, List, [], ◌∷◌, ◌++◌, length, take, drop, slice_index, bytes_eq, map, Option, Some, None}
 use Rattle.std.specs.List.{AllByRecursion}
 use Rattle.std.specs.Hash.DefaultHasher as sip
 use Rattle.std.specs.Int.{w64, to_be_bytes}
@@ -99,8 +99,29 @@ has_first secret place (b ∷ bytes) = is_first secret place (b ∷ bytes) || ha
 
 -- ## What a crash leaves
 
--- Each record that passes its test in what is left stood at that place in what was written. What a crash leaves of
--- bytes that were under way may be anything; that it passes by chance has a probability of one in 2^64 for each
--- place.
-abbrev pub IsHonest : ℕ → List ℕ → List ℕ → Type 0
-IsHonest secret written left = (place : ℕ) (e : Entry) → front_at secret place (drop place left) ≡ Some e → front_at secret place (drop place written) ≡ Some e
+-- no first record begins behind those that stand in a file, so nothing in it was synced and is damaged
+abbrev pub IsUndamaged : ℕ → List ℕ → Type 0
+IsUndamaged secret file =
+    let end = length (spelled secret 0 (recovered secret 0 0 file)) in
+    has_first secret (end + 1) (drop (end + 1) file) ≡ false
+
+-- one of these records, which stand from a place on, is a first one and begins at that place
+abbrev pub IsFirstAt : ℕ → List Entry → ℕ → Type 0
+IsFirstAt place [] at = ⊥
+IsFirstAt place (e ∷ es) at = ((e.first ≡ true) × (at ≡ place)) ⊎ IsFirstAt (place + size e) es at
+
+-- none of these is a first one
+abbrev pub NoneFirst : List Entry → Type 0
+NoneFirst es = AllByRecursion (λ e. e.first ≡ false) es
+
+-- none but the one in front is a first one
+abbrev pub OnlyFrontIsFirst : List Entry → Type 0
+OnlyFrontIsFirst [] = Unit {0}
+OnlyFrontIsFirst (e ∷ es) = NoneFirst es
+
+-- Nothing in what is left passes by chance: each record that passes its test there stood at that place in what was
+-- written, and each stamp of a first one is that of one that was written there. What a crash leaves of bytes that
+-- were under way may be anything; that it passes by chance has a probability of one in 2^64 for each place.
+pub record IsHonest (secret : ℕ) (written : List Entry) (left : List ℕ) : Type 0 where
+  pub records : (place : ℕ) (e : Entry) → front_at secret place (drop place left) ≡ Some e → front_at secret place (drop place (spelled secret 0 written)) ≡ Some e
+  pub stamps : (place : ℕ) → is_first secret place (drop place left) ≡ true → IsFirstAt 0 written place

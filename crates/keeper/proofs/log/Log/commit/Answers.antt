@@ -10,7 +10,7 @@ use Rattle.keeper.proofs.log.Log.commit.Goals as goal
 pub returns-then-has_failed-clause-any_moment : goal.returns-then-has_failed-clause-any_moment
 returns-then-has_failed-clause-any_moment g c = λ kept noted s.
     started g.D.Disk.moment g.D.Disk.left_since c.args.self.now.disk (Survives c.args.self.now.secret kept noted)
-    (λ z left. survives c.args.self.now.secret kept noted z s.is_kept.fit s.fit (itself (spelled c.args.self.now.secret 0 kept) z (s.is_kept.durable z (g.met.D.Disk.only_now c.args.self.now.disk z left))))
+    (λ z left. survives c.args.self.now.secret kept noted z s.is_kept.fit s.fit s.front (itself (spelled c.args.self.now.secret 0 kept) z (s.is_kept.durable z (g.met.D.Disk.only_now c.args.self.now.disk z left))))
 
 pub returns-then-is_empty-clause-settled : goal.returns-then-is_empty-clause-settled
 returns-then-is_empty-clause-settled g c = λ kept noted s.
@@ -20,18 +20,18 @@ returns-then-is_empty-clause-settled g c = λ kept noted s.
 pub returns-then-is_empty-clause-any_moment : goal.returns-then-is_empty-clause-any_moment
 returns-then-is_empty-clause-any_moment g c = λ kept noted s.
     started g.D.Disk.moment g.D.Disk.left_since c.args.self.now.disk (Survives c.args.self.now.secret kept noted)
-    (λ z left. survives c.args.self.now.secret kept noted z s.is_kept.fit s.fit (itself (spelled c.args.self.now.secret 0 kept) z (s.is_kept.durable z (g.met.D.Disk.only_now c.args.self.now.disk z left))))
+    (λ z left. survives c.args.self.now.secret kept noted z s.is_kept.fit s.fit s.front (itself (spelled c.args.self.now.secret 0 kept) z (s.is_kept.durable z (g.met.D.Disk.only_now c.args.self.now.disk z left))))
 
 pub returns-in_default-clause-any_moment : goal.returns-in_default-clause-any_moment
 returns-in_default-clause-any_moment g c = λ kept noted s.
     started g.D.Disk.moment g.D.Disk.left_since c.args.self.now.disk (Survives c.args.self.now.secret kept noted)
-    (λ z left. survives c.args.self.now.secret kept noted z s.is_kept.fit s.fit (itself (spelled c.args.self.now.secret 0 kept) z (s.is_kept.durable z (g.met.D.Disk.only_now c.args.self.now.disk z left))))
+    (λ z left. survives c.args.self.now.secret kept noted z s.is_kept.fit s.fit s.front (itself (spelled c.args.self.now.secret 0 kept) z (s.is_kept.durable z (g.met.D.Disk.only_now c.args.self.now.disk z left))))
 
 pub returns-in_err-put-clause-any_moment : goal.returns-in_err-put-clause-any_moment
 returns-in_err-put-clause-any_moment g c = λ kept noted s.
     weaker g.D.Disk.moment g.D.Disk.left_since c.args.self.now.disk c.put.new.disk (IsBeginning (spelled c.args.self.now.secret 0 kept)) (Survives c.args.self.now.secret kept noted)
     (from_some (g.D.Disk.seen c.args.self.now.disk) _ (spelled c.args.self.now.secret 0 kept) s.is_kept.file c.put.ensures.any_moment s.is_kept.durable)
-    (λ z begins. survives c.args.self.now.secret kept noted z s.is_kept.fit s.fit begins)
+    (λ z begins. survives c.args.self.now.secret kept noted z s.is_kept.fit s.fit s.front begins)
 
 pub returns-clause-settled : goal.returns-clause-settled
 returns-clause-settled g c = λ kept noted s.
@@ -48,10 +48,11 @@ returns-clause-settled g c = λ kept noted s.
       is_kept = all_kept g.D.Disk.seen g.D.Disk.may_leave c.put.new.disk c.args.self.now.secret c.args.self.now.end c.in-Some.end c.args.self.now.disk b kept noted k s.pending s.fit longer told only;
       pending = c.clear.ensures.items;
       fit = tt;
+      front = tt;
     }
 
 pub returns-clause-any_moment : goal.returns-clause-any_moment
 returns-clause-any_moment g c = λ kept noted s.
     weaker g.D.Disk.moment g.D.Disk.left_since c.args.self.now.disk c.put.new.disk (IsBeginning (spelled c.args.self.now.secret 0 kept)) (Survives c.args.self.now.secret kept noted)
     (from_some (g.D.Disk.seen c.args.self.now.disk) _ (spelled c.args.self.now.secret 0 kept) s.is_kept.file c.put.ensures.any_moment s.is_kept.durable)
-    (λ z begins. survives c.args.self.now.secret kept noted z s.is_kept.fit s.fit begins)
+    (λ z begins. survives c.args.self.now.secret kept noted z s.is_kept.fit s.fit s.front begins)
