@@ -18,6 +18,8 @@ pub struct Serving {
     /// After how many seconds a connection that sent nothing leaves when somebody waits for its place, where all sessions serve at
     /// once; 0 for never.
     pub idle: u32,
+    /// How many seconds are between two lines that tell what is served, where all sessions serve at once; 0 for no line.
+    pub report: u32,
 }
 
 /// How many sessions there may be where they serve one after the other.
@@ -42,19 +44,15 @@ fn concurrent<'a>(alloc: Global) -> Arg<'a> {
         )
 }
 
-/// The subcommand that asks for a server.
-pub(crate) fn serve_command<'a>(alloc: Global) -> Result<Command<'a>, AllocError> {
-    let port = option(alloc, "port", "P", "Listens on this port of 127.0.0.1")
-        .required(true)
-        .value_parser(value_parser!(u16).range(1024..65536));
-    let sessions = option(
-        alloc,
-        "sessions",
-        "N",
-        "Serves so many connections, up to 16, one after the other; with --concurrent, up to 10000, so many at once",
-    )
-    .required(true)
-    .value_parser(value_parser!(u16).range(1..10_001));
+// The option of a server that says after how many seconds something comes.
+fn seconds<'a>(alloc: Global, name: &'a str, help: &'a str, otherwise: &'a str) -> Arg<'a> {
+    option(alloc, name, "SECONDS", help)
+        .value_parser(value_parser!(u32).range(0..86_401))
+        .default_value(otherwise)
+}
+
+// The options that say which data centres, shards and column families there are.
+fn with_world<'a>(alloc: Global, command: Command<'a>) -> Result<Command<'a>, AllocError> {
     let dcs = option(alloc, "dcs", "D", "So many data centres")
         .value_parser(value_parser!(u16).range(1..5))
         .default_value("1");
@@ -68,26 +66,47 @@ pub(crate) fn serve_command<'a>(alloc: Global) -> Result<Command<'a>, AllocError
         "The names of the column families, with commas",
     )
     .default_value("f");
-    let idle = option(
+    command.arg(dcs)?.arg(shards)?.arg(families)
+}
+
+// The options of a server of all sessions at once.
+fn with_many<'a>(alloc: Global, command: Command<'a>) -> Result<Command<'a>, AllocError> {
+    let idle = seconds(
         alloc,
         "idle",
-        "SECONDS",
         "With --concurrent: a connection that sent nothing for so long leaves when somebody waits for a place; 0 for never",
+        "300",
+    );
+    let report = seconds(
+        alloc,
+        "report",
+        "With --concurrent: tells on standard error each so often what is served and held; 0 for never",
+        "0",
+    );
+    command.arg(concurrent(alloc))?.arg(idle)?.arg(report)
+}
+
+/// The subcommand that asks for a server.
+pub(crate) fn serve_command<'a>(alloc: Global) -> Result<Command<'a>, AllocError> {
+    let port = option(alloc, "port", "P", "Listens on this port of 127.0.0.1")
+        .required(true)
+        .value_parser(value_parser!(u16).range(1024..65536));
+    let sessions = option(
+        alloc,
+        "sessions",
+        "N",
+        "Serves so many connections, up to 16, one after the other; with --concurrent, up to 10000, so many at once",
     )
-    .value_parser(value_parser!(u32).range(0..86_401))
-    .default_value("300");
-    Command::new(alloc, "serve")
+    .required(true)
+    .value_parser(value_parser!(u16).range(1..10_001));
+    let command = Command::new(alloc, "serve")
         .about(
             "Serves connections with frames of requests, as docs/formats.md says; session i, from 0, has home i mod D",
         )
         .after_help("Example: eiger serve --port 7000 --sessions 2")
         .arg(port)?
-        .arg(sessions)?
-        .arg(dcs)?
-        .arg(shards)?
-        .arg(families)?
-        .arg(concurrent(alloc))?
-        .arg(idle)
+        .arg(sessions)?;
+    with_many(alloc, with_world(alloc, command)?)
 }
 
 // The families with these names, which have commas between them, if there may be such.
@@ -143,6 +162,7 @@ pub(crate) fn serving_of(
             topology,
             concurrent,
             idle: found.get_one::<u32>("idle").unwrap_or(300),
+            report: found.get_one::<u32>("report").unwrap_or(0),
         }));
     }
     let names = found.get_str("families").unwrap_or("");
