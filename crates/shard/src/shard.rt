@@ -10,6 +10,7 @@ ghost use Rattle.messages.specs.Shard.{ShardState, Decision, new_shard};
 ghost use Rattle.messages.specs.ShardEvents.{shard_handle, shard_collect};
 ghost use Rattle.messages.specs.Known.{decision_of};
 ghost use Rattle.messages.specs.Honest.{IsHonest};
+ghost use Rattle.store.specs.Holdings.{holdings_of};
 ghost use Rattle.shard.specs.Events.{shard_run, envelopes_handled};
 ghost use Rattle.shard.specs.Ignored.{IsIgnored};
 ghost use Rattle.shard.specs.Effects.{IsSpared};
@@ -25,6 +26,7 @@ use logical_time::{Clock, Fault, Node, Stamp, Time, TxnId};
 use messages::{Envelope, Outbox, Place, Refused, Topology};
 use std::alloc::Global;
 use std::marker::Model;
+use store::Holdings;
 use txn_state::WritePart;
 use write_txn::{Transactions, Voters};
 
@@ -121,6 +123,13 @@ impl Shard {
         ensures { result ≡ self.now.clock }
     {
         self.kept.clock
+    }
+
+    /// How much its store holds. Linear in its rows and in their columns.
+    pub fn holdings(&self) -> Holdings
+        ensures { result ≡ holdings_of self.now.transactions.store.rows }
+    {
+        self.kept.transactions.store().holdings()
     }
 
     /// The commit time and the stamp with which the shard decided the transaction as its coordinator, if it did. Constant
