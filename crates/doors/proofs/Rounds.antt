@@ -1,22 +1,23 @@
 -- Places in a round, step by step.
-use Rattle.std.proofs.Common.{◌≡◌, ◌∙◌, ◌<◌, ◌+◌, ℕ, zero, suc, List, All, [], ◌∷◌, ◌++◌, take, length, Bool, true, false, Option, Some, None, refl, sym, ap, subst, inl, inr, arith}
+use Rattle.std.proofs.Common.{◌≡◌, ◌∙◌, ◌<◌, ◌+◌, ℕ, zero, suc, List, All, [], ◌∷◌, ◌++◌, take, length, Bool, true, false, Option, Some, None, Result, Ok, Err, refl, sym, ap, subst, inl, inr, arith}
 use Rattle.std.specs.Prelude.{◌⊎◌, slice_get, slice_set}
 use Rattle.std.specs.List.{Contains}
 use Rattle.std.proofs.lemmas.List.Elements.{All-head, All-tail, Contains-push, Contains-push_cases, Contains-append_left}
 use Rattle.std.proofs.lemmas.Bool.{cases_eq}
 use Rattle.readiness.specs.declared.connection.Connection.{Connection}
+use Rattle.logical_time.specs.declared.fault.Fault.{Fault}
 use Rattle.messages.specs.declared.op.Op.{Op}
 use Rattle.wire.specs.Replies.{Reply}
 use Rattle.readiness.specs.declared.connection.Stage.TheVariants.{Open, Failed}
 use Rattle.readiness.specs.Exchanges.{Exchange, Entry, only}
 use Rattle.readiness.specs.Lines.{ReadyValue}
-use Rattle.readiness.specs.Places.{PlaceTurned, Turns, Rests}
+use Rattle.readiness.specs.Places.{PlaceTurned, Turns, Rests, SettledFirst}
 use Rattle.readiness.specs.Kept.{view, IsNew}
 use Rattle.readiness.specs.Turns.{IsOver, is_open}
 use Rattle.readiness.proofs.Lists.{get_set_same, get_set_other, got_within}
 use Rattle.doors.specs.declared.listening.Doors.{Doors}
 use Rattle.doors.specs.Silence.{AreMarked, IsSentAway}
-use Rattle.doors.specs.Rounds.{Place, Closed, Given, OnlyAt, GoesOn, AllGoOn, AreNoted, AreTaken, IsSound, MayWait, Round}
+use Rattle.doors.specs.Rounds.{Place, Closed, Given, OnlyAt, GoesOn, AllGoOn, AreNoted, AreTaken, IsSound, MayWait, StoodOrCame, Round}
 use Rattle.doors.proofs.Silent.{Vacated}
 
 no_one : {A : Type 0} (c : A) (y : Option (Option A)) → y ≡ Some None → y ≡ Some (Some c) → ⊥
@@ -309,6 +310,42 @@ nobody_at {L = L} (x ∷ places) (suc k) c free is = nobody_at places k c (All-t
 -- where all places are free
 pub none_stand : {L : Type 0} (seen : L → ReadyValue) (places : List (Option (Connection L))) → All (λ (x : Option (Connection L)). x ≡ None) places → AllGoOn seen places
 none_stand seen places free k c is over = nobody_at places k c free is
+
+-- ## What is said
+
+ok_err : {T E : Type 0} (x : T) (e : E) → Ok x ≡ Err e → ⊥
+ok_err x e h = cc
+
+-- turns that weren't refused had settled, whatever comes of the round
+pub settled_on : {L P T U : Type 0} (seen : L → ReadyValue) (settles : P → Result (Unit {0}) Fault → P → Type 0) (old new : List (Option (Connection L))) (q : P) (x : T) (r : Result U Fault) → SettledFirst seen settles old new q (Ok x) → SettledFirst seen settles old new q r
+settled_on seen settles old new q x r h = (
+  h.0,
+  elim h.1 [
+    | inl s ↦ inl s
+    | inr m ↦ absurd (ok_err x m.0 m.3)
+  ],
+)
+
+pub stood_none : {L : Type 0} (xs : List (Option (Connection L))) → StoodOrCame xs xs
+stood_none xs k c is = inl is
+
+pub stood_closed : {L : Type 0} (seen : L → ReadyValue) (xs ys zs : List (Option (Connection L))) → StoodOrCame xs ys → ((k : ℕ) → Closed seen (slice_get ys k) (slice_get zs k)) → StoodOrCame xs zs
+stood_closed seen xs ys zs h closed k c is = elim (closed k) [
+  | inl e ↦ h k c (sym e ∙ is)
+  | inr m ↦ absurd (no_one c (slice_get zs k) m.3 is)
+]
+
+pub stood_vacated : {L : Type 0} (xs ys zs : List (Option (Connection L))) → StoodOrCame xs ys → ((k : ℕ) → Vacated (slice_get ys k) (slice_get zs k)) → StoodOrCame xs zs
+stood_vacated xs ys zs h vacates k c is = elim (vacates k) [
+  | inl e ↦ h k c (sym e ∙ is)
+  | inr m ↦ absurd (no_one c (slice_get zs k) m.2 is)
+]
+
+pub stood_given : {L : Type 0} (xs ys zs : List (Option (Connection L))) → StoodOrCame xs ys → ((k : ℕ) → Given (slice_get ys k) (slice_get zs k)) → StoodOrCame xs zs
+stood_given {L = L} xs ys zs h given k c is = elim (given k) [
+  | inl e ↦ h k c (sym e ∙ is)
+  | inr m ↦ inr (m.0, subst (λ (d : Connection L). IsNew m.0 d) (some_one m.1 c (sym m.4 ∙ is)) m.2)
+]
 
 -- ## How many places there are
 

@@ -2,7 +2,7 @@
 ghost use Rattle.std.specs.Prelude.{◌≡◌, ◌++◌, ◌⊎◌, [], ℕ, List, All, true, false, None, Some, OnOk, IfOk, length};
 ghost use Rattle.readiness.specs.declared.connection.TheConstants.{LIMIT};
 ghost use Rattle.readiness.specs.Exchanges.{Entry, LogChain};
-ghost use Rattle.doors.specs.Rounds.{Round, IsSound, AreTaken};
+ghost use Rattle.doors.specs.Rounds.{Round, RoundSettled, IsSound, AreTaken};
 ghost use Rattle.doors.specs.Spans.{Spans};
 
 use crate::accepting::accept_all;
@@ -163,23 +163,26 @@ impl<L: ReadyLine + Drop, D: Doorway<L> + Drop> Doors<L, D> {
 
     /// Waits until a connection is ready or comes, gives each that is ready or was promised one a turn, closes those
     /// that are over, sends away one that has rested, where no place is free and more may wait, and gives free places
-    /// to those that came. `time` is when it begins, in milliseconds since some beginning; where it goes back, nobody
-    /// leaves early. Refused with `ReadFailed` where the door can't wait, and with `Memory`; then readiness may be
-    /// lost, and no further round should be asked for. Each request costs what the port takes for it, and a round what
-    /// is ready, and a look at no more than 1,024 places, whatever else stands there; a connection that is ready costs
-    /// two to four calls of its line.
+    /// to those that came. Turns are had together: all take in and are answered, the port settles, once, and then all
+    /// write. `time` is when it begins, in milliseconds since some beginning; where it goes back, nobody leaves early.
+    /// Refused with `ReadFailed` where the door can't wait, with `Memory`, and as settling is, and then nothing was
+    /// written in it; then readiness may be lost, and no further round should be asked for. Each request costs what the
+    /// port takes for it, and a round what is ready, what settling costs, and a look at no more than 1,024 places,
+    /// whatever else stands there; a connection that is ready costs two to four calls of its line.
     pub fn round<P: SharedPort>(&mut self, port: &mut P, time: u64) -> Result<(), Fault>
         // whatever was ready, the port goes through one chain of its steps
-        ensures chain { (log : List Entry) × LogChain P.steps port.old log port.new }
+        ensures chain { (log : List Entry) × LogChain P.steps (P.seen port.old) log (P.seen port.new) }
         // who was promised a turn is among those that are ready
         ensures promised { OnOk result ((told : List ℕ) × (self.new.ready.items ≡ self.old.again.items ++ told) × D.tells self.old.door told) }
-        ensures round { OnOk result ((log : List Entry) × Round LIMIT L.seen P.steps D.nobody D.announces time log self.old port.old self.new port.new) }
+        // no line says a byte more before the port has settled behind all that was asked
+        ensures settled { RoundSettled L.seen P.settles self.old.hall.places.places.items port.old self.new.hall.places.places.items port.new result }
+        ensures round { OnOk result ((log : List Entry) × Round LIMIT L.seen P.steps D.nobody D.announces time log self.old (P.seen port.old) self.new (P.seen port.new)) }
         // where a place is free, nobody waits for one, or accepting was refused
         ensures given { OnOk result (IsSound L.seen D.nobody self.old → AreTaken self.new.hall.places.places.items ⊎ (D.nobody self.new.door ⊎ D.refuses self.new.door)) }
         ensures sound { OnOk result (IsSound L.seen D.nobody self.old → IsSound L.seen D.nobody self.new) }
         ensures count { length self.new.hall.places.places.items ≡ length self.old.hall.places.places.items }
         ensures borne { self.new.idle ≡ self.old.idle }
-        ensures spans { Spans L.seen P.steps D.steps self.old.idle self.old.door self.old.hall.places.places.items port.old self.new.door self.new.hall.places.places.items port.new }
+        ensures spans { Spans L.seen P.steps D.steps self.old.idle self.old.door self.old.hall.places.places.items (P.seen port.old) self.new.door self.new.hall.places.places.items (P.seen port.new) }
     {
         self.hall.ended.clear();
         mark_last(&mut self.since, &self.ready, &mut self.hall.fresh, time);
@@ -218,7 +221,7 @@ impl<L: ReadyLine + Drop, D: Doorway<L> + Drop> Doors<L, D> {
 
     /// One round for each of these times, one after the other. Refused as `round` is, with the first that is.
     pub fn rounds<P: SharedPort>(&mut self, port: &mut P, times: &[u64]) -> Result<(), Fault>
-        ensures spans { Spans L.seen P.steps D.steps self.old.idle self.old.door self.old.hall.places.places.items port.old self.new.door self.new.hall.places.places.items port.new }
+        ensures spans { Spans L.seen P.steps D.steps self.old.idle self.old.door self.old.hall.places.places.items (P.seen port.old) self.new.door self.new.hall.places.places.items (P.seen port.new) }
         ensures sound { OnOk result (IsSound L.seen D.nobody self.old → IsSound L.seen D.nobody self.new) }
         ensures count { length self.new.hall.places.places.items ≡ length self.old.hall.places.places.items }
         ensures borne { self.new.idle ≡ self.old.idle }

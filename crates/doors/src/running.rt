@@ -20,7 +20,7 @@ pub fn run<L: ReadyLine + Drop, D: Doorway<L> + Drop, P: SharedPort>(
     idle: Option<u64>,
     times: &[u64],
 ) -> Result<Doors<L, D>, Fault>
-    ensures { IfOk result (λ d. HasServed L.seen P.steps D.steps idle door port.old d.door d.hall.places.places.items port.new) }
+    ensures { IfOk result (λ d. HasServed L.seen P.steps D.steps idle door (P.seen port.old) d.door d.hall.places.places.items (P.seen port.new)) }
 {
     let mut doors = Doors::new(alloc, door, places)?;
     doors.idle = idle;
@@ -39,7 +39,7 @@ pub fn run_lines<P: SharedPort>(
     idle: Option<u64>,
     times: &[u64],
 ) -> Result<Doors<MemoryLine, MemoryDoor>, Fault>
-    ensures { IfOk result (λ d. HasServedLines P.steps idle door.lines.items port.old d.door.lines.items d.hall.places.places.items port.new) }
+    ensures { IfOk result (λ d. HasServedLines P.steps idle door.lines.items (P.seen port.old) d.door.lines.items d.hall.places.places.items (P.seen port.new)) }
 {
     let doors = run(alloc, port, door, places, idle, times)?;
     Ok(doors)

@@ -14,7 +14,7 @@ use Rattle.front.proofs.Requests.{begins-more as begins-piece}
 use Rattle.front.proofs.Fed.{end_clean, end_inside}
 use Rattle.readiness.specs.declared.connection.Stage.{Stage}
 use Rattle.readiness.specs.declared.connection.Stage.TheVariants.{Open, Ending, Failed}
-use Rattle.readiness.specs.declared.taking.Stop.{Stop}
+use Rattle.readiness.specs.declared.connection.Stop.{Stop}
 use Rattle.readiness.specs.Lines.{ReadyValue}
 use Rattle.readiness.specs.Exchanges.{Exchange, requests, answers}
 use Rattle.readiness.specs.Kept.{View, Kept, Stands, IsOpen, HasFailed, IsStopped}

@@ -5,6 +5,7 @@ pub mod Turned
 pub mod Bounds
 pub mod Lists
 pub mod Positions
-pub mod Resting
+pub mod Silent
+pub mod Halves
 pub mod Lives
 pub mod Buffers

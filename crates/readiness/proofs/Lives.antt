@@ -20,7 +20,7 @@ use Rattle.readiness.specs.Lines.{ReadyValue}
 use Rattle.readiness.specs.Exchanges.{Exchange, only}
 use Rattle.readiness.specs.Kept.{view, Kept, IsNew}
 use Rattle.readiness.specs.Turns.{Extends, Turned, IsBounded}
-use Rattle.readiness.specs.Places.{TurnedAt, AreBounded}
+use Rattle.readiness.specs.Places.{TurnedAt, PlaceTurned, AreBounded}
 use Rattle.readiness.specs.Runs.{Admitted, lines_at, gone_at, standing, Lives, RanFor, HasArrived, HasLeft, arrivals}
 use Rattle.readiness.proofs.Lists.{get_set_same, get_set_other, got_within, get_last, get_past, get_before}
 use Rattle.readiness.proofs.Positions.{tag, logged, log-then, only-same, only-other, only-append}
@@ -194,6 +194,27 @@ ran-turned {L = L} {P = P} seen steps lines gone p old new q r place turned h =
           subst (λ (u : List (Option (Connection L))). RanFor seen steps lines gone p u r) (sym e.0) (subst (λ (u : P). RanFor seen steps lines gone p old u) (sym e.1) h)
       | inr e ↦ ran-on seen steps lines gone p old new q r place e.0 e.1 e.2 e.3 e.4 h
     ])
+
+lives-written : {L : Type 0} (seen : L → ReadyValue) (lines : List L) (past : List Exchange) (gone : List (Connection L)) (x y : Option (Option (Connection L))) → PlaceTurned seen [] x y → Lives seen lines past (gone ++ standing x) → Lives seen lines past (gone ++ standing y)
+lives-written {L = L} seen lines past gone None y h k = subst (λ (u : Option (Option (Connection L))). Lives seen lines past (gone ++ standing u)) (sym h.0) k
+lives-written {L = L} seen lines past gone (Some None) y h k = subst (λ (u : Option (Option (Connection L))). Lives seen lines past (gone ++ standing u)) (sym h.0) k
+lives-written seen lines past gone (Some (Some c)) None h k = absurd h
+lives-written seen lines past gone (Some (Some c)) (Some None) h k = absurd h
+lives-written seen lines past gone (Some (Some c)) (Some (Some d)) h k = subst (λ (t : List Exchange). Lives seen lines t (gone ++ d ∷ [])) (append-nil past) (lives-on seen lines past gone c [] d k h)
+
+-- the port has settled, and what waits is written
+pub ran-written : {L : Type 0} {P : Type 0} (seen : L → ReadyValue) (steps : ℕ → P → Op → Reply → P → Type 0) (lines : List L) (gone : List (Gone L)) (p : P) (old new : List (Option (Connection L))) (q r : P)
+    → r ≡ q → ((k : ℕ) → PlaceTurned seen [] (slice_get old k) (slice_get new k)) → RanFor seen steps lines gone p old q → RanFor seen steps lines gone p new r
+ran-written {L = L} {P = P} seen steps lines gone p old new q r same written h =
+    subst (λ (u : P). RanFor seen steps lines gone p new u) (sym same) (
+      h.0,
+      h.1,
+      h.2,
+      record {
+        chain = h.3.chain;
+        lives = λ k. lives-written seen (lines_at k h.0) (only k h.2) (gone_at k gone) (slice_get old k) (slice_get new k) (written k) (h.3.lives k);
+      },
+    )
 
 -- a connection that leaves its place is listed where it stood
 left_listed : {L : Type 0} (gone later : List (Gone L)) (old new : List (Option (Connection L))) (place : ℕ) (c : Connection L) (k : ℕ) → slice_get old place ≡ Some (Some c) → new ≡ slice_set old place None → later ≡ gone ++ record { place = place; connection = c } ∷ []

@@ -40,12 +40,12 @@ only-other j k (x ∷ more) e = rw (ne_eqb k j e) (only-other j k more e)
 pub only-append : (k : ℕ) (a b : List Entry) → only k (a ++ b) ≡ only k a ++ only k b
 only-append k a b = ap (λ (log : List Entry). map (λ (e : Entry). e.exchange) log) (filter-append (λ (e : Entry). e.place == k) a b) ∙ map-append (λ (e : Entry). e.exchange) (filter (λ (e : Entry). e.place == k) a) (filter (λ (e : Entry). e.place == k) b)
 
-place-none : {L : Type 0} (seen : L → ReadyValue) (x : Option (Option (Connection L))) → PlaceTurned seen [] x x
+pub place-none : {L : Type 0} (seen : L → ReadyValue) (x : Option (Option (Connection L))) → PlaceTurned seen [] x x
 place-none seen None = (refl, refl)
 place-none seen (Some None) = (refl, refl)
 place-none seen (Some (Some c)) = extends-none (view seen c)
 
-place-then : {L : Type 0} (seen : L → ReadyValue) (a b : List Exchange) (x y z : Option (Option (Connection L))) → PlaceTurned seen a x y → PlaceTurned seen b y z → PlaceTurned seen (a ++ b) x z
+pub place-then : {L : Type 0} (seen : L → ReadyValue) (a b : List Exchange) (x y z : Option (Option (Connection L))) → PlaceTurned seen a x y → PlaceTurned seen b y z → PlaceTurned seen (a ++ b) x z
 place-then {L = L} seen a b None y z h k =
     let t : PlaceTurned seen b None z = subst (λ (u : Option (Option (Connection L))). PlaceTurned seen b u z) h.0 k in
     (t.0, ap (λ (u : List Exchange). u ++ b) h.1 ∙ t.1)
@@ -112,13 +112,16 @@ chain_none steps p = ([], refl)
 pub chain_then : {P : Type 0} (steps : ℕ → P → Op → Reply → P → Type 0) (p q r : P) → ((log : List Entry) × LogChain steps p log q) → ((log : List Entry) × LogChain steps q log r) → (log : List Entry) × LogChain steps p log r
 chain_then steps p q r h k = (h.0 ++ k.0, log-then steps p h.0 q k.0 r h.1 k.1)
 
--- the steps of one turn
-pub turned_chain : {L : Type 0} {P : Type 0} (seen : L → ReadyValue) (steps : ℕ → P → Op → Reply → P → Type 0) (at : ℕ) (y : List (Option (Connection L))) (q : P) (z : List (Option (Connection L))) (r : P) → TurnedAt seen steps at y q z r → (log : List Entry) × LogChain steps q log r
+turned_chain : {L : Type 0} {P : Type 0} (seen : L → ReadyValue) (steps : ℕ → P → Op → Reply → P → Type 0) (at : ℕ) (y : List (Option (Connection L))) (q : P) (z : List (Option (Connection L))) (r : P) → TurnedAt seen steps at y q z r → (log : List Entry) × LogChain steps q log r
 turned_chain seen steps at y q z r turned =
     elim turned [
       | inl e ↦ ([], sym e.1)
       | inr e ↦ (tag at e.4.0, logged steps at q e.4.0 r e.4.1)
     ]
+
+-- the steps of one turn, behind which the port has settled, or hasn't
+pub settled_chain : {L : Type 0} {P : Type 0} (seen : L → ReadyValue) (steps : ℕ → P → Op → Reply → P → Type 0) (at : ℕ) (y : List (Option (Connection L))) (q : P) (z : List (Option (Connection L))) (r s : P) → s ≡ r → TurnedAt seen steps at y q z r → (log : List Entry) × LogChain steps q log s
+settled_chain {P = P} seen steps at y q z r s same turned = subst (λ (u : P). (log : List Entry) × LogChain steps q log u) (sym same) (turned_chain seen steps at y q z r turned)
 
 -- a place is read and emptied, and the connection has a turn and is put back
 pub turned_at : {L : Type 0} {P : Type 0} (seen : L → ReadyValue) (steps : ℕ → P → Op → Reply → P → Type 0) (old : List (Option (Connection L))) (at n : ℕ) (p q : P) (x left : Option (Connection L)) (c d : Connection L)

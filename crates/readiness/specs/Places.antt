@@ -1,13 +1,15 @@
 -- Many connections, each at its place, that ask one port.
-use Rattle.std.specs.Prelude.{◌≡◌, ℕ, ◌⊎◌, List, [], Option, Some, None, slice_get, slice_set}
+use Rattle.std.specs.Prelude.{◌≡◌, ℕ, ◌⊎◌, List, [], Option, Some, None, Result, Ok, Err, slice_get, slice_set}
 use Rattle.std.specs.List.{Contains}
+use Rattle.logical_time.specs.declared.fault.Fault.{Fault}
 use Rattle.messages.specs.declared.op.Op.{Op}
 use Rattle.wire.specs.Replies.{Reply}
 use Rattle.readiness.specs.declared.connection.Connection.{Connection}
+use Rattle.readiness.specs.declared.turning.After.{After}
 use Rattle.readiness.specs.Lines.{ReadyValue}
 use Rattle.readiness.specs.Exchanges.{Exchange, Entry, LogChain, only}
 use Rattle.readiness.specs.Kept.{view}
-use Rattle.readiness.specs.Turns.{Extends, Turned, IsOver, WaitsFor, IsBounded}
+use Rattle.readiness.specs.Turns.{Extends, Turned, IsOver, WaitsFor, IsBounded, IsLeft, HasStopped, SaysNothing}
 
 -- the connection at a place has a turn; or none stands there, and nothing changes
 abbrev pub TurnedAt : {L : Type 0} {P : Type 0} → (L → ReadyValue) → (ℕ → P → Op → Reply → P → Type 0) → ℕ → List (Option (Connection L)) → P → List (Option (Connection L)) → P → Type 0
@@ -38,3 +40,40 @@ Rests {L = L} limit seen ready again over old new = (k : ℕ) (c : Connection L)
 -- at each place at most the limit waits, and a reply more
 abbrev pub AreBounded : {L : Type 0} → ℕ → (L → ReadyValue) → List (Option (Connection L)) → Type 0
 AreBounded {L = L} limit seen places = (k : ℕ) (c : Connection L) → slice_get places k ≡ Some (Some c) → IsBounded limit (view seen c)
+
+-- whoever stands at a place stood there, and nothing was said to its line
+abbrev pub AreSilent : {L : Type 0} → (L → ReadyValue) → List (Option (Connection L)) → List (Option (Connection L)) → Type 0
+AreSilent {L = L} seen old new = (k : ℕ) (d : Connection L) → slice_get new k ≡ Some (Some d) → (c : Connection L) × (slice_get old k ≡ Some (Some c)) × SaysNothing (view seen c) (view seen d)
+
+-- The port has settled, and is as that left it: so it is settled behind all that it was asked. Or it didn't; then its
+-- fault is the result, and nothing was said to any line.
+abbrev pub SettledFirst : {L : Type 0} {P : Type 0} {T : Type 0} → (L → ReadyValue) → (P → Result (Unit {0}) Fault → P → Type 0) → List (Option (Connection L)) → List (Option (Connection L)) → P → Result T Fault → Type 0
+SettledFirst {L = L} {P = P} seen settles old new q result =
+    (p : P) × (settles p (Ok tt) q ⊎ ((f : Fault) × settles p (Err f) q × AreSilent seen old new × (result ≡ Err f)))
+
+-- ## Between the halves of turns
+
+-- who stands at a place has stopped taking in
+abbrev pub StoppedAt : {L : Type 0} → (L → ReadyValue) → List (Option (Connection L)) → ℕ → Type 0
+StoppedAt {L = L} seen places place = (c : Connection L) → slice_get places place ≡ Some (Some c) → HasStopped c.stop (view seen c)
+
+-- so has who stands at any of these places
+abbrev pub AreStopped : {L : Type 0} → (L → ReadyValue) → List ℕ → List (Option (Connection L)) → Type 0
+AreStopped seen ready places = (k : ℕ) → Contains ready k → StoppedAt seen places k
+
+-- so it is at these places, and nothing changes at others
+abbrev pub AreHeard : {L : Type 0} → (L → ReadyValue) → List ℕ → List (Option (Connection L)) → List (Option (Connection L)) → Type 0
+AreHeard seen ready old new = (k : ℕ) → (Contains ready k × StoppedAt seen new k) ⊎ ((Contains ready k → ⊥) × (slice_get new k ≡ slice_get old k))
+
+-- this is what a turn leaves of who stands at a place
+abbrev pub LeftAt : {L : Type 0} → ℕ → (L → ReadyValue) → List (Option (Connection L)) → ℕ → After → Type 0
+LeftAt {L = L} limit seen places place left = (c : Connection L) → slice_get places place ≡ Some (Some c) → IsLeft limit (view seen c) left
+
+-- who stands at a place waits for its line, or is told to go on; or it is over, and told so
+abbrev pub ToldAt : {L : Type 0} → ℕ → (L → ReadyValue) → List ℕ → List ℕ → List (Option (Connection L)) → ℕ → Type 0
+ToldAt {L = L} limit seen again over places k = (c : Connection L) → slice_get places k ≡ Some (Some c)
+    → ((IsOver (view seen c) → ⊥) × (WaitsFor limit (view seen c) ⊎ Contains again k)) ⊎ (IsOver (view seen c) × Contains over k)
+
+-- so it is at these places, and nothing changes at others
+abbrev pub AreTold : {L : Type 0} → ℕ → (L → ReadyValue) → List ℕ → List ℕ → List ℕ → List (Option (Connection L)) → List (Option (Connection L)) → Type 0
+AreTold limit seen ready again over old new = (k : ℕ) → (Contains ready k × ToldAt limit seen again over new k) ⊎ ((Contains ready k → ⊥) × (slice_get new k ≡ slice_get old k))

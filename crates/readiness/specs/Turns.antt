@@ -13,8 +13,8 @@ use Rattle.readiness.specs.declared.connection.Stage.{Stage}
 use Rattle.readiness.specs.declared.connection.Stage.TheVariants.{Open, Ending, Failed}
 use Rattle.readiness.specs.declared.writing.Flow.{Flow}
 use Rattle.readiness.specs.declared.writing.Flow.TheVariants as flow
-use Rattle.readiness.specs.declared.taking.Stop.{Stop}
-use Rattle.readiness.specs.declared.taking.Stop.TheVariants as stop
+use Rattle.readiness.specs.declared.connection.Stop.{Stop}
+use Rattle.readiness.specs.declared.connection.Stop.TheVariants as stop
 use Rattle.readiness.specs.declared.turning.After.{After}
 use Rattle.readiness.specs.declared.turning.After.TheVariants.{Waits, Again, Over}
 use Rattle.readiness.specs.Lines.{ReadyValue}
@@ -109,10 +109,14 @@ IsOver v = (v.stage ≡ Failed) ⊎ ((is_open v.stage ≡ false) × IsDone v)
 abbrev pub IsAnswered : View → Type 0
 IsAnswered v = v.reader.held ≡ []
 
+-- nothing more is read, or nothing more has come, or too much waits
+abbrev pub TakesNoMore : ℕ → View → Type 0
+TakesNoMore limit v = (is_open v.stage ≡ false) ⊎ ((v.line.dry ≡ true) ⊎ (limit < length v.waiting))
+
 -- Why it waits: all has gone, or the line has no room; and nothing more has come, or nothing more is read, or too much
 -- waits. So the line tells when it is to go on.
 abbrev pub WaitsFor : ℕ → View → Type 0
-WaitsFor limit v = (IsDone v ⊎ (v.line.full ≡ true)) × ((is_open v.stage ≡ false) ⊎ ((v.line.dry ≡ true) ⊎ (limit < length v.waiting)))
+WaitsFor limit v = (IsDone v ⊎ (v.line.full ≡ true)) × TakesNoMore limit v
 
 -- what waits is at most the limit, and a reply more
 abbrev pub IsBounded : ℕ → View → Type 0
@@ -124,6 +128,17 @@ StopsFor limit stop.Dry v = v.line.dry ≡ true
 StopsFor limit stop.Full v = limit < length v.waiting
 StopsFor limit stop.Over v = is_open v.stage ≡ false
 StopsFor limit stop.Spent v = Unit {0}
+
+-- why no more was taken in, of which this holds still when something was written since
+abbrev pub HasStopped : Stop → View → Type 0
+HasStopped stop.Dry v = v.line.dry ≡ true
+HasStopped stop.Full v = Unit {0}
+HasStopped stop.Over v = is_open v.stage ≡ false
+HasStopped stop.Spent v = Unit {0}
+
+-- the line has said what it had said, and has room as it had
+abbrev pub SaysNothing : View → View → Type 0
+SaysNothing v w = (w.line.line.said ≡ v.line.line.said) × (w.line.full ≡ v.line.full)
 
 -- what a turn leaves of a connection: it waits for its line, or could go on at once, and isn't over; or it is over
 abbrev pub IsLeft : ℕ → View → After → Type 0

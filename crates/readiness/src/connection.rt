@@ -1,7 +1,7 @@
 //! A connection, as it stands between two turns.
 ghost use Rattle.std.specs.Prelude.{◌≡◌, true, false};
 ghost use Rattle.readiness.specs.Kept.{IsNew, view};
-ghost use Rattle.readiness.specs.Turns.{IsOver, IsAnswered};
+ghost use Rattle.readiness.specs.Turns.{IsOver, IsAnswered, HasStopped, TakesNoMore};
 
 use crate::last::Last;
 use crate::line::ReadyLine;
@@ -24,6 +24,19 @@ pub(crate) enum Stage {
     Failed,
 }
 
+/// Why no more was taken in.
+#[derive(Clone, Copy)]
+pub(crate) enum Stop {
+    /// Nothing had come.
+    Dry,
+    /// Too much waited.
+    Full,
+    /// Nothing is read any more.
+    Over,
+    /// The steps of this turn were spent.
+    Spent,
+}
+
 /// A connection: its line, the requests and bytes that were read, and the replies that the line hasn't taken yet.
 #[derive(Drop)]
 pub struct Connection<L> {
@@ -33,6 +46,8 @@ pub struct Connection<L> {
     pub(crate) stage: Stage,
     // Why the stream was refused, if it was.
     pub(crate) refused: Option<Fault>,
+    // Why taking in stopped last.
+    pub(crate) stop: Stop,
 }
 
 impl<L> Connection<L> {
@@ -46,6 +61,7 @@ impl<L> Connection<L> {
             waiting: BytesMut::new(alloc),
             stage: Stage::Open(None),
             refused: None,
+            stop: Stop::Spent,
         }
     }
 
@@ -82,6 +98,19 @@ impl<L: ReadyLine> Connection<L> {
             Stage::Open(_) => false,
             Stage::Ending(last) => self.waiting.is_empty() && last.is_empty(),
             Stage::Failed => true,
+        }
+    }
+
+    /// Whether it could go on at once: taking in stopped since its steps were spent, or since too much waited, and by now
+    /// no more than `LIMIT` does.
+    pub(crate) fn could_go_on(&self) -> bool
+        ensures { result ≡ false → HasStopped self.now.stop (view L.seen self.now) → TakesNoMore LIMIT (view L.seen self.now) }
+    {
+        match self.stop {
+            Stop::Dry => false,
+            Stop::Full => self.waiting.len() <= LIMIT,
+            Stop::Over => false,
+            Stop::Spent => true,
         }
     }
 

@@ -1,15 +1,16 @@
 //! Places for connections.
-ghost use Rattle.std.specs.Prelude.{◌≡◌, ◌≢◌, ◌<◌, ◌⊎◌, ℕ, List, length, IfOk, OnOk, IfSome, Contains, All, Any, true, false, IfNone, Some, None, slice_get, slice_set};
+ghost use Rattle.std.specs.Prelude.{◌≡◌, ◌≢◌, ◌<◌, ◌⊎◌, [], ℕ, List, length, IfOk, OnOk, IfSome, Contains, All, Any, true, false, IfNone, Some, None, slice_get, slice_set};
 ghost use Rattle.readiness.specs.declared.connection.Connection.{Connection};
 ghost use Rattle.readiness.specs.Exchanges.{Entry};
 ghost use Rattle.readiness.specs.Kept.{IsNew, view};
-ghost use Rattle.readiness.specs.Turns.{IsAnswered, IsLeft, IsOver};
-ghost use Rattle.readiness.specs.Places.{TurnedAt, Turns, Rests, AreBounded};
+ghost use Rattle.readiness.specs.Turns.{IsAnswered, IsOver};
+ghost use Rattle.readiness.specs.Places.{TurnedAt, PlaceTurned, Turns, Rests, AreBounded, AreSilent, StoppedAt, AreStopped, AreHeard, LeftAt, AreTold, SettledFirst};
 
 use crate::connection::{Connection, LIMIT};
 use crate::line::ReadyLine;
 use crate::shared::SharedPort;
-use crate::turning::{After, turn};
+use crate::turning::{After, listen, reply};
+use logical_time::Fault;
 use std::alloc::{AllocError, Global};
 
 /// Places for connections; at each stands one, or it is free.
@@ -110,28 +111,47 @@ impl<L: ReadyLine + Drop> Places<L> {
     }
 }
 
-/// A turn of the connection at a place, if one stands there.
-pub(crate) fn turn_at<L: ReadyLine + Drop, P: SharedPort>(
+/// The first half of a turn of the connection at a place, if one stands there: it takes in. Nothing is written.
+pub(crate) fn listen_at<L: ReadyLine + Drop, P: SharedPort>(
     alloc: Global,
     port: &mut P,
     places: &mut Places<L>,
     place: usize,
     buffer: &mut [u8],
-) -> After
+)
     requires { 0 < length buffer.old }
-    ensures turned { TurnedAt L.seen P.steps place places.old.places.items port.old places.new.places.items port.new }
-    ensures rests { (c : Connection L) → slice_get places.new.places.items place ≡ Some (Some c) → IsLeft LIMIT (view L.seen c) result }
+    ensures turned { TurnedAt L.seen P.steps place places.old.places.items (P.seen port.old) places.new.places.items (P.seen port.new) }
+    ensures stops { StoppedAt L.seen places.new.places.items place }
+    ensures others { (k : ℕ) → (place ≡ k → ⊥) → slice_get places.new.places.items k ≡ slice_get places.old.places.items k }
+    ensures silent { AreSilent L.seen places.old.places.items places.new.places.items }
+    ensures bounded { AreBounded LIMIT L.seen places.old.places.items → AreBounded LIMIT L.seen places.new.places.items }
+{
+    if place >= places.places.len() {
+        return;
+    }
+    let Some(mut connection) = places.places[place].take() else {
+        return;
+    };
+    listen(alloc, port, place, &mut connection, buffer);
+    places.places[place] = Some(connection);
+}
+
+/// The second half of a turn of the connection at a place, if one stands there: it writes. Nothing is asked.
+pub(crate) fn reply_at<L: ReadyLine + Drop>(places: &mut Places<L>, place: usize) -> After
+    ensures written { (k : ℕ) → PlaceTurned L.seen [] (slice_get places.old.places.items k) (slice_get places.new.places.items k) }
+    ensures stays { StoppedAt L.seen places.old.places.items place → StoppedAt L.seen places.new.places.items place }
+    ensures left { StoppedAt L.seen places.old.places.items place → LeftAt LIMIT L.seen places.new.places.items place result }
     ensures others { (k : ℕ) → (place ≡ k → ⊥) → slice_get places.new.places.items k ≡ slice_get places.old.places.items k }
     ensures bounded { AreBounded LIMIT L.seen places.old.places.items → AreBounded LIMIT L.seen places.new.places.items }
 {
     if place >= places.places.len() {
         return After::Waits;
     }
-    let Some(mut connection) = places.places[place].take() else {
+    let Some(mut standing) = places.places[place].take() else {
         return After::Waits;
     };
-    let left = turn(alloc, port, place, &mut connection, buffer);
-    places.places[place] = Some(connection);
+    let left = reply(&mut standing);
+    places.places[place] = Some(standing);
     left
 }
 
@@ -155,9 +175,47 @@ fn tell(
     Ok(())
 }
 
-/// A turn for the connection at each of these places, in this order, whichever they are. Places of connections that
-/// could go on at once are put into `again`, and of those that are over into `over`. Where memory for that is refused,
-/// it ends early.
+// The first halves of turns, at each of these places.
+fn listen_all<L: ReadyLine + Drop, P: SharedPort>(
+    alloc: Global,
+    port: &mut P,
+    places: &mut Places<L>,
+    ready: &[usize],
+    buffer: &mut [u8],
+)
+    requires { 0 < length buffer.old }
+    ensures turned { (log : List Entry) × Turns L.seen P.steps log places.old.places.items (P.seen port.old) places.new.places.items (P.seen port.new) }
+    ensures heard { AreHeard L.seen ready.now places.old.places.items places.new.places.items }
+    ensures silent { AreSilent L.seen places.old.places.items places.new.places.items }
+    ensures bounded { AreBounded LIMIT L.seen places.old.places.items → AreBounded LIMIT L.seen places.new.places.items }
+{
+    for place in ready {
+        listen_at(alloc, port, places, *place, buffer);
+    }
+}
+
+// The second halves, at each of these places. Where memory for what is told of them is refused, it ends early.
+fn reply_all<L: ReadyLine + Drop>(
+    places: &mut Places<L>,
+    ready: &[usize],
+    again: &mut Vec<usize>,
+    over: &mut Vec<usize>,
+) -> Result<(), AllocError>
+    ensures written { (k : ℕ) → PlaceTurned L.seen [] (slice_get places.old.places.items k) (slice_get places.new.places.items k) }
+    ensures told { OnOk result (AreStopped L.seen ready.now places.old.places.items → AreTold LIMIT L.seen ready.now again.new.items over.new.items places.old.places.items places.new.places.items) }
+    ensures bounded { AreBounded LIMIT L.seen places.old.places.items → AreBounded LIMIT L.seen places.new.places.items }
+{
+    for place in ready {
+        let left = reply_at(places, *place);
+        tell(again, over, *place, left)?;
+    }
+    Ok(())
+}
+
+/// A turn for the connection at each of these places, in this order, whichever they are: first each takes in and is
+/// answered, then the port settles, once, and then each writes what its line takes. Places of connections that could go
+/// on at once are put into `again`, and of those that are over into `over`. Refused as settling is, and then nothing is
+/// written; and with `Memory`, where it is refused for that: then it ends early.
 pub fn turns<L: ReadyLine + Drop, P: SharedPort>(
     alloc: Global,
     port: &mut P,
@@ -166,15 +224,16 @@ pub fn turns<L: ReadyLine + Drop, P: SharedPort>(
     again: &mut Vec<usize>,
     over: &mut Vec<usize>,
     buffer: &mut [u8],
-) -> Result<(), AllocError>
+) -> Result<(), Fault>
     requires { 0 < length buffer.old }
-    ensures turned { (log : List Entry) × Turns L.seen P.steps log places.old.places.items port.old places.new.places.items port.new }
+    ensures turned { (log : List Entry) × Turns L.seen P.steps log places.old.places.items (P.seen port.old) places.new.places.items (P.seen port.new) }
     ensures rests { OnOk result (Rests LIMIT L.seen ready.now again.new.items over.new.items places.old.places.items places.new.places.items) }
+    // no line says a byte more before the port has settled behind all that was asked
+    ensures settled { SettledFirst L.seen P.settles places.old.places.items places.new.places.items port.new result }
     ensures bounded { AreBounded LIMIT L.seen places.old.places.items → AreBounded LIMIT L.seen places.new.places.items }
 {
-    for place in ready {
-        let left = turn_at(alloc, port, places, *place, buffer);
-        tell(again, over, *place, left)?;
-    }
+    listen_all(alloc, port, places, ready, buffer);
+    port.settle()?;
+    reply_all(places, ready, again, over)?;
     Ok(())
 }

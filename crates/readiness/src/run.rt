@@ -7,8 +7,9 @@ ghost use Rattle.readiness.specs.Runs.{RanFor, HasArrived, HasLeft, arrivals};
 
 use crate::connection::{Connection, LIMIT};
 use crate::line::ReadyLine;
-use crate::places::{Places, turn_at};
+use crate::places::{Places, listen_at, reply_at};
 use crate::shared::SharedPort;
+use logical_time::Fault;
 use std::alloc::{AllocError, Global};
 
 /// What happens next.
@@ -16,7 +17,7 @@ use std::alloc::{AllocError, Global};
 pub enum Act<L> {
     /// A line arrives, and is given the first free place, or a new one where none is free.
     Arrives(L),
-    /// The connection at a place has a turn, if one stands there.
+    /// The connection at a place has a turn, if one stands there: it takes in, the port settles, and it writes.
     Ready(usize),
     /// The connection at a place leaves it, if one stands there.
     Leaves(usize),
@@ -100,10 +101,10 @@ fn act_on<L: ReadyLine + Drop, P: SharedPort>(
     run: &mut Run<L>,
     act: Act<L>,
     buffer: &mut [u8],
-) -> Result<(), AllocError>
+) -> Result<(), Fault>
     requires { 0 < length buffer.old }
-    ensures chain { (log : List Entry) × LogChain P.steps port.old log port.new }
-    ensures ran { OnOk result ((lines : List L) (p : P) → RanFor L.seen P.steps lines run.old.gone.items p run.old.places.places.items port.old → RanFor L.seen P.steps (lines ++ arrivals (act ∷ [])) run.new.gone.items p run.new.places.places.items port.new) }
+    ensures chain { (log : List Entry) × LogChain P.steps (P.seen port.old) log (P.seen port.new) }
+    ensures ran { OnOk result ((lines : List L) (p : P.State) → RanFor L.seen P.steps lines run.old.gone.items p run.old.places.places.items (P.seen port.old) → RanFor L.seen P.steps (lines ++ arrivals (act ∷ [])) run.new.gone.items p run.new.places.places.items (P.seen port.new)) }
     ensures bounded { OnOk result (AreBounded LIMIT L.seen run.old.places.places.items → AreBounded LIMIT L.seen run.new.places.places.items) }
 {
     match act {
@@ -112,7 +113,9 @@ fn act_on<L: ReadyLine + Drop, P: SharedPort>(
             Ok(())
         }
         Act::Ready(place) => {
-            let _left = turn_at(alloc, port, &mut run.places, place, buffer);
+            listen_at(alloc, port, &mut run.places, place, buffer);
+            port.settle()?;
+            let _left = reply_at(&mut run.places, place);
             Ok(())
         }
         Act::Leaves(place) => {
@@ -124,16 +127,17 @@ fn act_on<L: ReadyLine + Drop, P: SharedPort>(
 
 /// Serves lines together, as they arrive, have turns and leave, in whatever order. A place that was left is given
 /// again. What was read from each line spells the requests that its connection asked, and what was written to it tells
-/// their answers; each request is a step of the place where its connection stood.
+/// their answers; each request is a step of the place where its connection stood. Refused
+/// with `Memory`, and as settling is.
 pub fn run_all<L: ReadyLine + Drop, P: SharedPort>(
     alloc: Global,
     port: &mut P,
     acts: Vec<Act<L>>,
     buffer: &mut [u8],
-) -> Result<Run<L>, AllocError>
+) -> Result<Run<L>, Fault>
     requires { 0 < length buffer.old }
-    ensures chain { (log : List Entry) × LogChain P.steps port.old log port.new }
-    ensures ran { IfOk result (λ run. RanFor L.seen P.steps (arrivals acts.items) run.gone.items port.old run.places.places.items port.new) }
+    ensures chain { (log : List Entry) × LogChain P.steps (P.seen port.old) log (P.seen port.new) }
+    ensures ran { IfOk result (λ run. RanFor L.seen P.steps (arrivals acts.items) run.gone.items (P.seen port.old) run.places.places.items (P.seen port.new)) }
     ensures bounded { IfOk result (λ run. AreBounded LIMIT L.seen run.places.places.items) }
 {
     let mut run = Run {

@@ -4,9 +4,9 @@ ghost use Rattle.front.specs.Lines.{hears, ends};
 ghost use Rattle.front.specs.Served.{IsEncoding, IsRefusal, any_need};
 ghost use Rattle.readiness.specs.Kept.{view};
 ghost use Rattle.readiness.specs.Lines.{ReadyValue};
-ghost use Rattle.readiness.specs.Turns.{Turned, Keeps, AnswersNext, IsRefused, StopsAt, IsBounded, StopsFor, is_open};
+ghost use Rattle.readiness.specs.Turns.{Turned, Keeps, AnswersNext, IsRefused, StopsAt, IsBounded, StopsFor, SaysNothing, is_open};
 
-use crate::connection::{Connection, LIMIT, Stage};
+use crate::connection::{Connection, LIMIT, Stage, Stop};
 use crate::last::{Last, REFUSAL_BYTES};
 use crate::line::{Came, ReadyLine};
 use crate::shared::SharedPort;
@@ -15,19 +15,6 @@ use logical_time::Fault;
 use messages::Outcome;
 use std::alloc::Global;
 use wire::{encode_refusal, encode_reply};
-
-/// Why no more is taken in now.
-#[derive(Clone, Copy)]
-pub(crate) enum Stop {
-    /// Nothing has come.
-    Dry,
-    /// Too much waits.
-    Full,
-    /// Nothing is read any more.
-    Over,
-    /// The steps of this turn are spent.
-    Spent,
-}
 
 /// How many steps of taking in a turn has at most, before others have theirs.
 const STEPS: usize = 4096;
@@ -69,7 +56,7 @@ fn answer_next<L: ReadyLine, P: SharedPort>(
     connection: &mut Connection<L>,
 ) -> bool
     requires { REFUSAL_BYTES ≤ connection.old.waiting.spare }
-    ensures { AnswersNext (P.steps place) result (view L.seen connection.old) port.old (view L.seen connection.new) port.new }
+    ensures { AnswersNext (P.steps place) result (view L.seen connection.old) (P.seen port.old) (view L.seen connection.new) (P.seen port.new) }
 {
     let Some(op) = connection.reader.next() else {
         return false;
@@ -94,6 +81,7 @@ fn take_piece<L: ReadyLine>(connection: &mut Connection<L>, piece: &[u8]) -> Opt
     ensures keeps { (s : ReadyValue) → (L.seen connection.old.line).line ≡ hears piece.now s.line → Keeps (record { line = s; reader = connection.old.reader; waiting = connection.old.waiting.items; stage = connection.old.stage }) (view L.seen connection.new) }
     ensures waiting { connection.new.waiting.items ≡ connection.old.waiting.items }
     ensures stops { IfSome result (λ stop. StopsFor LIMIT stop (view L.seen connection.new)) }
+    ensures line { L.seen connection.new.line ≡ L.seen connection.old.line }
 {
     match connection.reader.feed(piece) {
         Ok(()) => None,
@@ -121,6 +109,7 @@ fn end_of_input<L: ReadyLine>(connection: &mut Connection<L>)
     ensures keeps { (s : ReadyValue) → (L.seen connection.old.line).line ≡ ends s.line → Keeps (record { line = s; reader = connection.old.reader; waiting = connection.old.waiting.items; stage = connection.old.stage }) (view L.seen connection.new) }
     ensures waiting { connection.new.waiting.items ≡ connection.old.waiting.items }
     ensures stops { is_open connection.new.stage ≡ false }
+    ensures line { L.seen connection.new.line ≡ L.seen connection.old.line }
 {
     match connection.reader.finish() {
         Ok(()) => connection.stage = Stage::Ending(Last::none()),
@@ -136,6 +125,7 @@ fn hear<L: ReadyLine>(connection: &mut Connection<L>, buffer: &mut [u8]) -> Opti
     ensures keeps { Keeps (view L.seen connection.old) (view L.seen connection.new) }
     ensures waiting { connection.new.waiting.items ≡ connection.old.waiting.items }
     ensures stops { IfSome result (λ stop. StopsFor LIMIT stop (view L.seen connection.new)) }
+    ensures silent { SaysNothing (view L.seen connection.old) (view L.seen connection.new) }
 {
     match connection.line.read(buffer) {
         Came::Bytes(n) => take_piece(connection, &buffer[..n]),
@@ -163,9 +153,10 @@ fn go_on<L: ReadyLine, P: SharedPort>(
     requires stage { connection.old.stage ≡ Stage.Open stopped }
     requires spare { REFUSAL_BYTES ≤ connection.old.waiting.spare }
     requires room { 0 < length buffer.old }
-    ensures turned { Turned (P.steps place) (view L.seen connection.old) port.old (view L.seen connection.new) port.new }
+    ensures turned { Turned (P.steps place) (view L.seen connection.old) (P.seen port.old) (view L.seen connection.new) (P.seen port.new) }
     ensures bounded { length connection.old.waiting.items ≤ LIMIT → IsBounded LIMIT (view L.seen connection.new) }
     ensures stops { IfSome result (λ stop. StopsFor LIMIT stop (view L.seen connection.new)) }
+    ensures silent { SaysNothing (view L.seen connection.old) (view L.seen connection.new) }
 {
     if answer_next(alloc, port, place, connection) {
         return None;
@@ -190,9 +181,10 @@ fn step_open<L: ReadyLine, P: SharedPort>(
 ) -> Option<Stop>
     requires stage { connection.old.stage ≡ Stage.Open stopped }
     requires room { 0 < length buffer.old }
-    ensures turned { Turned (P.steps place) (view L.seen connection.old) port.old (view L.seen connection.new) port.new }
+    ensures turned { Turned (P.steps place) (view L.seen connection.old) (P.seen port.old) (view L.seen connection.new) (P.seen port.new) }
     ensures bounded { IsBounded LIMIT (view L.seen connection.old) → IsBounded LIMIT (view L.seen connection.new) }
     ensures stops { IfSome result (λ stop. StopsFor LIMIT stop (view L.seen connection.new)) }
+    ensures silent { SaysNothing (view L.seen connection.old) (view L.seen connection.new) }
 {
     let waits = connection.waiting.len();
     if waits > LIMIT {
@@ -216,9 +208,10 @@ fn step<L: ReadyLine, P: SharedPort>(
     buffer: &mut [u8],
 ) -> Option<Stop>
     requires { 0 < length buffer.old }
-    ensures turned { Turned (P.steps place) (view L.seen connection.old) port.old (view L.seen connection.new) port.new }
+    ensures turned { Turned (P.steps place) (view L.seen connection.old) (P.seen port.old) (view L.seen connection.new) (P.seen port.new) }
     ensures bounded { IsBounded LIMIT (view L.seen connection.old) → IsBounded LIMIT (view L.seen connection.new) }
     ensures stops { IfSome result (λ stop. StopsFor LIMIT stop (view L.seen connection.new)) }
+    ensures silent { SaysNothing (view L.seen connection.old) (view L.seen connection.new) }
 {
     match connection.stage {
         Stage::Open(stopped) => step_open(alloc, port, place, connection, stopped, buffer),
@@ -226,7 +219,7 @@ fn step<L: ReadyLine, P: SharedPort>(
     }
 }
 
-/// Takes in what has come, until no more is there, or no more is wanted.
+/// Takes in what has come, until no more is there, or no more is wanted. Gives why it stopped. Writes nothing.
 pub(crate) fn take_in<L: ReadyLine, P: SharedPort>(
     alloc: Global,
     port: &mut P,
@@ -235,9 +228,10 @@ pub(crate) fn take_in<L: ReadyLine, P: SharedPort>(
     buffer: &mut [u8],
 ) -> Stop
     requires { 0 < length buffer.old }
-    ensures turned { Turned (P.steps place) (view L.seen connection.old) port.old (view L.seen connection.new) port.new }
+    ensures turned { Turned (P.steps place) (view L.seen connection.old) (P.seen port.old) (view L.seen connection.new) (P.seen port.new) }
     ensures bounded { IsBounded LIMIT (view L.seen connection.old) → IsBounded LIMIT (view L.seen connection.new) }
     ensures stops { StopsFor LIMIT result (view L.seen connection.new) }
+    ensures silent { SaysNothing (view L.seen connection.old) (view L.seen connection.new) }
 {
     for _ in 0..STEPS {
         if let Some(stop) = step(alloc, port, place, connection, buffer) {

@@ -1,17 +1,14 @@
-//! A turn of one connection.
-ghost use Rattle.std.specs.Prelude.{◌≡◌, ◌<◌, length};
+//! A turn of one connection, in two halves: first it takes in, and when the port has settled, it writes.
+ghost use Rattle.std.specs.Prelude.{◌≡◌, ◌<◌, ◌≤◌, length};
 ghost use Rattle.readiness.specs.Kept.{view};
-ghost use Rattle.readiness.specs.Turns.{Turned, IsBounded, IsOver, WaitsFor};
+ghost use Rattle.readiness.specs.Turns.{Turned, Keeps, IsBounded, IsLeft, HasStopped, SaysNothing};
 
 use crate::connection::{Connection, LIMIT};
 use crate::line::ReadyLine;
 use crate::shared::SharedPort;
-use crate::taking::{Stop, take_in};
+use crate::taking::take_in;
 use crate::writing::flush;
 use std::alloc::Global;
-
-/// How often a turn takes in and writes, at most.
-const ROUNDS: usize = 4;
 
 /// What a turn leaves.
 #[derive(Clone, Copy, PartialEq, Eq)]
@@ -24,46 +21,40 @@ pub enum After {
     Over,
 }
 
-// What a turn leaves: this, unless the connection is over.
-fn unless_over<L: ReadyLine>(connection: &Connection<L>, after: After) -> After
-    requires { after ≡ After.Over → ⊥ }
-    ensures over { result ≡ After.Over → IsOver (view L.seen connection.now) }
-    ensures goes_on { (result ≡ After.Over → ⊥) → IsOver (view L.seen connection.now) → ⊥ }
-    ensures otherwise { (result ≡ After.Over → ⊥) → result ≡ after }
-{
-    if connection.is_over() {
-        After::Over
-    } else {
-        after
-    }
-}
-
-/// Takes in what has come by the connection at a place, answers its requests, and writes what its line takes. Answers
-/// no further request while more than `LIMIT` bytes wait, and doesn't end before its line said that it would block,
-/// unless it gives `Again`, after 4,096 steps or four rounds of taking in and writing, so that others have turns. Waits
-/// for nothing.
-pub fn turn<L: ReadyLine, P: SharedPort>(
+/// The first half: takes in what has come by the connection at a place, and answers its requests. Answers no further
+/// request while more than `LIMIT` bytes wait, and doesn't end before its line said that it would block, unless 4,096
+/// steps are spent. Notes why it ended. Writes nothing, and waits for nothing.
+pub(crate) fn listen<L: ReadyLine, P: SharedPort>(
     alloc: Global,
     port: &mut P,
     place: usize,
     connection: &mut Connection<L>,
     buffer: &mut [u8],
-) -> After
+)
     requires { 0 < length buffer.old }
-    ensures turned { Turned (P.steps place) (view L.seen connection.old) port.old (view L.seen connection.new) port.new }
-    ensures over { result ≡ After.Over → IsOver (view L.seen connection.new) }
-    ensures goes_on { (result ≡ After.Over → ⊥) → IsOver (view L.seen connection.new) → ⊥ }
-    ensures waits { result ≡ After.Waits → WaitsFor LIMIT (view L.seen connection.new) }
+    ensures turned { Turned (P.steps place) (view L.seen connection.old) (P.seen port.old) (view L.seen connection.new) (P.seen port.new) }
     ensures bounded { IsBounded LIMIT (view L.seen connection.old) → IsBounded LIMIT (view L.seen connection.new) }
+    ensures stops { HasStopped connection.new.stop (view L.seen connection.new) }
+    ensures silent { SaysNothing (view L.seen connection.old) (view L.seen connection.new) }
 {
-    for _ in 0..ROUNDS {
-        let stop = take_in(alloc, port, place, connection, buffer);
-        flush(connection);
-        match stop {
-            Stop::Full if connection.waiting.len() <= LIMIT => {}
-            Stop::Spent => return unless_over(connection, After::Again),
-            Stop::Dry | Stop::Full | Stop::Over => return unless_over(connection, After::Waits),
-        }
+    let stop = take_in(alloc, port, place, connection, buffer);
+    connection.stop = stop;
+}
+
+/// The second half: writes what waits, as far as the line takes it, and tells what the turn leaves. Asks nothing, and
+/// waits for nothing.
+pub(crate) fn reply<L: ReadyLine>(connection: &mut Connection<L>) -> After
+    ensures keeps { Keeps (view L.seen connection.old) (view L.seen connection.new) }
+    ensures shrinks { length connection.new.waiting.items ≤ length connection.old.waiting.items }
+    ensures stays { HasStopped connection.old.stop (view L.seen connection.old) → HasStopped connection.new.stop (view L.seen connection.new) }
+    ensures left { HasStopped connection.old.stop (view L.seen connection.old) → IsLeft LIMIT (view L.seen connection.new) result }
+{
+    flush(connection);
+    if connection.is_over() {
+        return After::Over;
     }
-    unless_over(connection, After::Again)
+    if connection.could_go_on() {
+        return After::Again;
+    }
+    After::Waits
 }

@@ -57,7 +57,8 @@ fn push<L: ReadyLine>(line: &mut L, piece: &[u8]) -> Sent
 
 // Writes the replies that wait. Gives why no more of them went.
 fn flush_waiting<L: ReadyLine>(connection: &mut Connection<L>) -> Flow
-    ensures { WaitingFlushed result (view L.seen connection.old) (view L.seen connection.new) }
+    ensures flushed { WaitingFlushed result (view L.seen connection.old) (view L.seen connection.new) }
+    ensures stop { connection.new.stop ≡ connection.old.stop }
 {
     let sent = push(&mut connection.line, connection.waiting.as_slice());
     connection.waiting.advance(sent.gone);
@@ -84,6 +85,7 @@ fn flush_last<L: ReadyLine>(connection: &mut Connection<L>)
     ensures waiting { connection.new.waiting.items ≡ [] }
     ensures dry { (L.seen connection.new.line).dry ≡ (L.seen connection.old.line).dry }
     ensures flushed { Flushed (view L.seen connection.old) (view L.seen connection.new) }
+    ensures stop { connection.new.stop ≡ connection.old.stop }
 {
     match mem::replace(&mut connection.stage, Stage::Failed) {
         Stage::Open(fault) => connection.stage = Stage::Open(fault),
@@ -98,6 +100,7 @@ pub(crate) fn flush<L: ReadyLine>(connection: &mut Connection<L>)
     ensures shrinks { length connection.new.waiting.items ≤ length connection.old.waiting.items }
     ensures dry { (L.seen connection.new.line).dry ≡ (L.seen connection.old.line).dry }
     ensures flushed { Flushed (view L.seen connection.old) (view L.seen connection.new) }
+    ensures stop { connection.new.stop ≡ connection.old.stop }
 {
     if connection.has_failed() {
         return;

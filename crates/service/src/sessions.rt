@@ -1,5 +1,5 @@
 //! The sessions of a world, each for the connection at a place.
-ghost use Rattle.std.specs.Prelude.{◌≡◌, ◌<◌, List, length, IfOk, OnOk};
+ghost use Rattle.std.specs.Prelude.{◌≡◌, ◌<◌, List, length, Ok, IfOk, OnOk};
 ghost use Rattle.readiness.specs.Exchanges.{Entry};
 ghost use Rattle.readiness.specs.Places.{Turns, Rests, AreBounded};
 ghost use Rattle.readiness.specs.Runs.{RanFor, arrivals};
@@ -11,7 +11,7 @@ use crate::host::Host;
 use logical_time::Fault;
 use messages::{Op, Outcome};
 use readiness::{Act, Places, ReadyLine, Run, SharedPort, run_all, turns};
-use std::alloc::{AllocError, Global};
+use std::alloc::Global;
 
 /// The sessions of a world, as the port of many connections: the connection at a place asks as the session of that
 /// index. So the next connection at a place goes on with what that session did before. At a place past the last session
@@ -47,7 +47,7 @@ impl<'w, W: Host> WorldSessions<'w, W> {
         again: &mut Vec<usize>,
         over: &mut Vec<usize>,
         buffer: &mut [u8],
-    ) -> Result<(), AllocError>
+    ) -> Result<(), Fault>
         requires { 0 < length buffer.old }
         ensures same_world { self.new.world.ghost_name ≡ self.old.world.ghost_name }
         ensures topology { (W.world self.new.world.now).top ≡ (W.world self.old.world.now).top }
@@ -66,7 +66,7 @@ impl<'w, W: Host> WorldSessions<'w, W> {
         alloc: Global,
         acts: Vec<Act<L>>,
         buffer: &mut [u8],
-    ) -> Result<Run<L>, AllocError>
+    ) -> Result<Run<L>, Fault>
         requires { 0 < length buffer.old }
         ensures same_world { self.new.world.ghost_name ≡ self.old.world.ghost_name }
         ensures topology { (W.world self.new.world.now).top ≡ (W.world self.old.world.now).top }
@@ -81,7 +81,15 @@ impl<'w, W: Host> WorldSessions<'w, W> {
 }
 
 impl<W: Host> SharedPort for WorldSessions<'_, W> {
+    ghost use Rattle.service.specs.declared.sessions.WorldSessions.{WorldSessions};
+
+    ghost State = { WorldSessions W };
+
+    ghost seen = { λ p. p };
+
     ghost steps = { IsSessionStep W.world };
+
+    ghost settles = { λ p went q. (went ≡ Ok tt) × (q ≡ p) };
 
     #[tactic(auto, using(crate::proofs::Homes::session_here))]
     fn ask(&mut self, place: usize, op: Op) -> Result<Outcome, Fault> {
@@ -94,12 +102,17 @@ impl<W: Host> SharedPort for WorldSessions<'_, W> {
         let session = topology.session_node(place as u16);
         self.world.ask(session, op)
     }
+
+    /// It keeps nothing for good, so nothing is left to do.
+    fn settle(&mut self) -> Result<(), Fault> {
+        Ok(())
+    }
 }
 
 /// A turn for the connection at each of these places, in this order, whichever they are: the sessions of these indices
 /// answer what it asks. Places of connections that could go on at once are put into `again`, and of those that are over
-/// into `over`. Where memory for that is refused, it ends early. Each request costs what its submission and its drain do,
-/// beside the bytes of its frames.
+/// into `over`. Refused with `Memory`, where it is refused for that: then it ends early. Each request costs what its
+/// submission and its drain do, beside the bytes of its frames.
 pub fn turn_sessions<W: Host, L: ReadyLine + Drop>(
     alloc: Global,
     world: &mut W,
@@ -108,7 +121,7 @@ pub fn turn_sessions<W: Host, L: ReadyLine + Drop>(
     again: &mut Vec<usize>,
     over: &mut Vec<usize>,
     buffer: &mut [u8],
-) -> Result<(), AllocError>
+) -> Result<(), Fault>
     requires { 0 < length buffer.old }
     // each place's requests were answered by its session, and each outcome means its request in the world left behind
     ensures turned { (log : List Entry) × Turns L.seen (SessionReplies (W.world world.old).top (run_of (W.world world.new))) log places.old.places.items (W.world world.old).events places.new.places.items (W.world world.new).events }
@@ -122,13 +135,13 @@ pub fn turn_sessions<W: Host, L: ReadyLine + Drop>(
 
 /// Serves lines together by the sessions of a world, as they arrive, have turns and leave, in whatever order. The
 /// connections at a place, one after the other, ask as one session, and each goes on with what that session did before.
-/// Where memory for places and connections is refused, it ends early, and the lines are dropped.
+/// Refused with `Memory`, where it is refused for places and connections: then it ends early, and the lines are dropped.
 pub fn run_sessions<W: Host, L: ReadyLine + Drop>(
     alloc: Global,
     world: &mut W,
     acts: Vec<Act<L>>,
     buffer: &mut [u8],
-) -> Result<Run<L>, AllocError>
+) -> Result<Run<L>, Fault>
     requires { 0 < length buffer.old }
     // all that happened to the world is requests that were answered; also where memory was refused for the run itself
     ensures answered { AreAnswered (W.world world.old) (W.world world.new) }
