@@ -1,7 +1,8 @@
 //! Doors: those who come by a door, each at a place, in rounds.
-ghost use Rattle.std.specs.Prelude.{◌≡◌, ◌++◌, ◌⊎◌, [], ℕ, List, All, true, false, None, Some, OnOk, IfOk, length};
+ghost use Rattle.std.specs.Prelude.{◌≡◌, ◌++◌, ◌⊎◌, [], ℕ, List, All, true, false, None, Some, OnOk, IfOk, count_by, is_some, length};
 ghost use Rattle.readiness.specs.declared.connection.TheConstants.{LIMIT};
 ghost use Rattle.readiness.specs.Exchanges.{Entry, LogChain};
+ghost use Rattle.readiness.specs.Places.{waiting_in};
 ghost use Rattle.doors.specs.Rounds.{Round, RoundSettled, IsSound, AreTaken};
 ghost use Rattle.doors.specs.Spans.{Spans};
 
@@ -42,6 +43,8 @@ pub struct Doors<L = ReadySocket, D = Sockets> {
     pub(crate) more: bool,
     // For how long those that send nothing are borne, where others may wait, in milliseconds; for ever for none.
     pub(crate) idle: Option<u64>,
+    // How long a round waits at most, in milliseconds; without an end for none.
+    pub(crate) longest: Option<u64>,
     // For each place when the round began behind the last in which its connection was ready, or came.
     pub(crate) since: Vec<u64>,
     // The place that is looked at next.
@@ -109,6 +112,7 @@ impl<L: ReadyLine + Drop, D: Doorway<L> + Drop> Doors<L, D> {
             over: Vec::new(alloc),
             more: true,
             idle: None,
+            longest: None,
             since: zeros(alloc, places)?,
             hand: 0,
             buffer: [0; PIECE],
@@ -123,6 +127,31 @@ impl<L: ReadyLine + Drop, D: Doorway<L> + Drop> Doors<L, D> {
             idle: Some(idle),
             ..self
         }
+    }
+
+    /// The same doors, which wait no longer than so many milliseconds in a round.
+    pub fn with_longest(self, longest: u64) -> Doors<L, D>
+        ensures { result ≡ record self { longest = Some longest } }
+    {
+        Doors {
+            longest: Some(longest),
+            ..self
+        }
+    }
+
+    /// How many connections stand at places. Linear in the places.
+    pub fn open_places(&self) -> u64
+        ensures { result ≡ count_by is_some self.now.hall.places.places.items }
+    {
+        self.hall.places.taken() as u64
+    }
+
+    /// How many bytes of replies wait for those at all places, or the greatest `u64` where they are more. Linear in the
+    /// places.
+    pub fn waiting(&self) -> u64
+        ensures { result ≡ waiting_in self.now.hall.places.places.items }
+    {
+        self.hall.places.waiting()
     }
 
     /// How many connections were given a place.
@@ -147,7 +176,7 @@ impl<L: ReadyLine + Drop, D: Doorway<L> + Drop> Doors<L, D> {
     }
 
     // How long a round waits: not at all where a connection was promised a turn, and not for long where somebody may
-    // wait and a place is free, or one that sends nothing may have to leave.
+    // wait and a place is free, or one that sends nothing may have to leave; and no longer than was said.
     fn patience(&self) -> Option<Duration> {
         if !self.again.is_empty() {
             return Some(Duration::ZERO);
@@ -155,10 +184,12 @@ impl<L: ReadyLine + Drop, D: Doorway<L> + Drop> Doors<L, D> {
         if self.more && !self.hall.free.is_empty() {
             return Some(Duration::from_millis(PAUSE));
         }
+        let longest = self.longest.map(Duration::from_millis);
         if self.more && self.idle.is_some() {
-            return Some(Duration::from_millis(LOOK));
+            let look = Duration::from_millis(LOOK);
+            return Some(longest.map_or(look, |longest| longest.min(look)));
         }
-        None
+        longest
     }
 
     /// Waits until a connection is ready or comes, gives each that is ready or was promised one a turn, closes those

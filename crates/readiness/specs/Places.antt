@@ -1,6 +1,6 @@
 -- Many connections, each at its place, that ask one port.
-use Rattle.std.specs.Prelude.{◌≡◌, ℕ, ◌⊎◌, List, [], Option, Some, None, Result, Ok, Err, slice_get, slice_set}
-use Rattle.std.specs.List.{Contains}
+use Rattle.std.specs.Prelude.{◌≡◌, ℕ, ◌⊎◌, List, [], Option, Some, None, Result, Ok, Err, length, min, slice_get, slice_set}
+use Rattle.std.specs.List.{Contains, sum_by}
 use Rattle.logical_time.specs.declared.fault.Fault.{Fault}
 use Rattle.messages.specs.declared.op.Op.{Op}
 use Rattle.wire.specs.Replies.{Reply}
@@ -77,3 +77,11 @@ ToldAt {L = L} limit seen again over places k = (c : Connection L) → slice_get
 -- so it is at these places, and nothing changes at others
 abbrev pub AreTold : {L : Type 0} → ℕ → (L → ReadyValue) → List ℕ → List ℕ → List ℕ → List (Option (Connection L)) → List (Option (Connection L)) → Type 0
 AreTold limit seen ready again over old new = (k : ℕ) → (Contains ready k × ToldAt limit seen again over new k) ⊎ ((Contains ready k → ⊥) × (slice_get new k ≡ slice_get old k))
+
+-- how many bytes of replies wait at a place, and at all of these: no more than the greatest number of eight bytes
+abbrev pub waiting_at : {L : Type 0} → Option (Connection L) → ℕ
+waiting_at None = 0
+waiting_at (Some c) = length c.waiting.items
+
+abbrev pub waiting_in : {L : Type 0} → List (Option (Connection L)) → ℕ
+waiting_in places = min (sum_by waiting_at places) 18446744073709551615

@@ -1,10 +1,10 @@
 //! Places for connections.
-ghost use Rattle.std.specs.Prelude.{◌≡◌, ◌≢◌, ◌<◌, ◌⊎◌, [], ℕ, List, length, IfOk, OnOk, IfSome, Contains, All, Any, true, false, IfNone, Some, None, slice_get, slice_set};
+ghost use Rattle.std.specs.Prelude.{◌≡◌, ◌≢◌, ◌<◌, ◌⊎◌, [], ℕ, List, count_by, is_some, length, IfOk, OnOk, IfSome, Contains, All, Any, true, false, IfNone, Some, None, slice_get, slice_set};
 ghost use Rattle.readiness.specs.declared.connection.Connection.{Connection};
 ghost use Rattle.readiness.specs.Exchanges.{Entry};
 ghost use Rattle.readiness.specs.Kept.{IsNew, view};
 ghost use Rattle.readiness.specs.Turns.{IsAnswered, IsOver};
-ghost use Rattle.readiness.specs.Places.{TurnedAt, PlaceTurned, Turns, Rests, AreBounded, AreSilent, StoppedAt, AreStopped, AreHeard, LeftAt, AreTold, SettledFirst};
+ghost use Rattle.readiness.specs.Places.{waiting_at, waiting_in, TurnedAt, PlaceTurned, Turns, Rests, AreBounded, AreSilent, StoppedAt, AreStopped, AreHeard, LeftAt, AreTold, SettledFirst};
 
 use crate::connection::{Connection, LIMIT};
 use crate::line::ReadyLine;
@@ -17,6 +17,16 @@ use std::alloc::{AllocError, Global};
 #[derive(Drop)]
 pub struct Places<L> {
     pub(crate) places: Vec<Option<Connection<L>>>,
+}
+
+// How many bytes of replies wait at a place.
+fn waits_at<L>(place: &Option<Connection<L>>) -> u64
+    ensures { result ≡ waiting_at place.now }
+{
+    match place {
+        Some(connection) => connection.waiting.len() as u64,
+        None => 0,
+    }
 }
 
 impl<L: Drop> Places<L> {
@@ -75,6 +85,25 @@ impl<L: Drop> Places<L> {
         ensures free { self.new.places.items ≡ slice_set self.old.places.items place None }
     {
         self.places[place].take()
+    }
+
+    /// How many places are taken. Linear in the places.
+    pub fn taken(&self) -> usize
+        ensures { result ≡ count_by is_some self.now.places.items }
+    {
+        self.places.iter().filter(|place| place.is_some()).count()
+    }
+
+    /// How many bytes of replies wait for their lines at all places, or the greatest `u64` where they are more. Linear in the
+    /// places.
+    pub fn waiting(&self) -> u64
+        ensures { result ≡ waiting_in self.now.places.items }
+    {
+        let mut sum = 0u64;
+        for place in &self.places {
+            sum = sum.saturating_add(waits_at(place));
+        }
+        sum
     }
 
     /// How many places there are.
