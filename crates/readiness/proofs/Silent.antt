@@ -1,6 +1,6 @@
 -- Taking in says nothing to a line.
 use Rattle.std.proofs.Common.{◌≡◌, ℕ, List, Bool, true, false, Option, refl, sym, ap, subst, ◌∙◌, inl, inr}
-use Rattle.std.specs.Prelude.{slice_get, slice_set, slice_index_or, Some, length, ◌<◌}
+use Rattle.std.specs.Prelude.{slice_get, slice_set, slice_index_or, Some, None, length, ◌<◌}
 use Rattle.std.proofs.lemmas.Bool.{cases_eq}
 use Rattle.logical_time.specs.declared.fault.Fault.{Fault}
 use Rattle.messages.specs.declared.op.Op.{Op}
