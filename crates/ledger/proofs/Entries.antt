@@ -1,7 +1,7 @@
 -- Texts and their entries.
-use Rattle.std.proofs.Common.{◌≡◌, ℕ, ◌<◌, ◌^◌, List, [], ◌∷◌, ◌++◌, length, drop, Option, Some, None, refl, sym, ap, ◌∙◌, arith}
+use Rattle.std.proofs.Common.{◌≡◌, ℕ, ◌<◌, ◌^◌, List, [], ◌∷◌, ◌++◌, drop, Option, Some, None, refl, sym, ap, ◌∙◌}
 use Rattle.std.specs.Prelude.{option_map}
-use Rattle.std.proofs.lemmas.List.{append-nil, length-append, drop_at}
+use Rattle.std.proofs.lemmas.List.{append-nil, drop_at}
 use Rattle.byteorder.specs.Endian.{big_bytes, big_number}
 use Rattle.byteorder.specs.Numbers.{length-bytes_high_first, big_number-reads_back}
 use Rattle.messages.specs.declared.op.Op.{Op}
@@ -10,7 +10,6 @@ use Rattle.wire.proofs.Streams.{request_apart}
 use Rattle.ledger.specs.Entries.{IsTextOf, IsNumbered}
 use Rattle.ledger.specs.declared.entry.Entry.{Entry}
 use Rattle.ledger.specs.declared.entry.Entry.TheVariants.{Request, Rested}
-use Rattle.ledger.proofs.Frames.{frame_short}
 
 -- the frame of a text
 record IsRequest (session : ℕ) (op : Op) (text : List ℕ) : Type 0 where
@@ -26,14 +25,6 @@ request_parts : (session : ℕ) (op : Op) (text : List ℕ) → IsTextOf (Reques
 request_parts session op text e =
     let m = mapped (λ (frame : List ℕ). 1 ∷ (big_bytes 2 session ++ frame)) (spelling op) text e in
     record { frame = m.0; spelled = m.1; parts = m.2 }
-
-pub request_is : (session : ℕ) (op : Op) (frame text : List ℕ) → spelling op ≡ Some frame → text ≡ 1 ∷ (big_bytes 2 session ++ frame) → IsTextOf (Request session op) text
-request_is session op frame text spelled parts = rw (spelled, parts) refl
-
-pub request_fits : (session : ℕ) (op : Op) (frame text : List ℕ) → spelling op ≡ Some frame → text ≡ 1 ∷ (big_bytes 2 session ++ frame) → length text < 256 ^ 4
-request_fits session op frame text spelled parts =
-    let all : length text ≡ length (1 ∷ (big_bytes 2 session ++ frame)) = ap length parts in
-    omega (arith, all, length-append (big_bytes 2 session) frame, length-bytes_high_first 2 session, frame_short op frame spelled)
 
 -- numbers of so many bytes, told from what follows
 pub front_told : (w a b : ℕ) (f g : List ℕ) → a < 256 ^ w → b < 256 ^ w → big_bytes w a ++ f ≡ big_bytes w b ++ g → (a ≡ b) × (f ≡ g)
