@@ -1,6 +1,6 @@
 -- What is kept goes on to be the present of the run, with each event.
 use Rattle.std.proofs.Common.{◌≡◌, ◌∙◌, ℕ, ◌+◌, ◌<◌, true, false, List, [], ◌∷◌, ◌++◌, length, slice_get, Option, Some, None, Result, Ok, Err, refl, sym, ap, subst, le_of_lt, append-nil}
-use Rattle.std.specs.Prelude.{if◌then◌else◌}
+use Rattle.std.specs.Prelude.{if◌then◌else◌, IsOk}
 use Rattle.logical_time.specs.declared.fault.Fault.{Fault}
 use Rattle.store.specs.Keeps.{AreApart}
 use Rattle.messages.specs.declared.op.Op.{Op}
@@ -21,7 +21,7 @@ use Rattle.client.specs.Represents as session
 use Rattle.world.specs.declared.run_event.RunEvent.{RunEvent}
 use Rattle.world.specs.declared.run_event.RunEvent.TheVariants.{Submit, Deliver, Collect}
 use Rattle.world.specs.Run.{Run, Submission, submission_by, with_actor, with_session, after_shard, after_session, after_submission, collect_if, step, run}
-use Rattle.world.specs.Refusals.{NoSuchActor, refused_by, refusal_of}
+use Rattle.world.specs.Refusals.{NoSuchActor, Refused, refused_by, refusal_of}
 use Rattle.world.specs.Holds.{AreShards}
 use Rattle.world.specs.Steps.{StaysApart, DidShard}
 use Rattle.world.specs.World.{IsRefusedAs}
@@ -44,6 +44,10 @@ use Rattle.present.specs.Present.{AreSessions, DidSession, ended_of, AreLeft, Is
 use Rattle.present.proofs.Waits.{behind}
 use Rattle.present.proofs.Left.{next_is, next_stands, left_after, left_with}
 use Rattle.present.proofs.Sessions.{told_end}
+
+none_refused : {X : Type 0} (r : Result X Fault) → IsOk r → refused_by r ≡ None
+none_refused (Ok s) is = refl
+none_refused (Err e) is = absurd cc
 
 module _ (top : TopologyValue) (events : List RunEvent) (a b : Actors) (h : Holds top events a) where
   some : 0 < top.shards
@@ -264,6 +268,26 @@ module _ (top : TopologyValue) (events : List RunEvent) (a b : Actors) (h : Hold
       refused_session top events (refusal_of top (run top events) (Submit node o)) (session_submit top node ((run top events).sessions node) o) f
       (submission_refusal top (run top events) node o kind.1)
       (subst (λ z. session.IsRefusalOf (session_submit top z ((run top events).sessions z) o) f) (sym at) (refused top (shard_count top) (run top events).sessions h.present.sessions))
+
+  -- what a session says of an operation that it would accept, or refuse, the run says too
+  pub submission_allowed : (node place : ℕ) (o : Op) → node ≡ length a.shards.items + place → place < length a.sessions.items
+      → ((t : TopologyValue) (from : ℕ) (states : ℕ → SessionState) → AreSessions t from states a.sessions.items → IsOk (session_submit t (from + place) (states (from + place)) o))
+      → refusal_of top (run top events) (Submit node o) ≡ None
+  submission_allowed node place o to lt allowed =
+      let at : node ≡ shard_count top + place = to ∙ ap (λ z. z + place) h.present.shards.len in
+      let kind = session_at top node place at (subst (λ z. place < z) h.present.count lt) in
+      submission_refusal top (run top events) node o kind.1
+      ∙ none_refused (session_submit top node ((run top events).sessions node) o)
+      (subst (λ z. IsOk (session_submit top z ((run top events).sessions z) o)) (sym at) (allowed top (shard_count top) (run top events).sessions h.present.sessions))
+
+  pub submission_would_refuse : (node place : ℕ) (o : Op) (f : Fault) → node ≡ length a.shards.items + place → place < length a.sessions.items
+      → ((t : TopologyValue) (from : ℕ) (states : ℕ → SessionState) → AreSessions t from states a.sessions.items → session_submit t (from + place) (states (from + place)) o ≡ Err f)
+      → refusal_of top (run top events) (Submit node o) ≡ Some (Refused f)
+  submission_would_refuse node place o f to lt refused =
+      let at : node ≡ shard_count top + place = to ∙ ap (λ z. z + place) h.present.shards.len in
+      let kind = session_at top node place at (subst (λ z. place < z) h.present.count lt) in
+      submission_refusal top (run top events) node o kind.1
+      ∙ ap refused_by (subst (λ z. session_submit top z ((run top events).sessions z) o ≡ Err f) (sym at) (refused top (shard_count top) (run top events).sessions h.present.sessions))
 
   -- ## A collection
 

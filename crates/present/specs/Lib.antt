@@ -3,3 +3,4 @@ pub mod Waiting
 pub mod Present
 pub mod AtRest
 pub mod Promises
+pub mod Held

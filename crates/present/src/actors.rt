@@ -1,5 +1,5 @@
 //! The actors of a topology, and what waits for them.
-ghost use Rattle.std.specs.Prelude.{◌≡◌, ◌<◌, ◌≤◌, ◌+◌, ◌∷◌, ℕ, List, [], length, None, Some, IfOk, IfErr, OnOk, OnErr};
+ghost use Rattle.std.specs.Prelude.{◌≡◌, ◌<◌, ◌≤◌, ◌+◌, ◌∷◌, ℕ, List, [], length, None, Some, Err, IfOk, IfErr, IsOk, OnOk, OnErr};
 ghost use Rattle.messages.specs.declared.envelope.Envelope.{Envelope};
 ghost use Rattle.messages.specs.Topology.{TopologyValue};
 ghost use Rattle.messages.specs.Shard.{ShardState};
@@ -12,10 +12,11 @@ ghost use Rattle.client.specs.Represents.{IsRefusalOf as IsSessionRefusal};
 ghost use Rattle.world.specs.declared.run_event.RunEvent.{RunEvent};
 ghost use Rattle.world.specs.declared.run_event.RunEvent.TheVariants.{Submit, Deliver, Collect};
 ghost use Rattle.world.specs.Run.{run, step};
-ghost use Rattle.world.specs.Refusals.{refusal_of};
+ghost use Rattle.world.specs.Refusals.{Refused as IsRefusedFor, refusal_of};
 ghost use Rattle.world.specs.Holds.{AreShards};
 ghost use Rattle.world.specs.World.{IsRefusedAs};
 ghost use Rattle.world.specs.Steps.{StaysApart, DidShard};
+ghost use Rattle.present.specs.Held.{held_by_all};
 ghost use Rattle.present.specs.Past.{next_number};
 ghost use Rattle.present.specs.Waiting.{waiting_of};
 ghost use Rattle.present.specs.Present.{ended_of, AreSessions, DidSession, HasTaken, Holds, IsEnd};
@@ -26,6 +27,7 @@ use client::Session;
 use logical_time::{Fault, Node, Time};
 use messages::{Envelope, Op, Outbox, Outcome, Refused, Topology};
 use shard::Shard;
+use store::Holdings;
 
 /// The actors of a topology, and what was sent and isn't handled.
 pub(crate) struct Actors {
@@ -121,6 +123,17 @@ fn begin(
     }
 }
 
+// Whether a session would accept an operation now, with enough memory.
+fn check_in(sessions: &Vec<Session>, place: usize, op: &Op) -> Result<(), Fault>
+    requires { place < length sessions.now.items }
+    ensures allowed { (top : TopologyValue) (from : ℕ) (states : ℕ → SessionState) → AreSessions top from states sessions.now.items
+        → OnOk result (IsOk (session_submit top (from + place) (states (from + place)) op.now)) }
+    ensures refused { (top : TopologyValue) (from : ℕ) (states : ℕ → SessionState) → AreSessions top from states sessions.now.items
+        → IfErr result (λ e. session_submit top (from + place) (states (from + place)) op.now ≡ Err e) }
+{
+    sessions[place].check(op)
+}
+
 // What ended, as it is told.
 fn ended(session: Node, finished: Option<(u64, Outcome)>) -> Option<Ended>
     ensures { result ≡ ended_of session finished }
@@ -196,6 +209,21 @@ impl Actors {
         }
     }
 
+    /// Whether a session would accept an operation now, with enough memory. That the node is a session's is the caller's
+    /// condition. Refused as the session refuses it, and never with `Memory`.
+    pub(crate) fn check(&self, session: Node, op: &Op) -> Result<(), Fault>
+        requires session { length self.now.shards.items ≤ session }
+        requires sessions { session < length self.now.shards.items + length self.now.sessions.items }
+        ensures allowed { (top : TopologyValue) (events : List RunEvent) → Holds top events self.now → OnOk result (refusal_of top (run top events) (Submit session op.now) ≡ None) }
+        ensures refused { (top : TopologyValue) (events : List RunEvent) → Holds top events self.now → IfErr result (λ e. refusal_of top (run top events) (Submit session op.now) ≡ Some (IsRefusedFor e)) }
+    {
+        let place = usize::from(session.get()) - self.shards.len();
+        match check_in(&self.sessions, place, op) {
+            Ok(()) => Ok(()),
+            Err(fault) => Err(fault),
+        }
+    }
+
     /// The clock of a shard. That the node is a shard's is the caller's condition.
     pub(crate) fn clock_of(&self, shard: Node) -> Time
         requires { shard < length self.now.shards.items }
@@ -203,6 +231,17 @@ impl Actors {
     {
         let place = usize::from(shard.get());
         self.shards[place].clock().now()
+    }
+
+    /// How much the shards hold together.
+    pub(crate) fn holdings(&self) -> Holdings
+        ensures { result ≡ held_by_all self.now.shards.items }
+    {
+        let mut held = Holdings::none();
+        for shard in &self.shards {
+            held = held.and(shard.holdings());
+        }
+        held
     }
 
     /// A shard collects up to a time. That the node is a shard's is the caller's condition. Refused as the shard

@@ -1,14 +1,17 @@
 //! A world that keeps no past.
-ghost use Rattle.std.specs.Prelude.{◌≡◌, ◌<◌, ◌+◌, ◌↔◌, true, false, [], length, Some, IfOk, IfErr, OnOk, OnErr};
+ghost use Rattle.std.specs.Prelude.{◌≡◌, ◌<◌, ◌+◌, ◌↔◌, true, false, [], length, None, Some, IfOk, IfErr, OnOk, OnErr};
 ghost use Rattle.messages.specs.Topology.{is_shard, is_session, is_topology, shard_count};
 ghost use Rattle.world.specs.declared.run_event.RunEvent.TheVariants.{Submit, Deliver, Collect};
 ghost use Rattle.world.specs.Lookups.{first_unhandled};
+ghost use Rattle.world.specs.Refusals.{Refused};
 ghost use Rattle.world.specs.Quiet.{IsQuiet};
 ghost use Rattle.world.specs.Settled.{Settled};
 ghost use Rattle.world.specs.World.{run_of, refusal_in, Takes, IsRefusedAs};
 ghost use Rattle.present.specs.Past.{next_number};
 ghost use Rattle.present.specs.Present.{IsEnd};
-ghost use Rattle.present.specs.AtRest.{AreTidied, IsTidiedUntil};
+ghost use Rattle.present.specs.declared.actors.Actors.{Actors};
+ghost use Rattle.present.specs.AtRest.{AreTidied, IsTidiedUntil, StandsAtRest};
+ghost use Rattle.present.specs.Held.{held_by_all};
 ghost use Rattle.present.specs.Promises.{KeepsPromises};
 
 use crate::actors::Actors;
@@ -21,6 +24,7 @@ use std::alloc::Global;
 use std::marker::Model;
 use std::mem;
 use std::snapshot::Snapshot;
+use store::Holdings;
 use world::{close_shards, leave_shards};
 
 /// The actors of a topology and the messages that wait for them: each call is one event of one actor, and a tidying one
@@ -95,9 +99,21 @@ impl Present {
         Ok(ended)
     }
 
-    // A shard collects all that its clock has reached, where nothing waits. Refused with `ClockSpent` alone; then
-    // nothing changes.
-    fn collect(&mut self, shard: Node) -> Result<(), Fault>
+    /// Whether the session would accept the operation now, with enough memory. That the node is a session's is the
+    /// caller's condition. Refused as `submit` is otherwise, and never with `Memory`. In the order of m log m for m
+    /// mutations or keys, and constant for a move.
+    pub fn check(&self, session: Node, op: &Op) -> Result<(), Fault>
+        requires { is_session self.now.top session ≡ true }
+        ensures allowed { OnOk result (refusal_in self.now (Submit session op.now) ≡ None) }
+        ensures refused { IfErr result (λ e. refusal_in self.now (Submit session op.now) ≡ Some (Refused e)) }
+    {
+        self.actors.check(session, op)
+    }
+
+    /// A shard drops all that no read from now on can ask for: it collects up to its own clock. That nothing waits, and
+    /// that the node is a shard's, is the caller's condition. Costs what the rows with superseded versions and the range
+    /// deletions do. Refused with `ClockSpent` alone, where its clock would leave its range; then nothing changes.
+    pub fn collect(&mut self, shard: Node) -> Result<(), Fault>
         requires shard { is_shard self.old.top shard ≡ true }
         requires quiet { IsQuiet (run_of self.old) }
         ensures taken { OnOk result (Takes self.old (Collect shard ((run_of self.old).shards shard).clock) self.new) }
@@ -150,6 +166,14 @@ impl Present {
         ensures first { result ≡ false → first_unhandled (run_of self.now) ≡ Some (next_number self.now.events) }
     {
         self.actors.waiting.is_done()
+    }
+
+    /// How much its shards hold together: what the actors keep that stand for the run of its events. Linear in the rows
+    /// and in their columns.
+    pub fn holdings(&self) -> Holdings
+        ensures { (a : Actors) × StandsAtRest self.now.top self.now.events a × (result ≡ held_by_all a.shards.items) }
+    {
+        self.actors.holdings()
     }
 
     /// Ends the world, and gives up what isn't finished.
