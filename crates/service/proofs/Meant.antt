@@ -40,12 +40,11 @@ module _ (top : TopologyValue) (session : ℕ) where
   stop_begins : (before after : List RunEvent) (f : Fault) → IsDrainedUntil top before after f → IsBeginning before after
   stop_begins before after f d = (d.done, d.happened)
 
-  ready_begins : (o : Op) (before ready : List RunEvent) → IsReady top session o before ready → IsBeginning before ready
-  ready_begins o before ready (inl d) = drain_begins before ready d.count d.drained
-  ready_begins o before ready (inr s) = ([], s.1 ∙ sym (append-nil before))
+  ready_begins : (before ready : List RunEvent) → IsReady top before ready → IsBeginning before ready
+  ready_begins before ready r = drain_begins before ready r.count r.drained
 
   submitted_begins : (o : Op) (before : List RunEvent) (number : ℕ) (after : List RunEvent) → IsSubmitted top session o before number after → IsBeginning before after
-  submitted_begins o before number after s = begins_so before s.ready after (ready_begins o before s.ready s.is_ready) (Submit session o ∷ [], s.happened)
+  submitted_begins o before number after s = begins_so before s.ready after (ready_begins before s.ready s.is_ready) (Submit session o ∷ [], s.happened)
 
   handled_begins : (o : Op) (before : List RunEvent) (number : ℕ) (after : List RunEvent) → IsHandled top session o before number after → IsBeginning before after
   handled_begins o before number after h =
@@ -53,8 +52,9 @@ module _ (top : TopologyValue) (session : ℕ) where
 
   pub answer_begins : (before : List RunEvent) (o : Op) (r : Reply) (after : List RunEvent) → Asks top session before o r after → IsBeginning before after
   answer_begins before o (Ok result) after a = handled_begins o before a.number after a.handled
-  answer_begins before o (Err f) after (inl (inl t)) = stop_begins before after f t.1
-  answer_begins before o (Err f) after (inl (inr t)) = ready_begins o before after t.0
+  answer_begins before o (Err f) after (inl (inl t)) = stop_begins before after f t
+  answer_begins before o (Err f) after (inl (inr (inl t))) = drain_begins before after t.count t.drained
+  answer_begins before o (Err f) after (inl (inr (inr t))) = ready_begins before after t.is_ready
   answer_begins before o (Err f) after (inr (inl u)) = begins_so before u.submitted after (submitted_begins o before u.number u.submitted u.is_submitted) (stop_begins u.submitted after f u.stopped)
   answer_begins before o (Err f) after (inr (inr (inl u))) = handled_begins o before u.number after u.handled
   answer_begins before o (Err f) after (inr (inr (inr u))) = handled_begins o before u.number after u.handled

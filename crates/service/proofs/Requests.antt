@@ -1,5 +1,5 @@
 -- Operations that are submitted, turned away, or left open.
-use Rattle.std.proofs.Common.{◌≡◌, ◌∙◌, ℕ, ◌+◌, ◌<◌, ◌≤◌, Bool, true, false, List, Option, Some, None, inl, inr, refl, ap, sym, subst, arith}
+use Rattle.std.proofs.Common.{◌≡◌, ◌∙◌, ℕ, ◌+◌, ◌<◌, ◌≤◌, Bool, true, false, List, Option, Some, None, ◌⊎◌, inl, inr, refl, ap, sym, subst, arith}
 use Rattle.std.specs.Prelude.{nat_lt}
 use Rattle.std.proofs.lemmas.Bool.Decides.{nat_tests}
 use Rattle.logical_time.specs.declared.fault.Fault.{Fault}
@@ -14,73 +14,54 @@ use Rattle.world.specs.Run.{run}
 use Rattle.world.specs.Refusals.{Refusal, Refused}
 use Rattle.world.specs.World.{WorldValue, run_of, refusal_in, Takes, IsRefusedAs}
 use Rattle.drains.specs.Drain.{IsDrained, IsDrainedUntil, LeavesNothing}
-use Rattle.service.specs.Port.{refused_at, HasOpen, IsSubmitted, IsTurnedAway, IsOpen, CameTo, HasNoCopy, IsHandled, IsStopped, IsAnswered, IsUncopied, IsLeftOpen}
+use Rattle.service.specs.Port.{refused_at, IsReady, IsFull, IsSubmitted, IsTurnedAway, IsOpen, CameTo, HasNoCopy, IsHandled, IsStopped, IsAnswered, IsUncopied, IsLeftOpen}
 use Rattle.service.proofs.Idle.{not_busy}
 use Rattle.service.proofs.Meant.{handled_listed}
 
-none_some : {X : Type 0} {x : X} → None ≡ Some x → ⊥
-none_some q = absurd cc
+-- ## Before a submission
 
--- ## Operations that are submitted
+-- a drain that delivered fewer messages than it may has made the world ready
+pub ready_now : (v w : WorldValue) (count : ℕ) → IsDrained v.top v.events w.events count → (count < 1000000 → LeavesNothing w.top w.events) → w.top ≡ v.top → count < 1000000
+    → IsReady v.top v.events w.events
+ready_now v w count drained nothing same few = record { count = count; drained = drained; left = subst (λ t. LeavesNothing t w.events) same (nothing few) }
 
-pub submitted_at_once : (v w : WorldValue) (session : ℕ) (op : Op) (number : ℕ) → Takes v (Submit session op) w → number ≡ ((run_of v).sessions session).count + 1
-    → IsSubmitted v.top session op v.events number w.events
-submitted_at_once v w session op number takes numbered = record {
-  ready = v.events;
-  is_ready = inr ((λ has. none_some (sym takes.allowed ∙ has)), refl);
-  allowed = takes.allowed;
-  numbered = numbered;
+pub full_now : (v w : WorldValue) (count : ℕ) → IsDrained v.top v.events w.events count → 1000000 ≤ count → IsFull v.top v.events Busy w.events
+full_now v w count drained most = record { count = count; drained = drained; most = most; busy = refl }
+
+-- why the world isn't ready is why nothing is submitted
+pub unready_now : (top : TopologyValue) (session : ℕ) (op : Op) (before after : List RunEvent) (f : Fault) → IsDrainedUntil top before after f ⊎ IsFull top before f after
+    → IsTurnedAway top session op before f after
+unready_now top session op before after f (inl stopped) = inl stopped
+unready_now top session op before after f (inr full) = inr (inl full)
+
+-- ## Submissions
+
+pub submitted_after : (v s w : WorldValue) (session : ℕ) (op : Op) (number : ℕ) → IsReady v.top v.events s.events → s.top ≡ v.top → Takes s (Submit session op) w
+    → number ≡ ((run_of s).sessions session).count + 1 → IsSubmitted v.top session op v.events number w.events
+submitted_after v s w session op number ready same takes numbered = record {
+  ready = s.events;
+  is_ready = ready;
+  allowed = subst (λ t. refused_at t session op s.events ≡ None) same takes.allowed;
+  numbered = numbered ∙ ap (λ t. ((run t s.events).sessions session).count + 1) same;
   happened = ap (λ (x : WorldValue). x.events) takes.happened;
 }
-
-pub submitted_later : (v s w : WorldValue) (session : ℕ) (op : Op) (count number : ℕ) → HasOpen v.top session op v.events → IsDrained v.top v.events s.events count → s.top ≡ v.top
-    → Takes s (Submit session op) w → number ≡ ((run_of s).sessions session).count + 1 → IsSubmitted v.top session op v.events number w.events
-submitted_later v s w session op count number has drained top takes numbered =
-    let none : refused_at v.top session op s.events ≡ None = subst (λ t. refused_at t session op s.events ≡ None) top takes.allowed in
-    record {
-      ready = s.events;
-      is_ready = inl (record { had_open = has; count = count; drained = drained; most = λ still. absurd (none_some (sym none ∙ still)) });
-      allowed = none;
-      numbered = numbered ∙ ap (λ t. ((run t s.events).sessions session).count + 1) top;
-      happened = ap (λ (x : WorldValue). x.events) takes.happened;
-    }
-
--- ## Operations that are turned away
-
--- a drain that left an operation open delivered as many messages as it may
-left_open : (top : TopologyValue) (session : ℕ) (op : Op) (events : List RunEvent) (count : ℕ) → (count < 1000000 → LeavesNothing top events) → HasOpen top session op events
-    → (b : Bool) → nat_lt count 1000000 ≡ b → 1000000 ≤ count
-left_open top session op events count nothing has true is = absurd (not_busy top (run top events) session op ((nothing (grind (arith, nat_tests))).settled.idle session) has)
-left_open top session op events count nothing has false is = grind (arith, nat_tests)
-
-pub turned_away_later : (v w x : WorldValue) (session : ℕ) (op : Op) (count : ℕ) (f : Fault) → HasOpen v.top session op v.events → IsDrained v.top v.events w.events count
-    → (count < 1000000 → LeavesNothing w.top w.events) → w.top ≡ v.top → IsRefusedAs (refusal_in w (Submit session op)) f → x ≡ w → IsTurnedAway v.top session op v.events f x.events
-turned_away_later v w x session op count f has drained nothing top refused same =
-    let at : IsRefusedAs (refusal_in (record v { events = w.events }) (Submit session op)) f =
-    subst (λ t. IsRefusedAs (refusal_in (record { top = t; events = w.events }) (Submit session op)) f) top refused in
-    let none : count < 1000000 → LeavesNothing v.top w.events = λ lt. subst (λ t. LeavesNothing t w.events) top (nothing lt) in
-    subst (λ (y : WorldValue). IsTurnedAway v.top session op v.events f y.events) (sym same)
-    (inr (
-      inl (record { had_open = has; count = count; drained = drained; most = λ still. left_open v.top session op w.events count none still (nat_lt count 1000000) refl }),
-      at,
-    ))
-
-other_fault : (r : Option Refusal) (f : Fault) → r ≡ Some (Refused Busy) → IsRefusedAs r f → f ≡ Busy
-other_fault None f is refused = absurd cc
-other_fault (Some r) f is refused = cc
-
-pub turned_away_at_once : (v w : WorldValue) (session : ℕ) (op : Op) (f : Fault) → (f ≡ Busy → ⊥) → IsRefusedAs (refusal_in v (Submit session op)) f → w ≡ v
-    → IsTurnedAway v.top session op v.events f w.events
-turned_away_at_once v w session op f other refused same =
-    subst (λ (y : WorldValue). IsTurnedAway v.top session op v.events f y.events) (sym same)
-    (inr (inr (λ has. other (other_fault (refusal_in v (Submit session op)) f has refused), refl), refused))
 
 busy_refusal : (r : Option Refusal) → IsRefusedAs r Busy → r ≡ Some (Refused Busy)
 busy_refusal None refused = absurd cc
 busy_refusal (Some r) refused = ap Some refused
 
-pub open_when_busy : (v : WorldValue) (session : ℕ) (op : Op) → IsRefusedAs (refusal_in v (Submit session op)) Busy → HasOpen v.top session op v.events
-open_when_busy v session op refused = busy_refusal (refusal_in v (Submit session op)) refused
+-- where all is done no refusal is for an open operation
+pub not_busy_then : (top : TopologyValue) (session : ℕ) (op : Op) (before ready : List RunEvent) (f : Fault) → IsReady top before ready → IsRefusedAs (refused_at top session op ready) f → f ≡ Busy → ⊥
+not_busy_then top session op before ready f is_ready refused is =
+    not_busy top (run top ready) session op (is_ready.left.settled.idle session)
+    (busy_refusal (refused_at top session op ready) (subst (λ (e : Fault). IsRefusedAs (refused_at top session op ready) e) is refused))
+
+pub declined_after : (v s x : WorldValue) (session : ℕ) (op : Op) (f : Fault) → IsReady v.top v.events s.events → s.top ≡ v.top → IsRefusedAs (refusal_in s (Submit session op)) f → x ≡ s
+    → IsTurnedAway v.top session op v.events f x.events
+declined_after v s x session op f ready same refused stays =
+    let at : IsRefusedAs (refused_at v.top session op s.events) f = subst (λ t. IsRefusedAs (refused_at t session op s.events) f) same refused in
+    subst (λ (y : WorldValue). IsTurnedAway v.top session op v.events f y.events) (sym stays)
+    (inr (inr (record { is_ready = ready; refused = at; other = not_busy_then v.top session op v.events s.events f ready at })))
 
 -- ## An operation that is still open
 

@@ -1,5 +1,5 @@
 -- What a request of a session makes of a world, and how it is answered. A session is named by its node.
-use Rattle.std.specs.Prelude.{◌≡◌, ℕ, ◌+◌, ◌≤◌, true, false, List, [], ◌∷◌, ◌++◌, Option, Some, None, Ok, Err, Contains, ◌⊎◌}
+use Rattle.std.specs.Prelude.{◌≡◌, ℕ, ◌+◌, ◌≤◌, true, false, List, [], ◌∷◌, ◌++◌, Option, Some, None, Result, Ok, Err, Contains, ◌⊎◌}
 use Rattle.logical_time.specs.declared.fault.Fault.{Fault}
 use Rattle.logical_time.specs.declared.fault.Fault.TheVariants.{Busy, Memory}
 use Rattle.messages.specs.declared.op.Op.{Op}
@@ -12,9 +12,11 @@ use Rattle.world.specs.declared.run_event.RunEvent.{RunEvent}
 use Rattle.world.specs.declared.run_event.RunEvent.TheVariants.{Submit}
 use Rattle.world.specs.declared.completed.Completed.{Completed}
 use Rattle.world.specs.Run.{Run, run}
-use Rattle.world.specs.Refusals.{Refusal, Refused, refusal_of}
+use Rattle.world.specs.Refusals.{Refusal, refusal_of}
 use Rattle.world.specs.World.{IsRefusedAs}
-use Rattle.drains.specs.Drain.{IsDrained, IsDrainedUntil}
+use Rattle.drains.specs.Drain.{IsDrained, IsDrainedUntil, LeavesNothing}
+use Rattle.service.specs.declared.asking.Unanswered.{Unanswered}
+use Rattle.service.specs.declared.asking.Unanswered.TheVariants.{TurnedAway, Untold}
 use Rattle.service.specs.declared.port.WorldPort.{WorldPort}
 
 -- ## Submissions
@@ -23,35 +25,37 @@ use Rattle.service.specs.declared.port.WorldPort.{WorldPort}
 abbrev pub refused_at : TopologyValue → ℕ → Op → List RunEvent → Option Refusal
 refused_at top session op events = refusal_of top (run top events) (Submit session op)
 
--- the session has an operation open
-abbrev pub HasOpen : TopologyValue → ℕ → Op → List RunEvent → Type 0
-HasOpen top session op events = refused_at top session op events ≡ Some (Refused Busy)
-
--- it has, and a drain comes first; if it still has, the drain delivered as many messages as it may
-pub record WasDrained (top : TopologyValue) (session : ℕ) (op : Op) (before ready : List RunEvent) : Type 0 where
-  pub had_open : HasOpen top session op before
+-- a drain came first, and all is handled and done
+pub record IsReady (top : TopologyValue) (before ready : List RunEvent) : Type 0 where
   pub count : ℕ
   pub drained : IsDrained top before ready count
-  pub most : HasOpen top session op ready → 1000000 ≤ count
+  pub left : LeavesNothing top ready
 
--- The session is ready for the operation: where it had one open, a drain came first; else nothing happened.
-abbrev pub IsReady : TopologyValue → ℕ → Op → List RunEvent → List RunEvent → Type 0
-IsReady top session op before ready = WasDrained top session op before ready ⊎ ((HasOpen top session op before → ⊥) × (ready ≡ before))
+-- the drain before the submission delivered as many messages as it may: Busy
+pub record IsFull (top : TopologyValue) (before : List RunEvent) (fault : Fault) (after : List RunEvent) : Type 0 where
+  pub count : ℕ
+  pub drained : IsDrained top before after count
+  pub most : 1000000 ≤ count
+  pub busy : fault ≡ Busy
 
--- the operation is submitted, and has this number among the session's
+-- the operation is submitted, when all is done, and has this number among the session's
 pub record IsSubmitted (top : TopologyValue) (session : ℕ) (op : Op) (before : List RunEvent) (number : ℕ) (after : List RunEvent) : Type 0 where
   pub ready : List RunEvent
-  pub is_ready : IsReady top session op before ready
+  pub is_ready : IsReady top before ready
   pub allowed : refused_at top session op ready ≡ None
   pub numbered : number ≡ ((run top ready).sessions session).count + 1
   pub happened : after ≡ ready ++ Submit session op ∷ []
 
--- The operation isn't submitted: the drain before it was refused, or the submission was, as the run refuses it, else for want of
--- memory. It is refused with Busy only where a drain delivered as many messages as it may.
+-- when all is done, the submission is refused, as the run refuses it, else for want of memory; so never with Busy
+pub record IsDeclined (top : TopologyValue) (session : ℕ) (op : Op) (before : List RunEvent) (fault : Fault) (after : List RunEvent) : Type 0 where
+  pub is_ready : IsReady top before after
+  pub refused : IsRefusedAs (refused_at top session op after) fault
+  pub other : fault ≡ Busy → ⊥
+
+-- The operation isn't submitted: the drain before it was refused, or delivered as many messages as it may, or the submission was
+-- refused.
 abbrev pub IsTurnedAway : TopologyValue → ℕ → Op → List RunEvent → Fault → List RunEvent → Type 0
-IsTurnedAway top session op before fault after =
-    (HasOpen top session op before × IsDrainedUntil top before after fault)
-    ⊎ (IsReady top session op before after × IsRefusedAs (refused_at top session op after) fault)
+IsTurnedAway top session op before fault after = IsDrainedUntil top before after fault ⊎ (IsFull top before fault after ⊎ IsDeclined top session op before fault after)
 
 -- ## Outcomes
 
@@ -122,13 +126,22 @@ pub record IsAnswered (top : TopologyValue) (session : ℕ) (op : Op) (before : 
   pub handled : IsHandled top session op before number after
   pub ended : EndedWith (run top after) session number result
 
+-- the operation was submitted, and there is no outcome of it to tell
+abbrev pub IsUntold : TopologyValue → ℕ → Op → List RunEvent → Fault → List RunEvent → Type 0
+IsUntold top session op before fault after =
+    IsStopped top session op before fault after ⊎ (IsLeftOpen top session op before fault after ⊎ IsUncopied top session op before fault after)
+
 -- A session's request and its answer: the outcome that the transcript has for the operation that it submitted, or why
 -- there is none.
 abbrev pub Asks : TopologyValue → ℕ → List RunEvent → Op → Reply → List RunEvent → Type 0
 Asks top session before op (Ok result) after = IsAnswered top session op before result after
-Asks top session before op (Err fault) after =
-    IsTurnedAway top session op before fault after
-    ⊎ (IsStopped top session op before fault after ⊎ (IsLeftOpen top session op before fault after ⊎ IsUncopied top session op before fault after))
+Asks top session before op (Err fault) after = IsTurnedAway top session op before fault after ⊎ IsUntold top session op before fault after
+
+-- the same, where it is told whether the operation was submitted
+abbrev pub AsksTelling : TopologyValue → ℕ → List RunEvent → Op → Result Outcome Unanswered → List RunEvent → Type 0
+AsksTelling top session before op (Ok result) after = IsAnswered top session op before result after
+AsksTelling top session before op (Err (TurnedAway fault)) after = IsTurnedAway top session op before fault after
+AsksTelling top session before op (Err (Untold fault)) after = IsUntold top session op before fault after
 
 -- A step of the port: its world and its session stay, and the request is answered on that world.
 pub record IsPortStep (old : WorldPort) (op : Op) (answer : Reply) (new : WorldPort) : Type 0 where

@@ -2,10 +2,10 @@
 ghost use Rattle.std.specs.Prelude.{◌≡◌, true};
 ghost use Rattle.messages.specs.Topology.{is_session};
 ghost use Rattle.service.specs.Awaited.{outcome_heard, AsksSame, IsAwaited};
-ghost use Rattle.service.specs.Port.{Asks};
+ghost use Rattle.service.specs.Port.{AsksTelling};
 
 use crate::asked::Asked;
-use crate::asking::ask;
+use crate::asking::{Unanswered, ask_telling};
 use crate::host::Host;
 use drains::Deliveries;
 use logical_time::{Fault, Node};
@@ -49,14 +49,14 @@ impl<'p> Awaited<'p> {
         }
     }
 
-    /// A session's request and its answer, as `asking::ask` says.
-    pub(crate) fn ask(&mut self, session: Node, op: Op) -> Result<Outcome, Fault>
+    /// A session's request and its answer, as `asking::ask_telling` says.
+    pub(crate) fn ask(&mut self, session: Node, op: Op) -> Result<Outcome, Unanswered>
         requires { is_session self.old.world.now.top session ≡ true }
         ensures same_world { self.new.world.ghost_name ≡ self.old.world.ghost_name }
-        ensures asks { Asks self.old.world.now.top session self.old.world.now.events op result self.new.world.now.events }
+        ensures asks { AsksTelling self.old.world.now.top session self.old.world.now.events op result self.new.world.now.events }
         ensures topology { self.new.world.now.top ≡ self.old.world.now.top }
     {
-        ask(self, session, op)
+        ask_telling(self, session, op)
     }
 }
 
@@ -102,6 +102,24 @@ impl Asked for Awaited<'_> {
     }
 }
 
+/// A session's request and its answer, as `Host::ask` says of this world; where there is none it is told whether the operation was
+/// submitted. That the node is a session's is the caller's condition.
+pub fn ask_present(world: &mut Present, session: Node, op: Op) -> Result<Outcome, Unanswered>
+    requires { is_session world.old.top session ≡ true }
+    ensures asks { AsksTelling world.old.top session world.old.events op result world.new.events }
+    ensures topology { world.new.top ≡ world.old.top }
+{
+    let mut awaited = Awaited::new(world, session);
+    let answer = awaited.ask(session, op);
+    let Awaited {
+        world: _world,
+        session: _,
+        number: _,
+        outcome: _outcome,
+    } = awaited;
+    answer
+}
+
 /// Each outcome is taken out of the delivery that ended it: nothing is looked for, and nothing is copied.
 impl Host for Present {
     ghost world = { λ p. p };
@@ -111,14 +129,10 @@ impl Host for Present {
     }
 
     fn ask(&mut self, session: Node, op: Op) -> Result<Outcome, Fault> {
-        let mut awaited = Awaited::new(self, session);
-        let answer = awaited.ask(session, op);
-        let Awaited {
-            world: _world,
-            session: _,
-            number: _,
-            outcome: _outcome,
-        } = awaited;
-        answer
+        match ask_present(self, session, op) {
+            Ok(outcome) => Ok(outcome),
+            Err(Unanswered::TurnedAway(fault)) => Err(fault),
+            Err(Unanswered::Untold(fault)) => Err(fault),
+        }
     }
 }

@@ -13,6 +13,8 @@ mod port;
 mod session;
 mod sessions;
 
+pub use asking::{Unanswered, make_ready};
+pub use awaited::ask_present;
 pub use connections::serve_connections;
 pub use host::Host;
 pub use port::WorldPort;

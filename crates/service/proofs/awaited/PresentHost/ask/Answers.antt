@@ -1,8 +1,0 @@
-use Rattle.std.proofs.Common.{rules}
-use Rattle.service.proofs.awaited.PresentHost.ask.Goals as goal
-
-pub returns-clause-asks : goal.returns-clause-asks
-returns-clause-asks c = search rules
-
-pub returns-clause-topology : goal.returns-clause-topology
-returns-clause-topology c = search rules
