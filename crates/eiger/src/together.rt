@@ -6,7 +6,7 @@ use command_line::Serving;
 use doors::Ended;
 use logical_time::Fault;
 use program::{Buffered, Output, tell};
-use server::Server;
+use server::{Report, Server};
 use std::alloc::Global;
 use std::sync::Wait;
 
@@ -32,6 +32,34 @@ fn tell_all<E: Buffered>(alloc: Global, server: &Server, errors: &mut Output<E>)
     }
 }
 
+// Tells what is served and held, where a report is due, as far as the output takes it.
+fn report<E: Buffered>(rt: &HostRuntime, server: &mut Server, errors: &mut Output<E>) {
+    if let Some(report) = server.report(rt) {
+        let _untold = tell_report(rt.alloc(), &report, errors);
+    }
+}
+
+// Tells a report, in one line.
+fn tell_report<E: Buffered>(
+    alloc: Global,
+    report: &Report,
+    errors: &mut Output<E>,
+) -> Result<(), Fault> {
+    let Report {
+        open,
+        accepted,
+        rate,
+        held,
+        waiting,
+        longest,
+    } = report;
+    let (rows, versions) = (held.rows, held.versions);
+    let line = format!(in alloc;
+        "eiger: {open} of {accepted} connections open, {rate} requests a second, {rows} rows, {versions} versions, {waiting} bytes wait, longest collection {longest} ms\n"
+    )?;
+    errors.write_all(line.as_bytes())
+}
+
 // Serves one round after the other, until one fails.
 fn serve_all<T: Wait, E: Buffered>(
     rt: &HostRuntime,
@@ -42,6 +70,7 @@ fn serve_all<T: Wait, E: Buffered>(
     for _ in threads.forever() {
         let went = server.round(rt);
         tell_all(rt.alloc(), server, errors);
+        report(rt, server, errors);
         if let Err(fault) = went {
             return fault;
         }
@@ -49,12 +78,17 @@ fn serve_all<T: Wait, E: Buffered>(
     unreachable!()
 }
 
-// A server that listens. Who sends nothing is borne for as long as is asked for, for 0 for ever.
+// A server that listens. Who sends nothing is borne for as long as is asked for, for 0 for ever; and it reports as often as is
+// asked for, for 0 never.
 fn open(rt: &HostRuntime, serving: &Serving) -> Result<Server, Fault> {
     let server = Server::open(rt, rt.alloc(), serving.port, &serving.topology)?;
-    match serving.idle {
+    let server = match serving.idle {
+        0 => server,
+        seconds => server.with_idle(u64::from(seconds) * 1000),
+    };
+    match serving.report {
         0 => Ok(server),
-        seconds => Ok(server.with_idle(u64::from(seconds) * 1000)),
+        seconds => Ok(server.with_report(u64::from(seconds) * 1000)),
     }
 }
 

@@ -4,7 +4,9 @@
 #![tactic(auto)]
 
 mod pace;
+mod report;
 mod server;
 mod timer;
 
+pub use report::Report;
 pub use server::Server;

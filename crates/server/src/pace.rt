@@ -1,5 +1,6 @@
 //! When shards collect.
-use std::time::{Clock, Instant};
+use crate::timer::millis_of;
+use std::time::{Clock, Duration, Instant};
 
 /// How many requests come between two collections, at least.
 const REQUESTS: u64 = 1024;
@@ -13,6 +14,8 @@ const SHARE: u32 = 16;
 pub(crate) struct Pace {
     asked: u64,
     until: Option<Instant>,
+    // How long the longest collection took that wasn't told.
+    longest: Duration,
 }
 
 impl Pace {
@@ -21,6 +24,7 @@ impl Pace {
         Pace {
             asked: 0,
             until: None,
+            longest: Duration::ZERO,
         }
     }
 
@@ -46,9 +50,16 @@ impl Pace {
         self.until = match (began, Instant::now(clock)) {
             (Some(began), Ok(now)) => {
                 let took = now.duration_since(began);
+                self.longest = self.longest.max(took);
                 now.checked_add(took.saturating_mul(SHARE))
             }
             _ => None,
         };
+    }
+    /// How long the longest collection took since this was asked last, in milliseconds.
+    pub(crate) fn take_longest(&mut self) -> u64 {
+        let longest = millis_of(self.longest);
+        self.longest = Duration::ZERO;
+        longest
     }
 }

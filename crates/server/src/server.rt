@@ -1,16 +1,20 @@
 //! Rounds of a server.
-ghost use Rattle.std.specs.Prelude.{◌≡◌, ◌<◌, ◌⊎◌, ◌++◌, [], ℕ, List, All, None, Some, true, IfOk, OnOk, length};
+ghost use Rattle.std.specs.Prelude.{◌≡◌, ◌<◌, ◌⊎◌, ◌++◌, [], ℕ, List, All, None, Some, true, IfOk, IfSome, OnOk, count_by, is_some, length};
 ghost use Rattle.readiness.specs.declared.connection.TheConstants.{LIMIT};
 ghost use Rattle.readiness.specs.Exchanges.{Entry};
 ghost use Rattle.doors.specs.Rounds.{Round, IsSound, AreTaken};
 ghost use Rattle.doors.specs.Spans.{Spans};
 ghost use Rattle.world.specs.declared.run_event.RunEvent.{RunEvent};
 ghost use Rattle.world.specs.World.{run_of};
+ghost use Rattle.present.specs.declared.actors.Actors.{Actors};
+ghost use Rattle.present.specs.AtRest.{StandsAtRest};
+ghost use Rattle.present.specs.Held.{held_by_all};
 ghost use Rattle.present.specs.Promises.{KeepsPromises};
 ghost use Rattle.service.specs.Sessions.{SessionReplies, AreAnswered};
 ghost use Rattle.server.specs.Serving.{HasRested, HasSpanned};
 
 use crate::pace::Pace;
+use crate::report::{Report, Reporter};
 use crate::timer::Timer;
 use doors::{Doors, Doorway, Ended, ReadySocket, Sockets};
 use logical_time::Fault;
@@ -28,6 +32,7 @@ pub struct Server<L = ReadySocket, D = Sockets> {
     world: Present,
     pace: Pace,
     timer: Timer,
+    reporter: Reporter,
 }
 
 // A round of the doors, whose requests the sessions answer.
@@ -98,6 +103,7 @@ impl Server<ReadySocket, Sockets> {
         ensures count { IfOk result (λ s. length s.doors.hall.places.places.items ≡ length topology.now.homes) }
         ensures free { IfOk result (λ s. All (λ c. c ≡ None) s.doors.hall.places.places.items) }
         ensures none_promised { IfOk result (λ s. s.doors.again.items ≡ []) }
+        ensures sound { IfOk result (λ s. IsSound ⟦<ReadySocket as ReadyLine>⟧.seen ⟦<Sockets as Doorway<ReadySocket>>⟧.nobody s.doors) }
     {
         Server::new(alloc, Sockets::open(rt, alloc, port)?, topology)
     }
@@ -126,6 +132,7 @@ impl<L: ReadyLine + Drop, D: Doorway<L> + Drop> Server<L, D> {
             world,
             pace: Pace::new(),
             timer: Timer::new(),
+            reporter: Reporter::new(),
         })
     }
 
@@ -138,13 +145,58 @@ impl<L: ReadyLine + Drop, D: Doorway<L> + Drop> Server<L, D> {
             world,
             pace,
             timer,
+            reporter,
         } = self;
         Server {
             doors: doors.with_idle(idle),
             world,
             pace,
             timer,
+            reporter,
         }
+    }
+
+    /// The same server, which reports each so many milliseconds, and waits no longer than that.
+    pub fn with_report(self, period: u64) -> Server<L, D>
+        ensures doors { result.doors ≡ record self.doors { longest = Some period } }
+        ensures world { result.world ≡ self.world }
+    {
+        let Server {
+            doors,
+            world,
+            pace,
+            timer,
+            reporter,
+        } = self;
+        Server {
+            doors: doors.with_longest(period),
+            world,
+            pace,
+            timer,
+            reporter: reporter.each(period),
+        }
+    }
+
+    /// What is served and held, where a report was asked for and is due. Linear in the places, and in the rows of all shards and
+    /// their columns, which are counted: requests wait for that.
+    pub fn report<C: Clock>(&mut self, clock: &C) -> Option<Report>
+        ensures open { IfSome result (λ r. r.open ≡ count_by is_some self.old.doors.hall.places.places.items) }
+        ensures accepted { IfSome result (λ r. r.accepted ≡ self.old.doors.hall.accepted) }
+        ensures held { IfSome result (λ r. (a : Actors) × StandsAtRest self.old.world.top self.old.world.events a × (r.held ≡ held_by_all a.shards.items)) }
+        ensures same { (self.new.doors ≡ self.old.doors) × (self.new.world ≡ self.old.world) }
+    {
+        let time = self.timer.millis(clock);
+        if !self.reporter.is_due(time) {
+            return None;
+        }
+        Some(Report {
+            open: self.doors.open_places(),
+            accepted: self.doors.accepted(),
+            rate: self.reporter.take_rate(time),
+            held: self.world.holdings(),
+            waiting: self.doors.waiting(),
+            longest: self.pace.take_longest(),
+        })
     }
 
     /// The connections that ended with a fault in the last round, in the order in which they were closed.
@@ -194,6 +246,7 @@ impl<L: ReadyLine + Drop, D: Doorway<L> + Drop> Server<L, D> {
         let time = self.timer.millis(clock);
         let (asked, went) = serve_round(&mut self.doors, &mut self.world, time);
         self.pace.add(asked);
+        self.reporter.add(asked);
         rest(&mut self.world, &mut self.pace, clock);
         // what is known of runs is known within the limits of a topology
         let _promises = self.world.topology();
@@ -207,6 +260,7 @@ impl<L: ReadyLine + Drop, D: Doorway<L> + Drop> Server<L, D> {
             world,
             pace: _,
             timer: _,
+            reporter: _,
         } = self;
         world.close();
     }

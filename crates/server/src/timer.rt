@@ -7,8 +7,8 @@ pub(crate) struct Timer {
     began: Option<Instant>,
 }
 
-// How many milliseconds a duration has.
-fn millis_of(duration: Duration) -> u64 {
+/// How many milliseconds a duration has.
+pub(crate) fn millis_of(duration: Duration) -> u64 {
     let millis = u64::from(duration.subsec_millis());
     duration
         .as_secs()
