@@ -78,12 +78,11 @@ impl Opened {
 }
 
 // Makes a file with this head, whole or not at all: a draft is written and synced, and then gets its name.
-fn make(rt: &HostRuntime, folder: &str, draft: &str, log: &str, head: &[u8]) -> io::Result<()> {
+fn make(rt: &HostRuntime, draft: &str, log: &str, head: &[u8]) -> io::Result<()> {
     let file = File::create(rt, draft)?;
     file.write_all_at(head, 0)?;
     file.sync_all()?;
-    fs::rename(rt, draft, log)?;
-    File::open(rt, folder)?.sync_all()
+    fs::rename(rt, draft, log)
 }
 
 // Whether a file is missing, or has nothing in it.
@@ -111,12 +110,11 @@ fn read_all(alloc: Global, file: &mut File) -> io::Result<Vec<u8>> {
     Ok(bytes)
 }
 
-// Makes the folder where it is missing, so that the next start finds it there.
+// Makes the folder where it is missing. The one above it is synced in any case: an earlier start may have ended between.
 fn make_folder(rt: &HostRuntime, folder: &str) -> Result<(), OpenError> {
-    if fs::exists(rt, folder)? {
-        return Ok(());
+    if !fs::exists(rt, folder)? {
+        fs::create_dir(rt, folder)?;
     }
-    fs::create_dir(rt, folder)?;
     let parent = format!(in rt.alloc(); "{folder}/..")?;
     File::open(rt, parent.as_str())?.sync_all()?;
     Ok(())
@@ -137,8 +135,8 @@ fn take_lock(rt: &HostRuntime, folder: &str) -> Result<File, OpenError> {
 }
 
 /// Opens the log of a folder for as long as what it gives is held, and reads it once. Makes folder and log where they
-/// are missing, or the log is empty; then it has this head. The folder is synced too where something is made in it,
-/// and the one above it where it is made.
+/// are missing, or the log is empty; then it has this head. The folder and the one above it are synced each time, so
+/// that both names are there after a crash, whichever start gave them.
 pub fn open(rt: &HostRuntime, folder: &str, head: &[u8]) -> Result<Opened, OpenError> {
     let alloc = rt.alloc();
     let log = format!(in alloc; "{folder}/log")?;
@@ -147,8 +145,9 @@ pub fn open(rt: &HostRuntime, folder: &str, head: &[u8]) -> Result<Opened, OpenE
     let lock = take_lock(rt, folder)?;
     let fresh = is_missing(rt, log.as_str())?;
     if fresh {
-        make(rt, folder, draft.as_str(), log.as_str(), head)?;
+        make(rt, draft.as_str(), log.as_str(), head)?;
     }
+    File::open(rt, folder)?.sync_all()?;
     let mut file = OpenOptions::new()
         .read(true)
         .write(true)
