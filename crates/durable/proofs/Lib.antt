@@ -1,0 +1,5 @@
+pub mod Asked
+pub mod Logs
+pub mod Playing
+pub mod Requests
+pub mod Untidied

@@ -1,0 +1,3 @@
+pub mod Playing
+pub mod Stuck
+pub mod Logged
