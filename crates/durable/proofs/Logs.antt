@@ -1,5 +1,5 @@
 -- What a log tells, as records are noted, taken back and kept.
-use Rattle.std.proofs.Common.{ℕ, List, [], ◌∷◌, ◌++◌, Option, sym, subst, append_assoc, append-nil}
+use Rattle.std.proofs.Common.{ℕ, List, [], ◌∷◌, ◌++◌, Option, sym, subst, append_assoc, append-nil, ◌≡◌, ◌∙◌, refl, ap}
 use Rattle.messages.specs.Topology.{TopologyValue}
 use Rattle.world.specs.declared.run_event.RunEvent.{RunEvent}
 use Rattle.records.specs.Records.{Entry as Record}
@@ -16,6 +16,18 @@ tell_more [] [] e r t n is = (n, is, tt)
 tell_more [] (s ∷ rs) e r t n is = absurd t
 tell_more (d ∷ es) [] e r t n is = absurd t
 tell_more (d ∷ es) (s ∷ rs) e r t n is = (t.0, t.1, tell_more es rs e r t.2 n is)
+
+-- what the kept records tell comes first in what they and more tell, as a text is of one entry
+module _ (one_entry : (a b : Entry) (text : List ℕ) → IsNumbered a → IsNumbered b → IsTextOf a text → IsTextOf b text → a ≡ b) where
+  pub kept_first : (kept : List Record) (more : List Record) (es : List Entry) (found : List Entry) → Tell es kept → Tell found (kept ++ more) → (rest : List Entry) × (found ≡ es ++ rest)
+  kept_first [] more [] found t u = (found, refl)
+  kept_first [] more (e ∷ es) found t u = absurd t
+  kept_first (r ∷ kept) more [] found t u = absurd t
+  kept_first (r ∷ kept) more (e ∷ es) [] t u = absurd u
+  kept_first (r ∷ kept) more (e ∷ es) (d ∷ found) t u =
+      let same : d ≡ e = one_entry d e r.body u.0 t.0 u.1 t.1 in
+      let after = kept_first kept more es found t.2 u.2 in
+      (after.0, ap (λ (z : Entry). z ∷ found) same ∙ ap (λ (l : List Entry). e ∷ l) after.1)
 
 module _ {D : Type 0} (seen : D → Option (List ℕ)) (may_leave : D → List ℕ → Type 0) where
   -- after a note

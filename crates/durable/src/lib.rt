@@ -12,7 +12,7 @@ mod resting;
 mod settling;
 
 pub use asking::ask_keeping;
-pub use law::{entries_lead_one_way, replies_outlive_crashes};
+pub use law::{entries_lead_one_way, kept_entries_come_back, replies_outlive_crashes};
 pub use recovering::recover;
 pub use resting::rest_keeping;
 pub use settling::settle;
