@@ -20,6 +20,8 @@ pub struct Serving {
     pub idle: u32,
     /// How many seconds are between two lines that tell what is served, where all sessions serve at once; 0 for no line.
     pub report: u32,
+    /// The folder of its log, where it keeps one: it comes back from that, and all sessions serve at once.
+    pub data: Option<String>,
 }
 
 /// How many sessions there may be where they serve one after the other.
@@ -42,6 +44,17 @@ fn concurrent<'a>(alloc: Global) -> Arg<'a> {
         .help(
             "Serves all sessions at once, until it is stopped; a connection is given a free session",
         )
+}
+
+// The option that asks for a log.
+fn data<'a>(alloc: Global) -> Result<Arg<'a>, AllocError> {
+    option(
+        alloc,
+        "data",
+        "FOLDER",
+        "With --concurrent: keeps a log in this folder, which is made where it is missing, and comes back from it",
+    )
+    .requires_arg("concurrent")
 }
 
 // The option of a server that says after how many seconds something comes.
@@ -83,7 +96,11 @@ fn with_many<'a>(alloc: Global, command: Command<'a>) -> Result<Command<'a>, All
         "With --concurrent: tells on standard error each so often what is served and held; 0 for never",
         "0",
     );
-    command.arg(concurrent(alloc))?.arg(idle)?.arg(report)
+    command
+        .arg(concurrent(alloc))?
+        .arg(data(alloc)?)?
+        .arg(idle)?
+        .arg(report)
 }
 
 /// The subcommand that asks for a server.
@@ -138,6 +155,14 @@ fn topology_of(alloc: Global, found: &ArgMatches<'_>) -> Result<Option<Topology>
     }
 }
 
+// The folder of the log that is asked for, if one is.
+fn data_of(alloc: Global, found: &ArgMatches<'_>) -> Result<Option<String>, AllocError> {
+    match found.get_str("data") {
+        Some(folder) => Ok(Some(String::from_str(alloc, folder)?)),
+        None => Ok(None),
+    }
+}
+
 // How many sessions are asked for.
 fn sessions_of(found: &ArgMatches<'_>) -> u16 {
     found.get_one::<u16>("sessions").unwrap_or(1)
@@ -163,6 +188,7 @@ pub(crate) fn serving_of(
             concurrent,
             idle: found.get_one::<u32>("idle").unwrap_or(300),
             report: found.get_one::<u32>("report").unwrap_or(0),
+            data: data_of(alloc, found)?,
         }));
     }
     let names = found.get_str("families").unwrap_or("");

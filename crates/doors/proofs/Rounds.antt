@@ -17,7 +17,7 @@ use Rattle.readiness.specs.Turns.{IsOver, is_open}
 use Rattle.readiness.proofs.Lists.{get_set_same, get_set_other, got_within}
 use Rattle.doors.specs.declared.listening.Doors.{Doors}
 use Rattle.doors.specs.Silence.{AreMarked, IsSentAway}
-use Rattle.doors.specs.Rounds.{Place, Closed, Given, OnlyAt, GoesOn, AllGoOn, AreNoted, AreTaken, IsSound, MayWait, StoodOrCame, Round}
+use Rattle.doors.specs.Rounds.{Place, Closed, Given, OnlyAt, GoesOn, AllGoOn, AreNoted, AreTaken, IsSound, MayWait, Round}
 use Rattle.doors.proofs.Silent.{Vacated}
 
 no_one : {A : Type 0} (c : A) (y : Option (Option A)) → y ≡ Some None → y ≡ Some (Some c) → ⊥
@@ -317,35 +317,15 @@ ok_err : {T E : Type 0} (x : T) (e : E) → Ok x ≡ Err e → ⊥
 ok_err x e h = cc
 
 -- turns that weren't refused had settled, whatever comes of the round
-pub settled_on : {L P T U : Type 0} (seen : L → ReadyValue) (settles : P → Result (Unit {0}) Fault → P → Type 0) (old new : List (Option (Connection L))) (q : P) (x : T) (r : Result U Fault) → SettledFirst seen settles old new q (Ok x) → SettledFirst seen settles old new q r
-settled_on seen settles old new q x r h = (
+pub settled_on : {L P K T U : Type 0} (seen : L → ReadyValue) (kept : P → K) (settles : P → Result (Unit {0}) Fault → P → Type 0) (old : List (Option (Connection L))) (p : P) (turned new : List (Option (Connection L))) (q : P) (x : T) (r : Result U Fault) → SettledFirst seen kept settles old p turned q (Ok x) → SettledFirst seen kept settles old p new q r
+settled_on seen kept settles old p turned new q x r h = (
   h.0,
-  elim h.1 [
+  h.1,
+  elim h.2 [
     | inl s ↦ inl s
     | inr m ↦ absurd (ok_err x m.0 m.3)
   ],
 )
-
-pub stood_none : {L : Type 0} (xs : List (Option (Connection L))) → StoodOrCame xs xs
-stood_none xs k c is = inl is
-
-pub stood_closed : {L : Type 0} (seen : L → ReadyValue) (xs ys zs : List (Option (Connection L))) → StoodOrCame xs ys → ((k : ℕ) → Closed seen (slice_get ys k) (slice_get zs k)) → StoodOrCame xs zs
-stood_closed seen xs ys zs h closed k c is = elim (closed k) [
-  | inl e ↦ h k c (sym e ∙ is)
-  | inr m ↦ absurd (no_one c (slice_get zs k) m.3 is)
-]
-
-pub stood_vacated : {L : Type 0} (xs ys zs : List (Option (Connection L))) → StoodOrCame xs ys → ((k : ℕ) → Vacated (slice_get ys k) (slice_get zs k)) → StoodOrCame xs zs
-stood_vacated xs ys zs h vacates k c is = elim (vacates k) [
-  | inl e ↦ h k c (sym e ∙ is)
-  | inr m ↦ absurd (no_one c (slice_get zs k) m.2 is)
-]
-
-pub stood_given : {L : Type 0} (xs ys zs : List (Option (Connection L))) → StoodOrCame xs ys → ((k : ℕ) → Given (slice_get ys k) (slice_get zs k)) → StoodOrCame xs zs
-stood_given {L = L} xs ys zs h given k c is = elim (given k) [
-  | inl e ↦ h k c (sym e ∙ is)
-  | inr m ↦ inr (m.0, subst (λ (d : Connection L). IsNew m.0 d) (some_one m.1 c (sym m.4 ∙ is)) m.2)
-]
 
 -- ## How many places there are
 

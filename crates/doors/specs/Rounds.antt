@@ -56,16 +56,10 @@ pub record IsSound {L : Type 0} {D : Type 0} (seen : L → ReadyValue) (nobody :
 abbrev pub MayWait : {L : Type 0} {D : Type 0} → (D → Type 0) → Doors L D → Type 0
 MayWait announces d = (d.more ≡ true) ⊎ announces d.door
 
--- who stands at a place stood there and has said nothing since, or is new
-abbrev pub StoodOrCame : {L : Type 0} → List (Option (Connection L)) → List (Option (Connection L)) → Type 0
-StoodOrCame {L = L} old new = (k : ℕ) (c : Connection L) → slice_get new k ≡ Some (Some c) → (slice_get old k ≡ Some (Some c)) ⊎ ((line : L) × IsNew line c)
-
 -- Nothing was asked, and no line has said a byte more. Or turns were had, and before a line said a byte more in them the
--- port had settled behind all that was asked, else the round is refused with its fault; and behind them nothing was said.
-abbrev pub RoundSettled : {L : Type 0} {P : Type 0} {T : Type 0} → (L → ReadyValue) → (P → Result (Unit {0}) Fault → P → Type 0) → List (Option (Connection L)) → P → List (Option (Connection L)) → P → Result T Fault → Type 0
-RoundSettled {L = L} seen settles old p new q result =
-    (AreSilent seen old new × (q ≡ p))
-    ⊎ ((turned : List (Option (Connection L))) × SettledFirst seen settles old turned q result × StoodOrCame turned new)
+-- port had settled behind all that was asked; else the round is refused with its fault.
+abbrev pub RoundSettled : {L : Type 0} {P : Type 0} {K : Type 0} {T : Type 0} → (L → ReadyValue) → (P → K) → (P → Result (Unit {0}) Fault → P → Type 0) → List (Option (Connection L)) → P → List (Option (Connection L)) → P → Result T Fault → Type 0
+RoundSettled seen kept settles old p new q result = (AreSilent seen old new × (q ≡ p)) ⊎ SettledFirst seen kept settles old p new q result
 
 -- Each connection that is ready has a turn, and none of these stops before its line would block, unless it is among
 -- those that could go on at once, `again`. Then those that had a turn and are over leave their places, and no others

@@ -206,7 +206,7 @@ impl<L: ReadyLine + Drop, D: Doorway<L> + Drop> Doors<L, D> {
         // who was promised a turn is among those that are ready
         ensures promised { OnOk result ((told : List ℕ) × (self.new.ready.items ≡ self.old.again.items ++ told) × D.tells self.old.door told) }
         // no line says a byte more before the port has settled behind all that was asked
-        ensures settled { RoundSettled L.seen P.settles self.old.hall.places.places.items port.old self.new.hall.places.places.items port.new result }
+        ensures settled { RoundSettled L.seen P.kept P.settles self.old.hall.places.places.items port.old self.new.hall.places.places.items port.new result }
         ensures round { OnOk result ((log : List Entry) × Round LIMIT L.seen P.steps D.nobody D.announces time log self.old (P.seen port.old) self.new (P.seen port.new)) }
         // where a place is free, nobody waits for one, or accepting was refused
         ensures given { OnOk result (IsSound L.seen D.nobody self.old → AreTaken self.new.hall.places.places.items ⊎ (D.nobody self.new.door ⊎ D.refuses self.new.door)) }

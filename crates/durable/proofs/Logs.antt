@@ -1,5 +1,5 @@
 -- What a log tells, as records are noted, taken back and kept.
-use Rattle.std.proofs.Common.{ℕ, List, [], ◌∷◌, ◌++◌, Option, sym, subst, append_assoc, append-nil, ◌≡◌, ◌∙◌, refl, ap}
+use Rattle.std.proofs.Common.{ℕ, List, [], ◌∷◌, ◌++◌, Option, subst, append_assoc, ◌≡◌, ◌∙◌, refl, ap}
 use Rattle.messages.specs.Topology.{TopologyValue}
 use Rattle.world.specs.declared.run_event.RunEvent.{RunEvent}
 use Rattle.records.specs.Records.{Entry as Record}
@@ -8,7 +8,7 @@ use Rattle.keeper.specs.Log.{Stands, IsMark, next}
 use Rattle.ledger.specs.declared.entry.Entry.{Entry}
 use Rattle.ledger.specs.Entries.{IsTextOf, IsNumbered}
 use Rattle.durable.specs.Playing.{IsLed}
-use Rattle.durable.specs.Logged.{Tell, Notes, Keeps, NotesLast, IsLogged, IsSettled}
+use Rattle.durable.specs.Logged.{Tell, Notes, NotesLast, IsLogged}
 
 -- one more entry, told by one more record
 pub tell_more : (es : List Entry) (rs : List Record) (e : Entry) (r : Record) → Tell es rs → IsNumbered e → IsTextOf e r.body → Tell (es ++ e ∷ []) (rs ++ r ∷ [])
@@ -63,19 +63,6 @@ module _ {D : Type 0} (seen : D → Option (List ℕ)) (may_leave : D → List �
       → (es : List Entry) (e : Entry) → NotesLast seen may_leave old mark es e → Notes seen may_leave new es
   taken_back old new mark back es e n = record { kept = n.kept; noted = n.noted; stands = back n.kept n.noted (n.last ∷ []) n.mark_is n.stands; tell = n.tell }
 
-  -- after a commit all is kept
-  pub kept_all : (old new : Log D) → ((kept : List Record) (noted : List Record) → Stands seen may_leave old kept noted → Stands seen may_leave new (kept ++ noted) []) → (es : List Entry) → Notes seen may_leave old es
-      → Keeps seen may_leave new es
-  kept_all old new settled es n = record { kept = n.kept ++ n.noted; stands = settled n.kept n.noted n.stands; tell = n.tell }
-
-  -- what is kept is told
-  pub kept_notes : (log : Log D) (es : List Entry) → Keeps seen may_leave log es → Notes seen may_leave log es
-  kept_notes log es k = record { kept = k.kept; noted = []; stands = k.stands; tell = subst (λ (rs : List Record). Tell es rs) (sym (append-nil k.kept)) k.tell }
-
   -- entries were told, and led there
   pub logged_by : (top : TopologyValue) (log : Log D) (events : List RunEvent) (es : List Entry) → Notes seen may_leave log es → IsLed top events es → IsLogged seen may_leave top log events
   logged_by top log events es n led = record { entries = es; notes = n; led = led }
-
-  pub settled_by : (top : TopologyValue) (old new : Log D) (events : List RunEvent) → ((kept : List Record) (noted : List Record) → Stands seen may_leave old kept noted → Stands seen may_leave new (kept ++ noted) [])
-      → IsLogged seen may_leave top old events → IsSettled seen may_leave top new events
-  settled_by top old new events settled l = record { entries = l.entries; keeps = kept_all old new settled l.entries l.notes; led = l.led }

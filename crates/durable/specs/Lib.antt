@@ -1,3 +1,4 @@
 pub mod Playing
 pub mod Stuck
 pub mod Logged
+pub mod Settled

@@ -16,18 +16,16 @@ Tell [] (r ∷ rs) = ⊥
 Tell (e ∷ es) [] = ⊥
 Tell (e ∷ es) (r ∷ rs) = IsNumbered e × IsTextOf e r.body × Tell es rs
 
+-- this record tells no entry
+abbrev pub TellsNone : Record → Type 0
+TellsNone r = (e : Entry) → IsTextOf e r.body → ⊥
+
 -- The log tells these entries: by records that are kept for good, and then by those that were noted since.
 pub record Notes {D : Type 0} (seen : D → Option (List ℕ)) (may_leave : D → List ℕ → Type 0) (log : Log D) (es : List Entry) : Type 0 where
   pub kept : List Record
   pub noted : List Record
   pub stands : Stands seen may_leave log kept noted
   pub tell : Tell es (kept ++ noted)
-
--- It tells them by records that are all kept for good.
-pub record Keeps {D : Type 0} (seen : D → Option (List ℕ)) (may_leave : D → List ℕ → Type 0) (log : Log D) (es : List Entry) : Type 0 where
-  pub kept : List Record
-  pub stands : Stands seen may_leave log kept []
-  pub tell : Tell es kept
 
 -- It tells these entries, and then this one, in the record that the mark names.
 pub record NotesLast {D : Type 0} (seen : D → Option (List ℕ)) (may_leave : D → List ℕ → Type 0) (log : Log D) (mark : ℕ) (es : List Entry) (e : Entry) : Type 0 where
@@ -44,10 +42,4 @@ pub record NotesLast {D : Type 0} (seen : D → Option (List ℕ)) (may_leave : 
 pub record IsLogged {D : Type 0} (seen : D → Option (List ℕ)) (may_leave : D → List ℕ → Type 0) (top : TopologyValue) (log : Log D) (events : List RunEvent) : Type 0 where
   pub entries : List Entry
   pub notes : Notes seen may_leave log entries
-  pub led : IsLed top events entries
-
--- It keeps them for good.
-pub record IsSettled {D : Type 0} (seen : D → Option (List ℕ)) (may_leave : D → List ℕ → Type 0) (top : TopologyValue) (log : Log D) (events : List RunEvent) : Type 0 where
-  pub entries : List Entry
-  pub keeps : Keeps seen may_leave log entries
   pub led : IsLed top events entries

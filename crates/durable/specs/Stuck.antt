@@ -1,7 +1,7 @@
 -- Why an entry of a log can't happen again.
-use Rattle.std.specs.Prelude.{◌≡◌, ◌⊎◌, ℕ, ◌≤◌, false, List, [], ◌∷◌, ◌++◌, length}
+use Rattle.std.specs.Prelude.{◌≡◌, ◌⊎◌, ℕ, ◌+◌, ◌≤◌, true, false, List, [], ◌∷◌, ◌++◌, length, drop}
 use Rattle.logical_time.specs.declared.fault.Fault.{Fault}
-use Rattle.logical_time.specs.declared.fault.Fault.TheVariants.{Busy}
+use Rattle.logical_time.specs.declared.fault.Fault.TheVariants.{Busy, Memory}
 use Rattle.messages.specs.Topology.{TopologyValue, is_shard, session_node}
 use Rattle.world.specs.declared.run_event.RunEvent.{RunEvent}
 use Rattle.world.specs.declared.run_event.RunEvent.TheVariants.{Collect}
@@ -10,9 +10,20 @@ use Rattle.world.specs.Refusals.{refusal_of}
 use Rattle.world.specs.World.{IsRefusedAs}
 use Rattle.drains.specs.Drain.{IsDrainedUntil}
 use Rattle.service.specs.Port.{IsReady, IsFull, IsTurnedAway}
+use Rattle.records.specs.Records.{Entry as Record, spelled, recovered, has_first}
+use Rattle.keeper.specs.declared.recovery.RecoveryError.TheVariants.{Disk, Damaged}
 use Rattle.ledger.specs.declared.entry.Entry.{Entry}
 use Rattle.ledger.specs.declared.entry.Entry.TheVariants.{Request, Rested}
 use Rattle.durable.specs.Playing.{IsLed}
+use Rattle.durable.specs.Logged.{Tell, TellsNone}
+use Rattle.durable.specs.declared.error.OpenError.{OpenError}
+use Rattle.durable.specs.declared.error.OpenError.TheVariants.{Unrecovered, Unread, Refused}
+
+-- there is no memory, or the record of this number tells no entry
+abbrev pub IsUnreadable : List Record → OpenError → Type 0
+IsUnreadable records (Unrecovered e) = ⊥
+IsUnreadable records (Unread n) = (before after : List Record) × (r : Record) × (records ≡ before ++ r ∷ after) × (n ≡ length before) × TellsNone r
+IsUnreadable records (Refused fault) = fault ≡ Memory
 
 -- not all that was sent can be handled: the drain is refused, or delivers as many messages as it may
 abbrev pub IsUnready : TopologyValue → List RunEvent → Fault → Type 0
@@ -44,3 +55,11 @@ pub record IsStuck (top : TopologyValue) (before entries : List Entry) (fault : 
   pub events : List RunEvent
   pub led : IsLed top events (before ++ done)
   pub why : CantGoOn top events left fault
+
+-- Why a world doesn't come back from the bytes of a file: a record that was synced is damaged, one tells no entry, an entry can't
+-- happen, or the disk or memory is refused.
+abbrev pub CantOpen : TopologyValue → ℕ → List ℕ → OpenError → Type 0
+CantOpen top secret bytes (Unrecovered (Disk e)) = Unit {0}
+CantOpen top secret bytes (Unrecovered (Damaged at)) = let end = length (spelled secret 0 (recovered secret 0 0 bytes)) in (at ≡ end) × (has_first secret (end + 1) (drop (end + 1) bytes) ≡ true)
+CantOpen top secret bytes (Unread n) = IsUnreadable (recovered secret 0 0 bytes) (Unread n)
+CantOpen top secret bytes (Refused fault) = (fault ≡ Memory) ⊎ ((entries : List Entry) × Tell entries (recovered secret 0 0 bytes) × IsStuck top [] entries fault)

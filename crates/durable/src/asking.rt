@@ -30,7 +30,7 @@ fn unkept(world: &Present, session: Node, op: &Op) -> Fault
 /// it is submitted. That there is such a session is the caller's condition. Refused as that is, and with `Memory` where there is
 /// none for what the log notes, or its operation is too long for a frame; then it isn't submitted. What is noted is on the disk
 /// only after a commit: no reply is to be sent before.
-pub fn ask_keeping<D: Disk>(
+pub(crate) fn ask_keeping<D: Disk>(
     alloc: Global,
     world: &mut Present,
     log: &mut Log<D>,
@@ -41,6 +41,7 @@ pub fn ask_keeping<D: Disk>(
     ensures asks { Asks world.old.top (session_node world.old.top index) world.old.events op result world.new.events }
     ensures topology { world.new.top ≡ world.old.top }
     ensures disk { log.new.disk ≡ log.old.disk }
+    ensures secret { log.new.secret ≡ log.old.secret }
     // if the log told what led to all before, it still does
     ensures logged { IsLogged D.seen D.may_leave world.old.top log.old world.old.events → IsLogged D.seen D.may_leave world.old.top log.new world.new.events }
 {

@@ -19,6 +19,7 @@ fn note<D: Disk>(log: &mut Log<D>, text: &[u8]) -> Result<usize, Fault>
     ensures ok { IfOk result (λ mark. (es : List Entry) (e : Entry) → Notes D.seen D.may_leave log.old es → IsNumbered e → IsTextOf e text.now → NotesLast D.seen D.may_leave log.new mark es e) }
     ensures err { OnErr result ((es : List Entry) → Notes D.seen D.may_leave log.old es → Notes D.seen D.may_leave log.new es) }
     ensures disk { log.new.disk ≡ log.old.disk }
+    ensures secret { log.new.secret ≡ log.old.secret }
     ensures memory { IfErr result (λ e. e ≡ Memory) }
 {
     match log.note(text) {
@@ -38,6 +39,7 @@ pub(crate) fn note_request<D: Disk>(
     ensures ok { IfOk result (λ mark. (es : List Entry) → Notes D.seen D.may_leave log.old es → NotesLast D.seen D.may_leave log.new mark es (Request session op.now)) }
     ensures err { OnErr result ((es : List Entry) → Notes D.seen D.may_leave log.old es → Notes D.seen D.may_leave log.new es) }
     ensures disk { log.new.disk ≡ log.old.disk }
+    ensures secret { log.new.secret ≡ log.old.secret }
 {
     let text = request_text(alloc, session, op)?;
     match note(log, &text) {
@@ -55,6 +57,7 @@ pub(crate) fn note_rest<D: Disk>(
     ensures ok { IfOk result (λ mark. (es : List Entry) → Notes D.seen D.may_leave log.old es → NotesLast D.seen D.may_leave log.new mark es (Rested shard)) }
     ensures err { OnErr result ((es : List Entry) → Notes D.seen D.may_leave log.old es → Notes D.seen D.may_leave log.new es) }
     ensures disk { log.new.disk ≡ log.old.disk }
+    ensures secret { log.new.secret ≡ log.old.secret }
     ensures memory { IfErr result (λ e. e ≡ Memory) }
 {
     let text = rested_text(alloc, shard)?;
@@ -68,6 +71,7 @@ pub(crate) fn note_rest<D: Disk>(
 pub(crate) fn take_back<D: Disk>(log: &mut Log<D>, mark: usize)
     ensures back { (es : List Entry) (e : Entry) → NotesLast D.seen D.may_leave log.old mark es e → Notes D.seen D.may_leave log.new es }
     ensures disk { log.new.disk ≡ log.old.disk }
+    ensures secret { log.new.secret ≡ log.old.secret }
 {
     log.take_back(mark);
 }

@@ -90,7 +90,11 @@ fn replay_all(world: &mut Present, entries: Vec<Entry>) -> Result<(), Fault>
 /// its meaning in it. Costs what the requests cost when they were asked. Refused with `Memory`, and where an entry can't happen, as
 /// it is: as a request of its session or a collection of its shard is refused, a drain included, and with `Busy` where there is no
 /// such session or shard.
-pub fn recover(alloc: Global, topology: &Topology, entries: Vec<Entry>) -> Result<Present, Fault>
+pub(crate) fn recover(
+    alloc: Global,
+    topology: &Topology,
+    entries: Vec<Entry>,
+) -> Result<Present, Fault>
     ensures refused { IfErr result (λ e. (e ≡ Memory) ⊎ IsStuck topology.now [] entries.items e) }
     ensures topology { IfOk result (λ w. w.top ≡ topology.now) }
     ensures led { IfOk result (λ w. IsLed topology.now w.events entries.items) }

@@ -29,6 +29,7 @@ fn rest_at<D: Disk>(
     ensures same { OnErr result (world.new ≡ world.old) }
     ensures refused { IfErr result (λ e. (e ≡ Memory) ⊎ ((e ≡ ClockSpent) × IsRefusedAs (refusal_in world.old (Collect shard ((run_of world.old).shards shard).clock)) e)) }
     ensures disk { log.new.disk ≡ log.old.disk }
+    ensures secret { log.new.secret ≡ log.old.secret }
     ensures logged { IsLogged D.seen D.may_leave world.old.top log.old world.old.events → IsLogged D.seen D.may_leave world.old.top log.new world.new.events }
 {
     let mark = note_rest(alloc, log, shard)?;
@@ -44,7 +45,7 @@ fn rest_at<D: Disk>(
 /// Each shard collects up to its own clock, in the order of the nodes, as `Present::tidy` has them, and that is noted. That nothing
 /// waits is the caller's condition. Refused with `ClockSpent`, where a shard's clock would leave its range, and with `Memory` where
 /// there is none to note a collection; those before it did collect.
-pub fn rest_keeping<D: Disk>(
+pub(crate) fn rest_keeping<D: Disk>(
     alloc: Global,
     world: &mut Present,
     log: &mut Log<D>,
@@ -56,6 +57,7 @@ pub fn rest_keeping<D: Disk>(
     ensures quiet { IsQuiet (run_of world.new) }
     ensures topology { world.new.top ≡ world.old.top }
     ensures disk { log.new.disk ≡ log.old.disk }
+    ensures secret { log.new.secret ≡ log.old.secret }
     // if the log told what led to all before, it still does
     ensures logged { IsLogged D.seen D.may_leave world.old.top log.old world.old.events → IsLogged D.seen D.may_leave world.old.top log.new world.new.events }
 {

@@ -85,14 +85,6 @@ fn make(rt: &HostRuntime, draft: &str, log: &str, head: &[u8]) -> io::Result<()>
     fs::rename(rt, draft, log)
 }
 
-// Whether a file is missing, or has nothing in it.
-fn is_missing(rt: &HostRuntime, log: &str) -> io::Result<bool> {
-    if !fs::exists(rt, log)? {
-        return Ok(true);
-    }
-    Ok(fs::metadata(rt, log)?.len() == 0)
-}
-
 // What the system has of the file is written, and what is read after this comes from the disk.
 fn settle(file: &File) -> io::Result<()> {
     file.sync_all()?;
@@ -135,7 +127,7 @@ fn take_lock(rt: &HostRuntime, folder: &str) -> Result<File, OpenError> {
 }
 
 /// Opens the log of a folder for as long as what it gives is held, and reads it once. Makes folder and log where they
-/// are missing, or the log is empty; then it has this head. The folder and the one above it are synced each time, so
+/// are missing; then it has this head. The folder and the one above it are synced each time, so
 /// that both names are there after a crash, whichever start gave them.
 pub fn open(rt: &HostRuntime, folder: &str, head: &[u8]) -> Result<Opened, OpenError> {
     let alloc = rt.alloc();
@@ -143,7 +135,7 @@ pub fn open(rt: &HostRuntime, folder: &str, head: &[u8]) -> Result<Opened, OpenE
     let draft = format!(in alloc; "{folder}/log.new")?;
     make_folder(rt, folder)?;
     let lock = take_lock(rt, folder)?;
-    let fresh = is_missing(rt, log.as_str())?;
+    let fresh = !fs::exists(rt, log.as_str())?;
     if fresh {
         make(rt, draft.as_str(), log.as_str(), head)?;
     }

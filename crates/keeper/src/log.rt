@@ -1,5 +1,5 @@
 //! A log that is open.
-ghost use Rattle.std.specs.Prelude.{◌≡◌, ◌<◌, ◌^◌, ◌++◌, ◌∷◌, [], true, List, length, option_map, is_err, IsErr, IfOk, OnOk, OnErr, IfSome, IfErr};
+ghost use Rattle.std.specs.Prelude.{◌≡◌, ◌⊎◌, ◌<◌, ◌^◌, ◌++◌, ◌∷◌, [], true, false, List, length, option_map, is_err, IsErr, IfOk, OnOk, OnErr, IfSome, IfErr};
 ghost use Rattle.disk.specs.Disk.{IsBeginning, Only, LeavesOnly};
 ghost use Rattle.disk.specs.declared.disk.DiskError.TheVariants.{Failed};
 ghost use Rattle.records.specs.Records.{Entry};
@@ -37,7 +37,8 @@ fn put<D: Disk>(disk: &mut D, bytes: &Vec<u8>) -> Result<(), DiskError>
 impl<D: Disk> Log<D> {
     /// A log over a disk that holds records alone, all of them synced, up to this place.
     pub fn over(alloc: Global, disk: D, secret: u64, end: usize) -> Log<D>
-        ensures { (kept : List Entry) → IsKept D.seen D.may_leave disk secret end kept → Stands D.seen D.may_leave result kept [] }
+        ensures stands { (kept : List Entry) → IsKept D.seen D.may_leave disk secret end kept → Stands D.seen D.may_leave result kept [] }
+        ensures is { (result.disk ≡ disk) × (result.secret ≡ secret) }
     {
         Log {
             disk,
@@ -62,6 +63,7 @@ impl<D: Disk> Log<D> {
         ensures mark { IfOk result (λ mark. (kept : List Entry) (noted : List Entry) → Stands D.seen D.may_leave self.old kept noted → IsMark self.new mark noted) }
         ensures err { OnErr result ((kept : List Entry) (noted : List Entry) → Stands D.seen D.may_leave self.old kept noted → Stands D.seen D.may_leave self.new kept noted) }
         ensures disk { self.new.disk ≡ self.old.disk }
+        ensures secret { self.new.secret ≡ self.old.secret }
     {
         let mark = self.pending.len();
         let Some(place) = self.end.checked_add(mark) else {
@@ -82,6 +84,7 @@ impl<D: Disk> Log<D> {
     pub fn take_back(&mut self, mark: usize)
         ensures noted { (kept : List Entry) (noted : List Entry) (back : List Entry) → IsMark self.old mark noted → Stands D.seen D.may_leave self.old kept (noted ++ back) → Stands D.seen D.may_leave self.new kept noted }
         ensures disk { self.new.disk ≡ self.old.disk }
+        ensures secret { self.new.secret ≡ self.old.secret }
     {
         self.pending.truncate(mark);
     }
@@ -91,8 +94,12 @@ impl<D: Disk> Log<D> {
     pub fn commit(&mut self) -> Result<(), DiskError>
         ensures settled { OnOk result ((kept : List Entry) (noted : List Entry) → Stands D.seen D.may_leave self.old kept noted → Stands D.seen D.may_leave self.new (kept ++ noted) []) }
         ensures any_moment { (kept : List Entry) (noted : List Entry) → Stands D.seen D.may_leave self.old kept noted → LeavesOnly D.moment D.left_since self.old.disk self.new.disk (Survives self.old.secret kept noted) }
+        ensures secret { self.new.secret ≡ self.old.secret }
         ensures fails { IfErr result (λ e. e ≡ Failed → D.failed self.new.disk ≡ true) }
-        ensures stays_failed { D.failed self.old.disk ≡ true → IsErr result }
+        ensures stays_failed { D.failed self.old.disk ≡ true → IsErr result × (self.new ≡ self.old) }
+        ensures works { OnOk result (D.failed self.new.disk ≡ false) }
+        // where it is refused, the disk has failed, or nothing was done
+        ensures refused { OnErr result ((D.failed self.new.disk ≡ true) ⊎ (self.new ≡ self.old)) }
     {
         if self.disk.has_failed() {
             return Err(DiskError::Failed);

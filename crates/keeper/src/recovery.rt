@@ -4,7 +4,7 @@ ghost use Rattle.disk.specs.Disk.{Cut, Only, LeavesOnly};
 ghost use Rattle.records.specs.Records.{recovered, spelled, views, has_first as holds_first};
 ghost use Rattle.keeper.specs.Log.{IsKept, IsAsBefore};
 ghost use Rattle.keeper.specs.declared.recovery.RecoveryError.TheVariants.{Disk};
-ghost use Rattle.disk.specs.declared.disk.DiskError.TheVariants as disk;
+ghost use Rattle.disk.specs.declared.disk.DiskError.TheVariants as disk_error;
 
 use disk::{Disk, DiskError};
 use records::{Record, has_first, read_records};
@@ -28,7 +28,7 @@ impl From<DiskError> for RecoveryError {
 }
 
 impl From<AllocError> for RecoveryError {
-    ghost from_gives = { λ _ e. e ≡ Disk disk.Memory };
+    ghost from_gives = { λ _ e. e ≡ Disk disk_error.Memory };
 
     fn from(_: AllocError) -> Self {
         RecoveryError::Disk(DiskError::Memory)
@@ -41,6 +41,7 @@ fn cut<D: Disk>(disk: &mut D, end: usize, long: usize) -> Result<(), DiskError>
     ensures seen { OnOk result (IfSome (D.seen disk.old) (λ s. D.seen disk.new ≡ Some (take end s))) }
     ensures durable { OnOk result (IfSome (D.seen disk.old) (λ s. Only (take end s) (D.may_leave disk.new))) }
     ensures any_moment { IfSome (D.seen disk.old) (λ s. LeavesOnly D.moment D.left_since disk.old disk.new (Cut end s)) }
+    ensures fails { OnErr result (D.failed disk.new ≡ true) }
 {
     if end < long {
         disk.cut(end)?;
@@ -65,6 +66,7 @@ pub fn recover<D: Disk>(
     // nothing behind them was synced after they were
     ensures last { IfOk result (λ r. IfSome (D.seen disk.old) (λ s. holds_first secret (r.1 + 1) (drop (r.1 + 1) s) ≡ false)) }
     ensures damaged { (at : ℕ) → IsErrAnd result (λ e. e ≡ RecoveryError.Damaged at) → (disk.new ≡ disk.old) × IfSome (D.seen disk.old) (λ s. (at ≡ length (spelled secret 0 (recovered secret 0 0 s))) × (holds_first secret (at + 1) (drop (at + 1) s) ≡ true)) }
+    ensures fails { IfErr result (λ e. e ≡ Disk disk_error.Failed → D.failed disk.new ≡ true) }
     // a crash at any moment leaves the same records, and makes no damage
     ensures any_moment { IfSome (D.seen disk.old) (λ s. LeavesOnly D.moment D.left_since disk.old disk.new (IsAsBefore secret s)) }
 {

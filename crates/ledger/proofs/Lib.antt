@@ -1,2 +1,3 @@
 mod Frames
 mod Entries
+mod Heads

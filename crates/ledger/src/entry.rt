@@ -4,7 +4,7 @@ ghost use Rattle.logical_time.specs.declared.fault.Fault.TheVariants.{Memory, Ov
 ghost use Rattle.messages.specs.declared.op.Op.{Op};
 ghost use Rattle.wire.specs.Requests.{spelling};
 ghost use Rattle.wire.specs.Frames.{text as fed, NoneFirst};
-ghost use Rattle.ledger.specs.Entries.{IsTextOf};
+ghost use Rattle.ledger.specs.Entries.{IsTextOf, IsNumbered};
 ghost use Rattle.ledger.specs.declared.entry.Entry as entry;
 ghost use Rattle.ledger.specs.declared.entry.Entry.TheVariants.{Request, Rested};
 
@@ -103,6 +103,7 @@ fn requested(session: u16, op: Option<Op>) -> Option<Entry>
 /// text.
 pub fn read_entry(alloc: Global, text: &[u8]) -> Result<Option<Entry>, Fault>
     ensures some { IfOk result (λ r. IfSome r (λ e. IsTextOf e text.now)) }
+    ensures numbered { IfOk result (λ r. IfSome r (λ e. IsNumbered e)) }
     ensures none { IfOk result (λ r. IfNone r ((e : entry.Entry) → IsTextOf e text.now → ⊥)) }
     ensures only { IfErr result (λ e. e ≡ Memory) }
 {

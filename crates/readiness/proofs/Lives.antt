@@ -7,7 +7,7 @@ use Rattle.std.proofs.lemmas.List.{append-nil, map-append}
 use Rattle.std.proofs.lemmas.List.Elements.{filter-append}
 use Rattle.messages.specs.declared.op.Op.{Op}
 use Rattle.wire.specs.Replies.{Reply}
-use Rattle.wire.specs.Frames.{ReaderValue, waits, front_of}
+use Rattle.wire.specs.Frames.{ReaderValue, front_of}
 use Rattle.front.proofs.Said.{with_more-nil}
 use Rattle.front.proofs.Requests.{begins-none}
 use Rattle.readiness.specs.declared.connection.Stage.{Stage}

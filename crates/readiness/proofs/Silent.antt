@@ -12,7 +12,7 @@ use Rattle.readiness.specs.declared.line.Came.TheVariants as came
 use Rattle.readiness.specs.Lines.{ReadyValue, reads}
 use Rattle.readiness.specs.Kept.{View, view}
 use Rattle.readiness.specs.Turns.{IsRefused, StopsAt, AnswersNext, SaysNothing}
-use Rattle.readiness.specs.Places.{AreSilent}
+use Rattle.readiness.specs.Places.{StaysSilent, AreSilent}
 use Rattle.readiness.proofs.Lists.{get_set_same, get_set_other, set_set, got_within, place_is}
 
 -- ## Of one line
@@ -58,28 +58,39 @@ answered_line steps false v p w q h = ap (λ (u : View). u.line) h.0
 
 -- ## Of lines at places
 
+stays_none : {L : Type 0} (seen : L → ReadyValue) (x : Option (Option (Connection L))) → StaysSilent seen x x
+stays_none seen None = refl
+stays_none seen (Some None) = refl
+stays_none seen (Some (Some c)) = (refl, refl)
+
+stays_then : {L : Type 0} (seen : L → ReadyValue) (x y z : Option (Option (Connection L))) → StaysSilent seen x y → StaysSilent seen y z → StaysSilent seen x z
+stays_then {L = L} seen None y z h k = subst (λ (o : Option (Option (Connection L))). StaysSilent seen o z) h k
+stays_then {L = L} seen (Some None) y z h k = subst (λ (o : Option (Option (Connection L))). StaysSilent seen o z) h k
+stays_then seen (Some (Some c)) None z h k = absurd h
+stays_then seen (Some (Some c)) (Some None) z h k = absurd h
+stays_then seen (Some (Some c)) (Some (Some d)) None h k = absurd k
+stays_then seen (Some (Some c)) (Some (Some d)) (Some None) h k = absurd k
+stays_then seen (Some (Some c)) (Some (Some d)) (Some (Some e)) h k = says-then (view seen c) (view seen d) (view seen e) h k
+
 pub silent-none : {L : Type 0} (seen : L → ReadyValue) (xs : List (Option (Connection L))) → AreSilent seen xs xs
-silent-none seen xs k d is = (d, is, (refl, refl))
+silent-none seen xs k = stays_none seen (slice_get xs k)
 
 pub silent-same : {L : Type 0} (seen : L → ReadyValue) (old new : List (Option (Connection L))) → new ≡ old → AreSilent seen old new
 silent-same {L = L} seen old new same = subst (λ (u : List (Option (Connection L))). AreSilent seen old u) (sym same) (silent-none seen old)
 
 pub silent-then : {L : Type 0} (seen : L → ReadyValue) (x y z : List (Option (Connection L))) → AreSilent seen x y → AreSilent seen y z → AreSilent seen x z
-silent-then seen x y z h j k d is =
-    let a = j k d is in
-    let b = h k a.0 a.1 in
-    (b.0, b.1, says-then (view seen b.0) (view seen a.0) (view seen d) b.2 a.2)
-
-some_one : {A : Type 0} (x y : A) → Some (Some x) ≡ Some (Some y) → x ≡ y
-some_one x y e = cc
+silent-then seen x y z h j k = stays_then seen (slice_get x k) (slice_get y k) (slice_get z k) (h k) (j k)
 
 silent_set : {L : Type 0} (seen : L → ReadyValue) (old : List (Option (Connection L))) (at : ℕ) (c d : Connection L) → slice_get old at ≡ Some (Some c) → SaysNothing (view seen c) (view seen d) → AreSilent seen old (slice_set old at (Some d))
-silent_set {L = L} seen old at c d was says k e is =
+silent_set {L = L} seen old at c d was says k =
+    let new = slice_set old at (Some d) in
     elim (cases_eq at k) [
       | inl same ↦
-          let here : slice_get (slice_set old at (Some d)) k ≡ Some (Some d) = subst (λ (i : ℕ). slice_get (slice_set old at (Some d)) i ≡ Some (Some d)) same (get_set_same old at (Some d) (got_within old at (Some c) was)) in
-          (c, subst (λ (i : ℕ). slice_get old i ≡ Some (Some c)) same was, subst (λ (x : Connection L). SaysNothing (view seen c) (view seen x)) (some_one d e (sym here ∙ is)) says)
-      | inr ne ↦ (e, sym (get_set_other old at k (Some d) ne) ∙ is, (refl, refl))
+          let set : slice_get new at ≡ Some (Some d) = get_set_same old at (Some d) (got_within old at (Some c) was) in
+          let there : StaysSilent seen (slice_get old at) (slice_get new at) =
+          subst (λ (o : Option (Option (Connection L))). StaysSilent seen o (slice_get new at)) (sym was) (subst (λ (o : Option (Option (Connection L))). StaysSilent seen (Some (Some c)) o) (sym set) says) in
+          subst (λ (i : ℕ). StaysSilent seen (slice_get old i) (slice_get new i)) same there
+      | inr ne ↦ subst (λ (o : Option (Option (Connection L))). StaysSilent seen (slice_get old k) o) (sym (get_set_other old at k (Some d) ne)) (stays_none seen (slice_get old k))
     ]
 
 -- a place is read and emptied, and the connection takes in and is put back

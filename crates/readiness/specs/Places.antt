@@ -41,15 +41,23 @@ Rests {L = L} limit seen ready again over old new = (k : ℕ) (c : Connection L)
 abbrev pub AreBounded : {L : Type 0} → ℕ → (L → ReadyValue) → List (Option (Connection L)) → Type 0
 AreBounded {L = L} limit seen places = (k : ℕ) (c : Connection L) → slice_get places k ≡ Some (Some c) → IsBounded limit (view seen c)
 
--- whoever stands at a place stood there, and nothing was said to its line
-abbrev pub AreSilent : {L : Type 0} → (L → ReadyValue) → List (Option (Connection L)) → List (Option (Connection L)) → Type 0
-AreSilent {L = L} seen old new = (k : ℕ) (d : Connection L) → slice_get new k ≡ Some (Some d) → (c : Connection L) × (slice_get old k ≡ Some (Some c)) × SaysNothing (view seen c) (view seen d)
+-- who stood at a place stands there still, and nothing was said to its line; and nobody came
+abbrev pub StaysSilent : {L : Type 0} → (L → ReadyValue) → Option (Option (Connection L)) → Option (Option (Connection L)) → Type 0
+StaysSilent seen None after = after ≡ None
+StaysSilent seen (Some None) after = after ≡ Some None
+StaysSilent seen (Some (Some c)) None = ⊥
+StaysSilent seen (Some (Some c)) (Some None) = ⊥
+StaysSilent seen (Some (Some c)) (Some (Some d)) = SaysNothing (view seen c) (view seen d)
 
--- The port has settled, and is as that left it: so it is settled behind all that it was asked. Or it didn't; then its
--- fault is the result, and nothing was said to any line.
-abbrev pub SettledFirst : {L : Type 0} {P : Type 0} {T : Type 0} → (L → ReadyValue) → (P → Result (Unit {0}) Fault → P → Type 0) → List (Option (Connection L)) → List (Option (Connection L)) → P → Result T Fault → Type 0
-SettledFirst {L = L} {P = P} seen settles old new q result =
-    (p : P) × (settles p (Ok tt) q ⊎ ((f : Fault) × settles p (Err f) q × AreSilent seen old new × (result ≡ Err f)))
+-- so it is at each place
+abbrev pub AreSilent : {L : Type 0} → (L → ReadyValue) → List (Option (Connection L)) → List (Option (Connection L)) → Type 0
+AreSilent seen old new = (k : ℕ) → StaysSilent seen (slice_get old k) (slice_get new k)
+
+-- The port kept what it had kept, until it settled, and is as that left it: so it is settled behind all that it was
+-- asked. Or it didn't settle; then its fault is the result, and nothing was said to any line.
+abbrev pub SettledFirst : {L : Type 0} {P : Type 0} {K : Type 0} {T : Type 0} → (L → ReadyValue) → (P → K) → (P → Result (Unit {0}) Fault → P → Type 0) → List (Option (Connection L)) → P → List (Option (Connection L)) → P → Result T Fault → Type 0
+SettledFirst {L = L} {P = P} seen kept settles old p new q result =
+    (asked : P) × (kept asked ≡ kept p) × (settles asked (Ok tt) q ⊎ ((f : Fault) × settles asked (Err f) q × AreSilent seen old new × (result ≡ Err f)))
 
 -- ## Between the halves of turns
 

@@ -153,6 +153,7 @@ pub(crate) fn listen_at<L: ReadyLine + Drop, P: SharedPort>(
     ensures stops { StoppedAt L.seen places.new.places.items place }
     ensures others { (k : ℕ) → (place ≡ k → ⊥) → slice_get places.new.places.items k ≡ slice_get places.old.places.items k }
     ensures silent { AreSilent L.seen places.old.places.items places.new.places.items }
+    ensures keeps_none { P.kept port.new ≡ P.kept port.old }
     ensures bounded { AreBounded LIMIT L.seen places.old.places.items → AreBounded LIMIT L.seen places.new.places.items }
 {
     if place >= places.places.len() {
@@ -216,6 +217,7 @@ fn listen_all<L: ReadyLine + Drop, P: SharedPort>(
     ensures turned { (log : List Entry) × Turns L.seen P.steps log places.old.places.items (P.seen port.old) places.new.places.items (P.seen port.new) }
     ensures heard { AreHeard L.seen ready.now places.old.places.items places.new.places.items }
     ensures silent { AreSilent L.seen places.old.places.items places.new.places.items }
+    ensures keeps_none { P.kept port.new ≡ P.kept port.old }
     ensures bounded { AreBounded LIMIT L.seen places.old.places.items → AreBounded LIMIT L.seen places.new.places.items }
 {
     for place in ready {
@@ -257,8 +259,8 @@ pub fn turns<L: ReadyLine + Drop, P: SharedPort>(
     requires { 0 < length buffer.old }
     ensures turned { (log : List Entry) × Turns L.seen P.steps log places.old.places.items (P.seen port.old) places.new.places.items (P.seen port.new) }
     ensures rests { OnOk result (Rests LIMIT L.seen ready.now again.new.items over.new.items places.old.places.items places.new.places.items) }
-    // no line says a byte more before the port has settled behind all that was asked
-    ensures settled { SettledFirst L.seen P.settles places.old.places.items places.new.places.items port.new result }
+    // before a line says a byte more the port has settled behind all that was asked, and keeps nothing else than before until then
+    ensures settled { SettledFirst L.seen P.kept P.settles places.old.places.items port.old places.new.places.items port.new result }
     ensures bounded { AreBounded LIMIT L.seen places.old.places.items → AreBounded LIMIT L.seen places.new.places.items }
 {
     listen_all(alloc, port, places, ready, buffer);

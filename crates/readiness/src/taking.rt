@@ -56,7 +56,8 @@ fn answer_next<L: ReadyLine, P: SharedPort>(
     connection: &mut Connection<L>,
 ) -> bool
     requires { REFUSAL_BYTES ≤ connection.old.waiting.spare }
-    ensures { AnswersNext (P.steps place) result (view L.seen connection.old) (P.seen port.old) (view L.seen connection.new) (P.seen port.new) }
+    ensures answers { AnswersNext (P.steps place) result (view L.seen connection.old) (P.seen port.old) (view L.seen connection.new) (P.seen port.new) }
+    ensures keeps_none { P.kept port.new ≡ P.kept port.old }
 {
     let Some(op) = connection.reader.next() else {
         return false;
@@ -157,6 +158,7 @@ fn go_on<L: ReadyLine, P: SharedPort>(
     ensures bounded { length connection.old.waiting.items ≤ LIMIT → IsBounded LIMIT (view L.seen connection.new) }
     ensures stops { IfSome result (λ stop. StopsFor LIMIT stop (view L.seen connection.new)) }
     ensures silent { SaysNothing (view L.seen connection.old) (view L.seen connection.new) }
+    ensures keeps_none { P.kept port.new ≡ P.kept port.old }
 {
     if answer_next(alloc, port, place, connection) {
         return None;
@@ -185,6 +187,7 @@ fn step_open<L: ReadyLine, P: SharedPort>(
     ensures bounded { IsBounded LIMIT (view L.seen connection.old) → IsBounded LIMIT (view L.seen connection.new) }
     ensures stops { IfSome result (λ stop. StopsFor LIMIT stop (view L.seen connection.new)) }
     ensures silent { SaysNothing (view L.seen connection.old) (view L.seen connection.new) }
+    ensures keeps_none { P.kept port.new ≡ P.kept port.old }
 {
     let waits = connection.waiting.len();
     if waits > LIMIT {
@@ -212,6 +215,7 @@ fn step<L: ReadyLine, P: SharedPort>(
     ensures bounded { IsBounded LIMIT (view L.seen connection.old) → IsBounded LIMIT (view L.seen connection.new) }
     ensures stops { IfSome result (λ stop. StopsFor LIMIT stop (view L.seen connection.new)) }
     ensures silent { SaysNothing (view L.seen connection.old) (view L.seen connection.new) }
+    ensures keeps_none { P.kept port.new ≡ P.kept port.old }
 {
     match connection.stage {
         Stage::Open(stopped) => step_open(alloc, port, place, connection, stopped, buffer),
@@ -232,6 +236,7 @@ pub(crate) fn take_in<L: ReadyLine, P: SharedPort>(
     ensures bounded { IsBounded LIMIT (view L.seen connection.old) → IsBounded LIMIT (view L.seen connection.new) }
     ensures stops { StopsFor LIMIT result (view L.seen connection.new) }
     ensures silent { SaysNothing (view L.seen connection.old) (view L.seen connection.new) }
+    ensures keeps_none { P.kept port.new ≡ P.kept port.old }
 {
     for _ in 0..STEPS {
         if let Some(stop) = step(alloc, port, place, connection, buffer) {

@@ -36,6 +36,7 @@ pub(crate) fn listen<L: ReadyLine, P: SharedPort>(
     ensures bounded { IsBounded LIMIT (view L.seen connection.old) → IsBounded LIMIT (view L.seen connection.new) }
     ensures stops { HasStopped connection.new.stop (view L.seen connection.new) }
     ensures silent { SaysNothing (view L.seen connection.old) (view L.seen connection.new) }
+    ensures keeps_none { P.kept port.new ≡ P.kept port.old }
 {
     let stop = take_in(alloc, port, place, connection, buffer);
     connection.stop = stop;

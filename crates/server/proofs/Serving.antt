@@ -1,11 +1,13 @@
 -- What a round makes of a world, by what it makes of the port of its sessions; and that all of it still holds later.
-use Rattle.std.proofs.Common.{◌≡◌, ◌∙◌, true, ℕ, zero, suc, ◌<◌, List, [], ◌∷◌, ◌++◌, Option, Result, Ok, Err, OnOk, inl, inr, refl, ap, sym, subst, append-nil}
+use Rattle.std.proofs.Common.{◌≡◌, ◌∙◌, true, ℕ, zero, suc, ◌<◌, List, [], ◌∷◌, Option, Result, Ok, Err, OnOk, ◌⊎◌, inl, inr, ap, sym, subst, append-nil}
+use Rattle.logical_time.specs.declared.fault.Fault.{Fault}
 use Rattle.messages.specs.declared.op.Op.{Op}
 use Rattle.messages.specs.Topology.{TopologyValue, is_topology}
 use Rattle.wire.specs.Replies.{Reply}
 use Rattle.readiness.specs.declared.connection.Connection.{Connection}
 use Rattle.readiness.specs.Lines.{ReadyValue}
 use Rattle.readiness.specs.Exchanges.{Entry, LogChain}
+use Rattle.readiness.specs.Places.{AreSilent}
 use Rattle.world.specs.declared.run_event.RunEvent.{RunEvent}
 use Rattle.world.specs.declared.run_event.RunEvent.TheVariants.{Collect}
 use Rattle.world.specs.Run.{run}
@@ -13,11 +15,12 @@ use Rattle.world.specs.Journals.{IsBeginning}
 use Rattle.world.specs.World.{WorldValue, run_of}
 use Rattle.world.proofs.envelopes.Addresses.{stands}
 use Rattle.present.specs.AtRest.{AreTidied}
-use Rattle.service.specs.Sessions.{SessionReplies, AreAnswered}
-use Rattle.service.proofs.Meant.{begins_so, begins_at}
-use Rattle.service.proofs.Together.{answered_later}
+use Rattle.service.specs.Sessions.{SessionReplies}
+use Rattle.service.proofs.Meant.{begins_so}
+use Rattle.service.specs.declared.sessions.WorldSessions.{WorldSessions}
+use Rattle.service.proofs.Together.{answered_later, turns_settled}
 use Rattle.doors.specs.declared.listening.Doors.{Doors}
-use Rattle.doors.specs.Rounds.{Round}
+use Rattle.doors.specs.Rounds.{Round, RoundSettled}
 use Rattle.doors.specs.Spans.{Spans}
 use Rattle.server.specs.Serving.{HasRested}
 
@@ -79,11 +82,6 @@ chain_later old mid new log some same begins chain =
     subst (λ (z : TopologyValue). LogChain (SessionReplies old.top (run z new.events)) old.events log mid.events) (sym same)
     (answered_later old.top (run_of mid) some new.events old.events log mid.events chain begins)
 
--- what was answered until a moment is what all that happened until then was
-pub answered_until : (old mid : WorldValue) (log : List Entry) → mid.top ≡ old.top → LogChain (SessionReplies old.top (run_of mid)) old.events log mid.events
-    → AreAnswered old (record { top = old.top; events = mid.events })
-answered_until old mid log same chain = (log, subst (λ (z : TopologyValue). LogChain (SessionReplies old.top (run z mid.events)) old.events log mid.events) same chain)
-
 -- shards rested in this world's topology
 pub rested_in : (old mid new : WorldValue) → mid.top ≡ old.top → HasRested mid.top mid.events new.events → HasRested old.top mid.events new.events
 rested_in old mid new same rested = subst (λ (z : TopologyValue). HasRested z mid.events new.events) same rested
@@ -91,3 +89,21 @@ rested_in old mid new same rested = subst (λ (z : TopologyValue). HasRested z m
 -- the topology has a shard
 pub has_shard : (old new : WorldValue) → new.top ≡ old.top → is_topology new.top.dcs new.top.shards new.top.homes ≡ true → 0 < old.top.shards
 has_shard old new same limits = subst (λ (z : TopologyValue). 0 < z.shards) same (stands new.top limits).some
+
+-- a round of the port of a host, which settled first as the host does
+pub round_settled : {W L K T : Type 0} (line : L → ReadyValue) (kept : W → K) (settles : W → Result (Unit {0}) Fault → W → Type 0) (x : List (Option (Connection L))) (p : WorldSessions W) (y : List (Option (Connection L))) (q : WorldSessions W) (r : Result T Fault)
+    → RoundSettled line (λ (s : WorldSessions W). kept s.world.now) (λ (s : WorldSessions W) (went : Result (Unit {0}) Fault) (t : WorldSessions W). settles s.world.now went t.world.now) x p y q r
+    → RoundSettled line kept settles x p.world.now y q.world.now r
+round_settled {W = W} line kept settles x p y q r (inl h) = inl (h.0, ap (λ (s : WorldSessions W). s.world.now) h.1)
+round_settled line kept settles x p y q r (inr h) = inr (turns_settled line kept settles x p y q r h)
+
+-- what was settled before a round lasts
+pub lasts_round : {W L K T : Type 0} (line : L → ReadyValue) (kept : W → K) (settles : W → Result (Unit {0}) Fault → W → Type 0) (lasts : K → K → Type 0) → ((k : K) → lasts k k) → ((a : W) (went : Result (Unit {0}) Fault) (b : W) → settles a went b → lasts (kept a) (kept b))
+    → (x : List (Option (Connection L))) (p : W) (y : List (Option (Connection L))) (q : W) (r : Result T Fault) → RoundSettled line kept settles x p y q r → (w : W) → kept w ≡ kept q → lasts (kept p) (kept w)
+lasts_round {W = W} {K = K} line kept settles lasts same settled x p y q r (inl h) w is = subst (λ (k : K). lasts (kept p) k) (sym (is ∙ ap kept h.1)) (same (kept p))
+lasts_round {W = W} {K = K} line kept settles lasts same settled x p y q r (inr h) w is =
+    subst (λ (k : K). lasts (kept p) k) (sym is) (subst (λ (k : K). lasts k (kept q)) h.1 (settled_either h.2))
+  where
+    settled_either : (settles h.0 (Ok tt) q ⊎ ((f : Fault) × settles h.0 (Err f) q × AreSilent line x y × (r ≡ Err f))) → lasts (kept h.0) (kept q)
+    settled_either (inl s) = settled h.0 (Ok tt) q s
+    settled_either (inr s) = settled h.0 (Err s.0) q s.1

@@ -1,5 +1,5 @@
 -- What a line was served by, seen as steps of another kind.
-use Rattle.std.proofs.Common.{◌≡◌, ℕ, List, [], ◌∷◌, refl, ◌⊎◌, inl, inr}
+use Rattle.std.proofs.Common.{ℕ, List, [], inl, inr}
 use Rattle.logical_time.specs.declared.fault.Fault.{Fault}
 use Rattle.messages.specs.declared.op.Op.{Op}
 use Rattle.wire.specs.Replies.{Reply}

@@ -1,5 +1,5 @@
 -- One more connection.
-use Rattle.std.proofs.Common.{◌≡◌, ℕ, suc, ◌+◌, List, sym, subst, add-one}
+use Rattle.std.proofs.Common.{◌≡◌, ℕ, ◌+◌, List, subst, add-one}
 use Rattle.messages.specs.Topology.{TopologyValue, session_node}
 use Rattle.world.specs.declared.run_event.RunEvent.{RunEvent}
 use Rattle.service.specs.Connections.{IsServed, AreServed}

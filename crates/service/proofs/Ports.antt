@@ -7,7 +7,6 @@ use Rattle.front.specs.declared.ended.Ended.{Ended}
 use Rattle.front.specs.Lines.{LineValue}
 use Rattle.front.specs.Ports.{Chain}
 use Rattle.front.specs.Served.{Served}
-use Rattle.world.specs.declared.run_event.RunEvent.{RunEvent}
 use Rattle.world.specs.Run.{run}
 use Rattle.world.specs.World.{run_of}
 use Rattle.service.specs.declared.port.WorldPort.{WorldPort}

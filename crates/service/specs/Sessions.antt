@@ -12,12 +12,20 @@ use Rattle.service.specs.declared.sessions.WorldSessions.{WorldSessions}
 use Rattle.service.specs.Port.{Asks}
 use Rattle.service.specs.Meaning.{Replies}
 
+-- the sessions of a world, as their steps see them: under which name they hold the world, and the world
+pub record SessionsValue : Type 0 where
+  pub name : ℕ
+  pub world : WorldValue
+
+abbrev pub seen_sessions : {W : Type 0} → (W → WorldValue) → WorldSessions W → SessionsValue
+seen_sessions seen p = record { name = p.world.ghost_name; world = seen p.world.now }
+
 -- a step of the port: its world stays, and the request is answered on that world; past the last session it is refused
-pub record IsSessionStep {W : Type 0} (seen : W → WorldValue) (place : ℕ) (old : WorldSessions W) (op : Op) (answer : Reply) (new : WorldSessions W) : Type 0 where
-  pub same_world : new.world.ghost_name ≡ old.world.ghost_name
-  pub topology : (seen new.world.now).top ≡ (seen old.world.now).top
-  pub asks : place < length (seen old.world.now).top.homes → Asks (seen old.world.now).top (session_node (seen old.world.now).top place) (seen old.world.now).events op answer (seen new.world.now).events
-  pub otherwise : length (seen old.world.now).top.homes ≤ place → (answer ≡ Err Busy) × (new.world.now ≡ old.world.now)
+pub record IsSessionStep (place : ℕ) (old : SessionsValue) (op : Op) (answer : Reply) (new : SessionsValue) : Type 0 where
+  pub same_world : new.name ≡ old.name
+  pub topology : new.world.top ≡ old.world.top
+  pub asks : place < length old.world.top.homes → Asks old.world.top (session_node old.world.top place) old.world.events op answer new.world.events
+  pub otherwise : length old.world.top.homes ≤ place → (answer ≡ Err Busy) × (new.world ≡ old.world)
 
 -- A step of the connection at a place, where `left` is the run after all of them: its session's request is answered,
 -- and an outcome has its meaning in `left`; at a place past the last session it is refused.

@@ -1,5 +1,5 @@
 //! The outcome that is awaited of a world that keeps no past.
-ghost use Rattle.std.specs.Prelude.{◌≡◌, true};
+ghost use Rattle.std.specs.Prelude.{◌≡◌, true, Ok};
 ghost use Rattle.messages.specs.Topology.{is_session};
 ghost use Rattle.service.specs.Awaited.{outcome_heard, AsksSame, IsAwaited};
 ghost use Rattle.service.specs.Port.{AsksTelling};
@@ -120,19 +120,38 @@ pub fn ask_present(world: &mut Present, session: Node, op: Op) -> Result<Outcome
     answer
 }
 
-/// Each outcome is taken out of the delivery that ended it: nothing is looked for, and nothing is copied.
+/// Each outcome is taken out of the delivery that ended it: nothing is looked for, and nothing is copied. It keeps nothing for
+/// good.
 impl Host for Present {
     ghost world = { λ p. p };
+
+    ghost Kept = { Unit {0} };
+
+    ghost kept = { λ p. tt };
+
+    ghost settles = { λ p went after. (went ≡ Ok tt) × (after ≡ p) };
+
+    ghost lasts = { λ k l. Unit {0} };
+
+    ghost lasts_same = { λ k. tt };
+
+    ghost lasts_settled = { λ p went after s. tt };
 
     fn topology(&self) -> &Topology {
         self.topology()
     }
 
-    fn ask(&mut self, session: Node, op: Op) -> Result<Outcome, Fault> {
+    #[tactic(auto, using(crate::proofs::Homes::session_here))]
+    fn ask(&mut self, index: u16, op: Op) -> Result<Outcome, Fault> {
+        let session = self.topology().session_node(index);
         match ask_present(self, session, op) {
             Ok(outcome) => Ok(outcome),
             Err(Unanswered::TurnedAway(fault)) => Err(fault),
             Err(Unanswered::Untold(fault)) => Err(fault),
         }
+    }
+
+    fn settle(&mut self) -> Result<(), Fault> {
+        Ok(())
     }
 }

@@ -1,7 +1,7 @@
 //! The sessions of a world, each for the connection at a place.
-ghost use Rattle.std.specs.Prelude.{◌≡◌, ◌<◌, List, length, Ok, IfOk, OnOk};
+ghost use Rattle.std.specs.Prelude.{◌≡◌, ◌<◌, List, length, IfOk, OnOk};
 ghost use Rattle.readiness.specs.Exchanges.{Entry};
-ghost use Rattle.readiness.specs.Places.{Turns, Rests, AreBounded};
+ghost use Rattle.readiness.specs.Places.{Turns, Rests, AreBounded, SettledFirst};
 ghost use Rattle.readiness.specs.Runs.{RanFor, arrivals};
 ghost use Rattle.readiness.specs.declared.connection.TheConstants.{LIMIT};
 ghost use Rattle.world.specs.World.{run_of};
@@ -53,6 +53,7 @@ impl<'w, W: Host> WorldSessions<'w, W> {
         ensures topology { (W.world self.new.world.now).top ≡ (W.world self.old.world.now).top }
         ensures turned { (log : List Entry) × Turns L.seen (SessionReplies (W.world self.old.world.now).top (run_of (W.world self.new.world.now))) log places.old.places.items (W.world self.old.world.now).events places.new.places.items (W.world self.new.world.now).events }
         ensures rests { OnOk result (Rests LIMIT L.seen ready.now again.new.items over.new.items places.old.places.items places.new.places.items) }
+        ensures settled { SettledFirst L.seen W.kept W.settles places.old.places.items self.old.world.now places.new.places.items self.new.world.now result }
         ensures bounded { AreBounded LIMIT L.seen places.old.places.items → AreBounded LIMIT L.seen places.new.places.items }
     {
         // what is known of runs is known within the limits of a topology
@@ -81,38 +82,38 @@ impl<'w, W: Host> WorldSessions<'w, W> {
 }
 
 impl<W: Host> SharedPort for WorldSessions<'_, W> {
-    ghost use Rattle.service.specs.declared.sessions.WorldSessions.{WorldSessions};
+    ghost use Rattle.service.specs.Sessions.{SessionsValue, seen_sessions};
 
-    ghost State = { WorldSessions W };
+    ghost State = { SessionsValue };
 
-    ghost seen = { λ p. p };
+    ghost seen = { seen_sessions W.world };
 
-    ghost steps = { IsSessionStep W.world };
+    ghost steps = { IsSessionStep };
 
-    ghost settles = { λ p went q. (went ≡ Ok tt) × (q ≡ p) };
+    ghost Kept = { W.Kept };
 
-    #[tactic(auto, using(crate::proofs::Homes::session_here))]
+    ghost kept = { λ p. W.kept p.world.now };
+
+    ghost settles = { λ p went q. W.settles p.world.now went q.world.now };
+
     fn ask(&mut self, place: usize, op: Op) -> Result<Outcome, Fault> {
         self.asked = self.asked.saturating_add(1);
-        let topology = self.world.topology();
-        let sessions = topology.homes().len();
+        let sessions = self.world.topology().homes().len();
         if place >= sessions {
             return Err(Fault::Busy);
         }
-        let session = topology.session_node(place as u16);
-        self.world.ask(session, op)
+        self.world.ask(place as u16, op)
     }
 
-    /// It keeps nothing for good, so nothing is left to do.
     fn settle(&mut self) -> Result<(), Fault> {
-        Ok(())
+        self.world.settle()
     }
 }
 
 /// A turn for the connection at each of these places, in this order, whichever they are: the sessions of these indices
 /// answer what it asks. Places of connections that could go on at once are put into `again`, and of those that are over
-/// into `over`. Refused with `Memory`, where it is refused for that: then it ends early. Each request costs what its
-/// submission and its drain do, beside the bytes of its frames.
+/// into `over`. Refused as settling is, and then nothing is written; and with `Memory`, where it is refused for that: then it
+/// ends early. Each request costs what its submission and its drain do, beside the bytes of its frames.
 pub fn turn_sessions<W: Host, L: ReadyLine + Drop>(
     alloc: Global,
     world: &mut W,
@@ -126,6 +127,8 @@ pub fn turn_sessions<W: Host, L: ReadyLine + Drop>(
     // each place's requests were answered by its session, and each outcome means its request in the world left behind
     ensures turned { (log : List Entry) × Turns L.seen (SessionReplies (W.world world.old).top (run_of (W.world world.new))) log places.old.places.items (W.world world.old).events places.new.places.items (W.world world.new).events }
     ensures rests { OnOk result (Rests LIMIT L.seen ready.now again.new.items over.new.items places.old.places.items places.new.places.items) }
+    // no line says a byte more before the world has settled behind all that was asked
+    ensures settled { SettledFirst L.seen W.kept W.settles places.old.places.items world.old places.new.places.items world.new result }
     ensures bounded { AreBounded LIMIT L.seen places.old.places.items → AreBounded LIMIT L.seen places.new.places.items }
     ensures topology { (W.world world.new).top ≡ (W.world world.old).top }
 {
@@ -135,7 +138,8 @@ pub fn turn_sessions<W: Host, L: ReadyLine + Drop>(
 
 /// Serves lines together by the sessions of a world, as they arrive, have turns and leave, in whatever order. The
 /// connections at a place, one after the other, ask as one session, and each goes on with what that session did before.
-/// Refused with `Memory`, where it is refused for places and connections: then it ends early, and the lines are dropped.
+/// Refused as settling is, and with `Memory`, where it is refused for places and connections: then it ends early, and the
+/// lines are dropped.
 pub fn run_sessions<W: Host, L: ReadyLine + Drop>(
     alloc: Global,
     world: &mut W,

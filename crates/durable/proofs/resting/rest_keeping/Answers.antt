@@ -21,6 +21,7 @@ loop-shard-preserved g c =
       quiet = takes_quiet c.loop-shard.world new.world _ _ inv.quiet c.in_ok-rest_at.ensures.taken;
       tidied = one_tidied c.args.world.now.top c.loop-shard.shard c.loop-shard.shard c.args.world.now.events c.loop-shard.world new.world inv.topology refl inv.tidied c.in_ok-rest_at.ensures.taken;
       disk = c.rest_at.ensures.disk ∙ inv.disk;
+      secret = c.rest_at.ensures.secret ∙ inv.secret;
       logged = λ l.
           subst (λ (t : TopologyValue). IsLogged seen may t new.log new.world.events) inv.topology
           (c.in_ok-rest_at.ensures.logged (subst (λ (t : TopologyValue). IsLogged seen may t c.loop-shard.log c.loop-shard.world.events) (sym inv.topology) (inv.logged l)));
@@ -28,6 +29,9 @@ loop-shard-preserved g c =
 
 pub returns-in_err-rest_at-clause-disk : goal.returns-in_err-rest_at-clause-disk
 returns-in_err-rest_at-clause-disk g c = c.rest_at.ensures.disk ∙ c.loop-shard.invariant.disk
+
+pub returns-in_err-rest_at-clause-secret : goal.returns-in_err-rest_at-clause-secret
+returns-in_err-rest_at-clause-secret g c = c.rest_at.ensures.secret ∙ c.loop-shard.invariant.secret
 
 pub returns-in_err-rest_at-clause-refused : goal.returns-in_err-rest_at-clause-refused
 returns-in_err-rest_at-clause-refused g c =

@@ -12,5 +12,6 @@ invariant-loop-shard g l = record {
   quiet : IsQuiet (run_of l.world);
   tidied : AreTidied l.fn.world.top l.shard l.fn.world.events l.world.events;
   disk : l.log.disk ≡ l.fn.log.disk;
+  secret : l.log.secret ≡ l.fn.log.secret;
   logged : IsLogged g.D.Disk.seen g.D.Disk.may_leave l.fn.world.top l.fn.log l.fn.world.events → IsLogged g.D.Disk.seen g.D.Disk.may_leave l.fn.world.top l.log l.world.events;
 }

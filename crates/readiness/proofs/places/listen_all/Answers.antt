@@ -1,4 +1,4 @@
-use Rattle.std.proofs.Common.{ℕ, List, get_or, subst}
+use Rattle.std.proofs.Common.{◌∙◌, ℕ, List, get_or, refl, subst}
 use Rattle.std.proofs.lemmas.List.{take_more, take_all}
 use Rattle.readiness.specs.Places.{AreHeard}
 use Rattle.readiness.proofs.Positions.{turns-none, turns-more}
@@ -12,6 +12,7 @@ loop-place-init g c = record {
   heard = heard-none g.L.ReadyLine.seen c.args.places.now.places.items;
   silent = silent-none g.L.ReadyLine.seen c.args.places.now.places.items;
   bounded = λ h. h;
+  keeps_none = refl;
 }
 
 pub loop-place-preserved : goal.loop-place-preserved
@@ -23,6 +24,7 @@ loop-place-preserved g c =
       heard = heard-more g.L.ReadyLine.seen c.args.ready.now i place c.args.places.now.places.items c.loop-place.places.places.items c.listen_at.new.places.places.items (take_more c.args.ready.now i 0 c.loop-place-test.true) c.loop-place.invariant.heard c.listen_at.ensures.stops c.listen_at.ensures.others;
       silent = silent-then g.L.ReadyLine.seen c.args.places.now.places.items c.loop-place.places.places.items c.listen_at.new.places.places.items c.loop-place.invariant.silent c.listen_at.ensures.silent;
       bounded = λ h. c.listen_at.ensures.bounded (c.loop-place.invariant.bounded h);
+      keeps_none = c.listen_at.ensures.keeps_none ∙ c.loop-place.invariant.keeps_none;
     }
 
 pub returns-clause-heard : goal.returns-clause-heard

@@ -1,4 +1,4 @@
-use Rattle.std.proofs.Common.{List, take}
+use Rattle.std.proofs.Common.{◌≡◌, List, take}
 use Rattle.readiness.specs.declared.connection.TheConstants.{LIMIT}
 use Rattle.readiness.specs.Exchanges.{Entry}
 use Rattle.readiness.specs.Places.{Turns, AreBounded, AreSilent, AreHeard}
@@ -10,4 +10,5 @@ invariant-loop-place g l = record {
   heard : AreHeard g.L.ReadyLine.seen (take l.place-index l.ready) l.fn.places.places.items l.places.places.items;
   silent : AreSilent g.L.ReadyLine.seen l.fn.places.places.items l.places.places.items;
   bounded : AreBounded LIMIT g.L.ReadyLine.seen l.fn.places.places.items → AreBounded LIMIT g.L.ReadyLine.seen l.places.places.items;
+  keeps_none : g.P.SharedPort.kept l.port ≡ g.P.SharedPort.kept l.fn.port;
 }

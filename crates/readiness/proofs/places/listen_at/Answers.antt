@@ -2,7 +2,7 @@ use Rattle.std.proofs.Common.{◌≡◌, ◌∙◌, length, refl, sym, inl, rule
 use Rattle.readiness.specs.declared.connection.TheConstants.{LIMIT}
 use Rattle.readiness.proofs.Positions.{turned_at, none_at, bounded_turned, bounded_same}
 use Rattle.readiness.proofs.Silent.{silent-none, silent-same, silent-at}
-use Rattle.readiness.proofs.Halves.{nobody_past, nobody_there, stopped_at}
+use Rattle.readiness.proofs.Halves.{stopped_at}
 use Rattle.readiness.proofs.places.listen_at.Goals as goal
 
 pub returns-then-place-len-clause-silent : goal.returns-then-place-len-clause-silent

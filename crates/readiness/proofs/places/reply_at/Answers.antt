@@ -2,7 +2,7 @@ use Rattle.std.proofs.Common.{◌≡◌, ◌∙◌, length, refl, sym, rules}
 use Rattle.readiness.specs.declared.connection.TheConstants.{LIMIT}
 use Rattle.readiness.specs.Kept.{view}
 use Rattle.readiness.proofs.Positions.{none_at, bounded_turned, bounded_same}
-use Rattle.readiness.proofs.Halves.{nobody_past, nobody_there, stopped_at, left_at, had_stopped, written-same, written-at, shrunk_bounded}
+use Rattle.readiness.proofs.Halves.{stopped_at, left_at, had_stopped, written-same, written-at, shrunk_bounded}
 use Rattle.readiness.proofs.places.reply_at.Goals as goal
 
 pub returns-then-place-len-clause-written : goal.returns-then-place-len-clause-written

@@ -18,13 +18,13 @@ returns-clause-rests g c =
     (c.in_ok-reply_all.ensures.told (stopped_of g.L.ReadyLine.seen c.args.ready.now c.args.places.now.places.items c.listen_all.new.places.places.items c.listen_all.ensures.heard))
 
 pub returns-in_err-settle-clause-settled : goal.returns-in_err-settle-clause-settled
-returns-in_err-settle-clause-settled g c = (c.listen_all.new.port, inr (c.in_err-settle.field-0.0, c.in_err-settle.ensures.settled, c.listen_all.ensures.silent, search rules))
+returns-in_err-settle-clause-settled g c = (c.listen_all.new.port, c.listen_all.ensures.keeps_none, inr (c.in_err-settle.field-0.0, c.in_err-settle.ensures.settled, c.listen_all.ensures.silent, search rules))
 
 pub returns-in_err-reply_all-clause-settled : goal.returns-in_err-reply_all-clause-settled
-returns-in_err-reply_all-clause-settled g c = (c.listen_all.new.port, inl c.in_ok-settle.ensures.settled)
+returns-in_err-reply_all-clause-settled g c = (c.listen_all.new.port, c.listen_all.ensures.keeps_none, inl c.in_ok-settle.ensures.settled)
 
 pub returns-clause-settled : goal.returns-clause-settled
-returns-clause-settled g c = (c.listen_all.new.port, inl c.in_ok-settle.ensures.settled)
+returns-clause-settled g c = (c.listen_all.new.port, c.listen_all.ensures.keeps_none, inl c.in_ok-settle.ensures.settled)
 
 pub returns-clause-bounded : goal.returns-clause-bounded
 returns-clause-bounded g c h = c.reply_all.ensures.bounded (c.listen_all.ensures.bounded h)

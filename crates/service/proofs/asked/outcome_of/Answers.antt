@@ -1,4 +1,4 @@
-use Rattle.std.proofs.Common.{◌≡◌, ◌∙◌, sym, rules}
+use Rattle.std.proofs.Common.{◌∙◌, sym, rules}
 use Rattle.world.specs.World.{run_of}
 use Rattle.std.proofs.lemmas.List.{nil_from_length}
 use Rattle.service.proofs.Searched.{searched_none, searched_more, not_found}

@@ -1,9 +1,5 @@
-use Rattle.std.proofs.Common.{◌≡◌, ◌∙◌, ◌<◌, length, ap, arith, refl, subst, sym, rules}
-use Rattle.messages.specs.Topology.{TopologyValue, session_node, is_session}
-use Rattle.world.specs.World.{WorldValue}
-use Rattle.service.specs.Connections.{AreServed}
-use Rattle.service.proofs.Connected.{served_next}
-use Rattle.service.proofs.Homes.{session_here}
+use Rattle.std.proofs.Common.{◌∙◌, length, ap, arith, refl, rules}
+use Rattle.messages.specs.Topology.{TopologyValue}
 use Rattle.service.proofs.connections.serve_connections.Goals as goal
 
 pub loop-index-init : goal.loop-index-init

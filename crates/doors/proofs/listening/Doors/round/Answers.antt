@@ -9,7 +9,7 @@ use Rattle.doors.specs.Silence.{AreMarked, IsSentAway}
 use Rattle.readiness.proofs.Positions.{chain_none}
 use Rattle.readiness.proofs.Silent.{silent-none}
 use Rattle.doors.proofs.Silent.{vacated, marked_then}
-use Rattle.doors.proofs.Rounds.{round_of, room_of, taken_then, all_go_on, noted_turned, count_turned, count_closed, count_vacated, count_given, settled_on, stood_none, stood_closed, stood_vacated, stood_given}
+use Rattle.doors.proofs.Rounds.{round_of, room_of, taken_then, all_go_on, noted_turned, count_turned, count_closed, count_vacated, count_given, settled_on}
 use Rattle.doors.proofs.Spans.{spans_waited, spans_closed, spans_made, spans_round, left_none}
 use Rattle.doors.proofs.listening.Doors.round.Goals as goal
 
@@ -41,19 +41,19 @@ returns-in_err-wait-clause-settled g c = inl (silent-none g.L.ReadyLine.seen c.a
 pub returns-in_err-turns-clause-settled : goal.returns-in_err-turns-clause-settled
 returns-in_err-turns-clause-settled g c =
     let same : c.from_residual-in_err-turns.result ≡ Err c.in_err-turns.field-0.0 = search rules in
-    inr (c.turns.new.places.places.items, subst (λ (r : Result (Unit {0}) Fault). SettledFirst g.L.ReadyLine.seen g.P.SharedPort.settles c.args.self.now.hall.places.places.items c.turns.new.places.places.items c.turns.new.port r) (sym same) c.in_err-turns.ensures.settled, stood_none c.turns.new.places.places.items)
+    inr (subst (λ (r : Result (Unit {0}) Fault). SettledFirst g.L.ReadyLine.seen g.P.SharedPort.kept g.P.SharedPort.settles c.args.self.now.hall.places.places.items c.args.port.now c.turns.new.places.places.items c.turns.new.port r) (sym same) c.in_err-turns.ensures.settled)
 
 pub returns-in_err-close_all-clause-settled : goal.returns-in_err-close_all-clause-settled
-returns-in_err-close_all-clause-settled g c = inr (c.turns.new.places.places.items, settled_on g.L.ReadyLine.seen g.P.SharedPort.settles c.args.self.now.hall.places.places.items c.turns.new.places.places.items c.turns.new.port tt _ c.in_ok-turns.ensures.settled, stood_closed g.L.ReadyLine.seen c.turns.new.places.places.items c.turns.new.places.places.items c.close_all.new.self.places.places.items (stood_none c.turns.new.places.places.items) c.close_all.ensures.leaves)
+returns-in_err-close_all-clause-settled g c = inr (settled_on g.L.ReadyLine.seen g.P.SharedPort.kept g.P.SharedPort.settles c.args.self.now.hall.places.places.items c.args.port.now c.turns.new.places.places.items _ c.turns.new.port tt _ c.in_ok-turns.ensures.settled)
 
 pub returns-in_err-make_room-clause-settled : goal.returns-in_err-make_room-clause-settled
-returns-in_err-make_room-clause-settled g c = inr (c.turns.new.places.places.items, settled_on g.L.ReadyLine.seen g.P.SharedPort.settles c.args.self.now.hall.places.places.items c.turns.new.places.places.items c.turns.new.port tt _ c.in_ok-turns.ensures.settled, stood_vacated c.turns.new.places.places.items c.close_all.new.self.places.places.items c.make_room.new.hall.places.places.items (stood_closed g.L.ReadyLine.seen c.turns.new.places.places.items c.turns.new.places.places.items c.close_all.new.self.places.places.items (stood_none c.turns.new.places.places.items) c.close_all.ensures.leaves) (vacated g.L.ReadyLine.seen c.args.self.now.idle c.args.time c.deref-5.result.now c.deref-6.result.now c.close_all.new.self.places.places.items c.make_room.new.hall.places.places.items c.make_room.ensures.room))
+returns-in_err-make_room-clause-settled g c = inr (settled_on g.L.ReadyLine.seen g.P.SharedPort.kept g.P.SharedPort.settles c.args.self.now.hall.places.places.items c.args.port.now c.turns.new.places.places.items _ c.turns.new.port tt _ c.in_ok-turns.ensures.settled)
 
 pub returns-in_err-accept_all-clause-settled : goal.returns-in_err-accept_all-clause-settled
-returns-in_err-accept_all-clause-settled g c = inr (c.turns.new.places.places.items, settled_on g.L.ReadyLine.seen g.P.SharedPort.settles c.args.self.now.hall.places.places.items c.turns.new.places.places.items c.turns.new.port tt _ c.in_ok-turns.ensures.settled, stood_given c.turns.new.places.places.items c.make_room.new.hall.places.places.items c.accept_all.new.hall.places.places.items (stood_vacated c.turns.new.places.places.items c.close_all.new.self.places.places.items c.make_room.new.hall.places.places.items (stood_closed g.L.ReadyLine.seen c.turns.new.places.places.items c.turns.new.places.places.items c.close_all.new.self.places.places.items (stood_none c.turns.new.places.places.items) c.close_all.ensures.leaves) (vacated g.L.ReadyLine.seen c.args.self.now.idle c.args.time c.deref-5.result.now c.deref-6.result.now c.close_all.new.self.places.places.items c.make_room.new.hall.places.places.items c.make_room.ensures.room)) c.accept_all.ensures.comes)
+returns-in_err-accept_all-clause-settled g c = inr (settled_on g.L.ReadyLine.seen g.P.SharedPort.kept g.P.SharedPort.settles c.args.self.now.hall.places.places.items c.args.port.now c.turns.new.places.places.items _ c.turns.new.port tt _ c.in_ok-turns.ensures.settled)
 
 pub returns-clause-settled : goal.returns-clause-settled
-returns-clause-settled g c = inr (c.turns.new.places.places.items, settled_on g.L.ReadyLine.seen g.P.SharedPort.settles c.args.self.now.hall.places.places.items c.turns.new.places.places.items c.turns.new.port tt _ c.in_ok-turns.ensures.settled, stood_given c.turns.new.places.places.items c.make_room.new.hall.places.places.items c.accept_all.new.hall.places.places.items (stood_vacated c.turns.new.places.places.items c.close_all.new.self.places.places.items c.make_room.new.hall.places.places.items (stood_closed g.L.ReadyLine.seen c.turns.new.places.places.items c.turns.new.places.places.items c.close_all.new.self.places.places.items (stood_none c.turns.new.places.places.items) c.close_all.ensures.leaves) (vacated g.L.ReadyLine.seen c.args.self.now.idle c.args.time c.deref-5.result.now c.deref-6.result.now c.close_all.new.self.places.places.items c.make_room.new.hall.places.places.items c.make_room.ensures.room)) c.accept_all.ensures.comes)
+returns-clause-settled g c = inr (settled_on g.L.ReadyLine.seen g.P.SharedPort.kept g.P.SharedPort.settles c.args.self.now.hall.places.places.items c.args.port.now c.turns.new.places.places.items _ c.turns.new.port tt _ c.in_ok-turns.ensures.settled)
 
 -- ## How many places
 

@@ -1,0 +1,29 @@
+-- Why a log isn't opened.
+use Rattle.std.proofs.Common.{◌≡◌, ℕ, ◌+◌, true, List, Option, Some, Result, Err, IfErr, IfSome, refl, sym, subst, length, drop}
+use Rattle.messages.specs.Topology.{TopologyValue}
+use Rattle.records.specs.Records.{spelled, recovered, has_first}
+use Rattle.keeper.specs.declared.recovery.RecoveryError.{RecoveryError}
+use Rattle.keeper.specs.declared.recovery.RecoveryError.TheVariants.{Disk, Damaged}
+use Rattle.durable.specs.declared.error.OpenError.{OpenError}
+use Rattle.durable.specs.declared.error.OpenError.TheVariants.{Unrecovered}
+use Rattle.durable.specs.Stuck.{CantOpen}
+
+-- records end there, and a first one begins behind
+abbrev IsDamagedAt : ℕ → List ℕ → ℕ → Type 0
+IsDamagedAt secret bytes at = let end = length (spelled secret 0 (recovered secret 0 0 bytes)) in (at ≡ end) × (has_first secret (end + 1) (drop (end + 1) bytes) ≡ true)
+
+unrecovered : (top : TopologyValue) (secret : ℕ) (bytes : List ℕ) (x : RecoveryError) → ((at : ℕ) → x ≡ Damaged at → IsDamagedAt secret bytes at) → CantOpen top secret bytes (Unrecovered x)
+unrecovered top secret bytes (Disk e) damaged = tt
+unrecovered top secret bytes (Damaged at) damaged = damaged at refl
+
+some_holds : (o : Option (List ℕ)) (s : List ℕ) (P : List ℕ → Type 0) → o ≡ Some s → IfSome o P → P s
+some_holds o s P is h = subst (λ (z : Option (List ℕ)). IfSome z P) is h
+
+-- a log that couldn't be recovered
+pub refused_first : {T : Type 0} (top : TopologyValue) (secret : ℕ) (bytes : List ℕ) (shown : Option (List ℕ)) (x : RecoveryError) (result : Result T OpenError) → result ≡ Err (Unrecovered x) → shown ≡ Some bytes
+    → ((at : ℕ) → x ≡ Damaged at → IfSome shown (λ s. (at ≡ length (spelled secret 0 (recovered secret 0 0 s))) × (has_first secret (at + 1) (drop (at + 1) s) ≡ true))) → IfErr result (CantOpen top secret bytes)
+refused_first {T = T} top secret bytes shown x result is told damaged =
+    subst (λ (r : Result T OpenError). IfErr r (CantOpen top secret bytes)) (sym is)
+    (unrecovered top secret bytes x (λ at here.
+    let h = some_holds shown bytes (λ s. (at ≡ length (spelled secret 0 (recovered secret 0 0 s))) × (has_first secret (at + 1) (drop (at + 1) s) ≡ true)) told (damaged at here) in
+    (h.0, subst (λ (n : ℕ). has_first secret (n + 1) (drop (n + 1) bytes) ≡ true) h.0 h.1)))
