@@ -43,6 +43,9 @@ fn add_server(serving: &Serving, seen: &mut String) -> Result<(), Fault> {
     if serving.concurrent {
         write!(seen, ", at once")?;
     }
+    if let Some(folder) = &serving.data {
+        write!(seen, ", log {folder}")?;
+    }
     Ok(())
 }
 
@@ -82,6 +85,7 @@ impl Subject for Line {
                 add_bounds(bounds, seen)
             }
             Asked::Serve(serving) => add_server(&serving, seen),
+            Asked::Log { folder } => Ok(write!(seen, "the log {folder}")?),
             Asked::Told(told) => add_answer(alloc, &told, seen),
         }
     }

@@ -63,6 +63,11 @@ pub enum Asked {
     },
     /// A server.
     Serve(Serving),
+    /// What the log in the folder of this name holds.
+    Log {
+        /// The name.
+        folder: String,
+    },
     /// An answer that is known already.
     Told(Told),
 }
@@ -146,6 +151,18 @@ fn audit_command<'a>(alloc: Global) -> Result<Command<'a>, AllocError> {
         .arg(file(alloc, RECORDED))
 }
 
+// The subcommand that asks what a log holds.
+fn log_command<'a>(alloc: Global) -> Result<Command<'a>, AllocError> {
+    let folder = Arg::new(alloc, "FOLDER")
+        .required(true)
+        .action(ArgAction::Set)
+        .help("The folder of a log, that of --data of a server");
+    Command::new(alloc, "log")
+        .about("Checks the log of a server, and tells what is in it; changes nothing")
+        .after_help("Example: eiger log store")
+        .arg(folder)
+}
+
 fn command<'a>(alloc: Global) -> Result<Command<'a>, AllocError> {
     Command::new(alloc, "eiger")
         .about(
@@ -162,7 +179,8 @@ fn command<'a>(alloc: Global) -> Result<Command<'a>, AllocError> {
         .subcommand(run_command(alloc)?)?
         .subcommand(audit_command(alloc)?)?
         .subcommand(explore_command(alloc, file(alloc, SCRIPT))?)?
-        .subcommand(serve_command(alloc)?)
+        .subcommand(serve_command(alloc)?)?
+        .subcommand(log_command(alloc)?)
 }
 
 // The name of the file.
@@ -205,6 +223,9 @@ fn accepted(alloc: Global, matches: &ArgMatches<'_>) -> Result<Asked, AllocError
             let bounds = bounds_of(found);
             Ok(Asked::Explore { name, bounds })
         }
+        Some(("log", found)) => Ok(Asked::Log {
+            folder: String::from_str(alloc, found.get_str("FOLDER").unwrap_or(""))?,
+        }),
         Some((_, found)) => match serving_of(alloc, found)? {
             Ok(serving) => Ok(Asked::Serve(serving)),
             Err(told) => Ok(Asked::Told(told)),

@@ -13,11 +13,11 @@ use records::Record;
 use std::alloc::Global;
 
 // The entry that the record of this number tells. Refused with `Refused` for `Memory`, and with `Unread` where it tells none.
-fn read_one(alloc: Global, record: &Record, number: usize) -> Result<Entry, OpenError>
-    ensures tells { IfOk result (λ e. IsNumbered e × IsTextOf e record.now.body.items) }
-    ensures refused { IfErr result (λ e. (e ≡ Refused Memory) ⊎ ((e ≡ Unread number) × TellsNone (view record.now))) }
+fn read_one(alloc: Global, written: &Record, number: usize) -> Result<Entry, OpenError>
+    ensures tells { IfOk result (λ e. IsNumbered e × IsTextOf e written.now.body.items) }
+    ensures refused { IfErr result (λ e. (e ≡ Refused Memory) ⊎ ((e ≡ Unread number) × TellsNone (view written.now))) }
 {
-    match read_entry(alloc, &record.body)? {
+    match read_entry(alloc, &written.body)? {
         Some(entry) => Ok(entry),
         None => Err(OpenError::Unread(number)),
     }

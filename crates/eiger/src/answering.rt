@@ -8,6 +8,7 @@ ghost use Rattle.running.specs.Performing.{IsThreadTextFor, IsThreadRefused};
 ghost use Rattle.explore.specs.Exploration.{IsExplorationFor, IsUnexplored};
 ghost use Rattle.eiger.specs.Answering.{IsOpened, Ran, Judged, IsAnswer};
 
+use crate::looking::look;
 use crate::serving::serve;
 use command_line::{Asked, Bounds};
 use explore::{Limits, perform_exploration};
@@ -171,6 +172,7 @@ pub(crate) fn answer<T: Threads + Wait + Sync, W: Buffered, E: Buffered>(
         Ok(Asked::Audit { name }) => audit(rt, name, output, errors),
         Ok(Asked::Explore { name, bounds }) => explore(rt, threads, name, bounds, output, errors),
         Ok(Asked::Serve(serving)) => serve(rt, threads, &serving, output, errors),
+        Ok(Asked::Log { folder }) => look(rt, folder.as_str(), output, errors),
         Ok(Asked::Told(told)) => told.answer(output, errors),
         Err(fault) => tell(errors, fault, None),
     }

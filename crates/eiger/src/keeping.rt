@@ -12,19 +12,19 @@ use std::io;
 use std::random::RandomSource;
 use std::time::Instant;
 
-// Why no world comes back from a folder.
+/// Why no world comes back from a folder.
 #[derive(Drop)]
-enum Unopened {
-    // The folder can't be opened.
+pub(crate) enum Unopened {
+    /// The folder can't be opened.
     Folder(FolderError),
-    // Its file doesn't begin as a log.
+    /// Its file doesn't begin as a log.
     Head(HeadError),
-    // It is the log of a store of this other topology.
+    /// It is the log of a store of this other topology.
     Other(Topology),
-    // The log tells no world.
+    /// The log tells no world.
     World(OpenError),
-    // There is no secret for a new log.
-    Secret(io::Error),
+    /// The system refuses something.
+    System(io::Error),
 }
 
 impl From<FolderError> for Unopened {
@@ -41,7 +41,7 @@ impl From<HeadError> for Unopened {
 
 impl From<io::Error> for Unopened {
     fn from(error: io::Error) -> Self {
-        Unopened::Secret(error)
+        Unopened::System(error)
     }
 }
 
@@ -78,8 +78,8 @@ fn reopen(
     }
 }
 
-// The fault that it is.
-fn fault_of(why: &Unopened) -> Fault {
+/// The fault that it is.
+pub(crate) fn fault_of(why: &Unopened) -> Fault {
     match why {
         Unopened::Folder(FolderError::Memory)
         | Unopened::Head(HeadError::Memory)
@@ -105,22 +105,22 @@ fn families_of(alloc: Global, topology: &Topology) -> Result<String, AllocError>
     Ok(names)
 }
 
-// Which topology it is.
-fn shown(alloc: Global, topology: &Topology) -> Result<String, AllocError> {
+/// Which topology it is.
+pub(crate) fn shown(alloc: Global, topology: &Topology) -> Result<String, AllocError> {
     let (dcs, shards) = (topology.dcs(), topology.shards().get());
     let (sessions, families) = (topology.homes().len(), families_of(alloc, topology)?);
     format!(in alloc;
-        "it is that of {dcs} data centres of {shards} shards with {sessions} sessions, families {families}"
+        "{dcs} data centres of {shards} shards with {sessions} sessions, families {families}"
     )
 }
 
-// What is told of it.
-fn reason(alloc: Global, why: &Unopened) -> Result<String, AllocError> {
+/// What is told of it.
+pub(crate) fn reason(alloc: Global, why: &Unopened) -> Result<String, AllocError> {
     match why {
         Unopened::Folder(FolderError::InUse) => {
             String::from_str(alloc, "another server has it open")
         }
-        Unopened::Folder(FolderError::Refused(error)) | Unopened::Secret(error) => {
+        Unopened::Folder(FolderError::Refused(error)) | Unopened::System(error) => {
             format!(in alloc; "{error}")
         }
         Unopened::Head(HeadError::NoLog) => String::from_str(alloc, "it holds no log"),
@@ -128,7 +128,10 @@ fn reason(alloc: Global, why: &Unopened) -> Result<String, AllocError> {
             format!(in alloc; "its log has version {version}, and 1 is wanted")
         }
         Unopened::Head(HeadError::Damaged) => String::from_str(alloc, "its head is damaged"),
-        Unopened::Other(topology) => shown(alloc, topology),
+        Unopened::Other(topology) => {
+            let topology = shown(alloc, topology)?;
+            format!(in alloc; "it is that of {topology}")
+        }
         Unopened::World(OpenError::Unrecovered(RecoveryError::Damaged(place))) => {
             format!(in alloc; "the record {place} bytes behind its head is damaged")
         }
@@ -150,8 +153,8 @@ fn reason(alloc: Global, why: &Unopened) -> Result<String, AllocError> {
     }
 }
 
-// Tells something of a log, as far as the output takes it.
-fn tell_of<E: Buffered>(
+/// Tells something of a log, as far as the output takes it.
+pub(crate) fn tell_of<E: Buffered>(
     alloc: Global,
     folder: &str,
     what: Result<String, AllocError>,
