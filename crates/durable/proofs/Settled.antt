@@ -118,9 +118,12 @@ module _ {D : Type 0} (seen : D → Option (List ℕ)) (may_leave : D → List �
       -- a commit that went well
       module _ (works : failed old.disk ≡ false) (settled : (kept : List Record) (noted : List Record) → Stands seen may_leave old kept noted → Stands seen may_leave new (kept ++ noted) []) where
         pub lasts_committed : Lasts seen may_leave failed moment left_since (old.secret, old.disk) (new.secret, new.disk)
-        lasts_committed top events h =
-            let n = (logged works).notes in
-            committed top events n.kept n.noted n.stands works h (any_moment n.kept n.noted n.stands) (settled n.kept n.noted n.stands)
+        lasts_committed = (
+          secret,
+          λ top events h.
+              let n = (logged works).notes in
+              committed top events n.kept n.noted n.stands works h (any_moment n.kept n.noted n.stands) (settled n.kept n.noted n.stands),
+        )
 
         pub settled_committed : IsSettled seen may_leave failed now new.secret new.disk happened
         settled_committed =
@@ -141,7 +144,7 @@ module _ {D : Type 0} (seen : D → Option (List ℕ)) (may_leave : D → List �
         where
           either : (b : Bool) → failed old.disk ≡ b → Lasts seen may_leave failed moment left_since (old.secret, old.disk) (new.secret, new.disk)
           either true is = unwritten (dead is)
-          either false is = λ top events h. let n = (logged is).notes in lost top events n.kept n.noted n.stands is h (any_moment n.kept n.noted n.stands) fails
+          either false is = (secret, λ top events h. let n = (logged is).notes in lost top events n.kept n.noted n.stands is h (any_moment n.kept n.noted n.stands) fails)
 
       pub logged_refused : (failed new.disk ≡ true) ⊎ (new ≡ old) → failed new.disk ≡ false → IsLogged seen may_leave now new happened
       logged_refused (inl fails) w = absurd (true_false fails w)

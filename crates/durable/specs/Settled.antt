@@ -1,6 +1,6 @@
 -- What is on the disk for good, and what a crash leaves of it.
 use Rattle.std.specs.Prelude.{◌≡◌, ℕ, Bool, true, false, List, ◌++◌, Option, Some, Result, Ok, IfErr, IsErr}
-use Rattle.std.proofs.Common.{inl, arith}
+use Rattle.std.proofs.Common.{inl, refl, arith}
 use Rattle.logical_time.specs.declared.fault.Fault.{Fault}
 use Rattle.logical_time.specs.declared.fault.Fault.TheVariants.{WriteFailed}
 use Rattle.messages.specs.Topology.{TopologyValue}
@@ -47,16 +47,18 @@ pub record DurableValue (D : Type 0) : Type 0 where
 abbrev pub kept_by : {D : Type 0} → DurableValue D → ℕ × D
 kept_by d = (d.log.secret, d.log.disk)
 
--- What was settled lasts from one moment to a later one: a crash at any moment between leaves a file that holds it, and it is
--- settled still.
+-- What was settled lasts from one moment to a later one: the secret is the same, a crash at any moment between leaves a file that
+-- holds it, and it is settled still.
 abbrev pub Lasts : {D : Type 0} → (D → Option (List ℕ)) → (D → List ℕ → Type 0) → (D → Bool) → (D → ℕ) → (D → ℕ → List ℕ → Type 0) → ℕ × D → ℕ × D → Type 0
 Lasts seen may_leave failed moment left_since old new =
-    (top : TopologyValue) (events : List RunEvent) → IsSettled seen may_leave failed top old.0 old.1 events
-    → LeavesOnly moment left_since old.1 new.1 (Holds top old.0 events) × IsSettled seen may_leave failed top new.0 new.1 events
+    (new.0 ≡ old.0)
+    × ((top : TopologyValue) (events : List RunEvent) → IsSettled seen may_leave failed top old.0 old.1 events
+    → LeavesOnly moment left_since old.1 new.1 (Holds top old.0 events) × IsSettled seen may_leave failed top new.0 new.1 events)
 
--- The world settles: what was settled lasts, and what a crash leaves meanwhile holds nothing that wasn't asked; where it isn't
+-- The world settles: nothing happens to it, what was settled lasts, and what a crash leaves meanwhile holds nothing that wasn't asked; where it isn't
 -- refused, all that happened is settled now. Once the disk has failed it is refused, and nothing is done.
 pub record Settles {D : Type 0} (seen : D → Option (List ℕ)) (may_leave : D → List ℕ → Type 0) (failed : D → Bool) (moment : D → ℕ) (left_since : D → ℕ → List ℕ → Type 0) (old : DurableValue D) (went : Result (Unit {0}) Fault) (new : DurableValue D) : Type 0 where
+  pub same : new.world ≡ old.world
   pub lasts : Lasts seen may_leave failed moment left_since (kept_by old) (kept_by new)
   pub only : failed old.log.disk ≡ false → LeavesOnly moment left_since old.log.disk new.log.disk (HoldsOnly old.world.top old.log.secret old.world.events)
   pub settled : went ≡ Ok tt → IsSettled seen may_leave failed new.world.top new.log.secret new.log.disk new.world.events
@@ -67,11 +69,14 @@ pub record Settles {D : Type 0} (seen : D → Option (List ℕ)) (may_leave : D 
 -- where nothing is written, a crash leaves what was settled
 pub lasts_unwritten : {D : Type 0} (seen : D → Option (List ℕ)) (may_leave : D → List ℕ → Type 0) (failed : D → Bool) (moment : D → ℕ) (left_since : D → ℕ → List ℕ → Type 0) → ((d : D) (c : List ℕ) → left_since d (moment d) c → may_leave d c)
     → (k : ℕ × D) → Lasts seen may_leave failed moment left_since k k
-lasts_unwritten seen may_leave failed moment left_since only_now k top events s = (
-  record {
-    later = omega arith;
-    each = λ c left. s.crash c (only_now k.1 c left);
-    before = λ t c le left. inl left;
-  },
-  s,
+lasts_unwritten seen may_leave failed moment left_since only_now k = (
+  refl,
+  λ top events s. (
+    record {
+      later = omega arith;
+      each = λ c left. s.crash c (only_now k.1 c left);
+      before = λ t c le left. inl left;
+    },
+    s,
+  ),
 )

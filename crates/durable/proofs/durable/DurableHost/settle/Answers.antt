@@ -22,6 +22,7 @@ returns-clause-settled g c =
     let works : k.failed old.disk ≡ false = not_true (k.failed old.disk) (λ dead. false_true (e.stays_failed dead).0) in
     subst (λ (d : DurableValue g.row.D.Denot). Settles k.seen k.may_leave k.failed k.moment k.left_since d (Ok tt) here) c.self.view_is
     (record {
+      same = refl;
       lasts = lasts_committed k.seen k.may_leave k.failed k.moment k.left_since m.only_now m.counts_now old new e.secret w.top w.events c.self.invariant e.any_moment works e.settled;
       only = only_noted k.seen k.may_leave k.failed k.moment k.left_since m.only_now m.counts_now old new e.secret w.top w.events c.self.invariant e.any_moment;
       settled = λ ok. settled_committed k.seen k.may_leave k.failed k.moment k.left_since m.only_now m.counts_now old new e.secret w.top w.events c.self.invariant e.any_moment works e.settled;
@@ -41,6 +42,7 @@ returns-in-Err-clause-settled g c =
     let here : DurableValue g.row.D.Denot = record { world = w; log = new; found = c.self.inside.found } in
     subst (λ (d : DurableValue g.row.D.Denot). Settles k.seen k.may_leave k.failed k.moment k.left_since d (Err WriteFailed) here) c.self.view_is
     (record {
+      same = refl;
       lasts = lasts_refused k.seen k.may_leave k.failed k.moment k.left_since m.only_now m.counts_now old new e.secret w.top w.events c.self.invariant e.any_moment (λ dead. (e.stays_failed dead).1) e.refused;
       only = only_noted k.seen k.may_leave k.failed k.moment k.left_since m.only_now m.counts_now old new e.secret w.top w.events c.self.invariant e.any_moment;
       settled = λ ok. absurd (err_ok ok);
