@@ -188,6 +188,15 @@ fn name_of(alloc: Global, found: &ArgMatches<'_>) -> Result<String, AllocError> 
     String::from_str(alloc, found.get_str("FILE").unwrap_or(""))
 }
 
+// The run by threads that is asked for.
+fn run_of(alloc: Global, found: &ArgMatches<'_>) -> Result<Asked, AllocError> {
+    Ok(Asked::Run {
+        name: name_of(alloc, found)?,
+        workers: found.get_one::<u16>("workers").unwrap_or(1),
+        audit: found.get_flag("audit"),
+    })
+}
+
 /// What accepted words ask for.
 fn accepted(alloc: Global, matches: &ArgMatches<'_>) -> Result<Asked, AllocError> {
     match matches.subcommand() {
@@ -205,16 +214,7 @@ fn accepted(alloc: Global, matches: &ArgMatches<'_>) -> Result<Asked, AllocError
         Some(("trace", found)) => Ok(Asked::Trace {
             name: name_of(alloc, found)?,
         }),
-        Some(("run", found)) => {
-            let name = name_of(alloc, found)?;
-            let workers = found.get_one::<u16>("workers").unwrap_or(1);
-            let audit = found.get_flag("audit");
-            Ok(Asked::Run {
-                name,
-                workers,
-                audit,
-            })
-        }
+        Some(("run", found)) => run_of(alloc, found),
         Some(("audit", found)) => Ok(Asked::Audit {
             name: name_of(alloc, found)?,
         }),
