@@ -11,7 +11,7 @@ mod report;
 mod writing;
 
 pub use history::perform_history;
-pub use performing::{audit_recorded, perform_audit};
+pub use performing::{audit_recorded, line, perform_audit};
 pub use reading::read_recorded;
 pub use recorded::Recorded;
 pub use recording::{record_of, record_run};

@@ -86,7 +86,7 @@ fn explain(alloc: Global, input: &[u8], fault: Fault) -> Option<String> {
 }
 
 /// What is said of the input or the output of this name.
-pub(crate) fn line<D: Display + Drop>(alloc: Global, name: &str, said: Option<D>) -> Option<Line> {
+pub fn line<D: Display + Drop>(alloc: Global, name: &str, said: Option<D>) -> Option<Line> {
     let said = said?;
     Line::new(format!(in alloc; "{name}: {said}").ok()?)
 }

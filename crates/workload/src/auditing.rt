@@ -21,8 +21,8 @@ use std::thread::Threads;
 use table::History;
 use world::{Completed, World};
 
-// The history of each data centre. Refused with `Memory` alone.
-fn histories_of(alloc: Global, world: &World) -> Result<Vec<History>, Fault>
+/// The history of each data centre of a world. Refused with `Memory` alone. Costs what they do.
+pub fn histories_of(alloc: Global, world: &World) -> Result<Vec<History>, Fault>
     ensures each { IfOk result (λ histories. AreFirstHistories world.now.top (run_of world.now) world.now.top.dcs histories.items) }
     ensures memory { IfErr result (λ e. e ≡ Fault.Memory) }
 {

@@ -21,7 +21,7 @@ mod transcript;
 mod wrong;
 
 pub use audit::{Audit, audit};
-pub use auditing::{sim_audited, simulate_audited, simulate_recorded};
+pub use auditing::{histories_of, sim_audited, simulate_audited, simulate_recorded};
 pub use law::{a_move_is_told_with_its_floor, moves_go_to_data_centres};
 pub use performing::{explain, perform, sim};
 pub use reading::read_script;

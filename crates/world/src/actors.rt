@@ -93,7 +93,7 @@ fn without_memory(clock: Clock, time: Time) -> Fault
 impl Actors {
     /// The clock of the actor with this node.
     #[tactic(auto, using(crate::proofs::in_code::Unready::shard_clock, crate::proofs::in_code::Unready::station_clock))]
-    fn clock_of(&self, node: Node) -> Clock
+    pub(crate) fn clock_of(&self, node: Node) -> Clock
         requires { node < length self.now.shards.items + length self.now.stations.items }
         ensures { (top : TopologyValue) (events : List RunEvent) → IsRunning top (run top events) self.now → clock_at top (run top events) node ≡ result }
     {

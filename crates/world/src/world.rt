@@ -116,6 +116,15 @@ impl World {
         Ok(())
     }
 
+    /// What a shard's clock shows. That the node is a shard's is the caller's condition.
+    #[tactic(auto, using(crate::proofs::in_code::Held::told_clock, crate::proofs::in_code::Held::shard_place))]
+    pub fn clock_of(&self, shard: Node) -> Time
+        requires { is_shard self.now.top shard ≡ true }
+        ensures { result ≡ ((run_of self.now).shards shard).clock }
+    {
+        self.actors.clock_of(shard).now()
+    }
+
     /// Which actors there are.
     #[tactic(auto, using(crate::proofs::in_code::Held::told_topology))]
     pub fn topology(&self) -> &Topology

@@ -20,7 +20,7 @@ use Rattle.world.specs.declared.actors.Actors.{Actors}
 use Rattle.world.specs.declared.log.Log.{Log}
 use Rattle.world.specs.declared.written.Written.{Written}
 use Rattle.world.specs.Run.{Run, RunEvent, Submission, Submit, Deliver, Collect, opening, submission_by, after_submission, submit_if, step, run}
-use Rattle.world.specs.Refusals.{NoSuchActor, refused_by, refusal_of}
+use Rattle.world.specs.Refusals.{NoSuchActor, refused_by, refusal_of, clock_at}
 use Rattle.world.specs.Quiet.{number_delivered, handled, IsQuiet}
 use Rattle.world.specs.Lookups.{first_unhandled}
 use Rattle.world.specs.Delivered.{is_marked, IsFirstUnmarked}
@@ -325,6 +325,11 @@ sent_number a l number h lt = subst (λ (z : List Envelope). number < length z) 
 
 pub told_topology : (a : Actors) (l : Log) → Holds a.topology a l → is_topology a.topology.dcs a.topology.shards a.topology.homes ≡ true
 told_topology a l h = h.running.sound
+
+pub told_clock : (a : Actors) (l : Log) (node clock : ℕ) → Holds a.topology a l → is_shard a.topology node ≡ true → clock_at a.topology (run a.topology l.events.items) node ≡ clock
+    → clock ≡ ((run a.topology l.events.items).shards node).clock
+told_clock a l node clock h is at =
+    let w = run a.topology l.events.items in sym at ∙ ap (λ b. if b then (w.shards node).clock else (w.sessions node).clock) is
 
 pub told_sent : (a : Actors) (l : Log) → Holds a.topology a l → a.network.sent ≡ (run a.topology l.events.items).sent
 told_sent a l h = sym h.running.sent
