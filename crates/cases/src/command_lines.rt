@@ -85,7 +85,10 @@ impl Subject for Line {
                 add_bounds(bounds, seen)
             }
             Asked::Serve(serving) => add_server(&serving, seen),
-            Asked::Log { folder } => Ok(write!(seen, "the log {folder}")?),
+            Asked::Log { name, history } => {
+                let what = if history { "the history of " } else { "" };
+                Ok(write!(seen, "{what}the log {name}")?)
+            }
             Asked::Told(told) => add_answer(alloc, &told, seen),
         }
     }

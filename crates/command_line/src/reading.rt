@@ -63,10 +63,12 @@ pub enum Asked {
     },
     /// A server.
     Serve(Serving),
-    /// What the log in the folder of this name holds.
+    /// What the log in the file of this name holds.
     Log {
         /// The name.
-        folder: String,
+        name: String,
+        /// Whether its history is asked for.
+        history: bool,
     },
     /// An answer that is known already.
     Told(Told),
@@ -157,10 +159,15 @@ fn log_command<'a>(alloc: Global) -> Result<Command<'a>, AllocError> {
         .required(true)
         .action(ArgAction::Set)
         .help("The folder of a log, that of --data of a server");
+    let history = Arg::new(alloc, "history")
+        .long("history")
+        .action(ArgAction::SetTrue)
+        .help("Prints the recorded history of what it tells, for eiger audit");
     Command::new(alloc, "log")
         .about("Checks the log of a server, and tells what is in it; changes nothing")
-        .after_help("Example: eiger log store")
-        .arg(folder)
+        .after_help("Examples: eiger log store\n          eiger log store --history")
+        .arg(folder)?
+        .arg(history)
 }
 
 fn command<'a>(alloc: Global) -> Result<Command<'a>, AllocError> {
@@ -197,6 +204,15 @@ fn run_of(alloc: Global, found: &ArgMatches<'_>) -> Result<Asked, AllocError> {
     })
 }
 
+// The log that is asked for: the file of its folder.
+fn log_of(alloc: Global, found: &ArgMatches<'_>) -> Result<Asked, AllocError> {
+    let folder = found.get_str("FOLDER").unwrap_or("");
+    Ok(Asked::Log {
+        name: format!(in alloc; "{folder}/log")?,
+        history: found.get_flag("history"),
+    })
+}
+
 /// What accepted words ask for.
 fn accepted(alloc: Global, matches: &ArgMatches<'_>) -> Result<Asked, AllocError> {
     match matches.subcommand() {
@@ -223,9 +239,7 @@ fn accepted(alloc: Global, matches: &ArgMatches<'_>) -> Result<Asked, AllocError
             let bounds = bounds_of(found);
             Ok(Asked::Explore { name, bounds })
         }
-        Some(("log", found)) => Ok(Asked::Log {
-            folder: String::from_str(alloc, found.get_str("FOLDER").unwrap_or(""))?,
-        }),
+        Some(("log", found)) => log_of(alloc, found),
         Some((_, found)) => match serving_of(alloc, found)? {
             Ok(serving) => Ok(Asked::Serve(serving)),
             Err(told) => Ok(Asked::Told(told)),

@@ -6,8 +6,8 @@ use disk::{Call, Memory};
 use keeper::Log;
 use std::alloc::Global;
 
-// Calls of which this one fails.
-fn failing_at(alloc: Global, at: usize) -> Result<Vec<Call>> {
+/// Calls of which this one fails.
+pub(crate) fn failing_at(alloc: Global, at: usize) -> Result<Vec<Call>> {
     let mut calls = Vec::new(alloc);
     for i in 0..6usize {
         calls.push(if i == at { Call::Fails } else { Call::Works })?;

@@ -1,24 +1,29 @@
 //! Counts of what came back, and how a row is printed.
-use crate::written::{Back, TEXTS};
+use crate::written::Back;
 use anyhow::Result;
+
+/// As many records come back at most.
+const MOST: usize = 24;
 
 /// How many files there were with so many records, then how many damaged ones, then how many others.
 #[derive(Drop)]
 pub(crate) struct Count {
-    files: [usize; 8],
+    files: [usize; MOST + 3],
 }
 
 impl Count {
     pub(crate) fn new() -> Count {
-        Count { files: [0; 8] }
+        Count {
+            files: [0; MOST + 3],
+        }
     }
 
     /// One file more.
     pub(crate) fn add(&mut self, back: Back) {
         let which = match back {
-            Back::Records(n) if n <= TEXTS.len() => n,
-            Back::Damaged => 6,
-            _ => 7,
+            Back::Records(n) if n <= MOST => n,
+            Back::Damaged => MOST + 1,
+            _ => MOST + 2,
         };
         self.files[which] = self.files[which].saturating_add(1);
     }
@@ -29,10 +34,12 @@ impl Count {
         let mut gap = ":";
         for (which, files) in self.files.iter().enumerate() {
             if *files > 0 {
-                match which {
-                    6 => print!(rt; "{gap} {files} damaged")?,
-                    7 => print!(rt; "{gap} {files} OTHER")?,
-                    _ => print!(rt; "{gap} {files} with {which}")?,
+                if which <= MOST {
+                    print!(rt; "{gap} {files} with {which}")?;
+                } else if which == MOST + 1 {
+                    print!(rt; "{gap} {files} damaged")?;
+                } else {
+                    print!(rt; "{gap} {files} OTHER")?;
                 }
                 gap = ";";
             }

@@ -1,16 +1,13 @@
 -- Why a log isn't opened.
-use Rattle.std.proofs.Common.{◌≡◌, ℕ, ◌+◌, true, List, Option, Some, Result, Err, IfErr, IfSome, refl, sym, subst, length, drop}
+use Rattle.std.proofs.Common.{◌≡◌, ℕ, ◌+◌, true, List, Option, Some, Result, Err, IfErr, IfSome, refl, inl, sym, subst, length, drop}
 use Rattle.messages.specs.Topology.{TopologyValue}
 use Rattle.records.specs.Records.{spelled, recovered, has_first}
 use Rattle.keeper.specs.declared.recovery.RecoveryError.{RecoveryError}
 use Rattle.keeper.specs.declared.recovery.RecoveryError.TheVariants.{Disk, Damaged}
 use Rattle.durable.specs.declared.error.OpenError.{OpenError}
-use Rattle.durable.specs.declared.error.OpenError.TheVariants.{Unrecovered}
-use Rattle.durable.specs.Stuck.{CantOpen}
-
--- records end there, and a first one begins behind
-abbrev IsDamagedAt : ℕ → List ℕ → ℕ → Type 0
-IsDamagedAt secret bytes at = let end = length (spelled secret 0 (recovered secret 0 0 bytes)) in (at ≡ end) × (has_first secret (end + 1) (drop (end + 1) bytes) ≡ true)
+use Rattle.durable.specs.declared.error.OpenError.TheVariants.{Unrecovered, Unread, Refused}
+use Rattle.durable.specs.Looked.{IsDamagedAt}
+use Rattle.durable.specs.Stuck.{CantRead, CantOpen}
 
 unrecovered : (top : TopologyValue) (secret : ℕ) (bytes : List ℕ) (x : RecoveryError) → ((at : ℕ) → x ≡ Damaged at → IsDamagedAt secret bytes at) → CantOpen top secret bytes (Unrecovered x)
 unrecovered top secret bytes (Disk e) damaged = tt
@@ -27,3 +24,13 @@ refused_first {T = T} top secret bytes shown x result is told damaged =
     (unrecovered top secret bytes x (λ at here.
     let h = some_holds shown bytes (λ s. (at ≡ length (spelled secret 0 (recovered secret 0 0 s))) × (has_first secret (at + 1) (drop (at + 1) s) ≡ true)) told (damaged at here) in
     (h.0, subst (λ (n : ℕ). has_first secret (n + 1) (drop (n + 1) bytes) ≡ true) h.0 h.1)))
+
+-- what can't be read leads to no world
+pub unread : (top : TopologyValue) (secret : ℕ) (bytes : List ℕ) (x : OpenError) → CantRead secret bytes x → CantOpen top secret bytes x
+unread top secret bytes (Unrecovered (Disk e)) why = tt
+unread top secret bytes (Unrecovered (Damaged at)) why = why
+unread top secret bytes (Unread n) why = why
+unread top secret bytes (Refused fault) why = inl why
+
+pub unread_first : {T : Type 0} (top : TopologyValue) (secret : ℕ) (bytes : List ℕ) (x : OpenError) (result : Result T OpenError) → result ≡ Err x → CantRead secret bytes x → IfErr result (CantOpen top secret bytes)
+unread_first {T = T} top secret bytes x result is why = subst (λ (r : Result T OpenError). IfErr r (CantOpen top secret bytes)) (sym is) (unread top secret bytes x why)

@@ -5,14 +5,15 @@ use Rattle.messages.specs.declared.op.Op.{Op}
 use Rattle.messages.specs.declared.outcome.Outcome.{Outcome}
 use Rattle.messages.specs.Topology.{TopologyValue, session_node}
 use Rattle.world.specs.declared.run_event.RunEvent.{RunEvent}
-use Rattle.world.specs.declared.run_event.RunEvent.TheVariants.{Deliver, Collect}
+use Rattle.world.specs.declared.run_event.RunEvent.TheVariants.{Submit, Deliver, Collect}
 use Rattle.world.specs.Run.{Run, step, run, opening}
 use Rattle.world.specs.Lookups.{first_unhandled}
 use Rattle.world.specs.Quiet.{IsQuiet}
-use Rattle.world.specs.World.{WorldValue, run_of, Takes}
+use Rattle.world.specs.World.{WorldValue, run_of, refusal_in, Takes, IsRefusedAs}
 use Rattle.world.proofs.in_code.Held.{told_quiet}
 use Rattle.drains.specs.Drain.{deliveries, IsDrained, IsDrainedUntil}
 use Rattle.drains.proofs.Underway.{next_delivered, none_delivered, all_delivered}
+use Rattle.service.proofs.Requests.{declined_after}
 use Rattle.service.specs.Port.{IsReady, IsSubmitted, IsTurnedAway, IsHandled, IsUntold, IsAnswered}
 use Rattle.ledger.specs.declared.entry.Entry.{Entry}
 use Rattle.ledger.specs.declared.entry.Entry.TheVariants.{Request, Rested}
@@ -90,6 +91,21 @@ module _ (top : TopologyValue) where
     pub answered_led : (r : Outcome) (after : List RunEvent) → IsAnswered top (session_node top index) o before r after → IsLed top after with_it
     answered_led r after a = handled_led a.number after a.handled
 
+-- a fact of a topology and a session, at those that they are
+pub at_there : (P : TopologyValue → ℕ → Type 0) (t top : TopologyValue) (s n : ℕ) → t ≡ top → s ≡ n → P t s → P top n
+at_there P t top s n p q h = subst (λ m. P top m) q (subst (λ z. P z s) p h)
+
+-- what a submission of the session of an index adds to the events
+pub submitted_event : (top : TopologyValue) (mid new : WorldValue) (session index : ℕ) (o : Op) → session ≡ session_node top index → Takes mid (Submit session o) new
+    → new.events ≡ mid.events ++ event_of top (run top mid.events) (Request index o) ∷ []
+submitted_event top mid new session index o is takes = ap (λ (z : WorldValue). z.events) takes.happened ∙ ap (λ n. mid.events ++ Submit n o ∷ []) is
+
+-- why a session doesn't submit, when all is handled
+pub no_submission : (top : TopologyValue) (v s x : WorldValue) (session index : ℕ) (o : Op) (f : Fault) → v.top ≡ top → session ≡ session_node top index → IsReady v.top v.events s.events → s.top ≡ v.top
+    → IsRefusedAs (refusal_in s (Submit session o)) f → x ≡ s → IsTurnedAway top (session_node top index) o v.events f x.events
+no_submission top v s x session index o f same is ready stays refused still =
+    at_there (λ t n. IsTurnedAway t n o v.events f x.events) v.top top session (session_node top index) same is (declined_after v s x session o f ready stays refused still)
+
 -- what a collection up to the shard's own clock adds to the events
 pub rested_event : (top : TopologyValue) (mid new : WorldValue) (node shard : ℕ) → mid.top ≡ top → node ≡ shard → Takes mid (Collect node ((run_of mid).shards node).clock) new
     → new.events ≡ mid.events ++ event_of top (run top mid.events) (Rested shard) ∷ []
@@ -97,10 +113,6 @@ rested_event top mid new node shard same at takes =
     ap (λ (z : WorldValue). z.events) takes.happened
     ∙ ap (λ t. mid.events ++ Collect node ((run t mid.events).shards node).clock ∷ []) same
     ∙ ap (λ m. mid.events ++ Collect m ((run top mid.events).shards m).clock ∷ []) at
-
--- a fact of a topology and a session, at those that they are
-pub at_there : (P : TopologyValue → ℕ → Type 0) (t top : TopologyValue) (s n : ℕ) → t ≡ top → s ≡ n → P t s → P top n
-at_there P t top s n p q h = subst (λ m. P top m) q (subst (λ z. P z s) p h)
 
 -- ## A world that was made ready is ready
 

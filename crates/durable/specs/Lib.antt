@@ -1,4 +1,5 @@
 pub mod Playing
+pub mod Looked
 pub mod Stuck
 pub mod Logged
 pub mod Settled

@@ -1,5 +1,5 @@
 -- Why an entry of a log can't happen again.
-use Rattle.std.specs.Prelude.{◌≡◌, ◌⊎◌, ℕ, ◌+◌, ◌≤◌, true, false, List, [], ◌∷◌, ◌++◌, length, drop}
+use Rattle.std.specs.Prelude.{◌≡◌, ◌⊎◌, ℕ, ◌≤◌, false, List, [], ◌∷◌, ◌++◌, length}
 use Rattle.logical_time.specs.declared.fault.Fault.{Fault}
 use Rattle.logical_time.specs.declared.fault.Fault.TheVariants.{Busy, Memory}
 use Rattle.messages.specs.Topology.{TopologyValue, is_shard, session_node}
@@ -10,12 +10,13 @@ use Rattle.world.specs.Refusals.{refusal_of}
 use Rattle.world.specs.World.{IsRefusedAs}
 use Rattle.drains.specs.Drain.{IsDrainedUntil}
 use Rattle.service.specs.Port.{IsReady, IsFull, IsTurnedAway}
-use Rattle.records.specs.Records.{Entry as Record, spelled, recovered, has_first}
+use Rattle.records.specs.Records.{Entry as Record, recovered}
 use Rattle.keeper.specs.declared.recovery.RecoveryError.TheVariants.{Disk, Damaged}
 use Rattle.ledger.specs.declared.entry.Entry.{Entry}
 use Rattle.ledger.specs.declared.entry.Entry.TheVariants.{Request, Rested}
 use Rattle.durable.specs.Playing.{IsLed}
 use Rattle.durable.specs.Logged.{Tell, TellsNone}
+use Rattle.durable.specs.Looked.{IsDamagedAt}
 use Rattle.durable.specs.declared.error.OpenError.{OpenError}
 use Rattle.durable.specs.declared.error.OpenError.TheVariants.{Unrecovered, Unread, Refused}
 
@@ -56,10 +57,18 @@ pub record IsStuck (top : TopologyValue) (before entries : List Entry) (fault : 
   pub led : IsLed top events (before ++ done)
   pub why : CantGoOn top events left fault
 
+-- Why the entries of a log can't be read from the bytes of its file: a record that was synced is damaged, one tells no entry, or
+-- there is no memory.
+abbrev pub CantRead : ℕ → List ℕ → OpenError → Type 0
+CantRead secret bytes (Unrecovered (Disk e)) = ⊥
+CantRead secret bytes (Unrecovered (Damaged at)) = IsDamagedAt secret bytes at
+CantRead secret bytes (Unread n) = IsUnreadable (recovered secret 0 0 bytes) (Unread n)
+CantRead secret bytes (Refused fault) = fault ≡ Memory
+
 -- Why a world doesn't come back from the bytes of a file: a record that was synced is damaged, one tells no entry, an entry can't
 -- happen, or the disk or memory is refused.
 abbrev pub CantOpen : TopologyValue → ℕ → List ℕ → OpenError → Type 0
 CantOpen top secret bytes (Unrecovered (Disk e)) = Unit {0}
-CantOpen top secret bytes (Unrecovered (Damaged at)) = let end = length (spelled secret 0 (recovered secret 0 0 bytes)) in (at ≡ end) × (has_first secret (end + 1) (drop (end + 1) bytes) ≡ true)
+CantOpen top secret bytes (Unrecovered (Damaged at)) = IsDamagedAt secret bytes at
 CantOpen top secret bytes (Unread n) = IsUnreadable (recovered secret 0 0 bytes) (Unread n)
 CantOpen top secret bytes (Refused fault) = (fault ≡ Memory) ⊎ ((entries : List Entry) × Tell entries (recovered secret 0 0 bytes) × IsStuck top [] entries fault)

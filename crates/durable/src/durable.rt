@@ -44,6 +44,13 @@ impl<D: Disk> Durable<D> {
         self.found
     }
 
+    /// What its log stands on.
+    pub fn disk(&self) -> &D
+        ensures { result.now ≡ self.now.log.disk }
+    {
+        self.log.disk()
+    }
+
     /// What happened is told by the log, as long as the disk hasn't failed. Does nothing; its contract is the law.
     pub fn is_logged(&self)
         ensures { D.failed self.now.log.disk ≡ false → IsLogged D.seen D.may_leave self.now.world.top self.now.log self.now.world.events }

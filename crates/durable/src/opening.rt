@@ -18,6 +18,7 @@ ghost use Rattle.durable.specs.declared.error.OpenError.TheVariants.{Unrecovered
 use crate::durable::Durable;
 use crate::error::OpenError;
 use crate::law::kept_entries_come_back;
+use crate::progress::Progress;
 use crate::reading::read_entries;
 use crate::recovering::recover;
 use disk::Disk;
@@ -27,12 +28,13 @@ use present::Present;
 use std::alloc::Global;
 
 // What bytes of a log led to, when all is handled; where its records end, and how many they are. As `open` says.
-fn reopen<D: Disk>(
+fn reopen<D: Disk, P: Progress>(
     alloc: Global,
     topology: &Topology,
     disk: &mut D,
     secret: u64,
     bytes: &[u8],
+    watch: &mut P,
 ) -> Result<(Present, usize, usize), OpenError>
     requires seen { D.seen disk.old ≡ Some bytes.now }
     requires durable { Only bytes.now (D.may_leave disk.old) }
@@ -48,22 +50,23 @@ fn reopen<D: Disk>(
     let (records, end) = recover_log(alloc, disk, bytes, secret)?;
     let entries = read_entries(alloc, records)?;
     let found = entries.len();
-    let world = recover(alloc, topology, entries)?;
+    let world = recover(alloc, topology, entries, watch)?;
     kept_entries_come_back();
     Ok((world, end, found))
 }
 
 /// The world of this topology that a log led to, as the bytes of its file tell, when all is handled; and the log, to which more is
-/// noted. The sums of its records are made with this secret. What a crash left behind the records is cut off first; a crash may
+/// noted. The sums of its records are made with this secret. How far it is is told after each entry. What a crash left behind the records is cut off first; a crash may
 /// come at any moment of that too. Costs what the requests cost when they were asked, and takes memory for all of them at once.
 /// Refused where a record is damaged that was synced, or tells no entry, where an entry can't happen, where the disk fails, and with
 /// `Memory`; then the disk is handed back.
-pub fn open<D: Disk + Drop>(
+pub fn open<D: Disk + Drop, P: Progress>(
     alloc: Global,
     topology: &Topology,
     disk: D,
     secret: u64,
     bytes: &[u8],
+    watch: &mut P,
 ) -> Result<Durable<D>, (OpenError, D)>
     // these bytes are what it holds, all of them on the disk
     requires seen { D.seen disk ≡ Some bytes.now }
@@ -84,7 +87,7 @@ pub fn open<D: Disk + Drop>(
     ensures fails { IfErr result (λ e. e.0 ≡ Unrecovered (Disk Failed) → D.failed e.1 ≡ true) }
 {
     let mut disk = disk;
-    match reopen(alloc, topology, &mut disk, secret, bytes) {
+    match reopen(alloc, topology, &mut disk, secret, bytes, watch) {
         Ok((world, end, found)) => Ok(Durable {
             alloc,
             world,

@@ -15,6 +15,7 @@ use Rattle.tracing.specs.Traced.{IsTraceFor}
 use Rattle.running.specs.Faults.{Brings}
 use Rattle.running.specs.Performing.{IsThreadTextFor, IsThreadRefused}
 use Rattle.explore.specs.Exploration.{IsExplorationFor, IsUnexplored}
+use Rattle.logfile.specs.Told.{IsLogTextFor, IsUntold}
 
 -- 0, and nothing is told
 pub record IsDone {E : Type 0} (status : ℕ) (told told' : Output E) : Type 0 where
@@ -34,10 +35,6 @@ pub record HasStopped {E : Type 0} (written : E → Option (List ℕ)) (status :
   pub fault : Fault
   pub between : Output E
   pub tells : Tells written fault None between told'
-
--- how it ends to look at a log
-abbrev pub IsLooked : {E : Type 0} → (E → Option (List ℕ)) → ℕ → Output E → Output E → Type 0
-IsLooked written status told told' = IsDone status told told' ⊎ HasStopped written status told told'
 
 -- how a server ends that serves one connection after the other, and one that serves all sessions at once
 abbrev pub IsServed : {E : Type 0} → (E → Option (List ℕ)) → Bool → ℕ → Output E → Output E → Type 0
@@ -84,6 +81,6 @@ module _ {R W E : Type 0} (remaining : R → Option (List ℕ)) (contents : W �
   IsAnswer brings (Ok (Audit name)) status old new told told' = Judged (string_bytes name) status old new told told'
   IsAnswer brings (Ok (Explore name bounds)) status old new told told' = Ran (IsExplorationFor bounds.lose) IsUnexplored (string_bytes name) status old new told told'
   IsAnswer brings (Ok (Serve s)) status old new told told' = IsServed written s.concurrent status told told'
-  IsAnswer brings (Ok (Log folder)) status old new told told' = IsLooked written status told told'
+  IsAnswer brings (Ok (Log name history)) status old new told told' = Ran (IsLogTextFor history) IsUntold (string_bytes name) status old new told told'
   IsAnswer brings (Ok (Told t)) status old new told told' = Answers contents written t status old new told told'
   IsAnswer brings (Err e) status old new told told' = (status ≡ 1) × (new ≡ old) × Tells written e None told told'

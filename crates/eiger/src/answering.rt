@@ -6,12 +6,13 @@ ghost use Rattle.recorded.specs.Recording.{IsHistoryFor, IsUnrecorded};
 ghost use Rattle.tracing.specs.Traced.{IsTraceFor};
 ghost use Rattle.running.specs.Performing.{IsThreadTextFor, IsThreadRefused};
 ghost use Rattle.explore.specs.Exploration.{IsExplorationFor, IsUnexplored};
+ghost use Rattle.logfile.specs.Told.{IsLogTextFor, IsUntold};
 ghost use Rattle.eiger.specs.Answering.{IsOpened, Ran, Judged, IsAnswer};
 
-use crate::looking::look;
 use crate::serving::serve;
 use command_line::{Asked, Bounds};
 use explore::{Limits, perform_exploration};
+use logfile::perform_log;
 use logical_time::Fault;
 use program::{Buffered, Input, Output, tell};
 use recorded::{perform_audit, perform_history};
@@ -107,6 +108,20 @@ fn run<T: Threads + Wait + Sync, W: Buffered, E: Buffered>(
     perform_by_threads(threads, rt.alloc(), crew, audit, &mut input, output, errors)
 }
 
+// Looks at a log, or writes the record of what it tells.
+fn log<W: Buffered, E: Buffered>(
+    rt: &HostRuntime,
+    name: String,
+    history: bool,
+    output: &mut Output<W>,
+    errors: &mut Output<E>,
+) -> u8
+    ensures { Ran ⟦<File as std::io::Read>⟧.remaining W.contents W.held E.contents (IsLogTextFor history) IsUntold (string_bytes name) result output.old output.new errors.old errors.new }
+{
+    let mut input = opened(rt, name);
+    perform_log(rt.alloc(), history, &mut input, output, errors)
+}
+
 // Audits what a file records.
 fn audit<W: Buffered, E: Buffered>(
     rt: &HostRuntime,
@@ -172,7 +187,7 @@ pub(crate) fn answer<T: Threads + Wait + Sync, W: Buffered, E: Buffered>(
         Ok(Asked::Audit { name }) => audit(rt, name, output, errors),
         Ok(Asked::Explore { name, bounds }) => explore(rt, threads, name, bounds, output, errors),
         Ok(Asked::Serve(serving)) => serve(rt, threads, &serving, output, errors),
-        Ok(Asked::Log { folder }) => look(rt, folder.as_str(), output, errors),
+        Ok(Asked::Log { name, history }) => log(rt, name, history, output, errors),
         Ok(Asked::Told(told)) => told.answer(output, errors),
         Err(fault) => tell(errors, fault, None),
     }

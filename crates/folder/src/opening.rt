@@ -6,7 +6,7 @@ ghost use Rattle.folder.specs.Shown.{file_bytes, FileLeaves, file_failed};
 use crate::file_disk::FileDisk;
 use std::alloc::{AllocError, Global};
 use std::fs::{self, File, OpenOptions, TryLockError};
-use std::io::{self, Read};
+use std::io::{self, ErrorKind, Read};
 use std::os::fd::AsRawFd;
 use std::os::unix::fs::FileExt;
 
@@ -23,6 +23,9 @@ pub enum OpenError {
 
 impl From<io::Error> for OpenError {
     fn from(error: io::Error) -> Self {
+        if error.kind() == ErrorKind::OutOfMemory {
+            return OpenError::Memory;
+        }
         OpenError::Refused(error)
     }
 }

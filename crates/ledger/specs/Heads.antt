@@ -1,9 +1,11 @@
 -- The head of a log.
-use Rattle.std.specs.Prelude.{ℕ, List, [], ◌∷◌, ◌++◌, length, true}
+use Rattle.std.specs.Prelude.{◌≡◌, ℕ, List, [], ◌∷◌, ◌++◌, length, true}
 use Rattle.std.specs.Int.{w64, to_be_bytes}
 use Rattle.byteorder.specs.Endian.{big_bytes}
 use Rattle.messages.specs.Topology.{TopologyValue}
 use Rattle.records.specs.Records.{spelling}
+use Rattle.ledger.specs.declared.head.HeadError.{HeadError}
+use Rattle.ledger.specs.declared.head.HeadError.TheVariants.{NoLog, Version, Damaged, Memory}
 
 -- each home in two bytes
 abbrev pub homes_text : List ℕ → List ℕ
@@ -19,6 +21,18 @@ families_text (name ∷ names) = big_bytes 2 (length name) ++ name ++ families_t
 abbrev pub topology_text : TopologyValue → List ℕ
 topology_text top = big_bytes 2 top.dcs ++ (big_bytes 2 top.shards ++ (big_bytes 2 (length top.homes) ++ (homes_text top.homes ++ families_text top.schema)))
 
+-- "eiger" and a version
+abbrev pub titled : ℕ → List ℕ
+titled version = 101 ∷ 105 ∷ 103 ∷ 101 ∷ 114 ∷ version ∷ []
+
 -- "eiger", the version, the secret, and the record of the topology's text
 abbrev pub head_of : ℕ → TopologyValue → List ℕ
-head_of secret top = (101 ∷ 105 ∷ 103 ∷ 101 ∷ 114 ∷ 1 ∷ []) ++ (to_be_bytes w64 secret ++ spelling secret 0 (record { first = true; body = topology_text top }))
+head_of secret top = titled 1 ++ (to_be_bytes w64 secret ++ spelling secret 0 (record { first = true; body = topology_text top }))
+
+-- Why a file doesn't begin with a head: it has no name and version, another version, or the head that it should have isn't whole or
+-- tells no topology; or there is no memory.
+abbrev pub IsNoHead : List ℕ → HeadError → Type 0
+IsNoHead file NoLog = (version : ℕ) (rest : List ℕ) → file ≡ titled version ++ rest → ⊥
+IsNoHead file (Version v) = (rest : List ℕ) × (file ≡ titled v ++ rest) × (v ≡ 1 → ⊥)
+IsNoHead file Damaged = (rest : List ℕ) × (file ≡ titled 1 ++ rest)
+IsNoHead file Memory = Unit {0}

@@ -1,6 +1,6 @@
 //! The head of a log: which store it is of.
-ghost use Rattle.std.specs.Prelude.{◌≡◌, ◌++◌, true, false, drop, length, IfOk, OnOk};
-ghost use Rattle.ledger.specs.Heads.{head_of, topology_text, homes_text, families_text};
+ghost use Rattle.std.specs.Prelude.{◌≡◌, ◌⊎◌, ◌++◌, true, false, drop, length, IfOk, IfErr, OnOk};
+ghost use Rattle.ledger.specs.Heads.{titled, head_of, topology_text, homes_text, families_text, IsNoHead};
 ghost use Rattle.ledger.specs.declared.head.HeadError.TheVariants as error;
 
 use bytes::BufMut;
@@ -191,7 +191,9 @@ fn topology_of(alloc: Global, text: &[u8]) -> Result<Option<Topology>, AllocErro
 }
 
 // The topology that a head with this secret tells, as far as it is understood.
-fn told_by(alloc: Global, secret: u64, rest: &[u8]) -> Result<Topology, HeadError> {
+fn told_by(alloc: Global, secret: u64, rest: &[u8]) -> Result<Topology, HeadError>
+    ensures { IfErr result (λ e. (e ≡ error.Damaged) ⊎ (e ≡ error.Memory)) }
+{
     let Some((_, text)) = front(secret, 0, rest) else {
         return Err(HeadError::Damaged);
     };
@@ -208,10 +210,10 @@ fn begin_with(bytes: &[u8], head: &[u8]) -> bool
     bytes.len() >= head.len() && &bytes[..head.len()] == head
 }
 
-/// The head with which a log begins: its bytes are just those that `write_head` makes of what it tells. Refused with `NoLog`,
-/// `Version`, `Damaged` and `Memory`. Linear in the sessions.
-pub fn read_head(alloc: Global, bytes: &[u8]) -> Result<Head, HeadError>
-    ensures { IfOk result (λ head. (bytes.now ≡ head_of head.secret head.topology ++ drop head.length bytes.now) × (head.length ≡ length (head_of head.secret head.topology))) }
+// What stands behind the name and the version of a log. Refused with `NoLog` and `Version`.
+fn behind_title(bytes: &[u8]) -> Result<&[u8], HeadError>
+    ensures ok { IfOk result (λ rest. bytes.now ≡ titled 1 ++ rest.now) }
+    ensures refused { IfErr result (IsNoHead bytes.now) }
 {
     let [e, i, g, e2, r, version, rest @ ..] = bytes else {
         return Err(HeadError::NoLog);
@@ -222,6 +224,17 @@ pub fn read_head(alloc: Global, bytes: &[u8]) -> Result<Head, HeadError>
     if *version != VERSION {
         return Err(HeadError::Version(*version));
     }
+    Ok(rest)
+}
+
+/// The head with which a log begins: its bytes are just those that `write_head` makes of what it tells. Refused with `NoLog`,
+/// `Version`, `Damaged` and `Memory`. Linear in the sessions.
+pub fn read_head(alloc: Global, bytes: &[u8]) -> Result<Head, HeadError>
+    ensures begins { IfOk result (λ head. bytes.now ≡ head_of head.secret head.topology ++ drop head.length bytes.now) }
+    ensures length { IfOk result (λ head. head.length ≡ length (head_of head.secret head.topology)) }
+    ensures refused { IfErr result (IsNoHead bytes.now) }
+{
+    let rest = behind_title(bytes)?;
     let [s0, s1, s2, s3, s4, s5, s6, s7, rest @ ..] = rest else {
         return Err(HeadError::Damaged);
     };

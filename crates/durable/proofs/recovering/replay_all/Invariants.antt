@@ -5,8 +5,8 @@ use Rattle.durable.proofs.recovering.replay_all.Given as goal
 
 -- the entries so far led to what happened, and the others are left
 abbrev pub invariant-loop-entry : goal.invariant-loop-entry
-invariant-loop-entry l = record {
-  topology : l.world.top ≡ l.fn.world.top;
-  led : (es : List Entry) → IsLed l.fn.world.top l.fn.world.events es → IsLed l.fn.world.top l.world.events (es ++ l.yielded);
+invariant-loop-entry g l = record {
+  topology : (g.W.Deliveries.world l.world).top ≡ (g.W.Deliveries.world l.fn.world).top;
+  led : (es : List Entry) → IsLed (g.W.Deliveries.world l.fn.world).top (g.W.Deliveries.world l.fn.world).events es → IsLed (g.W.Deliveries.world l.fn.world).top (g.W.Deliveries.world l.world).events (es ++ l.yielded);
   parts : l.yielded ++ l.entry-iterator.rest.items ≡ l.fn.entries.items;
 }

@@ -1,24 +1,26 @@
-use Rattle.std.proofs.Common.{◌∙◌, ℕ, ap, subst, Err}
+use Rattle.std.proofs.Common.{◌≡◌, ◌∙◌, refl, ap, inr}
 use Rattle.messages.specs.Topology.{session_node}
-use Rattle.service.specs.declared.asking.Unanswered.{Unanswered}
-use Rattle.service.specs.Port.{IsAnswered, IsUntold, AsksTelling}
-use Rattle.durable.proofs.Requests.{answered_led, untold_led}
+use Rattle.ledger.specs.declared.entry.Entry.TheVariants.{Request}
+use Rattle.durable.proofs.Requests.{entry_led, ready_led, submitted_event, no_submission}
 use Rattle.durable.proofs.recovering.replay_request.Goals as goal
 
 pub returns-in-Ok-clause-ok : goal.returns-in-Ok-clause-ok
-returns-in-Ok-clause-ok c = λ es led.
-    let top = c.args.world.now.top in
-    let before = c.args.world.now.events in
-    let after = c.ask_present.new.world.events in
-    let n = c.session_node-session.ensures ∙ ap (λ t. session_node t c.args.index) c.topology-2.ensures.value in
-    answered_led top c.args.index c.args.op before es led c.in-Ok.outcome after (subst (λ (m : ℕ). IsAnswered top m c.args.op before c.in-Ok.outcome after) n c.in-Ok.ensures.asks)
+returns-in-Ok-clause-ok g c = λ es led.
+    let old = g.W.Deliveries.world c.args.world.now in
+    let mid = g.W.Deliveries.world c.make_ready.new.world in
+    let new = g.W.Deliveries.world c.submit_again.new.self in
+    let ready = c.in_ok-make_ready.ensures.ok in
+    let at : c.session_node-session.result ≡ session_node old.top c.args.index =
+    c.session_node-session.ensures ∙ ap (λ t. session_node t c.args.index) (c.topology-2.ensures.value ∙ c.in_ok-make_ready.ensures.topology) in
+    entry_led old.top mid.events new.events (Request c.args.index c.args.op) es ready.left.quiet
+    (submitted_event old.top mid new c.session_node-session.result c.args.index c.args.op at c.in-Ok.ensures.taken)
+    (ready_led old.top old.events mid.events es ready led)
 
-pub returns-in-Err-Untold-clause-ok : goal.returns-in-Err-Untold-clause-ok
-returns-in-Err-Untold-clause-ok c = λ es led.
-    let top = c.args.world.now.top in
-    let before = c.args.world.now.events in
-    let after = c.ask_present.new.world.events in
-    let n = c.session_node-session.ensures ∙ ap (λ t. session_node t c.args.index) c.topology-2.ensures.value in
-    untold_led top c.args.index c.args.op before es led c.in-Err-Untold._fault after
-    (subst (λ (m : ℕ). IsUntold top m c.args.op before c.in-Err-Untold._fault after) n
-    (subst (λ (u : Unanswered). AsksTelling top c.session_node-session.result before c.args.op (Err u) after) c.in-Err-Untold.field-0-is c.in-Err-Untold.ensures.asks))
+pub returns-in-Err-clause-refused : goal.returns-in-Err-clause-refused
+returns-in-Err-clause-refused g c =
+    let old = g.W.Deliveries.world c.args.world.now in
+    let mid = g.W.Deliveries.world c.make_ready.new.world in
+    let new = g.W.Deliveries.world c.submit_again.new.self in
+    let at : c.session_node-session.result ≡ session_node old.top c.args.index =
+    c.session_node-session.ensures ∙ ap (λ t. session_node t c.args.index) (c.topology-2.ensures.value ∙ c.in_ok-make_ready.ensures.topology) in
+    inr (new.events, no_submission old.top old mid new c.session_node-session.result c.args.index c.args.op c.in-Err.fault refl at c.in_ok-make_ready.ensures.ok c.in_ok-make_ready.ensures.topology c.in-Err.ensures.refused c.in-Err.ensures.same)

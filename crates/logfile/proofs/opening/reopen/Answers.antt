@@ -1,0 +1,16 @@
+use Rattle.std.proofs.Common.{◌∙◌, refl}
+use Rattle.logfile.proofs.Files.{begins, back}
+use Rattle.logfile.proofs.opening.reopen.Goals as goal
+
+pub returns-then-not-is_of-clause-refused : goal.returns-then-not-is_of-clause-refused
+returns-then-not-is_of-clause-refused g c =
+    let head = c.in_ok-head.head in
+    (head.secret, begins c.args.opened.bytes.items c.bytes.result.now head.topology head.secret head.length c.bytes.ensures c.in_ok-head.ensures.begins, c.if-not-is_of.ensures.no refl)
+
+pub returns-in-Ok-clause-back : goal.returns-in-Ok-clause-back
+returns-in-Ok-clause-back g c =
+    let head = c.in_ok-head.head in
+    let e = c.in-Ok.ensures in
+    back _ _ _ c.args.opened.bytes.items c.bytes.result.now c.deref.result.now c.args.topology.now head.topology head.secret head.length c.in-Ok.world
+    c.bytes.ensures c.in_ok-head.ensures.begins c.in_ok-head.ensures.length (c.if-not-is_of.ensures.yes refl) (c.deref.ensures.value ∙ c.in_ok-disk.ensures.bytes)
+    e.secret e.topology e.led e.quiet e.settled e.comes_back

@@ -1,0 +1,105 @@
+-- What is told of a file that is a log, and why nothing is.
+use Rattle.std.specs.Prelude.{◌≡◌, ◌+◌, ℕ, Bool, true, false, Some, List, ◌++◌, length, count_by, codes, decimal}
+use Rattle.logical_time.specs.declared.fault.Fault.{Fault}
+use Rattle.logical_time.specs.declared.fault.Fault.TheVariants.{Memory, ReadFailed, Script}
+use Rattle.disk.specs.declared.disk.DiskError.TheVariants as disk
+use Rattle.records.specs.Records.{spelled, recovered}
+use Rattle.messages.specs.Topology.{TopologyValue}
+use Rattle.world.specs.declared.run_event.RunEvent.{RunEvent}
+use Rattle.world.specs.Run.{run}
+use Rattle.world.specs.Quiet.{IsQuiet}
+use Rattle.keeper.specs.declared.recovery.RecoveryError.TheVariants as recovery
+use Rattle.ledger.specs.Heads.{IsNoHead}
+use Rattle.ledger.specs.declared.head.HeadError.TheVariants as head
+use Rattle.ledger.specs.declared.entry.Entry.{Entry}
+use Rattle.ledger.specs.declared.entry.Entry.TheVariants.{Request, Rested}
+use Rattle.durable.specs.Playing.{IsLed}
+use Rattle.durable.specs.Stuck.{CantOpen}
+use Rattle.durable.specs.declared.error.OpenError.TheVariants as open_error
+use Rattle.workload.specs.Audited.{AreFirstHistories}
+use Rattle.recorded.specs.Performing.{recorded_in}
+use Rattle.recorded.specs.Recorded.{RecordedValue}
+use Rattle.recorded.specs.Recording.{reads_in}
+use Rattle.logfile.specs.declared.error.LogError.{LogError}
+use Rattle.logfile.specs.declared.error.LogError.TheVariants.{Head, Other, Records, Unspelled}
+use Rattle.logfile.specs.declared.summary.Summary.{Summary}
+use Rattle.logfile.specs.Logs.{BeginsWith, behind, IsLogOf}
+
+abbrev pub is_request : Entry → Bool
+is_request (Request session op) = true
+is_request (Rested shard) = false
+
+-- ## What is in it
+
+-- how many requests and collections a log has, how long its records are, and how much is torn behind them
+pub record IsSummaryOf (file : List ℕ) (s : Summary) : Type 0 where
+  pub secret : ℕ
+  pub entries : List Entry
+  pub log : IsLogOf file secret s.topology entries
+  pub requests : s.requests ≡ count_by is_request entries
+  pub all : s.requests + s.collections ≡ length entries
+  pub records : s.records ≡ length (spelled secret 0 (recovered secret 0 0 (behind secret s.topology file)))
+  pub torn : s.records + s.torn ≡ length (behind secret s.topology file)
+
+-- the last two of the lines that tell it
+abbrev pub counts_text : Summary → List ℕ
+counts_text s =
+    decimal s.requests ++ codes " requests, " ++ decimal s.collections ++ codes " collections\n"
+    ++ decimal s.records ++ codes " bytes of records, and " ++ decimal s.torn ++ codes " torn bytes behind them\n"
+
+-- the text tells what is in the log that a file holds; before that it says which store's it is
+abbrev pub IsLookFor : List ℕ → List ℕ → Type 0
+IsLookFor file text = (s : Summary) × IsSummaryOf file s × (store : List ℕ) × (text ≡ store ++ counts_text s)
+
+-- ## What happened
+
+-- The history of the world that a log led to, when all is handled: of each data centre, and the reads that it answered, in the order
+-- of their ends.
+pub record IsHistoryOf (file : List ℕ) (r : RecordedValue) : Type 0 where
+  pub secret : ℕ
+  pub top : TopologyValue
+  pub entries : List Entry
+  pub log : IsLogOf file secret top entries
+  pub events : List RunEvent
+  pub led : IsLed top events entries
+  pub quiet : IsQuiet (run top events)
+  pub families : r.families ≡ top.schema
+  pub histories : AreFirstHistories top (run top events) top.dcs r.histories
+  pub reads : r.reads ≡ reads_in (run top events).transcript
+
+-- reading the text gives the history of the log that a file holds
+abbrev pub IsLogHistoryFor : List ℕ → List ℕ → Type 0
+IsLogHistoryFor file text = (r : RecordedValue) × IsHistoryOf file r × (recorded_in text ≡ Some r)
+
+-- one or the other
+abbrev pub IsLogTextFor : Bool → List ℕ → List ℕ → Type 0
+IsLogTextFor false = IsLookFor
+IsLogTextFor true = IsLogHistoryFor
+
+-- ## Why nothing is told
+
+-- no world of this topology comes back from a file
+abbrev pub CantReopen : TopologyValue → List ℕ → LogError → Type 0
+CantReopen top file (Head e) = IsNoHead file e
+CantReopen top file (Other t) = (secret : ℕ) × BeginsWith secret t file × (t ≡ top → ⊥)
+CantReopen top file (Records e) = (secret : ℕ) × BeginsWith secret top file × CantOpen top secret (behind secret top file) e
+CantReopen top file Unspelled = ⊥
+
+-- a file is no log, its records tell nothing, or no text can hold its history
+abbrev pub CantLook : List ℕ → LogError → Type 0
+CantLook file (Head e) = IsNoHead file e
+CantLook file (Other t) = ⊥
+CantLook file (Records e) = (secret : ℕ) × (top : TopologyValue) × BeginsWith secret top file × CantOpen top secret (behind secret top file) e
+CantLook file Unspelled = (r : RecordedValue) × IsHistoryOf file r
+
+-- the fault that it is
+abbrev pub fault_by : LogError → Fault
+fault_by (Head head.Memory) = Memory
+fault_by (Records (open_error.Unrecovered (recovery.Disk disk.Memory))) = Memory
+fault_by (Records (open_error.Refused fault)) = fault
+fault_by Unspelled = Script
+fault_by _ = ReadFailed
+
+-- why the program says nothing of a file
+abbrev pub IsUntold : List ℕ → Fault → Type 0
+IsUntold file fault = (why : LogError) × CantLook file why × (fault ≡ fault_by why)

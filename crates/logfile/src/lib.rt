@@ -1,0 +1,18 @@
+//! The log of a server, as its folder has it: a world comes back from it, and it is looked at.
+//!
+//! `specs/Logs.antt` says what a file tells that begins as a log, `specs/Told.antt` what is told of it and why nothing is.
+#![tactic(auto)]
+
+mod error;
+mod histories;
+mod opening;
+mod performing;
+mod reasons;
+mod summary;
+
+pub use error::{LogError, Unopened};
+pub use folder::FileDisk;
+pub use histories::history_of_log;
+pub use opening::{open_folder, reopen};
+pub use performing::perform_log;
+pub use summary::{Summary, summary_of};
