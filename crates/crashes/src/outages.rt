@@ -1,11 +1,13 @@
 //! Worlds that come back: of a file that was cut at each byte, and where a call of the disk failed.
 use crate::calls::failing_at;
 use crate::count::Count;
+use crate::tearing::{changed, torn};
 use crate::worlds::{come_back, insert, is_read, settle};
 use crate::written::Back;
 use anyhow::{Context, Result};
 use disk::{Call, Memory};
-use durable::Durable;
+use durable::{Durable, OpenError};
+use keeper::RecoveryError;
 use service::{Host, Housed};
 use std::alloc::Global;
 
@@ -69,7 +71,8 @@ fn keeps(alloc: Global, world: &mut Durable<Memory>, known: Acknowledged) -> Res
 fn look(alloc: Global, file: &[u8], known: Acknowledged) -> Result<Back> {
     let mut world = match come_back(alloc, file, Vec::new(alloc))? {
         Ok(world) => world,
-        Err(_) => return Ok(Back::Damaged),
+        Err(OpenError::Unrecovered(RecoveryError::Damaged(_))) => return Ok(Back::Damaged),
+        Err(_) => return Ok(Back::Other),
     };
     let found = world.found();
     let kept = keeps(alloc, &mut world, known);
@@ -129,6 +132,30 @@ fn cut(rt: &HostRuntime, told: &Told) -> Result<()> {
     count.tell(rt, "a world's log, cut at each byte")
 }
 
+// The file torn at each byte behind what was synced first, and this behind it.
+fn tear(rt: &HostRuntime, told: &Told, label: &str, behind: &[u8]) -> Result<()> {
+    let mut count = Count::new();
+    for kept in told.first.synced..told.file.len() + 1 {
+        let image = torn(rt.alloc(), &told.file[..kept], behind)?;
+        let whole = kept >= told.all.synced;
+        let known = if whole { told.all } else { told.first };
+        count.add(look(rt.alloc(), &image, known)?);
+    }
+    count.tell(rt, label)
+}
+
+// The file with a bit of each byte changed: what was synced first is damaged, and what was synced last cut off.
+fn change(rt: &HostRuntime, told: &Told) -> Result<()> {
+    let mut count = Count::new();
+    for at in 0..told.file.len() {
+        let image = changed(rt.alloc(), &told.file, at, 1)?;
+        let first = at < told.first.synced;
+        let known = if first { NOTHING } else { told.first };
+        count.add(look(rt.alloc(), &image, known)?);
+    }
+    count.tell(rt, "a world's log, a bit of each byte changed")
+}
+
 // A world one of whose disk's calls fails, a crash after it, and what comes back.
 fn tell_failing(rt: &HostRuntime, at: usize) -> Result<()> {
     let told = written(rt.alloc(), failing_at(rt.alloc(), at)?)?;
@@ -161,6 +188,14 @@ pub(crate) fn tell(rt: &HostRuntime) -> Result<()> {
     let (all, synced) = (told.file.len(), told.first.synced);
     println!(rt; "a world's log: {all} bytes, of which {synced} were synced first")?;
     cut(rt, &told)?;
+    tear(rt, &told, "a world's log, torn, and zeros behind", &[0; 50])?;
+    tear(
+        rt,
+        &told,
+        "a world's log, torn, and ones behind",
+        &[255; 50],
+    )?;
+    change(rt, &told)?;
     for at in 0..5 {
         tell_failing(rt, at)?;
     }

@@ -1,4 +1,4 @@
-//! Many connections that ask in one round share one append and one sync.
+//! Many connections that ask in one round share one append and one sync: where the disk does one less, no round that asked goes well.
 use crate::worlds::{SESSIONS, come_back, insertion};
 use anyhow::{Context, Result};
 use disk::{Call, Memory};
@@ -7,6 +7,7 @@ use durable::Durable;
 use logical_time::Fault;
 use readiness::{Call as Step, MemoryLine};
 use server::Server;
+use service::Housed;
 use std::alloc::Global;
 use std::collections::VecDeque;
 
@@ -76,14 +77,26 @@ fn open(rt: &HostRuntime, works: usize, rounds: usize) -> Result<MemoryServer> {
     Ok(Server::new(alloc, door, world)?.with_report(1))
 }
 
-// Tells how many rounds went well, and which rows there are then.
+// How many requests a file tells.
+fn told_by(alloc: Global, file: &[u8]) -> Result<usize> {
+    let world = come_back(alloc, file, Vec::new(alloc))?
+        .ok()
+        .context("no world")?;
+    let found = world.found();
+    world.close();
+    Ok(found)
+}
+
+// Tells how many rounds went well, and how many requests are written then.
 fn tell_served(rt: &HostRuntime, works: usize, rounds: usize) -> Result<()> {
     let mut server = open(rt, works, rounds)?;
     let (went, fault) = serve(rt, &mut server, rounds);
     let accepted = server.accepted();
+    let file = server.world().disk().bytes().to_vec(rt.alloc());
     server.close();
+    let kept = told_by(rt.alloc(), &file?)?;
     Ok(println!(rt;
-        "{accepted} connections, {works} calls of the disk work: {went} rounds, then {fault}"
+        "{accepted} connections ask, {works} calls of the disk work: {went} rounds, then {fault}; {kept} are written"
     )?)
 }
 

@@ -4,8 +4,8 @@ use crate::written::come_back;
 use anyhow::Result;
 use std::alloc::Global;
 
-// A file with a byte changed.
-fn changed(alloc: Global, file: &[u8], at: usize, bit: u8) -> Result<Vec<u8>> {
+/// A file with a byte changed.
+pub(crate) fn changed(alloc: Global, file: &[u8], at: usize, bit: u8) -> Result<Vec<u8>> {
     let mut image = file.to_vec(alloc)?;
     if let Some(byte) = image.get_mut(at) {
         *byte ^= bit;
@@ -25,8 +25,8 @@ fn changed_at_each(rt: &HostRuntime, file: &[u8]) -> Result<()> {
     count.tell(rt, "each bit changed")
 }
 
-// The beginning of a file, and this behind it.
-fn torn(alloc: Global, begins: &[u8], behind: &[u8]) -> Result<Vec<u8>> {
+/// The beginning of a file, and this behind it.
+pub(crate) fn torn(alloc: Global, begins: &[u8], behind: &[u8]) -> Result<Vec<u8>> {
     let mut image = begins.to_vec(alloc)?;
     image.extend_from_slice(behind)?;
     Ok(image)

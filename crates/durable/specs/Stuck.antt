@@ -65,10 +65,15 @@ CantRead secret bytes (Unrecovered (Damaged at)) = IsDamagedAt secret bytes at
 CantRead secret bytes (Unread n) = IsUnreadable (recovered secret 0 0 bytes) (Unread n)
 CantRead secret bytes (Refused fault) = fault ≡ Memory
 
--- Why a world doesn't come back from the bytes of a file: a record that was synced is damaged, one tells no entry, an entry can't
--- happen, or the disk or memory is refused.
+-- Why no world is told by the bytes of a file: for that, or an entry can't happen.
+abbrev pub CantRecall : TopologyValue → ℕ → List ℕ → OpenError → Type 0
+CantRecall top secret bytes (Unrecovered e) = CantRead secret bytes (Unrecovered e)
+CantRecall top secret bytes (Unread n) = CantRead secret bytes (Unread n)
+CantRecall top secret bytes (Refused fault) = (fault ≡ Memory) ⊎ ((entries : List Entry) × Tell entries (recovered secret 0 0 bytes) × IsStuck top [] entries fault)
+
+-- Why a world doesn't come back from the bytes of a file: for that, or the disk is refused.
 abbrev pub CantOpen : TopologyValue → ℕ → List ℕ → OpenError → Type 0
 CantOpen top secret bytes (Unrecovered (Disk e)) = Unit {0}
 CantOpen top secret bytes (Unrecovered (Damaged at)) = IsDamagedAt secret bytes at
-CantOpen top secret bytes (Unread n) = IsUnreadable (recovered secret 0 0 bytes) (Unread n)
-CantOpen top secret bytes (Refused fault) = (fault ≡ Memory) ⊎ ((entries : List Entry) × Tell entries (recovered secret 0 0 bytes) × IsStuck top [] entries fault)
+CantOpen top secret bytes (Unread n) = CantRecall top secret bytes (Unread n)
+CantOpen top secret bytes (Refused fault) = CantRecall top secret bytes (Refused fault)

@@ -1,13 +1,13 @@
 //! A world that comes back from its log.
-ghost use Rattle.std.specs.Prelude.{◌≡◌, true, List, Some, IfOk, IfErr, length};
+ghost use Rattle.std.specs.Prelude.{◌≡◌, ℕ, true, false, List, Some, IfOk, IfErr, IsErrAnd, length};
 ghost use Rattle.world.specs.declared.run_event.RunEvent.{RunEvent};
 ghost use Rattle.world.specs.Quiet.{IsQuiet};
 ghost use Rattle.world.specs.World.{run_of};
 ghost use Rattle.disk.specs.Disk.{Only, LeavesOnly};
 ghost use Rattle.disk.specs.declared.disk.DiskError.TheVariants.{Failed};
-ghost use Rattle.records.specs.Records.{recovered};
+ghost use Rattle.records.specs.Records.{recovered, IsUndamaged};
 ghost use Rattle.keeper.specs.Log.{IsKept, IsAsBefore};
-ghost use Rattle.keeper.specs.declared.recovery.RecoveryError.TheVariants.{Disk};
+ghost use Rattle.keeper.specs.declared.recovery.RecoveryError.TheVariants.{Disk, Damaged};
 ghost use Rattle.ledger.specs.declared.entry.Entry.{Entry};
 ghost use Rattle.durable.specs.Playing.{IsLed, Outlives};
 ghost use Rattle.durable.specs.Logged.{Tell};
@@ -45,7 +45,10 @@ fn reopen<D: Disk, P: Progress>(
     ensures comes_back { IfOk result (λ r. (before : List RunEvent) → Holds topology.now secret before bytes.now → Outlives topology.now before r.0.events) }
     ensures any_moment { LeavesOnly D.moment D.left_since disk.old disk.new (IsAsBefore secret bytes.now) }
     ensures refused { IfErr result (CantOpen topology.now secret bytes.now) }
+    ensures undamaged { IfOk result (λ _. IsUndamaged secret bytes.now) }
+    ensures damaged { (at : ℕ) → IsErrAnd result (λ e. e ≡ Unrecovered (Damaged at)) → disk.new ≡ disk.old }
     ensures fails { IfErr result (λ e. e ≡ Unrecovered (Disk Failed) → D.failed disk.new ≡ true) }
+    ensures works { D.failed disk.old ≡ false → IfOk result (λ _. D.failed disk.new ≡ false) }
 {
     let (records, end) = recover_log(alloc, disk, bytes, secret)?;
     let entries = read_entries(alloc, records)?;
@@ -56,7 +59,7 @@ fn reopen<D: Disk, P: Progress>(
 }
 
 /// The world of this topology that a log led to, as the bytes of its file tell, when all is handled; and the log, to which more is
-/// noted. The sums of its records are made with this secret. How far it is is told after each entry. What a crash left behind the records is cut off first; a crash may
+/// noted. The sums of its records are made with this secret. Who watches is told after each entry how far it is. What a crash left behind the records is cut off first; a crash may
 /// come at any moment of that too. Costs what the requests cost when they were asked, and takes memory for all of them at once.
 /// Refused where a record is damaged that was synced, or tells no entry, where an entry can't happen, where the disk fails, and with
 /// `Memory`; then the disk is handed back.
@@ -76,6 +79,8 @@ pub fn open<D: Disk + Drop, P: Progress>(
     // what its records tell led to all that happened
     ensures led { IfOk result (λ d. (es : List Entry) × Tell es (recovered secret 0 0 bytes.now) × IsLed topology.now d.world.events es × (d.found ≡ length es)) }
     ensures quiet { IfOk result (λ d. IsQuiet (run_of d.world)) }
+    // nothing that was synced is damaged
+    ensures undamaged { IfOk result (λ _. IsUndamaged secret bytes.now) }
     // all of it is on the disk for good
     ensures settled { IfOk result (λ d. IsSettled D.seen D.may_leave D.failed topology.now secret d.log.disk d.world.events) }
     // whatever the file held came back, and each reply that was given then keeps its meaning
@@ -84,7 +89,10 @@ pub fn open<D: Disk + Drop, P: Progress>(
     ensures any_moment { IfOk result (λ d. LeavesOnly D.moment D.left_since disk d.log.disk (IsAsBefore secret bytes.now)) }
     ensures any_moment_refused { IfErr result (λ e. LeavesOnly D.moment D.left_since disk e.1 (IsAsBefore secret bytes.now)) }
     ensures refused { IfErr result (λ e. CantOpen topology.now secret bytes.now e.0) }
+    // where something is damaged, nothing is done
+    ensures damaged { IfErr result (λ e. (at : ℕ) → e.0 ≡ Unrecovered (Damaged at) → e.1 ≡ disk) }
     ensures fails { IfErr result (λ e. e.0 ≡ Unrecovered (Disk Failed) → D.failed e.1 ≡ true) }
+    ensures works { D.failed disk ≡ false → IfOk result (λ d. D.failed d.log.disk ≡ false) }
 {
     let mut disk = disk;
     match reopen(alloc, topology, &mut disk, secret, bytes, watch) {

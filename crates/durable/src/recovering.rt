@@ -128,6 +128,7 @@ pub(crate) fn recall_entries<P: Progress>(
     ensures topology { IfOk result (λ w. w.top ≡ topology.now) }
     ensures led { IfOk result (λ w. IsLed topology.now w.events entries.items) }
     ensures quiet { IfOk result (λ w. IsQuiet (run_of w)) }
+    ensures outlives { IfOk result (λ w. (before : List RunEvent) (es more : List Entry) → entries.items ≡ es ++ more → IsLed topology.now before es → Outlives topology.now before w.events) }
 {
     let mut world = World::new(alloc, topology)?;
     match replay_all(&mut world, entries, watch) {

@@ -81,6 +81,6 @@ module _ {R W E : Type 0} (remaining : R → Option (List ℕ)) (contents : W �
   IsAnswer brings (Ok (Audit name)) status old new told told' = Judged (string_bytes name) status old new told told'
   IsAnswer brings (Ok (Explore name bounds)) status old new told told' = Ran (IsExplorationFor bounds.lose) IsUnexplored (string_bytes name) status old new told told'
   IsAnswer brings (Ok (Serve s)) status old new told told' = IsServed written s.concurrent status told told'
-  IsAnswer brings (Ok (Log name history)) status old new told told' = Ran (IsLogTextFor history) IsUntold (string_bytes name) status old new told told'
+  IsAnswer brings (Ok (Log name history)) status old new told told' = Ran (IsLogTextFor history) (IsUntold history) (string_bytes name) status old new told told'
   IsAnswer brings (Ok (Told t)) status old new told told' = Answers contents written t status old new told told'
   IsAnswer brings (Err e) status old new told told' = (status ≡ 1) × (new ≡ old) × Tells written e None told told'

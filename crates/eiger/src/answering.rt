@@ -116,7 +116,7 @@ fn log<W: Buffered, E: Buffered>(
     output: &mut Output<W>,
     errors: &mut Output<E>,
 ) -> u8
-    ensures { Ran ⟦<File as std::io::Read>⟧.remaining W.contents W.held E.contents (IsLogTextFor history) IsUntold (string_bytes name) result output.old output.new errors.old errors.new }
+    ensures { Ran ⟦<File as std::io::Read>⟧.remaining W.contents W.held E.contents (IsLogTextFor history) (IsUntold history) (string_bytes name) result output.old output.new errors.old errors.new }
 {
     let mut input = opened(rt, name);
     perform_log(rt.alloc(), history, &mut input, output, errors)

@@ -40,13 +40,14 @@ pub struct FileDisk {
 }
 
 impl FileDisk {
-    ghost use Rattle.folder.specs.Shown.{file_bytes, FileLeaves, file_failed};
+    ghost use Rattle.folder.specs.Shown.{file_bytes, FileLeaves, file_moment, file_failed};
 
     /// A file that holds these bytes behind a head of this length, all of them on the disk.
     pub(crate) fn new(file: File, lock: File, head: u64, bytes: &Vec<u8>) -> FileDisk
         ensures seen { file_bytes result ≡ bytes.now.items }
         ensures durable { Only bytes.now.items (FileLeaves result) }
         ensures works { file_failed result ≡ false }
+        ensures untouched { file_moment result ≡ 0 }
     {
         FileDisk {
             file,

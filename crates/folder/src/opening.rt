@@ -1,7 +1,7 @@
 //! A folder with a log.
 ghost use Rattle.std.specs.Prelude.{◌≡◌, drop, false, IfOk};
 ghost use Rattle.disk.specs.Disk.{Only};
-ghost use Rattle.folder.specs.Shown.{file_bytes, FileLeaves, file_failed};
+ghost use Rattle.folder.specs.Shown.{file_bytes, FileLeaves, file_moment, file_failed};
 
 use crate::file_disk::FileDisk;
 use std::alloc::{AllocError, Global};
@@ -42,7 +42,6 @@ pub struct Opened {
     file: File,
     lock: File,
     bytes: Vec<u8>,
-    fresh: bool,
 }
 
 impl Opened {
@@ -53,26 +52,16 @@ impl Opened {
         &self.bytes
     }
 
-    /// Whether it was made just now.
-    pub fn is_fresh(&self) -> bool
-        ensures { result ≡ self.now.fresh }
-    {
-        self.fresh
-    }
-
     /// What stands behind a head of this length, as a disk and as bytes. Copies them.
     pub fn behind(self, alloc: Global, head: usize) -> Result<(FileDisk, Vec<u8>), AllocError>
         ensures bytes { IfOk result (λ r. r.1.items ≡ drop head self.bytes.items) }
         ensures seen { IfOk result (λ r. file_bytes r.0 ≡ r.1.items) }
         ensures durable { IfOk result (λ r. Only r.1.items (FileLeaves r.0)) }
         ensures works { IfOk result (λ r. file_failed r.0 ≡ false) }
+        // nothing was done to it
+        ensures untouched { IfOk result (λ r. file_moment r.0 ≡ 0) }
     {
-        let Opened {
-            file,
-            lock,
-            bytes,
-            fresh: _,
-        } = self;
+        let Opened { file, lock, bytes } = self;
         let head = head.min(bytes.len());
         let rest = bytes[head..].to_vec(alloc)?;
         let disk = FileDisk::new(file, lock, head as u64, &rest);
@@ -138,8 +127,7 @@ pub fn open(rt: &HostRuntime, folder: &str, head: &[u8]) -> Result<Opened, OpenE
     let draft = format!(in alloc; "{folder}/log.new")?;
     make_folder(rt, folder)?;
     let lock = take_lock(rt, folder)?;
-    let fresh = !fs::exists(rt, log.as_str())?;
-    if fresh {
+    if !fs::exists(rt, log.as_str())? {
         make(rt, draft.as_str(), log.as_str(), head)?;
     }
     File::open(rt, folder)?.sync_all()?;
@@ -149,10 +137,5 @@ pub fn open(rt: &HostRuntime, folder: &str, head: &[u8]) -> Result<Opened, OpenE
         .open(rt, log.as_str())?;
     settle(&file)?;
     let bytes = read_all(alloc, &mut file)?;
-    Ok(Opened {
-        file,
-        lock,
-        bytes,
-        fresh,
-    })
+    Ok(Opened { file, lock, bytes })
 }

@@ -42,6 +42,7 @@ fn cut<D: Disk>(disk: &mut D, end: usize, long: usize) -> Result<(), DiskError>
     ensures durable { OnOk result (IfSome (D.seen disk.old) (λ s. Only (take end s) (D.may_leave disk.new))) }
     ensures any_moment { IfSome (D.seen disk.old) (λ s. LeavesOnly D.moment D.left_since disk.old disk.new (Cut end s)) }
     ensures fails { OnErr result (D.failed disk.new ≡ true) }
+    ensures works { D.failed disk.old ≡ false → OnOk result (D.failed disk.new ≡ false) }
 {
     if end < long {
         disk.cut(end)?;
@@ -67,6 +68,7 @@ pub fn recover<D: Disk>(
     ensures last { IfOk result (λ r. IfSome (D.seen disk.old) (λ s. holds_first secret (r.1 + 1) (drop (r.1 + 1) s) ≡ false)) }
     ensures damaged { (at : ℕ) → IsErrAnd result (λ e. e ≡ RecoveryError.Damaged at) → (disk.new ≡ disk.old) × IfSome (D.seen disk.old) (λ s. (at ≡ length (spelled secret 0 (recovered secret 0 0 s))) × (holds_first secret (at + 1) (drop (at + 1) s) ≡ true)) }
     ensures fails { IfErr result (λ e. e ≡ Disk disk_error.Failed → D.failed disk.new ≡ true) }
+    ensures works { D.failed disk.old ≡ false → OnOk result (D.failed disk.new ≡ false) }
     // a crash at any moment leaves the same records, and makes no damage
     ensures any_moment { IfSome (D.seen disk.old) (λ s. LeavesOnly D.moment D.left_since disk.old disk.new (IsAsBefore secret s)) }
 {

@@ -1,7 +1,7 @@
 -- What is told of a file that is a log, and why nothing is.
 use Rattle.std.specs.Prelude.{◌≡◌, ◌+◌, ℕ, Bool, true, false, Some, List, ◌++◌, length, count_by, codes, decimal}
 use Rattle.logical_time.specs.declared.fault.Fault.{Fault}
-use Rattle.logical_time.specs.declared.fault.Fault.TheVariants.{Memory, ReadFailed, Script}
+use Rattle.logical_time.specs.declared.fault.Fault.TheVariants.{ClockSpent, Memory, ReadFailed, Script}
 use Rattle.disk.specs.declared.disk.DiskError.TheVariants as disk
 use Rattle.records.specs.Records.{spelled, recovered}
 use Rattle.messages.specs.Topology.{TopologyValue}
@@ -14,7 +14,7 @@ use Rattle.ledger.specs.declared.head.HeadError.TheVariants as head
 use Rattle.ledger.specs.declared.entry.Entry.{Entry}
 use Rattle.ledger.specs.declared.entry.Entry.TheVariants.{Request, Rested}
 use Rattle.durable.specs.Playing.{IsLed}
-use Rattle.durable.specs.Stuck.{CantOpen}
+use Rattle.durable.specs.Stuck.{CantRead, CantRecall, CantOpen}
 use Rattle.durable.specs.declared.error.OpenError.TheVariants as open_error
 use Rattle.workload.specs.Audited.{AreFirstHistories}
 use Rattle.recorded.specs.Performing.{recorded_in}
@@ -23,7 +23,7 @@ use Rattle.recorded.specs.Recording.{reads_in}
 use Rattle.logfile.specs.declared.error.LogError.{LogError}
 use Rattle.logfile.specs.declared.error.LogError.TheVariants.{Head, Other, Records, Unspelled}
 use Rattle.logfile.specs.declared.summary.Summary.{Summary}
-use Rattle.logfile.specs.Logs.{BeginsWith, behind, IsLogOf}
+use Rattle.logfile.specs.Logs.{BeginsWith, behind, IsLogOf, Keeps}
 
 abbrev pub is_request : Entry → Bool
 is_request (Request session op) = true
@@ -41,20 +41,29 @@ pub record IsSummaryOf (file : List ℕ) (s : Summary) : Type 0 where
   pub records : s.records ≡ length (spelled secret 0 (recovered secret 0 0 (behind secret s.topology file)))
   pub torn : s.records + s.torn ≡ length (behind secret s.topology file)
 
--- the last two of the lines that tell it
+-- which store it is, its families' names with commas between them
+abbrev pub store_text : TopologyValue → List ℕ → List ℕ
+store_text top names =
+    decimal top.dcs ++ codes " data centres of " ++ decimal top.shards ++ codes " shards with " ++ decimal (length top.homes) ++ codes " sessions, families " ++ names
+
+-- how much is in it
 abbrev pub counts_text : Summary → List ℕ
 counts_text s =
     decimal s.requests ++ codes " requests, " ++ decimal s.collections ++ codes " collections\n"
     ++ decimal s.records ++ codes " bytes of records, and " ++ decimal s.torn ++ codes " torn bytes behind them\n"
 
--- the text tells what is in the log that a file holds; before that it says which store's it is
+-- the three lines that tell it
+abbrev pub summary_text : Summary → List ℕ → List ℕ
+summary_text s names = codes "the log of " ++ store_text s.topology names ++ codes "\n" ++ counts_text s
+
+-- the text tells what is in the log that a file holds
 abbrev pub IsLookFor : List ℕ → List ℕ → Type 0
-IsLookFor file text = (s : Summary) × IsSummaryOf file s × (store : List ℕ) × (text ≡ store ++ counts_text s)
+IsLookFor file text = (s : Summary) × IsSummaryOf file s × (names : List ℕ) × (text ≡ summary_text s names)
 
 -- ## What happened
 
--- The history of the world that a log led to, when all is handled: of each data centre, and the reads that it answered, in the order
--- of their ends.
+-- The history of the world that a log led to, when all is handled, in which all keeps the meaning that it had: of each data centre, and
+-- the reads that it answered, in the order of their ends.
 pub record IsHistoryOf (file : List ℕ) (r : RecordedValue) : Type 0 where
   pub secret : ℕ
   pub top : TopologyValue
@@ -63,6 +72,7 @@ pub record IsHistoryOf (file : List ℕ) (r : RecordedValue) : Type 0 where
   pub events : List RunEvent
   pub led : IsLed top events entries
   pub quiet : IsQuiet (run top events)
+  pub keeps : Keeps file secret top events
   pub families : r.families ≡ top.schema
   pub histories : AreFirstHistories top (run top events) top.dcs r.histories
   pub reads : r.reads ≡ reads_in (run top events).transcript
@@ -85,21 +95,33 @@ CantReopen top file (Other t) = (secret : ℕ) × BeginsWith secret t file × (t
 CantReopen top file (Records e) = (secret : ℕ) × BeginsWith secret top file × CantOpen top secret (behind secret top file) e
 CantReopen top file Unspelled = ⊥
 
--- a file is no log, its records tell nothing, or no text can hold its history
+-- what is in a file isn't told: it is no log, or its records tell nothing
 abbrev pub CantLook : List ℕ → LogError → Type 0
 CantLook file (Head e) = IsNoHead file e
 CantLook file (Other t) = ⊥
-CantLook file (Records e) = (secret : ℕ) × (top : TopologyValue) × BeginsWith secret top file × CantOpen top secret (behind secret top file) e
-CantLook file Unspelled = (r : RecordedValue) × IsHistoryOf file r
+CantLook file (Records e) = (secret : ℕ) × (top : TopologyValue) × BeginsWith secret top file × CantRead secret (behind secret top file) e
+CantLook file Unspelled = ⊥
+
+-- nor is its history: for that, or they lead to no world, or there is a history that isn't spelled
+abbrev pub HasNoHistory : List ℕ → LogError → Type 0
+HasNoHistory file (Head e) = IsNoHead file e
+HasNoHistory file (Other t) = ⊥
+HasNoHistory file (Records e) = (secret : ℕ) × (top : TopologyValue) × BeginsWith secret top file × CantRecall top secret (behind secret top file) e
+HasNoHistory file Unspelled = (r : RecordedValue) × IsHistoryOf file r
+
+abbrev pub CantTell : Bool → List ℕ → LogError → Type 0
+CantTell false = CantLook
+CantTell true = HasNoHistory
 
 -- the fault that it is
 abbrev pub fault_by : LogError → Fault
 fault_by (Head head.Memory) = Memory
 fault_by (Records (open_error.Unrecovered (recovery.Disk disk.Memory))) = Memory
-fault_by (Records (open_error.Refused fault)) = fault
+fault_by (Records (open_error.Refused Memory)) = Memory
+fault_by (Records (open_error.Refused ClockSpent)) = ClockSpent
 fault_by Unspelled = Script
 fault_by _ = ReadFailed
 
 -- why the program says nothing of a file
-abbrev pub IsUntold : List ℕ → Fault → Type 0
-IsUntold file fault = (why : LogError) × CantLook file why × (fault ≡ fault_by why)
+abbrev pub IsUntold : Bool → List ℕ → Fault → Type 0
+IsUntold history file fault = (why : LogError) × CantTell history file why × (fault ≡ fault_by why)

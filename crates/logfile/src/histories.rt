@@ -4,7 +4,7 @@ ghost use Rattle.logical_time.specs.declared.fault.Fault.TheVariants as fault;
 ghost use Rattle.world.specs.World.{run_of};
 ghost use Rattle.workload.specs.Audited.{AreFirstHistories};
 ghost use Rattle.recorded.specs.Recording.{reads_in};
-ghost use Rattle.logfile.specs.Told.{IsHistoryOf, IsLogHistoryFor, CantLook};
+ghost use Rattle.logfile.specs.Told.{IsHistoryOf, IsLogHistoryFor, HasNoHistory};
 
 use crate::error::LogError;
 use crate::opening::behind;
@@ -33,7 +33,7 @@ fn record_world(alloc: Global, families: &Schema, world: World) -> Result<Record
 // What the log that a file holds came to. Refused as `history_of_log` is.
 fn record_log(alloc: Global, file: &[u8]) -> Result<Recorded, LogError>
     ensures history { IfOk result (IsHistoryOf file.now) }
-    ensures refused { IfErr result (CantLook file.now) }
+    ensures refused { IfErr result (HasNoHistory file.now) }
 {
     let head = read_head(alloc, file)?;
     let bytes = behind(file, &head);
@@ -49,7 +49,7 @@ fn record_log(alloc: Global, file: &[u8]) -> Result<Recorded, LogError>
 /// doesn't begin as a log, where its records tell no world, where no text can hold a name or a value, and with `Memory`.
 pub fn history_of_log(alloc: Global, file: &[u8]) -> Result<String, LogError>
     ensures text { IfOk result (λ text. IsLogHistoryFor file.now (string_bytes text)) }
-    ensures refused { IfErr result (CantLook file.now) }
+    ensures refused { IfErr result (HasNoHistory file.now) }
 {
     let recorded = record_log(alloc, file)?;
     match recorded_text(alloc, &recorded) {

@@ -29,7 +29,7 @@ pub fn reopen<P: Progress>(
     opened: Opened,
     watch: &mut P,
 ) -> Result<Durable<FileDisk>, LogError>
-    ensures back { IfOk result (ComesBack ⟦<FileDisk as disk::Disk>⟧.seen ⟦<FileDisk as disk::Disk>⟧.may_leave ⟦<FileDisk as disk::Disk>⟧.failed opened.bytes.items topology.now) }
+    ensures back { IfOk result (ComesBack ⟦<FileDisk as disk::Disk>⟧.seen ⟦<FileDisk as disk::Disk>⟧.may_leave ⟦<FileDisk as disk::Disk>⟧.failed ⟦<FileDisk as disk::Disk>⟧.left_since opened.bytes.items topology.now) }
     ensures refused { IfErr result (CantReopen topology.now opened.bytes.items) }
 {
     let head = read_head(alloc, opened.bytes())?;

@@ -1,12 +1,12 @@
 //! A log is looked at, over any reader and writers.
 ghost use Rattle.std.specs.Prelude.{◌≡◌, ◌⊎◌, [], IsSome, IfOk, IfErr, string_bytes};
 ghost use Rattle.workload.specs.Performing.{Prints, Ends, TellsUnread};
-ghost use Rattle.logfile.specs.Told.{IsLookFor, IsLogTextFor, CantLook, IsUntold};
+ghost use Rattle.logfile.specs.Told.{IsLookFor, IsLogTextFor, CantLook, CantTell, IsUntold};
 
 use crate::error::LogError;
 use crate::histories::history_of_log;
 use crate::reasons::{fault_of, log_reason};
-use crate::summary::{summary_of, summary_text};
+use crate::summary::{summary_of, text_of_summary};
 use logical_time::Fault;
 use program::{Buffered, Input, Output, tell};
 use recorded::line;
@@ -19,14 +19,14 @@ fn look(alloc: Global, file: &[u8]) -> Result<String, LogError>
     ensures refused { IfErr result (CantLook file.now) }
 {
     let summary = summary_of(alloc, file)?;
-    let text = summary_text(alloc, &summary)?;
+    let text = text_of_summary(alloc, &summary)?;
     Ok(text)
 }
 
 // What is told of the log that a file holds: what is in it, or its history.
 fn text_of(alloc: Global, history: bool, file: &[u8]) -> Result<String, LogError>
     ensures text { IfOk result (λ text. IsLogTextFor history file.now (string_bytes text)) }
-    ensures refused { IfErr result (CantLook file.now) }
+    ensures refused { IfErr result (CantTell history file.now) }
 {
     if history {
         history_of_log(alloc, file)
@@ -45,8 +45,8 @@ fn explain(alloc: Global, why: &LogError) -> Option<String> {
 
 /// Looks at the log that a file holds, and changes nothing: reads all that the input has left, and writes what is in it; or, where
 /// that is asked for, its history, as `eiger audit` reads it. Gives the status of the program: 0 where all is written and the writer
-/// holds nothing back, or 1 after a fault was told: `ReadFailed` where the input failed, is no log or is damaged, whatever refuses
-/// what its records tell, `Script` where no text can hold its history, `Memory`, or `WriteFailed` where the output failed. Only after
+/// holds nothing back, or 1 after a fault was told: `ReadFailed` where the input failed, is no log or is damaged, or its records lead to no
+/// world, `Script` where no text can hold its history, `Memory`, or `WriteFailed` where the output failed. Only after
 /// the last may something be written, a beginning of the text.
 pub fn perform_log<R: Read, W: Buffered, E: Buffered>(
     alloc: Global,
@@ -56,10 +56,10 @@ pub fn perform_log<R: Read, W: Buffered, E: Buffered>(
     errors: &mut Output<E>,
 ) -> u8
     ensures status { (result ≡ 0) ⊎ (result ≡ 1) }
-    ensures printed { result ≡ 0 → Prints (IsLogTextFor history) IsUntold R.remaining W.contents E.contents input.old output.old output.new errors.old errors.new }
+    ensures printed { result ≡ 0 → Prints (IsLogTextFor history) (IsUntold history) R.remaining W.contents E.contents input.old output.old output.new errors.old errors.new }
     ensures passed_on { result ≡ 0 → W.held output.new.writer ≡ [] }
     ensures unread { IsSome input.old.failure → TellsUnread E.contents result errors.old errors.new }
-    ensures ended { result ≡ 1 → Ends (IsLogTextFor history) IsUntold R.remaining W.contents E.contents input.old input.new output.old output.new errors.old errors.new }
+    ensures ended { result ≡ 1 → Ends (IsLogTextFor history) (IsUntold history) R.remaining W.contents E.contents input.old input.new output.old output.new errors.old errors.new }
 {
     let bytes = match input.read_all(alloc) {
         Ok(bytes) => bytes,

@@ -1,6 +1,6 @@
 //! Why a log tells nothing, as people read it.
-ghost use Rattle.std.specs.Prelude.{◌≡◌};
-ghost use Rattle.logfile.specs.Told.{fault_by};
+ghost use Rattle.std.specs.Prelude.{◌≡◌, ◌++◌, List, ℕ, IfOk, codes, decimal, string_bytes};
+ghost use Rattle.logfile.specs.Told.{store_text, fault_by};
 
 use crate::error::{LogError, Unopened};
 use disk::DiskError;
@@ -26,17 +26,33 @@ fn families_of(alloc: Global, topology: &Topology) -> Result<String, AllocError>
     Ok(names)
 }
 
-/// Which topology it is.
-pub(crate) fn shown(alloc: Global, topology: &Topology) -> Result<String, AllocError> {
-    let (dcs, shards) = (topology.dcs(), topology.shards().get());
-    let (sessions, families) = (topology.homes().len(), families_of(alloc, topology)?);
+// So many data centres, shards of each and sessions, and these families.
+fn shown_by(
+    alloc: Global,
+    dcs: u16,
+    shards: u16,
+    sessions: usize,
+    families: &str,
+) -> Result<String, AllocError>
+    ensures { IfOk result (λ text. string_bytes text ≡ decimal dcs ++ codes " data centres of " ++ decimal shards ++ codes " shards with " ++ decimal sessions ++ codes " sessions, families " ++ families.now) }
+{
     format!(in alloc;
         "{dcs} data centres of {shards} shards with {sessions} sessions, families {families}"
     )
 }
 
-/// The fault that it is: `Memory`, whatever refuses what the records tell, `Script` where no text can hold it, and `ReadFailed` for
-/// all else.
+/// Which topology it is.
+pub(crate) fn shown(alloc: Global, topology: &Topology) -> Result<String, AllocError>
+    ensures { IfOk result (λ text. (names : List ℕ) × (string_bytes text ≡ store_text topology.now names)) }
+{
+    let families = families_of(alloc, topology)?;
+    let (dcs, shards) = (topology.dcs(), topology.shards().get());
+    let sessions = topology.homes().len();
+    shown_by(alloc, dcs, shards, sessions, families.as_str())
+}
+
+/// The fault that it is: `Memory` and `ClockSpent` where what the records tell is refused so, `Script` where no text can hold it, and
+/// `ReadFailed` for all else.
 pub(crate) fn fault_of(why: &LogError) -> Fault
     ensures { result ≡ fault_by why.now }
 {
@@ -45,7 +61,8 @@ pub(crate) fn fault_of(why: &LogError) -> Fault
         | LogError::Records(OpenError::Unrecovered(RecoveryError::Disk(DiskError::Memory))) => {
             Fault::Memory
         }
-        LogError::Records(OpenError::Refused(fault)) => *fault,
+        LogError::Records(OpenError::Refused(Fault::Memory)) => Fault::Memory,
+        LogError::Records(OpenError::Refused(Fault::ClockSpent)) => Fault::ClockSpent,
         LogError::Unspelled => Fault::Script,
         _ => Fault::ReadFailed,
     }

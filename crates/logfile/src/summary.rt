@@ -1,6 +1,6 @@
 //! What is in a log.
-ghost use Rattle.std.specs.Prelude.{◌≡◌, ◌++◌, List, ℕ, count_by, IfOk, IfErr, string_bytes};
-ghost use Rattle.logfile.specs.Told.{is_request, counts_text, IsSummaryOf, CantLook};
+ghost use Rattle.std.specs.Prelude.{◌≡◌, ◌++◌, List, ℕ, count_by, codes, IfOk, IfErr, string_bytes};
+ghost use Rattle.logfile.specs.Told.{is_request, counts_text, summary_text, IsSummaryOf, CantLook};
 
 use crate::error::LogError;
 use crate::opening::behind;
@@ -75,12 +75,19 @@ fn counts_of(alloc: Global, summary: &Summary) -> Result<String, AllocError>
     )
 }
 
+// The line before them, of a store that is shown so.
+fn store_line(alloc: Global, store: &str) -> Result<String, AllocError>
+    ensures { IfOk result (λ text. string_bytes text ≡ codes "the log of " ++ store.now ++ codes "\n") }
+{
+    format!(in alloc; "the log of {store}\n")
+}
+
 /// The lines that tell it.
-pub(crate) fn summary_text(alloc: Global, summary: &Summary) -> Result<String, AllocError>
-    ensures { IfOk result (λ text. (store : List ℕ) × (string_bytes text ≡ store ++ counts_text summary.now)) }
+pub(crate) fn text_of_summary(alloc: Global, summary: &Summary) -> Result<String, AllocError>
+    ensures { IfOk result (λ text. (names : List ℕ) × (string_bytes text ≡ summary_text summary.now names)) }
 {
     let store = shown(alloc, &summary.topology)?;
-    let mut text = format!(in alloc; "the log of {store}\n")?;
+    let mut text = store_line(alloc, store.as_str())?;
     text.push_str(counts_of(alloc, summary)?.as_str())?;
     Ok(text)
 }

@@ -214,6 +214,13 @@ impl<W: Housed, L: ReadyLine + Drop, D: Doorway<L> + Drop> Server<W, L, D> {
         self.doors.ended()
     }
 
+    /// The world.
+    pub fn world(&self) -> &W
+        ensures { result.now ≡ self.now.world }
+    {
+        &self.world
+    }
+
     /// How many connections were given a place.
     pub fn accepted(&self) -> u64
         ensures { result ≡ self.now.doors.hall.accepted }

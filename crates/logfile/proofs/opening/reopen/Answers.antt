@@ -11,6 +11,6 @@ pub returns-in-Ok-clause-back : goal.returns-in-Ok-clause-back
 returns-in-Ok-clause-back g c =
     let head = c.in_ok-head.head in
     let e = c.in-Ok.ensures in
-    back _ _ _ c.args.opened.bytes.items c.bytes.result.now c.deref.result.now c.args.topology.now head.topology head.secret head.length c.in-Ok.world
+    back _ _ _ _ _ c.args.opened.bytes.items c.bytes.result.now c.deref.result.now c.args.topology.now head.topology head.secret head.length c.in-Ok.world c.in_ok-disk.disk
     c.bytes.ensures c.in_ok-head.ensures.begins c.in_ok-head.ensures.length (c.if-not-is_of.ensures.yes refl) (c.deref.ensures.value ∙ c.in_ok-disk.ensures.bytes)
-    e.secret e.topology e.led e.quiet e.settled e.comes_back
+    e.secret e.topology e.led e.undamaged e.quiet e.settled (e.works c.in_ok-disk.ensures.works) e.comes_back c.in_ok-disk.ensures.untouched e.any_moment
