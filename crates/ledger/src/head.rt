@@ -1,6 +1,9 @@
 //! The head of a log: which store it is of.
-ghost use Rattle.std.specs.Prelude.{◌≡◌, ◌⊎◌, ◌++◌, true, false, drop, length, IfOk, IfErr, OnOk};
-ghost use Rattle.ledger.specs.Heads.{titled, head_of, topology_text, homes_text, families_text, IsNoHead};
+ghost use Rattle.std.specs.Prelude.{◌≡◌, ◌⊎◌, ◌++◌, ◌∷◌, [], ◌<◌, ℕ, true, false, List, All, Some, drop, length, IfOk, IfErr, OnOk};
+ghost use Rattle.byteorder.specs.Endian.{big_bytes};
+ghost use Rattle.messages.specs.Topology.{TopologyValue};
+ghost use Rattle.records.specs.Records.{spelling};
+ghost use Rattle.ledger.specs.Heads.{titled, head_of, topology_text, homes_text, families_text, IsStore, IsAsTold, IsNoHead};
 ghost use Rattle.ledger.specs.declared.head.HeadError.TheVariants as error;
 
 use bytes::BufMut;
@@ -137,12 +140,16 @@ pub fn write_head(alloc: Global, secret: u64, topology: &Topology) -> Result<Vec
 }
 
 // The number that these bytes spell, the highest first.
-fn number(high: u8, low: u8) -> u16 {
+fn number(high: u8, low: u8) -> u16
+    ensures { (n : ℕ) → n < 65536 → high ∷ low ∷ [] ≡ big_bytes 2 n → result ≡ n }
+{
     u16::from_be_bytes([high, low])
 }
 
 // The homes that bytes spell.
-fn homes_of(alloc: Global, bytes: &[u8]) -> Result<Vec<u16>, AllocError> {
+fn homes_of(alloc: Global, bytes: &[u8]) -> Result<Vec<u16>, AllocError>
+    ensures { IfOk result (λ read. (homes : List ℕ) → All (λ home. home < 65536) homes → bytes.now ≡ homes_text homes → read.items ≡ homes) }
+{
     let mut homes = Vec::with_capacity(alloc, bytes.len() / 2)?;
     let mut rest = bytes;
     while let [high, low, others @ ..] = rest {
@@ -153,7 +160,9 @@ fn homes_of(alloc: Global, bytes: &[u8]) -> Result<Vec<u16>, AllocError> {
 }
 
 // The families whose names bytes spell, as far as they do.
-fn families_of(alloc: Global, bytes: &[u8]) -> Result<Vec<Family>, AllocError> {
+fn families_of(alloc: Global, bytes: &[u8]) -> Result<Vec<Family>, AllocError>
+    ensures { IfOk result (λ read. (names : List (List ℕ)) → All (λ name. length name < 65536) names → bytes.now ≡ families_text names → read.items ≡ names) }
+{
     let mut families = Vec::new(alloc);
     let mut rest = bytes;
     while let [high, low, others @ ..] = rest {
@@ -166,7 +175,9 @@ fn families_of(alloc: Global, bytes: &[u8]) -> Result<Vec<Family>, AllocError> {
 }
 
 // The topology that a text tells, if it tells one.
-fn topology_of(alloc: Global, text: &[u8]) -> Result<Option<Topology>, AllocError> {
+fn topology_of(alloc: Global, text: &[u8]) -> Result<Option<Topology>, AllocError>
+    ensures { IfOk result (λ read. (top : TopologyValue) → IsStore top → text.now ≡ topology_text top → read ≡ Some top) }
+{
     let [
         dcs_high,
         dcs_low,
@@ -187,12 +198,16 @@ fn topology_of(alloc: Global, text: &[u8]) -> Result<Option<Topology>, AllocErro
     };
     let dcs = number(*dcs_high, *dcs_low);
     let shards = number(*shards_high, *shards_low);
-    Ok(Topology::of_server(dcs, shards, schema, homes).ok())
+    match Topology::of_server(dcs, shards, schema, homes) {
+        Ok(topology) => Ok(Some(topology)),
+        Err(_) => Ok(None),
+    }
 }
 
 // The topology that a head with this secret tells, as far as it is understood.
 fn told_by(alloc: Global, secret: u64, rest: &[u8]) -> Result<Topology, HeadError>
-    ensures { IfErr result (λ e. (e ≡ error.Damaged) ⊎ (e ≡ error.Memory)) }
+    ensures refused { IfErr result (λ e. (e ≡ error.Damaged) ⊎ (e ≡ error.Memory)) }
+    ensures whole { (top : TopologyValue) (more : List ℕ) → IsStore top → rest.now ≡ spelling secret 0 (record { first = true; body = topology_text top }) ++ more → IsAsTold top result }
 {
     let Some((_, text)) = front(secret, 0, rest) else {
         return Err(HeadError::Damaged);
@@ -205,7 +220,8 @@ fn told_by(alloc: Global, secret: u64, rest: &[u8]) -> Result<Topology, HeadErro
 
 // Whether bytes begin with these.
 fn begin_with(bytes: &[u8], head: &[u8]) -> bool
-    ensures { result ≡ true → bytes.now ≡ head.now ++ drop (length head.now) bytes.now }
+    ensures yes { result ≡ true → bytes.now ≡ head.now ++ drop (length head.now) bytes.now }
+    ensures no { result ≡ false → (rest : List ℕ) → bytes.now ≡ head.now ++ rest → ⊥ }
 {
     bytes.len() >= head.len() && &bytes[..head.len()] == head
 }

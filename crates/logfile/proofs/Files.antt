@@ -10,7 +10,8 @@ use Rattle.world.specs.World.{WorldValue, run_of}
 use Rattle.records.specs.Records.{spelled, recovered, IsUndamaged}
 use Rattle.disk.specs.Disk.{LeavesOnly}
 use Rattle.keeper.specs.Log.{IsAsBefore}
-use Rattle.ledger.specs.Heads.{head_of}
+use Rattle.ledger.specs.Heads.{head_of, IsNoHead}
+use Rattle.ledger.specs.declared.head.HeadError.{HeadError}
 use Rattle.ledger.specs.declared.entry.Entry.{Entry}
 use Rattle.durable.specs.Playing.{IsLed, Outlives}
 use Rattle.durable.specs.Logged.{Tell}
@@ -22,9 +23,9 @@ use Rattle.workload.specs.Audited.{AreFirstHistories}
 use Rattle.recorded.specs.Recorded.{RecordedValue}
 use Rattle.recorded.specs.Recording.{reads_in}
 use Rattle.logfile.specs.declared.error.LogError.{LogError}
-use Rattle.logfile.specs.declared.error.LogError.TheVariants.{Records}
+use Rattle.logfile.specs.declared.error.LogError.TheVariants.{Head, Records}
 use Rattle.logfile.specs.Logs.{BeginsWith, behind, IsLogOf, Keeps, ComesBack}
-use Rattle.logfile.specs.Told.{is_request, IsSummaryOf, IsHistoryOf, CantLook, HasNoHistory}
+use Rattle.logfile.specs.Told.{is_request, IsSummaryOf, IsHistoryOf, CantReopen, CantLook, HasNoHistory}
 
 -- what is read of a file, which begins so
 pub begins : (file whole : List ℕ) (top : TopologyValue) (secret n : ℕ) → whole ≡ file → whole ≡ head_of secret top ++ drop n whole → BeginsWith secret top file
@@ -80,6 +81,11 @@ module _ {D : Type 0} (seen : D → Option (List ℕ)) (may_leave : D → List �
       here_again file rest top secret n d disk
       (subst (λ (t : TopologyValue). file ≡ head_of secret t ++ drop n file) topped (subst (λ (l : List ℕ). l ≡ head_of secret told ++ drop n l) same is))
       (subst (λ (t : TopologyValue). n ≡ length (head_of secret t)) topped at)
+
+-- nothing begins as a log there
+pub headless : {T : Type 0} (top : TopologyValue) (whole file : List ℕ) (e : HeadError) (result : Result T LogError) → result ≡ Err (Head e) → whole ≡ file → IsNoHead whole e → IfErr result (CantReopen top file)
+headless {T = T} top whole file e result same is why =
+    subst (λ (r : Result T LogError). IfErr r (CantReopen top file)) (sym same) (subst (λ (l : List ℕ). IsNoHead l e) is why)
 
 -- ## A file that is looked at
 

@@ -1,6 +1,12 @@
-use Rattle.std.proofs.Common.{◌∙◌, refl}
-use Rattle.logfile.proofs.Files.{begins, back}
+use Rattle.std.proofs.Common.{◌≡◌, ◌∙◌, Err, refl, rules}
+use Rattle.logfile.specs.declared.error.LogError.TheVariants.{Head}
+use Rattle.logfile.proofs.Files.{begins, back, headless}
 use Rattle.logfile.proofs.opening.reopen.Goals as goal
+
+pub returns-in_err-head-clause-refused : goal.returns-in_err-head-clause-refused
+returns-in_err-head-clause-refused g c =
+    let same : c.from_residual.result ≡ Err (Head c.in_err-head.field-0.0) = search rules in
+    headless c.args.topology.now c.bytes.result.now c.args.opened.bytes.items c.in_err-head.field-0.0 c.from_residual.result same c.bytes.ensures c.in_err-head.ensures.refused
 
 pub returns-then-not-is_of-clause-refused : goal.returns-then-not-is_of-clause-refused
 returns-then-not-is_of-clause-refused g c =
