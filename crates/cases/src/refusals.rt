@@ -2,7 +2,7 @@
 use logical_time::Fault;
 use std::io;
 
-const REFUSALS: [Fault; 24] = [
+const REFUSALS: [Fault; 25] = [
     Fault::EmptyBatch,
     Fault::UnknownFamily,
     Fault::KeyLength,
@@ -19,6 +19,7 @@ const REFUSALS: [Fault; 24] = [
     Fault::StrangerEnd,
     Fault::AlreadyHome,
     Fault::UnknownHome,
+    Fault::Behind,
     Fault::Oversize,
     Fault::UnknownTag,
     Fault::BadCount,

@@ -1,7 +1,7 @@
 -- The numbers of the refusals, and when a call is refused.
 use Rattle.std.specs.Prelude.{◌≡◌, ℕ, Option, Some, None, Result, Ok, Err}
 use Rattle.logical_time.specs.declared.fault.Fault.{Fault}
-use Rattle.logical_time.specs.declared.fault.Fault.TheVariants.{EmptyBatch, UnknownFamily, KeyLength, NameLength, ValueLength, TooMany, RangeOrder, EmptyRead, Busy, Collected, ClockSpent, Memory, JournalFull, StrangerEnd, AlreadyHome, UnknownHome, Oversize, UnknownTag, BadCount, TrailingBytes, Truncated, Script, ReadFailed, WriteFailed}
+use Rattle.logical_time.specs.declared.fault.Fault.TheVariants.{EmptyBatch, UnknownFamily, KeyLength, NameLength, ValueLength, TooMany, RangeOrder, EmptyRead, Busy, Collected, ClockSpent, Memory, JournalFull, StrangerEnd, AlreadyHome, UnknownHome, Behind, Oversize, UnknownTag, BadCount, TrailingBytes, Truncated, Script, ReadFailed, WriteFailed}
 
 -- the number under which a refusal is documented
 abbrev pub number_of : Fault → ℕ
@@ -21,6 +21,7 @@ number_of JournalFull = 24
 number_of StrangerEnd = 25
 number_of AlreadyHome = 26
 number_of UnknownHome = 27
+number_of Behind = 28
 number_of Oversize = 30
 number_of UnknownTag = 31
 number_of BadCount = 32

@@ -57,6 +57,9 @@ pub enum Fault {
     /// A move to a data centre that isn't there.
     #[error("27 UnknownHome")]
     UnknownHome,
+    /// A batch while more waits for a data centre that is away than may wait.
+    #[error("28 Behind")]
+    Behind,
     /// A frame longer than a frame may be.
     #[error("30 Oversize")]
     Oversize,
@@ -107,6 +110,7 @@ impl Fault {
             Fault::StrangerEnd => 25,
             Fault::AlreadyHome => 26,
             Fault::UnknownHome => 27,
+            Fault::Behind => 28,
             Fault::Oversize => 30,
             Fault::UnknownTag => 31,
             Fault::BadCount => 32,

@@ -3,6 +3,7 @@ ghost use Rattle.std.specs.Prelude.{◌≡◌, ◌++◌, [], ◌∷◌, ◌<◌,
 ghost use Rattle.std.specs.Iterator.{YieldsFirst, item_count};
 ghost use Rattle.std.specs.Cmp.Lexicographic.{pointwise, nat_list_eq_equiv};
 ghost use Rattle.std.specs.Cmp.{partial_equiv_from_equiv};
+ghost use Rattle.messages.specs.CohortBits.{shards_in, bits_of};
 
 use logical_time::Shard;
 use std::marker::Model;
@@ -51,6 +52,23 @@ impl Cohorts {
         ensures { result ≡ (length self == 0) }
     {
         self.0 == 0
+    }
+
+    /// The byte in which they are told: bit `s` is set for the shard `s`.
+    #[tactic(auto, using(crate::specs::CohortLaws::bits_back))]
+    pub fn bits(self) -> u8
+        ensures value { result ≡ bits_of self }
+        ensures back { shards_in result ≡ self }
+    {
+        let Cohorts(bits) = self;
+        bits
+    }
+
+    /// The shards whose bits are set in a byte. Each byte tells one set of cohorts, and each set has one byte.
+    pub fn from_bits(byte: u8) -> Cohorts
+        ensures { result ≡ shards_in byte }
+    {
+        Cohorts(byte)
     }
 
     /// The shards, ascending.

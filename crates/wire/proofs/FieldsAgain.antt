@@ -41,11 +41,15 @@ list_again item_at spell fit one (x ∷ xs) rest fits =
     let regrouped : flat_map spell (x ∷ xs) ++ rest ≡ spell x ++ (flat_map spell xs ++ rest) = ap (λ (t : List ℕ). t ++ rest) (flat_map-cons spell x xs) ∙ append_assoc (spell x) (flat_map spell xs) rest in
     ap (list_at item_at (suc (length xs))) regrouped ∙ rw (one x (flat_map spell xs ++ rest) both.0, list_again item_at spell fit one xs rest both.1) refl
 
-pub counted_again : {A : Type 0} (item_at : List ℕ → Result (A × List ℕ) Fault) (spell : A → List ℕ) (fit : A → Bool) → ((x : A) → 1 ≤ length (spell x)) → AllAgain item_at spell fit → AllAgain (counted_at item_at) (counted spell) (is_counted fit spell)
+pub listed_again : {A : Type 0} (item_at : List ℕ → Result (A × List ℕ) Fault) (spell : A → List ℕ) (fit : A → Bool) → ((x : A) → 1 ≤ length (spell x)) → AllAgain item_at spell fit → (xs : List A) (rest : List ℕ) → ltb (length xs) (256 ^ 4) ≡ true → list_all fit xs ≡ true → counted_at item_at (counted spell xs ++ rest) ≡ Ok (xs, rest)
 unfolding counted_at
+listed_again item_at spell fit some one xs rest few each =
+    let after = flat_map spell xs ++ rest in
+    let enough : ltb (length after) (length xs) ≡ false = le-ltb _ _ (omega (arith, items_take spell some xs, length-append (flat_map spell xs) rest)) in
+    rw (append_assoc (big_bytes 4 (length xs)) (flat_map spell xs) rest, number_again 4 (length xs) after (ltb-true _ _ few), enough) (list_again item_at spell fit one xs rest each)
+
+pub counted_again : {A : Type 0} (item_at : List ℕ → Result (A × List ℕ) Fault) (spell : A → List ℕ) (fit : A → Bool) → ((x : A) → 1 ≤ length (spell x)) → AllAgain item_at spell fit → AllAgain (counted_at item_at) (counted spell) (is_counted fit spell)
 counted_again item_at spell fit some one xs rest fits =
     let both = and_parts (ltb (length xs) (256 ^ 4)) _ fits in
     let each = and_parts (list_all fit xs) _ both.1 in
-    let after = flat_map spell xs ++ rest in
-    let few : ltb (length after) (length xs) ≡ false = le-ltb _ _ (omega (arith, items_take spell some xs, length-append (flat_map spell xs) rest)) in
-    rw (append_assoc (big_bytes 4 (length xs)) (flat_map spell xs) rest, number_again 4 (length xs) after (ltb-true _ _ both.0), few) (list_again item_at spell fit one xs rest each.0)
+    listed_again item_at spell fit some one xs rest both.0 each.0

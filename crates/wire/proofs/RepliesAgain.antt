@@ -19,7 +19,7 @@ use Rattle.wire.proofs.FieldsAgain.{number_again, sized_again, counted_again}
 
 -- the refusal of a number
 fault_with : ℕ → Fault
-fault_with n = if n == 1 then faults.EmptyBatch else (if n == 2 then faults.UnknownFamily else (if n == 3 then faults.KeyLength else (if n == 4 then faults.NameLength else (if n == 5 then faults.ValueLength else (if n == 6 then faults.TooMany else (if n == 7 then faults.RangeOrder else (if n == 8 then faults.EmptyRead else ((if n == 20 then faults.Busy else (if n == 21 then faults.Collected else (if n == 22 then faults.ClockSpent else (if n == 23 then faults.Memory else (if n == 24 then faults.JournalFull else (if n == 25 then faults.StrangerEnd else (if n == 26 then faults.AlreadyHome else (if n == 27 then faults.UnknownHome else (if n == 30 then faults.Oversize else (if n == 31 then faults.UnknownTag else (if n == 32 then faults.BadCount else (if n == 33 then faults.TrailingBytes else (if n == 34 then faults.Truncated else (if n == 35 then faults.Script else (if n == 36 then faults.ReadFailed else (faults.WriteFailed))))))))))))))))))))))))
+fault_with n = if n == 1 then faults.EmptyBatch else (if n == 2 then faults.UnknownFamily else (if n == 3 then faults.KeyLength else (if n == 4 then faults.NameLength else (if n == 5 then faults.ValueLength else (if n == 6 then faults.TooMany else (if n == 7 then faults.RangeOrder else (if n == 8 then faults.EmptyRead else ((if n == 20 then faults.Busy else (if n == 21 then faults.Collected else (if n == 22 then faults.ClockSpent else (if n == 23 then faults.Memory else (if n == 24 then faults.JournalFull else (if n == 25 then faults.StrangerEnd else (if n == 26 then faults.AlreadyHome else (if n == 27 then faults.UnknownHome else (if n == 28 then faults.Behind else (if n == 30 then faults.Oversize else (if n == 31 then faults.UnknownTag else (if n == 32 then faults.BadCount else (if n == 33 then faults.TrailingBytes else (if n == 34 then faults.Truncated else (if n == 35 then faults.Script else (if n == 36 then faults.ReadFailed else (faults.WriteFailed)))))))))))))))))))))))))
 
 with_number : (f : Fault) → fault_with (number_of f) ≡ f
 unfolding fault_with
@@ -39,6 +39,7 @@ with_number faults.JournalFull = refl
 with_number faults.StrangerEnd = refl
 with_number faults.AlreadyHome = refl
 with_number faults.UnknownHome = refl
+with_number faults.Behind = refl
 with_number faults.Oversize = refl
 with_number faults.UnknownTag = refl
 with_number faults.BadCount = refl
@@ -65,6 +66,7 @@ number_fits faults.JournalFull = omega arith
 number_fits faults.StrangerEnd = omega arith
 number_fits faults.AlreadyHome = omega arith
 number_fits faults.UnknownHome = omega arith
+number_fits faults.Behind = omega arith
 number_fits faults.Oversize = omega arith
 number_fits faults.UnknownTag = omega arith
 number_fits faults.BadCount = omega arith

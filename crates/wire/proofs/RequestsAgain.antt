@@ -45,20 +45,20 @@ mutation_again (DeleteColumn name) rest fits = deletion_again name rest fits
 mutation_again DeleteRow rest fits = refl
 mutation_again (DeleteRange start finish) rest fits = let p = and_parts (is_sized 2 start) (is_sized 2 finish) fits in range_deletion_again start finish rest p.0 p.1
 
-change_again : AllAgain change_at change fits_change
+pub change_again : AllAgain change_at change fits_change
 unfolding change_at
 change_again c rest fits =
     let p = and_parts (is_sized 1 c.row.family) (is_sized 2 c.row.key && fits_mutation c.mutation) fits in
     let q = and_parts (is_sized 2 c.row.key) (fits_mutation c.mutation) p.1 in
     rw (three (sized 1 c.row.family) (sized 2 c.row.key) (mutation c.mutation) rest, sized_again 1 c.row.family (sized 2 c.row.key ++ (mutation c.mutation ++ rest)) p.0, sized_again 2 c.row.key (mutation c.mutation ++ rest) q.0, mutation_again c.mutation rest q.1) refl
 
-change_takes_some : (c : Change) → 1 ≤ length (change c)
+pub change_takes_some : (c : Change) → 1 ≤ length (change c)
 change_takes_some c = omega (arith, length-append (sized 1 c.row.family) (sized 2 c.row.key ++ mutation c.mutation), length-append (big_bytes 1 (length c.row.family)) c.row.family)
 
-text_takes_some : (t : List ℕ) → 1 ≤ length (sized 2 t)
+pub text_takes_some : (t : List ℕ) → 1 ≤ length (sized 2 t)
 text_takes_some t = omega (arith, length-append (big_bytes 2 (length t)) t)
 
-texts_again : AllAgain (counted_at (sized_at 2)) (counted (sized 2)) (is_counted (is_sized 2) (sized 2))
+pub texts_again : AllAgain (counted_at (sized_at 2)) (counted (sized 2)) (is_counted (is_sized 2) (sized 2))
 texts_again = counted_again (sized_at 2) (sized 2) (is_sized 2) text_takes_some (sized_again 2)
 
 flag_again : (b : Bool) (rest : List ℕ) → flag_at (flag b ∷ rest) ≡ Ok (b, rest)
@@ -77,7 +77,7 @@ range_again start finish reversed count rest a b lt =
     let tail = flag reversed ∷ (big_bytes 4 count ++ rest) in
     rw (three (sized 2 start) (sized 2 finish) (flag reversed ∷ big_bytes 4 count) rest, sized_again 2 start (sized 2 finish ++ tail) a, sized_again 2 finish tail b, flag_again reversed (big_bytes 4 count ++ rest), number_again 4 count rest lt) refl
 
-predicate_again : AllAgain predicate_at predicate fits_predicate
+pub predicate_again : AllAgain predicate_at predicate fits_predicate
 unfolding predicate_at
 predicate_again (Names names) rest fits = names_again names rest fits
 predicate_again (Range start finish reversed count) rest fits =

@@ -7,7 +7,7 @@ use std::alloc::{AllocError, AllocFailed};
 
 /// Why a frame isn't read or written.
 #[derive(Clone, Copy)]
-pub(crate) enum FrameError {
+pub enum FrameError {
     /// Memory was refused.
     Memory,
     /// What is wrong with the frame.
@@ -34,7 +34,7 @@ impl FrameError {
     ghost use Rattle.wire.specs.Answers.{fault_of};
 
     /// The refusal that it is.
-    pub(crate) fn fault(self) -> Fault
+    pub fn fault(self) -> Fault
         ensures { result ≡ fault_of self }
     {
         match self {

@@ -11,7 +11,7 @@ use logical_time::Fault;
 use std::alloc::Global;
 
 /// A number of four bytes, the highest first.
-pub(crate) fn number32(bytes: &[u8]) -> Result<(u32, &[u8]), FrameError>
+pub fn number32(bytes: &[u8]) -> Result<(u32, &[u8]), FrameError>
     ensures { Gives (λ x. (x.0, x.1.now)) result (number_at 4 bytes.now) }
 {
     if bytes.len() < 4 {
@@ -20,8 +20,8 @@ pub(crate) fn number32(bytes: &[u8]) -> Result<(u32, &[u8]), FrameError>
     Ok((BigEndian::read_u32(bytes), &bytes[4..]))
 }
 
-// A number of so many bytes, the highest first.
-fn number(width: usize, bytes: &[u8]) -> Result<(u64, &[u8]), FrameError>
+/// A number of so many bytes, the highest first.
+pub fn number(width: usize, bytes: &[u8]) -> Result<(u64, &[u8]), FrameError>
     requires low { 1 ≤ width }
     requires high { width ≤ 8 }
     ensures { Gives (λ x. (x.0, x.1.now)) result (number_at width bytes.now) }
@@ -54,7 +54,7 @@ fn sized(width: usize, bytes: &[u8]) -> Result<(&[u8], &[u8]), FrameError>
 }
 
 /// What is read from a body.
-pub(crate) trait Field: Drop + Sized {
+pub trait Field: Drop + Sized {
     ghost read_at: { List ℕ → Result (Self × List ℕ) Fault };
 
     fn read(alloc: Global, bytes: &[u8]) -> Result<(Self, &[u8]), FrameError>
@@ -97,8 +97,8 @@ impl Field for Value {
     }
 }
 
-// The number of a list's items, of which each takes a byte at least.
-fn count(bytes: &[u8]) -> Result<(u32, &[u8]), FrameError>
+/// The number of a list's items, of which each takes a byte at least.
+pub fn count(bytes: &[u8]) -> Result<(u32, &[u8]), FrameError>
     ensures { Gives (λ x. (x.0, x.1.now)) result (count_at bytes.now) }
 {
     let (count, rest) = number32(bytes)?;
@@ -124,7 +124,7 @@ fn list<T: Field>(alloc: Global, count: u32, bytes: &[u8]) -> Result<(Vec<T>, &[
 
 /// A list behind the number of its items.
 #[tactic(auto, unfolding(crate::specs::Reading::counted_at))]
-pub(crate) fn counted<T: Field>(alloc: Global, bytes: &[u8]) -> Result<(Vec<T>, &[u8]), FrameError>
+pub fn counted<T: Field>(alloc: Global, bytes: &[u8]) -> Result<(Vec<T>, &[u8]), FrameError>
     ensures { Gives (λ x. (x.0.items, x.1.now)) result (counted_at T.read_at bytes.now) }
 {
     let (count, rest) = count(bytes)?;

@@ -4,13 +4,13 @@
 //! fault from the left, and `Frames` what stands first in a stream. Nothing here knows of sockets or sessions.
 #![tactic(auto)]
 
-mod error;
-mod fields;
+pub mod error;
+pub mod fields;
 mod front;
 mod law;
 mod reader;
-mod reading;
-mod writing;
+pub mod reading;
+pub mod writing;
 
 pub use law::{
     faults_of_frames, moves_are_spelled, no_spelling_begins_another, streams_are_read_in_one_way,

@@ -103,8 +103,9 @@ fn range(alloc: Global, bytes: &[u8]) -> Result<(Predicate, &[u8]), FrameError>
     ))
 }
 
+/// Which columns are asked for.
 #[tactic(auto, unfolding(crate::specs::Reading::predicate_at))]
-fn predicate(alloc: Global, bytes: &[u8]) -> Result<(Predicate, &[u8]), FrameError>
+pub fn predicate(alloc: Global, bytes: &[u8]) -> Result<(Predicate, &[u8]), FrameError>
     ensures { Gives (λ x. (x.0, x.1.now)) result (predicate_at bytes.now) }
 {
     match bytes {

@@ -17,8 +17,8 @@ use messages::{Op, Outcome};
 use slice::{AnsweredRow, Column, Predicate, Read};
 use std::alloc::Global;
 
-// Bytes behind their number, which takes one byte.
-fn put_short(out: &mut Vec<u8>, bytes: &[u8]) -> Result<(), FrameError>
+/// Bytes behind their number, which takes one byte.
+pub fn put_short(out: &mut Vec<u8>, bytes: &[u8]) -> Result<(), FrameError>
     ensures { Puts (fields.is_sized 1 bytes.now) (fields.sized 1 bytes.now) result out.old.items out.new.items }
 {
     if bytes.len() >= 256 {
@@ -29,8 +29,8 @@ fn put_short(out: &mut Vec<u8>, bytes: &[u8]) -> Result<(), FrameError>
     Ok(())
 }
 
-// Bytes behind their number, which takes two bytes.
-fn put_text(out: &mut Vec<u8>, bytes: &[u8]) -> Result<(), FrameError>
+/// Bytes behind their number, which takes two bytes.
+pub fn put_text(out: &mut Vec<u8>, bytes: &[u8]) -> Result<(), FrameError>
     ensures { Puts (fields.is_sized 2 bytes.now) (fields.sized 2 bytes.now) result out.old.items out.new.items }
 {
     if bytes.len() >= 65_536 {
@@ -63,8 +63,8 @@ fn put_home(out: &mut Vec<u8>, dc: u16) -> Result<(), FrameError>
     Ok(out.put_u8(dc as u8)?)
 }
 
-// What stands in lists.
-trait Item: Sized {
+/// What stands in lists.
+pub trait Item: Sized {
     ghost bytes: { Self → List ℕ };
 
     ghost fits: { Self → Bool };
@@ -73,8 +73,8 @@ trait Item: Sized {
         ensures { Puts (fits self.now) (bytes self.now) result out.old.items out.new.items };
 }
 
-// Items, one after the other. Stops as soon as no body can hold them.
-fn put_items<T: Item>(out: &mut Vec<u8>, items: &[T]) -> Result<(), FrameError>
+/// Items, one after the other. Stops as soon as no body can hold them.
+pub fn put_items<T: Item>(out: &mut Vec<u8>, items: &[T]) -> Result<(), FrameError>
     ensures { Puts (list_all T.fits items.now && nat_le (length (flat_map T.bytes items.now)) fields.longest) (flat_map T.bytes items.now) result out.old.items out.new.items }
 {
     let start = out.len();
@@ -87,8 +87,8 @@ fn put_items<T: Item>(out: &mut Vec<u8>, items: &[T]) -> Result<(), FrameError>
     Ok(())
 }
 
-// A list behind the number of its items.
-fn put_counted<T: Item>(out: &mut Vec<u8>, items: &[T]) -> Result<(), FrameError>
+/// A list behind the number of its items.
+pub fn put_counted<T: Item>(out: &mut Vec<u8>, items: &[T]) -> Result<(), FrameError>
     ensures { Puts (fields.is_counted T.fits T.bytes items.now) (fields.counted T.bytes items.now) result out.old.items out.new.items }
 {
     if items.len() >= 4_294_967_296 {
@@ -169,7 +169,8 @@ fn put_range(
     Ok(())
 }
 
-fn put_predicate(out: &mut Vec<u8>, predicate: &Predicate) -> Result<(), FrameError>
+/// Which columns are asked for.
+pub fn put_predicate(out: &mut Vec<u8>, predicate: &Predicate) -> Result<(), FrameError>
     ensures { Puts (requests.fits_predicate predicate.now) (requests.predicate predicate.now) result out.old.items out.new.items }
 {
     match predicate {
