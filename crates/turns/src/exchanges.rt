@@ -1,7 +1,8 @@
-//! Exchanges: worked frames, lines in memory and connections, with what is read of them, answered and left. An empty file leaves
-//! its part out.
+//! Exchanges: worked frames and parcels, lines in memory and connections, with what is read of them, answered and left.
+//! An empty file leaves its part out.
 mod connections;
 mod crowds;
+mod envelopes;
 mod frames;
 mod judged;
 mod lines;
@@ -30,9 +31,10 @@ fn tell_clients<R: Threads>(rt: &HostRuntime, threads: &R) -> Result<(), Fault> 
     connections::tell(rt, told?.as_str())
 }
 
-/// Tells of frames, lines and connections.
+/// Tells of frames, parcels, lines and connections.
 pub(crate) fn tell<R: Threads + Sync>(rt: &HostRuntime, threads: &R) -> Result<(), Fault> {
     frames::tell(rt)?;
+    envelopes::tell(rt)?;
     lines::tell(rt)?;
     tell_clients(rt, threads)?;
     crowds::tell(rt, threads)?;

@@ -1,0 +1,4 @@
+pub mod Spelling
+pub mod Kinds
+pub mod Reading
+pub mod Worked
