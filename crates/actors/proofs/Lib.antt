@@ -14,3 +14,4 @@ pub mod Built
 pub mod Clocks
 pub mod Showing
 pub mod Turning
+pub mod Passing

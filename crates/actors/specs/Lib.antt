@@ -12,3 +12,4 @@ pub mod Draining
 pub mod Opening
 pub mod Building
 pub mod Reports
+pub mod Members

@@ -96,7 +96,7 @@ const END: u64 = 1 << 48;
 
 /// The clock of an actor after an event, by its clock before it, and 2^48 where that is above.
 #[tactic(auto, using(crate::proofs::Clocks::clamped))]
-fn clock_with(clock: u64, event: &ActorEvent) -> u64
+pub(crate) fn clock_with(clock: u64, event: &ActorEvent) -> u64
     ensures value { (c : ℕ) → clock ≡ min c (2 ^ 48) → result ≡ min (shown.clock_with c event.now) (2 ^ 48) }
     ensures limit { result ≤ 2 ^ 48 }
 {
@@ -108,7 +108,7 @@ fn clock_with(clock: u64, event: &ActorEvent) -> u64
 }
 
 /// Whether each of these envelopes carries this clock.
-fn are_at(envelopes: &[Envelope], clock: u64) -> bool
+pub(crate) fn are_at(envelopes: &[Envelope], clock: u64) -> bool
     ensures all { result ≡ list_all (λ (e : Envelope). e.time == clock) envelopes.now }
     ensures below { (e : Envelope) → slice_get envelopes.now 0 ≡ Some e → e.time < 2 ^ 48 }
 {
@@ -124,7 +124,7 @@ fn are_at(envelopes: &[Envelope], clock: u64) -> bool
 }
 
 /// Whether both hold.
-fn both(a: bool, b: bool) -> bool
+pub(crate) fn both(a: bool, b: bool) -> bool
     ensures { result ≡ (a && b) }
 {
     a && b

@@ -1,0 +1,4 @@
+pub mod Alone
+pub mod Fits
+pub mod Senders
+pub mod Stories

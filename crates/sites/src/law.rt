@@ -1,0 +1,58 @@
+//! Laws of sites whose stories meet.
+ghost use Rattle.std.specs.Prelude.{◌≡◌, ◌<◌, ℕ, true, List, Some, map, Contains, IsPermutation};
+ghost use Rattle.column_family.specs.History.{History};
+ghost use Rattle.slice.specs.declared.read.Read.{Read};
+ghost use Rattle.slice.specs.declared.read.AnsweredRow.{AnsweredRow};
+ghost use Rattle.table.specs.Meaning.{meaning};
+ghost use Rattle.messages.specs.declared.op.Op.TheVariants as op;
+ghost use Rattle.messages.specs.declared.outcome.Outcome.TheVariants as outcome;
+ghost use Rattle.messages.specs.Topology.{TopologyValue, is_topology, is_session, node_count};
+ghost use Rattle.messages.specs.Actors.{outcomes_by};
+ghost use Rattle.world.specs.Journals.{DoFit, IsThreadedRun};
+ghost use Rattle.world.specs.Threads.{op_numbered, history_by, home_by};
+ghost use Rattle.threaded.specs.Machines.{as_finished};
+ghost use Rattle.messages.specs.declared.event.ActorEvent.{ActorEvent};
+ghost use Rattle.world.specs.declared.run_event.RunEvent.{RunEvent};
+ghost use Rattle.world.specs.Run.{run};
+ghost use Rattle.world.specs.Journals.{IsRunOf, ended_at};
+ghost use Rattle.site.specs.Story.{Story, is_here, journal, outcomes};
+ghost use Rattle.sites.specs.Sites.{IsSiteStory, HasStory, DoLive, DoMeet, journals_of, outcomes_of};
+
+/// Where what came to each site was given by the site of its sender, the journals of all sites fit together, and are those of a
+/// run: whatever was repeated, reordered or lost between them. Does nothing; its contract is the law.
+pub fn sites_are_a_run()
+    ensures fit { (top : TopologyValue) (stories : ℕ → Story) → is_topology top.dcs top.shards top.homes ≡ true → DoLive top stories → DoMeet top stories → DoFit top (journals_of top stories) }
+    ensures run { (top : TopologyValue) (stories : ℕ → Story) → is_topology top.dcs top.shards top.homes ≡ true → DoLive top stories → DoMeet top stories → IsThreadedRun top (journals_of top stories) }
+{}
+
+/// There the outcomes that each actor gave are those of the protocol, by its journal. Does nothing; its contract is the law.
+pub fn outcomes_are_told()
+    ensures { (top : TopologyValue) (stories : ℕ → Story) (node : ℕ) → is_topology top.dcs top.shards top.homes ≡ true → DoLive top stories → DoMeet top stories → node < node_count top
+        → outcomes_by top node (journals_of top stories node) ≡ map as_finished (outcomes_of top stories node) }
+{}
+
+/// There each read that any site answered is answered with the meaning of its request on the history that the journals give for
+/// the data centre where it was submitted, at its effective time. Does nothing; its contract is the law.
+pub fn answers_are_meant()
+    ensures { (top : TopologyValue) (stories : ℕ → Story) (node number : ℕ) (read : Read) (time : ℕ) (answer : List AnsweredRow) (h : History)
+        → is_topology top.dcs top.shards top.homes ≡ true → DoLive top stories → DoMeet top stories → is_session top node ≡ true
+        → op_numbered (journals_of top stories node) number ≡ Some (op.Read read) → Contains (outcomes_of top stories node) (number, outcome.Read time answer)
+        → IsPermutation h (history_by top (journals_of top stories) (home_by top (journals_of top stories) node number))
+        → answer ≡ meaning read h time }
+{}
+
+/// One site by itself: whatever journals the actors of the others have, where these and the site's own fit together, there is a run
+/// that has them; in each such run the outcomes that the site's sessions gave are their entries, in order; and each read that it
+/// answered is answered with the meaning of its request on the history that all journals give for the data centre where it was
+/// submitted, at its effective time. Does nothing; its contract is the law.
+pub fn one_site_is_right()
+    ensures run { (top : TopologyValue) (journals : ℕ → List ActorEvent) → DoFit top journals → IsThreadedRun top journals }
+    ensures entries { (top : TopologyValue) (dc node : ℕ) (s : Story) (journals : ℕ → List ActorEvent) (events : List RunEvent)
+        → IsSiteStory top dc s → HasStory top dc s journals → is_here top dc node ≡ true → IsRunOf top journals events
+        → ended_at (run top events) node ≡ map as_finished (outcomes s node) }
+    ensures reads { (top : TopologyValue) (dc node number : ℕ) (s : Story) (journals : ℕ → List ActorEvent) (read : Read) (time : ℕ) (answer : List AnsweredRow) (h : History)
+        → IsSiteStory top dc s → HasStory top dc s journals → is_here top dc node ≡ true → is_session top node ≡ true → DoFit top journals
+        → op_numbered (journal s node) number ≡ Some (op.Read read) → Contains (outcomes s node) (number, outcome.Read time answer)
+        → IsPermutation h (history_by top journals (home_by top journals node number))
+        → answer ≡ meaning read h time }
+{}
