@@ -1,0 +1,188 @@
+//! The sites of three data centres, and the mail between them.
+use crate::building;
+use crate::mail::{How, Mail};
+use logical_time::{Fault, Node};
+use messages::{Op, Outcome, Topology};
+use parcels::{read_parcel, write_parcel};
+use site::{Site, Turn};
+use std::alloc::Global;
+use threaded::Actor;
+
+// More turns than any schedule takes.
+const MANY: usize = 10_000;
+
+/// Three sites. They must be closed.
+pub(crate) struct Stores {
+    topology: Topology,
+    sites: Vec<Site<Actor>>,
+    mail: Mail,
+}
+
+// Ends the sites.
+fn close_all(mut sites: Vec<Site<Actor>>) {
+    while let Some(site) = sites.pop() {
+        site.close();
+    }
+    sites.destroy_empty();
+}
+
+fn open_all(alloc: Global, topology: &Topology) -> Result<Vec<Site<Actor>>, Fault> {
+    let count = topology.dcs();
+    let mut sites = Vec::with_capacity(alloc, usize::from(count))?;
+    for dc in 0..count {
+        match Site::new(alloc, topology, dc) {
+            Ok(site) => sites.push_reserved(site),
+            Err(fault) => {
+                close_all(sites);
+                return Err(fault);
+            }
+        }
+    }
+    Ok(sites)
+}
+
+// The data centre whose site keeps the actor.
+fn site_of(topology: &Topology, node: Node) -> u16 {
+    if topology.is_shard(node) {
+        topology.dc_of(node)
+    } else {
+        topology.home_of(node).unwrap_or(0)
+    }
+}
+
+// Turns until an operation ends.
+fn end_of(alloc: Global, site: &mut Site<Actor>) -> Result<Outcome, Fault> {
+    for _ in 0..MANY {
+        match site.turn(alloc)? {
+            Turn::Idle => return Err(Fault::Busy),
+            Turn::Handled => {}
+            Turn::Ended { outcome, .. } => return Ok(outcome),
+        }
+    }
+    Err(Fault::Busy)
+}
+
+// A session of the site asks, and waits for its answer.
+fn ask_site(alloc: Global, site: &mut Site<Actor>, node: Node, op: Op) -> Result<Outcome, Fault> {
+    if !site.has_session(node) {
+        return Err(Fault::UnknownHome);
+    }
+    match site.submit(alloc, node, op)?.ended {
+        Some((_, outcome)) => Ok(outcome),
+        None => end_of(alloc, site),
+    }
+}
+
+// Turns until nothing waits; then all that is to go is posted.
+fn settle(
+    alloc: Global,
+    topology: &Topology,
+    site: &mut Site<Actor>,
+    mail: &mut Mail,
+) -> Result<(), Fault> {
+    for _ in 0..MANY {
+        if matches!(site.turn(alloc)?, Turn::Idle) {
+            break;
+        }
+    }
+    for _ in 0..MANY {
+        let Some(envelope) = site.give(alloc)? else {
+            break;
+        };
+        let bytes = write_parcel(alloc, &envelope)?;
+        mail.post(site.dc(), site_of(topology, envelope.to), bytes)?;
+    }
+    Ok(())
+}
+
+// A parcel comes to a site.
+fn hear(alloc: Global, site: &mut Site<Actor>, from: u16, bytes: &[u8]) -> Result<(), Fault> {
+    let envelope = read_parcel(alloc, bytes)?;
+    match site.hear(alloc, from, envelope) {
+        Ok(()) => Ok(()),
+        Err((fault, _)) => Err(fault),
+    }
+}
+
+impl Stores {
+    /// The three sites, to which nothing happened yet.
+    pub(crate) fn open(alloc: Global) -> Result<Stores, Fault> {
+        let topology = building::topology(alloc)?;
+        let sites = open_all(alloc, &topology)?;
+        Ok(Stores {
+            topology,
+            sites,
+            mail: Mail::new(alloc),
+        })
+    }
+
+    /// The session at home in a data centre asks there.
+    pub(crate) fn ask(&mut self, alloc: Global, dc: u16, op: Op) -> Result<Outcome, Fault> {
+        let Some(site) = self.sites.get_mut(usize::from(dc)) else {
+            return Err(Fault::UnknownHome);
+        };
+        let node = Node::new(self.topology.shard_count().saturating_add(dc));
+        let outcome = ask_site(alloc, site, node, op)?;
+        settle(alloc, &self.topology, site, &mut self.mail)?;
+        Ok(outcome)
+    }
+
+    /// What the site of one data centre sent to that of another comes there so.
+    pub(crate) fn carry(
+        &mut self,
+        alloc: Global,
+        from: u16,
+        to: u16,
+        how: How,
+    ) -> Result<(), Fault> {
+        let parcels = self.mail.take(alloc, from, to)?;
+        let Some(site) = self.sites.get_mut(usize::from(to)) else {
+            return Err(Fault::UnknownHome);
+        };
+        if matches!(how, How::Forward | How::Twice) {
+            for bytes in &parcels {
+                hear(alloc, site, from, bytes.as_slice())?;
+            }
+        }
+        if matches!(how, How::Backward | How::Twice) {
+            for bytes in parcels.iter().rev() {
+                hear(alloc, site, from, bytes.as_slice())?;
+            }
+        }
+        settle(alloc, &self.topology, site, &mut self.mail)
+    }
+
+    /// What comes of these bytes, where they come from the site of one data centre to that of another.
+    pub(crate) fn hear(
+        &mut self,
+        alloc: Global,
+        from: u16,
+        to: u16,
+        bytes: &[u8],
+    ) -> Result<(), Fault> {
+        match self.sites.get_mut(usize::from(to)) {
+            Some(site) => hear(alloc, site, from, bytes),
+            None => Err(Fault::UnknownHome),
+        }
+    }
+
+    /// Takes out what one sent to another.
+    pub(crate) fn posted(
+        &mut self,
+        alloc: Global,
+        from: u16,
+        to: u16,
+    ) -> Result<Vec<Vec<u8>>, Fault> {
+        self.mail.take(alloc, from, to)
+    }
+
+    /// Ends the sites.
+    pub(crate) fn close(self) {
+        let Stores {
+            topology: _,
+            sites,
+            mail: _,
+        } = self;
+        close_all(sites);
+    }
+}
