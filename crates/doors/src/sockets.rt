@@ -5,7 +5,7 @@ use crate::doorway::{Accepted, Doorway};
 use crate::socket::ReadySocket;
 use logical_time::Fault;
 use mio::net::TcpListener;
-use mio::{Events, Interest, Poll, Token};
+use mio::{Events, Interest, Poll, Registry, Token};
 use std::alloc::{AllocError, Global};
 use std::io::ErrorKind;
 use std::net::{Ipv4Addr, Net, SocketAddr};
@@ -40,7 +40,11 @@ fn note(place: usize, ready: &mut Vec<usize>, came: &mut bool) -> Result<(), All
 impl Sockets {
     /// Listens on this port of 127.0.0.1, or on some free port for 0. Refused with `ReadFailed` where it can't, and with `Memory`.
     pub fn open<R: Net>(rt: &R, alloc: Global, port: u16) -> Result<Sockets, Fault> {
-        let address = SocketAddr::from((Ipv4Addr::LOCALHOST, port));
+        Sockets::open_at(rt, alloc, SocketAddr::from((Ipv4Addr::LOCALHOST, port)))
+    }
+
+    /// Listens at this address. Refused as `open` is.
+    pub fn open_at<R: Net>(rt: &R, alloc: Global, address: SocketAddr) -> Result<Sockets, Fault> {
         let (Ok(poll), Ok(mut listener)) = (Poll::new(rt), TcpListener::bind(rt, address)) else {
             return Err(Fault::ReadFailed);
         };
@@ -55,6 +59,15 @@ impl Sockets {
             events: Events::with_capacity(alloc, EVENTS)?,
             listener,
         })
+    }
+
+    /// The system's list of what is watched, for sockets that aren't of clients: a wait ends where one of them is ready, which is
+    /// told as a place that there isn't. Refused with `ReadFailed` where the system gives none.
+    pub fn registry(&self) -> Result<Registry, Fault> {
+        match self.poll.registry().try_clone() {
+            Ok(registry) => Ok(registry),
+            Err(_) => Err(Fault::ReadFailed),
+        }
     }
 
     /// The port that it listens on; none where the system doesn't say.

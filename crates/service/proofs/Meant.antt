@@ -99,25 +99,32 @@ module _ (top : TopologyValue) (session : ℕ) where
           past = λ u before. moves_bring_their_past top events some c dc floor u has came before;
         }
 
+    -- the end of an operation that is listed means it
+    pub entry_means : (events : List RunEvent) (number : ℕ) (o : Op) (result : Outcome) → IsListed (run top events) session number o → EndedWith (run top events) session number result
+        → IsMeant top (run top events) session number o result
+    entry_means events number o result listed e =
+        let is = own_op top some events session number o e.entry listed e.is_end in
+        record {
+          entry = e.entry;
+          ended = e.is_end;
+          home = own_home top some events session number e.entry e.is_end;
+          op_is = is;
+          outcome_is = e.outcome_is;
+          tells = told events e.entry o result e.is_end.listed is e.outcome_is;
+        }
+
     meant : (before : List RunEvent) (o : Op) (result : Outcome) (after left : List RunEvent) (number : ℕ) → IsHandled top session o before number after → EndedWith (run top after) session number result
         → IsBeginning after left → IsMeant top (run top left) session number o result
     meant before o result after left number h e begins =
-        let c = e.entry in
         let ended = e.is_end in
-        let is = own_op top some after session number o c (handled_listed o before number after h) ended in
         let grew = (runs_only_grow top after begins.0).transcript in
         let w = run top (after ++ begins.0) in
-        let still : Contains w.transcript c =
-        (subst (λ l. Contains l c) (sym grew.1) (Contains-append_left (run top after).transcript grew.0 c ended.listed)) in
-        subst (λ xs. IsMeant top (run top xs) session number o result) (sym begins.1)
-        (record {
-          entry = c;
-          ended = record { listed = still; node = ended.node; numbered = ended.numbered };
-          home = own_home top some (after ++ begins.0) session number c (record { listed = still; node = ended.node; numbered = ended.numbered });
-          op_is = is;
-          outcome_is = e.outcome_is;
-          tells = told (after ++ begins.0) c o result still is e.outcome_is;
-        })
+        let still : Contains w.transcript e.entry =
+        (subst (λ l. Contains l e.entry) (sym grew.1) (Contains-append_left (run top after).transcript grew.0 e.entry ended.listed)) in
+        let listed = listed_still top some after begins.0 session number o (handled_listed o before number after h) in
+        let ended_still : EndedWith w session number result =
+        (record { entry = e.entry; is_end = record { listed = still; node = ended.node; numbered = ended.numbered }; outcome_is = e.outcome_is }) in
+        subst (λ xs. IsMeant top (run top xs) session number o result) (sym begins.1) (entry_means (after ++ begins.0) number o result listed ended_still)
 
     pub answer_means : (before : List RunEvent) (o : Op) (r : Reply) (after left : List RunEvent) → Asks top session before o r after → IsBeginning after left → Replies top session (run top left) before o r after
     answer_means before o (Err f) after left a begins = a
