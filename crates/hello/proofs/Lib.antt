@@ -1,0 +1,4 @@
+pub mod Blocks
+pub mod Gathered
+pub mod Spelled
+pub mod Meetings

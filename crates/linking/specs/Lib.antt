@@ -1,0 +1,3 @@
+pub mod Said
+pub mod Side
+pub mod Channel

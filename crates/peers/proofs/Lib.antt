@@ -1,0 +1,3 @@
+mod Links
+mod Streams
+mod Outbounds
